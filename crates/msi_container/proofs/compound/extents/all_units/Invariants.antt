@@ -1,0 +1,7 @@
+use Rattle.std.proofs.Common.{◌≡◌, ◌+◌, drop}
+use Rattle.msi_container.specs.Extents as spec
+use Rattle.msi_container.specs.Views.{seen}
+use Rattle.msi_container.proofs.compound.extents.all_units.Given as goal
+
+abbrev pub invariant-loop-part : goal.invariant-loop-part
+invariant-loop-part l = l.all + spec.all_units 512 (seen (drop l.part-index l.parts)) ≡ spec.all_units 512 (seen l.parts)

@@ -1,0 +1,13 @@
+use Rattle.std.proofs.Common.{◌≡◌, ◌+◌, ◌++◌, drop}
+use Rattle.std.specs.List.{flat_map}
+use Rattle.std.specs.Int.{to_le_bytes, w32}
+use Rattle.msi_container.specs.Extents.{all_units}
+use Rattle.msi_container.specs.Views.{seen}
+use Rattle.msi_container.proofs.ExtentsLemmas.{chains}
+use Rattle.msi_container.proofs.compound.extents.push_chains.Given as goal
+
+abbrev pub invariant-loop-part : goal.invariant-loop-part
+invariant-loop-part l = record {
+  first : l.first + all_units 512 (seen (drop l.part-index l.parts)) ≡ all_units 512 (seen l.parts);
+  written : l.image.items ++ flat_map (to_le_bytes w32) (chains l.first (seen (drop l.part-index l.parts))) ≡ l.fn.image.items ++ flat_map (to_le_bytes w32) (chains 0 (seen l.parts));
+}

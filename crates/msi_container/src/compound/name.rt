@@ -1,0 +1,208 @@
+//! A name of an entry.
+
+ghost use Rattle.std.specs.Prelude.{◌≡◌, ◌≤◌, ◌<◌, ◌↔◌, false, length, take, IfOk, IfSome, IsErrOf, IsErr, is_ok, IsNone, IsTrue, string_bytes};
+ghost use Rattle.std.specs.Cmp.Lexicographic.{slice_cmp};
+ghost use Rattle.std.specs.Ordering.{as_partial_cmp, eq_by_cmp, nat_cmp};
+ghost use Rattle.std.specs.Cmp.{partial_order_from_own_ties};
+ghost use Rattle.std.specs.Cmp.Rules.{comparing};
+ghost use Rattle.std.specs.Char.Utf16.{is_high_surrogate, is_low_surrogate};
+ghost use Rattle.std.proofs.Common.{rules};
+ghost use Rattle.msi_text.specs.declared.errors.ErrorKind.TheVariants.{InvalidInput, OutOfMemory};
+ghost use Rattle.msi_container.specs.Names.{name_cmp, capital, capitals, is_text, is_name_length, units_of};
+
+use msi_text::{Error, ErrorKind, Reason};
+use std::alloc::Global;
+use std::cmp::Ordering;
+use std::marker::Model;
+
+/// The most units of a name (MS-CFB 2.6.1: 32 with the closing null).
+pub const MAX_UNITS: usize = 31;
+
+/// A name of 1 to 31 units of well-formed UTF-16, in the container's order.
+#[derive(Debug, Drop)]
+pub struct Name {
+    units: [u16; 31],
+    len: usize,
+}
+
+impl Model for Name {
+    ghost use Rattle.std.specs.Prelude.{List, ℕ, take, IsTrue, ◌≤◌, ◌<◌};
+    ghost use Rattle.msi_container.specs.Names.{is_text};
+
+    ghost Value = { List ℕ };
+
+    ghost view = { λ n. take n.len n.units };
+
+    ghost invariant = { λ n. (0 < n.len) × (n.len ≤ 31) × IsTrue (is_text (take n.len n.units)) };
+}
+
+impl Name {
+    /// The name of a text. It takes no memory.
+    ///
+    /// # Errors
+    /// `InvalidInput` for an empty text and for one of more than 31 UTF-16 units.
+    pub fn new(text: &str) -> Result<Name, Error>
+        ensures ok { IfOk result (λ name. name ≡ units_of text.now) }
+        ensures accepted { is_ok result ≡ is_name_length (length (units_of text.now)) }
+        ensures refused { IsErr result → IsErrOf result InvalidInput }
+    {
+        let mut units = [0; 31];
+        let mut len = 0;
+        for unit in text.encode_utf16() {
+            if len == MAX_UNITS {
+                return Err(Error::new(ErrorKind::InvalidInput, Reason::NameLength));
+            }
+            units[len] = unit;
+            len += 1;
+        }
+        if len == 0 {
+            return Err(Error::new(ErrorKind::InvalidInput, Reason::NameLength));
+        }
+        Ok(Name { units, len })
+    }
+
+    /// The name of the first `len` units, where they are well-formed.
+    pub fn from_units(units: [u16; 31], len: usize) -> Option<Name>
+        requires some { 0 < len }
+        requires most { len ≤ 31 }
+        ensures found { IfSome result (λ name. name ≡ take len units) }
+        ensures text { IsNone result ↔ (is_text (take len units) ≡ false) }
+    {
+        if is_well_formed(&units[..len]) {
+            Some(Name { units, len })
+        } else {
+            None
+        }
+    }
+
+    /// The name's text.
+    ///
+    /// # Errors
+    /// `OutOfMemory`.
+    pub fn to_text(&self, alloc: Global) -> Result<String, Error>
+        ensures ok { IfOk result (λ text. units_of (string_bytes text) ≡ self.now) }
+        ensures memory { IsErr result → IsErrOf result OutOfMemory }
+    {
+        match String::from_utf16(alloc, self.units())? {
+            Ok(text) => Ok(text),
+            Err(_) => unreachable!(),
+        }
+    }
+
+    /// The same name once more. It takes no memory.
+    pub fn duplicate(&self) -> Name
+        ensures { result ≡ self.now }
+    {
+        Name {
+            units: self.units,
+            len: self.len,
+        }
+    }
+
+    /// The units.
+    pub fn units(&self) -> &[u16]
+        ensures units { result.now ≡ self.now }
+        ensures some { 0 < length self.now }
+        ensures most { length self.now ≤ 31 }
+        ensures text { IsTrue (is_text self.now) }
+    {
+        &self.units[..self.len]
+    }
+}
+
+/// Whether each surrogate has its partner.
+fn is_well_formed(units: &[u16]) -> bool
+    ensures { result ≡ is_text units.now }
+{
+    let mut awaits_low = false;
+    for unit in units {
+        if is_low_surrogate(*unit) != awaits_low {
+            return false;
+        }
+        awaits_low = is_high_surrogate(*unit);
+    }
+    !awaits_low
+}
+
+/// Whether a unit is the first of a pair.
+fn is_high_surrogate(unit: u16) -> bool
+    ensures { result ≡ is_high_surrogate unit }
+{
+    (0xD800..0xDC00).contains(&unit)
+}
+
+/// Whether a unit is the second of a pair.
+fn is_low_surrogate(unit: u16) -> bool
+    ensures { result ≡ is_low_surrogate unit }
+{
+    (0xDC00..0xE000).contains(&unit)
+}
+
+/// A unit with an ASCII small letter as its capital.
+fn capital_of(unit: u16) -> u16
+    ensures { result ≡ capital unit }
+{
+    if unit >= 97 && unit <= 122 {
+        unit - 32
+    } else {
+        unit
+    }
+}
+
+/// Compares two rows of as many units with small letters as capitals.
+fn cmp_capitals(a: &[u16], b: &[u16]) -> Ordering
+    requires { length a.now ≡ length b.now }
+    ensures { result ≡ slice_cmp nat_cmp (capitals a.now) (capitals b.now) }
+{
+    for i in 0..a.len() {
+        let order = capital_of(a[i]).cmp(&capital_of(b[i]));
+        if order != Ordering::Equal {
+            return order;
+        }
+    }
+    Ordering::Equal
+}
+
+impl Ord for Name {
+    ghost cmp = { name_cmp };
+
+    ghost total = { Prim.search (comparing, rules) };
+
+    ghost matches_partial_cmp = { Prim.search (comparing, rules) };
+
+    ghost matches_eq = { Prim.search (comparing, rules) };
+
+    fn cmp(&self, other: &Name) -> Ordering {
+        let a = self.units();
+        let b = other.units();
+        if a.len() == b.len() {
+            cmp_capitals(a, b).then(a.cmp(b))
+        } else {
+            a.len().cmp(&b.len())
+        }
+    }
+}
+
+impl PartialOrd for Name {
+    ghost partial_cmp = { as_partial_cmp name_cmp };
+
+    ghost laws = { partial_order_from_own_ties (Prim.search (comparing, rules)) (Prim.search (comparing, rules)) };
+
+    fn partial_cmp(&self, other: &Name) -> Option<Ordering> {
+        Some(self.cmp(other))
+    }
+}
+
+impl PartialEq for Name {
+    ghost eq = { eq_by_cmp name_cmp };
+
+    ghost laws = { Prim.search (comparing, rules) };
+
+    fn eq(&self, other: &Name) -> bool {
+        self.cmp(other) == Ordering::Equal
+    }
+}
+
+impl Eq for Name {
+    ghost laws = { Prim.search (comparing, rules) };
+}
