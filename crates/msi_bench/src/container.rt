@@ -1,0 +1,237 @@
+//! A container of one stream, byte by byte, and what damage to it does.
+
+use msi_container::compound::{Bytes, Contents, Name, Streams, read, write};
+use msi_text::{Error, ErrorKind};
+use std::alloc::{AllocError, Global};
+use std::process::Abort;
+use std::test::Fail;
+
+/// The CLSID of an installer package.
+const INSTALLER: [u8; 16] = [
+    0x84, 0x10, 0x0C, 0, 0, 0, 0, 0, 0xC0, 0, 0, 0, 0, 0, 0, 0x46,
+];
+
+/// The encoded name of `App.exe`.
+const APP_EXE: &str = "\u{44CA}\u{47B3}\u{46E8}\u{4828}";
+
+/// Contents with these streams.
+fn contents_of(alloc: Global, all: &[(&str, &[u8])]) -> Result<Contents, Error> {
+    let mut streams = Streams::new(alloc);
+    for (name, bytes) in all {
+        let held = Vec::from_slice(alloc, *bytes)?;
+        streams.insert(Name::new(*name)?, Bytes::from_vec(held))?;
+    }
+    Ok(Contents {
+        clsid: INSTALLER,
+        streams,
+        has_storages: false,
+    })
+}
+
+/// 4096 bytes, no two neighbours the same.
+fn content(alloc: Global) -> Result<Vec<u8>, AllocError> {
+    let mut bytes = Vec::with_capacity(alloc, 4096)?;
+    for i in 0..4096_u32 {
+        bytes.push((i % 251) as u8)?;
+    }
+    Ok(bytes)
+}
+
+/// The file that holds `App.exe` with that content.
+fn plain_file(alloc: Global) -> Result<Vec<u8>, Fail> {
+    let held = content(alloc)?;
+    Ok(write(
+        alloc,
+        &contents_of(alloc, &[(APP_EXE, held.as_slice())])?,
+        0,
+    )?)
+}
+
+/// The 32-bit number at a position.
+fn number(bytes: &[u8], at: usize) -> Option<u32> {
+    let part = bytes.get(at..at.checked_add(4)?)?;
+    Some(u32::from_le_bytes([*part.first()?, *part.get(1)?, *part.get(2)?, *part.get(3)?]))
+}
+
+/// The file with some bytes changed.
+fn damaged(file: &[u8], alloc: Global, at: usize, part: &[u8]) -> Result<Vec<u8>, Fail> {
+    let mut bytes = Vec::from_slice(alloc, file)?;
+    for (i, byte) in part.iter().enumerate() {
+        if let Some(place) = bytes.get_mut(at.saturating_add(i)) {
+            *place = *byte;
+        }
+    }
+    Ok(bytes)
+}
+
+/// Asserts that the bytes hold `App.exe` with its content, and nothing else.
+fn assert_plain(rt: &impl Abort, alloc: Global, bytes: &[u8]) -> Result<(), Fail> {
+    let contents = read(alloc, bytes)?;
+    assert_eq!(rt; contents.clsid.as_slice(), INSTALLER.as_slice());
+    assert!(rt; !contents.has_storages);
+    assert_eq!(rt; contents.streams.iter().count(), 1);
+    let held = contents
+        .streams
+        .get(&Name::new(APP_EXE)?)
+        .expect(rt, "the stream");
+    assert!(rt; held.as_slice() == content(alloc)?.as_slice());
+    Ok(())
+}
+
+/// Asserts that the bytes hold nothing.
+fn assert_invalid(rt: &impl Abort, alloc: Global, bytes: &[u8], what: &str) {
+    match read(alloc, bytes) {
+        Ok(_) => panic!(rt; "{what} was read"),
+        Err(error) => assert_eq!(rt; error.kind(), ErrorKind::InvalidData, "{what}"),
+    }
+}
+
+#[test]
+fn plain_stream_laid_out(rt: HostRuntime) -> Result<(), Fail> {
+    let file = plain_file(rt.alloc())?;
+    assert_eq!(rt; file.len(), 5632);
+    assert_eq!(rt; number(file.as_slice(), 76), Some(9), "the FAT's sector");
+    let mut fat = vec![in rt.alloc(); 0xFFFF_FFFE, 2, 3, 4, 5, 6, 7, 8, 0xFFFF_FFFE, 0xFFFF_FFFD]?;
+    for _ in 0..118 {
+        fat.push(0xFFFF_FFFF)?;
+    }
+    for (i, entry) in fat.iter().enumerate() {
+        assert_eq!(rt;
+            number(file.as_slice(), 5120 + 4 * i),
+            Some(*entry),
+            "entry {i}"
+        );
+    }
+    assert_plain(&rt, rt.alloc(), file.as_slice())
+}
+
+#[test]
+fn empty_stream_has_no_sector(rt: HostRuntime) -> Result<(), Fail> {
+    let contents = contents_of(rt.alloc(), &[("\u{4824}", b"")])?;
+    let file = write(rt.alloc(), &contents, 0)?;
+    assert_eq!(rt; file.len(), 1536);
+    // The second entry's start.
+    assert_eq!(rt; number(file.as_slice(), 512 + 128 + 116), Some(0xFFFF_FFFE));
+    let again = read(rt.alloc(), file.as_slice())?;
+    let held = again
+        .streams
+        .get(&Name::new("\u{4824}")?)
+        .expect(&rt, "the stream");
+    assert_eq!(rt; held.as_slice().len(), 0);
+    Ok(())
+}
+
+#[test]
+fn several_streams_come_back_in_order(rt: HostRuntime) -> Result<(), Fail> {
+    let held = content(rt.alloc())?;
+    let all: [(&str, &[u8]); 5] = [
+        ("b", held.as_slice()),
+        ("A", b""),
+        ("a", held.as_slice()),
+        ("bb", held.as_slice()),
+        ("B", b""),
+    ];
+    let file = write(rt.alloc(), &contents_of(rt.alloc(), &all)?, 0)?;
+    let again = read(rt.alloc(), file.as_slice())?;
+    let order = ["A", "a", "B", "b", "bb"];
+    for ((name, bytes), expected) in again.streams.iter().zip(order) {
+        let text = name.to_text(rt.alloc())?;
+        assert_eq!(rt; text.as_str(), expected);
+        let empty = expected == "A" || expected == "B";
+        assert_eq!(rt; bytes.as_slice().is_empty(), empty);
+    }
+    assert_eq!(rt; again.streams.iter().count(), 5);
+    Ok(())
+}
+
+#[test]
+fn writing_refuses_what_it_cannot_lay_out(rt: HostRuntime) -> Result<(), Fail> {
+    let alloc = rt.alloc();
+    let mut storages = contents_of(alloc, &[])?;
+    storages.has_storages = true;
+    let small = contents_of(alloc, &[("a", b"1")])?;
+    let empty = contents_of(alloc, &[])?;
+    let cases = [
+        (write(alloc, &storages, 0), "storages"),
+        (write(alloc, &small, 0), "a small stream"),
+        (write(alloc, &empty, 1), "an earlier length"),
+    ];
+    for (result, what) in cases {
+        match result {
+            Ok(_) => panic!(&rt; "{what} was written"),
+            Err(error) => assert_eq!(rt; error.kind(), ErrorKind::InvalidInput, "{what}"),
+        }
+    }
+    Ok(())
+}
+
+#[test]
+fn damage_is_refused(rt: HostRuntime) -> Result<(), Fail> {
+    let alloc = rt.alloc();
+    let file = plain_file(alloc)?;
+    let end = 0xFFFF_FFFE_u32.to_le_bytes();
+    let free = 0xFFFF_FFFF_u32.to_le_bytes();
+    // The FAT stands at 5120, the stream's entry at 640.
+    let cases: [(usize, &[u8], &str); 11] = [
+        (
+            5120,
+            &[0, 0, 0, 0],
+            "a directory whose sector leads to itself",
+        ),
+        (5120 + 4 * 3, &[2, 0, 0, 0], "a chain that leads back"),
+        (640 + 120, &free, "a size that no chain has"),
+        (44, &[0, 0, 0, 0], "no FAT sector"),
+        (44, &[2, 0, 0, 0], "a FAT sector that isn't listed"),
+        (44, &free, "more FAT sectors than can be"),
+        (640 + 68, &[1, 0, 0, 0], "a left link to the entry itself"),
+        (640 + 68, &[2, 0, 0, 0], "a left link to an unused entry"),
+        (640 + 68, &[4, 0, 0, 0], "a left link past the directory"),
+        (0, &[0], "another signature"),
+        (48, &end, "no directory"),
+    ];
+    for (at, part, what) in cases {
+        let bytes = damaged(file.as_slice(), alloc, at, part)?;
+        assert_invalid(&rt, alloc, bytes.as_slice(), what);
+    }
+    Ok(())
+}
+
+#[test]
+fn what_is_not_looked_at_may_change(rt: HostRuntime) -> Result<(), Fail> {
+    let alloc = rt.alloc();
+    let file = plain_file(alloc)?;
+    let cases: [(usize, &[u8], &str); 3] = [
+        (
+            5120 + 4 * 8,
+            &[1, 0, 0, 0],
+            "what follows the last sector needed",
+        ),
+        (640 + 124, &[0xFF, 0xFF, 0xFF, 0xFF], "the size's high half"),
+        (24, &[59, 0], "the minor version"),
+    ];
+    for (at, part, _what) in cases {
+        let bytes = damaged(file.as_slice(), alloc, at, part)?;
+        assert_plain(&rt, alloc, bytes.as_slice())?;
+    }
+    // A last sector that is cut reads as followed by zeros. The last successor that is looked up is sector 7's, and of its
+    // four bytes only the first, at 5148, isn't zero.
+    let (cut, _) = file
+        .as_slice()
+        .split_at_checked(5149)
+        .expect(&rt, "5149 bytes");
+    assert_plain(&rt, alloc, cut)
+}
+
+#[test]
+fn each_shorter_beginning_is_refused(rt: HostRuntime) -> Result<(), Fail> {
+    let alloc = rt.alloc();
+    let file = plain_file(alloc)?;
+    for len in 0..5149 {
+        let (cut, _) = file
+            .as_slice()
+            .split_at_checked(len)
+            .expect(&rt, "a beginning");
+        assert_invalid(&rt, alloc, cut, "a beginning");
+    }
+    Ok(())
+}

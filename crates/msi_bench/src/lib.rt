@@ -1,0 +1,11 @@
+//! Tests that cross crates, over bytes in memory.
+#![tactic(auto)]
+
+#[cfg(test)]
+mod container;
+#[cfg(test)]
+mod errors;
+#[cfg(test)]
+mod foreign;
+#[cfg(test)]
+mod names;

@@ -1,0 +1,90 @@
+//! Inspects and makes Windows Installer databases from a command line.
+#![tactic(auto)]
+
+ghost use Rattle.std.specs.Prelude.{◌≡◌, ◌≤◌, ◌↔◌, false};
+ghost use Rattle.msidb.specs.Commands.{fits_command};
+
+mod command;
+mod fault;
+mod raw;
+#[cfg(test)]
+mod tests;
+mod wrap;
+
+use command::Command;
+use msi_text::Error;
+use std::io::{Read, Write};
+use std::process::ExitCode;
+use std::rt::Files;
+use std::{env, io};
+
+/// What is said of words that fit no command.
+const USAGE: &str = "usage: msidb raw|wrap|new|tables|rows|summary|streams|cat|put FILE [NAME]";
+
+/// The whole program over its words, a reader and two writers. It answers the status: 0, or 1 with the kind of the first
+/// fault on a line of `errors`, or 2 with the usage there where the words fit no command.
+pub fn run<R, I, O, E>(
+    rt: &R,
+    words: &[String],
+    input: &mut I,
+    output: &mut O,
+    errors: &mut E,
+) -> u8
+where
+    R: Files + AllocGlobal,
+    R::File: Read + Write + Drop,
+    I: Read,
+    O: Write,
+    E: Write,
+    ensures most { result ≤ 2 }
+    ensures usage { (result ≡ 2) ↔ (fits_command words.now ≡ false) }
+{
+    let Some(command) = Command::parse(words) else {
+        let _ = writeln!(errors, "{USAGE}");
+        return 2;
+    };
+    match carry_out(rt, &command, input, output) {
+        Ok(()) => 0,
+        Err(error) => {
+            let kind = error.kind();
+            let _ = writeln!(errors, "{kind}");
+            1
+        }
+    }
+}
+
+/// Carries out a command.
+fn carry_out<R, I, O>(rt: &R, command: &Command, input: &mut I, output: &mut O) -> Result<(), Error>
+where
+    R: Files + AllocGlobal,
+    R::File: Read + Write + Drop,
+    I: Read,
+    O: Write,
+{
+    match command {
+        Command::Raw { file } => raw::print_streams(rt, file, output),
+        Command::Wrap { out, name } => wrap::wrap_input(rt, out, name, input),
+    }
+}
+
+fn main(rt: HostRuntime) -> io::Result<ExitCode> {
+    let mut words = Vec::new(rt.alloc());
+    match env::args(&rt) {
+        Ok(all) => {
+            for word in all.skip(1) {
+                words.push(word)?;
+            }
+        }
+        // A word that isn't UTF-8 fits no command, and neither do no words.
+        Err(error) if error.kind() == io::ErrorKind::InvalidData => {}
+        Err(error) => return Err(error),
+    }
+    let status = run(
+        &rt,
+        words.as_slice(),
+        &mut rt.stdin(),
+        &mut rt.stdout(),
+        &mut rt.stderr(),
+    );
+    Ok(ExitCode::from(status))
+}
