@@ -62,7 +62,7 @@ impl Name {
     }
 
     /// The name of the first `len` units, where they are well-formed.
-    pub fn from_units(units: [u16; 31], len: usize) -> Option<Name>
+    pub(crate) fn from_units(units: [u16; 31], len: usize) -> Option<Name>
         requires some { 0 < len }
         requires most { len ≤ 31 }
         ensures found { IfSome result (λ name. name ≡ take len units) }
