@@ -1,18 +1,11 @@
 //! A container of one stream, byte by byte, and what damage to it does.
 
+use crate::samples::{APP_EXE, INSTALLER, assert_invalid, installer, number, put};
 use msi_container::compound::{Bytes, Contents, Name, Streams, read, write};
-use msi_text::{Error, ErrorKind};
+use msi_text::Error;
 use std::alloc::{AllocError, Global};
 use std::process::Abort;
 use std::test::Fail;
-
-/// The CLSID of an installer package.
-const INSTALLER: [u8; 16] = [
-    0x84, 0x10, 0x0C, 0, 0, 0, 0, 0, 0xC0, 0, 0, 0, 0, 0, 0, 0x46,
-];
-
-/// The encoded name of `App.exe`.
-const APP_EXE: &str = "\u{44CA}\u{47B3}\u{46E8}\u{4828}";
 
 /// Contents with these streams.
 fn contents_of(alloc: Global, all: &[(&str, &[u8])]) -> Result<Contents, Error> {
@@ -21,11 +14,7 @@ fn contents_of(alloc: Global, all: &[(&str, &[u8])]) -> Result<Contents, Error> 
         let held = Vec::from_slice(alloc, *bytes)?;
         streams.insert(Name::new(*name)?, Bytes::from_vec(held))?;
     }
-    Ok(Contents {
-        clsid: INSTALLER,
-        streams,
-        has_storages: false,
-    })
+    Ok(installer(streams))
 }
 
 /// 4096 bytes, no two neighbours the same.
@@ -47,20 +36,10 @@ fn plain_file(alloc: Global) -> Result<Vec<u8>, Fail> {
     )?)
 }
 
-/// The 32-bit number at a position.
-fn number(bytes: &[u8], at: usize) -> Option<u32> {
-    let part = bytes.get(at..at.checked_add(4)?)?;
-    Some(u32::from_le_bytes([*part.first()?, *part.get(1)?, *part.get(2)?, *part.get(3)?]))
-}
-
 /// The file with some bytes changed.
 fn damaged(file: &[u8], alloc: Global, at: usize, part: &[u8]) -> Result<Vec<u8>, Fail> {
     let mut bytes = Vec::from_slice(alloc, file)?;
-    for (i, byte) in part.iter().enumerate() {
-        if let Some(place) = bytes.get_mut(at.saturating_add(i)) {
-            *place = *byte;
-        }
-    }
+    put(&mut bytes, at, part);
     Ok(bytes)
 }
 
@@ -76,14 +55,6 @@ fn assert_plain(rt: &impl Abort, alloc: Global, bytes: &[u8]) -> Result<(), Fail
         .expect(rt, "the stream");
     assert!(rt; held.as_slice() == content(alloc)?.as_slice());
     Ok(())
-}
-
-/// Asserts that the bytes hold nothing.
-fn assert_invalid(rt: &impl Abort, alloc: Global, bytes: &[u8], what: &str) {
-    match read(alloc, bytes) {
-        Ok(_) => panic!(rt; "{what} was read"),
-        Err(error) => assert_eq!(rt; error.kind(), ErrorKind::InvalidData, "{what}"),
-    }
 }
 
 #[test]
@@ -141,27 +112,6 @@ fn several_streams_come_back_in_order(rt: HostRuntime) -> Result<(), Fail> {
         assert_eq!(rt; bytes.as_slice().is_empty(), empty);
     }
     assert_eq!(rt; again.streams.iter().count(), 5);
-    Ok(())
-}
-
-#[test]
-fn writing_refuses_what_it_cannot_lay_out(rt: HostRuntime) -> Result<(), Fail> {
-    let alloc = rt.alloc();
-    let mut storages = contents_of(alloc, &[])?;
-    storages.has_storages = true;
-    let small = contents_of(alloc, &[("a", b"1")])?;
-    let empty = contents_of(alloc, &[])?;
-    let cases = [
-        (write(alloc, &storages, 0), "storages"),
-        (write(alloc, &small, 0), "a small stream"),
-        (write(alloc, &empty, 1), "an earlier length"),
-    ];
-    for (result, what) in cases {
-        match result {
-            Ok(_) => panic!(&rt; "{what} was written"),
-            Err(error) => assert_eq!(rt; error.kind(), ErrorKind::InvalidInput, "{what}"),
-        }
-    }
     Ok(())
 }
 

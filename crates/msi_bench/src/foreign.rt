@@ -1,19 +1,10 @@
 //! Files that other software writes: small streams, version 4, and what real files do against the letter.
 
+use crate::samples::{END, FAT, assert_invalid, put};
 use msi_container::compound::{Name, read};
-use msi_text::ErrorKind;
 use std::alloc::{AllocError, Global};
 use std::process::Abort;
 use std::test::Fail;
-
-/// Puts a piece at a place of a file that is made of zeros.
-fn put(file: &mut Vec<u8>, at: usize, piece: &[u8]) {
-    for (i, byte) in piece.iter().enumerate() {
-        if let Some(place) = file.get_mut(at.saturating_add(i)) {
-            *place = *byte;
-        }
-    }
-}
 
 /// Puts 32-bit numbers, one behind the other.
 fn put_numbers(file: &mut Vec<u8>, at: usize, numbers: &[u32]) {
@@ -60,11 +51,8 @@ fn put_entry(file: &mut Vec<u8>, entry: &Entry) {
     put_numbers(file, at.saturating_add(116), &[entry.start, entry.size]);
 }
 
+/// The link that leads nowhere.
 const NONE: u32 = 0xFFFF_FFFF;
-
-const END: u32 = 0xFFFF_FFFE;
-
-const FAT: u32 = 0xFFFF_FFFD;
 
 /// Version 4, 16384 bytes: the FAT in sector 0, the directory in 1, a stream of 4096 bytes in 2.
 fn version_4(alloc: Global) -> Result<Vec<u8>, AllocError> {
@@ -187,14 +175,6 @@ fn assert_stream(
     }
     assert_eq!(rt; sum, 0, "zeros elsewhere");
     Ok(())
-}
-
-/// Asserts that the bytes hold nothing.
-fn assert_invalid(rt: &impl Abort, alloc: Global, file: &[u8], what: &str) {
-    match read(alloc, file) {
-        Ok(_) => panic!(rt; "{what} was read"),
-        Err(error) => assert_eq!(rt; error.kind(), ErrorKind::InvalidData, "{what}"),
-    }
 }
 
 #[test]

@@ -8,4 +8,8 @@ mod errors;
 #[cfg(test)]
 mod foreign;
 #[cfg(test)]
+mod layouts;
+#[cfg(test)]
 mod names;
+#[cfg(test)]
+mod samples;

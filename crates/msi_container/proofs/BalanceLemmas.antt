@@ -40,7 +40,8 @@ pub record Covers (lo count : ℕ) (xs : List ℕ) : Type 0 where
 covers_none : (lo : ℕ) → Covers lo 0 []
 covers_none lo = record { long = refl; within = λ i l. absurd (omega arith); each = λ k l h. absurd (omega arith); distinct = λ i j l h. absurd (omega arith) }
 
-each_append : (P : ℕ → Type 0) (xs ys : List ℕ) → ((i : ℕ) → i < length xs → P (get_or xs i 0)) → ((i : ℕ) → i < length ys → P (get_or ys i 0)) → (i : ℕ) → i < length (xs ++ ys) → P (get_or (xs ++ ys) i 0)
+-- what holds of each number of two lists holds of each of them joined
+pub each_append : (P : ℕ → Type 0) (xs ys : List ℕ) → ((i : ℕ) → i < length xs → P (get_or xs i 0)) → ((i : ℕ) → i < length ys → P (get_or ys i 0)) → (i : ℕ) → i < length (xs ++ ys) → P (get_or (xs ++ ys) i 0)
 each_append P xs ys h k i l =
     elim (append_cases xs ys i l) [ inl p ↦ subst P (sym p.1) (h i p.0) | inr p ↦ subst P (sym p.2) (k (i - length xs) p.1) ]
 

@@ -1,53 +1,44 @@
--- How long the directory is, and which contents are refused.
-use Rattle.std.proofs.Common.{◌≡◌, ℕ, zero, suc, ◌+◌, ◌-◌, ◌*◌, ◌^◌, ◌<◌, ◌≤◌, Bool, true, false, ◌||◌, IsTrue, inl, inr, List, [], ◌∷◌, ◌++◌, length, replicate, ◌∙◌, ap, arith, refl}
-use Rattle.std.specs.List.{concat}
+-- How many sectors are taken, which contents are refused, and what is written.
+use Rattle.std.proofs.Common.{◌≡◌, ℕ, ◌+◌, ◌*◌, ◌^◌, ◌<◌, ◌≤◌, Bool, true, false, ◌||◌, nat_lt, IsTrue, List, ◌∷◌, length, ◌∙◌, ap, sym, subst, arith, refl}
 use Rattle.std.specs.Int.{div_ceil}
 use Rattle.std.specs.FinMap.{entries}
-use Rattle.std.proofs.lemmas.Bool.{cases_lt, lt-ltb, le-ltb}
-use Rattle.std.proofs.lemmas.List.{length-append}
+use Rattle.std.proofs.lemmas.Bool.{lt-ltb, le-ltb}
 use Rattle.msi_container.specs.declared.compound.contents.Contents.{Contents}
-use Rattle.msi_container.specs.Extents.{units, all_units}
-use Rattle.msi_container.specs.Image.{part_sectors, fat_sectors, sectors}
-use Rattle.msi_container.specs.Layout.{Entry, name_field, entry_bytes, unused_entry, root_entry, stream_entry, stream_entries, stream_parts, sectors_of, directory_sectors, directory_of, parts, has_small_stream, refuses}
+use Rattle.msi_container.specs.Extents.{all_units}
+use Rattle.msi_container.specs.Image.{Run, fat_sectors, difat_sectors, least_total, image}
+use Rattle.msi_container.specs.Layout.{mini_parts, large_parts, mini_sectors, mini_fat_sectors, mini_fat, mini_fat_run, mini_stream, directory_sectors, large_first, directory_of, taken_by, parts, total, layout, refuses}
+use Rattle.msi_container.proofs.DirectoryLengthLemmas.{length-directory_of}
+use Rattle.msi_container.proofs.EntriesLemmas.{large_place}
+use Rattle.msi_container.proofs.LaidPartsLemmas.{taken}
+use Rattle.msi_container.proofs.TotalsLemmas.{total_room}
 
-pub length-entry_bytes : (e : Entry) → length e.clsid ≡ 16 → length (entry_bytes e) ≡ 128
-length-entry_bytes e clsid =
-    let name : length (name_field e.name) ≡ 64 = refl in
-    simp length-append (omega arith)
+-- HOW MANY SECTORS
 
-pub length-stream_entries : (n k next : ℕ) (streams : List (List ℕ × List ℕ)) → length (stream_entries n k next streams) ≡ 128 * length streams
-length-stream_entries n k next [] = refl
-length-stream_entries n k next (stream ∷ streams) =
-    let here = length-entry_bytes (stream_entry n k next stream) refl in
-    let rest = length-stream_entries n (k + 1) (next + units 512 stream.1) streams in
-    length-append (entry_bytes (stream_entry n k next stream)) (stream_entries n (k + 1) (next + units 512 stream.1) streams) ∙ omega arith
+-- the sectors of all parts, by their counts
+pub taken_is : (contents : Contents) → length contents.clsid ≡ 16 → all_units 512 (parts contents) ≡ taken_by (entries contents.streams)
+taken_is contents fits = taken contents.clsid (entries contents.streams) (length-directory_of contents.clsid (entries contents.streams) fits)
 
-length-unused : (n : ℕ) (piece : List ℕ) → length piece ≡ 128 → length (concat (replicate n piece)) ≡ 128 * n
-length-unused zero piece long = refl
-length-unused (suc n) piece long = length-append piece (concat (replicate n piece)) ∙ omega (arith, length-unused n piece long)
+-- and all sectors
+pub total_is : (contents : Contents) (earlier : ℕ) → length contents.clsid ≡ 16 → total contents earlier ≡ least_total (taken_by (entries contents.streams)) earlier
+total_is contents earlier fits = ap (λ taken. least_total taken earlier) (taken_is contents fits)
 
-pub length-directory_of : (clsid : List ℕ) (streams : List (List ℕ × List ℕ)) → length clsid ≡ 16 → length (directory_of clsid streams) ≡ 512 * directory_sectors (length streams)
-length-directory_of clsid streams fits =
-    let n = length streams in
-    let taken = directory_sectors n in
-    let root = entry_bytes (root_entry clsid n) in
-    let others = stream_entries n 1 taken streams in
-    let unused = concat (replicate (4 * taken - (n + 1)) unused_entry) in
-    length-append (root ++ others) unused
-    ∙ omega (
-      arith,
-      length-append root others,
-      length-entry_bytes (root_entry clsid n) fits,
-      length-stream_entries n 1 taken streams,
-      length-unused (4 * taken - (n + 1)) unused_entry refl,
-    )
+first_of_three : (a b c d : ℕ) → a + b + c ≤ d → a ≤ d
+first_of_three a b c d h = omega arith
 
--- the sectors of the directory and the streams, by their count
-pub part_sectors_are : (contents : Contents) → length contents.clsid ≡ 16 → part_sectors (parts contents) ≡ sectors_of (entries contents.streams)
-part_sectors_are contents fits =
-    let streams = entries contents.streams in
-    let directory : units 512 (directory_of contents.clsid streams) ≡ directory_sectors (length streams) = omega (arith, length-directory_of contents.clsid streams fits) in
-    ap (λ n. n + all_units 512 (stream_parts streams)) directory
+-- no sector that is taken is left out
+pub taken_most : (taken earlier : ℕ) → taken ≤ least_total taken earlier
+taken_most taken earlier =
+    first_of_three taken (fat_sectors (least_total taken earlier)) (difat_sectors (least_total taken earlier)) (least_total taken earlier) (total_room taken earlier)
+
+-- what is taken holds the directory, the mini FAT and the mini sectors
+pub directory_most : (streams : List (List ℕ × List ℕ)) → directory_sectors (length streams) ≤ taken_by streams
+directory_most streams = omega arith
+
+pub mini_fat_most : (streams : List (List ℕ × List ℕ)) → mini_fat_sectors streams ≤ taken_by streams
+mini_fat_most streams = omega arith
+
+pub mini_most : (streams : List (List ℕ × List ℕ)) → mini_sectors streams ≤ 8 * taken_by streams
+mini_most streams = omega arith
 
 -- WHAT IS REFUSED
 
@@ -55,49 +46,102 @@ or_true : (a : Bool) → (a || true) ≡ true
 or_true true = refl
 or_true false = refl
 
-third_true : (a b c : Bool) → ((a || true || b) || c) ≡ true
-third_true true b c = refl
-third_true false b c = refl
+past : (n : ℕ) → 2 ^ 22 ≤ n → nat_lt (2 ^ 31) (512 * (n + 1)) ≡ true
+past n h = lt-ltb (2 ^ 31) (512 * (n + 1)) (omega arith)
 
--- the FAT sectors, by the count of the others
-abbrev pub fat_for : Contents → ℕ
-fat_for contents = div_ceil (sectors_of (entries contents.streams)) 127
+within : (n : ℕ) → n < 2 ^ 22 → nat_lt (2 ^ 31) (512 * (n + 1)) ≡ false
+within n h = le-ltb (2 ^ 31) (512 * (n + 1)) (omega arith)
 
-fat_sectors_are : (contents : Contents) → length contents.clsid ≡ 16 → fat_sectors (parts contents) ≡ fat_for contents
-fat_sectors_are contents fits = ap (λ n. div_ceil n 127) (part_sectors_are contents fits)
+pub refused_large : (contents : Contents) (earlier : ℕ) → length contents.clsid ≡ 16
+    → 2 ^ 22 ≤ least_total (taken_by (entries contents.streams)) earlier
+    → refuses contents earlier ≡ true
+refused_large contents earlier fits large =
+    ap (λ b. contents.has_storages || b) (ap (λ n. nat_lt (2 ^ 31) (512 * (n + 1))) (total_is contents earlier fits) ∙ past _ large) ∙ or_true _
 
-pub refused_large : (contents : Contents) (earlier_len : ℕ) → length contents.clsid ≡ 16
-    → 2 ^ 22 < sectors_of (entries contents.streams) + fat_for contents + 1
-    → refuses contents earlier_len ≡ true
-refused_large contents earlier_len fits large =
-    let size : 2 ^ 31 < 512 * (sectors (parts contents) + 1) = omega (arith, part_sectors_are contents fits, fat_sectors_are contents fits) in
-    rw (lt-ltb (2 ^ 31) (512 * (sectors (parts contents) + 1)) size) (or_true _)
-
-pub refused_many : (contents : Contents) (earlier_len : ℕ) → length contents.clsid ≡ 16
-    → 109 < fat_for contents
-    → refuses contents earlier_len ≡ true
-refused_many contents earlier_len fits many =
-    let more : 109 < fat_sectors (parts contents) = omega (arith, fat_sectors_are contents fits) in
-    rw (lt-ltb 109 (fat_sectors (parts contents)) more) (third_true _ _ _)
-
-pub accepted : (contents : Contents) (earlier_len : ℕ) → length contents.clsid ≡ 16
+pub accepted : (contents : Contents) (earlier : ℕ) → length contents.clsid ≡ 16
     → contents.has_storages ≡ false
-    → has_small_stream (entries contents.streams) ≡ false
-    → earlier_len ≡ 0
-    → fat_for contents ≤ 109
-    → sectors_of (entries contents.streams) + fat_for contents + 1 ≤ 2 ^ 22
-    → refuses contents earlier_len ≡ false
-accepted contents earlier_len fits storages small earlier few size =
-    let fewer : fat_sectors (parts contents) ≤ 109 = omega (arith, fat_sectors_are contents fits) in
-    let smaller : 512 * (sectors (parts contents) + 1) ≤ 2 ^ 31 = omega (arith, part_sectors_are contents fits, fat_sectors_are contents fits) in
-    rw (storages, small, earlier, le-ltb 109 (fat_sectors (parts contents)) fewer, le-ltb (2 ^ 31) (512 * (sectors (parts contents) + 1)) smaller) refl
+    → least_total (taken_by (entries contents.streams)) earlier < 2 ^ 22
+    → refuses contents earlier ≡ false
+accepted contents earlier fits storages few =
+    ap (λ b. b || nat_lt (2 ^ 31) (512 * (total contents earlier + 1))) storages
+    ∙ (ap (λ n. nat_lt (2 ^ 31) (512 * (n + 1))) (total_is contents earlier fits) ∙ within _ few)
 
--- what isn't refused is not too large
-pub not_refused : (contents : Contents) (earlier_len : ℕ) → length contents.clsid ≡ 16
-    → (IsTrue (refuses contents earlier_len) → ⊥)
-    → sectors_of (entries contents.streams) ≤ 2 ^ 22
-not_refused contents earlier_len fits not =
-    elim (cases_lt (2 ^ 22) (sectors_of (entries contents.streams))) [
-      | inl large ↦ absurd (not (refused_large contents earlier_len fits (omega arith)))
-      | inr small ↦ small
-    ]
+-- WHAT IS WRITTEN
+
+-- the sectors that are counted
+pub taken_counted : (streams : List (List ℕ × List ℕ)) (n mini large s t u : ℕ)
+    → n ≡ length streams
+    → mini ≡ mini_sectors streams
+    → large ≡ all_units 512 (large_parts streams)
+    → s ≡ directory_sectors n
+    → t ≡ div_ceil mini 128
+    → u ≡ div_ceil mini 8
+    → s + t + u + large ≡ taken_by streams
+taken_counted streams n mini large s t u n_is mini_is large_is s_is t_is u_is =
+    ap (λ m. m + large) (large_place streams n mini s t u n_is mini_is s_is t_is u_is) ∙ ap (λ m. large_first streams + m) large_is
+
+at_least : (a b c : ℕ) → a ≤ b → b ≤ c → a ≤ c
+at_least a b c p q = omega arith
+
+below : (a b c : ℕ) → a ≤ b → b < c → a < c
+below a b c p q = omega arith
+
+-- where too much is taken, the file is too large
+pub large_total : (taken earlier : ℕ) → 2 ^ 22 ≤ taken → 2 ^ 22 ≤ least_total taken earlier
+large_total taken earlier h = at_least (2 ^ 22) taken (least_total taken earlier) h (taken_most taken earlier)
+
+-- where the file isn't too large, what is taken isn't
+pub taken_few : (contents : Contents) (earlier n : ℕ) → length contents.clsid ≡ 16
+    → n ≡ total contents earlier
+    → n < 2 ^ 22
+    → taken_by (entries contents.streams) < 2 ^ 22
+taken_few contents earlier n fits n_is few =
+    let taken = taken_by (entries contents.streams) in
+    below taken n (2 ^ 22) (subst (λ m. taken ≤ m) (sym (n_is ∙ total_is contents earlier fits)) (taken_most taken earlier)) few
+
+-- the small streams' parts take few mini sectors
+pub mini_few : (streams : List (List ℕ × List ℕ)) (small : List (List ℕ)) → taken_by streams < 2 ^ 22 → small ≡ mini_parts streams → all_units 64 small < 2 ^ 31
+mini_few streams small few is =
+    let most : mini_sectors streams < 2 ^ 31 = omega (arith, mini_most streams) in
+    subst (λ ps. all_units 64 ps < 2 ^ 31) (sym is) most
+
+-- there is room for the parts, the FAT and the DIFAT
+pub parts_room : (contents : Contents) (earlier n : ℕ) (all : List (List ℕ))
+    → all ≡ parts contents
+    → n ≡ total contents earlier
+    → all_units 512 all + fat_sectors n + difat_sectors n ≤ n
+parts_room contents earlier n all is n_is =
+    let taken = all_units 512 (parts contents) in
+    let room : taken + fat_sectors n + difat_sectors n ≤ n = subst (λ m. taken + fat_sectors m + difat_sectors m ≤ m) (sym n_is) (total_room taken earlier) in
+    subst (λ ps. all_units 512 ps + fat_sectors n + difat_sectors n ≤ n) (sym is) room
+
+-- the parts, by what they are
+pub parts_listed : (contents : Contents) (directory fat held : List ℕ)
+    → directory ≡ directory_of contents.clsid (entries contents.streams)
+    → fat ≡ mini_fat (entries contents.streams)
+    → held ≡ mini_stream (entries contents.streams)
+    → directory ∷ fat ∷ held ∷ large_parts (entries contents.streams) ≡ parts contents
+parts_listed contents directory fat held directory_is fat_is held_is = λ i. directory_is i ∷ fat_is i ∷ held_is i ∷ large_parts (entries contents.streams)
+
+pub same_run : (streams : List (List ℕ × List ℕ)) (n mini first count : ℕ)
+    → n ≡ length streams
+    → mini ≡ mini_sectors streams
+    → first ≡ directory_sectors n
+    → count ≡ div_ceil mini 128
+    → ◌≡◌ {A = Run} (record { first = first; count = count }) (mini_fat_run streams)
+same_run streams n mini first count n_is mini_is first_is count_is =
+    let first_path : first ≡ directory_sectors (length streams) = first_is ∙ ap directory_sectors n_is in
+    let count_path : count ≡ mini_fat_sectors streams = count_is ∙ ap (λ m. div_ceil m 128) mini_is in
+    λ i. record { first = first_path i; count = count_path i }
+
+-- the file, by what it is made of
+pub same_image : (contents : Contents) (earlier n : ℕ) (all : List (List ℕ)) (run : Run)
+    → all ≡ parts contents
+    → run ≡ mini_fat_run (entries contents.streams)
+    → n ≡ total contents earlier
+    → image all run n ≡ layout contents earlier
+same_image contents earlier n all run all_is run_is n_is = λ i. image (all_is i) (run_is i) (n_is i)
+
+pub not_true : (b : Bool) → (IsTrue b → ⊥) → b ≡ false
+not_true true h = absurd (h refl)
+not_true false h = refl

@@ -37,7 +37,8 @@ is_less : (o : Ordering) → o ≡ Less → T (is_lt o)
 is_less o e = subst (λ p. T (is_lt p)) (sym e) tt
 
 module _ {X : Type 0} where
-  find_is_lookup : (q : List ℕ) (es : List (List ℕ × X)) → find name_cmp q es ≡ lookup (is_at (name_cmp q)) es
+  -- the first entry with a name is what a look-up finds
+  pub find_is_lookup : (q : List ℕ) (es : List (List ℕ × X)) → find name_cmp q es ≡ lookup (is_at (name_cmp q)) es
   find_is_lookup q [] = refl
   find_is_lookup q (e ∷ es) = ap (cond (is_at (name_cmp q) e.0) (Some e.1)) (find_is_lookup q es)
 

@@ -6,7 +6,7 @@ use Rattle.std.proofs.lemmas.Bool.{cases_lt}
 use Rattle.std.proofs.lemmas.List.{append_assoc, length-append, length-replicate, get_or_append_left, get_or-append_right, get_or-replicate}
 use Rattle.std.proofs.lemmas.List.Concat.{flat_map-append}
 use Rattle.std.proofs.lemmas.List.FromFn.{fill_by_all, get_or-map-range_with_len, length-map-range_with_len, map-range_with_len_more}
-use Rattle.msi_container.specs.Extents.{number_byte}
+use Rattle.msi_container.specs.Extents.{number_byte, table_byte}
 
 -- what agrees with one function below m, and with another above it
 pub map_range_append : (f g h : ℕ → ℕ) (m n : ℕ)
@@ -58,10 +58,10 @@ numbers_pushed start before now bytes e n x was is spelled pushed =
 
 -- the bytes of numbers in a row, by position
 pub bytes_of_numbers : (e : ℕ → ℕ) (n : ℕ)
-    → flat_map (to_le_bytes w32) (map e (range_with_len 0 n)) ≡ map (λ i. number_byte (e (i / 4)) (i % 4)) (range_with_len 0 (4 * n))
+    → flat_map (to_le_bytes w32) (map e (range_with_len 0 n)) ≡ map (table_byte e) (range_with_len 0 (4 * n))
 bytes_of_numbers e zero = refl
 bytes_of_numbers e (suc n) =
-    let byte : ℕ → ℕ = λ i. number_byte (e (i / 4)) (i % 4) in
+    let byte : ℕ → ℕ = table_byte e in
     let P : ℕ → Type 0 = λ m. flat_map (to_le_bytes w32) (map e (range_with_len 0 m)) ≡ map byte (range_with_len 0 (4 * m)) in
     let next : n + 1 ≡ suc n = omega arith in
     let long : 4 * n + 4 ≡ 4 * (n + 1) = omega arith in

@@ -1,155 +1,90 @@
 -- The image, read as the grammar reads it.
-use Rattle.std.proofs.Common.{◌≡◌, ℕ, zero, suc, ◌+◌, ◌-◌, ◌*◌, ◌/◌, ◌%◌, ◌<◌, ◌≤◌, ◌^◌, Bool, true, false, cond, ltb, eqb, List, [], ◌∷◌, length, get_or, take, map, Some, inl, sym, ◌∙◌, ap, arith, refl, lit<}
+use Rattle.std.proofs.Common.{◌≡◌, ℕ, ◌+◌, ◌-◌, ◌*◌, ◌/◌, ◌%◌, ◌<◌, ◌≤◌, ◌^◌, Bool, true, false, cond, ltb, eqb, List, [], length, get_or, take, map, Some, inl, inr, sym, ◌∙◌, ap, arith, refl, lit<}
 use Rattle.std.specs.List.{range_with_len}
-use Rattle.std.proofs.lemmas.Bool.{lt-ltb, le-ltb, ne_eqb, eq-eqb}
+use Rattle.std.proofs.lemmas.Bool.{cases_lt, lt-ltb, le-ltb, ne_eqb, eq-eqb}
 use Rattle.std.proofs.lemmas.Grind.{div_ceil_times}
-use Rattle.std.proofs.lemmas.List.FromFn.{fill_by_all, get_or-map-range_with_len, get_or-range_with_len, length-range_with_len}
+use Rattle.std.proofs.lemmas.List.FromFn.{fill_by_all, get_or-map-range_with_len, get_or-range_with_len, length-range_with_len, length-map-range_with_len}
+use Rattle.msi_container.proofs.LaidLemmas.{laid_at, last_at, units_within, number_from, place_range}
 use Rattle.msi_container.specs.Bytes.{number32, place}
 use Rattle.msi_container.specs.Chains.{IsChain}
-use Rattle.msi_container.specs.Container.{IsHeader, successor, listed, version, sector_size}
-use Rattle.msi_container.specs.Extents.{units, all_units, laid_byte, is_last, link, number_byte}
-use Rattle.msi_container.specs.Image.{image, image_byte, front, part_sectors, fat_sectors, sectors, fat_entry, difat_entry}
+use Rattle.msi_container.specs.Container.{IsHeader, successor, listed, next_difat, version, sector_size}
+use Rattle.msi_container.specs.Extents.{units, all_units, laid_byte, is_last, link, start_of, number_byte, table_byte}
+use Rattle.msi_container.specs.Image.{Run, image, image_byte, front, fat_sectors, difat_sectors, fat_entry, listed_entry, difat_entry, difat_run}
+use Rattle.msi_container.specs.SpelledParts.{fat_of, difat_of, IsSpelledPart, IsSpelledImage}
 
--- byte p of part i, which begins where those before it end
-pub laid_at : (size : ℕ) (parts : List (List ℕ)) (i p : ℕ) → i < length parts → p < units size (get_or parts i []) * size → laid_byte size parts (all_units size (take i parts) * size + p) ≡ get_or (get_or parts i []) p 0
-laid_at size [] i p l h = absurd (omega arith)
-laid_at size (part ∷ parts) zero p l h =
-    let e : 0 * size + p ≡ p = omega arith in
-    rw (e, lt-ltb p (units size part * size) h) refl
-laid_at size (part ∷ parts) (suc i) p l h =
-    let U = units size part in
-    let V = all_units size (take i parts) in
-    let e : (U + V) * size + p - U * size ≡ V * size + p = omega arith in
-    let past : U * size ≤ (U + V) * size + p = omega arith in
-    rw (le-ltb ((U + V) * size + p) (U * size) past, e) (laid_at size parts i p (omega arith) h)
+-- entry n of a table in some bytes, which begins at start
+pub table_number : (bytes : List ℕ) (entry : ℕ → ℕ) (start n p : ℕ)
+    → entry n < 2 ^ 32
+    → p ≡ start + 4 * n
+    → ((q : ℕ) → start + 4 * n ≤ q → q < start + 4 * n + 4 → get_or bytes q 0 ≡ table_byte entry (q - start))
+    → number32 bytes p ≡ entry n
+table_number bytes entry start n p small there at =
+    let byte : (b q : ℕ) → b < 4 → q ≡ start + 4 * n + b → get_or bytes q 0 ≡ number_byte (entry n) b = λ b q l e.
+    let row : (q - start) / 4 ≡ n = omega arith in
+    let column : (q - start) % 4 ≡ b = omega arith in
+    at q (omega arith) (omega arith) ∙ rw (row, column) refl in
+    number_from _ _ _ _ (entry n) small
+    (byte 0 p (lit< tt) (omega arith))
+    (byte 1 (p + 1) (lit< tt) (omega arith))
+    (byte 2 (p + 2) (lit< tt) (omega arith))
+    (byte 3 (p + 2 + 1) (lit< tt) (omega arith))
 
--- unit k of part i is the last exactly if no unit of the part follows
-pub last_at : (size : ℕ) (parts : List (List ℕ)) (i k : ℕ) → i < length parts → k < units size (get_or parts i []) → is_last size parts (all_units size (take i parts) + k) ≡ eqb (k + 1) (units size (get_or parts i []))
-last_at size [] i k l h = absurd (omega arith)
-last_at size (part ∷ parts) zero k l h =
-    let e : 0 + k ≡ k = omega arith in
-    rw (e, lt-ltb k (units size part) h) refl
-last_at size (part ∷ parts) (suc i) k l h =
-    let U = units size part in
-    let V = all_units size (take i parts) in
-    let e : U + V + k - U ≡ V + k = omega arith in
-    rw (le-ltb (U + V + k) U (omega arith), e) (last_at size parts i k (omega arith) h)
+-- THE IMAGE'S BYTES
 
--- a number by its bytes
-pub from_bytes : (n : ℕ) → n < 2 ^ 32 → number_byte n 0 + 256 * number_byte n 1 + 65536 * (number_byte n 2 + 256 * number_byte n 3) ≡ n
-from_bytes n h = omega arith
+-- byte p of the image is what its definition gives there
+image_at : (parts : List (List ℕ)) (mini_fat : Run) (total p : ℕ) → p < 512 * (total + 1) → get_or (image parts mini_fat total) p 0 ≡ image_byte parts mini_fat total p
+image_at parts mini_fat total p l = get_or-map-range_with_len (image_byte parts mini_fat total) 0 (512 * (total + 1)) p p 0 l (omega arith)
 
--- the units of a part lie within those of all
-pub units_within : (size : ℕ) (parts : List (List ℕ)) (i : ℕ) → i < length parts → all_units size (take i parts) + units size (get_or parts i []) ≤ all_units size parts
-units_within size [] i l = absurd (omega arith)
-units_within size (part ∷ parts) zero l = omega arith
-units_within size (part ∷ parts) (suc i) l = let h = units_within size parts i (omega arith) in omega arith
+-- the header's first 76 bytes
+front_at : (parts : List (List ℕ)) (mini_fat : Run) (total p : ℕ) → p < 76
+    → get_or (image parts mini_fat total) p 0 ≡ get_or (front (fat_sectors total) mini_fat (difat_run (all_units 512 parts) total)) p 0
+front_at parts mini_fat total p l = image_at parts mini_fat total p (omega arith) ∙ rw (lt-ltb p 76 l) refl
 
-pub image_at : (parts : List (List ℕ)) (p : ℕ) → p < 512 * (sectors parts + 1) → get_or (image parts) p 0 ≡ image_byte parts p
-image_at parts p l = get_or-map-range_with_len (image_byte parts) 0 (512 * (sectors parts + 1)) p p 0 l (omega arith)
+-- the header's list of FAT sectors
+list_at : (parts : List (List ℕ)) (mini_fat : Run) (total p : ℕ) → 76 ≤ p → p < 512
+    → get_or (image parts mini_fat total) p 0 ≡ table_byte (listed_entry (all_units 512 parts) (fat_sectors total)) (p - 76)
+list_at parts mini_fat total p a b = image_at parts mini_fat total p (omega arith) ∙ rw (le-ltb p 76 a, lt-ltb p 512 b) refl
 
-pub image_size : (parts : List (List ℕ)) → sector_size (image parts) ≡ 512
-image_size parts =
-    let low = image_at parts 26 (omega arith) in
-    let high = image_at parts 27 (omega arith) in
-    let three : version (image parts) ≡ 3 = rw (low, high) refl in
+-- the parts
+laid_byte_at : (parts : List (List ℕ)) (mini_fat : Run) (total p : ℕ) → all_units 512 parts ≤ total → 512 ≤ p → p < 512 * (all_units 512 parts + 1)
+    → get_or (image parts mini_fat total) p 0 ≡ laid_byte 512 parts (p - 512)
+laid_byte_at parts mini_fat total p fits a b =
+    image_at parts mini_fat total p (omega arith)
+    ∙ rw (le-ltb p 76 (omega arith), le-ltb p 512 a, lt-ltb p (512 * (all_units 512 parts + 1)) b) refl
+
+-- the FAT
+fat_byte_at : (parts : List (List ℕ)) (mini_fat : Run) (total p : ℕ) → all_units 512 parts + fat_sectors total ≤ total → 512 * (all_units 512 parts + 1) ≤ p → p < 512 * (all_units 512 parts + fat_sectors total + 1)
+    → get_or (image parts mini_fat total) p 0 ≡ table_byte (fat_entry parts total) (p - 512 * (all_units 512 parts + 1))
+fat_byte_at parts mini_fat total p fits a b =
+    let X = all_units 512 parts in
+    let F = fat_sectors total in
+    image_at parts mini_fat total p (omega arith)
+    ∙ rw (le-ltb p 76 (omega arith), le-ltb p 512 (omega arith), le-ltb p (512 * (X + 1)) a, lt-ltb p (512 * (X + F + 1)) b) refl
+
+-- the DIFAT
+difat_byte_at : (parts : List (List ℕ)) (mini_fat : Run) (total p : ℕ) → all_units 512 parts + fat_sectors total + difat_sectors total ≤ total → 512 * (all_units 512 parts + fat_sectors total + 1) ≤ p → p < 512 * (all_units 512 parts + fat_sectors total + difat_sectors total + 1)
+    → get_or (image parts mini_fat total) p 0 ≡ table_byte (difat_entry (all_units 512 parts) total) (p - 512 * (all_units 512 parts + fat_sectors total + 1))
+difat_byte_at parts mini_fat total p fits a b =
+    let X = all_units 512 parts in
+    let F = fat_sectors total in
+    let D = difat_sectors total in
+    image_at parts mini_fat total p (omega arith)
+    ∙ rw (le-ltb p 76 (omega arith), le-ltb p 512 (omega arith), le-ltb p (512 * (X + 1)) (omega arith), le-ltb p (512 * (X + F + 1)) a, lt-ltb p (512 * (X + F + D + 1)) b) refl
+
+-- THE HEADER
+
+-- the image has sectors of 512 bytes
+image_size : (parts : List (List ℕ)) (mini_fat : Run) (total : ℕ) → sector_size (image parts mini_fat total) ≡ 512
+image_size parts mini_fat total =
+    let low = front_at parts mini_fat total 26 (lit< tt) in
+    let high = front_at parts mini_fat total 27 (lit< tt) in
+    let three : version (image parts mini_fat total) ≡ 3 = rw (low, high) refl in
     ap (λ v. cond (eqb v 4) 4096 512) three
 
--- byte p of sectors that are numbered in a row
-pub place_range : (a n p : ℕ) → p < 512 * n → place 512 (range_with_len a n) p ≡ 512 * (a + 1) + p
-place_range a n p l = rw (get_or-range_with_len a n (p / 512) 0 (omega arith)) (omega arith)
-
-pub fat_byte : (parts : List (List ℕ)) (n b p : ℕ) → n < 128 * fat_sectors parts → b < 4 → p ≡ 512 * (part_sectors parts + 1) + 4 * n + b → get_or (image parts) p 0 ≡ number_byte (fat_entry parts n) b
-fat_byte parts n b p l h at_p =
-    let X = part_sectors parts in
-    let e : (p - 512 * (X + 1)) / 4 ≡ n = omega arith in
-    let f : (p - 512 * (X + 1)) % 4 ≡ b = omega arith in
-    image_at parts p (omega arith)
-    ∙ rw (le-ltb p 76 (omega arith), le-ltb p 512 (omega arith), le-ltb p (512 * (X + 1)) (omega arith), e, f) refl
-
--- a number from its four bytes
-pub number_from : (a b c d n : ℕ) → n < 2 ^ 32 → a ≡ number_byte n 0 → b ≡ number_byte n 1 → c ≡ number_byte n 2 → d ≡ number_byte n 3 → a + 256 * b + 65536 * (c + 256 * d) ≡ n
-number_from a b c d n h p q r s = rw (p, q, r, s) (from_bytes n h)
-
-pub fat_number : (parts : List (List ℕ)) (n p : ℕ) → n < 128 * fat_sectors parts → fat_entry parts n < 2 ^ 32 → p ≡ 512 * (part_sectors parts + 1) + 4 * n → number32 (image parts) p ≡ fat_entry parts n
-fat_number parts n p l h e =
-    number_from _ _ _ _ (fat_entry parts n) h
-    (fat_byte parts n 0 p l (omega arith) (omega arith))
-    (fat_byte parts n 1 (p + 1) l (omega arith) (omega arith))
-    (fat_byte parts n 2 (p + 2) l (omega arith) (omega arith))
-    (fat_byte parts n 3 (p + 2 + 1) l (omega arith) (omega arith))
-
-pub covered : (parts : List (List ℕ)) → sectors parts ≤ 128 * fat_sectors parts
-covered parts = omega (arith, div_ceil_times (part_sectors parts) 127 (omega arith))
-
--- the successor of a sector, by the FAT behind the parts
-abbrev pub fat_of : List (List ℕ) → List ℕ
-fat_of parts = range_with_len (part_sectors parts) (fat_sectors parts)
-
-pub successor_is : (parts : List (List ℕ)) (n : ℕ) → n < 128 * fat_sectors parts → fat_entry parts n < 2 ^ 32 → successor (image parts) (fat_of parts) n ≡ Some (fat_entry parts n)
-successor_is parts n l h =
-    let X = part_sectors parts in
-    let F = fat_sectors parts in
-    let size = image_size parts in
-    let inside : ltb (4 * n) (length (fat_of parts) * 512) ≡ true = lt-ltb _ _ (rw (length-range_with_len X F) (omega arith)) in
-    let there : place 512 (fat_of parts) (4 * n) ≡ 512 * (X + 1) + 4 * n = place_range X F (4 * n) (omega arith) in
-    rw (size, inside, there, fat_number parts n (512 * (X + 1) + 4 * n) l h refl) refl
-
-link_bound : (b : Bool) (n : ℕ) → n < 2 ^ 31 → cond b 0xFFFF_FFFE (n + 1) < 2 ^ 32
-link_bound true n h = lit< tt
-link_bound false n h = omega arith
-
--- a unit of a part has a link that fits
-link_fits : (parts : List (List ℕ)) (n : ℕ) → n < part_sectors parts → sectors parts < 2 ^ 31 → (fat_entry parts n ≡ link 512 parts n) × (fat_entry parts n < 2 ^ 32)
-link_fits parts n l h =
-    let is : fat_entry parts n ≡ link 512 parts n = rw (lt-ltb n (part_sectors parts) l) refl in
-    (is, rw is (link_bound (is_last 512 parts n) n (omega arith)))
-
-pub part_chain : (parts : List (List ℕ)) (i : ℕ) → i < length parts → sectors parts < 2 ^ 31 → IsChain (successor (image parts) (fat_of parts)) (all_units 512 (take i parts)) (units 512 (get_or parts i [])) (range_with_len (all_units 512 (take i parts)) (units 512 (get_or parts i [])))
-part_chain parts i l h =
-    let s = all_units 512 (take i parts) in
-    let u = units 512 (get_or parts i []) in
-    let long = length-range_with_len s u in
-    record {
-      long = long;
-      first = λ z. get_or-range_with_len s u 0 0 (omega arith) ∙ omega arith;
-      linked = λ k b.
-          let within = units_within 512 parts i l in
-          let fits = link_fits parts (s + k) (omega arith) h in
-          let open_end : is_last 512 parts (s + k) ≡ false = last_at 512 parts i k l (omega arith) ∙ ne_eqb (k + 1) u (λ e. omega arith) in
-          rw (get_or-range_with_len s u k 0 (omega arith), get_or-range_with_len s u (k + 1) 0 (omega arith))
-          (successor_is parts (s + k) (omega (arith, covered parts)) fits.1 ∙ ap Some (fits.0 ∙ rw open_end (omega arith)));
-    }
-
-pub part_end : (parts : List (List ℕ)) (i : ℕ) → i < length parts → sectors parts < 2 ^ 31 → 0 < units 512 (get_or parts i []) → successor (image parts) (fat_of parts) (all_units 512 (take i parts) + units 512 (get_or parts i []) - 1) ≡ Some 0xFFFF_FFFE
-part_end parts i l h z =
-    let s = all_units 512 (take i parts) in
-    let u = units 512 (get_or parts i []) in
-    let within = units_within 512 parts i l in
-    let last : s + u - 1 ≡ s + (u - 1) = omega arith in
-    let fits = link_fits parts (s + (u - 1)) (omega arith) h in
-    let ended : is_last 512 parts (s + (u - 1)) ≡ true = last_at 512 parts i (u - 1) l (omega arith) ∙ eq-eqb (u - 1 + 1) u (omega arith) in
-    rw last (successor_is parts (s + (u - 1)) (omega (arith, covered parts)) fits.1 ∙ ap Some (fits.0 ∙ rw ended refl))
-
-pub part_byte : (parts : List (List ℕ)) (i p : ℕ) → i < length parts → p < length (get_or parts i []) → get_or (image parts) (place 512 (range_with_len (all_units 512 (take i parts)) (units 512 (get_or parts i []))) p) 0 ≡ get_or (get_or parts i []) p 0
-part_byte parts i p l h =
-    let s = all_units 512 (take i parts) in
-    let u = units 512 (get_or parts i []) in
-    let X = part_sectors parts in
-    let within = units_within 512 parts i l in
-    let inside : p < u * 512 = omega (arith, div_ceil_times (length (get_or parts i [])) 512 (omega arith)) in
-    let q = 512 * (s + 1) + p in
-    let e : q - 512 ≡ s * 512 + p = omega arith in
-    rw (place_range s u p (omega arith))
-    (image_at parts q (omega arith)
-    ∙ rw (le-ltb q 76 (omega arith), le-ltb q 512 (omega arith), lt-ltb q (512 * (X + 1)) (omega arith), e) (laid_at 512 parts i p l inside))
-
-front_at : (parts : List (List ℕ)) (p : ℕ) → p < 76 → get_or (image parts) p 0 ≡ get_or (front (fat_sectors parts)) p 0
-front_at parts p l = image_at parts p (omega arith) ∙ rw (lt-ltb p 76 l) refl
-
-pub header : (parts : List (List ℕ)) → IsHeader (image parts)
-header parts =
-    let at : (p : ℕ) → p < 76 → get_or (image parts) p 0 ≡ get_or (front (fat_sectors parts)) p 0 = front_at parts in
+-- the image has a header of version 3
+header : (parts : List (List ℕ)) (mini_fat : Run) (total : ℕ) → IsHeader (image parts mini_fat total)
+header parts mini_fat total =
+    let at : (p : ℕ) → p < 76 → get_or (image parts mini_fat total) p 0 ≡ get_or (front (fat_sectors total) mini_fat (difat_run (all_units 512 parts) total)) p 0 = front_at parts mini_fat total in
     record {
       signed = rw (at 0 (lit< tt), at 1 (lit< tt), at 2 (lit< tt), at 3 (lit< tt), at 4 (lit< tt), at 5 (lit< tt), at 6 (lit< tt), at 7 (lit< tt)) refl;
       versioned = inl (rw (at 26 (lit< tt), at 27 (lit< tt)) refl, rw (at 30 (lit< tt), at 31 (lit< tt)) refl);
@@ -158,32 +93,253 @@ header parts =
       cutoff = rw (at 56 (lit< tt), at 57 (lit< tt), at 58 (lit< tt), at 59 (lit< tt)) refl;
     }
 
-pub fat_count : (parts : List (List ℕ)) → fat_sectors parts < 2 ^ 32 → number32 (image parts) 44 ≡ fat_sectors parts
-fat_count parts h = number_from _ _ _ _ (fat_sectors parts) h (front_at parts 44 (lit< tt)) (front_at parts 45 (lit< tt)) (front_at parts 46 (lit< tt)) (front_at parts 47 (lit< tt))
+-- a number whose bytes stand in the header's front from byte p on
+front_number : (parts : List (List ℕ)) (mini_fat : Run) (total p n : ℕ) → p + 4 ≤ 76 → n < 2 ^ 32
+    → get_or (front (fat_sectors total) mini_fat (difat_run (all_units 512 parts) total)) p 0 ≡ number_byte n 0
+    → get_or (front (fat_sectors total) mini_fat (difat_run (all_units 512 parts) total)) (p + 1) 0 ≡ number_byte n 1
+    → get_or (front (fat_sectors total) mini_fat (difat_run (all_units 512 parts) total)) (p + 2) 0 ≡ number_byte n 2
+    → get_or (front (fat_sectors total) mini_fat (difat_run (all_units 512 parts) total)) (p + 2 + 1) 0 ≡ number_byte n 3
+    → number32 (image parts mini_fat total) p ≡ n
+front_number parts mini_fat total p n inside small a b c d =
+    number_from _ _ _ _ n small
+    (front_at parts mini_fat total p (omega arith) ∙ a)
+    (front_at parts mini_fat total (p + 1) (omega arith) ∙ b)
+    (front_at parts mini_fat total (p + 2) (omega arith) ∙ c)
+    (front_at parts mini_fat total (p + 2 + 1) (omega arith) ∙ d)
 
-pub first_directory : (parts : List (List ℕ)) → number32 (image parts) 48 ≡ 0
-first_directory parts = number_from _ _ _ _ 0 (lit< tt) (front_at parts 48 (lit< tt)) (front_at parts 49 (lit< tt)) (front_at parts 50 (lit< tt)) (front_at parts 51 (lit< tt))
+-- the header counts the FAT's sectors
+fat_count : (parts : List (List ℕ)) (mini_fat : Run) (total : ℕ) → fat_sectors total < 2 ^ 32 → number32 (image parts mini_fat total) 44 ≡ fat_sectors total
+fat_count parts mini_fat total small = front_number parts mini_fat total 44 (fat_sectors total) (omega arith) small refl refl refl refl
 
-pub first_mini_fat : (parts : List (List ℕ)) → number32 (image parts) 60 ≡ 0xFFFF_FFFE
-first_mini_fat parts = number_from _ _ _ _ 0xFFFF_FFFE (lit< tt) (front_at parts 60 (lit< tt)) (front_at parts 61 (lit< tt)) (front_at parts 62 (lit< tt)) (front_at parts 63 (lit< tt))
+-- the header has the directory start in sector 0
+first_directory : (parts : List (List ℕ)) (mini_fat : Run) (total : ℕ) → number32 (image parts mini_fat total) 48 ≡ 0
+first_directory parts mini_fat total = front_number parts mini_fat total 48 0 (lit< tt) (lit< tt) refl refl refl refl
 
-difat_byte : (parts : List (List ℕ)) (k b p : ℕ) → k < 109 → b < 4 → p ≡ 76 + 4 * k + b → get_or (image parts) p 0 ≡ number_byte (difat_entry (part_sectors parts) (fat_sectors parts) k) b
-difat_byte parts k b p l h at_p =
-    let e : (p - 76) / 4 ≡ k = omega arith in
-    let f : (p - 76) % 4 ≡ b = omega arith in
-    image_at parts p (omega arith) ∙ rw (le-ltb p 76 (omega arith), lt-ltb p 512 (omega arith), e, f) refl
+-- where a chain starts is the end mark or a number that fits 32 bits
+start_bound : (b : Bool) (first : ℕ) → first < 2 ^ 32 → cond b 0xFFFF_FFFE first < 2 ^ 32
+start_bound true first small = lit< tt
+start_bound false first small = small
 
--- the header lists the FAT's sectors
-pub fat_listed : (parts : List (List ℕ)) → fat_sectors parts ≤ 109 → sectors parts < 2 ^ 31 → fat_of parts ≡ map (listed (image parts) []) (range_with_len 0 (number32 (image parts) 44))
-fat_listed parts few small =
-    let X = part_sectors parts in
-    let F = fat_sectors parts in
-    let count = fat_count parts (omega arith) in
-    rw count (fill_by_all (listed (image parts) []) (fat_of parts) F 0 (length-range_with_len X F) (λ k l.
-    let entry : difat_entry X F k ≡ X + k = rw (lt-ltb k F l) refl in
-    let read = number_from _ _ _ _ (difat_entry X F k) (rw entry (omega arith))
-    (difat_byte parts k 0 (76 + 4 * k) (omega arith) (lit< tt) (omega arith))
-    (difat_byte parts k 1 (76 + 4 * k + 1) (omega arith) (lit< tt) (omega arith))
-    (difat_byte parts k 2 (76 + 4 * k + 2) (omega arith) (lit< tt) (omega arith))
-    (difat_byte parts k 3 (76 + 4 * k + 2 + 1) (omega arith) (lit< tt) (omega arith)) in
-    get_or-range_with_len X F k 0 l ∙ sym (rw (lt-ltb k 109 (omega arith)) (read ∙ entry))))
+-- the same for a number of units
+start_fits : (first count : ℕ) → first < 2 ^ 32 → start_of first count < 2 ^ 32
+start_fits first count small = start_bound (eqb count 0) first small
+
+-- the header names where the mini FAT starts
+first_mini_fat : (parts : List (List ℕ)) (mini_fat : Run) (total : ℕ) → mini_fat.first < 2 ^ 32 → number32 (image parts mini_fat total) 60 ≡ start_of mini_fat.first mini_fat.count
+first_mini_fat parts mini_fat total small =
+    front_number parts mini_fat total 60 (start_of mini_fat.first mini_fat.count) (omega arith) (start_fits mini_fat.first mini_fat.count small) refl refl refl refl
+
+-- the header names where the DIFAT starts
+first_difat : (parts : List (List ℕ)) (mini_fat : Run) (total : ℕ) → all_units 512 parts + fat_sectors total < 2 ^ 32
+    → number32 (image parts mini_fat total) 68 ≡ start_of (all_units 512 parts + fat_sectors total) (difat_sectors total)
+first_difat parts mini_fat total small =
+    let first = all_units 512 parts + fat_sectors total in
+    front_number parts mini_fat total 68 (start_of first (difat_sectors total)) (omega arith) (start_fits first (difat_sectors total) small) refl refl refl refl
+
+-- THE FAT
+
+-- the FAT has an entry for each sector
+pub covered : (total : ℕ) → total ≤ 128 * fat_sectors total
+covered total = omega (arith, div_ceil_times total 128 (omega arith))
+
+-- the image spells entry n of the FAT at its place
+fat_number : (parts : List (List ℕ)) (mini_fat : Run) (total n p : ℕ) → all_units 512 parts + fat_sectors total ≤ total → n < 128 * fat_sectors total → fat_entry parts total n < 2 ^ 32 → p ≡ 512 * (all_units 512 parts + 1) + 4 * n
+    → number32 (image parts mini_fat total) p ≡ fat_entry parts total n
+fat_number parts mini_fat total n p fits l small there =
+    let X = all_units 512 parts in
+    table_number (image parts mini_fat total) (fat_entry parts total) (512 * (X + 1)) n p small there
+    (λ q a b. fat_byte_at parts mini_fat total q fits (omega arith) (omega arith))
+
+-- the successor of a sector is its entry in the FAT
+successor_is : (parts : List (List ℕ)) (mini_fat : Run) (total n : ℕ) → all_units 512 parts + fat_sectors total ≤ total → n < 128 * fat_sectors total → fat_entry parts total n < 2 ^ 32
+    → successor (image parts mini_fat total) (fat_of parts total) n ≡ Some (fat_entry parts total n)
+successor_is parts mini_fat total n fits l small =
+    let X = all_units 512 parts in
+    let F = fat_sectors total in
+    let inside : ltb (4 * n) (length (fat_of parts total) * 512) ≡ true = lt-ltb _ _ (rw (length-range_with_len X F) (omega arith)) in
+    let there : place 512 (fat_of parts total) (4 * n) ≡ 512 * (X + 1) + 4 * n = place_range X F (4 * n) (omega arith) in
+    rw (image_size parts mini_fat total, inside, there, fat_number parts mini_fat total n (512 * (X + 1) + 4 * n) fits l small refl) refl
+
+-- a link is the end mark or the next number, and fits 32 bits
+link_bound : (b : Bool) (n : ℕ) → n < 2 ^ 31 → cond b 0xFFFF_FFFE (n + 1) < 2 ^ 32
+link_bound true n h = lit< tt
+link_bound false n h = omega arith
+
+-- the successor of a part's unit is its link
+link_is : (parts : List (List ℕ)) (mini_fat : Run) (total n : ℕ) → all_units 512 parts + fat_sectors total ≤ total → total < 2 ^ 31 → n < all_units 512 parts
+    → successor (image parts mini_fat total) (fat_of parts total) n ≡ Some (link 512 parts n)
+link_is parts mini_fat total n fits few l =
+    let is : fat_entry parts total n ≡ link 512 parts n = rw (lt-ltb n (all_units 512 parts) l) refl in
+    let inside : n < 128 * fat_sectors total = omega (arith, covered total) in
+    successor_is parts mini_fat total n fits inside (rw is (link_bound (is_last 512 parts n) n (omega arith))) ∙ ap Some is
+
+-- THE PARTS
+
+-- the sectors of part i are a chain
+part_chain : (parts : List (List ℕ)) (mini_fat : Run) (total i : ℕ) → all_units 512 parts + fat_sectors total ≤ total → total < 2 ^ 31 → i < length parts
+    → IsChain (successor (image parts mini_fat total) (fat_of parts total)) (all_units 512 (take i parts)) (units 512 (get_or parts i [])) (range_with_len (all_units 512 (take i parts)) (units 512 (get_or parts i [])))
+part_chain parts mini_fat total i fits few l =
+    let s = all_units 512 (take i parts) in
+    let u = units 512 (get_or parts i []) in
+    let long = length-range_with_len s u in
+    record {
+      long = long;
+      first = λ z. get_or-range_with_len s u 0 0 (omega arith) ∙ omega arith;
+      linked = λ k b.
+          let within = units_within 512 parts i l in
+          let open_end : is_last 512 parts (s + k) ≡ false = last_at 512 parts i k l (omega arith) ∙ ne_eqb (k + 1) u (λ e. omega arith) in
+          rw (get_or-range_with_len s u k 0 (omega arith), get_or-range_with_len s u (k + 1) 0 (omega arith))
+          (link_is parts mini_fat total (s + k) fits few (omega arith) ∙ ap Some (rw open_end (omega arith)));
+    }
+
+-- the last sector of part i has the end mark
+part_end : (parts : List (List ℕ)) (mini_fat : Run) (total i : ℕ) → all_units 512 parts + fat_sectors total ≤ total → total < 2 ^ 31 → i < length parts → 0 < units 512 (get_or parts i [])
+    → successor (image parts mini_fat total) (fat_of parts total) (all_units 512 (take i parts) + units 512 (get_or parts i []) - 1) ≡ Some 0xFFFF_FFFE
+part_end parts mini_fat total i fits few l z =
+    let s = all_units 512 (take i parts) in
+    let u = units 512 (get_or parts i []) in
+    let within = units_within 512 parts i l in
+    let last : s + u - 1 ≡ s + (u - 1) = omega arith in
+    let ended : is_last 512 parts (s + (u - 1)) ≡ true = last_at 512 parts i (u - 1) l (omega arith) ∙ eq-eqb (u - 1 + 1) u (omega arith) in
+    rw last (link_is parts mini_fat total (s + (u - 1)) fits few (omega arith) ∙ ap Some (rw ended refl))
+
+-- the sectors of part i hold its bytes
+part_byte : (parts : List (List ℕ)) (mini_fat : Run) (total i p : ℕ) → all_units 512 parts ≤ total → i < length parts → p < length (get_or parts i [])
+    → get_or (image parts mini_fat total) (place 512 (range_with_len (all_units 512 (take i parts)) (units 512 (get_or parts i []))) p) 0 ≡ get_or (get_or parts i []) p 0
+part_byte parts mini_fat total i p fits l h =
+    let s = all_units 512 (take i parts) in
+    let u = units 512 (get_or parts i []) in
+    let within = units_within 512 parts i l in
+    let inside : p < u * 512 = omega (arith, div_ceil_times (length (get_or parts i [])) 512 (omega arith)) in
+    let q = 512 * (s + 1) + p in
+    let e : q - 512 ≡ s * 512 + p = omega arith in
+    rw (place_range s u p (omega arith))
+    (laid_byte_at parts mini_fat total q fits (omega arith) (omega arith) ∙ rw e (laid_at 512 parts i p l inside))
+
+-- part i is spelled by its sectors
+spelled_part : (parts : List (List ℕ)) (mini_fat : Run) (total i : ℕ) → all_units 512 parts + fat_sectors total ≤ total → total < 2 ^ 31 → i < length parts
+    → IsSpelledPart (image parts mini_fat total) (fat_of parts total) (all_units 512 (take i parts)) (units 512 (get_or parts i [])) (get_or parts i [])
+spelled_part parts mini_fat total i fits few l = record {
+  chain = part_chain parts mini_fat total i fits few l;
+  ended = part_end parts mini_fat total i fits few l;
+  content = λ p h. part_byte parts mini_fat total i p (omega arith) l h;
+}
+
+-- THE DIFAT
+
+-- the header and the DIFAT have room for each sector of the FAT
+pub listed_all : (total : ℕ) → fat_sectors total ≤ 109 + 127 * difat_sectors total
+listed_all total = omega (arith, div_ceil_times (fat_sectors total - 109) 127 (omega arith))
+
+-- the image spells entry r of sector q of the DIFAT at its place
+difat_number : (parts : List (List ℕ)) (mini_fat : Run) (total q r p : ℕ) → all_units 512 parts + fat_sectors total + difat_sectors total ≤ total → q < difat_sectors total → r < 128 → difat_entry (all_units 512 parts) total (128 * q + r) < 2 ^ 32 → p ≡ (all_units 512 parts + fat_sectors total + q + 1) * 512 + 4 * r
+    → number32 (image parts mini_fat total) p ≡ difat_entry (all_units 512 parts) total (128 * q + r)
+difat_number parts mini_fat total q r p fits l few small there =
+    let first = all_units 512 parts + fat_sectors total in
+    table_number (image parts mini_fat total) (difat_entry (all_units 512 parts) total) (512 * (first + 1)) (128 * q + r) p small (omega arith)
+    (λ b low high. difat_byte_at parts mini_fat total b fits (omega arith) (omega arith))
+
+-- entry r of row q of a table with 128 entries in a row: its row
+row_of : (q r : ℕ) → r < 128 → (128 * q + r) / 128 ≡ q
+row_of q r few = omega arith
+
+-- and its column
+column_of : (q r : ℕ) → r < 128 → (128 * q + r) % 128 ≡ r
+column_of q r few = omega arith
+
+-- each sector of the DIFAT ends in the number of the next
+difat_link : (taken total q : ℕ) → q + 1 < difat_sectors total → difat_entry taken total (128 * q + 127) ≡ taken + fat_sectors total + q + 1
+difat_link taken total q more = rw (column_of q 127 (lit< tt), row_of q 127 (lit< tt), lt-ltb (q + 1) (difat_sectors total) more) refl
+
+-- its entries before that one list the FAT's sectors from 109 on
+difat_lists : (taken total q r : ℕ) → r < 127 → 109 + 127 * q + r < fat_sectors total → difat_entry taken total (128 * q + r) ≡ taken + (109 + 127 * q + r)
+difat_lists taken total q r few inside =
+    rw (column_of q r (omega arith), row_of q r (omega arith), ne_eqb r 127 (λ e. omega arith), lt-ltb (109 + 127 * q + r) (fat_sectors total) inside) refl
+
+-- the sector of the DIFAT behind sector q is the next one
+next_is : (parts : List (List ℕ)) (mini_fat : Run) (total q : ℕ) → all_units 512 parts + fat_sectors total + difat_sectors total ≤ total → total < 2 ^ 31 → q + 1 < difat_sectors total
+    → next_difat (image parts mini_fat total) (all_units 512 parts + fat_sectors total + q) ≡ Some (all_units 512 parts + fat_sectors total + (q + 1))
+next_is parts mini_fat total q fits few more =
+    let X = all_units 512 parts in
+    let first = X + fat_sectors total in
+    let is = difat_link X total q more in
+    let read = difat_number parts mini_fat total q 127 ((first + q + 1) * 512 + 508) fits (omega arith) (lit< tt) (rw is (omega arith)) (omega arith) in
+    rw (image_size parts mini_fat total) (ap Some (read ∙ is ∙ omega arith))
+
+-- the sectors of the DIFAT are a chain from where the header says
+difat_chain : (parts : List (List ℕ)) (mini_fat : Run) (total : ℕ) → all_units 512 parts + fat_sectors total + difat_sectors total ≤ total → total < 2 ^ 31
+    → IsChain (next_difat (image parts mini_fat total)) (number32 (image parts mini_fat total) 68) (difat_sectors total) (difat_of parts total)
+difat_chain parts mini_fat total fits few =
+    let first = all_units 512 parts + fat_sectors total in
+    let D = difat_sectors total in
+    let long = length-range_with_len first D in
+    record {
+      long = long;
+      first = λ z.
+          let some : eqb D 0 ≡ false = ne_eqb D 0 (λ e. omega arith) in
+          let there : first + 0 ≡ first = omega arith in
+          get_or-range_with_len first D 0 0 (omega arith) ∙ there ∙ sym (first_difat parts mini_fat total (omega arith) ∙ rw some refl);
+      linked = λ q more.
+          rw (get_or-range_with_len first D q 0 (omega arith), get_or-range_with_len first D (q + 1) 0 (omega arith))
+          (next_is parts mini_fat total q fits few (omega arith));
+    }
+
+-- THE LIST OF FAT SECTORS
+
+-- the header lists the first 109
+listed_in_header : (parts : List (List ℕ)) (mini_fat : Run) (total k : ℕ) → all_units 512 parts + fat_sectors total < 2 ^ 32 → k < fat_sectors total → k < 109
+    → number32 (image parts mini_fat total) (76 + 4 * k) ≡ all_units 512 parts + k
+listed_in_header parts mini_fat total k few l low =
+    let X = all_units 512 parts in
+    let F = fat_sectors total in
+    let entry : listed_entry X F k ≡ X + k = rw (lt-ltb k F l) refl in
+    table_number (image parts mini_fat total) (listed_entry X F) 76 k (76 + 4 * k) (rw entry (omega arith)) refl
+    (λ q a b. list_at parts mini_fat total q (omega arith) (omega arith)) ∙ entry
+
+-- the DIFAT lists the others, 127 in each of its sectors
+listed_in_difat : (parts : List (List ℕ)) (mini_fat : Run) (total k q r : ℕ) → all_units 512 parts + fat_sectors total + difat_sectors total ≤ total → total < 2 ^ 31 → k < fat_sectors total → k ≡ 109 + 127 * q + r → r < 127
+    → number32 (image parts mini_fat total) ((get_or (difat_of parts total) q 0 + 1) * 512 + 4 * r) ≡ all_units 512 parts + k
+listed_in_difat parts mini_fat total k q r fits few l split low =
+    let X = all_units 512 parts in
+    let first = X + fat_sectors total in
+    let D = difat_sectors total in
+    let inside : q < D = omega (arith, listed_all total) in
+    let is = difat_lists X total q r low (omega arith) in
+    rw (get_or-range_with_len first D q 0 inside)
+    (difat_number parts mini_fat total q r ((first + q + 1) * 512 + 4 * r) fits inside (omega arith) (rw is (omega arith)) refl ∙ is ∙ omega arith)
+
+-- entry k of the list is the FAT's sector k
+listed_is : (parts : List (List ℕ)) (mini_fat : Run) (total k : ℕ) → all_units 512 parts + fat_sectors total + difat_sectors total ≤ total → total < 2 ^ 31 → k < fat_sectors total
+    → listed (image parts mini_fat total) (difat_of parts total) k ≡ all_units 512 parts + k
+listed_is parts mini_fat total k fits few l =
+    rw (image_size parts mini_fat total)
+    (elim (cases_lt k 109) [
+      | inl low ↦ rw (lt-ltb k 109 low) (listed_in_header parts mini_fat total k (omega arith) l low)
+      | inr high ↦ rw (le-ltb k 109 high) (listed_in_difat parts mini_fat total k ((k - 109) / 127) ((k - 109) % 127) fits few l (omega arith) (omega arith))
+    ])
+
+-- the list is that of the FAT's sectors
+fat_listed : (parts : List (List ℕ)) (mini_fat : Run) (total : ℕ) → all_units 512 parts + fat_sectors total + difat_sectors total ≤ total → total < 2 ^ 31
+    → fat_of parts total ≡ map (listed (image parts mini_fat total) (difat_of parts total)) (range_with_len 0 (fat_sectors total))
+fat_listed parts mini_fat total fits few =
+    let X = all_units 512 parts in
+    let F = fat_sectors total in
+    fill_by_all (listed (image parts mini_fat total) (difat_of parts total)) (fat_of parts total) F 0 (length-range_with_len X F) (λ k l.
+    get_or-range_with_len X F k 0 l ∙ sym (listed_is parts mini_fat total k fits few l))
+
+-- THE WHOLE
+
+-- the image of sectors that suffice spells its parts
+pub spelled_image : (parts : List (List ℕ)) (mini_fat : Run) (total : ℕ) → all_units 512 parts + fat_sectors total + difat_sectors total ≤ total → total < 2 ^ 31 → mini_fat.first < 2 ^ 32
+    → IsSpelledImage (image parts mini_fat total) parts mini_fat total
+spelled_image parts mini_fat total fits few small = record {
+  long = length-map-range_with_len (image_byte parts mini_fat total) 0 (512 * (total + 1));
+  header = header parts mini_fat total;
+  size = image_size parts mini_fat total;
+  directory = first_directory parts mini_fat total;
+  mini_start = first_mini_fat parts mini_fat total small;
+  fat_count = fat_count parts mini_fat total (omega arith);
+  difat = difat_chain parts mini_fat total fits few;
+  fat = fat_listed parts mini_fat total fits few;
+  spelled = λ i l. spelled_part parts mini_fat total i (omega arith) few l;
+}

@@ -12,5 +12,6 @@ pub mod Image
 pub mod Balance
 pub mod SpelledParts
 pub mod Layout
+pub mod LayoutLaw
 pub mod StreamNames
 pub mod StreamNameLaws

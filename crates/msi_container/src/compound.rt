@@ -9,11 +9,13 @@ mod entries;
 mod extents;
 mod fat;
 mod header;
+mod mini;
 mod name;
 mod reading;
 mod sectors;
 mod streams;
 mod table;
+mod totals;
 mod walks;
 mod writing;
 

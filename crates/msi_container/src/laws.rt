@@ -2,6 +2,7 @@
 
 ghost use Rattle.msi_container.specs.Balance.{LinksSpellTree};
 ghost use Rattle.msi_container.specs.Container.{OneContents};
+ghost use Rattle.msi_container.specs.LayoutLaw.{LayoutsHoldContents};
 ghost use Rattle.msi_container.specs.SpelledParts.{ImagesSpellParts};
 ghost use Rattle.msi_container.specs.StreamNameLaws.{AcceptedNamesComeBack, EncodedNamesTellNames};
 
@@ -18,6 +19,11 @@ pub fn links_spell_tree()
 /// An image has its header, lists its FAT, and spells each of its parts.
 pub fn images_spell_parts()
     ensures { ImagesSpellParts }
+{}
+
+/// What is laid out is held by the bytes, as the grammar reads them.
+pub fn layouts_hold_contents()
+    ensures { LayoutsHoldContents }
 {}
 
 /// An accepted stream name and its mark come back from the encoded name, which has the length of a container's name.

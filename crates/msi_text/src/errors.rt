@@ -65,9 +65,6 @@ pub enum Reason {
     NameRefused,
     Storages,
     ImageTooLarge,
-    EarlierLength,
-    SmallStream,
-    ManyFatSectors,
 }
 
 impl fmt::Display for Reason {
@@ -97,9 +94,6 @@ impl fmt::Display for Reason {
             Reason::NameRefused => "the name can't name a stream",
             Reason::Storages => "storages lie below the root",
             Reason::ImageTooLarge => "the file would pass 2^31 bytes",
-            Reason::EarlierLength => "writing over an earlier file is not supported yet",
-            Reason::SmallStream => "writing streams of 1 to 4095 bytes is not supported yet",
-            Reason::ManyFatSectors => "writing more than 109 FAT sectors is not supported yet",
         })
     }
 }

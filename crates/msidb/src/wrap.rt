@@ -2,6 +2,7 @@
 
 ghost use Rattle.std.specs.Prelude.{◌≡◌, ◌↔◌, ◌⊎◌, false, chars, IfOk, IfErr, IsErrOf, IsTrue};
 ghost use Rattle.msi_text.specs.declared.errors.ErrorKind.TheVariants.{InvalidInput, OutOfMemory};
+ghost use Rattle.msi_container.specs.Container.{Holds};
 ghost use Rattle.msi_container.specs.Layout.{layout, refuses};
 ghost use Rattle.msi_container.specs.Names.{utf16_units};
 ghost use Rattle.msi_container.specs.StreamNames.{encoded_name, is_valid_name};
@@ -53,7 +54,8 @@ fn container_name(alloc: Global, name: &str) -> Result<Name, Error>
 
 /// The bytes of a container with one stream.
 fn image_of(alloc: Global, name: Name, bytes: Vec<u8>) -> Result<Vec<u8>, Error>
-    ensures ok { IfOk result (λ image. image.items ≡ layout (wrapped name bytes.items)) }
+    ensures ok { IfOk result (λ image. image.items ≡ layout (wrapped name bytes.items) 0) }
+    ensures holds { IfOk result (λ image. Holds image.items (wrapped name bytes.items)) }
     ensures refused { IsErrOf result InvalidInput → IsTrue (refuses (wrapped name bytes.items) 0) }
     ensures kinds { IfErr result (λ kind. (kind ≡ InvalidInput) ⊎ (kind ≡ OutOfMemory)) }
 {

@@ -1,6 +1,6 @@
 //! Numbers at positions in bytes. Past their end bytes read as zeros.
 
-ghost use Rattle.std.specs.Prelude.{◌≡◌, ◌≤◌, ◌+◌, ◌*◌, ◌<◌, ◌^◌, ◌++◌, slice_index, length, OnOk, OnErr};
+ghost use Rattle.std.specs.Prelude.{◌≡◌, ◌≤◌, ◌+◌, ◌*◌, ◌<◌, ◌^◌, ◌++◌, slice_index, length, replicate, OnOk, OnErr};
 ghost use Rattle.std.specs.List.{flat_map};
 ghost use Rattle.std.specs.Int.{to_le_bytes, w32};
 ghost use Rattle.msi_container.specs.Bytes as spelled;
@@ -81,6 +81,16 @@ pub fn push_numbers(held: &mut Vec<u8>, numbers: &[u32]) -> Result<(), AllocErro
     ensures { OnOk result (held.new.items ≡ held.old.items ++ flat_map (to_le_bytes w32) numbers.now) }
 {
     for number in numbers {
+        held.extend_from_slice(&number.to_le_bytes())?;
+    }
+    Ok(())
+}
+
+/// Adds a number of 32 bits, as often as `count` says.
+pub fn push_repeated(held: &mut Vec<u8>, number: u32, count: usize) -> Result<(), AllocError>
+    ensures { OnOk result (held.new.items ≡ held.old.items ++ flat_map (to_le_bytes w32) (replicate count number)) }
+{
+    for _ in 0..count {
         held.extend_from_slice(&number.to_le_bytes())?;
     }
     Ok(())

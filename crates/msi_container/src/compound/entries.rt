@@ -1,18 +1,21 @@
 //! The directory as it is written: the root, the streams in the order of their names, and unused entries up to a whole
 //! sector (MS-CFB 2.6).
 
-ghost use Rattle.std.specs.Prelude.{◌≡◌, ◌+◌, ◌*◌, ◌<◌, ◌≤◌, ◌^◌, ◌++◌, length, replicate, OnOk, IfOk, if◌then◌else◌, ◌==◌};
+ghost use Rattle.std.specs.Prelude.{◌≡◌, [], ◌+◌, ◌*◌, ◌<◌, ◌≤◌, ◌^◌, ◌++◌, length, replicate, OnOk, IfOk, if◌then◌else◌};
+ghost use Rattle.std.specs.Int.{div_ceil};
 ghost use Rattle.std.specs.List.{concat};
 ghost use Rattle.std.specs.FinMap as finite;
-ghost use Rattle.msi_container.specs.Extents.{all_units};
+ghost use Rattle.msi_container.specs.Extents as extents;
 ghost use Rattle.msi_container.specs.Layout as spec;
+ghost use Rattle.msi_container.specs.LayoutLaw.{HaveNames};
 ghost use Rattle.msi_container.specs.Trees as trees;
 
 use crate::compound::balance::{links, middle};
 use crate::compound::bytes::push_numbers;
 use crate::compound::contents::{Contents, Streams};
 use crate::compound::directory::{NO_ENTRY, ROOT, STREAM};
-use crate::compound::extents::{SECTOR_SIZE, units};
+use crate::compound::extents::{MINI_SECTOR_SIZE, SECTOR_SIZE, units};
+use crate::compound::header::MINI_STREAM_CUTOFF;
 use crate::compound::walks::END_OF_CHAIN;
 use std::alloc::{AllocError, Global};
 use std::marker::Model;
@@ -54,72 +57,145 @@ pub fn directory_sectors(count: usize) -> usize
     count / 4 + 1
 }
 
-/// The directory of some contents.
-pub fn directory(alloc: Global, contents: &Contents) -> Result<Vec<u8>, AllocError>
-    requires { spec.sectors_of (finite.entries contents.now.streams) ≤ 2 ^ 22 }
-    ensures { IfOk result (λ held. held.items ≡ spec.directory_bytes contents.now) }
+/// How many sectors the mini FAT of so many mini sectors takes, 128 entries each (MS-CFB 2.4).
+pub fn mini_fat_sectors(mini_sectors: usize) -> usize
+    ensures { result ≡ div_ceil mini_sectors 128 }
+{
+    mini_sectors.div_ceil(128)
+}
+
+/// How many sectors the mini stream of so many mini sectors takes, eight to a sector.
+pub fn mini_stream_sectors(mini_sectors: usize) -> usize
+    ensures { result ≡ div_ceil mini_sectors 8 }
+{
+    mini_sectors.div_ceil(8)
+}
+
+/// What of a stream's bytes lies in mini sectors: all where it is shorter than 4096 bytes, or none.
+pub fn mini_part(bytes: &[u8]) -> &[u8]
+    ensures { result.now ≡ (if spec.is_mini_size (length bytes.now) then bytes.now else []) }
+{
+    if bytes.len() < MINI_STREAM_CUTOFF as usize {
+        bytes
+    } else {
+        &[]
+    }
+}
+
+/// What of a stream's bytes lies in sectors: all where it has 4096 bytes or more, or none.
+pub fn large_part(bytes: &[u8]) -> &[u8]
+    ensures { result.now ≡ (if spec.is_mini_size (length bytes.now) then [] else bytes.now) }
+{
+    if bytes.len() < MINI_STREAM_CUTOFF as usize {
+        &[]
+    } else {
+        bytes
+    }
+}
+
+/// The directory of some contents, whose small streams take `mini_sectors`.
+pub fn directory(
+    alloc: Global,
+    contents: &Contents,
+    mini_sectors: usize,
+) -> Result<Vec<u8>, AllocError>
+    requires counted { mini_sectors ≡ spec.mini_sectors (finite.entries contents.now.streams) }
+    requires few { spec.taken_by (finite.entries contents.now.streams) < 2 ^ 22 }
+    ensures held { IfOk result (λ held. held.items ≡ spec.directory_of contents.now.clsid (finite.entries contents.now.streams)) }
+    ensures names { IfOk result (λ _. HaveNames (finite.entries contents.now.streams)) }
 {
     let count = contents.streams.len();
     let sectors = directory_sectors(count);
+    let mini_stream = sectors + mini_fat_sectors(mini_sectors);
+    let large = mini_stream + mini_stream_sectors(mini_sectors);
     let mut held = Vec::with_capacity(alloc, SECTOR_SIZE * sectors)?;
-    push_root(&mut held, &contents.clsid, count as u32)?;
-    push_streams(&mut held, &contents.streams, sectors as u32)?;
+    push_root(&mut held, contents, mini_stream as u32, mini_sectors)?;
+    push_streams(&mut held, &contents.streams, large as u32)?;
     push_unused(&mut held, 4 * sectors - 1 - count)?;
     Ok(held)
 }
 
-/// Adds the root, above `count` streams.
-fn push_root(held: &mut Vec<u8>, clsid: &[u8; 16], count: u32) -> Result<(), AllocError>
-    requires { count + 1 < trees.NO_ENTRY }
-    ensures { OnOk result (held.new.items ≡ held.old.items ++ spec.entry_bytes (spec.root_entry clsid.now count)) }
+/// Adds the root, whose chain is the mini stream, from sector `first` on.
+fn push_root(
+    held: &mut Vec<u8>,
+    contents: &Contents,
+    first: u32,
+    mini_sectors: usize,
+) -> Result<(), AllocError>
+    requires first { first ≡ spec.mini_stream_first (finite.entries contents.now.streams) }
+    requires counted { mini_sectors ≡ spec.mini_sectors (finite.entries contents.now.streams) }
+    requires few { length (finite.entries contents.now.streams) + 1 < trees.NO_ENTRY }
+    requires fits { mini_sectors < 2 ^ 31 }
+    ensures { OnOk result (held.new.items ≡ held.old.items
+        ++ spec.entry_bytes (spec.root_entry contents.now.clsid (finite.entries contents.now.streams))) }
 {
     let root = Entry {
         name: &ROOT_NAME,
         kind: ROOT,
         left: NO_ENTRY,
         right: NO_ENTRY,
-        child: middle(1, count),
-        clsid: *clsid,
-        start: END_OF_CHAIN,
-        size: 0,
+        child: middle(1, contents.streams.len() as u32),
+        clsid: contents.clsid,
+        start: chain_start(first, mini_sectors),
+        size: (MINI_SECTOR_SIZE * mini_sectors) as u64,
     };
     push_entry(held, &root)
 }
 
-/// Adds the entries of the streams, whose sectors follow one another from `first_sector` on.
-fn push_streams(held: &mut Vec<u8>, streams: &Streams, first_sector: u32) -> Result<(), AllocError>
+/// Where a chain of `count` sectors starts, the first of which is given.
+fn chain_start(first: u32, count: usize) -> u32
+    ensures { result ≡ extents.start_of first count }
+{
+    if count == 0 { END_OF_CHAIN } else { first }
+}
+
+/// Adds the entries of the streams: the large ones follow one another from sector `first` on, and the small ones from
+/// mini sector 0 on.
+fn push_streams(held: &mut Vec<u8>, streams: &Streams, first: u32) -> Result<(), AllocError>
     requires few { length (finite.entries streams.now) + 1 < trees.NO_ENTRY }
-    requires sectors { first_sector + all_units 512 (spec.stream_parts (finite.entries streams.now)) < 2 ^ 31 }
-    ensures { OnOk result (held.new.items ≡ held.old.items
-        ++ spec.stream_entries (length (finite.entries streams.now)) 1 first_sector (finite.entries streams.now)) }
+    requires sectors { first + extents.all_units 512 (spec.large_parts (finite.entries streams.now)) < 2 ^ 31 }
+    requires mini_sectors { spec.mini_sectors (finite.entries streams.now) < 2 ^ 31 }
+    ensures written { OnOk result (held.new.items ≡ held.old.items
+        ++ spec.stream_entries (length (finite.entries streams.now)) 1 first 0 (finite.entries streams.now)) }
+    ensures names { OnOk result (HaveNames (finite.entries streams.now)) }
 {
     let count = streams.len() as u32;
     let mut number = 1;
-    let mut next = first_sector;
-    for (name, bytes) in streams.iter() {
+    let mut next = first;
+    let mut next_mini = 0;
+    for (name, stream) in streams.iter() {
+        let units_of_name = name.units();
+        let bytes = stream.as_slice();
         let (left, right) = links(count, number);
-        let stream = Entry {
-            name: name.units(),
+        let entry = Entry {
+            name: units_of_name,
             kind: STREAM,
             left,
             right,
             child: NO_ENTRY,
             clsid: NO_CLSID,
-            start: start_of(bytes.as_slice(), next),
-            size: bytes.as_slice().len() as u64,
+            start: stream_start(bytes.len(), next, next_mini),
+            size: bytes.len() as u64,
         };
-        push_entry(held, &stream)?;
+        push_entry(held, &entry)?;
         number += 1;
-        next += units(bytes.as_slice()) as u32;
+        next += units(large_part(bytes), SECTOR_SIZE) as u32;
+        next_mini += units(mini_part(bytes), MINI_SECTOR_SIZE) as u32;
     }
     Ok(())
 }
 
-/// The first sector of a stream: `next`, where it has sectors.
-fn start_of(bytes: &[u8], next: u32) -> u32
-    ensures { result ≡ (if length bytes.now == 0 then END_OF_CHAIN else next) }
+/// Where a stream of `size` bytes starts: at the next sector or the next mini sector, unless it is empty.
+fn stream_start(size: usize, next: u32, next_mini: u32) -> u32
+    ensures { result ≡ spec.stream_start next next_mini size }
 {
-    if bytes.is_empty() { END_OF_CHAIN } else { next }
+    if size == 0 {
+        END_OF_CHAIN
+    } else if size < MINI_STREAM_CUTOFF as usize {
+        next_mini
+    } else {
+        next
+    }
 }
 
 /// Adds an entry that is in use. Its state bits and times are zero.

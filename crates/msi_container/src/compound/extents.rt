@@ -1,6 +1,6 @@
-//! Parts laid in order, each filled up with zeros to whole sectors.
+//! Parts laid in order, each filled up with zeros to whole units of a size: sectors, or mini sectors.
 
-ghost use Rattle.std.specs.Prelude.{◌≡◌, ℕ, List, ◌+◌, ◌*◌, ◌<◌, ◌^◌, ◌++◌, map, OnOk};
+ghost use Rattle.std.specs.Prelude.{◌≡◌, ℕ, List, ◌+◌, ◌*◌, ◌<◌, ◌≤◌, ◌^◌, ◌++◌, map, OnOk};
 ghost use Rattle.std.specs.List.{range_with_len, flat_map};
 ghost use Rattle.std.specs.Int.{to_le_bytes, w32};
 ghost use Rattle.msi_container.specs.Extents as spec;
@@ -13,66 +13,73 @@ use std::alloc::AllocError;
 /// The size of a sector of version 3.
 pub const SECTOR_SIZE: usize = 512;
 
-/// How many sectors some bytes take.
-pub fn units(part: &[u8]) -> usize
-    ensures { result ≡ spec.units 512 part.now }
+/// The size of a mini sector.
+pub const MINI_SECTOR_SIZE: usize = 64;
+
+/// How many units some bytes take.
+pub fn units(part: &[u8], size: usize) -> usize
+    requires { 0 < size }
+    ensures { result ≡ spec.units size part.now }
 {
-    part.len().div_ceil(SECTOR_SIZE)
+    part.len().div_ceil(size)
 }
 
-/// How many sectors the parts take together.
-pub fn all_units(parts: &[&[u8]]) -> usize
-    requires { spec.all_units 512 (seen parts.now) < 2 ^ 31 }
-    ensures { result ≡ spec.all_units 512 (seen parts.now) }
+/// How many units the parts take together.
+pub fn all_units(parts: &[&[u8]], size: usize) -> usize
+    requires some { 0 < size }
+    requires few { spec.all_units size (seen parts.now) < 2 ^ 31 }
+    ensures { result ≡ spec.all_units size (seen parts.now) }
 {
     let mut all = 0;
     for part in parts {
-        all += units(part);
+        all += units(part, size);
     }
     all
 }
 
 /// Adds the parts.
-pub fn push_parts(image: &mut Vec<u8>, parts: &[&[u8]]) -> Result<(), AllocError>
-    ensures { OnOk result (image.new.items ≡ image.old.items
-        ++ map (spec.laid_byte 512 (seen parts.now)) (range_with_len 0 (512 * spec.all_units 512 (seen parts.now)))) }
+pub fn push_parts(held: &mut Vec<u8>, parts: &[&[u8]], size: usize) -> Result<(), AllocError>
+    requires some { 0 < size }
+    requires most { size ≤ 512 }
+    ensures { OnOk result (held.new.items ≡ held.old.items ++ spec.laid_bytes size (seen parts.now)) }
 {
     for part in parts {
-        push_bytes(image, part, 0, SECTOR_SIZE * units(part))?;
+        push_bytes(held, part, 0, size * units(part, size))?;
     }
     Ok(())
 }
 
-/// Adds the FAT's entries for the parts' chains, which lie in the first sectors.
-pub fn push_chains(image: &mut Vec<u8>, parts: &[&[u8]]) -> Result<(), AllocError>
-    requires { spec.all_units 512 (seen parts.now) < 2 ^ 31 }
-    ensures { OnOk result (image.new.items ≡ image.old.items
-        ++ flat_map (to_le_bytes w32) (map (spec.link 512 (seen parts.now)) (range_with_len 0 (spec.all_units 512 (seen parts.now))))) }
+/// Adds a table's entries for the parts' chains, which lie in the first units.
+pub fn push_chains(held: &mut Vec<u8>, parts: &[&[u8]], size: usize) -> Result<(), AllocError>
+    requires some { 0 < size }
+    requires few { spec.all_units size (seen parts.now) < 2 ^ 31 }
+    ensures { OnOk result (held.new.items ≡ held.old.items
+        ++ flat_map (to_le_bytes w32) (map (spec.link size (seen parts.now)) (range_with_len 0 (spec.all_units size (seen parts.now))))) }
 {
     let mut first = 0;
     for part in parts {
-        let count = units(part) as u32;
-        push_chain(image, first, count)?;
+        let count = units(part, size) as u32;
+        push_chain(held, first, count)?;
         first += count;
     }
     Ok(())
 }
 
-/// Adds the FAT's entries for a chain of `count` sectors in a row.
-fn push_chain(image: &mut Vec<u8>, first: u32, count: u32) -> Result<(), AllocError>
+/// Adds a table's entries for a chain of `count` units in a row.
+fn push_chain(held: &mut Vec<u8>, first: u32, count: u32) -> Result<(), AllocError>
     requires { first + count < 2 ^ 31 }
-    ensures { OnOk result (image.new.items ≡ image.old.items
+    ensures { OnOk result (held.new.items ≡ held.old.items
         ++ flat_map (to_le_bytes w32) (map (spec.chain_entry first count) (range_with_len 0 count))) }
 {
     for k in 0..count {
         let entry = chain_entry(first, count, k);
-        image.extend_from_slice(&entry.to_le_bytes())?;
+        held.extend_from_slice(&entry.to_le_bytes())?;
     }
     Ok(())
 }
 
-/// The FAT's entry for sector `k` of such a chain: it names the next sector, and the last ends the chain.
-fn chain_entry(first: u32, count: u32, k: u32) -> u32
+/// The entry for unit `k` of such a chain: it names the next unit, and the last ends the chain.
+pub fn chain_entry(first: u32, count: u32, k: u32) -> u32
     requires few { first + count < 2 ^ 31 }
     requires within { k < count }
     ensures { result ≡ spec.chain_entry first count k }

@@ -12,13 +12,11 @@ use crate::compound::bytes::{place, push_bytes, sector_size};
 use crate::compound::claims::Claims;
 use crate::compound::contents::{Bytes, Streams};
 use crate::compound::directory::{Directory, STORAGE, STREAM};
+use crate::compound::extents::MINI_SECTOR_SIZE;
 use crate::compound::table::{Steps, Table};
 use crate::compound::walks::walk;
 use msi_text::Error;
 use std::alloc::Global;
-
-/// The size of a mini sector.
-const MINI_SECTOR_SIZE: usize = 64;
 
 /// The least size of a stream that lies in sectors; a smaller one lies in mini sectors.
 const CUTOFF: u64 = 4096;

@@ -1,116 +1,153 @@
 //! Writing a compound file.
 
-ghost use Rattle.std.specs.Prelude.{◌≡◌, ◌↔◌, ◌<◌, ◌≤◌, ◌^◌, ◌⊎◌, ◌∷◌, IfOk, IfErr, IsErr, IsErrOf, IsTrue, OnErr, IfSome, IsNone, is_some};
+ghost use Rattle.std.specs.Prelude.{◌≡◌, ◌↔◌, ◌<◌, ◌≤◌, ◌^◌, ◌⊎◌, ◌∷◌, [], ◌++◌, IfOk, IfErr, IsErr, IsErrOf, IsTrue, OnErr, IfSome, IsNone, is_some};
 ghost use Rattle.std.specs.FinMap as finite;
 ghost use Rattle.msi_text.specs.declared.errors.ErrorKind.TheVariants.{InvalidInput, OutOfMemory};
+ghost use Rattle.msi_container.specs.Container.{Holds};
+ghost use Rattle.msi_container.specs.Extents as extents;
+ghost use Rattle.msi_container.specs.Image as image;
 ghost use Rattle.msi_container.specs.Layout as spec;
 ghost use Rattle.msi_container.specs.Views.{seen};
 
 use crate::compound::contents::{Contents, Streams};
-use crate::compound::entries::{directory, directory_sectors};
-use crate::compound::extents::{SECTOR_SIZE, units};
-use crate::compound::header::{HEADER_FAT_SECTORS, MINI_STREAM_CUTOFF};
-use crate::compound::sectors::{fat_sectors, image};
+use crate::compound::entries::{
+    directory, directory_sectors, large_part, mini_fat_sectors, mini_part, mini_stream_sectors,
+};
+use crate::compound::extents::{MINI_SECTOR_SIZE, SECTOR_SIZE, units};
+use crate::compound::mini::{mini_fat, mini_stream};
+use crate::compound::sectors::{Run, image};
+use crate::compound::totals::{MAX_SECTORS, least_total};
 use msi_text::{Error, ErrorKind, Reason};
 use std::alloc::{AllocError, Global};
 
-/// The greatest number of sectors of a file that is written, with the header: 2^31 bytes.
-const MAX_SECTORS: usize = (1 << 31) / SECTOR_SIZE;
+/// The most mini sectors whose mini stream is no longer than the greatest file.
+const MAX_MINI_SECTORS: usize = SECTOR_SIZE / MINI_SECTOR_SIZE * MAX_SECTORS;
 
-/// The bytes of a compound file that holds these contents. They take the place of a file of `earlier_len` bytes.
+/// How many mini sectors the small streams take, and how many sectors the large ones.
+#[derive(Clone, Copy)]
+struct Counts {
+    mini_sectors: usize,
+    large_sectors: usize,
+}
+
+/// How much is laid out: the mini sectors, and all sectors of the file.
+#[derive(Clone, Copy)]
+struct Extent {
+    mini_sectors: usize,
+    total: usize,
+}
+
+/// The bytes of a compound file that holds these contents. They take the place of a file of `earlier_len` bytes, and are
+/// no shorter: free sectors stand behind the rest.
 ///
 /// # Errors
-/// `InvalidInput` where storages lie below the root or the file would pass 2^31 bytes, and, until the whole container is
-/// written, for streams of 1 to 4095 bytes, more than 109 FAT sectors, and an `earlier_len` other than 0. `OutOfMemory`.
+/// `InvalidInput` where storages lie below the root, or the file would pass 2^31 bytes. `OutOfMemory`.
 pub fn write(alloc: Global, contents: &Contents, earlier_len: u64) -> Result<Vec<u8>, Error>
-    ensures ok { IfOk result (λ image. image.items ≡ spec.layout contents.now) }
+    ensures ok { IfOk result (λ image. image.items ≡ spec.layout contents.now earlier_len) }
+    ensures holds { IfOk result (λ image. Holds image.items contents.now) }
     ensures refused { IsErrOf result InvalidInput ↔ IsTrue (spec.refuses contents.now earlier_len) }
     ensures kinds { IfErr result (λ kind. (kind ≡ InvalidInput) ⊎ (kind ≡ OutOfMemory)) }
 {
-    check(contents, earlier_len)?;
-    let directory = directory(alloc, contents)?;
-    let parts = parts(alloc, &directory, &contents.streams)?;
-    Ok(image(alloc, &parts)?)
+    let extent = check(contents, earlier_len)?;
+    let directory = directory(alloc, contents, extent.mini_sectors)?;
+    let small = small_parts(alloc, &contents.streams)?;
+    let mini_fat = mini_fat(alloc, &small)?;
+    let mini_stream = mini_stream(alloc, &small)?;
+    let front = [&directory[..], &mini_fat[..], &mini_stream[..]];
+    let parts = parts(alloc, &front, &contents.streams)?;
+    let run = Run {
+        first: directory_sectors(contents.streams.len()) as u32,
+        count: mini_fat_sectors(extent.mini_sectors) as u32,
+    };
+    Ok(image(alloc, &parts, run, extent.total)?)
 }
 
-/// Checks that the contents can be written.
-fn check(contents: &Contents, earlier_len: u64) -> Result<(), Error>
+/// Checks that the contents can be written, and tells how much they take.
+fn check(contents: &Contents, earlier_len: u64) -> Result<Extent, Error>
+    ensures mini_sectors { IfOk result (λ extent. extent.mini_sectors ≡ spec.mini_sectors (finite.entries contents.now.streams)) }
+    ensures total { IfOk result (λ extent. extent.total ≡ spec.total contents.now earlier_len) }
+    ensures few { IfOk result (λ extent. extent.total < 2 ^ 22) }
     ensures refused { IsErr result ↔ IsTrue (spec.refuses contents.now earlier_len) }
     ensures kinds { OnErr result (IsErrOf result InvalidInput) }
 {
-    match refusal(contents, earlier_len) {
-        None => Ok(()),
-        Some(reason) => Err(Error::new(ErrorKind::InvalidInput, reason)),
-    }
-}
-
-/// Why the contents can't be written.
-fn refusal(contents: &Contents, earlier_len: u64) -> Option<Reason>
-    ensures { is_some result ≡ spec.refuses contents.now earlier_len }
-{
     if contents.has_storages {
-        return Some(Reason::Storages);
+        return Err(Error::new(ErrorKind::InvalidInput, Reason::Storages));
     }
-    if has_small_stream(&contents.streams) {
-        return Some(Reason::SmallStream);
-    }
-    if earlier_len > 0 {
-        return Some(Reason::EarlierLength);
-    }
-    let Some(part_sectors) = part_sectors(&contents.streams) else {
-        return Some(Reason::ImageTooLarge);
-    };
-    let fat_sectors = fat_sectors(part_sectors);
-    if part_sectors + fat_sectors + 1 > MAX_SECTORS {
-        Some(Reason::ImageTooLarge)
-    } else if fat_sectors > HEADER_FAT_SECTORS as usize {
-        Some(Reason::ManyFatSectors)
-    } else {
-        None
+    match measure(&contents.streams, earlier_len) {
+        Some(extent) => Ok(extent),
+        None => Err(Error::new(ErrorKind::InvalidInput, Reason::ImageTooLarge)),
     }
 }
 
-/// Whether a stream has 1 to 4095 bytes.
-fn has_small_stream(streams: &Streams) -> bool
-    ensures { result ≡ spec.has_small_stream (finite.entries streams.now) }
+/// How much the streams take, unless the file would pass 2^31 bytes.
+fn measure(streams: &Streams, earlier_len: u64) -> Option<Extent>
+    ensures mini_sectors { IfSome result (λ extent. extent.mini_sectors ≡ spec.mini_sectors (finite.entries streams.now)) }
+    ensures total { IfSome result (λ extent. extent.total ≡ image.least_total (spec.taken_by (finite.entries streams.now)) earlier_len) }
+    ensures few { IfSome result (λ extent. extent.total < 2 ^ 22) }
+    ensures none { IsNone result → 2 ^ 22 ≤ image.least_total (spec.taken_by (finite.entries streams.now)) earlier_len }
 {
-    for (_, bytes) in streams.iter() {
-        let size = bytes.as_slice().len();
-        if size > 0 && size < MINI_STREAM_CUTOFF as usize {
-            return true;
-        }
+    let counts = count(streams)?;
+    let front = directory_sectors(streams.len())
+        + mini_fat_sectors(counts.mini_sectors)
+        + mini_stream_sectors(counts.mini_sectors);
+    let taken = front + counts.large_sectors;
+    if taken > MAX_SECTORS {
+        return None;
     }
-    false
+    let total = least_total(taken, earlier_len)?;
+    Some(Extent {
+        mini_sectors: counts.mini_sectors,
+        total,
+    })
 }
 
-/// How many sectors the directory and the streams take, unless they alone pass the greatest size.
-fn part_sectors(streams: &Streams) -> Option<usize>
-    ensures some { IfSome result (λ n. n ≡ spec.sectors_of (finite.entries streams.now)) }
-    ensures none { IsNone result → 2 ^ 22 < spec.sectors_of (finite.entries streams.now) }
-    ensures most { IfSome result (λ n. n ≤ 2 ^ 62) }
+/// How many mini sectors and sectors the streams take, unless they alone pass the greatest size.
+fn count(streams: &Streams) -> Option<Counts>
+    ensures mini { IfSome result (λ counts. counts.mini_sectors ≡ spec.mini_sectors (finite.entries streams.now)) }
+    ensures large { IfSome result (λ counts. counts.large_sectors ≡ extents.all_units 512 (spec.large_parts (finite.entries streams.now))) }
+    ensures few_mini { IfSome result (λ counts. counts.mini_sectors ≤ 2 ^ 25) }
+    ensures few_large { IfSome result (λ counts. counts.large_sectors ≤ 2 ^ 22) }
+    ensures none { IsNone result → 2 ^ 22 < spec.taken_by (finite.entries streams.now) }
 {
-    let mut sectors = directory_sectors(streams.len());
-    for (_, bytes) in streams.iter() {
-        sectors += units(bytes.as_slice());
-        if sectors > MAX_SECTORS {
+    let mut mini_sectors = 0;
+    let mut large_sectors = 0;
+    for (_, stream) in streams.iter() {
+        let bytes = stream.as_slice();
+        mini_sectors += units(mini_part(bytes), MINI_SECTOR_SIZE);
+        large_sectors += units(large_part(bytes), SECTOR_SIZE);
+        if mini_sectors > MAX_MINI_SECTORS || large_sectors > MAX_SECTORS {
             return None;
         }
     }
-    Some(sectors)
+    Some(Counts {
+        mini_sectors,
+        large_sectors,
+    })
 }
 
-/// The parts of the file in order: the directory, and each stream's bytes.
-fn parts<'a>(
-    alloc: Global,
-    directory: &'a [u8],
-    streams: &'a Streams,
-) -> Result<Vec<&'a [u8]>, AllocError>
-    ensures { IfOk result (λ parts. seen parts.items ≡ directory.now ∷ spec.stream_parts (finite.entries streams.now)) }
+/// What lies in mini sectors, stream by stream.
+fn small_parts<'a>(alloc: Global, streams: &'a Streams) -> Result<Vec<&'a [u8]>, AllocError>
+    ensures { IfOk result (λ parts. seen parts.items ≡ spec.mini_parts (finite.entries streams.now)) }
 {
     let mut parts = Vec::new(alloc);
-    parts.push(directory)?;
-    for (_, bytes) in streams.iter() {
-        parts.push(bytes.as_slice())?;
+    for (_, stream) in streams.iter() {
+        parts.push(mini_part(stream.as_slice()))?;
+    }
+    Ok(parts)
+}
+
+/// What lies in sectors: these parts, and behind them stream by stream.
+fn parts<'a>(
+    alloc: Global,
+    front: &[&'a [u8]],
+    streams: &'a Streams,
+) -> Result<Vec<&'a [u8]>, AllocError>
+    ensures { IfOk result (λ parts. seen parts.items ≡ seen front.now ++ spec.large_parts (finite.entries streams.now)) }
+{
+    let mut parts = Vec::new(alloc);
+    parts.extend_from_slice(front)?;
+    for (_, stream) in streams.iter() {
+        parts.push(large_part(stream.as_slice()))?;
     }
     Ok(parts)
 }

@@ -4,4 +4,4 @@ use Rattle.msi_container.specs.Views.{seen}
 use Rattle.msi_container.proofs.compound.extents.all_units.Given as goal
 
 abbrev pub invariant-loop-part : goal.invariant-loop-part
-invariant-loop-part l = l.all + spec.all_units 512 (seen (drop l.part-index l.parts)) ≡ spec.all_units 512 (seen l.parts)
+invariant-loop-part l = l.all + spec.all_units l.size (seen (drop l.part-index l.parts)) ≡ spec.all_units l.size (seen l.parts)

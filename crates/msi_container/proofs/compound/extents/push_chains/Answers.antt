@@ -7,5 +7,5 @@ use Rattle.msi_container.proofs.compound.extents.push_chains.Goals as goal
 
 pub returns : goal.returns
 returns c =
-    all_written (λ ps. flat_map (to_le_bytes w32) (chains c.loop-part.first (seen ps))) c.args.parts.now c.loop-part.part-index _ _ c.loop-part-test.false refl c.loop-part.invariant.written
-    ∙ ap (λ (ns : List ℕ). c.args.image.now.items ++ flat_map (to_le_bytes w32) ns) (sym (links_from_zero (seen c.args.parts.now)))
+    all_written (λ ps. flat_map (to_le_bytes w32) (chains c.args.size c.loop-part.first (seen ps))) c.args.parts.now c.loop-part.part-index _ _ c.loop-part-test.false refl c.loop-part.invariant.written
+    ∙ ap (λ (ns : List ℕ). c.args.held.now.items ++ flat_map (to_le_bytes w32) ns) (sym (links_from_zero c.args.size (seen c.args.parts.now)))

@@ -8,6 +8,6 @@ use Rattle.msi_container.proofs.compound.extents.push_chains.Given as goal
 
 abbrev pub invariant-loop-part : goal.invariant-loop-part
 invariant-loop-part l = record {
-  first : l.first + all_units 512 (seen (drop l.part-index l.parts)) ≡ all_units 512 (seen l.parts);
-  written : l.image.items ++ flat_map (to_le_bytes w32) (chains l.first (seen (drop l.part-index l.parts))) ≡ l.fn.image.items ++ flat_map (to_le_bytes w32) (chains 0 (seen l.parts));
+  first : l.first + all_units l.size (seen (drop l.part-index l.parts)) ≡ all_units l.size (seen l.parts);
+  written : l.held.items ++ flat_map (to_le_bytes w32) (chains l.size l.first (seen (drop l.part-index l.parts))) ≡ l.fn.held.items ++ flat_map (to_le_bytes w32) (chains l.size 0 (seen l.parts));
 }

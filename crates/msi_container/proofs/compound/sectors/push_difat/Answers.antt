@@ -1,16 +1,12 @@
-use Rattle.std.proofs.Common.{◌≡◌, ℕ, ◌++◌, map, ◌∙◌, ap, arith}
-use Rattle.std.specs.List.{flat_map, range_with_len}
-use Rattle.std.specs.Int.{to_le_bytes, w32}
 use Rattle.msi_container.specs.Image.{difat_entry}
 use Rattle.msi_container.proofs.RangeLemmas.{numbers_pushed}
+use Rattle.msi_container.proofs.ImageLemmas.{difat_entry_is}
 use Rattle.msi_container.proofs.compound.sectors.push_difat.Goals as goal
 
 pub loop-k-preserved : goal.loop-k-preserved
 loop-k-preserved c =
-    numbers_pushed _ _ _ _ (difat_entry c.args.part_sectors c.args.fat_sectors) c.loop-k.k _ c.loop-k.invariant c.difat_entry-entry.ensures c.to_le_bytes.ensures c.in_ok-extend_from_slice.ensures.items
-
-pub returns : goal.returns
-returns c =
-    let all : c.loop-k.k ≡ 109 = omega arith in
-    c.loop-k.invariant
-    ∙ ap (λ (n : ℕ). c.args.image.now.items ++ flat_map (to_le_bytes w32) (map (difat_entry c.args.part_sectors c.args.fat_sectors) (range_with_len 0 n))) all
+    numbers_pushed _ _ _ _ (difat_entry c.args.taken c.args.total) c.loop-k.k _ c.loop-k.invariant
+    (difat_entry_is c.args.taken c.args.total c.loop-k.k c.difat_entry-entry.result c.fat_run-fat.result c.difat_run-difat.result
+    c.fat_run-fat.ensures.first c.fat_run-fat.ensures.count c.difat_run-difat.ensures
+    c.difat_entry-entry.ensures.next c.difat_entry-entry.ensures.listed)
+    c.to_le_bytes.ensures c.in_ok-extend_from_slice.ensures.items

@@ -13,10 +13,10 @@ joined start a b c d e v w x y z p q r s t =
 
 pub returns : goal.returns
 returns c =
-    on_ok_weaker c.push_difat.result (λ e.
+    on_ok_weaker c.push_list.result (λ e.
     joined c.args.image.now.items signature (replicate 16 0) _ _ _ _ _ _ _ _
     c.in_ok-extend_from_slice.ensures.items
     c.in_ok-extend_from_slice-2.ensures.items
     c.in_ok-extend_from_slice-3.ensures.items
     (c.in_ok-push_numbers.ensures ∙ ap (λ (ns : List ℕ). c.extend_from_slice-3.new.self.items ++ flat_map (to_le_bytes w32) ns) c.front_numbers.ensures)
-    e) c.push_difat.ensures
+    e) c.push_list.ensures

@@ -1,0 +1,19 @@
+use Rattle.std.proofs.Common.{◌≡◌, ◌++◌, ◌*◌, length, ◌∙◌, ap, arith, refl}
+use Rattle.std.specs.FinMap.{entries, len-entries}
+use Rattle.std.proofs.lemmas.Result.{on_ok_weaker}
+use Rattle.msi_container.specs.Layout.{entry_bytes}
+use Rattle.msi_container.proofs.EntriesLemmas.{same_root_entry}
+use Rattle.msi_container.proofs.compound.entries.push_root.Goals as goal
+
+pub overflow_cast-len : goal.overflow_cast-len
+overflow_cast-len c = omega (arith, c.len.ensures, len-entries c.args.contents.now.streams, c.requires.few)
+
+pub middle-requires : goal.middle-requires
+middle-requires c = omega (arith, c.len.ensures, len-entries c.args.contents.now.streams, c.requires.few)
+
+pub returns : goal.returns
+returns c =
+    let n : c.len.result ≡ length (entries c.args.contents.now.streams) = c.len.ensures ∙ len-entries c.args.contents.now.streams in
+    let root =
+    same_root_entry c.args.contents.now.clsid (entries c.args.contents.now.streams) c.middle.result c.chain_start.result c.len.result c.args.first c.args.mini_sectors (64 * c.args.mini_sectors) n c.middle.ensures c.requires.first c.requires.counted c.chain_start.ensures refl in
+    on_ok_weaker c.push_entry.result (λ grown. grown ∙ ap (λ e. c.args.held.now.items ++ entry_bytes e) root) c.push_entry.ensures

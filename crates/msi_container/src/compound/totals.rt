@@ -1,0 +1,53 @@
+//! How many sectors a file has: those that are taken, and those of the FAT and of the DIFAT, which grow with the file
+//! (MS-CFB 2.3 and 2.5).
+
+ghost use Rattle.std.specs.Prelude.{◌≡◌, ◌<◌, ◌≤◌, ◌^◌, IfSome, IsNone};
+ghost use Rattle.msi_container.specs.Image as spec;
+
+use crate::compound::extents::SECTOR_SIZE;
+use crate::compound::header::HEADER_FAT_SECTORS;
+
+/// A file that is written has fewer sectors than this: with the header they take 2^31 bytes at most.
+pub const MAX_SECTORS: usize = 1 << 22;
+
+/// The entries of a sector of the FAT, or of the mini FAT.
+pub const FAT_ENTRIES: usize = 128;
+
+/// The FAT sectors that a sector of the DIFAT lists, before the number of the next such sector.
+pub const DIFAT_ENTRIES: usize = 127;
+
+/// How many sectors a table takes that has an entry for each of `total` sectors, as the FAT has.
+pub fn fat_sectors(total: usize) -> usize
+    ensures { result ≡ spec.fat_sectors total }
+{
+    total.div_ceil(FAT_ENTRIES)
+}
+
+/// How many sectors the DIFAT takes, which lists the sectors of such a FAT beyond those that the header lists.
+pub fn difat_sectors(total: usize) -> usize
+    ensures { result ≡ spec.difat_sectors total }
+{
+    fat_sectors(total)
+        .saturating_sub(HEADER_FAT_SECTORS as usize)
+        .div_ceil(DIFAT_ENTRIES)
+}
+
+/// The least number of sectors that has room for those that are `taken`, the FAT's and the DIFAT's, and makes the file
+/// no shorter than one of `earlier_len` bytes. `None` where that is `MAX_SECTORS` or more.
+pub fn least_total(taken: usize, earlier_len: u64) -> Option<usize>
+    requires { taken ≤ 2 ^ 23 }
+    ensures some { IfSome result (λ total. total ≡ spec.least_total taken earlier_len) }
+    ensures few { IfSome result (λ total. total < 2 ^ 22) }
+    ensures none { IsNone result → 2 ^ 22 ≤ spec.least_total taken earlier_len }
+{
+    let earlier = earlier_len.div_ceil(SECTOR_SIZE as u64) as usize;
+    let mut total = taken.max(earlier.saturating_sub(1));
+    while total < MAX_SECTORS {
+        let needed = taken + fat_sectors(total) + difat_sectors(total);
+        if needed <= total {
+            return Some(total);
+        }
+        total = needed;
+    }
+    None
+}
