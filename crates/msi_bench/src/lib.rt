@@ -12,4 +12,8 @@ mod layouts;
 #[cfg(test)]
 mod names;
 #[cfg(test)]
+mod pool;
+#[cfg(test)]
 mod samples;
+#[cfg(test)]
+mod tables;

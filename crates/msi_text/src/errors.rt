@@ -65,6 +65,21 @@ pub enum Reason {
     NameRefused,
     Storages,
     ImageTooLarge,
+    PoolPage,
+    PoolCut,
+    PoolPlaces,
+    PoolData,
+    PoolFull,
+    PlaceUnknown,
+    PlaceFree,
+    ReferenceCut,
+    ReferenceWide,
+    TextLong,
+    PageByte,
+    PageCharacter,
+    CategoryName,
+    RowsMany,
+    TypeBits,
 }
 
 impl fmt::Display for Reason {
@@ -94,6 +109,21 @@ impl fmt::Display for Reason {
             Reason::NameRefused => "the name can't name a stream",
             Reason::Storages => "storages lie below the root",
             Reason::ImageTooLarge => "the file would pass 2^31 bytes",
+            Reason::PoolPage => "the code page of the string pool is not known",
+            Reason::PoolCut => "the string pool ends in the middle of an entry",
+            Reason::PoolPlaces => "the string pool has too many places",
+            Reason::PoolData => "the data of the string pool ends before its last text",
+            Reason::PoolFull => "the string pool is full",
+            Reason::PlaceUnknown => "a reference leads past the end of the string pool",
+            Reason::PlaceFree => "a place of the string pool that nothing names is given back",
+            Reason::ReferenceCut => "a reference to the string pool is cut",
+            Reason::ReferenceWide => "a reference does not fit two bytes",
+            Reason::TextLong => "a text is too long to be written",
+            Reason::PageByte => "a byte stands for no character in the code page",
+            Reason::PageCharacter => "a character has no byte in the code page",
+            Reason::CategoryName => "the text names no category",
+            Reason::RowsMany => "a table has too many rows",
+            Reason::TypeBits => "the bits name no type of a column",
         })
     }
 }

@@ -1,0 +1,10 @@
+pub mod RoundTripLemmas
+pub mod PiecesLemmas
+pub mod ReadBackLemmas
+pub mod StableSortLemmas
+pub mod PlacesLemmas
+pub mod RowOrderLemmas
+pub mod SortedFitsLemmas
+pub mod ColumnLemmas
+pub mod TypeBitsLemmas
+pub mod WorkedRows

@@ -1,0 +1,110 @@
+-- Where the cells of a table stand, and that they stand inside.
+use Rattle.std.proofs.Common.{◌≡◌, ℕ, ◌+◌, ◌*◌, ◌<◌, ◌≤◌, Bool, List, [], ◌∷◌, ◌++◌, length, take, drop, sym, ap, ◌∙◌, arith, map, sum, Some}
+use Rattle.std.specs.Prelude.{slice_index_or}
+use Rattle.std.proofs.lemmas.List as lists
+use Rattle.std.proofs.lemmas.List.FromFn.{map-range_with_len_more}
+use Rattle.std.proofs.lemmas.List.Sums.{sum_by_more, sum_by_more_le}
+use Rattle.std.proofs.lemmas.Nat.{row_fits}
+use Rattle.std.proofs.Math.Nat as nat
+use Rattle.msi_text.specs.Lists.{tabulated}
+use Rattle.msi_table.specs.declared.column.ColumnType.{ColumnType}
+use Rattle.msi_table.specs.declared.column.ColumnType.TheVariants as coltype
+use Rattle.msi_table.specs.declared.value.ValueRef.{ValueRef}
+use Rattle.msi_table.specs.Columns.{ColumnDef, types_of}
+use Rattle.msi_table.specs.Cells.{width, widths, row_count, cell_in, cell_at}
+use Rattle.msi_table.proofs.ReadBackLemmas.{cell_at_is}
+use Rattle.std.proofs.lemmas.Option.{slice_get-get_or}
+use Rattle.msi_table.proofs.PiecesLemmas.{numbers_from_is}
+
+pub length-types_of : (columns : List ColumnDef) → length (types_of columns) ≡ length columns
+length-types_of columns = lists.length-map columns (λ c. c.coltype)
+
+pub below_types : (columns : List ColumnDef) (j : ℕ) → j < length columns → j < length (types_of columns)
+below_types columns j h = omega (arith, length-types_of columns)
+
+-- a column's type stands where the column does
+pub type_at : (columns : List ColumnDef) (j : ℕ) (type : ColumnType) (d : ColumnDef) → j < length columns → type ≡ (slice_index_or columns j d).coltype → type ≡ slice_index_or (types_of columns) j coltype.Int16
+type_at columns j type d h e = e ∙ sym (lists.get_or-map (λ c. c.coltype) columns j d coltype.Int16 h)
+
+-- one more element
+pub tabulated_more : {X : Type 0} (n : ℕ) (f : ℕ → X) → tabulated (n + 1) f ≡ tabulated n f ++ f n ∷ []
+tabulated_more n f = ap (map f) (numbers_from_is 0 (n + 1)) ∙ map-range_with_len_more f 0 n n (omega arith) ∙ ap (λ l. map f l ++ f n ∷ []) (sym (numbers_from_is 0 n))
+
+width_at : (long : Bool) (types : List ColumnType) (j : ℕ) (d : ColumnType) → j < length types → slice_index_or (widths long types) j 0 ≡ width long (slice_index_or types j d)
+width_at long types j d h = lists.get_or-map (width long) types j d 0 h
+
+pub sum_widths_more : (long : Bool) (types : List ColumnType) (j : ℕ) (d : ColumnType) → j < length types
+    → sum (take (j + 1) (widths long types)) ≡ sum (take j (widths long types)) + width long (slice_index_or types j d)
+sum_widths_more long types j d h = sum_by_more (λ (x : ℕ). x) (widths long types) j 0 (omega (arith, lists.length-map types (width long)))
+    ∙ ap (λ w. sum (take j (widths long types)) + w) (width_at long types j d h)
+
+pub sum_widths_all : (long : Bool) (types : List ColumnType) (j : ℕ) → length types ≤ j → sum (take j (widths long types)) ≡ sum (widths long types)
+sum_widths_all long types j h = ap sum (lists.take_all j (widths long types) (omega (arith, lists.length-map types (width long))))
+
+sum_widths_within : (long : Bool) (types : List ColumnType) (j : ℕ) (d : ColumnType) → j < length types
+    → sum (take j (widths long types)) + width long (slice_index_or types j d) ≤ sum (widths long types)
+sum_widths_within long types j d h = omega (arith, width_at long types j d h, sum_by_more_le (λ (x : ℕ). x) (widths long types) j 0 (omega (arith, lists.length-map types (width long))))
+
+-- the columns up to this one take no more than all bytes
+pub column_inside : (long : Bool) (types : List ColumnType) (bytes : List ℕ) (n j : ℕ) (d : ColumnType) → n ≡ row_count long types bytes → j < length types
+    → n * sum (take j (widths long types)) + n * width long (slice_index_or types j d) ≤ length bytes
+column_inside long types bytes n j d e h =
+    omega (
+      arith,
+      nat.mul-add n (sum (take j (widths long types))) (width long (slice_index_or types j d)),
+      nat.mul-le-mul_left n (sum_widths_within long types j d h),
+      nat.div-mul-le_self (length bytes) (sum (widths long types)),
+      ap (λ m. m * sum (widths long types)) e,
+    )
+
+-- a cell stands inside its column
+cell_inside : (n i w : ℕ) → i < n → i * w + w ≤ n * w
+cell_inside n i w h = row_fits i w n w h (omega arith)
+
+-- what the loop over the columns of a row needs at one of them
+pub record CellInside (bytes : List ℕ) (start n i w : ℕ) : Type 0 where
+  pub column : start + n * w ≤ length bytes
+  pub cell : i * w + w ≤ n * w
+
+pub cell_is_inside : (long : Bool) (columns : List ColumnDef) (bytes : List ℕ) (start n i j w : ℕ) (type : ColumnType) (d : ColumnDef) → n ≡ row_count long (types_of columns) bytes → i < n → j < length columns
+    → type ≡ (slice_index_or columns j d).coltype → w ≡ width long type → start ≡ n * sum (take j (widths long (types_of columns))) → CellInside bytes start n i w
+cell_is_inside long columns bytes start n i j w type d e h l t is s =
+    let at = is ∙ ap (width long) (type_at columns j type d l t) in
+    record {
+      column = omega (arith, column_inside long (types_of columns) bytes n j coltype.Int16 e (below_types columns j l), ap (λ v. n * v) at);
+      cell = cell_inside n i w h;
+    }
+
+-- the sum so far, one column on
+pub start_more : (long : Bool) (columns : List ColumnDef) (start n j w : ℕ) (type : ColumnType) (d : ColumnDef) → j < length columns → type ≡ (slice_index_or columns j d).coltype → w ≡ width long type
+    → start ≡ n * sum (take j (widths long (types_of columns))) → start + n * w ≡ n * sum (take (j + 1) (widths long (types_of columns)))
+start_more long columns start n j w type d l t is s =
+    let at = is ∙ ap (width long) (type_at columns j type d l t) in
+    omega (
+      arith,
+      s,
+      ap (λ v. n * v) at,
+      ap (λ v. n * v) (sum_widths_more long (types_of columns) j coltype.Int16 (below_types columns j l)),
+      nat.mul-add n (sum (take j (widths long (types_of columns)))) (width long (slice_index_or (types_of columns) j coltype.Int16)),
+    )
+
+-- the same, where it is the width of a row
+pub width_more : (long : Bool) (columns : List ColumnDef) (total j w : ℕ) (type : ColumnType) (d : ColumnDef) → j < length columns → type ≡ (slice_index_or columns j d).coltype → w ≡ width long type
+    → total ≡ sum (take j (widths long (types_of columns))) → total + w ≡ sum (take (j + 1) (widths long (types_of columns)))
+width_more long columns total j w type d l t is s =
+    let at = is ∙ ap (width long) (type_at columns j type d l t) in
+    omega (arith, s, at, sum_widths_more long (types_of columns) j coltype.Int16 (below_types columns j l))
+
+pub width_all : (long : Bool) (columns : List ColumnDef) (j : ℕ) → length columns ≤ j → sum (take j (widths long (types_of columns))) ≡ sum (widths long (types_of columns))
+width_all long columns j h = sum_widths_all long (types_of columns) j (omega (arith, length-types_of columns))
+
+pub tabulated_push : {X : Type 0} (xs ys : List X) (n : ℕ) (f : ℕ → X) (x : X) → ys ≡ xs ++ x ∷ [] → xs ≡ tabulated n f → x ≡ f n → ys ≡ tabulated (n + 1) f
+tabulated_push xs ys n f x e s is = let m = tabulated_more n f in cc
+
+-- what is read at the place of a cell is the cell
+pub cell_read : (long : Bool) (columns : List ColumnDef) (bytes : List ℕ) (start n i j w : ℕ) (type : ColumnType) (d : ColumnDef) (x : ValueRef) → n ≡ row_count long (types_of columns) bytes → j < length columns
+    → type ≡ (slice_index_or columns j d).coltype → w ≡ width long type → start ≡ n * sum (take j (widths long (types_of columns)))
+    → x ≡ cell_in type (take (width long type) (drop (start + i * w) bytes)) → x ≡ cell_at long (types_of columns) bytes i j
+cell_read long columns bytes start n i j w type d x e l t is s r =
+    r ∙ ap (λ p. cell_in type (take (width long type) (drop p bytes))) (omega (arith, s, ap (λ v. i * v) is))
+    ∙ sym (cell_at_is long (types_of columns) bytes n i j type (sym e) (slice_get-get_or (types_of columns) j coltype.Int16 (below_types columns j l) ∙ ap Some (sym (type_at columns j type d l t))))

@@ -1,0 +1,76 @@
+-- Worked examples, by computation.
+use Rattle.std.specs.Prelude.{◌≡◌, ℕ, true, false, List, [], ◌∷◌, Some, None, refl, codes, map, pos, negsuc}
+use Rattle.msi_table.specs.declared.column.ColumnType.{ColumnType}
+use Rattle.msi_table.specs.declared.column.ColumnType.TheVariants as coltype
+use Rattle.msi_table.specs.declared.value.ValueRef.{ValueRef}
+use Rattle.msi_table.specs.declared.value.ValueRef.TheVariants as cell
+use Rattle.msi_table.specs.Columns.{ColumnDef, type_bits, type_of_bits}
+use Rattle.msi_table.specs.Cells.{cell_bytes, cell_in, table_bytes, rows_in}
+use Rattle.msi_table.specs.StoredOrder.{in_stored_order}
+
+abbrev plain : List ℕ → ColumnType → ColumnDef
+plain name type = record { name = name; coltype = type; is_localizable = false; is_nullable = false; is_primary_key = false; value_range = None; foreign_key = None; category = None; enum_values = [] }
+
+abbrev key : ColumnDef → ColumnDef
+key c = record c { is_primary_key = true }
+
+abbrev nullable : ColumnDef → ColumnDef
+nullable c = record c { is_nullable = true }
+
+abbrev number : ColumnDef
+number = key (plain (codes "Number") coltype.Int16)
+
+abbrev word : ColumnDef
+word = nullable (plain (codes "Word") (coltype.Str 50))
+
+number_type : type_bits number ≡ 0x2502
+number_type = refl
+
+word_type : type_bits word ≡ 0x1D32
+word_type = refl
+
+types_back : map type_of_bits (0x2502 ∷ 0x1D32 ∷ 0x900 ∷ 0x1900 ∷ 0x104 ∷ 0x504 ∷ 0x103 ∷ []) ≡ Some coltype.Int16 ∷ Some (coltype.Str 50) ∷ Some coltype.Binary ∷ Some coltype.Binary ∷ Some coltype.Int32 ∷ Some coltype.Binary ∷ None ∷ []
+types_back = refl
+
+-- a Binary column that is localizable, or a key, would read as one of texts
+flagged_binary : map type_of_bits (0xB00 ∷ 0x2900 ∷ []) ≡ Some (coltype.Str 0) ∷ Some (coltype.Str 0) ∷ []
+flagged_binary = refl
+
+int16_cells : map (cell_bytes false coltype.Int16) (cell.Int (negsuc 32766) ∷ cell.Int (pos 32767) ∷ cell.Int (negsuc 0) ∷ cell.Null ∷ [])
+    ≡ (1 ∷ 0 ∷ []) ∷ (0xFF ∷ 0xFF ∷ []) ∷ (0xFF ∷ 0x7F ∷ []) ∷ (0 ∷ 0 ∷ []) ∷ []
+int16_cells = refl
+
+int32_cell : cell_bytes false coltype.Int32 (cell.Int (negsuc 0)) ≡ 0xFF ∷ 0xFF ∷ 0xFF ∷ 0x7F ∷ []
+int32_cell = refl
+
+int16_back : map (cell_in coltype.Int16) ((1 ∷ 0 ∷ []) ∷ (0xFF ∷ 0xFF ∷ []) ∷ (0xFF ∷ 0x7F ∷ []) ∷ (0 ∷ 0 ∷ []) ∷ []) ≡ cell.Int (negsuc 32766) ∷ cell.Int (pos 32767) ∷ cell.Int (negsuc 0) ∷ cell.Null ∷ []
+int16_back = refl
+
+abbrev three_types : List ColumnType
+three_types = coltype.Binary ∷ coltype.Int16 ∷ coltype.Int32 ∷ []
+
+abbrev three_rows : List (List ValueRef)
+three_rows = (cell.Binary ∷ cell.Int (pos 32767) ∷ cell.Int (pos 0) ∷ []) ∷ (cell.Binary ∷ cell.Int (pos 20) ∷ cell.Int (pos 10) ∷ []) ∷ (cell.Binary ∷ cell.Int (pos 30) ∷ cell.Int (pos 20) ∷ []) ∷ []
+
+abbrev three_defs : List ColumnDef
+three_defs = map (plain (codes "c")) three_types
+
+-- the rows in stored order, spelled
+three_bytes : table_bytes false three_types (in_stored_order three_defs three_rows)
+    ≡ 1 ∷ 0 ∷ 1 ∷ 0 ∷ 1 ∷ 0 ∷ 0x14 ∷ 0x80 ∷ 0x1E ∷ 0x80 ∷ 0xFF ∷ 0xFF ∷ 0x0A ∷ 0 ∷ 0 ∷ 0x80 ∷ 0x14 ∷ 0 ∷ 0 ∷ 0x80 ∷ 0 ∷ 0 ∷ 0 ∷ 0x80 ∷ []
+three_bytes = refl
+
+three_back : rows_in false three_types (table_bytes false three_types (in_stored_order three_defs three_rows)) ≡ Some (in_stored_order three_defs three_rows)
+three_back = refl
+
+-- a byte past the last whole row is ignored
+stray : rows_in false (coltype.Int16 ∷ []) (1 ∷ 0x80 ∷ 7 ∷ []) ≡ Some ((cell.Int (pos 1) ∷ []) ∷ [])
+stray = refl
+
+numbers_bytes : table_bytes false (coltype.Int16 ∷ coltype.Str 50 ∷ []) (in_stored_order (number ∷ word ∷ [])
+    ((cell.Int (pos 2) ∷ cell.Str 21 ∷ []) ∷ (cell.Int (pos 4) ∷ cell.Str 22 ∷ []) ∷ (cell.Int (pos 1) ∷ cell.Str 23 ∷ []) ∷ []))
+    ≡ 1 ∷ 0x80 ∷ 2 ∷ 0x80 ∷ 4 ∷ 0x80 ∷ 0x17 ∷ 0 ∷ 0x15 ∷ 0 ∷ 0x16 ∷ 0 ∷ []
+numbers_bytes = refl
+
+long_reference : cell_bytes true (coltype.Str 50) (cell.Str 65541) ≡ 5 ∷ 0 ∷ 1 ∷ []
+long_reference = refl

@@ -1,0 +1,9 @@
+-- The words of this crate.
+pub mod Values
+pub mod Columns
+pub mod Cells
+pub mod CellValues
+pub mod StoredOrder
+pub mod OrderLaws
+pub mod ReadBack
+pub mod Rows

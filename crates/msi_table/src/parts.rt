@@ -1,0 +1,160 @@
+//! What the crates above need beyond the surface.
+
+ghost use Rattle.std.specs.Prelude.{◌≡◌, ◌<◌, ◌≤◌, ◌↔◌, IfOk, IfErr, IsErr, Some, None, is_some, if◌then◌else◌, length};
+ghost use Rattle.msi_text.specs.declared.errors.ErrorKind.TheVariants.{InvalidData, OutOfMemory};
+ghost use Rattle.msi_table.specs.Cells.{rows_in, table_bytes};
+ghost use Rattle.msi_table.specs.ReadBack.{FitsTable};
+ghost use Rattle.msi_table.specs.Rows.{AreAsWide};
+ghost use Rattle.msi_table.specs.StoredOrder.{in_stored_order};
+ghost use Rattle.msi_table.specs.Columns.{HasShortLength, types_of, bit_if as number_if, column_of_bits as column_in, has_bit as is_set, kind_bits as bits_of_kind, type_bits as bits_of, type_of_bits as type_in};
+
+use crate::column::{Column, ColumnBuilder, ColumnType};
+use crate::row::{Row, Rows};
+use crate::table::Table;
+use crate::value::{Value, ValueRef};
+use crate::{rows as reading, writing};
+use msi_text::errors::{Error, ErrorKind, Reason};
+use msi_text::stringpool::StringPool;
+use msi_text::text::Items;
+use std::alloc::Global;
+use std::rc::Rc;
+
+/// The bits of a type without flags.
+fn kind_bits(coltype: ColumnType) -> u16
+    requires { HasShortLength coltype }
+    ensures value { result ≡ bits_of_kind coltype }
+    ensures small { result ≤ 0xDFF }
+{
+    match coltype {
+        ColumnType::Int16 => 0x502,
+        ColumnType::Int32 => 0x104,
+        ColumnType::Str(length) => 0xD00 + length as u16,
+        ColumnType::Binary => 0x900,
+    }
+}
+
+/// A number where a flag is set, else 0.
+fn bit_if(flag: bool, number: u16) -> u16
+    ensures { result ≡ number_if flag number }
+{
+    if flag { number } else { 0 }
+}
+
+/// The bits of a column's type and flags.
+pub fn type_bits(column: &Column) -> u16
+    requires { HasShortLength column.now.coltype }
+    ensures { result ≡ bits_of column.now }
+{
+    kind_bits(column.coltype())
+        + bit_if(column.is_localizable(), 0x200)
+        + bit_if(column.is_nullable(), 0x1000)
+        + bit_if(column.is_primary_key(), 0x2000)
+}
+
+/// Whether bits have the one of a mask.
+fn has_bit(bits: u16, mask: u16) -> bool
+    requires { 0 < mask }
+    ensures { result ≡ is_set bits mask }
+{
+    bits / mask % 2 == 1
+}
+
+/// The type that bits name.
+///
+/// # Errors
+/// `InvalidData` where they name none.
+pub fn type_of_bits(bits: u16) -> Result<ColumnType, Error>
+    ensures ok { IfOk result (λ coltype. type_in bits ≡ Some coltype) }
+    ensures refused { IsErr result ↔ (type_in bits ≡ None) }
+    ensures kind { IfErr result (λ kind. kind ≡ InvalidData) }
+{
+    if bits == 0x900 || bits == 0x1900 {
+        return Ok(ColumnType::Binary);
+    }
+    if has_bit(bits, 0x800) {
+        return Ok(ColumnType::Str((bits % 256) as usize));
+    }
+    let size = bits % 256;
+    if size == 4 {
+        return Ok(if has_bit(bits, 0x400) {
+            ColumnType::Binary
+        } else {
+            ColumnType::Int32
+        });
+    }
+    if size <= 2 {
+        return Ok(ColumnType::Int16);
+    }
+    Err(Error::new(ErrorKind::InvalidData, Reason::TypeBits))
+}
+
+/// Ends a builder with the type and the flags that bits name: the column is nullable by them or as the builder left it.
+///
+/// # Errors
+/// `InvalidData` where they name no type.
+pub fn column_of_bits(builder: ColumnBuilder, bits: u16) -> Result<Column, Error>
+    ensures ok { IfOk result (λ column. column_in builder bits ≡ Some column) }
+    ensures refused { IsErr result ↔ (column_in builder bits ≡ None) }
+    ensures kind { IfErr result (λ kind. kind ≡ InvalidData) }
+{
+    let coltype = type_of_bits(bits)?;
+    Ok(builder.with_flags(
+        coltype,
+        has_bit(bits, 0x200),
+        has_bit(bits, 0x1000),
+        has_bit(bits, 0x2000),
+    ))
+}
+
+/// The rows that the bytes of a table's stream spell; bytes past the last whole row are ignored.
+///
+/// # Errors
+/// `InvalidData` above 65536 rows; `OutOfMemory`.
+pub fn read_rows(alloc: Global, table: &Table, bytes: &[u8]) -> Result<Vec<Items<ValueRef>>, Error>
+    ensures ok { IfOk result (λ rows. rows_in table.now.long (types_of table.now.columns) bytes.now ≡ Some rows.items) }
+    ensures kind { IfErr result (λ kind. kind ≡ (if is_some (rows_in table.now.long (types_of table.now.columns) bytes.now) then OutOfMemory else InvalidData)) }
+{
+    reading::read_rows(alloc, table.is_long(), table.columns(), bytes)
+}
+
+/// The bytes of a table's rows in their stored order, which read back.
+///
+/// # Errors
+/// `OutOfMemory`.
+pub fn write_rows(
+    alloc: Global,
+    table: &Table,
+    rows: Vec<Items<ValueRef>>,
+) -> Result<Vec<u8>, Error>
+    requires { FitsTable table.now.long (types_of table.now.columns) rows.items }
+    ensures ok { IfOk result (λ bytes. bytes.items ≡ table_bytes table.now.long (types_of table.now.columns) (in_stored_order table.now.columns rows.items)) }
+    ensures reads_back { IfOk result (λ bytes. rows_in table.now.long (types_of table.now.columns) bytes.items ≡ Some (in_stored_order table.now.columns rows.items)) }
+    ensures kind { IfErr result (λ kind. kind ≡ OutOfMemory) }
+{
+    writing::write_rows(alloc, table.is_long(), table.columns(), rows)
+}
+
+/// A row of a value for each column.
+pub fn row(columns: Rc<Items<Column>>, values: Items<Value>) -> Row
+    requires { length values ≡ length columns.value }
+    ensures { result ≡ record { columns = columns.value; values = values } }
+{
+    Row::new(columns, values)
+}
+
+/// Rows that have a cell for each column, over the pool of their texts.
+///
+/// # Errors
+/// `OutOfMemory`.
+pub fn rows<'a>(
+    alloc: Global,
+    pool: &'a StringPool,
+    columns: Items<Column>,
+    cells: Vec<Items<ValueRef>>,
+) -> Result<Rows<'a>, Error>
+    requires { AreAsWide columns cells.items }
+    ensures ok { IfOk result (λ rows. rows ≡ record { columns = columns; places = pool.now.places; rows = cells.items }) }
+    ensures kind { IfErr result (λ kind. kind ≡ OutOfMemory) }
+{
+    Rows::new(alloc, pool, columns, cells)
+}

@@ -1,0 +1,251 @@
+//! Rows with their values.
+
+ghost use Rattle.std.specs.Prelude.{◌≡◌, ◌<◌, ◌==◌, IsTrue, IfOk, IfErr, Some, length, slice_get, option_copied};
+ghost use Rattle.std.specs.Iterator.{at_most};
+ghost use Rattle.msi_text.specs.declared.errors.ErrorKind.TheVariants.{OutOfMemory};
+ghost use Rattle.msi_table.specs.Columns.{has_column as has_one};
+ghost use Rattle.msi_table.specs.Rows.{AreAsWide, GivesRow, value_named};
+ghost use Rattle.msi_table.specs.StoredOrder.{row_values};
+
+use crate::column::{Column, column_index, has_column};
+use crate::value::{Value, ValueRef};
+use msi_text::errors::Error;
+use msi_text::stringpool::StringPool;
+use msi_text::text::Items;
+use std::alloc::Global;
+use std::marker::Model;
+use std::ops::Index;
+use std::rc::Rc;
+
+/// A row: a value for each column.
+#[derive(Drop)]
+pub struct Row {
+    columns: Rc<Items<Column>>,
+    values: Items<Value>,
+}
+
+impl Model for Row {
+    ghost use Rattle.std.specs.Prelude.{◌≡◌, length};
+    ghost use Rattle.msi_table.specs.Rows.{RowDef};
+
+    ghost Value = { RowDef };
+
+    ghost view = { λ r. record { columns = r.columns.value; values = r.values } };
+
+    ghost invariant = { λ r. length r.values ≡ length r.columns.value };
+}
+
+impl Row {
+    /// A row of a value for each column.
+    pub(crate) fn new(columns: Rc<Items<Column>>, values: Items<Value>) -> Row
+        requires { length values ≡ length columns.value }
+        ensures { result ≡ record { columns = columns.value; values = values } }
+    {
+        Row { columns, values }
+    }
+
+    /// How many values it has.
+    pub fn len(&self) -> usize
+        ensures { result ≡ length self.now.values }
+    {
+        self.values.as_slice().len()
+    }
+
+    /// Whether it has none.
+    pub fn is_empty(&self) -> bool
+        ensures { result ≡ (length self.now.values == 0) }
+    {
+        self.len() == 0
+    }
+
+    /// The columns of its values.
+    pub fn columns(&self) -> &[Column]
+        ensures columns { result.now ≡ self.now.columns }
+        ensures len { length self.now.columns ≡ length self.now.values }
+    {
+        self.columns.as_slice()
+    }
+
+    /// The same row once more.
+    ///
+    /// # Errors
+    /// `OutOfMemory`.
+    pub fn clone(&self, alloc: Global) -> Result<Row, Error>
+        ensures ok { IfOk result (λ row. row ≡ self.now) }
+        ensures kind { IfErr result (λ kind. kind ≡ OutOfMemory) }
+    {
+        let values = copied_values(alloc, self.values.as_slice())?;
+        Ok(Row {
+            columns: self.columns.clone()?,
+            values,
+        })
+    }
+
+    /// Whether it has a column of this name.
+    pub fn has_column(&self, name: &str) -> bool
+        ensures { result ≡ has_one name.now self.now.columns }
+    {
+        has_column(self.columns(), name)
+    }
+}
+
+impl Index<usize> for Row {
+    type Output = Value;
+
+    ghost can_index = { λ row index. index < length row.values };
+
+    ghost index_gives = { λ row index value. slice_get row.values index ≡ Some value };
+
+    fn index(&self, index: usize) -> &Value {
+        &self.values.as_slice()[index]
+    }
+}
+
+impl<'a> Index<&'a str> for Row {
+    type Output = Value;
+
+    ghost can_index = { λ row name. IsTrue (has_one name.now row.columns) };
+
+    ghost index_gives = { λ row name value. value_named name.now row ≡ Some value };
+
+    fn index(&self, name: &'a str) -> &Value {
+        match column_index(self.columns(), name) {
+            Some(index) => &self.values.as_slice()[index],
+            None => unreachable!(),
+        }
+    }
+}
+
+/// The values once more, in order.
+///
+/// # Errors
+/// `OutOfMemory`.
+fn copied_values(alloc: Global, values: &[Value]) -> Result<Items<Value>, Error>
+    ensures ok { IfOk result (λ copies. copies ≡ values.now) }
+    ensures kind { IfErr result (λ kind. kind ≡ OutOfMemory) }
+{
+    let mut copies = Vec::new(alloc);
+    for value in values {
+        copies.push(value.clone(alloc)?)?;
+    }
+    Ok(Items::from_vec(copies))
+}
+
+/// The values of a row's cells.
+///
+/// # Errors
+/// `OutOfMemory`.
+fn values_of(alloc: Global, pool: &StringPool, cells: &[ValueRef]) -> Result<Items<Value>, Error>
+    ensures ok { IfOk result (λ values. values ≡ row_values pool.now.places cells.now) }
+    ensures kind { IfErr result (λ kind. kind ≡ OutOfMemory) }
+{
+    let mut values = Vec::new(alloc);
+    for cell in cells {
+        values.push(cell.to_value(alloc, pool)?)?;
+    }
+    Ok(Items::from_vec(values))
+}
+
+/// The row of cells, one for each column.
+///
+/// # Errors
+/// `OutOfMemory`.
+fn row_of(
+    alloc: Global,
+    pool: &StringPool,
+    columns: &Rc<Items<Column>>,
+    cells: &[ValueRef],
+) -> Result<Row, Error>
+    requires { length cells.now ≡ length columns.now.value }
+    ensures ok { IfOk result (λ row. row ≡ record { columns = columns.now.value; values = row_values pool.now.places cells.now }) }
+    ensures kind { IfErr result (λ kind. kind ≡ OutOfMemory) }
+{
+    let values = values_of(alloc, pool, cells)?;
+    Ok(Row::new(columns.clone()?, values))
+}
+
+/// Rows, each of which is given once. After a growth that was refused none is left.
+#[derive(Drop)]
+pub struct Rows<'a> {
+    alloc: Global,
+    pool: &'a StringPool,
+    columns: Rc<Items<Column>>,
+    rows: Vec<Items<ValueRef>>,
+    given: usize,
+}
+
+impl<'a> Model for Rows<'a> {
+    ghost use Rattle.std.specs.Prelude.{◌≤◌, drop, vec_len};
+    ghost use Rattle.msi_table.specs.Rows.{AreAsWide, RowsDef};
+
+    ghost Value = { RowsDef };
+
+    ghost view = { λ r. record { columns = r.columns.value; places = r.pool.now.places; rows = drop r.given r.rows.items } };
+
+    ghost invariant = { λ r. AreAsWide r.columns.value r.rows.items };
+}
+
+impl<'a> Rows<'a> {
+    /// Rows that have a cell for each column.
+    ///
+    /// # Errors
+    /// `OutOfMemory`.
+    pub(crate) fn new(
+        alloc: Global,
+        pool: &'a StringPool,
+        columns: Items<Column>,
+        rows: Vec<Items<ValueRef>>,
+    ) -> Result<Rows<'a>, Error>
+        requires { AreAsWide columns rows.items }
+        ensures ok { IfOk result (λ given. given ≡ record { columns = columns; places = pool.now.places; rows = rows.items }) }
+        ensures kind { IfErr result (λ kind. kind ≡ OutOfMemory) }
+    {
+        let columns = Rc::new(alloc, columns)?;
+        Ok(Rows {
+            alloc,
+            pool,
+            columns,
+            rows,
+            given: 0,
+        })
+    }
+
+    /// The columns of the rows.
+    pub fn columns(&self) -> &[Column]
+        ensures { result.now ≡ self.now.columns }
+    {
+        self.columns.as_slice()
+    }
+
+    /// How many rows are left.
+    pub fn len(&self) -> usize
+        ensures { result ≡ length self.now.rows }
+    {
+        self.rows.len().saturating_sub(self.given)
+    }
+}
+
+impl<'a> Iterator for Rows<'a> {
+    type Item = Result<Row, Error>;
+
+    ghost next_gives = { GivesRow };
+
+    ghost remaining = { λ rows. at_most (length rows.rows) };
+
+    fn next(&mut self) -> Option<Result<Row, Error>> {
+        if self.given >= self.rows.len() {
+            return None;
+        }
+        let cells = self.rows[self.given].as_slice();
+        match row_of(self.alloc, self.pool, &self.columns, cells) {
+            Ok(row) => {
+                self.given += 1;
+                Some(Ok(row))
+            }
+            Err(error) => {
+                self.given = self.rows.len();
+                Some(Err(error))
+            }
+        }
+    }
+}

@@ -1,0 +1,88 @@
+//! The rows of a table's stream.
+
+ghost use Rattle.std.specs.Prelude.{◌≡◌, ◌<◌, ◌≤◌, length, sum, IfOk, IfErr, Some, is_some, if◌then◌else◌};
+ghost use Rattle.msi_text.specs.declared.errors.ErrorKind.TheVariants.{OutOfMemory, InvalidData};
+ghost use Rattle.msi_table.specs.Cells.{widths, row_count as count_of, row_in, rows_in};
+ghost use Rattle.msi_table.specs.Columns.{types_of};
+
+use crate::cells::{read_cell, width};
+use crate::column::Column;
+use crate::value::ValueRef;
+use msi_text::errors::{Error, ErrorKind, Reason};
+use msi_text::text::Items;
+use std::alloc::Global;
+
+/// The most rows that are read.
+const MOST_ROWS: usize = 65536;
+
+/// How many bytes a row takes.
+fn row_width(long: bool, columns: &[Column]) -> usize
+    requires { length columns.now ≤ 32767 }
+    ensures { result ≡ sum (widths long (types_of columns.now)) }
+{
+    let mut total = 0;
+    for column in columns {
+        total += width(long, column.coltype());
+    }
+    total
+}
+
+/// How many whole rows the bytes hold.
+fn row_count(long: bool, columns: &[Column], bytes: &[u8]) -> usize
+    requires { length columns.now ≤ 32767 }
+    ensures { result ≡ count_of long (types_of columns.now) bytes.now }
+{
+    let width = row_width(long, columns);
+    if width == 0 {
+        return 0;
+    }
+    bytes.len() / width
+}
+
+/// One row of so many.
+fn read_row(
+    alloc: Global,
+    long: bool,
+    columns: &[Column],
+    bytes: &[u8],
+    count: usize,
+    i: usize,
+) -> Result<Items<ValueRef>, Error>
+    requires count { count ≡ count_of long (types_of columns.now) bytes.now }
+    requires inside { i < count }
+    ensures ok { IfOk result (λ row. row ≡ row_in long (types_of columns.now) bytes.now i) }
+    ensures kind { IfErr result (λ kind. kind ≡ OutOfMemory) }
+{
+    let mut row = Vec::new(alloc);
+    let mut start = 0;
+    for column in columns {
+        let coltype = column.coltype();
+        let width = width(long, coltype);
+        let at = start + i * width;
+        row.push(read_cell(long, coltype, bytes, at))?;
+        start += count * width;
+    }
+    Ok(Items::from_vec(row))
+}
+
+/// The rows that the bytes of a stream spell.
+pub fn read_rows(
+    alloc: Global,
+    long: bool,
+    columns: &[Column],
+    bytes: &[u8],
+) -> Result<Vec<Items<ValueRef>>, Error>
+    requires { length columns.now ≤ 32767 }
+    ensures ok { IfOk result (λ rows. rows_in long (types_of columns.now) bytes.now ≡ Some rows.items) }
+    ensures kind { IfErr result (λ kind. kind ≡ (if is_some (rows_in long (types_of columns.now) bytes.now) then OutOfMemory else InvalidData)) }
+{
+    let count = row_count(long, columns, bytes);
+    if count > MOST_ROWS {
+        return Err(Error::new(ErrorKind::InvalidData, Reason::RowsMany));
+    }
+    let mut rows = Vec::new(alloc);
+    for i in 0..count {
+        rows.push(read_row(alloc, long, columns, bytes, count, i)?)?;
+    }
+    Ok(rows)
+}

@@ -1,0 +1,120 @@
+//! Tables.
+
+ghost use Rattle.std.specs.Prelude.{◌≡◌, ◌≤◌, IfOk, IfErr, length, option_copied, vec_len};
+ghost use Rattle.msi_text.specs.declared.errors.ErrorKind.TheVariants.{OutOfMemory};
+ghost use Rattle.msi_table.specs.Columns.{column_named, has_column as has_one, key_places};
+
+use crate::column::{Column, column_index, copied_columns, has_column};
+use msi_text::errors::Error;
+use msi_text::text::{Items, Text};
+use std::alloc::Global;
+use std::marker::Model;
+
+/// The most columns of a table: their numbers are stored in 16 bits.
+pub const MOST_COLUMNS: usize = 32767;
+
+/// A table's name and columns, and whether its references to texts are long.
+#[derive(Drop)]
+pub struct Table {
+    name: Text,
+    columns: Items<Column>,
+    long: bool,
+}
+
+impl Model for Table {
+    ghost use Rattle.std.specs.Prelude.{◌≤◌, length};
+    ghost use Rattle.msi_table.specs.Columns.{TableDef};
+
+    ghost Value = { TableDef };
+
+    ghost view = { λ t. record { name = t.name; columns = t.columns; long = t.long } };
+
+    ghost invariant = { λ t. length t.columns ≤ 32767 };
+}
+
+impl Table {
+    /// A table of at most `MOST_COLUMNS` columns.
+    pub fn new(name: Text, columns: Vec<Column>, long: bool) -> Table
+        requires { vec_len columns ≤ 32767 }
+        ensures { result ≡ record { name = name; columns = columns.items; long = long } }
+    {
+        Table {
+            name,
+            columns: Items::from_vec(columns),
+            long,
+        }
+    }
+
+    /// The table's name.
+    pub fn name(&self) -> &str
+        ensures { result.now ≡ self.now.name }
+    {
+        self.name.as_str()
+    }
+
+    /// The table's columns, in order.
+    pub fn columns(&self) -> &[Column]
+        ensures columns { result.now ≡ self.now.columns }
+        ensures few { length self.now.columns ≤ 32767 }
+    {
+        self.columns.as_slice()
+    }
+
+    /// Whether references to texts take three bytes in place of two.
+    pub(crate) fn is_long(&self) -> bool
+        ensures { result ≡ self.now.long }
+    {
+        self.long
+    }
+
+    /// Whether it has a column of this name.
+    pub fn has_column(&self, name: &str) -> bool
+        ensures { result ≡ has_one name.now self.now.columns }
+    {
+        has_column(self.columns(), name)
+    }
+
+    /// The column of this name; of a repeated name the first.
+    pub fn get_column(&self, name: &str) -> Option<&Column>
+        ensures { option_copied result ≡ column_named name.now self.now.columns }
+    {
+        let columns = self.columns();
+        match column_index(columns, name) {
+            Some(index) => columns.get(index),
+            None => None,
+        }
+    }
+
+    /// Where the key columns stand.
+    ///
+    /// # Errors
+    /// `OutOfMemory`.
+    pub fn primary_key_indices(&self, alloc: Global) -> Result<Vec<usize>, Error>
+        ensures ok { IfOk result (λ places. places.items ≡ key_places self.now.columns) }
+        ensures kind { IfErr result (λ kind. kind ≡ OutOfMemory) }
+    {
+        let columns = self.columns.as_slice();
+        let mut places = Vec::new(alloc);
+        for i in 0..columns.len() {
+            if columns[i].is_primary_key() {
+                places.push(i)?;
+            }
+        }
+        Ok(places)
+    }
+
+    /// The same table once more.
+    ///
+    /// # Errors
+    /// `OutOfMemory`.
+    pub fn clone(&self, alloc: Global) -> Result<Table, Error>
+        ensures ok { IfOk result (λ table. table ≡ self.now) }
+        ensures kind { IfErr result (λ kind. kind ≡ OutOfMemory) }
+    {
+        Ok(Table {
+            name: self.name.clone(alloc)?,
+            columns: copied_columns(alloc, self.columns.as_slice())?,
+            long: self.long,
+        })
+    }
+}

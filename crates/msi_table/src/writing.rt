@@ -1,0 +1,120 @@
+//! The bytes of a table's stream.
+
+ghost use Rattle.std.specs.Prelude.{◌≡◌, ℕ, ◌<◌, ◌++◌, length, OnOk, IfOk, IfErr, slice_index_or, [], Some};
+ghost use Rattle.std.specs.List.{flat_map};
+ghost use Rattle.msi_text.specs.declared.errors.ErrorKind.TheVariants.{OutOfMemory};
+ghost use Rattle.msi_table.specs.Cells.{cell_bytes, cell_of, table_bytes, rows_in};
+ghost use Rattle.msi_table.specs.Columns.{types_of};
+ghost use Rattle.msi_table.specs.StoredOrder.{in_stored_order};
+ghost use Rattle.msi_table.specs.ReadBack.{FitsColumn, FitsTable, stored_number};
+
+use crate::cells::width;
+use crate::column::{Column, ColumnType};
+use crate::order::sort_rows;
+use crate::value::ValueRef;
+use msi_text::errors::Error;
+use msi_text::parts::place_number;
+use msi_text::text::Items;
+use std::alloc::Global;
+
+/// The number whose bytes a cell takes, where it fits its column.
+fn number_for(long: bool, coltype: ColumnType, cell: ValueRef) -> u32
+    requires { FitsColumn long coltype cell }
+    ensures { result ≡ stored_number coltype cell }
+{
+    match coltype {
+        ColumnType::Int16 => match cell {
+            ValueRef::Int(n) => (n as i64 + 0x8000) as u32,
+            _ => 0,
+        },
+        ColumnType::Int32 => match cell {
+            ValueRef::Int(n) => (n as i64 + 0x8000_0000) as u32,
+            _ => 0,
+        },
+        ColumnType::Str(_) => match cell {
+            ValueRef::Str(place) => place_number(place),
+            _ => 0,
+        },
+        ColumnType::Binary => 1,
+    }
+}
+
+/// Writes a cell behind the bytes.
+fn write_cell(
+    out: &mut Vec<u8>,
+    long: bool,
+    coltype: ColumnType,
+    cell: ValueRef,
+) -> Result<(), Error>
+    requires { FitsColumn long coltype cell }
+    ensures ok { OnOk result (out.new.items ≡ out.old.items ++ cell_bytes long coltype cell) }
+    ensures kind { IfErr result (λ kind. kind ≡ OutOfMemory) }
+{
+    let bytes = number_for(long, coltype, cell).to_le_bytes();
+    out.extend_from_slice(&bytes[..width(long, coltype)])?;
+    Ok(())
+}
+
+/// The cell of a column, null where the row has none.
+fn cell_in_row(row: &[ValueRef], j: usize) -> ValueRef
+    ensures { result ≡ cell_of row.now j }
+{
+    if j < row.len() {
+        row[j]
+    } else {
+        ValueRef::Null
+    }
+}
+
+/// Writes the cells of one column.
+fn write_column(
+    out: &mut Vec<u8>,
+    long: bool,
+    coltype: ColumnType,
+    rows: &[Items<ValueRef>],
+    j: usize,
+) -> Result<(), Error>
+    requires { (i : ℕ) → i < length rows.now → FitsColumn long coltype (cell_of (slice_index_or rows.now i []) j) }
+    ensures ok { OnOk result (out.new.items ≡ out.old.items ++ flat_map (λ row. cell_bytes long coltype (cell_of row j)) rows.now) }
+    ensures kind { IfErr result (λ kind. kind ≡ OutOfMemory) }
+{
+    for i in 0..rows.len() {
+        write_cell(out, long, coltype, cell_in_row(rows[i].as_slice(), j))?;
+    }
+    Ok(())
+}
+
+/// The bytes of rows, column by column.
+pub fn write_table(
+    alloc: Global,
+    long: bool,
+    columns: &[Column],
+    rows: &[Items<ValueRef>],
+) -> Result<Vec<u8>, Error>
+    requires { FitsTable long (types_of columns.now) rows.now }
+    ensures ok { IfOk result (λ bytes. bytes.items ≡ table_bytes long (types_of columns.now) rows.now) }
+    ensures reads_back { IfOk result (λ bytes. rows_in long (types_of columns.now) bytes.items ≡ Some rows.now) }
+    ensures kind { IfErr result (λ kind. kind ≡ OutOfMemory) }
+{
+    let mut out = Vec::new(alloc);
+    for j in 0..columns.len() {
+        write_column(&mut out, long, columns[j].coltype(), rows, j)?;
+    }
+    Ok(out)
+}
+
+/// The bytes of rows in their stored order.
+pub fn write_rows(
+    alloc: Global,
+    long: bool,
+    columns: &[Column],
+    mut rows: Vec<Items<ValueRef>>,
+) -> Result<Vec<u8>, Error>
+    requires { FitsTable long (types_of columns.now) rows.items }
+    ensures ok { IfOk result (λ bytes. bytes.items ≡ table_bytes long (types_of columns.now) (in_stored_order columns.now rows.items)) }
+    ensures reads_back { IfOk result (λ bytes. rows_in long (types_of columns.now) bytes.items ≡ Some (in_stored_order columns.now rows.items)) }
+    ensures kind { IfErr result (λ kind. kind ≡ OutOfMemory) }
+{
+    sort_rows(columns, &mut rows)?;
+    write_table(alloc, long, columns, rows.as_slice())
+}

@@ -1,0 +1,186 @@
+//! Categories of column values.
+
+ghost use Rattle.std.specs.Prelude.{◌≡◌, Some, None, IfOk, IfErr, bytes_eq, ◌||◌};
+ghost use Rattle.std.specs.Fmt.{padded};
+ghost use Rattle.msi_text.specs.Categories.{all_categories, category_name, category_in, other_name};
+ghost use Rattle.msi_text.specs.declared.errors.ErrorKind.TheVariants.{InvalidData};
+
+use crate::errors::{Error, ErrorKind, Reason};
+use std::fmt;
+use std::str::FromStr;
+
+/// What the values of a column are for (MSI SDK, "Column Data Types").
+#[derive(Clone, Copy, PartialEq, Eq, Hash, Debug)]
+pub enum Category {
+    /// Any text.
+    Text,
+    /// Text with no small letter.
+    UpperCase,
+    /// Text with no capital letter.
+    LowerCase,
+    /// A number of 16 bits.
+    Integer,
+    /// A number of 32 bits.
+    DoubleInteger,
+    /// A number in a text column.
+    Number,
+    /// A date and time of day.
+    TimeDate,
+    /// A name of letters, digits, underscores and periods.
+    Identifier,
+    /// An identifier that may begin with a percent sign.
+    Property,
+    /// The name of a file or folder, short and long.
+    Filename,
+    /// Such a name with wildcards.
+    WildCardFilename,
+    /// A full path.
+    Path,
+    /// Full paths between semicolons.
+    Paths,
+    /// A full or relative path.
+    AnyPath,
+    /// A file name or an identifier.
+    DefaultDir,
+    /// A path in the registry.
+    RegPath,
+    /// Text with properties in square brackets.
+    Formatted,
+    /// Such text that holds a security descriptor.
+    FormattedSddlText,
+    /// Formatted text that may hold placeholders of fields.
+    Template,
+    /// A condition on properties.
+    Condition,
+    /// A GUID in braces, with capital letters.
+    Guid,
+    /// A version of up to four numbers.
+    Version,
+    /// Languages' numbers between commas.
+    Language,
+    /// The name of a stream of bytes.
+    Binary,
+    /// Where a custom action comes from.
+    CustomSource,
+    /// The name of a cabinet.
+    Cabinet,
+    /// The target of a shortcut.
+    Shortcut,
+}
+
+impl Category {
+    /// Every category.
+    pub fn all() -> [Category; 27]
+        ensures { result ≡ all_categories }
+    {
+        [
+            Category::Text,
+            Category::UpperCase,
+            Category::LowerCase,
+            Category::Integer,
+            Category::DoubleInteger,
+            Category::Number,
+            Category::TimeDate,
+            Category::Identifier,
+            Category::Property,
+            Category::Filename,
+            Category::WildCardFilename,
+            Category::Path,
+            Category::Paths,
+            Category::AnyPath,
+            Category::DefaultDir,
+            Category::RegPath,
+            Category::Formatted,
+            Category::FormattedSddlText,
+            Category::Template,
+            Category::Condition,
+            Category::Guid,
+            Category::Version,
+            Category::Language,
+            Category::Binary,
+            Category::CustomSource,
+            Category::Cabinet,
+            Category::Shortcut,
+        ]
+    }
+
+    /// How the category is written in the table `_Validation`.
+    pub fn name(self) -> &'static str
+        ensures { result.now ≡ category_name self }
+    {
+        match self {
+            Category::Text => "Text",
+            Category::UpperCase => "UpperCase",
+            Category::LowerCase => "LowerCase",
+            Category::Integer => "Integer",
+            Category::DoubleInteger => "DoubleInteger",
+            Category::Number => "Number",
+            Category::TimeDate => "TimeDate",
+            Category::Identifier => "Identifier",
+            Category::Property => "Property",
+            Category::Filename => "Filename",
+            Category::WildCardFilename => "WildCardFilename",
+            Category::Path => "Path",
+            Category::Paths => "Paths",
+            Category::AnyPath => "AnyPath",
+            Category::DefaultDir => "DefaultDir",
+            Category::RegPath => "RegPath",
+            Category::Formatted => "Formatted",
+            Category::FormattedSddlText => "FormattedSDDLText",
+            Category::Template => "Template",
+            Category::Condition => "Condition",
+            Category::Guid => "GUID",
+            Category::Version => "Version",
+            Category::Language => "Language",
+            Category::Binary => "Binary",
+            Category::CustomSource => "CustomSource",
+            Category::Cabinet => "Cabinet",
+            Category::Shortcut => "Shortcut",
+        }
+    }
+
+    /// How else it may be written.
+    fn other_name(self) -> &'static str
+        ensures { result.now ≡ other_name self }
+    {
+        match self {
+            Category::FormattedSddlText => "FormattedSddlText",
+            Category::Guid => "Guid",
+            _ => self.name(),
+        }
+    }
+
+    /// Whether a text is one of its names.
+    fn has_name(self, text: &str) -> bool
+        ensures { result ≡ (bytes_eq (category_name self) text.now || bytes_eq (other_name self) text.now) }
+    {
+        self.name() == text || self.other_name() == text
+    }
+}
+
+/// Writes the name.
+impl fmt::Display for Category {
+    ghost output = { λ category. Some (category_name category) };
+
+    ghost styled_output = { λ category spec. Some (padded spec (category_name category)) };
+
+    fn fmt<W: fmt::Write>(&self, f: &mut fmt::Formatter<W>) -> fmt::Result {
+        f.pad(self.name())
+    }
+}
+
+/// The category that a text names: its name, or `FormattedSddlText` or `Guid`. The error is `InvalidData`.
+impl FromStr for Category {
+    type Err = Error;
+
+    ghost from_str_gives = { λ text r. IfOk r (λ category. category_in text ≡ Some category) × IfErr r (λ kind. (category_in text ≡ None) × (kind ≡ InvalidData)) };
+
+    fn from_str(text: &str) -> Result<Category, Error> {
+        for category in Category::all() {
+            if category.has_name(text) {
+                return Ok(category);
+            }
+        }
+        Err(Error::new(ErrorKind::InvalidData, Reason::CategoryName))
+    }
+}

@@ -1,0 +1,13 @@
+//! The pool of texts that a package's tables name by number (`_StringPool` and `_StringData`).
+
+mod fields;
+mod places;
+mod pool;
+mod reading;
+mod reference;
+mod writing;
+
+pub use places::Place;
+pub use pool::StringPool;
+pub use reading::StringPoolBuilder;
+pub use reference::StringRef;

@@ -1,0 +1,217 @@
+//! Writing the pool's two streams.
+
+ghost use Rattle.std.specs.Prelude.{◌≡◌, ℕ, ◌+◌, ◌<◌, ◌^◌, ◌⊎◌, ◌↔◌, ◌++◌, List, IsTrue, false, length, OnOk, IfOk, IfErr, IsErrOf, Some, option_map, is_some, if◌then◌else◌};
+ghost use Rattle.std.specs.List.{flat_map};
+ghost use Rattle.std.specs.Io.KnownBytes.{Appends};
+ghost use Rattle.msi_text.specs.Pages.{bytes_in, page_id};
+ghost use Rattle.msi_text.specs.Pool.{place_bytes, plain_entry, pool_stream, data_stream};
+ghost use Rattle.msi_text.specs.PoolWriting.{is_untold, has_untold, is_refused, piece_of, entry_in};
+ghost use Rattle.msi_text.specs.declared.errors.ErrorKind.TheVariants.{InvalidInput, Io, OutOfMemory};
+
+use crate::codepage::CodePage;
+use crate::errors::{Error, ErrorKind, Reason};
+use crate::faults::fault;
+use crate::stringpool::places::Place;
+use crate::stringpool::pool::StringPool;
+use std::alloc::AllocError;
+use std::io::Write;
+
+/// The bit above the page's id that tells of long references.
+const LONG: u32 = 1 << 31;
+
+/// From how many bytes on a text has a long entry.
+const SHORT_END: u32 = 65536;
+
+/// From how many bytes on a text isn't written.
+const LONG_END: usize = 1 << 32;
+
+impl StringPool {
+    /// Writes the stream of the entries (`_StringPool`) in its plain spelling, behind what the writer holds.
+    ///
+    /// # Errors
+    /// `InvalidInput` where a text in use isn't carried by the page or has 2^32 encoded bytes or more; nothing is written
+    /// then. `OutOfMemory`; `Io` where the writer fails.
+    pub fn write_pool<W: Write>(&self, writer: &mut W) -> Result<(), Error>
+        ensures ok { OnOk result ((bytes : List ℕ) × (pool_stream self.now ≡ Some bytes)
+            × Appends (W.contents writer.old) (W.contents writer.new) bytes) }
+        ensures refused { IsErrOf result InvalidInput ↔ IsTrue (is_refused self.now) }
+        ensures unwritten { IsErrOf result InvalidInput → writer.new ≡ writer.old }
+        ensures kinds { IfErr result (λ kind. (kind ≡ InvalidInput) ⊎ (kind ≡ OutOfMemory) ⊎ (kind ≡ Io)) }
+    {
+        let bytes = pool_bytes(self)?;
+        put(writer, bytes.as_slice())
+    }
+
+    /// Writes the stream of the texts (`_StringData`), behind what the writer holds.
+    ///
+    /// # Errors
+    /// As `write_pool`.
+    pub fn write_data<W: Write>(&self, writer: &mut W) -> Result<(), Error>
+        ensures ok { OnOk result ((bytes : List ℕ) × (data_stream self.now ≡ Some bytes)
+            × Appends (W.contents writer.old) (W.contents writer.new) bytes) }
+        ensures refused { IsErrOf result InvalidInput ↔ IsTrue (is_refused self.now) }
+        ensures unwritten { IsErrOf result InvalidInput → writer.new ≡ writer.old }
+        ensures kinds { IfErr result (λ kind. (kind ≡ InvalidInput) ⊎ (kind ≡ OutOfMemory) ⊎ (kind ≡ Io)) }
+    {
+        let bytes = data_bytes(self)?;
+        put(writer, bytes.as_slice())
+    }
+}
+
+/// Gives all of the bytes to a writer.
+fn put<W: Write>(writer: &mut W, bytes: &[u8]) -> Result<(), Error>
+    ensures ok { OnOk result (Appends (W.contents writer.old) (W.contents writer.new) bytes.now) }
+    ensures kinds { IfErr result (λ kind. (kind ≡ OutOfMemory) ⊎ (kind ≡ Io)) }
+{
+    writer.write_all(bytes).map_err(fault)
+}
+
+/// The stream of the entries.
+fn pool_bytes(pool: &StringPool) -> Result<Vec<u8>, Error>
+    ensures ok { IfOk result (λ bytes. pool_stream pool.now ≡ Some bytes.items) }
+    ensures refused { IsErrOf result InvalidInput ↔ IsTrue (is_refused pool.now) }
+    ensures kinds { IfErr result (λ kind. (kind ≡ InvalidInput) ⊎ (kind ≡ OutOfMemory)) }
+{
+    let page = pool.codepage();
+    if let Some(reason) = refusal(page, pool.places()) {
+        return Err(Error::new(ErrorKind::InvalidInput, reason));
+    }
+    let mut held = Vec::new(pool.allocator());
+    held.extend_from_slice(&header(page, pool.long_string_refs()).to_le_bytes())?;
+    push_entries(&mut held, page, pool.places())?;
+    Ok(held)
+}
+
+/// The page's id, with the bit that tells of long references.
+fn header(page: CodePage, long: bool) -> u32
+    ensures { result ≡ page_id page + (if long then 2 ^ 31 else 0) }
+{
+    let id = page.id() as u32;
+    if long { id + LONG } else { id }
+}
+
+/// The stream of the texts.
+fn data_bytes(pool: &StringPool) -> Result<Vec<u8>, Error>
+    ensures ok { IfOk result (λ bytes. data_stream pool.now ≡ Some bytes.items) }
+    ensures refused { IsErrOf result InvalidInput ↔ IsTrue (is_refused pool.now) }
+    ensures kinds { IfErr result (λ kind. (kind ≡ InvalidInput) ⊎ (kind ≡ OutOfMemory)) }
+{
+    let page = pool.codepage();
+    if let Some(reason) = refusal(page, pool.places()) {
+        return Err(Error::new(ErrorKind::InvalidInput, reason));
+    }
+    let mut held = Vec::new(pool.allocator());
+    push_texts(&mut held, page, pool.places())?;
+    Ok(held)
+}
+
+/// Why one of the places can't be written.
+fn refusal(page: CodePage, places: &[Place]) -> Option<Reason>
+    ensures { is_some result ≡ has_untold page places.now }
+{
+    for place in places {
+        let reason = place_refusal(page, place);
+        if reason.is_some() {
+            return reason;
+        }
+    }
+    None
+}
+
+/// Why a place can't be written.
+fn place_refusal(page: CodePage, place: &Place) -> Option<Reason>
+    ensures { is_some result ≡ is_untold (place_bytes page place.now) }
+{
+    match place_len(page, place) {
+        None => Some(Reason::PageCharacter),
+        Some(len) => {
+            if len < LONG_END {
+                None
+            } else {
+                Some(Reason::TextLong)
+            }
+        }
+    }
+}
+
+/// How many bytes a place has in the data stream, where the page carries its text.
+fn place_len(page: CodePage, place: &Place) -> Option<usize>
+    ensures { result ≡ option_map length (place_bytes page place.now) }
+{
+    if place.count() == 0 {
+        return Some(0);
+    }
+    encoded_len(page, place.text())
+}
+
+/// How many bytes a text has in a page that carries it: as many as in UTF-8.
+fn encoded_len(page: CodePage, text: &str) -> Option<usize>
+    ensures { result ≡ option_map length (bytes_in page text.now) }
+{
+    if page.carries(text) {
+        Some(text.len())
+    } else {
+        None
+    }
+}
+
+/// Adds the entries of the places.
+fn push_entries(held: &mut Vec<u8>, page: CodePage, places: &[Place]) -> Result<(), AllocError>
+    requires { has_untold page places.now ≡ false }
+    ensures { OnOk result (held.new.items ≡ held.old.items ++ flat_map (entry_in page) places.now) }
+{
+    for place in places {
+        push_place(held, page, place)?;
+    }
+    Ok(())
+}
+
+/// Adds the entry of a place.
+fn push_place(held: &mut Vec<u8>, page: CodePage, place: &Place) -> Result<(), AllocError>
+    requires { is_untold (place_bytes page place.now) ≡ false }
+    ensures { OnOk result (held.new.items ≡ held.old.items ++ entry_in page place.now) }
+{
+    let len = place_len(page, place).unwrap_or(0);
+    push_entry(held, len as u32, place.count())
+}
+
+/// Adds an entry: a long one for a long text, and for an empty one in use.
+fn push_entry(held: &mut Vec<u8>, len: u32, count: u16) -> Result<(), AllocError>
+    requires { count ≡ 0 → len ≡ 0 }
+    ensures { OnOk result (held.new.items ≡ held.old.items ++ plain_entry (record { len = len; count = count })) }
+{
+    if count == 0 || (0 < len && len < SHORT_END) {
+        held.extend_from_slice(&(len as u16).to_le_bytes())?;
+        held.extend_from_slice(&count.to_le_bytes())?;
+        return Ok(());
+    }
+    held.extend_from_slice(&[0; 2])?;
+    held.extend_from_slice(&count.to_le_bytes())?;
+    held.extend_from_slice(&len.to_le_bytes())?;
+    Ok(())
+}
+
+/// Adds the bytes of the texts, one behind the other.
+fn push_texts(held: &mut Vec<u8>, page: CodePage, places: &[Place]) -> Result<(), Error>
+    requires { has_untold page places.now ≡ false }
+    ensures ok { OnOk result (held.new.items ≡ held.old.items ++ flat_map (piece_of page) places.now) }
+    ensures kind { IfErr result (λ kind. kind ≡ OutOfMemory) }
+{
+    for place in places {
+        push_text(held, page, place)?;
+    }
+    Ok(())
+}
+
+/// Adds the bytes of a place's text, and none of a free place.
+fn push_text(held: &mut Vec<u8>, page: CodePage, place: &Place) -> Result<(), Error>
+    requires { is_untold (place_bytes page place.now) ≡ false }
+    ensures ok { OnOk result (held.new.items ≡ held.old.items ++ piece_of page place.now) }
+    ensures kind { IfErr result (λ kind. kind ≡ OutOfMemory) }
+{
+    if place.count() > 0 {
+        let bytes = page.encode(*held.allocator(), place.text())?;
+        held.extend_from_slice(bytes.as_slice())?;
+    }
+    Ok(())
+}
