@@ -15,5 +15,3 @@ mod names;
 mod pool;
 #[cfg(test)]
 mod samples;
-#[cfg(test)]
-mod tables;
