@@ -1,17 +1,13 @@
-//! Tests that cross crates, over bytes in memory.
+//! Tests of compound files and names, over bytes in memory, and tests that cross crates.
 #![tactic(auto)]
 
 #[cfg(test)]
 mod container;
-#[cfg(test)]
-mod errors;
 #[cfg(test)]
 mod foreign;
 #[cfg(test)]
 mod layouts;
 #[cfg(test)]
 mod names;
-#[cfg(test)]
-mod pool;
 #[cfg(test)]
 mod samples;

@@ -9,5 +9,8 @@ pub mod ReadEntriesLemmas
 pub mod ReadTextsLemmas
 pub mod ReadStreamLemmas
 pub mod ReadFaultLemmas
+pub mod PageTablesLemmas
 pub mod PagesLemmas
 pub mod ReadLemmas
+pub mod LanguageRowsLemmas
+pub mod CategoryRulesLemmas

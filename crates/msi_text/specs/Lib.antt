@@ -1,7 +1,13 @@
 -- The words of this crate.
 pub mod Lists
+pub mod PageTables
 pub mod Pages
+pub mod Numerals
 pub mod Categories
+pub mod CategoryRules
+pub mod Times
+pub mod LanguageRows
+pub mod Languages
 pub mod Pool
 pub mod FirstFit
 pub mod FirstFitLaws
@@ -10,3 +16,4 @@ pub mod PoolLaws
 pub mod PoolReading
 pub mod References
 pub mod Faults
+pub mod Spellings

@@ -1,23 +1,34 @@
--- Code pages: which bytes and which characters stand for each other.
--- Utf8 is Table 3-7 of the Unicode Standard; each other page carries ASCII.
-use Rattle.std.specs.Prelude.{◌≡◌, ℕ, ℤ, pos, negsuc, Bool, List, [], ◌∷◌, Option, Some, None, option_and_then, encode_utf8_all, codes, nat_lt, ◌==◌, if◌then◌else◌, find}
+-- Code pages: which bytes and which texts stand for each other.
+-- Utf8 is Table 3-7 of the Unicode Standard; the others have one byte for a character.
+use Rattle.std.specs.Prelude.{◌≡◌, ℕ, ℤ, pos, negsuc, Bool, true, List, [], ◌∷◌, map, Option, Some, None, is_some, option_and_then, IsUtf8, chars, encode_utf8_all, codes, nat_lt, ◌==◌, if◌then◌else◌, find}
 use Rattle.std.specs.List.{list_all}
 use Rattle.bstr.specs.Utf8.{lossy_chars}
 use Rattle.msi_text.specs.declared.codepage.CodePage.{CodePage}
 use Rattle.msi_text.specs.declared.codepage.CodePage.TheVariants as page
+use Rattle.msi_text.specs.PageTables.{upper_characters, character_of, byte_of, character_read, byte_written}
 
 abbrev pub is_ascii : List ℕ → Bool
 is_ascii bytes = list_all (λ b. nat_lt b 0x80) bytes
 
--- a text is its bytes in UTF-8, as a `String` is. What bytes read as: U+FFFD for each maximal part that spells no character
+-- a text is its bytes in UTF-8, as a `String` is. What bytes read as where these characters stand from byte 0x80 on; in a page
+-- without a table ASCII alone
+abbrev pub single_byte_text : Option (List ℕ) → List ℕ → Option (List ℕ)
+single_byte_text (Some upper) bytes = Some (encode_utf8_all (map (character_read upper) bytes))
+single_byte_text None bytes = if is_ascii bytes then Some bytes else None
+
+-- in UTF-8 there is U+FFFD for each maximal part that spells no character
 abbrev pub text_in : CodePage → List ℕ → Option (List ℕ)
 text_in page.Utf8 bytes = Some (encode_utf8_all (lossy_chars bytes))
-text_in page bytes = if is_ascii bytes then Some bytes else None
+text_in page bytes = single_byte_text (upper_characters page) bytes
 
 -- how a text is spelled
+abbrev pub single_byte_spelling : Option (List ℕ) → List ℕ → Option (List ℕ)
+single_byte_spelling (Some upper) text = Some (map (byte_written upper) (chars text))
+single_byte_spelling None text = if is_ascii text then Some text else None
+
 abbrev pub bytes_in : CodePage → List ℕ → Option (List ℕ)
 bytes_in page.Utf8 text = Some text
-bytes_in page text = if is_ascii text then Some text else None
+bytes_in page text = single_byte_spelling (upper_characters page) text
 
 -- the bytes read as the text; the text is spelled by the bytes
 abbrev pub Reads : CodePage → List ℕ → List ℕ → Type 0
@@ -29,6 +40,16 @@ Writes page text bytes = bytes_in page text ≡ Some bytes
 -- what is written of the text reads as the text
 abbrev pub IsWritable : CodePage → List ℕ → Type 0
 IsWritable page text = option_and_then (text_in page) (bytes_in page text) ≡ Some text
+
+-- a text whose characters all have a place in the page's table is written so that it reads back
+abbrev pub PageTextsComeBack : Type 0
+PageTextsComeBack = (page : CodePage) (upper text : List ℕ) → upper_characters page ≡ Some upper → IsUtf8 text
+    → list_all (λ c. is_some (byte_of upper c)) (chars text) ≡ true → IsWritable page text
+
+-- bytes that all stand for characters spell the text that they read as
+abbrev pub PageBytesComeBack : Type 0
+PageBytesComeBack = (page : CodePage) (upper bytes text : List ℕ) → upper_characters page ≡ Some upper
+    → list_all (λ b. is_some (character_of upper b)) bytes ≡ true → Reads page bytes text → Writes page text bytes
 
 -- the ids (MSI SDK, "Code Page Handling")
 abbrev pub page_id : CodePage → ℕ

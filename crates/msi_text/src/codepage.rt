@@ -1,15 +1,20 @@
 //! Code pages.
 
-ghost use Rattle.std.specs.Prelude.{◌≡◌, ◌==◌, ◌<◌, ◌^◌, pos, true, false, if◌then◌else◌, is_some, MatchOption, IfOk, IfErr, string_bytes};
-ghost use Rattle.msi_text.specs.Pages.{Reads, Writes, all_pages, bytes_in, is_ascii, page_id, page_name, page_with_id, page_with_signed_id, text_in};
+ghost use Rattle.std.specs.Prelude.{◌≡◌, ◌==◌, ◌<◌, ◌≤◌, ◌^◌, pos, true, false, if◌then◌else◌, is_some, length, option_map, MatchOption, IfOk, IfErr, IfSome, string_bytes};
+ghost use Rattle.std.specs.Option.{option_copied};
+ghost use Rattle.msi_text.specs.Pages.{Reads, Writes, all_pages, bytes_in, is_ascii, page_id, page_name, page_with_id, page_with_signed_id, single_byte_spelling, single_byte_text, text_in};
 ghost use Rattle.msi_text.specs.declared.errors.ErrorKind.TheVariants.{InvalidData, InvalidInput, OutOfMemory};
 
+mod tables;
+
+use crate::codepage::tables::{bytes_written, character_count, text_read, upper_characters};
 use crate::errors::{Error, ErrorKind, Reason};
 use bstr::ByteSlice;
 use std::alloc::Global;
 use std::str;
 
-/// A table of bytes and characters. UTF-8 carries every character, and each other page ASCII alone.
+/// A table of bytes and characters. UTF-8 carries every character. US-ASCII, Windows-1252, ISO 8859-1 (which reads as
+/// Windows-1252) and Mac OS Roman have one byte for a character, and each other page carries ASCII alone.
 #[derive(Clone, Copy, Default, PartialEq, Eq, Hash, Debug)]
 pub enum CodePage {
     /// Japanese, Shift JIS (932).
@@ -212,45 +217,85 @@ impl CodePage {
         }
     }
 
-    /// What bytes read as. In UTF-8 any bytes are a text, with U+FFFD for each maximal part that spells no character.
+    /// What bytes read as. In UTF-8 any bytes are a text, with U+FFFD for each maximal part that spells no character. In
+    /// Windows-1252 (also for ISO 8859-1) and Mac OS Roman each byte stands for a character, and in US-ASCII a byte past ASCII
+    /// reads as U+FFFD. No byte order mark is looked for.
     ///
     /// # Errors
-    /// `InvalidData` for a byte past ASCII in another page than UTF-8, and `OutOfMemory`.
+    /// `InvalidData` for a byte past ASCII in another page, and `OutOfMemory`.
     pub fn decode(self, alloc: Global, bytes: &[u8]) -> Result<String, Error>
         ensures ok { IfOk result (λ text. Reads self bytes.now (string_bytes text)) }
         ensures kind { IfErr result (λ kind. kind ≡ (if is_some (text_in self bytes.now) then OutOfMemory else InvalidData)) }
     {
         match self {
             CodePage::Utf8 => Ok(bytes.to_str_lossy(alloc)?.into_owned(alloc)?),
-            _ => match ascii_text(bytes) {
-                Some(text) => Ok(String::from_str(alloc, text)?),
-                None => Err(Error::new(ErrorKind::InvalidData, Reason::PageByte)),
-            },
+            _ => single_byte_text(alloc, upper_characters(self), bytes),
         }
     }
 
-    /// How a text is spelled.
+    /// How a text is spelled. In Windows-1252 (also for ISO 8859-1), Mac OS Roman and US-ASCII `?` stands for a character that
+    /// the page lacks.
     ///
     /// # Errors
-    /// `InvalidInput` for a character past ASCII in another page than UTF-8, and `OutOfMemory`.
+    /// `InvalidInput` for a character past ASCII in another page than these and UTF-8, and `OutOfMemory`.
     pub fn encode(self, alloc: Global, text: &str) -> Result<Vec<u8>, Error>
         ensures ok { IfOk result (λ bytes. Writes self text.now bytes.items) }
         ensures kind { IfErr result (λ kind. kind ≡ (if is_some (bytes_in self text.now) then OutOfMemory else InvalidInput)) }
     {
-        if !self.carries(text) {
-            return Err(Error::new(ErrorKind::InvalidInput, Reason::PageCharacter));
+        match self {
+            CodePage::Utf8 => Ok(Vec::from_slice(alloc, text.as_bytes())?),
+            _ => single_byte_spelling(alloc, upper_characters(self), text),
         }
-        Ok(Vec::from_slice(alloc, text.as_bytes())?)
     }
 
-    /// Whether the page has each character of a text.
+    /// Whether a text can be spelled in the page, with `?` for what a page with a table lacks.
     pub fn carries(self, text: &str) -> bool
         ensures { result ≡ is_some (bytes_in self text.now) }
     {
         match self {
             CodePage::Utf8 => true,
-            _ => is_ascii(text.as_bytes()),
+            _ => upper_characters(self).is_some() || is_ascii(text.as_bytes()),
         }
+    }
+
+    /// How many bytes spell a text, where it can be spelled in the page. It takes no memory.
+    pub(crate) fn encoded_len(self, text: &str) -> Option<usize>
+        ensures { result ≡ option_map length (bytes_in self text.now) }
+    {
+        match upper_characters(self) {
+            Some(_) => Some(character_count(text)),
+            None if self.carries(text) => Some(text.len()),
+            None => None,
+        }
+    }
+}
+
+/// What bytes read as where these characters stand from byte 0x80 on, or in a page without a table. ASCII reads as itself.
+fn single_byte_text(alloc: Global, upper: Option<&[char]>, bytes: &[u8]) -> Result<String, Error>
+    ensures ok { IfOk result (λ text. single_byte_text (option_copied upper.entry) bytes.now ≡ Some (string_bytes text)) }
+    ensures kind { IfErr result (λ kind. kind ≡ (if is_some (single_byte_text (option_copied upper.entry) bytes.now) then OutOfMemory else InvalidData)) }
+{
+    if let Some(text) = ascii_text(bytes) {
+        return Ok(String::from_str(alloc, text)?);
+    }
+    match upper {
+        Some(upper) => Ok(text_read(alloc, upper, bytes)?),
+        None => Err(Error::new(ErrorKind::InvalidData, Reason::PageByte)),
+    }
+}
+
+/// How a text is spelled where these characters stand from byte 0x80 on, or in a page without a table. ASCII spells itself.
+fn single_byte_spelling(alloc: Global, upper: Option<&[char]>, text: &str) -> Result<Vec<u8>, Error>
+    requires { IfSome upper (λ characters. length characters.now ≤ 128) }
+    ensures ok { IfOk result (λ bytes. single_byte_spelling (option_copied upper.entry) text.now ≡ Some bytes.items) }
+    ensures kind { IfErr result (λ kind. kind ≡ (if is_some (single_byte_spelling (option_copied upper.entry) text.now) then OutOfMemory else InvalidInput)) }
+{
+    if is_ascii(text.as_bytes()) {
+        return Ok(Vec::from_slice(alloc, text.as_bytes())?);
+    }
+    match upper {
+        Some(upper) => Ok(bytes_written(alloc, upper, text)?),
+        None => Err(Error::new(ErrorKind::InvalidInput, Reason::PageCharacter)),
     }
 }
 

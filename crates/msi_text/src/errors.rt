@@ -80,6 +80,18 @@ pub enum Reason {
     CategoryName,
     RowsMany,
     TypeBits,
+    MomentCut,
+    PropertyCut,
+    PropertyMark,
+    PropertyVersion,
+    PropertySystem,
+    PropertySections,
+    PropertyType,
+    PropertyText,
+    PropertyPage,
+    PropertyTwice,
+    SectionLong,
+    SummaryFormat,
 }
 
 impl fmt::Display for Reason {
@@ -124,6 +136,18 @@ impl fmt::Display for Reason {
             Reason::CategoryName => "the text names no category",
             Reason::RowsMany => "a table has too many rows",
             Reason::TypeBits => "the bits name no type of a column",
+            Reason::MomentCut => "a moment in time is cut",
+            Reason::PropertyCut => "a property set ends in the middle of a field",
+            Reason::PropertyMark => "the mark in front of a property set is wrong",
+            Reason::PropertyVersion => "the version of a property set is neither 0 nor 1",
+            Reason::PropertySystem => "the system of a property set is not known",
+            Reason::PropertySections => "the number behind a property set's class is 0",
+            Reason::PropertyType => "the type of a property is not known in its version",
+            Reason::PropertyText => "the text of a property does not end in a null",
+            Reason::PropertyPage => "the property of the code page names none that is known",
+            Reason::PropertyTwice => "a property is listed twice",
+            Reason::SectionLong => "the section of a property set is too long to be written",
+            Reason::SummaryFormat => "the property set is not a summary",
         })
     }
 }

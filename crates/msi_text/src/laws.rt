@@ -2,19 +2,57 @@
 
 ghost use Rattle.msi_text.specs.Categories.{CategoryNamesComeBack};
 ghost use Rattle.msi_text.specs.FirstFitLaws.{TakenPlacesHoldTheirText, GivenBackTakesOne};
-ghost use Rattle.msi_text.specs.Pages.{PageIdsTellPages};
+ghost use Rattle.msi_text.specs.Languages.{LanguageIdsTellTags, LanguagePartsComeBack, LanguageRowsAscend, LanguageTagsTellIds};
+ghost use Rattle.msi_text.specs.PageTables.{PageTablesAgree};
+ghost use Rattle.msi_text.specs.Pages.{PageBytesComeBack, PageIdsTellPages, PageTextsComeBack};
 ghost use Rattle.msi_text.specs.PoolLaws.{PoolsReadBack};
 ghost use Rattle.msi_text.specs.PoolReading.{OnePool, IsPoolInSteps};
 ghost use Rattle.msi_text.specs.References.{ReferencesComeBack};
+ghost use Rattle.msi_text.specs.Times.{MomentsComeBackFromUnix, StoredMomentsComeBack};
 
 /// The id of a code page is read as that page.
 pub fn page_ids_tell_pages()
     ensures { PageIdsTellPages }
 {}
 
+/// In a page with a table a byte stands for a character exactly where that character is written as the byte.
+pub fn page_tables_agree()
+    ensures { PageTablesAgree }
+{}
+
+/// A text whose characters all have a place in its page's table is read as it was written.
+pub fn page_texts_come_back()
+    ensures { PageTextsComeBack }
+{}
+
+/// Bytes that all stand for characters are written for the text that they read as.
+pub fn page_bytes_come_back()
+    ensures { PageBytesComeBack }
+{}
+
 /// The name of a category is read as that category.
 pub fn category_names_come_back()
     ensures { CategoryNamesComeBack }
+{}
+
+/// The primary language and the sub-language of an id make the id again.
+pub fn language_parts_come_back()
+    ensures { LanguagePartsComeBack }
+{}
+
+/// The rows of languages ascend by id, so an id has one row at most.
+pub fn language_rows_ascend()
+    ensures { LanguageRowsAscend }
+{}
+
+/// The id of a row tells the row's tag.
+pub fn language_ids_tell_tags()
+    ensures { LanguageIdsTellTags }
+{}
+
+/// The tag of a row tells the row's id, so a tag has one row at most.
+pub fn language_tags_tell_ids()
+    ensures { LanguageTagsTellIds }
 {}
 
 /// What is written of a reference has the width of one, and is read as that reference.
@@ -46,4 +84,14 @@ pub fn pool_in_steps()
 /// What was written of a pool is read as the pool.
 pub fn pools_read_back()
     ensures { PoolsReadBack }
+{}
+
+/// A moment comes back from its seconds and nanoseconds since 1970.
+pub fn moments_come_back_from_unix()
+    ensures { MomentsComeBackFromUnix }
+{}
+
+/// A moment that is stored has eight bytes, which are read as it.
+pub fn stored_moments_come_back()
+    ensures { StoredMomentsComeBack }
 {}

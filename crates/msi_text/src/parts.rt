@@ -1,8 +1,11 @@
 //! What the crates above need beyond the surface.
 
-ghost use Rattle.std.specs.Prelude.{◌≡◌, ◌≤◌};
+ghost use Rattle.std.specs.Prelude.{◌≡◌, ◌≤◌, length, option_map};
+ghost use Rattle.msi_text.specs.Pages.{bytes_in};
 
+use crate::codepage::CodePage;
 pub use crate::faults::{fault, read_exactly};
+pub use crate::spellings::{braced_uuid, language_list, language_text};
 use crate::stringpool::StringRef;
 
 /// The place of a number.
@@ -19,4 +22,11 @@ pub fn place_number(reference: StringRef) -> u32
     ensures { result ≡ reference }
 {
     reference.to_number()
+}
+
+/// How many bytes spell a text, where it can be spelled in the page. It takes no memory.
+pub fn encoded_len(page: CodePage, text: &str) -> Option<usize>
+    ensures { result ≡ option_map length (bytes_in page text.now) }
+{
+    page.encoded_len(text)
 }

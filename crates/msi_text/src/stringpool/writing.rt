@@ -3,7 +3,7 @@
 ghost use Rattle.std.specs.Prelude.{◌≡◌, ℕ, ◌+◌, ◌<◌, ◌^◌, ◌⊎◌, ◌↔◌, ◌++◌, List, IsTrue, false, length, OnOk, IfOk, IfErr, IsErrOf, Some, option_map, is_some, if◌then◌else◌};
 ghost use Rattle.std.specs.List.{flat_map};
 ghost use Rattle.std.specs.Io.KnownBytes.{Appends};
-ghost use Rattle.msi_text.specs.Pages.{bytes_in, page_id};
+ghost use Rattle.msi_text.specs.Pages.{page_id};
 ghost use Rattle.msi_text.specs.Pool.{place_bytes, plain_entry, pool_stream, data_stream};
 ghost use Rattle.msi_text.specs.PoolWriting.{is_untold, has_untold, is_refused, piece_of, entry_in};
 ghost use Rattle.msi_text.specs.declared.errors.ErrorKind.TheVariants.{InvalidInput, Io, OutOfMemory};
@@ -141,18 +141,7 @@ fn place_len(page: CodePage, place: &Place) -> Option<usize>
     if place.count() == 0 {
         return Some(0);
     }
-    encoded_len(page, place.text())
-}
-
-/// How many bytes a text has in a page that carries it: as many as in UTF-8.
-fn encoded_len(page: CodePage, text: &str) -> Option<usize>
-    ensures { result ≡ option_map length (bytes_in page text.now) }
-{
-    if page.carries(text) {
-        Some(text.len())
-    } else {
-        None
-    }
+    page.encoded_len(place.text())
 }
 
 /// Adds the entries of the places.

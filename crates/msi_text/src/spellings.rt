@@ -1,0 +1,53 @@
+//! Languages and UUIDs as texts.
+
+ghost use Rattle.std.specs.Prelude.{◌≡◌, IfOk, IfErr};
+ghost use Rattle.std.specs.Fmt.{decimal};
+ghost use Rattle.msi_text.specs.Spellings.{language_list_text, braced_uuid_text};
+ghost use Rattle.msi_text.specs.declared.errors.ErrorKind.TheVariants.{OutOfMemory};
+
+use crate::errors::Error;
+use crate::language::LanguageId;
+use crate::text::Text;
+use std::alloc::Global;
+use uuid::Uuid;
+
+/// The id of a language in decimal.
+///
+/// # Errors
+/// `OutOfMemory`.
+pub fn language_text(alloc: Global, language: LanguageId) -> Result<Text, Error>
+    ensures ok { IfOk result (λ text. text ≡ decimal language) }
+    ensures kind { IfErr result (λ kind. kind ≡ OutOfMemory) }
+{
+    Ok(Text::from_string(language.id().to_string(alloc)?))
+}
+
+/// The ids of languages in decimal, parted by commas.
+///
+/// # Errors
+/// `OutOfMemory`.
+pub fn language_list(alloc: Global, languages: &[LanguageId]) -> Result<Text, Error>
+    ensures ok { IfOk result (λ text. text ≡ language_list_text languages.now) }
+    ensures kind { IfErr result (λ kind. kind ≡ OutOfMemory) }
+{
+    let mut text = String::new(alloc);
+    if let Some((first, rest)) = languages.split_first() {
+        write!(text, "{}", first.id())?;
+        for language in rest {
+            write!(text, ",{}", language.id())?;
+        }
+    }
+    Ok(Text::from_string(text))
+}
+
+/// A UUID in braces and upper case.
+///
+/// # Errors
+/// `OutOfMemory`.
+pub fn braced_uuid(alloc: Global, uuid: Uuid) -> Result<Text, Error>
+    ensures ok { IfOk result (λ text. text ≡ braced_uuid_text uuid) }
+    ensures kind { IfErr result (λ kind. kind ≡ OutOfMemory) }
+{
+    let mut buffer = Uuid::encode_buffer();
+    Ok(Text::from_string(String::from_str(alloc, uuid.braced().encode_upper(&mut buffer))?))
+}

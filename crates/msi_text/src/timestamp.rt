@@ -1,0 +1,112 @@
+//! Moments.
+
+ghost use Rattle.std.specs.Prelude.{◌≡◌, ◌⊎◌, ◌<◌, pos, ◌+ℤ◌, ◌*ℤ◌, int_div, length, IfSome, IfOk, IfErr, OnOk};
+ghost use Rattle.std.specs.Int.{w64, saturate_unsigned};
+ghost use Rattle.std.specs.Io.KnownBytes.{Appends};
+ghost use Rattle.msi_text.specs.Times.{epoch, ticks_of_unix, unix_of_ticks, stored_moment, ReadsMoment};
+ghost use Rattle.msi_text.specs.declared.errors.ErrorKind.TheVariants.{InvalidData, Io, OutOfMemory};
+
+use crate::errors::{Error, Reason};
+use crate::faults::{fault, read_exactly};
+use std::io::{Read, Write};
+use std::marker::Model;
+
+/// The ticks from the start of 1601 to that of 1970, the Unix epoch.
+const UNIX_EPOCH: i128 = 116_444_736_000_000_000;
+
+/// A moment: a count of ticks, 100 ns each, since the start of 1601 (MS-DTYP 2.3.3, FILETIME). A contract sees the count.
+#[derive(Clone, Copy, PartialEq, Eq, PartialOrd, Ord, Hash, Debug, Drop)]
+pub struct Timestamp {
+    ticks: u64,
+}
+
+impl Model for Timestamp {
+    ghost use Rattle.std.specs.Prelude.{ℕ};
+
+    ghost Value = { ℕ };
+
+    ghost view = { λ t. t.ticks };
+
+    ghost inverse = { λ n. record { ticks = n } };
+}
+
+impl Timestamp {
+    /// The moment of so many ticks.
+    pub fn from_ticks(ticks: u64) -> Timestamp
+        ensures { result ≡ ticks }
+    {
+        Timestamp { ticks }
+    }
+
+    /// The ticks: 100 ns each, since the start of 1601.
+    pub fn ticks(self) -> u64
+        ensures { result ≡ self }
+    {
+        self.ticks
+    }
+
+    /// The moment that lies so many seconds, and so many nanoseconds more, after the start of 1970 (the Unix epoch). What
+    /// makes no whole tick is cut towards that epoch. A moment before 1601 is tick 0, and one past the last tick is the last.
+    pub fn from_unix(secs: i64, nanos: u32) -> Timestamp
+        requires { nanos < 1000000000 }
+        ensures { result ≡ ticks_of_unix secs nanos }
+    {
+        let ticks = unbounded_ticks(secs, nanos);
+        Timestamp {
+            ticks: saturated(ticks),
+        }
+    }
+
+    /// The whole seconds since the start of 1970 (the Unix epoch), rounded down and so below zero before it, and the
+    /// nanoseconds above them, below 1000000000.
+    pub fn to_unix(self) -> (i64, u32)
+        ensures { result ≡ unix_of_ticks self }
+    {
+        let after = self.ticks as i128 - UNIX_EPOCH;
+        let secs = after.div_euclid(10_000_000);
+        let ticks = after.rem_euclid(10_000_000);
+        (secs as i64, ticks as u32 * 100)
+    }
+
+    /// Reads a moment: its ticks in 8 bytes, the lowest first (MS-DTYP 2.3.3).
+    ///
+    /// # Errors
+    /// `InvalidData` where the bytes end early: where the reader's bytes are known, only there. The reader's faults are
+    /// `OutOfMemory` or `Io`. No clause says that an early end is `InvalidData`, since none can tell it from a fault.
+    pub fn read_from<R: Read>(reader: &mut R) -> Result<Timestamp, Error>
+        ensures ok { IfOk result (λ moment. ReadsMoment (R.remaining reader.old) (R.remaining reader.new) moment) }
+        ensures cut { IfErr result (λ kind. kind ≡ InvalidData → IfSome (R.remaining reader.old) (λ left. length left < 8)) }
+        ensures kind { IfErr result (λ kind. (kind ≡ InvalidData) ⊎ ((kind ≡ Io) ⊎ (kind ≡ OutOfMemory))) }
+    {
+        let mut bytes = [0; 8];
+        read_exactly(reader, &mut bytes, Reason::MomentCut)?;
+        Ok(Timestamp {
+            ticks: u64::from_le_bytes(bytes),
+        })
+    }
+
+    /// Writes the moment: its ticks in 8 bytes, the lowest first (MS-DTYP 2.3.3).
+    ///
+    /// # Errors
+    /// The writer's faults are `OutOfMemory` or `Io`; some of the bytes may then be written.
+    pub fn write_to<W: Write>(self, writer: &mut W) -> Result<(), Error>
+        ensures ok { OnOk result (Appends (W.contents writer.old) (W.contents writer.new) (stored_moment self)) }
+        ensures kind { IfErr result (λ kind. (kind ≡ Io) ⊎ (kind ≡ OutOfMemory)) }
+    {
+        writer.write_all(&self.ticks.to_le_bytes()).map_err(fault)
+    }
+}
+
+/// The ticks from the start of 1601 to a moment, which may lie before it or past the last tick.
+fn unbounded_ticks(secs: i64, nanos: u32) -> i128
+    ensures { result ≡ pos epoch +ℤ int_div (secs *ℤ pos 1000000000 +ℤ pos nanos) (pos 100) }
+{
+    UNIX_EPOCH + (secs as i128 * 1_000_000_000 + nanos as i128) / 100
+}
+
+/// The nearest count of ticks that a moment can have.
+fn saturated(ticks: i128) -> u64
+    ensures { result ≡ saturate_unsigned w64 ticks }
+{
+    ticks.clamp(0, u64::MAX as i128) as u64
+}

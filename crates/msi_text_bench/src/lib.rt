@@ -1,0 +1,15 @@
+//! Tests of the crate `msi_text`.
+#![tactic(auto)]
+
+#[cfg(test)]
+mod categories;
+#[cfg(test)]
+mod errors;
+#[cfg(test)]
+mod languages;
+#[cfg(test)]
+mod pages;
+#[cfg(test)]
+mod pool;
+#[cfg(test)]
+mod times;
