@@ -8,3 +8,4 @@ pub mod SortedFitsLemmas
 pub mod ColumnLemmas
 pub mod TypeBitsLemmas
 pub mod WorkedRows
+pub mod ValidValuesLemmas

@@ -1,6 +1,7 @@
 -- The words of this crate.
 pub mod Values
 pub mod Columns
+pub mod ValidValues
 pub mod Cells
 pub mod CellValues
 pub mod StoredOrder

@@ -1,8 +1,9 @@
 -- Values: their order, truth and text.
-use Rattle.std.specs.Prelude.{◌≡◌, ℕ, ℤ, Bool, true, false, List, ◌++◌, Option, Some, None}
+use Rattle.std.specs.Prelude.{◌≡◌, ℕ, ℤ, pos, Bool, true, false, not, List, length, ◌++◌, Option, Some, None, codes, nat_lt}
 use Rattle.std.specs.Ordering.{int_cmp, is_eq}
 use Rattle.std.specs.declared.cmp.Ordering.{Ordering}
 use Rattle.std.specs.declared.cmp.Ordering.TheVariants.{Less, Equal, Greater}
+use Rattle.std.specs.Fmt.{signed_decimal, debug_str}
 use Rattle.std.specs.Hash as fed
 use Rattle.std.specs.Cmp.{IsTotalOrder}
 use Rattle.msi_text.specs.Lists.{list_cmp}
@@ -42,6 +43,20 @@ int_of _ = None
 abbrev pub text_of : Value → Option (List ℕ)
 text_of (Str s) = Some s
 text_of _ = None
+
+-- Null, 0 and the empty text count as false
+abbrev pub is_true : Value → Bool
+is_true Null = false
+is_true (Int n) = not (is_eq (int_cmp n (pos 0)))
+is_true (Str s) = nat_lt 0 (length s)
+is_true Binary = true
+
+-- as it prints, where its text is ASCII
+abbrev pub value_text : Value → Option (List ℕ)
+value_text Null = Some (codes "NULL")
+value_text (Int n) = Some (signed_decimal n)
+value_text (Str s) = debug_str s
+value_text Binary = Some (codes "BINARY_STREAM")
 
 -- what a hash is fed: which of the four, and what it holds
 abbrev pub value_hash_input : Value → fed.HashWrites

@@ -3,13 +3,17 @@
 
 mod cells;
 pub mod column;
+mod conversions;
+mod fitting;
 pub mod laws;
 mod order;
 pub mod parts;
+mod printing;
 pub mod row;
 mod rows;
 pub mod table;
 mod texts;
+mod valid_values;
 pub mod value;
 mod writing;
 

@@ -1,6 +1,6 @@
 //! What the crates above need beyond the surface.
 
-ghost use Rattle.std.specs.Prelude.{◌≡◌, ◌<◌, ◌≤◌, ◌↔◌, IfOk, IfErr, IsErr, Some, None, is_some, if◌then◌else◌, length};
+ghost use Rattle.std.specs.Prelude.{◌≡◌, ◌<◌, ◌≤◌, ◌↔◌, IfOk, IfErr, IsErr, IsTrue, Some, None, is_some, if◌then◌else◌, length};
 ghost use Rattle.msi_text.specs.declared.errors.ErrorKind.TheVariants.{InvalidData, OutOfMemory};
 ghost use Rattle.msi_table.specs.Cells.{rows_in, table_bytes};
 ghost use Rattle.msi_table.specs.ReadBack.{FitsTable};
@@ -12,7 +12,7 @@ use crate::column::{Column, ColumnBuilder, ColumnType};
 use crate::row::{Row, Rows};
 use crate::table::Table;
 use crate::value::{Value, ValueRef};
-use crate::{rows as reading, writing};
+use crate::{fitting, rows as reading, writing};
 use msi_text::errors::{Error, ErrorKind, Reason};
 use msi_text::stringpool::StringPool;
 use msi_text::text::Items;
@@ -115,6 +115,13 @@ pub fn read_rows(alloc: Global, table: &Table, bytes: &[u8]) -> Result<Vec<Items
     ensures kind { IfErr result (λ kind. kind ≡ (if is_some (rows_in table.now.long (types_of table.now.columns) bytes.now) then OutOfMemory else InvalidData)) }
 {
     reading::read_rows(alloc, table.is_long(), table.columns(), bytes)
+}
+
+/// Whether a table can store rows: it has a column, they are at most 65536, and each has a cell for each column, which the column can store.
+pub fn fits_table(table: &Table, rows: &[Items<ValueRef>]) -> bool
+    ensures { IsTrue result ↔ FitsTable table.now.long (types_of table.now.columns) rows.now }
+{
+    fitting::fits_table(table.is_long(), table.columns(), rows)
 }
 
 /// The bytes of a table's rows in their stored order, which read back.

@@ -1,0 +1,13 @@
+//! Tests of the crate `msi_table`.
+#![tactic(auto)]
+
+#[cfg(test)]
+mod columns;
+#[cfg(test)]
+mod rows;
+#[cfg(test)]
+mod tables;
+#[cfg(test)]
+mod valid_values;
+#[cfg(test)]
+mod values;
