@@ -1,0 +1,8 @@
+use Rattle.msi_summary.proofs.PlainSectionLemmas.{stream_written}
+use Rattle.msi_summary.proofs.writing.plain_bytes.Goals as goal
+
+pub returns-clause-ok : goal.returns-clause-ok
+returns-clause-ok c =
+    stream_written c.args.set.now c.args.page c.values-values.result.now.entries c.args.size c.new-held.result.items c.push_header.new.held.items c.push_section_head.new.held.items c.push_values.new.held.items
+    c.requires.page c.values-values.ensures.values c.requires.told c.requires.size c.new-held.ensures.items
+    c.in_ok-push_header.ensures c.in_ok-push_section_head.ensures c.in_ok-push_values.ensures.ok

@@ -1,0 +1,242 @@
+//! Property sets (MS-OLEPS 2.20 and 2.21) as values: the properties by their ids, of which 1 names the code page.
+
+ghost use Rattle.std.specs.Prelude.{◌≡◌, IfErr, OnOk, OnErr, true, false, if◌then◌else◌};
+ghost use Rattle.std.specs.Option.{option_copied};
+ghost use Rattle.msi_text.specs.declared.errors.ErrorKind.TheVariants.{InvalidInput, OutOfMemory};
+ghost use Rattle.msi_summary.specs.Properties.{NamesPage, can_set, new_set, page_in, page_of, page_value, value_at, with_page, with_value, without_value};
+
+use msi_text::codepage::CodePage;
+use msi_text::errors::{Error, ErrorKind, Reason};
+use msi_text::text::Text;
+use msi_text::timestamp::Timestamp;
+use std::alloc::Global;
+use std::collections::BTreeMap;
+use std::marker::Model;
+
+/// The id of the property that names the page.
+const PAGE: u32 = 1;
+
+/// The value of a property, of one of the seven types that installers use (MS-OLEPS 2.15).
+#[derive(PartialEq, Eq, Debug, Drop)]
+pub enum PropertyValue {
+    /// Nothing (type 0, VT_EMPTY).
+    Empty,
+    /// The null value (type 1, VT_NULL).
+    Null,
+    /// A number of one byte (type 16, VT_I1).
+    I1(i8),
+    /// A number of two bytes (type 2, VT_I2).
+    I2(i16),
+    /// A number of four bytes (type 3, VT_I4).
+    I4(i32),
+    /// A text (type 30, VT_LPSTR).
+    LpStr(Text),
+    /// A moment (type 64, VT_FILETIME).
+    FileTime(Timestamp),
+}
+
+/// The system that a set was made on (MS-OLEPS 2.21, the high half of the system identifier).
+#[derive(Clone, Copy, PartialEq, Eq, Debug)]
+pub enum OperatingSystem {
+    /// 16-bit Windows (0).
+    Win16,
+    /// Mac OS (1).
+    Macintosh,
+    /// 32-bit Windows (2).
+    Win32,
+}
+
+/// A set of properties. Contracts see its header, and its values by their ids; the page follows from property 1,
+/// which is always an `I2` of a known page where it is there.
+#[derive(Drop)]
+pub struct PropertySet {
+    alloc: Global,
+    os: OperatingSystem,
+    os_version: u16,
+    clsid: [u8; 16],
+    format_identifier: [u8; 16],
+    values: BTreeMap<u32, PropertyValue>,
+}
+
+impl Model for PropertySet {
+    ghost use Rattle.msi_summary.specs.Properties.{Properties, NamesPage};
+
+    ghost Value = { Properties };
+
+    ghost view = { λ s. record { os = s.os; os_version = s.os_version; clsid = s.clsid; format_identifier = s.format_identifier; values = s.values.entries } };
+
+    ghost invariant = { λ s. NamesPage s.values.entries };
+}
+
+/// The page that a value of property 1 names, read without sign.
+pub(crate) fn page_named(value: &PropertyValue) -> Option<CodePage>
+    ensures { result ≡ page_in (Some value.now) }
+{
+    match value {
+        PropertyValue::I2(id) => CodePage::from_id(i32::from(id.cast_unsigned())),
+        _ => None,
+    }
+}
+
+/// The value of property 1 that names a page.
+fn page_value(page: CodePage) -> PropertyValue
+    ensures { result ≡ page_value page }
+{
+    let id = page.id() as u16;
+    PropertyValue::I2(id.cast_signed())
+}
+
+/// Whether a property may have this value.
+fn can_set(name: u32, value: &PropertyValue) -> bool
+    ensures { result ≡ can_set name value.now }
+{
+    name != PAGE || page_named(value).is_some()
+}
+
+impl PropertySet {
+    /// An empty set of a format, with a class identifier of zeros. Its page is UTF-8, as no property says another.
+    pub fn new(
+        alloc: Global,
+        os: OperatingSystem,
+        os_version: u16,
+        format_identifier: [u8; 16],
+    ) -> PropertySet
+        ensures { result ≡ new_set os os_version format_identifier }
+    {
+        PropertySet {
+            alloc,
+            os,
+            os_version,
+            clsid: [0; 16],
+            format_identifier,
+            values: BTreeMap::new(alloc),
+        }
+    }
+
+    /// A set of its parts.
+    pub(crate) fn from_parts(
+        alloc: Global,
+        os: OperatingSystem,
+        os_version: u16,
+        clsid: [u8; 16],
+        format_identifier: [u8; 16],
+        values: BTreeMap<u32, PropertyValue>,
+    ) -> PropertySet
+        requires { NamesPage values.entries }
+        ensures { result ≡ record { os = os; os_version = os_version; clsid = clsid; format_identifier = format_identifier; values = values.entries } }
+    {
+        PropertySet {
+            alloc,
+            os,
+            os_version,
+            clsid,
+            format_identifier,
+            values,
+        }
+    }
+
+    /// What new values take their memory from.
+    pub(crate) fn allocator(&self) -> Global {
+        self.alloc
+    }
+
+    /// The system that the set was made on.
+    pub(crate) fn os(&self) -> OperatingSystem
+        ensures { result ≡ self.now.os }
+    {
+        self.os
+    }
+
+    /// That system's version.
+    pub(crate) fn os_version(&self) -> u16
+        ensures { result ≡ self.now.os_version }
+    {
+        self.os_version
+    }
+
+    /// The class identifier, which has no meaning here.
+    pub(crate) fn clsid(&self) -> &[u8; 16]
+        ensures { result.now ≡ self.now.clsid }
+    {
+        &self.clsid
+    }
+
+    /// The values by their ids.
+    pub(crate) fn values(&self) -> &BTreeMap<u32, PropertyValue>
+        ensures values { result.now.entries ≡ self.now.values }
+        ensures page { NamesPage self.now.values }
+    {
+        &self.values
+    }
+
+    /// The format identifier: what the properties mean (MS-OLEPS 2.21, FMTID0).
+    pub fn format_identifier(&self) -> &[u8; 16]
+        ensures { result.now ≡ self.now.format_identifier }
+    {
+        &self.format_identifier
+    }
+
+    /// The page in which the texts are written: what property 1 names, and UTF-8 without it.
+    pub fn codepage(&self) -> CodePage
+        ensures { result ≡ page_of self.now }
+    {
+        match self.get(PAGE) {
+            Some(value) => page_named(value).unwrap_or(CodePage::Utf8),
+            None => CodePage::Utf8,
+        }
+    }
+
+    /// Sets property 1 to the page's id. When refused, the set is as before.
+    ///
+    /// # Errors
+    /// `OutOfMemory`.
+    pub fn set_codepage(&mut self, page: CodePage) -> Result<(), Error>
+        ensures ok { OnOk result (self.new ≡ with_page page self.old) }
+        ensures page { OnOk result (page_of self.new ≡ page) }
+        ensures kind { IfErr result (λ kind. kind ≡ OutOfMemory) }
+        ensures err { OnErr result (self.new ≡ self.old) }
+    {
+        self.put(PAGE, page_value(page))
+    }
+
+    /// The value of a property.
+    pub fn get(&self, name: u32) -> Option<&PropertyValue>
+        ensures { option_copied result ≡ value_at name self.now.values }
+    {
+        self.values.get(&name)
+    }
+
+    /// Sets a property. When refused, the set is as before.
+    ///
+    /// # Errors
+    /// `InvalidInput` for property 1 and a value that is no `I2` of a known page, read without sign; `OutOfMemory`.
+    pub fn set(&mut self, name: u32, value: PropertyValue) -> Result<(), Error>
+        ensures ok { OnOk result (self.new ≡ with_value name value self.old) }
+        ensures allowed { OnOk result (can_set name value ≡ true) }
+        ensures kind { IfErr result (λ kind. kind ≡ (if can_set name value then OutOfMemory else InvalidInput)) }
+        ensures err { OnErr result (self.new ≡ self.old) }
+    {
+        if !can_set(name, &value) {
+            return Err(Error::new(ErrorKind::InvalidInput, Reason::PropertyPage));
+        }
+        self.put(name, value)
+    }
+
+    /// Sets a property to a value that it may have. When refused, the set is as before.
+    pub(crate) fn put(&mut self, name: u32, value: PropertyValue) -> Result<(), Error>
+        requires { can_set name value ≡ true }
+        ensures ok { OnOk result (self.new ≡ with_value name value self.old) }
+        ensures kind { IfErr result (λ kind. kind ≡ OutOfMemory) }
+        ensures err { OnErr result (self.new ≡ self.old) }
+    {
+        self.values.insert(name, value)?;
+        Ok(())
+    }
+
+    /// Removes a property, if it is there. Without property 1 the page is UTF-8.
+    pub fn remove(&mut self, name: u32)
+        ensures { self.new ≡ without_value name self.old }
+    {
+        self.values.remove(&name);
+    }
+}

@@ -1,0 +1,189 @@
+//! The summary of a package: a property set of one format, by the names of its properties.
+//! The ids and types are those of the Windows Installer SDK, "Summary Information Stream Property Set".
+
+ghost use Rattle.std.specs.Prelude.{◌≡◌, ◌≢◌, IfOk, IfErr, OnOk, OnErr};
+ghost use Rattle.std.specs.Option.{option_copied};
+ghost use Rattle.msi_text.specs.declared.errors.ErrorKind.TheVariants.{InvalidData, OutOfMemory};
+ghost use Rattle.msi_summary.specs.Properties.{page_of, with_page, with_value, without_value};
+ghost use Rattle.msi_summary.specs.Summary.{new_summary, number_at, summary_format, text_at, time_at, with_number, with_text, with_time};
+
+mod identity;
+mod keywords;
+mod numbers;
+mod template;
+mod texts;
+mod times;
+
+use crate::propset::{OperatingSystem, PropertySet, PropertyValue};
+use msi_text::codepage::CodePage;
+use msi_text::errors::{Error, ErrorKind, Reason};
+use msi_text::text::IntoText;
+use msi_text::timestamp::Timestamp;
+use std::alloc::Global;
+use std::marker::Model;
+
+/// What says that a property set is a summary.
+const FORMAT: [u8; 16] = [
+    0xE0, 0x85, 0x9F, 0xF2, 0xF9, 0x4F, 0x68, 0x10, 0xAB, 0x91, 0x08, 0x00, 0x2B, 0x27, 0xB3, 0xD9,
+];
+
+/// The summary of a package. Contracts see its property set.
+///
+/// A getter answers nothing, or an empty list, where its property is missing or has another type.
+/// A setter that is refused leaves the summary as it was.
+#[derive(Drop)]
+pub struct SummaryInfo {
+    properties: PropertySet,
+}
+
+impl Model for SummaryInfo {
+    ghost use Rattle.std.specs.Prelude.{◌≡◌};
+    ghost use Rattle.msi_summary.specs.Properties.{Properties};
+    ghost use Rattle.msi_summary.specs.Summary.{summary_format};
+
+    ghost Value = { Properties };
+
+    ghost view = { λ s. s.properties };
+
+    ghost invariant = { λ s. s.properties.format_identifier ≡ summary_format };
+}
+
+impl SummaryInfo {
+    /// A new summary: a title, and nothing else but the page, UTF-8.
+    pub(crate) fn new(alloc: Global, title: &str) -> Result<SummaryInfo, Error>
+        ensures ok { IfOk result (λ summary. summary ≡ new_summary title.now) }
+        ensures kind { IfErr result (λ kind. kind ≡ OutOfMemory) }
+    {
+        let mut properties = PropertySet::new(alloc, OperatingSystem::Win32, 10, FORMAT);
+        properties.set_codepage(CodePage::Utf8)?;
+        let mut summary = SummaryInfo { properties };
+        summary.set_title(title)?;
+        Ok(summary)
+    }
+
+    /// The summary that a property set is.
+    pub(crate) fn from_properties(properties: PropertySet) -> Result<SummaryInfo, Error>
+        ensures ok { IfOk result (λ summary. summary ≡ properties) }
+        ensures allowed { OnOk result (properties.format_identifier ≡ summary_format) }
+        ensures refused { OnErr result (properties.format_identifier ≢ summary_format) }
+        ensures kind { IfErr result (λ kind. kind ≡ InvalidData) }
+    {
+        if *properties.format_identifier() != FORMAT {
+            return Err(Error::new(ErrorKind::InvalidData, Reason::SummaryFormat));
+        }
+        Ok(SummaryInfo { properties })
+    }
+
+    /// The property set, borrowed.
+    pub(crate) fn properties(&self) -> &PropertySet
+        ensures { result.now ≡ self.now }
+    {
+        &self.properties
+    }
+
+    /// The property set, moved out.
+    pub(crate) fn into_properties(self) -> PropertySet
+        ensures { result ≡ self }
+    {
+        let SummaryInfo { properties } = self;
+        properties
+    }
+
+    /// The page in which the texts are written.
+    pub fn codepage(&self) -> CodePage
+        ensures { result ≡ page_of self.now }
+    {
+        self.properties.codepage()
+    }
+
+    /// Sets the page.
+    ///
+    /// # Errors
+    /// `OutOfMemory`.
+    pub fn set_codepage(&mut self, page: CodePage) -> Result<(), Error>
+        ensures ok { OnOk result (self.new ≡ with_page page self.old) }
+        ensures page { OnOk result (page_of self.new ≡ page) }
+        ensures kind { IfErr result (λ kind. kind ≡ OutOfMemory) }
+        ensures err { OnErr result (self.new ≡ self.old) }
+    {
+        self.properties.set_codepage(page)
+    }
+
+    /// The text of a property.
+    fn text(&self, id: u32) -> Option<&str>
+        ensures { option_copied result ≡ text_at id self.now }
+    {
+        match self.properties.get(id) {
+            Some(PropertyValue::LpStr(text)) => Some(text.as_str()),
+            _ => None,
+        }
+    }
+
+    /// The number of a property.
+    fn number(&self, id: u32) -> Option<i32>
+        ensures { result ≡ number_at id self.now }
+    {
+        match self.properties.get(id) {
+            Some(PropertyValue::I4(number)) => Some(*number),
+            _ => None,
+        }
+    }
+
+    /// The moment of a property.
+    fn time(&self, id: u32) -> Option<Timestamp>
+        ensures { result ≡ time_at id self.now }
+    {
+        match self.properties.get(id) {
+            Some(PropertyValue::FileTime(time)) => Some(*time),
+            _ => None,
+        }
+    }
+
+    /// Sets a property, but for the page.
+    fn put(&mut self, id: u32, value: PropertyValue) -> Result<(), Error>
+        requires { id ≢ 1 }
+        ensures ok { OnOk result (self.new ≡ with_value id value self.old) }
+        ensures kind { IfErr result (λ kind. kind ≡ OutOfMemory) }
+        ensures err { OnErr result (self.new ≡ self.old) }
+    {
+        self.properties.put(id, value)
+    }
+
+    /// Sets the text of a property.
+    fn set_text<S: IntoText>(&mut self, id: u32, text: S) -> Result<(), Error>
+        requires { id ≢ 1 }
+        ensures ok { OnOk result (self.new ≡ with_text id (S.text text) self.old) }
+        ensures kind { IfErr result (λ kind. kind ≡ OutOfMemory) }
+        ensures err { OnErr result (self.new ≡ self.old) }
+    {
+        let text = text.into_text(self.properties.allocator())?;
+        self.put(id, PropertyValue::LpStr(text))
+    }
+
+    /// Sets the number of a property.
+    fn set_number(&mut self, id: u32, number: i32) -> Result<(), Error>
+        requires { id ≢ 1 }
+        ensures ok { OnOk result (self.new ≡ with_number id number self.old) }
+        ensures kind { IfErr result (λ kind. kind ≡ OutOfMemory) }
+        ensures err { OnErr result (self.new ≡ self.old) }
+    {
+        self.put(id, PropertyValue::I4(number))
+    }
+
+    /// Sets the moment of a property.
+    fn set_time(&mut self, id: u32, time: Timestamp) -> Result<(), Error>
+        requires { id ≢ 1 }
+        ensures ok { OnOk result (self.new ≡ with_time id time self.old) }
+        ensures kind { IfErr result (λ kind. kind ≡ OutOfMemory) }
+        ensures err { OnErr result (self.new ≡ self.old) }
+    {
+        self.put(id, PropertyValue::FileTime(time))
+    }
+
+    /// Removes a property.
+    fn clear(&mut self, id: u32)
+        ensures { self.new ≡ without_value id self.old }
+    {
+        self.properties.remove(id);
+    }
+}

@@ -1,0 +1,93 @@
+//! The keywords: one text, in which they are parted by `; `.
+
+ghost use Rattle.std.specs.Prelude.{◌≡◌, [], IfOk, IfErr, OnOk, OnErr, codes, map, string_bytes};
+ghost use Rattle.std.specs.List.{join_by};
+ghost use Rattle.std.specs.Str.{trim_end};
+ghost use Rattle.msi_text.specs.declared.errors.ErrorKind.TheVariants.{OutOfMemory};
+ghost use Rattle.msi_summary.specs.Summary.{keyword_pieces, keywords_in, keywords_of, with_keywords};
+
+use crate::summary::SummaryInfo;
+use msi_text::errors::Error;
+use std::alloc::Global;
+
+const KEYWORDS: u32 = 5;
+
+/// The pieces of a text that is cut at each `; `, without white space at their right ends.
+fn trimmed_pieces(alloc: Global, text: &str) -> Result<Vec<String>, Error>
+    ensures ok { IfOk result (λ words. map string_bytes words.items ≡ map trim_end (keyword_pieces text.now)) }
+    ensures kind { IfErr result (λ kind. kind ≡ OutOfMemory) }
+{
+    let mut words = Vec::new(alloc);
+    for piece in text.split("; ") {
+        words.push(String::from_str(alloc, piece.trim_end())?)?;
+    }
+    Ok(words)
+}
+
+/// The keywords of a text: none in the empty one.
+fn keywords_in(alloc: Global, text: &str) -> Result<Vec<String>, Error>
+    ensures ok { IfOk result (λ words. map string_bytes words.items ≡ keywords_in text.now) }
+    ensures kind { IfErr result (λ kind. kind ≡ OutOfMemory) }
+{
+    if text.is_empty() {
+        return Ok(Vec::new(alloc));
+    }
+    trimmed_pieces(alloc, text)
+}
+
+/// The words, with `; ` between each two.
+fn joined(alloc: Global, words: &[String]) -> Result<String, Error>
+    ensures ok { IfOk result (λ text. string_bytes text ≡ join_by string_bytes (codes "; ") words.now) }
+    ensures kind { IfErr result (λ kind. kind ≡ OutOfMemory) }
+{
+    let Some((first, others)) = words.split_first() else {
+        return Ok(String::new(alloc));
+    };
+    let mut text = String::from_str(alloc, first.as_str())?;
+    for word in others {
+        text.push_str("; ")?;
+        text.push_str(word.as_str())?;
+    }
+    Ok(text)
+}
+
+impl SummaryInfo {
+    /// The keywords, without white space at their right ends. Between two `; ` in a row there is an empty one.
+    ///
+    /// # Errors
+    /// `OutOfMemory`.
+    pub fn keywords(&self) -> Result<Vec<String>, Error>
+        ensures ok { IfOk result (λ words. map string_bytes words.items ≡ keywords_of self.now) }
+        ensures kind { IfErr result (λ kind. kind ≡ OutOfMemory) }
+    {
+        keywords_in(
+            self.properties.allocator(),
+            self.text(KEYWORDS).unwrap_or(""),
+        )
+    }
+
+    /// Sets the keywords. A keyword that holds `; ` reads back as several, and a lone empty one as none.
+    ///
+    /// # Errors
+    /// `OutOfMemory`.
+    pub fn set_keywords(&mut self, keywords: &[String]) -> Result<(), Error>
+        ensures ok { OnOk result (self.new ≡ with_keywords (map string_bytes keywords.now) self.old) }
+        ensures kind { IfErr result (λ kind. kind ≡ OutOfMemory) }
+        ensures err { OnErr result (self.new ≡ self.old) }
+    {
+        let text = joined(self.properties.allocator(), keywords)?;
+        self.set_text(KEYWORDS, text)
+    }
+
+    /// Sets the keywords to the empty text.
+    ///
+    /// # Errors
+    /// `OutOfMemory`.
+    pub fn clear_keywords(&mut self) -> Result<(), Error>
+        ensures ok { OnOk result (self.new ≡ with_keywords [] self.old) }
+        ensures kind { IfErr result (λ kind. kind ≡ OutOfMemory) }
+        ensures err { OnErr result (self.new ≡ self.old) }
+    {
+        self.set_keywords(&[])
+    }
+}

@@ -1,0 +1,176 @@
+//! The template: the architecture, and behind the first `;` the languages, parted by commas.
+
+ghost use Rattle.std.specs.Prelude.{◌≡◌, ◌++◌, [], IfOk, IfErr, OnOk, OnErr, codes, string_bytes, unwrap_or};
+ghost use Rattle.std.specs.Option.{option_copied};
+ghost use Rattle.std.specs.List.{after_first, before_first, filter_map, join_by, slice_split};
+ghost use Rattle.std.specs.Fmt.{decimal};
+ghost use Rattle.msi_text.specs.Numerals.{u16_in};
+ghost use Rattle.msi_text.specs.declared.errors.ErrorKind.TheVariants.{OutOfMemory};
+ghost use Rattle.msi_summary.specs.Summary.{arch_of, is_comma, is_semicolon, languages_of, nonempty, template_of, with_arch, with_languages, with_template};
+
+use crate::summary::SummaryInfo;
+use msi_text::errors::Error;
+use msi_text::language::LanguageId;
+use msi_text::text::IntoText;
+use std::alloc::Global;
+
+const TEMPLATE: u32 = 7;
+
+/// What stands before the first `;` of a template, or all of it.
+fn arch_part(template: &str) -> &str
+    ensures { result.now ≡ before_first is_semicolon template.now }
+{
+    match template.split_once(';') {
+        Some((arch, _)) => arch,
+        None => template,
+    }
+}
+
+/// What stands behind the first `;` of a template.
+fn languages_part(template: &str) -> &str
+    ensures { result.now ≡ after_first is_semicolon template.now }
+{
+    match template.split_once(';') {
+        Some((_, languages)) => languages,
+        None => "",
+    }
+}
+
+/// A text that isn't empty.
+fn filled(text: &str) -> Option<&str>
+    ensures { option_copied result ≡ nonempty text.now }
+{
+    if text.is_empty() { None } else { Some(text) }
+}
+
+/// The language whose id a text is in decimal.
+fn language_in(text: &str) -> Option<LanguageId>
+    ensures { result ≡ u16_in text.now }
+{
+    match text.parse::<u16>() {
+        Ok(id) => Some(LanguageId::from_id(id)),
+        Err(_) => None,
+    }
+}
+
+/// The languages whose ids stand in a text between commas; what is no such number is left out.
+fn languages_in(alloc: Global, text: &str) -> Result<Vec<LanguageId>, Error>
+    ensures ok { IfOk result (λ languages. languages.items ≡ filter_map u16_in (slice_split is_comma text.now)) }
+    ensures kind { IfErr result (λ kind. kind ≡ OutOfMemory) }
+{
+    Ok(
+        text.split(',')
+            .filter_map(|part| language_in(part))
+            .collect(alloc)?,
+    )
+}
+
+/// The languages' ids in decimal, with a comma between each two.
+fn languages_text(alloc: Global, languages: &[LanguageId]) -> Result<String, Error>
+    ensures ok { IfOk result (λ text. string_bytes text ≡ join_by decimal (codes ",") languages.now) }
+    ensures kind { IfErr result (λ kind. kind ≡ OutOfMemory) }
+{
+    let Some((first, others)) = languages.split_first() else {
+        return Ok(String::new(alloc));
+    };
+    let mut text = first.id().to_string(alloc)?;
+    for language in others {
+        let id = language.id().to_string(alloc)?;
+        text.push_str(",")?;
+        text.push_str(id.as_str())?;
+    }
+    Ok(text)
+}
+
+impl SummaryInfo {
+    /// The template, empty where there is none.
+    fn template(&self) -> &str
+        ensures { result.now ≡ template_of self.now }
+    {
+        self.text(TEMPLATE).unwrap_or("")
+    }
+
+    /// Sets the template to its two parts.
+    fn set_template(&mut self, arch: String, languages: &str) -> Result<(), Error>
+        ensures ok { OnOk result (self.new ≡ with_template (string_bytes arch) languages.now self.old) }
+        ensures kind { IfErr result (λ kind. kind ≡ OutOfMemory) }
+        ensures err { OnErr result (self.new ≡ self.old) }
+    {
+        let mut template = arch;
+        template.push_str(";")?;
+        template.push_str(languages)?;
+        self.set_text(TEMPLATE, template)
+    }
+
+    /// The architecture that the package is for, as `x64`; none where it is empty.
+    pub fn arch(&self) -> Option<&str>
+        ensures { option_copied result ≡ arch_of self.now }
+    {
+        filled(arch_part(self.template()))
+    }
+
+    /// Sets the architecture. The languages stay.
+    ///
+    /// # Errors
+    /// `OutOfMemory`.
+    pub fn set_arch<S: IntoText>(&mut self, arch: S) -> Result<(), Error>
+        ensures ok { OnOk result (self.new ≡ with_arch (S.text arch) self.old) }
+        ensures kind { IfErr result (λ kind. kind ≡ OutOfMemory) }
+        ensures err { OnErr result (self.new ≡ self.old) }
+    {
+        let alloc = self.properties.allocator();
+        let arch = arch.into_text(alloc)?.into_string();
+        let languages = String::from_str(alloc, languages_part(self.template()))?;
+        self.set_template(arch, languages.as_str())
+    }
+
+    /// Sets the architecture to the empty text. The languages stay.
+    ///
+    /// # Errors
+    /// `OutOfMemory`.
+    pub fn clear_arch(&mut self) -> Result<(), Error>
+        ensures ok { OnOk result (self.new ≡ with_arch [] self.old) }
+        ensures kind { IfErr result (λ kind. kind ≡ OutOfMemory) }
+        ensures err { OnErr result (self.new ≡ self.old) }
+    {
+        self.set_arch("")
+    }
+
+    /// The languages that the package is for. A part between two commas that is no number below 2^16 is passed over.
+    ///
+    /// # Errors
+    /// `OutOfMemory`.
+    pub fn languages(&self) -> Result<Vec<LanguageId>, Error>
+        ensures ok { IfOk result (λ languages. languages.items ≡ languages_of self.now) }
+        ensures kind { IfErr result (λ kind. kind ≡ OutOfMemory) }
+    {
+        languages_in(self.properties.allocator(), languages_part(self.template()))
+    }
+
+    /// Sets the languages. The architecture stays.
+    ///
+    /// # Errors
+    /// `OutOfMemory`.
+    pub fn set_languages(&mut self, languages: &[LanguageId]) -> Result<(), Error>
+        ensures ok { OnOk result (self.new ≡ with_languages languages.now self.old) }
+        ensures kind { IfErr result (λ kind. kind ≡ OutOfMemory) }
+        ensures err { OnErr result (self.new ≡ self.old) }
+    {
+        let alloc = self.properties.allocator();
+        let arch = String::from_str(alloc, arch_part(self.template()))?;
+        let ids = languages_text(alloc, languages)?;
+        self.set_template(arch, ids.as_str())
+    }
+
+    /// Sets the languages to none. The architecture stays.
+    ///
+    /// # Errors
+    /// `OutOfMemory`.
+    pub fn clear_languages(&mut self) -> Result<(), Error>
+        ensures ok { OnOk result (self.new ≡ with_languages [] self.old) }
+        ensures kind { IfErr result (λ kind. kind ≡ OutOfMemory) }
+        ensures err { OnErr result (self.new ≡ self.old) }
+    {
+        self.set_languages(&[])
+    }
+}

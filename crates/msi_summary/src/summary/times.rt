@@ -1,0 +1,133 @@
+//! The summary's moments.
+
+ghost use Rattle.std.specs.Prelude.{◌≡◌, IfErr, OnOk, OnErr};
+ghost use Rattle.msi_text.specs.declared.errors.ErrorKind.TheVariants.{OutOfMemory};
+ghost use Rattle.msi_summary.specs.Properties.{without_value};
+ghost use Rattle.msi_summary.specs.Summary.{time_at, time_id, with_time};
+ghost use Rattle.msi_summary.specs.Summary as property;
+
+use crate::summary::SummaryInfo;
+use msi_text::errors::Error;
+use msi_text::timestamp::Timestamp;
+
+const LAST_PRINTED: u32 = 11;
+
+const CREATION_TIME: u32 = 12;
+
+const LAST_SAVED_TIME: u32 = 13;
+
+impl SummaryInfo {
+    /// When the package was printed last; in practice, administered last.
+    pub fn last_printed(&self) -> Option<Timestamp>
+        ensures { result ≡ time_at (time_id property.last_printed) self.now }
+    {
+        self.time(LAST_PRINTED)
+    }
+
+    /// Sets when it was printed last.
+    ///
+    /// # Errors
+    /// `OutOfMemory`.
+    pub fn set_last_printed(&mut self, time: Timestamp) -> Result<(), Error>
+        ensures ok { OnOk result (self.new ≡ with_time (time_id property.last_printed) time self.old) }
+        ensures kind { IfErr result (λ kind. kind ≡ OutOfMemory) }
+        ensures err { OnErr result (self.new ≡ self.old) }
+    {
+        self.set_time(LAST_PRINTED, time)
+    }
+
+    /// Sets when it was printed last to the present moment, which the caller hands in.
+    ///
+    /// # Errors
+    /// `OutOfMemory`.
+    pub fn set_last_printed_to_now(&mut self, now: Timestamp) -> Result<(), Error>
+        ensures ok { OnOk result (self.new ≡ with_time (time_id property.last_printed) now self.old) }
+        ensures kind { IfErr result (λ kind. kind ≡ OutOfMemory) }
+        ensures err { OnErr result (self.new ≡ self.old) }
+    {
+        self.set_last_printed(now)
+    }
+
+    /// Removes when it was printed last.
+    pub fn clear_last_printed(&mut self)
+        ensures { self.new ≡ without_value (time_id property.last_printed) self.old }
+    {
+        self.clear(LAST_PRINTED);
+    }
+
+    /// When the package was made.
+    pub fn creation_time(&self) -> Option<Timestamp>
+        ensures { result ≡ time_at (time_id property.creation_time) self.now }
+    {
+        self.time(CREATION_TIME)
+    }
+
+    /// Sets when the package was made.
+    ///
+    /// # Errors
+    /// `OutOfMemory`.
+    pub fn set_creation_time(&mut self, time: Timestamp) -> Result<(), Error>
+        ensures ok { OnOk result (self.new ≡ with_time (time_id property.creation_time) time self.old) }
+        ensures kind { IfErr result (λ kind. kind ≡ OutOfMemory) }
+        ensures err { OnErr result (self.new ≡ self.old) }
+    {
+        self.set_time(CREATION_TIME, time)
+    }
+
+    /// Sets when the package was made to the present moment, which the caller hands in.
+    ///
+    /// # Errors
+    /// `OutOfMemory`.
+    pub fn set_creation_time_to_now(&mut self, now: Timestamp) -> Result<(), Error>
+        ensures ok { OnOk result (self.new ≡ with_time (time_id property.creation_time) now self.old) }
+        ensures kind { IfErr result (λ kind. kind ≡ OutOfMemory) }
+        ensures err { OnErr result (self.new ≡ self.old) }
+    {
+        self.set_creation_time(now)
+    }
+
+    /// Removes when the package was made.
+    pub fn clear_creation_time(&mut self)
+        ensures { self.new ≡ without_value (time_id property.creation_time) self.old }
+    {
+        self.clear(CREATION_TIME);
+    }
+
+    /// When the package was saved last.
+    pub fn last_saved_time(&self) -> Option<Timestamp>
+        ensures { result ≡ time_at (time_id property.last_saved_time) self.now }
+    {
+        self.time(LAST_SAVED_TIME)
+    }
+
+    /// Sets when the package was saved last.
+    ///
+    /// # Errors
+    /// `OutOfMemory`.
+    pub fn set_last_save_time(&mut self, time: Timestamp) -> Result<(), Error>
+        ensures ok { OnOk result (self.new ≡ with_time (time_id property.last_saved_time) time self.old) }
+        ensures kind { IfErr result (λ kind. kind ≡ OutOfMemory) }
+        ensures err { OnErr result (self.new ≡ self.old) }
+    {
+        self.set_time(LAST_SAVED_TIME, time)
+    }
+
+    /// Sets when the package was saved last to the present moment, which the caller hands in.
+    ///
+    /// # Errors
+    /// `OutOfMemory`.
+    pub fn set_last_save_time_to_now(&mut self, now: Timestamp) -> Result<(), Error>
+        ensures ok { OnOk result (self.new ≡ with_time (time_id property.last_saved_time) now self.old) }
+        ensures kind { IfErr result (λ kind. kind ≡ OutOfMemory) }
+        ensures err { OnErr result (self.new ≡ self.old) }
+    {
+        self.set_last_save_time(now)
+    }
+
+    /// Removes when the package was saved last.
+    pub fn clear_last_save_time(&mut self)
+        ensures { self.new ≡ without_value (time_id property.last_saved_time) self.old }
+    {
+        self.clear(LAST_SAVED_TIME);
+    }
+}

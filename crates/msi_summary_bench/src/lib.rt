@@ -1,0 +1,7 @@
+//! Tests of the crate `msi_summary`.
+#![tactic(auto)]
+
+#[cfg(test)]
+mod properties;
+#[cfg(test)]
+mod summary;
