@@ -1,0 +1,10 @@
+pub mod FoldingLemmas
+pub mod NamesLemmas
+pub mod EvaluationRows
+pub mod ReaderLemmas
+pub mod TokenLemmas
+pub mod UnambiguousLemmas
+pub mod PrintingRows
+pub mod ListedLemmas
+pub mod QueryTextLemmas
+pub mod QueryTextRows

@@ -1,0 +1,39 @@
+-- Worked texts of queries.
+use Rattle.std.proofs.Common.{◌≡◌, ℕ, pos, List, [], ◌∷◌, Some, None, codes, refl}
+use Rattle.msi_table.specs.declared.value.Value.TheVariants.{Null, Int, Str}
+use Rattle.msi_query.specs.declared.expr.BinaryOp.TheVariants as two
+use Rattle.msi_query.specs.declared.query.JoinKind.TheVariants.{Inner, Left}
+use Rattle.msi_query.specs.Expressions.{Expression, literal, column, binary, either}
+use Rattle.msi_query.specs.Queries.{Query, table, join, narrowed, no_clauses}
+use Rattle.msi_query.specs.QueryTexts.{delete_text, insert_text, query_text, update_text}
+
+abbrev all_of : List ℕ → Query
+all_of name = table name no_clauses
+
+abbrev same : List ℕ → List ℕ → Expression
+same n m = binary two.Eq (column n) (column m)
+
+side_with_condition : query_text (join Inner (all_of (codes "Foobar")) (table (codes "Quux") (record { columns = []; condition = Some (binary two.Gt (column (codes "Quay")) (literal (Int (pos 42)))) }))
+    (same (codes "Foobar.Key") (codes "Quux.Quay")) (record { columns = codes "Foobar.Foo" ∷ codes "Quux.Baz" ∷ []; condition = None }))
+    ≡ Some (codes "SELECT Foobar.Foo, Quux.Baz FROM Foobar INNER JOIN (SELECT * FROM Quux WHERE Quay > 42) ON Foobar.Key = Quux.Quay")
+unfolding Rattle.std.specs.Fmt.digits Rattle.std.specs.Fmt.debug_escape
+side_with_condition = refl
+
+two_joins : query_text (join Left (join Inner (all_of (codes "A")) (all_of (codes "B")) (same (codes "A.k") (codes "B.k")) no_clauses) (all_of (codes "C")) (same (codes "A.k") (codes "C.k")) no_clauses)
+    ≡ Some (codes "SELECT * FROM (SELECT * FROM A INNER JOIN B ON A.k = B.k) LEFT JOIN C ON A.k = C.k")
+two_joins = refl
+
+second_condition : delete_text (record { table = codes "T"; condition = narrowed (Some (either (column (codes "A")) (column (codes "B")))) (column (codes "C")) })
+    ≡ Some (codes "DELETE FROM T WHERE (A OR B) AND C")
+second_condition = refl
+
+without_rows : insert_text (record { table = codes "T"; rows = [] }) ≡ Some (codes "INSERT INTO T")
+without_rows = refl
+
+without_sets : update_text (record { table = codes "T"; sets = []; condition = None }) ≡ Some (codes "UPDATE T")
+without_sets = refl
+
+two_rows : insert_text (record { table = codes "T"; rows = (Int (pos 1) ∷ Str (codes "a") ∷ []) ∷ (Null ∷ Str (codes "b") ∷ []) ∷ [] })
+    ≡ Some (codes "INSERT INTO T VALUES (1, \"a\"), (NULL, \"b\")")
+unfolding Rattle.std.specs.Fmt.digits Rattle.std.specs.Fmt.debug_escape
+two_rows = refl

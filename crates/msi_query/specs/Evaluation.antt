@@ -1,0 +1,117 @@
+-- What an expression is worth: whole numbers without bounds, and Null where a result is none of 32 bits.
+use Rattle.std.specs.Prelude.{◌≡◌, ℕ, ◌^◌, Bool, true, false, not, List, ◌++◌, nat_abs, ◌&&◌, ◌||◌, if◌then◌else◌, ℤ, pos, neg_ℤ, ◌+ℤ◌, ◌-ℤ◌, ◌*ℤ◌, int_le, int_div, IsTrue, unwrap_or}
+use Rattle.std.specs.List.{list_all}
+use Rattle.std.specs.Ordering.{is_eq, is_lt, is_le, int_cmp}
+use Rattle.std.specs.Int.{w32, int_bit_and, int_bit_or, int_bit_xor, int_shl, int_shr}
+use Rattle.msi_table.specs.declared.value.Value.{Value}
+use Rattle.msi_table.specs.declared.value.Value.TheVariants.{Null, Int, Str}
+use Rattle.msi_table.specs.Values.{value_cmp, is_true}
+use Rattle.msi_table.specs.Columns.{has_column}
+use Rattle.msi_table.specs.Rows.{RowDef, value_named}
+use Rattle.msi_query.specs.declared.expr.UnaryOp.{UnaryOp}
+use Rattle.msi_query.specs.declared.expr.UnaryOp.TheVariants as one
+use Rattle.msi_query.specs.declared.expr.BinaryOp.{BinaryOp}
+use Rattle.msi_query.specs.declared.expr.BinaryOp.TheVariants as two
+use Rattle.msi_query.specs.Expressions.{Expression, literal, column, unary, binary, both, either, names_in}
+
+abbrev pub is_i32 : ℤ → Bool
+is_i32 n = int_le (neg_ℤ (pos (2 ^ 31))) n && int_le n (pos 2147483647)
+
+abbrev pub number : ℤ → Value
+number n = if is_i32 n then Int n else Null
+
+abbrev pub truth : Bool → Value
+truth b = Int (if b then pos 1 else pos 0)
+
+abbrev pub is_zero : ℤ → Bool
+is_zero n = is_eq (int_cmp n (pos 0))
+
+abbrev pub is_distance : ℤ → Bool
+is_distance n = int_le (pos 0) n && int_le n (pos 31)
+
+-- of two numbers; division cuts towards zero, and shifts go by 0 to 31
+abbrev pub of_numbers : BinaryOp → ℤ → ℤ → Value
+of_numbers two.Add m n = number (m +ℤ n)
+of_numbers two.Sub m n = number (m -ℤ n)
+of_numbers two.Mul m n = number (m *ℤ n)
+of_numbers two.Div m n = if is_zero n then Null else number (int_div m n)
+of_numbers two.BitAnd m n = number (int_bit_and w32 m n)
+of_numbers two.BitOr m n = number (int_bit_or w32 m n)
+of_numbers two.BitXor m n = number (int_bit_xor w32 m n)
+of_numbers two.Shl m n = if is_distance n then number (int_shl w32 m (nat_abs n)) else Null
+of_numbers two.Shr m n = if is_distance n then number (int_shr m (nat_abs n)) else Null
+of_numbers _ m n = Null
+
+-- `add` joins two texts, and other operators want two numbers
+abbrev pub of_operands : BinaryOp → Value → Value → Value
+of_operands op (Int m) (Int n) = of_numbers op m n
+of_operands two.Add (Str s) (Str t) = Str (s ++ t)
+of_operands op _ _ = Null
+
+-- comparisons go by the order of values
+abbrev pub binary_value : BinaryOp → Value → Value → Value
+binary_value two.Eq v w = truth (is_eq (value_cmp v w))
+binary_value two.Ne v w = truth (not (is_eq (value_cmp v w)))
+binary_value two.Lt v w = truth (is_lt (value_cmp v w))
+binary_value two.Le v w = truth (is_le (value_cmp v w))
+binary_value two.Gt v w = truth (not (is_le (value_cmp v w)))
+binary_value two.Ge v w = truth (not (is_lt (value_cmp v w)))
+binary_value op v w = of_operands op v w
+
+abbrev pub unary_value : UnaryOp → Value → Value
+unary_value one.Neg (Int n) = number (neg_ℤ n)
+unary_value one.BitNot (Int n) = number (neg_ℤ n -ℤ pos 1)
+unary_value one.BoolNot v = truth (not (is_true v))
+unary_value _ _ = Null
+
+-- the value, where `at` gives the value of each column
+abbrev pub value_of : (List ℕ → Value) → Expression → Value
+value_of at (literal v) = v
+value_of at (column n) = at n
+value_of at (unary op e) = unary_value op (value_of at e)
+value_of at (binary op l r) = binary_value op (value_of at l) (value_of at r)
+value_of at (both l r) = truth (is_true (value_of at l) && is_true (value_of at r))
+value_of at (either l r) = truth (is_true (value_of at l) || is_true (value_of at r))
+
+-- the value of a column of a row; of a column that the row lacks, which no call asks for, Null
+abbrev pub value_at : RowDef → List ℕ → Value
+value_at row name = unwrap_or (value_named name row) Null
+
+-- the row has every column that the expression names
+abbrev pub HasColumnsOf : RowDef → Expression → Type 0
+HasColumnsOf row e = IsTrue (list_all (λ name. has_column name row.columns) (names_in e))
+
+-- What the constructors make: literals under unary and binary operators fold
+abbrev pub folded_unary : UnaryOp → Expression → Expression
+folded_unary op (literal v) = literal (unary_value op v)
+folded_unary op e = unary op e
+
+abbrev pub folded_binary : BinaryOp → Expression → Expression → Expression
+folded_binary op (literal v) (literal w) = literal (binary_value op v w)
+folded_binary op l r = binary op l r
+
+-- folding changes no value
+abbrev pub FoldingKeepsValues : Type 0
+FoldingKeepsValues = (at : List ℕ → Value)
+    → ((op : UnaryOp) (e : Expression) → value_of at (folded_unary op e) ≡ value_of at (unary op e))
+    × ((op : BinaryOp) (l r : Expression) → value_of at (folded_binary op l r) ≡ value_of at (binary op l r))
+
+-- an expression that the constructors made: no operator stands over literals alone
+abbrev pub is_literal : Expression → Bool
+is_literal (literal v) = true
+is_literal _ = false
+
+abbrev pub is_folded : Expression → Bool
+is_folded (literal v) = true
+is_folded (column n) = true
+is_folded (unary op e) = not (is_literal e) && is_folded e
+is_folded (binary op l r) = not (is_literal l && is_literal r) && is_folded l && is_folded r
+is_folded (both l r) = is_folded l && is_folded r
+is_folded (either l r) = is_folded l && is_folded r
+
+-- what the constructors make of folded expressions is folded
+abbrev pub ConstructorsFold : Type 0
+ConstructorsFold = ((op : UnaryOp) (e : Expression) → IsTrue (is_folded e) → IsTrue (is_folded (folded_unary op e)))
+    × ((op : BinaryOp) (l r : Expression) → IsTrue (is_folded l) → IsTrue (is_folded r) → IsTrue (is_folded (folded_binary op l r)))
+    × ((l r : Expression) → IsTrue (is_folded l) → IsTrue (is_folded r) → IsTrue (is_folded (both l r)))
+    × ((l r : Expression) → IsTrue (is_folded l) → IsTrue (is_folded r) → IsTrue (is_folded (either l r)))

@@ -1,0 +1,75 @@
+-- How queries print.
+use Rattle.std.specs.Prelude.{ℕ, List, [], ◌∷◌, ◌++◌, map, length, Option, Some, None, option_map, ◌==◌, ◌&&◌, is_none, if◌then◌else◌, codes}
+use Rattle.std.specs.List.{join_by}
+use Rattle.std.specs.Fmt.{◌++?◌}
+use Rattle.msi_text.specs.Lists.{all_present}
+use Rattle.msi_table.specs.declared.value.Value.{Value}
+use Rattle.msi_table.specs.Values.{value_text}
+use Rattle.msi_query.specs.declared.query.JoinKind.{JoinKind}
+use Rattle.msi_query.specs.declared.query.JoinKind.TheVariants.{Inner, Left}
+use Rattle.msi_query.specs.Expressions.{Expression}
+use Rattle.msi_query.specs.Printing.{expression_text}
+use Rattle.msi_query.specs.Queries.{Query, Clauses, table, join, InsertQuery, UpdateQuery, DeleteQuery}
+
+-- texts with `, ` between them, where none is missing
+abbrev pub listed : List (Option (List ℕ)) → Option (List ℕ)
+listed texts = option_map (join_by (λ t. t) (codes ", ")) (all_present texts)
+
+abbrev pub where_text : Option Expression → Option (List ℕ)
+where_text None = Some []
+where_text (Some e) = Some (codes " WHERE ") ++? expression_text e
+
+abbrev pub columns_text : List (List ℕ) → List ℕ
+columns_text [] = codes "*"
+columns_text (n ∷ ns) = join_by (λ t. t) (codes ", ") (n ∷ ns)
+
+abbrev pub select_text : Clauses → Option (List ℕ) → Option (List ℕ)
+select_text c from = Some (codes "SELECT " ++ columns_text c.columns ++ codes " FROM ") ++? from ++? where_text c.condition
+
+abbrev pub join_word : JoinKind → List ℕ
+join_word Inner = codes " INNER JOIN "
+join_word Left = codes " LEFT JOIN "
+
+-- the name, or else the text in brackets
+abbrev pub or_bracketed : Option (List ℕ) → Option (List ℕ) → Option (List ℕ)
+or_bracketed (Some name) text = Some name
+or_bracketed None text = Some (codes "(") ++? text ++? Some (codes ")")
+
+-- the name of a table of which all is wanted
+abbrev pub bare_name : Query → Option (List ℕ)
+bare_name (table name c) = if (length c.columns == 0) && is_none c.condition then Some name else None
+bare_name _ = None
+
+-- a side of a join: such a table by its name, all else in brackets
+abbrev pub side_text : Query → Option (List ℕ) → Option (List ℕ)
+side_text q text = or_bracketed (bare_name q) text
+
+abbrev pub query_text : Query → Option (List ℕ)
+query_text (table name c) = select_text c (Some name)
+query_text (join kind l r on c) =
+    select_text c (side_text l (query_text l) ++? Some (join_word kind) ++? side_text r (query_text r) ++? Some (codes " ON ") ++? expression_text on)
+
+abbrev pub row_text : List Value → Option (List ℕ)
+row_text row = Some (codes "(") ++? listed (map value_text row) ++? Some (codes ")")
+
+-- nothing where no row is added
+abbrev pub rows_text : List (List Value) → Option (List ℕ)
+rows_text [] = Some []
+rows_text (row ∷ rows) = Some (codes " VALUES ") ++? listed (map row_text (row ∷ rows))
+
+abbrev pub insert_text : InsertQuery → Option (List ℕ)
+insert_text q = Some (codes "INSERT INTO " ++ q.table) ++? rows_text q.rows
+
+abbrev pub set_text : List ℕ × Value → Option (List ℕ)
+set_text s = Some (s.0 ++ codes " = ") ++? value_text s.1
+
+-- nothing where no column is set
+abbrev pub sets_text : List (List ℕ × Value) → Option (List ℕ)
+sets_text [] = Some []
+sets_text (set ∷ sets) = Some (codes " SET ") ++? listed (map set_text (set ∷ sets))
+
+abbrev pub update_text : UpdateQuery → Option (List ℕ)
+update_text q = Some (codes "UPDATE " ++ q.table) ++? sets_text q.sets ++? where_text q.condition
+
+abbrev pub delete_text : DeleteQuery → Option (List ℕ)
+delete_text q = Some (codes "DELETE FROM " ++ q.table) ++? where_text q.condition

@@ -1,0 +1,50 @@
+//! Trees as they are built: operators over literals alone fold to a literal.
+
+ghost use Rattle.std.specs.Prelude.{◌≡◌, IfOk, IfErr};
+ghost use Rattle.msi_text.specs.declared.errors.ErrorKind.TheVariants.{OutOfMemory};
+ghost use Rattle.msi_query.specs.Evaluation.{folded_unary as unary_folded, folded_binary as binary_folded};
+ghost use Rattle.msi_query.specs.Trees.{expression_of};
+
+use super::operands::Operand;
+use super::operators::{binary_value, unary_value};
+use super::{BinaryOp, Tree, UnaryOp};
+use msi_text::errors::Error;
+use std::alloc::Global;
+
+/// An operator over one tree; a literal folds.
+///
+/// # Errors
+/// `OutOfMemory`.
+pub(crate) fn folded_unary(alloc: Global, op: UnaryOp, tree: Tree) -> Result<Tree, Error>
+    ensures ok { IfOk result (λ folded. expression_of folded ≡ unary_folded op (expression_of tree)) }
+    ensures kind { IfErr result (λ kind. kind ≡ OutOfMemory) }
+{
+    match tree {
+        Tree::Literal(value) => Ok(Tree::Literal(unary_value(op, &value))),
+        tree => Ok(Tree::Unary(op, Box::new(alloc, tree)?)),
+    }
+}
+
+/// An operator between two trees; two literals fold.
+///
+/// # Errors
+/// `OutOfMemory`.
+pub(crate) fn folded_binary(
+    alloc: Global,
+    op: BinaryOp,
+    left: Tree,
+    right: Tree,
+) -> Result<Tree, Error>
+    ensures ok { IfOk result (λ folded. expression_of folded ≡ binary_folded op (expression_of left) (expression_of right)) }
+    ensures kind { IfErr result (λ kind. kind ≡ OutOfMemory) }
+{
+    match (left, right) {
+        (Tree::Literal(value), Tree::Literal(other)) => Ok(Tree::Literal(binary_value(
+            alloc,
+            op,
+            Operand::Computed(value),
+            &other,
+        )?)),
+        (left, right) => Ok(Tree::Binary(op, Box::new(alloc, left)?, Box::new(alloc, right)?)),
+    }
+}

@@ -1,0 +1,34 @@
+//! The names of columns in a tree.
+
+ghost use Rattle.std.specs.Prelude.{◌≡◌, ◌||◌, IfErr, OnOk, ℕ, List, bytes_eq};
+ghost use Rattle.std.specs.List.{list_any};
+ghost use Rattle.msi_text.specs.declared.errors.ErrorKind.TheVariants.{OutOfMemory};
+ghost use Rattle.msi_query.specs.Expressions.{names_in};
+ghost use Rattle.msi_query.specs.Names.{has_name};
+ghost use Rattle.msi_query.specs.Trees.{expression_of};
+
+use super::Tree;
+use msi_text::errors::Error;
+use std::collections::HashSet;
+
+/// Adds the names in a tree to a set.
+///
+/// # Errors
+/// `OutOfMemory`.
+pub(crate) fn collect_names<'a>(tree: &'a Tree, names: &mut HashSet<&'a str>) -> Result<(), Error>
+    ensures ok { OnOk result ((name : List ℕ) → has_name names.new name ≡ (has_name names.old name || list_any (bytes_eq name) (names_in (expression_of tree.now)))) }
+    ensures kind { IfErr result (λ kind. kind ≡ OutOfMemory) }
+{
+    match tree {
+        Tree::Literal(_) => Ok(()),
+        Tree::Column(name) => {
+            names.insert(name.as_str())?;
+            Ok(())
+        }
+        Tree::Unary(_, of) => collect_names(of, names),
+        Tree::Binary(_, left, right) | Tree::And(left, right) | Tree::Or(left, right) => {
+            collect_names(left, names)?;
+            collect_names(right, names)
+        }
+    }
+}

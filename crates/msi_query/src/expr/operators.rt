@@ -1,0 +1,192 @@
+//! What operators give of values.
+
+ghost use Rattle.std.specs.Prelude.{◌≡◌, ◌++◌, IfOk, IfErr, None};
+ghost use Rattle.msi_text.specs.declared.errors.ErrorKind.TheVariants.{OutOfMemory};
+ghost use Rattle.msi_table.specs.Values.{is_true as counts, int_of};
+ghost use Rattle.msi_query.specs.declared.expr.BinaryOp.TheVariants.{Add, Shl, Shr};
+ghost use Rattle.msi_query.specs.Operands.{operand_value, number_or_null as value_or_null};
+ghost use Rattle.msi_query.specs.Evaluation.{truth as value_of_truth, of_numbers, of_operands, unary_value as value_of_one, binary_value as value_of_two};
+
+use super::operands::Operand;
+use super::{BinaryOp, UnaryOp};
+use msi_table::value::Value;
+use msi_text::errors::Error;
+use msi_text::text::Text;
+use std::alloc::Global;
+
+/// 1 for true, 0 for false.
+pub(crate) fn truth(holds: bool) -> Value
+    ensures { result ≡ value_of_truth holds }
+{
+    Value::Int(i32::from(holds))
+}
+
+/// Whether a value counts as true: Null, 0 and the empty text don't.
+pub(crate) fn is_true(value: &Value) -> bool
+    ensures { result ≡ counts value.now }
+{
+    match value {
+        Value::Null => false,
+        Value::Int(number) => *number != 0,
+        Value::Str(text) => !text.as_str().is_empty(),
+        Value::Binary => true,
+    }
+}
+
+/// A number where there is one, else Null.
+fn number_or_null(number: Option<i32>) -> Value
+    ensures { result ≡ value_or_null number }
+{
+    match number {
+        Some(number) => Value::Int(number),
+        None => Value::Null,
+    }
+}
+
+/// What an operator gives of one value.
+pub(crate) fn unary_value(op: UnaryOp, value: &Value) -> Value
+    ensures { result ≡ value_of_one op value.now }
+{
+    match op {
+        UnaryOp::Neg => match value {
+            Value::Int(number) => number_or_null(number.checked_neg()),
+            _ => Value::Null,
+        },
+        UnaryOp::BitNot => match value {
+            Value::Int(number) => Value::Int(!*number),
+            _ => Value::Null,
+        },
+        UnaryOp::BoolNot => truth(!is_true(value)),
+    }
+}
+
+/// A number shifted left by 0 to 31 bits; Null for another distance.
+fn shifted_left(number: i32, distance: i32) -> Value
+    ensures { result ≡ of_numbers Shl number distance }
+{
+    if distance < 0 || distance > 31 {
+        return Value::Null;
+    }
+    Value::Int(number << distance)
+}
+
+/// A number shifted right by 0 to 31 bits; Null for another distance.
+fn shifted_right(number: i32, distance: i32) -> Value
+    ensures { result ≡ of_numbers Shr number distance }
+{
+    if distance < 0 || distance > 31 {
+        return Value::Null;
+    }
+    Value::Int(number >> distance)
+}
+
+/// What an operator gives of two numbers.
+fn value_of_numbers(op: BinaryOp, left: i32, right: i32) -> Value
+    ensures { result ≡ of_numbers op left right }
+{
+    match op {
+        BinaryOp::Add => number_or_null(left.checked_add(right)),
+        BinaryOp::Sub => number_or_null(left.checked_sub(right)),
+        BinaryOp::Mul => number_or_null(left.checked_mul(right)),
+        BinaryOp::Div => number_or_null(left.checked_div(right)),
+        BinaryOp::BitAnd => Value::Int(left & right),
+        BinaryOp::BitOr => Value::Int(left | right),
+        BinaryOp::BitXor => Value::Int(left ^ right),
+        BinaryOp::Shl => shifted_left(left, right),
+        BinaryOp::Shr => shifted_right(left, right),
+        _ => Value::Null,
+    }
+}
+
+/// One text after another; a text that was computed keeps its memory.
+///
+/// # Errors
+/// `OutOfMemory`.
+fn joined(text: Text, rest: &str) -> Result<Text, Error>
+    ensures ok { IfOk result (λ whole. whole ≡ text ++ rest.now) }
+    ensures kind { IfErr result (λ kind. kind ≡ OutOfMemory) }
+{
+    let mut whole = text.into_string();
+    whole.push_str(rest)?;
+    Ok(Text::from_string(whole))
+}
+
+/// One text after another, both copied.
+///
+/// # Errors
+/// `OutOfMemory`.
+fn joined_copy(alloc: Global, text: &str, rest: &str) -> Result<Text, Error>
+    ensures ok { IfOk result (λ whole. whole ≡ text.now ++ rest.now) }
+    ensures kind { IfErr result (λ kind. kind ≡ OutOfMemory) }
+{
+    let mut whole = String::with_capacity(alloc, text.len().saturating_add(rest.len()))?;
+    whole.push_str(text)?;
+    whole.push_str(rest)?;
+    Ok(Text::from_string(whole))
+}
+
+/// Two texts joined, else Null.
+///
+/// # Errors
+/// `OutOfMemory`.
+fn joined_texts(alloc: Global, left: Operand, right: &Value) -> Result<Value, Error>
+    ensures ok { IfOk result (λ value. int_of (operand_value left.entry) ≡ None → value ≡ of_operands Add (operand_value left.entry) right.now) }
+    ensures kind { IfErr result (λ kind. kind ≡ OutOfMemory) }
+{
+    match right {
+        Value::Str(rest) => match left {
+            Operand::Borrowed(Value::Str(text)) => Ok(Value::Str(joined_copy(
+                alloc,
+                text.as_str(),
+                rest.as_str(),
+            )?)),
+            Operand::Computed(Value::Str(text)) => Ok(Value::Str(joined(text, rest.as_str())?)),
+            _ => Ok(Value::Null),
+        },
+        _ => Ok(Value::Null),
+    }
+}
+
+/// What an operator that compares nothing gives of two operands.
+///
+/// # Errors
+/// `OutOfMemory`.
+fn arithmetic(alloc: Global, op: BinaryOp, left: Operand, right: &Value) -> Result<Value, Error>
+    ensures ok { IfOk result (λ value. value ≡ of_operands op (operand_value left.entry) right.now) }
+    ensures kind { IfErr result (λ kind. kind ≡ OutOfMemory) }
+{
+    match left.as_value().as_int() {
+        Some(number) => match right {
+            Value::Int(other) => Ok(value_of_numbers(op, number, *other)),
+            _ => Ok(Value::Null),
+        },
+        None => match op {
+            BinaryOp::Add => joined_texts(alloc, left, right),
+            _ => Ok(Value::Null),
+        },
+    }
+}
+
+/// What an operator gives of two operands.
+///
+/// # Errors
+/// `OutOfMemory`.
+pub(crate) fn binary_value(
+    alloc: Global,
+    op: BinaryOp,
+    left: Operand,
+    right: &Value,
+) -> Result<Value, Error>
+    ensures ok { IfOk result (λ value. value ≡ value_of_two op (operand_value left.entry) right.now) }
+    ensures kind { IfErr result (λ kind. kind ≡ OutOfMemory) }
+{
+    match op {
+        BinaryOp::Eq => Ok(truth(left.as_value().cmp(right).is_eq())),
+        BinaryOp::Ne => Ok(truth(left.as_value().cmp(right).is_ne())),
+        BinaryOp::Lt => Ok(truth(left.as_value().cmp(right).is_lt())),
+        BinaryOp::Le => Ok(truth(left.as_value().cmp(right).is_le())),
+        BinaryOp::Gt => Ok(truth(left.as_value().cmp(right).is_gt())),
+        BinaryOp::Ge => Ok(truth(left.as_value().cmp(right).is_ge())),
+        _ => arithmetic(alloc, op, left, right),
+    }
+}

@@ -1,0 +1,9 @@
+//! Expressions and queries as values.
+#![tactic(auto)]
+
+pub mod expr;
+pub mod laws;
+pub mod query;
+
+pub use expr::Expr;
+pub use query::{Delete, Insert, Select, Update};

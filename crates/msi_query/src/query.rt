@@ -1,0 +1,40 @@
+//! Queries as values: how they are built, and how they print.
+
+ghost use Rattle.std.specs.Prelude.{◌≡◌, IfOk, IfErr, Some};
+ghost use Rattle.msi_text.specs.declared.errors.ErrorKind.TheVariants.{OutOfMemory};
+ghost use Rattle.msi_query.specs.Queries.{narrowed as narrowed_by};
+
+mod delete;
+mod insert;
+mod printing;
+mod select;
+mod update;
+
+use crate::expr::Expr;
+pub use delete::Delete;
+pub use insert::Insert;
+use msi_text::errors::Error;
+pub use select::Select;
+use std::alloc::Global;
+pub use update::Update;
+
+/// What a join does with a row of the left side without a match: an inner one drops it, a left one keeps it.
+#[derive(Clone, Copy, PartialEq, Eq, Debug, Drop)]
+pub enum JoinKind {
+    Inner,
+    Left,
+}
+
+/// The condition under one more: a second is joined to the first by `and`.
+///
+/// # Errors
+/// `OutOfMemory`.
+pub(crate) fn narrowed(alloc: Global, first: Option<Expr>, condition: Expr) -> Result<Expr, Error>
+    ensures ok { IfOk result (λ both. Some both ≡ narrowed_by first condition) }
+    ensures kind { IfErr result (λ kind. kind ≡ OutOfMemory) }
+{
+    match first {
+        Some(first) => first.and(alloc, condition),
+        None => Ok(condition),
+    }
+}

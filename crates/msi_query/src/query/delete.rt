@@ -1,0 +1,87 @@
+//! Queries that take rows out.
+
+ghost use Rattle.std.specs.Prelude.{◌≡◌, IfOk, IfErr, None};
+ghost use Rattle.msi_text.specs.declared.errors.ErrorKind.TheVariants.{OutOfMemory};
+ghost use Rattle.msi_query.specs.Queries.{narrowed as narrowed_by};
+ghost use Rattle.msi_query.specs.QueryTexts.{delete_text};
+
+use super::narrowed;
+use super::printing::write_condition;
+use crate::expr::Expr;
+use msi_text::errors::Error;
+use msi_text::text::{IntoText, Text};
+use std::alloc::Global;
+use std::fmt;
+use std::marker::Model;
+
+/// Rows to be taken out of a table. A contract sees the table's name and the condition.
+#[derive(Drop)]
+pub struct Delete {
+    alloc: Global,
+    table: Text,
+    condition: Option<Expr>,
+}
+
+impl Model for Delete {
+    ghost use Rattle.std.specs.Prelude.{List};
+    ghost use Rattle.std.specs.Coded.{Coded, code_by, codes};
+    ghost use Rattle.msi_query.specs.Queries.{DeleteQuery};
+    ghost use Rattle.msi_query.specs.Expressions.{Expression};
+    ghost use Rattle.msi_query.specs.ExpressionCode.{Symbol, postfix, from_postfix, from_postfix-postfix};
+
+    ghost Value = { DeleteQuery };
+
+    ghost coded = { let expression : Coded Expression = code_by (List Symbol) (Prim.hlevel codes) postfix from_postfix from_postfix-postfix in Prim.hlevel (codes, expression) };
+
+    ghost view = { λ q. record { table = q.table; condition = q.condition } };
+}
+
+impl Delete {
+    /// All rows of the table of this name.
+    ///
+    /// # Errors
+    /// `OutOfMemory`.
+    pub fn from<S: IntoText>(alloc: Global, table: S) -> Result<Delete, Error>
+        ensures ok { IfOk result (λ query. query ≡ record { table = S.text table; condition = None }) }
+        ensures kind { IfErr result (λ kind. kind ≡ OutOfMemory) }
+    {
+        let table = table.into_text(alloc)?;
+        Ok(Delete {
+            alloc,
+            table,
+            condition: None,
+        })
+    }
+
+    /// Those of the rows for which the condition holds too.
+    ///
+    /// # Errors
+    /// `OutOfMemory`.
+    pub fn with(self, condition: Expr) -> Result<Delete, Error>
+        ensures ok { IfOk result (λ query. query ≡ record self { condition = narrowed_by self.condition condition }) }
+        ensures kind { IfErr result (λ kind. kind ≡ OutOfMemory) }
+    {
+        let Delete {
+            alloc,
+            table,
+            condition: first,
+        } = self;
+        let both = narrowed(alloc, first, condition)?;
+        Ok(Delete {
+            alloc,
+            table,
+            condition: Some(both),
+        })
+    }
+}
+
+/// Writes the query as SQL, as `DELETE FROM Quux WHERE Foo > 42`. Literal texts past ASCII, and formats with a width or other
+/// options, are promised nothing.
+impl fmt::Display for Delete {
+    ghost output = { delete_text };
+
+    fn fmt<W: fmt::Write>(&self, f: &mut fmt::Formatter<W>) -> fmt::Result {
+        write!(f, "DELETE FROM {}", self.table)?;
+        write_condition(f, &self.condition)
+    }
+}

@@ -1,0 +1,132 @@
+//! Queries that add rows.
+
+ghost use Rattle.std.specs.Prelude.{◌≡◌, ◌++◌, ◌∷◌, [], IfOk, IfErr, OnOk, map};
+ghost use Rattle.std.specs.Fmt.{DisplaysOnOk};
+ghost use Rattle.msi_text.specs.declared.errors.ErrorKind.TheVariants.{OutOfMemory};
+ghost use Rattle.msi_query.specs.QueryTexts.{insert_text, row_text, rows_text};
+
+use super::printing::write_list;
+use msi_table::value::Value;
+use msi_text::errors::Error;
+use msi_text::text::{IntoText, Items, Text};
+use std::alloc::Global;
+use std::fmt;
+use std::marker::Model;
+
+/// The values of a row to be added. A contract sees their list.
+#[derive(Drop)]
+pub struct NewRow {
+    values: Vec<Value>,
+}
+
+impl Model for NewRow {
+    ghost use Rattle.std.specs.Prelude.{List};
+    ghost use Rattle.msi_table.specs.declared.value.Value.{Value as ValueOf};
+
+    ghost Value = { List ValueOf };
+
+    ghost view = { λ r. r.values.items };
+}
+
+impl fmt::Display for NewRow {
+    ghost output = { row_text };
+
+    fn fmt<W: fmt::Write>(&self, f: &mut fmt::Formatter<W>) -> fmt::Result {
+        f.write_str("(")?;
+        write_list(f, self.values.as_slice())?;
+        f.write_str(")")
+    }
+}
+
+/// Rows to be added to a table. A contract sees the table's name and the lists of values.
+#[derive(Drop)]
+pub struct Insert {
+    table: Text,
+    rows: Items<NewRow>,
+}
+
+impl Model for Insert {
+    ghost use Rattle.msi_query.specs.Queries.{InsertQuery};
+
+    ghost Value = { InsertQuery };
+
+    ghost view = { λ q. record { table = q.table; rows = q.rows } };
+}
+
+impl Insert {
+    /// No row yet, for the table of this name.
+    ///
+    /// # Errors
+    /// `OutOfMemory`.
+    pub fn into<S: IntoText>(alloc: Global, table: S) -> Result<Insert, Error>
+        ensures ok { IfOk result (λ query. query ≡ record { table = S.text table; rows = [] }) }
+        ensures kind { IfErr result (λ kind. kind ≡ OutOfMemory) }
+    {
+        let table = table.into_text(alloc)?;
+        Ok(Insert {
+            table,
+            rows: Items::from_vec(Vec::new(alloc)),
+        })
+    }
+
+    /// One more row.
+    ///
+    /// # Errors
+    /// `OutOfMemory`.
+    pub fn row(self, values: Vec<Value>) -> Result<Insert, Error>
+        ensures ok { IfOk result (λ query. query ≡ record self { rows = self.rows ++ (values.items ∷ []) }) }
+        ensures kind { IfErr result (λ kind. kind ≡ OutOfMemory) }
+    {
+        let Insert { table, rows } = self;
+        let mut rows = rows.into_vec();
+        rows.push(NewRow { values })?;
+        Ok(Insert {
+            table,
+            rows: Items::from_vec(rows),
+        })
+    }
+
+    /// More rows, in order.
+    ///
+    /// # Errors
+    /// `OutOfMemory`.
+    pub fn rows(self, rows: Vec<Vec<Value>>) -> Result<Insert, Error>
+        ensures ok { IfOk result (λ query. query ≡ record self { rows = self.rows ++ map (λ row. row.items) rows.items }) }
+        ensures kind { IfErr result (λ kind. kind ≡ OutOfMemory) }
+    {
+        let Insert {
+            table,
+            rows: before,
+        } = self;
+        let mut all = before.into_vec();
+        for values in rows {
+            all.push(NewRow { values })?;
+        }
+        Ok(Insert {
+            table,
+            rows: Items::from_vec(all),
+        })
+    }
+}
+
+/// Writes rows behind their word, where there are some.
+fn write_rows<W: fmt::Write>(f: &mut fmt::Formatter<W>, rows: &[NewRow]) -> fmt::Result
+    ensures { DisplaysOnOk W.write_str_gives f.old result (rows_text rows.now) f.new }
+{
+    if rows.is_empty() {
+        return Ok(());
+    }
+    f.write_str(" VALUES ")?;
+    write_list(f, rows)
+}
+
+/// Writes the query as SQL, as `INSERT INTO Quux VALUES (1, "a"), (NULL, "b")`. Literal texts past ASCII, and formats with a width
+/// or other options, are promised nothing.
+impl fmt::Display for Insert {
+    ghost output = { insert_text };
+
+    fn fmt<W: fmt::Write>(&self, f: &mut fmt::Formatter<W>) -> fmt::Result {
+        write!(f, "INSERT INTO {}", self.table)?;
+        write_rows(f, self.rows.as_slice())
+    }
+}

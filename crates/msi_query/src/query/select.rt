@@ -1,0 +1,256 @@
+//! Queries for rows.
+
+ghost use Rattle.std.specs.Prelude.{◌≡◌, ◌++◌, IfOk, IfErr, List, ℕ, Some, codes, map, option_copied};
+ghost use Rattle.std.specs.Fmt.{DisplaysOnOk, ◌++?◌};
+ghost use Rattle.msi_text.specs.declared.errors.ErrorKind.TheVariants.{OutOfMemory};
+ghost use Rattle.msi_query.specs.Queries.{table, join, no_clauses, narrowed_query, projected_query};
+ghost use Rattle.msi_query.specs.QueryTexts.{bare_name, columns_text, join_word, query_text, side_text};
+ghost use Rattle.msi_query.specs.QueryTrees.{query_of};
+
+use super::printing::{write_condition, write_list};
+use super::{JoinKind, narrowed};
+use crate::expr::Expr;
+use msi_text::errors::Error;
+use msi_text::text::{IntoText, Items, Text};
+use std::alloc::Global;
+use std::fmt;
+use std::marker::Model;
+
+/// Where rows come from, the columns that are kept of them, and the condition on them.
+#[derive(Drop)]
+pub enum Rows {
+    Table(Text, Items<Text>, Option<Expr>),
+    Join(JoinKind, Box<Rows>, Box<Rows>, Expr, Items<Text>, Option<Expr>),
+}
+
+/// A query for rows. A contract sees its tree.
+#[derive(Drop)]
+pub struct Select {
+    alloc: Global,
+    rows: Rows,
+}
+
+impl Model for Select {
+    ghost use Rattle.std.specs.Prelude.{List};
+    ghost use Rattle.std.specs.Coded.{Coded, code_by, codes};
+    ghost use Rattle.msi_query.specs.Queries.{Query};
+    ghost use Rattle.msi_query.specs.Expressions.{Expression};
+    ghost use Rattle.msi_query.specs.ExpressionCode.{Symbol, postfix, from_postfix, from_postfix-postfix};
+    ghost use Rattle.msi_query.specs.QueryCode.{Step, steps_of, from_steps, from_steps-steps_of};
+
+    ghost Value = { Query };
+
+    ghost coded = { let expression : Coded Expression = code_by (List Symbol) (Prim.hlevel codes) postfix from_postfix from_postfix-postfix in code_by (List Step) (Prim.hlevel (codes, expression)) steps_of from_steps from_steps-steps_of };
+
+    ghost use Rattle.msi_query.specs.QueryTrees.{query_of};
+
+    ghost view = { λ s. query_of s.rows };
+}
+
+impl Select {
+    /// All rows of the table of this name, with all columns.
+    ///
+    /// # Errors
+    /// `OutOfMemory`.
+    pub fn table<S: IntoText>(alloc: Global, name: S) -> Result<Select, Error>
+        ensures ok { IfOk result (λ query. query ≡ table (S.text name) no_clauses) }
+        ensures kind { IfErr result (λ kind. kind ≡ OutOfMemory) }
+    {
+        let name = name.into_text(alloc)?;
+        let columns = Items::from_vec(Vec::new(alloc));
+        Ok(Select {
+            alloc,
+            rows: Rows::Table(name, columns, None),
+        })
+    }
+
+    /// The pairs of this query's rows and the other's for which the condition holds, with the columns of both.
+    ///
+    /// # Errors
+    /// `OutOfMemory`.
+    pub fn inner_join(self, rhs: Select, on: Expr) -> Result<Select, Error>
+        ensures ok { IfOk result (λ query. query ≡ join JoinKind.Inner self rhs on no_clauses) }
+        ensures kind { IfErr result (λ kind. kind ≡ OutOfMemory) }
+    {
+        self.joined(JoinKind::Inner, rhs, on)
+    }
+
+    /// The same pairs, and each row of this query without a pair, with nulls for the other's columns.
+    ///
+    /// # Errors
+    /// `OutOfMemory`.
+    pub fn left_join(self, rhs: Select, on: Expr) -> Result<Select, Error>
+        ensures ok { IfOk result (λ query. query ≡ join JoinKind.Left self rhs on no_clauses) }
+        ensures kind { IfErr result (λ kind. kind ≡ OutOfMemory) }
+    {
+        self.joined(JoinKind::Left, rhs, on)
+    }
+
+    /// A join of either kind.
+    ///
+    /// # Errors
+    /// `OutOfMemory`.
+    fn joined(self, kind: JoinKind, rhs: Select, on: Expr) -> Result<Select, Error>
+        ensures ok { IfOk result (λ query. query ≡ join kind self rhs on no_clauses) }
+        ensures kind { IfErr result (λ kind. kind ≡ OutOfMemory) }
+    {
+        let Select { alloc, rows: left } = self;
+        let Select {
+            alloc: _,
+            rows: right,
+        } = rhs;
+        let left = Box::new(alloc, left)?;
+        let right = Box::new(alloc, right)?;
+        let columns = Items::from_vec(Vec::new(alloc));
+        Ok(Select {
+            alloc,
+            rows: Rows::Join(kind, left, right, on, columns, None),
+        })
+    }
+
+    /// The same rows with these columns, in this order, in place of those that were named before; an empty list keeps all.
+    ///
+    /// # Errors
+    /// `OutOfMemory`.
+    pub fn columns(self, names: &[&str]) -> Result<Select, Error>
+        ensures ok { IfOk result (λ query. query ≡ projected_query self (map (λ name. name.now) names.now)) }
+        ensures kind { IfErr result (λ kind. kind ≡ OutOfMemory) }
+    {
+        let Select { alloc, rows } = self;
+        let columns = copied_list(alloc, names)?;
+        let rows = match rows {
+            Rows::Table(name, _before, condition) => Rows::Table(name, columns, condition),
+            Rows::Join(kind, left, right, on, _before, condition) => {
+                Rows::Join(kind, left, right, on, columns, condition)
+            }
+        };
+        Ok(Select { alloc, rows })
+    }
+
+    /// Those of the rows for which the condition holds too. It is judged before columns are left out.
+    ///
+    /// # Errors
+    /// `OutOfMemory`.
+    pub fn with(self, condition: Expr) -> Result<Select, Error>
+        ensures ok { IfOk result (λ query. query ≡ narrowed_query self condition) }
+        ensures kind { IfErr result (λ kind. kind ≡ OutOfMemory) }
+    {
+        let Select { alloc, rows } = self;
+        let rows = match rows {
+            Rows::Table(name, columns, first) => {
+                Rows::Table(name, columns, Some(narrowed(alloc, first, condition)?))
+            }
+            Rows::Join(kind, left, right, on, columns, first) => {
+                let both = narrowed(alloc, first, condition)?;
+                Rows::Join(kind, left, right, on, columns, Some(both))
+            }
+        };
+        Ok(Select { alloc, rows })
+    }
+}
+
+/// Copies of the texts, in order.
+///
+/// # Errors
+/// `OutOfMemory`.
+fn copied_list(alloc: Global, texts: &[&str]) -> Result<Items<Text>, Error>
+    ensures ok { IfOk result (λ copies. copies ≡ map (λ text. text.now) texts.now) }
+    ensures kind { IfErr result (λ kind. kind ≡ OutOfMemory) }
+{
+    let mut copies = Vec::new(alloc);
+    for text in texts {
+        copies.push((*text).into_text(alloc)?)?;
+    }
+    Ok(Items::from_vec(copies))
+}
+
+impl Rows {
+    /// The name of a table of which all is wanted.
+    fn bare_name(&self) -> Option<&str>
+        ensures { option_copied result ≡ bare_name (query_of self.now) }
+    {
+        match self {
+            Rows::Table(name, columns, None) if columns.is_empty() => Some(name.as_str()),
+            _ => None,
+        }
+    }
+}
+
+impl JoinKind {
+    /// The words that stand between the sides.
+    fn words(self) -> &'static str
+        ensures { result.now ≡ join_word self }
+    {
+        match self {
+            JoinKind::Inner => " INNER JOIN ",
+            JoinKind::Left => " LEFT JOIN ",
+        }
+    }
+}
+
+/// Writes the columns that are kept, or a star for all.
+fn write_names<W: fmt::Write>(f: &mut fmt::Formatter<W>, columns: &[Text]) -> fmt::Result
+    ensures { DisplaysOnOk W.write_str_gives f.old result (Some (columns_text columns.now)) f.new }
+{
+    if columns.is_empty() {
+        f.write_str("*")
+    } else {
+        write_list(f, columns)
+    }
+}
+
+/// Writes what stands before the place that rows come from.
+fn write_columns<W: fmt::Write>(f: &mut fmt::Formatter<W>, columns: &[Text]) -> fmt::Result
+    ensures { DisplaysOnOk W.write_str_gives f.old result (Some (codes "SELECT " ++ columns_text columns.now ++ codes " FROM ")) f.new }
+{
+    f.write_str("SELECT ")?;
+    write_names(f, columns)?;
+    f.write_str(" FROM ")
+}
+
+/// Writes the text of a query.
+#[cycle(writing)]
+fn write_query<W: fmt::Write>(f: &mut fmt::Formatter<W>, rows: &Rows) -> fmt::Result
+    ensures { DisplaysOnOk W.write_str_gives f.old result (query_text (query_of rows.now)) f.new }
+{
+    match rows {
+        Rows::Table(name, columns, condition) => {
+            write_columns(f, columns.as_slice())?;
+            f.write_str(name.as_str())?;
+            write_condition(f, condition)
+        }
+        Rows::Join(kind, left, right, on, columns, condition) => {
+            write_columns(f, columns.as_slice())?;
+            write_side(f, left)?;
+            f.write_str(kind.words())?;
+            write_side(f, right)?;
+            write!(f, " ON {on}")?;
+            write_condition(f, condition)
+        }
+    }
+}
+
+/// Writes a side of a join: a table of which all is wanted by its name, all else in brackets.
+#[cycle(writing)]
+fn write_side<W: fmt::Write>(f: &mut fmt::Formatter<W>, rows: &Rows) -> fmt::Result
+    ensures { DisplaysOnOk W.write_str_gives f.old result (side_text (query_of rows.now) (query_text (query_of rows.now))) f.new }
+{
+    match rows.bare_name() {
+        Some(name) => f.write_str(name),
+        None => {
+            f.write_str("(")?;
+            write_query(f, rows)?;
+            f.write_str(")")
+        }
+    }
+}
+
+/// Writes the query as SQL, as `SELECT Foo, Bar FROM Quux WHERE Foo > 42`. Literal texts past ASCII, and formats with a width or
+/// other options, are promised nothing.
+impl fmt::Display for Select {
+    ghost output = { query_text };
+
+    fn fmt<W: fmt::Write>(&self, f: &mut fmt::Formatter<W>) -> fmt::Result {
+        write_query(f, &self.rows)
+    }
+}

@@ -1,0 +1,154 @@
+//! Queries that change rows.
+
+ghost use Rattle.std.specs.Prelude.{◌≡◌, ◌++◌, ◌∷◌, [], IfOk, IfErr, None};
+ghost use Rattle.std.specs.Fmt.{DisplaysOnOk};
+ghost use Rattle.msi_text.specs.declared.errors.ErrorKind.TheVariants.{OutOfMemory};
+ghost use Rattle.msi_query.specs.Queries.{narrowed as narrowed_by};
+ghost use Rattle.msi_query.specs.QueryTexts.{set_text, sets_text, update_text};
+
+use super::narrowed;
+use super::printing::{write_condition, write_list};
+use crate::expr::Expr;
+use msi_table::value::Value;
+use msi_text::errors::Error;
+use msi_text::text::{IntoText, Items, Text};
+use std::alloc::Global;
+use std::fmt;
+use std::marker::Model;
+
+/// A column and its new value.
+#[derive(Drop)]
+pub struct Assignment {
+    column: Text,
+    value: Value,
+}
+
+impl Model for Assignment {
+    ghost use Rattle.std.specs.Prelude.{List, ℕ};
+    ghost use Rattle.msi_table.specs.declared.value.Value.{Value as ValueOf};
+
+    ghost Value = { List ℕ × ValueOf };
+
+    ghost view = { λ s. (s.column, s.value) };
+}
+
+impl fmt::Display for Assignment {
+    ghost output = { set_text };
+
+    fn fmt<W: fmt::Write>(&self, f: &mut fmt::Formatter<W>) -> fmt::Result {
+        write!(f, "{} = {}", self.column, self.value)
+    }
+}
+
+/// New values for columns of a table's rows. A contract sees the table's name, the columns with their values, and the condition.
+#[derive(Drop)]
+pub struct Update {
+    alloc: Global,
+    table: Text,
+    sets: Items<Assignment>,
+    condition: Option<Expr>,
+}
+
+impl Model for Update {
+    ghost use Rattle.std.specs.Prelude.{List};
+    ghost use Rattle.std.specs.Coded.{Coded, code_by, codes};
+    ghost use Rattle.msi_query.specs.Queries.{UpdateQuery};
+    ghost use Rattle.msi_query.specs.Expressions.{Expression};
+    ghost use Rattle.msi_query.specs.ExpressionCode.{Symbol, postfix, from_postfix, from_postfix-postfix};
+
+    ghost Value = { UpdateQuery };
+
+    ghost coded = { let expression : Coded Expression = code_by (List Symbol) (Prim.hlevel codes) postfix from_postfix from_postfix-postfix in Prim.hlevel (codes, expression) };
+
+    ghost view = { λ q. record { table = q.table; sets = q.sets; condition = q.condition } };
+}
+
+impl Update {
+    /// All rows of the table of this name, with no new value yet.
+    ///
+    /// # Errors
+    /// `OutOfMemory`.
+    pub fn table<S: IntoText>(alloc: Global, name: S) -> Result<Update, Error>
+        ensures ok { IfOk result (λ query. query ≡ record { table = S.text name; sets = []; condition = None }) }
+        ensures kind { IfErr result (λ kind. kind ≡ OutOfMemory) }
+    {
+        let table = name.into_text(alloc)?;
+        Ok(Update {
+            alloc,
+            table,
+            sets: Items::from_vec(Vec::new(alloc)),
+            condition: None,
+        })
+    }
+
+    /// One more column with its new value. Of a column that is named more than once the last value stands.
+    ///
+    /// # Errors
+    /// `OutOfMemory`.
+    pub fn set<S: IntoText>(self, column: S, value: Value) -> Result<Update, Error>
+        ensures ok { IfOk result (λ query. query ≡ record self { sets = self.sets ++ ((S.text column, value) ∷ []) }) }
+        ensures kind { IfErr result (λ kind. kind ≡ OutOfMemory) }
+    {
+        let Update {
+            alloc,
+            table,
+            sets,
+            condition,
+        } = self;
+        let column = column.into_text(alloc)?;
+        let mut sets = sets.into_vec();
+        sets.push(Assignment { column, value })?;
+        Ok(Update {
+            alloc,
+            table,
+            sets: Items::from_vec(sets),
+            condition,
+        })
+    }
+
+    /// Those of the rows for which the condition holds too.
+    ///
+    /// # Errors
+    /// `OutOfMemory`.
+    pub fn with(self, condition: Expr) -> Result<Update, Error>
+        ensures ok { IfOk result (λ query. query ≡ record self { condition = narrowed_by self.condition condition }) }
+        ensures kind { IfErr result (λ kind. kind ≡ OutOfMemory) }
+    {
+        let Update {
+            alloc,
+            table,
+            sets,
+            condition: first,
+        } = self;
+        let both = narrowed(alloc, first, condition)?;
+        Ok(Update {
+            alloc,
+            table,
+            sets,
+            condition: Some(both),
+        })
+    }
+}
+
+/// Writes the new values behind their word, where there are some.
+fn write_sets<W: fmt::Write>(f: &mut fmt::Formatter<W>, sets: &[Assignment]) -> fmt::Result
+    ensures { DisplaysOnOk W.write_str_gives f.old result (sets_text sets.now) f.new }
+{
+    if sets.is_empty() {
+        return Ok(());
+    }
+    f.write_str(" SET ")?;
+    write_list(f, sets)
+}
+
+/// Writes the query as SQL, as `UPDATE Quux SET Foo = 1 WHERE Bar > 42`. Literal texts past ASCII, and formats with a width or
+/// other options, are promised nothing.
+impl fmt::Display for Update {
+    ghost output = { update_text };
+
+    fn fmt<W: fmt::Write>(&self, f: &mut fmt::Formatter<W>) -> fmt::Result {
+        write!(f, "UPDATE {}", self.table)?;
+        write_sets(f, self.sets.as_slice())?;
+        write_condition(f, &self.condition)
+    }
+}

@@ -1,0 +1,9 @@
+//! Tests of the crate `msi_query`.
+#![tactic(auto)]
+
+#[cfg(test)]
+mod expressions;
+#[cfg(test)]
+mod printed_expressions;
+#[cfg(test)]
+mod queries;
