@@ -116,6 +116,25 @@ fn several_streams_come_back_in_order(rt: HostRuntime) -> Result<(), Fail> {
 }
 
 #[test]
+fn streams_are_kept_by_name(rt: HostRuntime) -> Result<(), Fail> {
+    let mut streams = Streams::new(rt.alloc());
+    assert!(rt; streams.is_empty());
+    for (name, size) in [("a", 2), ("b", 0), ("a", 3)] {
+        let held = vec![in rt.alloc(); 7; size]?;
+        streams.insert(Name::new(name)?, Bytes::from_vec(held))?;
+    }
+    assert_eq!(rt; streams.len(), 2);
+    assert!(rt; streams.contains(&Name::new("b")?));
+    // Capitals are told from small letters.
+    assert!(rt; !streams.contains(&Name::new("A")?));
+    let held = streams.remove(&Name::new("a")?).expect(&rt, "the stream");
+    assert_eq!(rt; held.as_slice(), [7, 7, 7].as_slice());
+    assert!(rt; streams.get(&Name::new("a")?).is_none());
+    assert_eq!(rt; streams.len(), 1);
+    Ok(())
+}
+
+#[test]
 fn damage_is_refused(rt: HostRuntime) -> Result<(), Fail> {
     let alloc = rt.alloc();
     let file = plain_file(alloc)?;

@@ -1,4 +1,4 @@
-//! Tests of compound files and names, over bytes in memory, and tests that cross crates.
+//! Tests of compound files and names, over bytes in memory.
 #![tactic(auto)]
 
 #[cfg(test)]

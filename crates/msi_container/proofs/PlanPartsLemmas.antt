@@ -53,12 +53,6 @@ claim_back limit used xs ys can = record {
   distinct = rw (← append_assoc used xs ys) at can.distinct;
 }
 
-pub claim_both : (limit : ℕ) (used xs ys : List ℕ) → CanClaim limit used xs → CanClaim limit (used ++ xs) ys → CanClaim limit used (xs ++ ys)
-claim_both limit used xs ys a b = record {
-  below = below_both limit xs ys a.below b.below;
-  distinct = rw append_assoc at b.distinct;
-}
-
 -- what the claims are beside those that were there
 pub claimed_room : (marks : Vec Bool Global) (limit : ℕ) (list used c : List ℕ) → vec_len marks ≡ limit → MarkedAre marks.items list → AreDistinct list → list ≡ used ++ c → CanClaim limit used c
 claimed_room marks limit list used c e m d same =

@@ -5,7 +5,6 @@ ghost use Rattle.std.specs.Prelude.{◌≡◌, ◌≤◌, ◌↔◌, false};
 ghost use Rattle.msidb.specs.Commands.{fits_command};
 
 mod command;
-mod fault;
 mod raw;
 #[cfg(test)]
 mod tests;
@@ -13,9 +12,10 @@ mod wrap;
 
 use command::Command;
 use msi_text::Error;
+use msi_text::parts::fault;
 use std::io::{Read, Write};
 use std::process::ExitCode;
-use std::rt::Files;
+use std::rt::{Env, Files};
 use std::{env, io};
 
 /// What is said of words that fit no command.
@@ -45,11 +45,7 @@ where
     };
     match carry_out(rt, &command, input, output) {
         Ok(()) => 0,
-        Err(error) => {
-            let kind = error.kind();
-            let _ = writeln!(errors, "{kind}");
-            1
-        }
+        Err(error) => tell(&error, errors),
     }
 }
 
@@ -67,24 +63,40 @@ where
     }
 }
 
-fn main(rt: HostRuntime) -> io::Result<ExitCode> {
+/// Tells a fault by its kind on a line of its own, and answers the status that stands for it.
+fn tell<E: Write>(error: &Error, errors: &mut E) -> u8
+    ensures { result ≡ 1 }
+{
+    let kind = error.kind();
+    let _ = writeln!(errors, "{kind}");
+    1
+}
+
+/// The words behind the program's name. Where one isn't UTF-8 there are none: it fits no command, and neither do no words.
+fn words<R: Env + AllocGlobal>(rt: &R) -> Result<Vec<String>, Error> {
     let mut words = Vec::new(rt.alloc());
-    match env::args(&rt) {
+    match env::args(rt) {
         Ok(all) => {
             for word in all.skip(1) {
                 words.push(word)?;
             }
         }
-        // A word that isn't UTF-8 fits no command, and neither do no words.
         Err(error) if error.kind() == io::ErrorKind::InvalidData => {}
-        Err(error) => return Err(error),
+        Err(error) => return Err(fault(error)),
     }
-    let status = run(
-        &rt,
-        words.as_slice(),
-        &mut rt.stdin(),
-        &mut rt.stdout(),
-        &mut rt.stderr(),
-    );
-    Ok(ExitCode::from(status))
+    Ok(words)
+}
+
+fn main(rt: HostRuntime) -> ExitCode {
+    let status = match words(&rt) {
+        Ok(words) => run(
+            &rt,
+            words.as_slice(),
+            &mut rt.stdin(),
+            &mut rt.stdout(),
+            &mut rt.stderr(),
+        ),
+        Err(error) => tell(&error, &mut rt.stderr()),
+    };
+    ExitCode::from(status)
 }

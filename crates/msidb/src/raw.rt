@@ -1,36 +1,39 @@
 //! `raw FILE`: each stream of a container, with its kind and its number of bytes.
 
-use crate::fault::fault;
 use msi_container::compound::{self, Contents};
 use msi_container::streamname;
 use msi_text::Error;
+use msi_text::parts::fault;
 use std::alloc::Global;
 use std::fs;
-use std::io::{BufWriter, Read, Write};
+use std::io::{Read, Write};
 use std::rt::Files;
 
-/// Prints a line for each stream, in the container's order of names.
+/// Prints a line for each stream, in the container's order of names. All lines are made before the first is printed.
 pub(crate) fn print_streams<R, O>(rt: &R, file: &str, output: &mut O) -> Result<(), Error>
 where
     R: Files + AllocGlobal,
     R::File: Read + Drop,
     O: Write,
 {
-    let bytes = fs::read(rt, file).map_err(fault)?;
+    let bytes = fs::read(rt, file).map_err(|error| fault(error))?;
     let contents = compound::read(rt.alloc(), bytes.as_slice())?;
-    let mut lines = BufWriter::new(rt.alloc(), output).map_err(fault)?;
-    list(rt.alloc(), &contents, &mut lines)?;
-    lines.flush().map_err(fault)
+    let lines = list(rt.alloc(), &contents)?;
+    output
+        .write_all(lines.as_slice())
+        .map_err(|error| fault(error))?;
+    output.flush().map_err(|error| fault(error))
 }
 
-/// Writes a line for each stream: its decoded name, `table` or `stream`, and its number of bytes.
-fn list<W: Write>(alloc: Global, contents: &Contents, lines: &mut W) -> Result<(), Error> {
+/// A line for each stream: its decoded name, `table` or `stream`, and its number of bytes.
+fn list(alloc: Global, contents: &Contents) -> Result<Vec<u8>, Error> {
+    let mut lines = Vec::new(alloc);
     for (name, bytes) in contents.streams.iter() {
         let encoded = name.to_text(alloc)?;
         let (name, is_table) = streamname::decode(alloc, encoded.as_str())?;
         let kind = if is_table { "table" } else { "stream" };
         let size = bytes.as_slice().len();
-        writeln!(lines, "{name}\t{kind}\t{size}").map_err(fault)?;
+        writeln!(lines, "{name}\t{kind}\t{size}").map_err(|error| fault(error))?;
     }
-    Ok(())
+    Ok(lines)
 }

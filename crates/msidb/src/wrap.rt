@@ -8,9 +8,9 @@ ghost use Rattle.msi_container.specs.Names.{utf16_units};
 ghost use Rattle.msi_container.specs.StreamNames.{encoded_name, is_valid_name};
 ghost use Rattle.msidb.specs.Wrapped.{wrapped};
 
-use crate::fault::fault;
 use msi_container::compound::{self, Bytes, Contents, Name, Streams};
 use msi_container::streamname;
+use msi_text::parts::fault;
 use msi_text::{Error, ErrorKind, Reason};
 use std::alloc::Global;
 use std::fs;
@@ -32,11 +32,12 @@ where
 {
     let name = container_name(rt.alloc(), name)?;
     let mut bytes = Vec::new(rt.alloc());
-    input.read_to_end(&mut bytes).map_err(fault)?;
+    input.read_to_end(&mut bytes).map_err(|error| fault(error))?;
     let image = image_of(rt.alloc(), name, bytes)?;
-    let mut file = fs::create(rt, out).map_err(fault)?;
-    file.write_all(image.as_slice()).map_err(fault)?;
-    file.flush().map_err(fault)
+    let mut file = fs::create(rt, out).map_err(|error| fault(error))?;
+    file.write_all(image.as_slice())
+        .map_err(|error| fault(error))?;
+    file.flush().map_err(|error| fault(error))
 }
 
 /// The container's name of an accepted stream name.

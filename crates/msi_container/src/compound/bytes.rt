@@ -1,6 +1,6 @@
 //! Numbers at positions in bytes. Past their end bytes read as zeros.
 
-ghost use Rattle.std.specs.Prelude.{◌≡◌, ◌≤◌, ◌+◌, ◌*◌, ◌<◌, ◌^◌, ◌++◌, slice_index, length, replicate, OnOk, OnErr};
+ghost use Rattle.std.specs.Prelude.{◌≡◌, ◌≤◌, ◌+◌, ◌*◌, ◌<◌, ◌^◌, ◌++◌, slice_index, length, replicate, OnOk};
 ghost use Rattle.std.specs.List.{flat_map};
 ghost use Rattle.std.specs.Int.{to_le_bytes, w32};
 ghost use Rattle.msi_container.specs.Bytes as spelled;
@@ -10,6 +10,9 @@ use std::alloc::AllocError;
 
 /// Where the header names the major version (MS-CFB 2.2).
 pub const VERSION_AT: usize = 26;
+
+/// The major version with sectors of 4096 bytes.
+pub const VERSION_4: u16 = 4;
 
 /// The byte at a position.
 pub fn byte(bytes: &[u8], p: usize) -> u8
@@ -40,7 +43,7 @@ pub fn sector_size(bytes: &[u8]) -> usize
     ensures least { 512 ≤ result }
     ensures most { result ≤ 4096 }
 {
-    if number16(bytes, VERSION_AT) == 4 {
+    if number16(bytes, VERSION_AT) == VERSION_4 {
         4096
     } else {
         512

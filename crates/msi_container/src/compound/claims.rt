@@ -1,6 +1,6 @@
 //! Which sectors, or which entries, are in use.
 
-ghost use Rattle.std.specs.Prelude.{◌≡◌, ℕ, ◌+◌, ◌<◌, ◌≤◌, ◌≢◌, ◌∷◌, ◌++◌, [], length, slice_index, slice_get, Some, true, vec_len, OnOk, OnErr, IsErrOf, IfOk, count_by, ◌↔◌};
+ghost use Rattle.std.specs.Prelude.{◌≡◌, ◌+◌, ◌<◌, ◌≤◌, ◌≢◌, ◌∷◌, ◌++◌, [], Some, true, vec_len, OnOk, OnErr, IsErrOf, IfOk, count_by, ◌↔◌};
 ghost use Rattle.msi_text.specs.declared.errors.ErrorKind.TheVariants.{InvalidData};
 ghost use Rattle.msi_container.specs.Chains.{AreDistinct, AreBelow, IsFree, MarkedAre, OthersAreUnmarked, FailsByData};
 

@@ -70,7 +70,7 @@ impl Streams {
         }
     }
 
-    /// The bytes of the stream of a name.
+    /// The bytes of the stream of a name, if there is one.
     pub fn get(&self, name: &Name) -> Option<&Bytes>
         ensures { option_copied result ≡ finite.get self.now name.now }
     {
@@ -97,7 +97,7 @@ impl Streams {
         Ok(())
     }
 
-    /// Takes the stream of a name out.
+    /// Takes the stream of a name out, if there is one, and hands its bytes back.
     pub fn remove(&mut self, name: &Name) -> Option<Bytes>
         ensures held { result ≡ finite.get self.old name.now }
         ensures gone { self.new ≡ finite.remove self.old name.now }
@@ -132,7 +132,7 @@ impl Streams {
 /// What a compound file holds: the root's CLSID, its streams, and whether storages lie below the root.
 #[derive(Drop)]
 pub struct Contents {
-    /// The CLSID of the root, as it is stored.
+    /// The CLSID of the root, as it is stored: the first three of its fields with the lowest byte in front.
     pub clsid: [u8; 16],
     /// The streams of the root.
     pub streams: Streams,

@@ -8,7 +8,7 @@ ghost use Rattle.msi_container.specs.Chains.{AreBelow, AreDistinct, Gives, Fails
 ghost use Rattle.msi_container.specs.Container as container;
 ghost use Rattle.msi_container.specs.Trees.{Tree, members};
 
-use crate::compound::bytes::{byte, number16, number32, place, sector_size};
+use crate::compound::bytes::{VERSION_4, VERSION_AT, byte, number16, number32, place, sector_size};
 use crate::compound::claims::{Claimed, Claims};
 use crate::compound::name::Name;
 use msi_text::{Error, ErrorKind, Reason};
@@ -89,7 +89,7 @@ impl<'a> Directory<'a> {
         number32(self.bytes, self.field(entry, 76))
     }
 
-    /// The CLSID of an entry, as it is stored.
+    /// The CLSID of the root, as it is stored.
     pub fn clsid(&self) -> [u8; 16]
         requires { 0 < container.entry_count self.now.bytes.now self.now.sectors.now }
         ensures { result ≡ container.clsid self.now.bytes.now self.now.sectors.now }
@@ -117,7 +117,7 @@ impl<'a> Directory<'a> {
     {
         let at = self.field(entry, 120);
         let low = u64::from(number32(self.bytes, at));
-        if number16(self.bytes, 26) == 4 {
+        if number16(self.bytes, VERSION_AT) == VERSION_4 {
             low + 0x1_0000_0000 * u64::from(number32(self.bytes, at + 4))
         } else {
             low

@@ -14,8 +14,9 @@ use crate::compound::balance::{links, middle};
 use crate::compound::bytes::push_numbers;
 use crate::compound::contents::{Contents, Streams};
 use crate::compound::directory::{NO_ENTRY, ROOT, STREAM};
-use crate::compound::extents::{MINI_SECTOR_SIZE, SECTOR_SIZE, units};
+use crate::compound::extents::{MINI_SECTOR_SIZE, SECTOR_SIZE, start_of, units};
 use crate::compound::header::MINI_STREAM_CUTOFF;
+use crate::compound::totals::FAT_ENTRIES;
 use crate::compound::walks::END_OF_CHAIN;
 use std::alloc::{AllocError, Global};
 use std::marker::Model;
@@ -61,14 +62,14 @@ pub fn directory_sectors(count: usize) -> usize
 pub fn mini_fat_sectors(mini_sectors: usize) -> usize
     ensures { result ≡ div_ceil mini_sectors 128 }
 {
-    mini_sectors.div_ceil(128)
+    mini_sectors.div_ceil(FAT_ENTRIES)
 }
 
 /// How many sectors the mini stream of so many mini sectors takes, eight to a sector.
 pub fn mini_stream_sectors(mini_sectors: usize) -> usize
     ensures { result ≡ div_ceil mini_sectors 8 }
 {
-    mini_sectors.div_ceil(8)
+    mini_sectors.div_ceil(SECTOR_SIZE / MINI_SECTOR_SIZE)
 }
 
 /// What of a stream's bytes lies in mini sectors: all where it is shorter than 4096 bytes, or none.
@@ -136,17 +137,10 @@ fn push_root(
         right: NO_ENTRY,
         child: middle(1, contents.streams.len() as u32),
         clsid: contents.clsid,
-        start: chain_start(first, mini_sectors),
+        start: start_of(first, mini_sectors as u32),
         size: (MINI_SECTOR_SIZE * mini_sectors) as u64,
     };
     push_entry(held, &root)
-}
-
-/// Where a chain of `count` sectors starts, the first of which is given.
-fn chain_start(first: u32, count: usize) -> u32
-    ensures { result ≡ extents.start_of first count }
-{
-    if count == 0 { END_OF_CHAIN } else { first }
 }
 
 /// Adds the entries of the streams: the large ones follow one another from sector `first` on, and the small ones from

@@ -78,6 +78,13 @@ fn push_chain(held: &mut Vec<u8>, first: u32, count: u32) -> Result<(), AllocErr
     Ok(())
 }
 
+/// Where a chain of `count` units starts, the first of which is given: at the end mark, if it has none.
+pub fn start_of(first: u32, count: u32) -> u32
+    ensures { result ≡ spec.start_of first count }
+{
+    if count == 0 { END_OF_CHAIN } else { first }
+}
+
 /// The entry for unit `k` of such a chain: it names the next unit, and the last ends the chain.
 pub fn chain_entry(first: u32, count: u32, k: u32) -> u32
     requires few { first + count < 2 ^ 31 }

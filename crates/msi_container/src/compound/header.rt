@@ -5,7 +5,7 @@ ghost use Rattle.msi_text.specs.declared.errors.ErrorKind.TheVariants.{InvalidDa
 ghost use Rattle.msi_container.specs.Bytes as spelled;
 ghost use Rattle.msi_container.specs.Container as container;
 
-use crate::compound::bytes::{VERSION_AT, number16, number32, sector_size};
+use crate::compound::bytes::{VERSION_4, VERSION_AT, number16, number32, sector_size};
 use msi_text::{Error, ErrorKind, Reason};
 
 /// The signature that begins each compound file.
@@ -26,9 +26,6 @@ const BYTE_ORDER: u16 = 0xFFFE;
 /// The major version with sectors of 512 bytes.
 const VERSION_3: u16 = 3;
 
-/// The major version with sectors of 4096 bytes.
-const VERSION_4: u16 = 4;
-
 /// Where the sector shift stands.
 const SECTOR_SHIFT_AT: usize = 30;
 
@@ -41,6 +38,9 @@ const MINI_SECTOR_SHIFT: u16 = 6;
 /// Where the number of FAT sectors stands.
 pub const FAT_COUNT_AT: usize = 44;
 
+/// Where the first sector of the directory stands.
+pub const DIRECTORY_START_AT: usize = 48;
+
 /// Where the mini stream cutoff stands.
 const MINI_STREAM_CUTOFF_AT: usize = 56;
 
@@ -49,9 +49,6 @@ pub const MINI_STREAM_CUTOFF: u32 = 4096;
 
 /// Where the first sector of the mini FAT stands.
 pub const MINI_FAT_START_AT: usize = 60;
-
-/// Where the first sector of the directory stands.
-pub const DIRECTORY_START_AT: usize = 48;
 
 /// Where the first sector of the DIFAT stands.
 pub const DIFAT_START_AT: usize = 68;

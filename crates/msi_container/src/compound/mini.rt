@@ -6,9 +6,10 @@ ghost use Rattle.msi_container.specs.Layout as spec;
 ghost use Rattle.msi_container.specs.Views.{seen};
 
 use crate::compound::bytes::push_repeated;
+use crate::compound::entries::mini_fat_sectors;
 use crate::compound::extents::{MINI_SECTOR_SIZE, SECTOR_SIZE, all_units, push_chains, push_parts};
 use crate::compound::sectors::FREE;
-use crate::compound::totals::{FAT_ENTRIES, fat_sectors};
+use crate::compound::totals::FAT_ENTRIES;
 use std::alloc::{AllocError, Global};
 
 /// The mini FAT of parts that lie in mini sectors: their chains, and free entries up to a whole sector.
@@ -17,7 +18,7 @@ pub fn mini_fat(alloc: Global, parts: &[&[u8]]) -> Result<Vec<u8>, AllocError>
     ensures { IfOk result (λ table. table.items ≡ spec.mini_fat_of (seen parts.now)) }
 {
     let count = all_units(parts, MINI_SECTOR_SIZE);
-    let sectors = fat_sectors(count);
+    let sectors = mini_fat_sectors(count);
     let mut table = Vec::with_capacity(alloc, SECTOR_SIZE * sectors)?;
     push_chains(&mut table, parts, MINI_SECTOR_SIZE)?;
     push_repeated(&mut table, FREE, FAT_ENTRIES * sectors - count)?;

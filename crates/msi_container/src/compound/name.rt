@@ -18,7 +18,10 @@ use std::marker::Model;
 /// The most units of a name (MS-CFB 2.6.1: 32 with the closing null).
 pub const MAX_UNITS: usize = 31;
 
-/// A name of 1 to 31 units of well-formed UTF-16, in the container's order.
+/// The name of an entry: 1 to 31 units of well-formed UTF-16 (MS-CFB 2.6.1).
+///
+/// Names are ordered as a directory orders its entries (MS-CFB 2.6.4): fewer units first, then by the units with ASCII small
+/// letters as capitals, then by the units. Beyond ASCII letters aren't folded.
 #[derive(Debug, Drop)]
 pub struct Name {
     units: [u16; 31],
@@ -99,7 +102,7 @@ impl Name {
         }
     }
 
-    /// The units.
+    /// The UTF-16 units, 1 to 31 of them.
     pub fn units(&self) -> &[u16]
         ensures units { result.now ≡ self.now }
         ensures some { 0 < length self.now }
@@ -142,10 +145,9 @@ fn is_low_surrogate(unit: u16) -> bool
 fn capital_of(unit: u16) -> u16
     ensures { result ≡ capital unit }
 {
-    if unit >= 97 && unit <= 122 {
-        unit - 32
-    } else {
-        unit
+    match unit {
+        0x61..=0x7A => unit - 0x20,
+        _ => unit,
     }
 }
 

@@ -14,6 +14,7 @@ use crate::compound::bytes::{number32, sector_size};
 use crate::compound::claims::{Claimed, Claims};
 use crate::compound::contents::{Contents, Streams};
 use crate::compound::directory::{Directory, ROOT, check_entries, reach};
+use crate::compound::extents::MINI_SECTOR_SIZE;
 use crate::compound::fat::{difat_sectors, fat_sectors};
 use crate::compound::header::{
     DIRECTORY_START_AT, GREATEST_REGULAR, MINI_FAT_START_AT, check_header, sector_count,
@@ -24,10 +25,15 @@ use crate::compound::walks::{walk, walk_to_end};
 use msi_text::{Error, ErrorKind, Reason};
 use std::alloc::Global;
 
-/// The contents that the bytes hold.
+/// The contents that the bytes hold, as a compound file of version 3 or 4 (MS-CFB 2).
+///
+/// Of a chain only as many members are looked at as its stream's size needs. A last sector that is cut reads as followed by
+/// zeros. Storages below the root are told of, and aren't entered.
 ///
 /// # Errors
-/// `InvalidData` where they hold none. `OutOfMemory`.
+/// `InvalidData` where the bytes hold none: a checked field of the header has another value; a chain ends early; a sector
+/// lies outside the file, or a mini sector outside the mini stream; one is used twice; the directory's tree is none, or one
+/// of its entries is neither storage nor stream, or has no well-formed name of its own. `OutOfMemory`.
 pub fn read(alloc: Global, bytes: &[u8]) -> Result<Contents, Error>
     ensures found { IfOk result (λ contents. container.Holds bytes.now contents) }
     ensures only { (contents : held.Contents) → container.Holds bytes.now contents → Gives (λ c. c) result contents }
@@ -212,7 +218,7 @@ fn read_streams<'a>(
             sectors: &mini.fat,
         },
     };
-    let limit = mini.stream.len() * (sector_size(directory.bytes) / 64);
+    let limit = mini.stream.len() * (sector_size(directory.bytes) / MINI_SECTOR_SIZE);
     let mut uses = Uses {
         sectors: claims,
         mini_sectors: Claims::new(alloc, Claimed::MiniSectors, limit)?,

@@ -9,10 +9,11 @@ ghost use Rattle.msi_container.specs.Image as spec;
 ghost use Rattle.msi_container.specs.Views.{seen};
 
 use crate::compound::bytes::{push_bytes, push_numbers, push_repeated};
-use crate::compound::extents::{SECTOR_SIZE, all_units, chain_entry, push_chains, push_parts};
+use crate::compound::extents::{
+    SECTOR_SIZE, all_units, chain_entry, push_chains, push_parts, start_of,
+};
 use crate::compound::header::{HEADER_FAT_SECTORS, MINI_STREAM_CUTOFF, SIGNATURE};
 use crate::compound::totals::{DIFAT_ENTRIES, FAT_ENTRIES, difat_sectors, fat_sectors};
-use crate::compound::walks::END_OF_CHAIN;
 use std::alloc::{AllocError, Global};
 use std::marker::Model;
 
@@ -119,22 +120,11 @@ fn front_numbers(fat: Run, mini_fat: Run, difat: Run) -> [u32; 9]
         0,
         0,
         MINI_STREAM_CUTOFF,
-        start_of(mini_fat),
+        start_of(mini_fat.first, mini_fat.count),
         mini_fat.count,
-        start_of(difat),
+        start_of(difat.first, difat.count),
         difat.count,
     ]
-}
-
-/// Where the chain of some sectors in a row starts.
-fn start_of(run: Run) -> u32
-    ensures { result ≡ extents.start_of run.first run.count }
-{
-    if run.count == 0 {
-        END_OF_CHAIN
-    } else {
-        run.first
-    }
 }
 
 /// Adds the header's part of the list of FAT sectors.

@@ -13,13 +13,14 @@ use crate::compound::claims::Claims;
 use crate::compound::contents::{Bytes, Streams};
 use crate::compound::directory::{Directory, STORAGE, STREAM};
 use crate::compound::extents::MINI_SECTOR_SIZE;
+use crate::compound::header::MINI_STREAM_CUTOFF;
 use crate::compound::table::{Steps, Table};
 use crate::compound::walks::walk;
 use msi_text::Error;
 use std::alloc::Global;
 
 /// The least size of a stream that lies in sectors; a smaller one lies in mini sectors.
-const CUTOFF: u64 = 4096;
+const CUTOFF: u64 = MINI_STREAM_CUTOFF as u64;
 
 /// The tables that chain sectors and mini sectors.
 #[derive(Clone, Copy)]

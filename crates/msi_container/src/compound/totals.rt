@@ -16,7 +16,7 @@ pub const FAT_ENTRIES: usize = 128;
 /// The FAT sectors that a sector of the DIFAT lists, before the number of the next such sector.
 pub const DIFAT_ENTRIES: usize = 127;
 
-/// How many sectors a table takes that has an entry for each of `total` sectors, as the FAT has.
+/// How many sectors the FAT takes, which has an entry for each of `total` sectors.
 pub fn fat_sectors(total: usize) -> usize
     ensures { result ≡ spec.fat_sectors total }
 {

@@ -1,6 +1,6 @@
 //! Writing a compound file.
 
-ghost use Rattle.std.specs.Prelude.{◌≡◌, ◌↔◌, ◌<◌, ◌≤◌, ◌^◌, ◌⊎◌, ◌∷◌, [], ◌++◌, IfOk, IfErr, IsErr, IsErrOf, IsTrue, OnErr, IfSome, IsNone, is_some};
+ghost use Rattle.std.specs.Prelude.{◌≡◌, ◌↔◌, ◌<◌, ◌≤◌, ◌^◌, ◌⊎◌, ◌∷◌, [], ◌++◌, IfOk, IfErr, IsErr, IsErrOf, IsTrue, OnErr, IfSome, IsNone};
 ghost use Rattle.std.specs.FinMap as finite;
 ghost use Rattle.msi_text.specs.declared.errors.ErrorKind.TheVariants.{InvalidInput, OutOfMemory};
 ghost use Rattle.msi_container.specs.Container.{Holds};
@@ -37,8 +37,9 @@ struct Extent {
     total: usize,
 }
 
-/// The bytes of a compound file that holds these contents. They take the place of a file of `earlier_len` bytes, and are
-/// no shorter: free sectors stand behind the rest.
+/// The bytes of a compound file that holds these contents (MS-CFB 2), of version 3: the directory, the mini FAT, the mini
+/// stream, the streams of 4096 bytes and more in the container's order of names, the FAT and the DIFAT. They take the place
+/// of a file of `earlier_len` bytes, and are no shorter: free sectors stand behind the rest.
 ///
 /// # Errors
 /// `InvalidInput` where storages lie below the root, or the file would pass 2^31 bytes. `OutOfMemory`.

@@ -15,5 +15,5 @@ pub returns : goal.returns
 returns c =
     let n : c.len.result ≡ length (entries c.args.contents.now.streams) = c.len.ensures ∙ len-entries c.args.contents.now.streams in
     let root =
-    same_root_entry c.args.contents.now.clsid (entries c.args.contents.now.streams) c.middle.result c.chain_start.result c.len.result c.args.first c.args.mini_sectors (64 * c.args.mini_sectors) n c.middle.ensures c.requires.first c.requires.counted c.chain_start.ensures refl in
+    same_root_entry c.args.contents.now.clsid (entries c.args.contents.now.streams) c.middle.result c.start_of.result c.len.result c.args.first c.args.mini_sectors (64 * c.args.mini_sectors) n c.middle.ensures c.requires.first c.requires.counted c.start_of.ensures refl in
     on_ok_weaker c.push_entry.result (λ grown. grown ∙ ap (λ e. c.args.held.now.items ++ entry_bytes e) root) c.push_entry.ensures

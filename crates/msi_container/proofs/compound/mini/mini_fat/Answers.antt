@@ -4,9 +4,9 @@ use Rattle.msi_container.proofs.compound.mini.mini_fat.Goals as goal
 
 pub returns : goal.returns
 returns c =
-    mini_fat_written (seen c.args.parts.now) c.all_units-count.result c.fat_sectors-sectors.result _ _ _
+    mini_fat_written (seen c.args.parts.now) c.all_units-count.result c.mini_fat_sectors-sectors.result _ _ _
     c.all_units-count.ensures
-    c.fat_sectors-sectors.ensures
+    c.mini_fat_sectors-sectors.ensures
     c.in_ok-table.ensures.items
     c.in_ok-push_chains.ensures
     c.in_ok-push_repeated.ensures
