@@ -1,11 +1,12 @@
 -- Folding keeps values, and what the constructors make is folded.
-use Rattle.std.proofs.Common.{◌≡◌, ℕ, List, Bool, true, false, refl, ◌&&◌}
+use Rattle.std.proofs.Common.{◌≡◌, ℕ, List, Bool, true, false, refl, ap, ◌∙◌, ◌&&◌, ◌||◌}
 use Rattle.std.specs.Prelude.{IsTrue}
 use Rattle.msi_table.specs.declared.value.Value.{Value}
+use Rattle.msi_table.specs.Values.{is_true}
 use Rattle.msi_query.specs.declared.expr.UnaryOp.{UnaryOp}
 use Rattle.msi_query.specs.declared.expr.BinaryOp.{BinaryOp}
-use Rattle.msi_query.specs.Expressions.{Expression, literal, unary, binary}
-use Rattle.msi_query.specs.Evaluation.{value_of, folded_unary, folded_binary, is_folded, FoldingKeepsValues, ConstructorsFold}
+use Rattle.msi_query.specs.Expressions.{Expression, literal, column, unary, binary, both, either}
+use Rattle.msi_query.specs.Evaluation.{truth, unary_value, binary_value, value_of, folded_unary, folded_binary, folded, is_folded, FoldingKeepsValues, ConstructorsFold}
 
 value_of-folded_unary : (at : List ℕ → Value) (op : UnaryOp) (e : Expression) → value_of at (folded_unary op e) ≡ value_of at (unary op e)
 value_of-folded_unary at op (literal v) = refl
@@ -16,8 +17,19 @@ value_of-folded_binary at op (literal v) (literal w) = refl
 value_of-folded_binary at op (literal v) r = refl
 value_of-folded_binary at op l r = refl
 
+value_of-folded : (at : List ℕ → Value) (e : Expression) → value_of at (folded e) ≡ value_of at e
+value_of-folded at (literal v) = refl
+value_of-folded at (column n) = refl
+value_of-folded at (unary op e) = value_of-folded_unary at op (folded e) ∙ ap (λ v. unary_value op v) (value_of-folded at e)
+value_of-folded at (binary op l r) = value_of-folded_binary at op (folded l) (folded r)
+    ∙ ap (λ v. binary_value op v (value_of at (folded r))) (value_of-folded at l) ∙ ap (λ v. binary_value op (value_of at l) v) (value_of-folded at r)
+value_of-folded at (both l r) = ap (λ v. truth (is_true v && is_true (value_of at (folded r)))) (value_of-folded at l)
+    ∙ ap (λ v. truth (is_true (value_of at l) && is_true v)) (value_of-folded at r)
+value_of-folded at (either l r) = ap (λ v. truth (is_true v || is_true (value_of at (folded r)))) (value_of-folded at l)
+    ∙ ap (λ v. truth (is_true (value_of at l) || is_true v)) (value_of-folded at r)
+
 pub folding_keeps_values : FoldingKeepsValues
-folding_keeps_values at = (value_of-folded_unary at, value_of-folded_binary at)
+folding_keeps_values at = (value_of-folded_unary at, value_of-folded_binary at, value_of-folded at)
 
 and_both : (a b : Bool) → IsTrue a → IsTrue b → IsTrue (a && b)
 and_both true b p q = q

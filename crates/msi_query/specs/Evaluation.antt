@@ -21,7 +21,7 @@ abbrev pub number : ℤ → Value
 number n = if is_i32 n then Int n else Null
 
 abbrev pub truth : Bool → Value
-truth b = Int (if b then pos 1 else pos 0)
+truth b = Int (pos (if b then 1 else 0))
 
 abbrev pub is_zero : ℤ → Bool
 is_zero n = is_eq (int_cmp n (pos 0))
@@ -90,11 +90,21 @@ abbrev pub folded_binary : BinaryOp → Expression → Expression → Expression
 folded_binary op (literal v) (literal w) = literal (binary_value op v w)
 folded_binary op l r = binary op l r
 
--- folding changes no value
+-- the expression that the constructors make where this one says what is built
+abbrev pub folded : Expression → Expression
+folded (literal v) = literal v
+folded (column n) = column n
+folded (unary op e) = folded_unary op (folded e)
+folded (binary op l r) = folded_binary op (folded l) (folded r)
+folded (both l r) = both (folded l) (folded r)
+folded (either l r) = either (folded l) (folded r)
+
+-- folding changes no value: not at one operator, and so not of a whole expression
 abbrev pub FoldingKeepsValues : Type 0
 FoldingKeepsValues = (at : List ℕ → Value)
     → ((op : UnaryOp) (e : Expression) → value_of at (folded_unary op e) ≡ value_of at (unary op e))
     × ((op : BinaryOp) (l r : Expression) → value_of at (folded_binary op l r) ≡ value_of at (binary op l r))
+    × ((e : Expression) → value_of at (folded e) ≡ value_of at e)
 
 -- an expression that the constructors made: no operator stands over literals alone
 abbrev pub is_literal : Expression → Bool

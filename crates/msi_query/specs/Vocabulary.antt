@@ -1,5 +1,5 @@
 -- No two expressions print alike, where columns are plain names and literal texts are ASCII.
-use Rattle.std.specs.Prelude.{◌≡◌, ℕ, Bool, true, false, not, List, ◌&&◌, ◌||◌, bytes_eq, codes}
+use Rattle.std.specs.Prelude.{◌≡◌, ℕ, Bool, true, false, not, List, ◌&&◌, ◌||◌, IsTrue, bytes_eq, codes}
 use Rattle.msi_text.specs.CategoryRules.{is_identifier}
 use Rattle.msi_text.specs.Pages.{is_ascii}
 use Rattle.msi_table.specs.declared.value.Value.{Value}
@@ -28,8 +28,8 @@ is_plain (either l r) = is_plain l && is_plain r
 
 -- no other tree prints these bytes
 abbrev pub PrintsAlone : Expression → Type 0
-PrintsAlone e = is_plain e ≡ true → is_folded e ≡ true
-    → (other : Expression) → is_plain other ≡ true → is_folded other ≡ true → expression_text other ≡ expression_text e → other ≡ e
+PrintsAlone e = IsTrue (is_plain e) → IsTrue (is_folded e)
+    → (other : Expression) → IsTrue (is_plain other) → IsTrue (is_folded other) → expression_text other ≡ expression_text e → other ≡ e
 
 -- and so it is for every expression
 abbrev pub PrintedConditionsAreUnambiguous : Type 0

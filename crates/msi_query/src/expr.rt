@@ -15,13 +15,12 @@ mod operators;
 mod printing;
 
 use evaluation::operand_of;
-use folding::{folded_binary as fold_binary, folded_unary as fold_unary};
+use folding::{fold_binary, fold_unary};
 use msi_table::row::Row;
 use msi_table::value::Value;
 use msi_text::errors::Error;
 use msi_text::text::{IntoText, Text};
 use names::collect_names;
-use operators::truth as truth_value;
 use std::alloc::Global;
 use std::collections::HashSet;
 use std::marker::Model;
@@ -29,34 +28,52 @@ use std::marker::Model;
 /// An operator with one operand.
 #[derive(Clone, Copy, PartialEq, Eq, Debug, Drop)]
 pub enum UnaryOp {
+    /// `-`
     Neg,
+    /// `~`
     BitNot,
+    /// `NOT`
     BoolNot,
 }
 
 /// An operator with two operands that folds.
 #[derive(Clone, Copy, PartialEq, Eq, Debug, Drop)]
 pub enum BinaryOp {
+    /// `=`
     Eq,
+    /// `!=`
     Ne,
+    /// `<`
     Lt,
+    /// `<=`
     Le,
+    /// `>`
     Gt,
+    /// `>=`
     Ge,
+    /// `+`
     Add,
+    /// `-`
     Sub,
+    /// `*`
     Mul,
+    /// `/`
     Div,
+    /// `&`
     BitAnd,
+    /// `|`
     BitOr,
+    /// `^`
     BitXor,
+    /// `<<`
     Shl,
+    /// `>>`
     Shr,
 }
 
 /// The tree of an expression.
 #[derive(Drop)]
-pub enum Tree {
+pub(crate) enum Tree {
     Literal(Value),
     Column(Text),
     Unary(UnaryOp, Box<Tree>),
@@ -66,6 +83,8 @@ pub enum Tree {
 }
 
 /// An expression on rows. A contract sees its tree, without where the parts lie in memory.
+///
+/// Evaluation, printing, `column_names` and the drop go down the tree by recursion, so its depth is bounded by the stack alone.
 #[derive(Drop)]
 pub struct Expr {
     tree: Tree,
@@ -115,7 +134,7 @@ impl Expr {
         ensures { result ≡ literal (truth boolean) }
     {
         Expr {
-            tree: Tree::Literal(truth_value(boolean)),
+            tree: Tree::Literal(Value::from(boolean)),
         }
     }
 

@@ -3,7 +3,6 @@
 use msi_query::{Delete, Expr, Insert, Select, Update};
 use msi_table::Value;
 use msi_text::Error;
-use msi_text::text::IntoText;
 use std::alloc::Global;
 use std::fmt::Display;
 use std::process::Abort;
@@ -29,11 +28,6 @@ fn same(alloc: Global, name: &str, other: &str) -> Result<Expr, Error> {
 /// The condition that a column is more than a number.
 fn more(alloc: Global, name: &str, number: i32) -> Result<Expr, Error> {
     Expr::col(alloc, name)?.gt(alloc, Expr::integer(number))
-}
-
-/// A value that is a text.
-fn text(alloc: Global, text: &str) -> Result<Value, Error> {
-    Ok(Value::Str(text.into_text(alloc)?))
 }
 
 #[test]
@@ -97,8 +91,8 @@ fn an_update_without_sets_has_no_set(rt: HostRuntime) -> Result<(), Fail> {
 #[test]
 fn rows_print_in_order(rt: HostRuntime) -> Result<(), Fail> {
     let alloc = rt.alloc();
-    let first = vec![in alloc; Value::Int(1), text(alloc, "a")?]?;
-    let second = vec![in alloc; Value::Null, text(alloc, "b")?]?;
+    let first = vec![in alloc; Value::Int(1), Value::from_text(alloc, "a")?]?;
+    let second = vec![in alloc; Value::Null, Value::from_text(alloc, "b")?]?;
     let query = Insert::into(alloc, "T")?.row(first)?.row(second)?;
     assert_prints(
         &rt,
@@ -112,8 +106,8 @@ fn rows_print_in_order(rt: HostRuntime) -> Result<(), Fail> {
 #[test]
 fn several_rows_are_added_at_once(rt: HostRuntime) -> Result<(), Fail> {
     let alloc = rt.alloc();
-    let first = vec![in alloc; Value::Int(1), text(alloc, "a")?]?;
-    let second = vec![in alloc; Value::Null, text(alloc, "b")?]?;
+    let first = vec![in alloc; Value::Int(1), Value::from_text(alloc, "a")?]?;
+    let second = vec![in alloc; Value::Null, Value::from_text(alloc, "b")?]?;
     let query = Insert::into(alloc, "T")?.rows(vec![in alloc; first, second]?)?;
     assert_prints(
         &rt,

@@ -1,11 +1,11 @@
 -- The summary's properties (MSI SDK, "Summary Information Stream Property Set").
 use Rattle.std.specs.Prelude.{ℕ, ◌-◌, Bool, List, [], ◌∷◌, ◌++◌, map, length, Option, Some, None, option_and_then, unwrap_or, ◌==◌, ◌&&◌, if◌then◌else◌, codes, ℤ, drop, take}
 use Rattle.std.specs.List.{slice_split, before_first, after_first, join_by, filter_map, onto_first, prefix_len, suffix_len}
-use Rattle.std.specs.Fmt.{decimal}
 use Rattle.std.specs.Str.{trim_end}
-use Rattle.uuid.specs.Text.{parsed, braced_text, upper}
+use Rattle.uuid.specs.Text.{parsed}
 use Rattle.msi_text.specs.declared.codepage.CodePage.TheVariants as page
 use Rattle.msi_text.specs.Numerals.{u16_in}
+use Rattle.msi_text.specs.Spellings.{language_list_text, braced_uuid_text}
 use Rattle.msi_summary.specs.declared.propset.PropertyValue.{PropertyValue}
 use Rattle.msi_summary.specs.declared.propset.PropertyValue.TheVariants.{I4, LpStr, FileTime}
 use Rattle.msi_summary.specs.declared.propset.OperatingSystem.TheVariants as os
@@ -117,7 +117,7 @@ abbrev pub with_arch : List ℕ → Properties → Properties
 with_arch arch set = with_template arch (languages_text set) set
 
 abbrev pub with_languages : List ℕ → Properties → Properties
-with_languages ids set = with_template (arch_text set) (join_by decimal (codes ",") ids) set
+with_languages ids set = with_template (arch_text set) (language_list_text ids) set
 
 -- the pieces of a text that is cut at each `; `
 abbrev pub keyword_pieces : List ℕ → List (List ℕ)
@@ -155,7 +155,7 @@ abbrev pub uuid_of : Properties → Option (List ℕ)
 uuid_of set = option_and_then (λ text. parsed (without_braces text)) (text_at uuid_id set)
 
 abbrev pub with_uuid : List ℕ → Properties → Properties
-with_uuid id set = with_text uuid_id (braced_text upper id) set
+with_uuid id set = with_text uuid_id (braced_uuid_text id) set
 
 -- a new summary, with its title
 abbrev pub new_summary : List ℕ → Properties

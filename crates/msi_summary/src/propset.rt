@@ -87,10 +87,10 @@ fn page_value(page: CodePage) -> PropertyValue
 }
 
 /// Whether a property may have this value.
-fn can_set(name: u32, value: &PropertyValue) -> bool
-    ensures { result ≡ can_set name value.now }
+fn can_set(id: u32, value: &PropertyValue) -> bool
+    ensures { result ≡ can_set id value.now }
 {
-    name != PAGE || page_named(value).is_some()
+    id != PAGE || page_named(value).is_some()
 }
 
 impl PropertySet {
@@ -200,43 +200,43 @@ impl PropertySet {
     }
 
     /// The value of a property.
-    pub fn get(&self, name: u32) -> Option<&PropertyValue>
-        ensures { option_copied result ≡ value_at name self.now.values }
+    pub fn get(&self, id: u32) -> Option<&PropertyValue>
+        ensures { option_copied result ≡ value_at id self.now.values }
     {
-        self.values.get(&name)
+        self.values.get(&id)
     }
 
     /// Sets a property. When refused, the set is as before.
     ///
     /// # Errors
     /// `InvalidInput` for property 1 and a value that is no `I2` of a known page, read without sign; `OutOfMemory`.
-    pub fn set(&mut self, name: u32, value: PropertyValue) -> Result<(), Error>
-        ensures ok { OnOk result (self.new ≡ with_value name value self.old) }
-        ensures allowed { OnOk result (can_set name value ≡ true) }
-        ensures kind { IfErr result (λ kind. kind ≡ (if can_set name value then OutOfMemory else InvalidInput)) }
+    pub fn set(&mut self, id: u32, value: PropertyValue) -> Result<(), Error>
+        ensures ok { OnOk result (self.new ≡ with_value id value self.old) }
+        ensures allowed { OnOk result (can_set id value ≡ true) }
+        ensures kind { IfErr result (λ kind. kind ≡ (if can_set id value then OutOfMemory else InvalidInput)) }
         ensures err { OnErr result (self.new ≡ self.old) }
     {
-        if !can_set(name, &value) {
+        if !can_set(id, &value) {
             return Err(Error::new(ErrorKind::InvalidInput, Reason::PropertyPage));
         }
-        self.put(name, value)
+        self.put(id, value)
     }
 
     /// Sets a property to a value that it may have. When refused, the set is as before.
-    pub(crate) fn put(&mut self, name: u32, value: PropertyValue) -> Result<(), Error>
-        requires { can_set name value ≡ true }
-        ensures ok { OnOk result (self.new ≡ with_value name value self.old) }
+    pub(crate) fn put(&mut self, id: u32, value: PropertyValue) -> Result<(), Error>
+        requires { can_set id value ≡ true }
+        ensures ok { OnOk result (self.new ≡ with_value id value self.old) }
         ensures kind { IfErr result (λ kind. kind ≡ OutOfMemory) }
         ensures err { OnErr result (self.new ≡ self.old) }
     {
-        self.values.insert(name, value)?;
+        self.values.insert(id, value)?;
         Ok(())
     }
 
     /// Removes a property, if it is there. Without property 1 the page is UTF-8.
-    pub fn remove(&mut self, name: u32)
-        ensures { self.new ≡ without_value name self.old }
+    pub fn remove(&mut self, id: u32)
+        ensures { self.new ≡ without_value id self.old }
     {
-        self.values.remove(&name);
+        self.values.remove(&id);
     }
 }

@@ -5,6 +5,7 @@ pub mod StableSortLemmas
 pub mod PlacesLemmas
 pub mod RowOrderLemmas
 pub mod SortedFitsLemmas
+pub mod FittingLemmas
 pub mod ColumnLemmas
 pub mod TypeBitsLemmas
 pub mod WorkedRows

@@ -23,9 +23,6 @@ value_cmp (Str s) _ = Less
 value_cmp _ (Str t) = Greater
 value_cmp Binary Binary = Equal
 
-abbrev pub value_eq : Value → Value → Bool
-value_eq v w = is_eq (value_cmp v w)
-
 -- no two values tie but equal ones
 abbrev pub ValuesAreOrdered : Type 0
 ValuesAreOrdered = IsTotalOrder value_cmp × ((v w : Value) → value_cmp v w ≡ Equal → v ≡ w)

@@ -18,12 +18,17 @@ use std::marker::Model;
 /// What a column holds.
 #[derive(Clone, Copy, PartialEq, Eq, Debug, Drop)]
 pub enum ColumnType {
+    /// Numbers of 16 bits, but the least, whose cell would read as null.
     Int16,
+    /// Numbers of 32 bits, but the least, whose cell would read as null.
     Int32,
+    /// Texts of at most so many characters, where 0 sets no limit.
     Str(usize),
+    /// Streams, whose bytes stand outside the table.
     Binary,
 }
 
+/// Writes the type as SQL names it: `SMALLINT`, `INTEGER`, `VARCHAR(n)` with the length in decimal, or `BINARY`.
 impl fmt::Display for ColumnType {
     ghost output = { λ coltype. Some (type_name coltype) };
 
@@ -134,7 +139,7 @@ impl Column {
         self.value_range
     }
 
-    /// The table and the number of the key column that it refers to, if they are set.
+    /// The table and the number of the key column, from 1 on, that it refers to, if they are set.
     pub fn foreign_key(&self) -> Option<(&str, i32)>
         ensures { option_map (λ key. (key.0.now, key.1)) result ≡ self.now.foreign_key }
     {
@@ -238,7 +243,7 @@ impl ColumnBuilder {
         ColumnBuilder { alloc, column }
     }
 
-    /// It takes the numbers from `min` to `max`.
+    /// It takes the numbers from `min` to `max`, both included.
     pub fn range(self, min: i32, max: i32) -> ColumnBuilder
         ensures { result ≡ record self { value_range = Some (min, max) } }
     {
@@ -247,7 +252,7 @@ impl ColumnBuilder {
         ColumnBuilder { alloc, column }
     }
 
-    /// It refers to a key column of a table by its number.
+    /// It refers to a key column of a table by its number, from 1 on.
     ///
     /// # Errors
     /// `OutOfMemory`.
@@ -309,28 +314,28 @@ impl ColumnBuilder {
         self.with_type(ColumnType::Str(length))
     }
 
-    /// The column with identifiers.
+    /// The column with texts of the category `Identifier`, of at most so many characters, where 0 sets no limit.
     pub fn id_string(self, length: usize) -> Column
         ensures { result ≡ record self { coltype = type_of.Str length; category = Some category_of.Identifier } }
     {
         self.category(Category::Identifier).string(length)
     }
 
-    /// The column with texts for people.
+    /// The column with texts of the category `Text`, of at most so many characters, where 0 sets no limit.
     pub fn text_string(self, length: usize) -> Column
         ensures { result ≡ record self { coltype = type_of.Str length; category = Some category_of.Text } }
     {
         self.category(Category::Text).string(length)
     }
 
-    /// The column with formatted texts.
+    /// The column with texts of the category `Formatted`, of at most so many characters, where 0 sets no limit.
     pub fn formatted_string(self, length: usize) -> Column
         ensures { result ≡ record self { coltype = type_of.Str length; category = Some category_of.Formatted } }
     {
         self.category(Category::Formatted).string(length)
     }
 
-    /// The column whose cells stand for streams.
+    /// The column whose cells stand for streams, of the category `Binary`.
     pub fn binary(self) -> Column
         ensures { result ≡ record self { coltype = type_of.Binary; category = Some category_of.Binary } }
     {

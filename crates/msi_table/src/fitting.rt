@@ -21,7 +21,7 @@ fn fits_column(long: bool, coltype: ColumnType, cell: ValueRef) -> bool
         },
         ColumnType::Int32 => match cell {
             ValueRef::Null => true,
-            ValueRef::Int(number) => -2147483647 <= number && number <= 2147483647,
+            ValueRef::Int(number) => -2147483647 <= number,
             _ => false,
         },
         ColumnType::Str(_) => match cell {
@@ -37,15 +37,15 @@ fn fits_column(long: bool, coltype: ColumnType, cell: ValueRef) -> bool
 fn fits_row(long: bool, columns: &[Column], row: &[ValueRef]) -> bool
     ensures { IsTrue result ↔ FitsRow long (types_of columns.now) row.now }
 {
-    match columns.split_first() {
-        None => row.is_empty(),
-        Some((column, columns)) => match row.split_first() {
-            None => false,
-            Some((cell, row)) => {
-                fits_column(long, column.coltype(), *cell) && fits_row(long, columns, row)
-            }
-        },
+    if row.len() != columns.len() {
+        return false;
     }
+    for i in 0..columns.len() {
+        if !fits_column(long, columns[i].coltype(), row[i]) {
+            return false;
+        }
+    }
+    true
 }
 
 /// Whether columns can store rows.

@@ -1,9 +1,8 @@
 //! The stored order of rows.
 
 ghost use Rattle.std.specs.Prelude.{◌≡◌, OnOk, OnErr};
-ghost use Rattle.std.specs.Option.{option_cmp};
 ghost use Rattle.std.specs.List.{slice_get};
-ghost use Rattle.msi_table.specs.StoredOrder.{cell_cmp, row_cmp, in_stored_order};
+ghost use Rattle.msi_table.specs.StoredOrder.{row_cmp, in_stored_order};
 
 use crate::column::Column;
 use crate::value::ValueRef;
@@ -11,30 +10,14 @@ use msi_text::text::Items;
 use std::alloc::AllocError;
 use std::cmp::Ordering;
 
-/// Compares cells, where a row may end before: its missing cells come first.
-fn compare_places(cell: Option<ValueRef>, other: Option<ValueRef>) -> Ordering
-    ensures { result ≡ option_cmp cell_cmp cell other }
-{
-    match cell {
-        None => match other {
-            None => Ordering::Equal,
-            Some(_) => Ordering::Less,
-        },
-        Some(x) => match other {
-            None => Ordering::Greater,
-            Some(y) => x.cmp(&y),
-        },
-    }
-}
-
 /// The cell of a column, where the row has one.
 fn cell_of(row: &[ValueRef], i: usize) -> Option<ValueRef>
     ensures { result ≡ slice_get row.now i }
 {
-    if i < row.len() { Some(row[i]) } else { None }
+    row.get(i).copied()
 }
 
-/// The first cell that differs decides, skipping columns of category Binary.
+/// The first cell that differs decides, skipping columns of category Binary. Where a row ends before, its missing cells come first.
 fn compare_rows(columns: &[Column], row: &[ValueRef], other: &[ValueRef]) -> Ordering
     ensures { result ≡ row_cmp columns.now row.now other.now }
 {
@@ -42,7 +25,7 @@ fn compare_rows(columns: &[Column], row: &[ValueRef], other: &[ValueRef]) -> Ord
         if columns[i].is_of_category_binary() {
             continue;
         }
-        let order = compare_places(cell_of(row, i), cell_of(other, i));
+        let order = cell_of(row, i).cmp(&cell_of(other, i));
         if order != Ordering::Equal {
             return order;
         }

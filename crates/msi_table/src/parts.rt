@@ -40,7 +40,7 @@ fn bit_if(flag: bool, number: u16) -> u16
     if flag { number } else { 0 }
 }
 
-/// The bits of a column's type and flags.
+/// The bits of a column's type and flags (MSI SDK, "_Columns table"). The length of its texts has to be below 256.
 pub fn type_bits(column: &Column) -> u16
     requires { HasShortLength column.now.coltype }
     ensures { result ≡ bits_of column.now }
@@ -59,7 +59,7 @@ fn has_bit(bits: u16, mask: u16) -> bool
     bits / mask % 2 == 1
 }
 
-/// The type that bits name.
+/// The type that bits name (MSI SDK, "_Columns table"), whether or not a column could have been written with them.
 ///
 /// # Errors
 /// `InvalidData` where they name none.
@@ -124,7 +124,7 @@ pub fn fits_table(table: &Table, rows: &[Items<ValueRef>]) -> bool
     fitting::fits_table(table.is_long(), table.columns(), rows)
 }
 
-/// The bytes of a table's rows in their stored order, which read back.
+/// The bytes of a table's rows in their stored order, which read back. `fits_table` has to tell that the table can store the rows.
 ///
 /// # Errors
 /// `OutOfMemory`.

@@ -89,6 +89,7 @@ impl Row {
     }
 }
 
+/// The value of the column at a place, from 0 on, which has to be below `len`.
 impl Index<usize> for Row {
     type Output = Value;
 
@@ -101,6 +102,7 @@ impl Index<usize> for Row {
     }
 }
 
+/// The value of the column of a name, which `has_column` has to tell; of a repeated name the first.
 impl<'a> Index<&'a str> for Row {
     type Output = Value;
 
@@ -225,6 +227,7 @@ impl<'a> Rows<'a> {
     }
 }
 
+/// Gives the rows in order. An item is `OutOfMemory` where a growth was refused, and then no row is left.
 impl<'a> Iterator for Rows<'a> {
     type Item = Result<Row, Error>;
 

@@ -33,7 +33,7 @@ impl Model for Table {
 }
 
 impl Table {
-    /// A table of at most `MOST_COLUMNS` columns.
+    /// A table of at most `MOST_COLUMNS` columns. Its references to texts take three bytes where they are long, else two.
     pub fn new(name: Text, columns: Vec<Column>, long: bool) -> Table
         requires { vec_len columns ≤ 32767 }
         ensures { result ≡ record { name = name; columns = columns.items; long = long } }

@@ -24,9 +24,13 @@ use std::hash::{Hash, Hasher};
 /// A value of a row.
 #[derive(Drop)]
 pub enum Value {
+    /// No value.
     Null,
+    /// A number.
     Int(i32),
+    /// A text.
     Str(Text),
+    /// A stream, whose bytes stand outside the table.
     Binary,
 }
 
@@ -89,6 +93,7 @@ impl Value {
     }
 }
 
+/// Null comes first, then numbers, then texts by their bytes, and Binary last.
 impl Ord for Value {
     ghost cmp = { value_cmp };
 
@@ -181,9 +186,13 @@ impl fmt::Debug for Value {
 /// A cell of a table: a value whose text stands in the pool.
 #[derive(Clone, Copy, Drop)]
 pub enum ValueRef {
+    /// No value.
     Null,
+    /// A number.
     Int(i32),
+    /// The place of a text.
     Str(StringRef),
+    /// A stream, whose bytes stand outside the table.
     Binary,
 }
 
@@ -207,7 +216,7 @@ impl ValueRef {
         }
     }
 
-    /// Gives back the place of the cell's text. When refused, the pool is as before.
+    /// Gives back the place of the cell's text, where it has one. When refused, the pool is as before.
     ///
     /// # Errors
     /// `InvalidData` where that place is free or past the end.
@@ -225,7 +234,7 @@ impl ValueRef {
         }
     }
 
-    /// The value that the cell stands for.
+    /// The value that the cell stands for. A place past the pool's end stands for the empty text.
     ///
     /// # Errors
     /// `OutOfMemory`.
@@ -242,6 +251,7 @@ impl ValueRef {
     }
 }
 
+/// Null comes first, then numbers, then texts by the numbers of their places, and Binary last.
 impl Ord for ValueRef {
     ghost cmp = { cell_cmp };
 

@@ -59,11 +59,7 @@ fn write_cell(
 fn cell_in_row(row: &[ValueRef], j: usize) -> ValueRef
     ensures { result ≡ cell_of row.now j }
 {
-    if j < row.len() {
-        row[j]
-    } else {
-        ValueRef::Null
-    }
+    row.get(j).copied().unwrap_or(ValueRef::Null)
 }
 
 /// Writes the cells of one column.

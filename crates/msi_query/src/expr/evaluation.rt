@@ -8,8 +8,9 @@ ghost use Rattle.msi_query.specs.Trees.{expression_of};
 
 use super::Tree;
 use super::operands::Operand;
-use super::operators::{binary_value, is_true, truth, unary_value};
+use super::operators::{binary_value, is_true, unary_value};
 use msi_table::row::Row;
+use msi_table::value::Value;
 use msi_text::errors::Error;
 use std::alloc::Global;
 
@@ -42,12 +43,12 @@ pub(crate) fn operand_of<'a>(
         Tree::And(left, right) => {
             let holds = is_true(operand_of(alloc, left, row)?.as_value())
                 && is_true(operand_of(alloc, right, row)?.as_value());
-            Ok(Operand::Computed(truth(holds)))
+            Ok(Operand::Computed(Value::from(holds)))
         }
         Tree::Or(left, right) => {
             let holds = is_true(operand_of(alloc, left, row)?.as_value())
                 || is_true(operand_of(alloc, right, row)?.as_value());
-            Ok(Operand::Computed(truth(holds)))
+            Ok(Operand::Computed(Value::from(holds)))
         }
     }
 }

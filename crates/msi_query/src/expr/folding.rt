@@ -2,7 +2,7 @@
 
 ghost use Rattle.std.specs.Prelude.{◌≡◌, IfOk, IfErr};
 ghost use Rattle.msi_text.specs.declared.errors.ErrorKind.TheVariants.{OutOfMemory};
-ghost use Rattle.msi_query.specs.Evaluation.{folded_unary as unary_folded, folded_binary as binary_folded};
+ghost use Rattle.msi_query.specs.Evaluation.{folded_unary, folded_binary};
 ghost use Rattle.msi_query.specs.Trees.{expression_of};
 
 use super::operands::Operand;
@@ -15,8 +15,8 @@ use std::alloc::Global;
 ///
 /// # Errors
 /// `OutOfMemory`.
-pub(crate) fn folded_unary(alloc: Global, op: UnaryOp, tree: Tree) -> Result<Tree, Error>
-    ensures ok { IfOk result (λ folded. expression_of folded ≡ unary_folded op (expression_of tree)) }
+pub(crate) fn fold_unary(alloc: Global, op: UnaryOp, tree: Tree) -> Result<Tree, Error>
+    ensures ok { IfOk result (λ folded. expression_of folded ≡ folded_unary op (expression_of tree)) }
     ensures kind { IfErr result (λ kind. kind ≡ OutOfMemory) }
 {
     match tree {
@@ -29,13 +29,13 @@ pub(crate) fn folded_unary(alloc: Global, op: UnaryOp, tree: Tree) -> Result<Tre
 ///
 /// # Errors
 /// `OutOfMemory`.
-pub(crate) fn folded_binary(
+pub(crate) fn fold_binary(
     alloc: Global,
     op: BinaryOp,
     left: Tree,
     right: Tree,
 ) -> Result<Tree, Error>
-    ensures ok { IfOk result (λ folded. expression_of folded ≡ binary_folded op (expression_of left) (expression_of right)) }
+    ensures ok { IfOk result (λ folded. expression_of folded ≡ folded_binary op (expression_of left) (expression_of right)) }
     ensures kind { IfErr result (λ kind. kind ≡ OutOfMemory) }
 {
     match (left, right) {

@@ -5,7 +5,7 @@ ghost use Rattle.msi_text.specs.declared.errors.ErrorKind.TheVariants.{OutOfMemo
 ghost use Rattle.msi_table.specs.Values.{is_true as counts, int_of};
 ghost use Rattle.msi_query.specs.declared.expr.BinaryOp.TheVariants.{Add, Shl, Shr};
 ghost use Rattle.msi_query.specs.Operands.{operand_value, number_or_null as value_or_null};
-ghost use Rattle.msi_query.specs.Evaluation.{truth as value_of_truth, of_numbers, of_operands, unary_value as value_of_one, binary_value as value_of_two};
+ghost use Rattle.msi_query.specs.Evaluation.{of_numbers, of_operands, unary_value as value_of_one, binary_value as value_of_two};
 
 use super::operands::Operand;
 use super::{BinaryOp, UnaryOp};
@@ -13,13 +13,6 @@ use msi_table::value::Value;
 use msi_text::errors::Error;
 use msi_text::text::Text;
 use std::alloc::Global;
-
-/// 1 for true, 0 for false.
-pub(crate) fn truth(holds: bool) -> Value
-    ensures { result ≡ value_of_truth holds }
-{
-    Value::Int(i32::from(holds))
-}
 
 /// Whether a value counts as true: Null, 0 and the empty text don't.
 pub(crate) fn is_true(value: &Value) -> bool
@@ -56,7 +49,7 @@ pub(crate) fn unary_value(op: UnaryOp, value: &Value) -> Value
             Value::Int(number) => Value::Int(!*number),
             _ => Value::Null,
         },
-        UnaryOp::BoolNot => truth(!is_true(value)),
+        UnaryOp::BoolNot => Value::from(!is_true(value)),
     }
 }
 
@@ -181,12 +174,12 @@ pub(crate) fn binary_value(
     ensures kind { IfErr result (λ kind. kind ≡ OutOfMemory) }
 {
     match op {
-        BinaryOp::Eq => Ok(truth(left.as_value().cmp(right).is_eq())),
-        BinaryOp::Ne => Ok(truth(left.as_value().cmp(right).is_ne())),
-        BinaryOp::Lt => Ok(truth(left.as_value().cmp(right).is_lt())),
-        BinaryOp::Le => Ok(truth(left.as_value().cmp(right).is_le())),
-        BinaryOp::Gt => Ok(truth(left.as_value().cmp(right).is_gt())),
-        BinaryOp::Ge => Ok(truth(left.as_value().cmp(right).is_ge())),
+        BinaryOp::Eq => Ok(Value::from(left.as_value().cmp(right).is_eq())),
+        BinaryOp::Ne => Ok(Value::from(left.as_value().cmp(right).is_ne())),
+        BinaryOp::Lt => Ok(Value::from(left.as_value().cmp(right).is_lt())),
+        BinaryOp::Le => Ok(Value::from(left.as_value().cmp(right).is_le())),
+        BinaryOp::Gt => Ok(Value::from(left.as_value().cmp(right).is_gt())),
+        BinaryOp::Ge => Ok(Value::from(left.as_value().cmp(right).is_ge())),
         _ => arithmetic(alloc, op, left, right),
     }
 }

@@ -24,6 +24,8 @@ pub enum Rows {
 }
 
 /// A query for rows. A contract sees its tree.
+///
+/// Printing and the drop go down the joins by recursion, so how deep they may nest is bounded by the stack alone.
 #[derive(Drop)]
 pub struct Select {
     alloc: Global,

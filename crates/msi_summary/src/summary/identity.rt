@@ -6,8 +6,10 @@ ghost use Rattle.msi_summary.specs.Properties.{without_value};
 ghost use Rattle.msi_summary.specs.Summary.{uuid_id, uuid_of, with_uuid, without_braces};
 ghost use Rattle.uuid.specs.Text.{parsed};
 
+use crate::propset::PropertyValue;
 use crate::summary::SummaryInfo;
 use msi_text::errors::Error;
+use msi_text::parts::braced_uuid;
 use uuid::Uuid;
 
 const UUID: u32 = 9;
@@ -44,9 +46,8 @@ impl SummaryInfo {
         ensures kind { IfErr result (λ kind. kind ≡ OutOfMemory) }
         ensures err { OnErr result (self.new ≡ self.old) }
     {
-        let mut buffer = Uuid::encode_buffer();
-        let text = uuid.braced().encode_upper(&mut buffer);
-        self.set_text(UUID, &*text)
+        let text = braced_uuid(self.properties.allocator(), uuid)?;
+        self.put(UUID, PropertyValue::LpStr(text))
     }
 
     /// Removes the UUID.

@@ -1,9 +1,8 @@
 //! The template: the architecture, and behind the first `;` the languages, parted by commas.
 
-ghost use Rattle.std.specs.Prelude.{◌≡◌, ◌++◌, [], IfOk, IfErr, OnOk, OnErr, codes, string_bytes, unwrap_or};
+ghost use Rattle.std.specs.Prelude.{◌≡◌, ◌++◌, [], IfOk, IfErr, OnOk, OnErr, string_bytes, unwrap_or};
 ghost use Rattle.std.specs.Option.{option_copied};
-ghost use Rattle.std.specs.List.{after_first, before_first, filter_map, join_by, slice_split};
-ghost use Rattle.std.specs.Fmt.{decimal};
+ghost use Rattle.std.specs.List.{after_first, before_first, filter_map, slice_split};
 ghost use Rattle.msi_text.specs.Numerals.{u16_in};
 ghost use Rattle.msi_text.specs.declared.errors.ErrorKind.TheVariants.{OutOfMemory};
 ghost use Rattle.msi_summary.specs.Summary.{arch_of, is_comma, is_semicolon, languages_of, nonempty, template_of, with_arch, with_languages, with_template};
@@ -11,6 +10,7 @@ ghost use Rattle.msi_summary.specs.Summary.{arch_of, is_comma, is_semicolon, lan
 use crate::summary::SummaryInfo;
 use msi_text::errors::Error;
 use msi_text::language::LanguageId;
+use msi_text::parts::language_list;
 use msi_text::text::IntoText;
 use std::alloc::Global;
 
@@ -65,23 +65,6 @@ fn languages_in(alloc: Global, text: &str) -> Result<Vec<LanguageId>, Error>
     )
 }
 
-/// The languages' ids in decimal, with a comma between each two.
-fn languages_text(alloc: Global, languages: &[LanguageId]) -> Result<String, Error>
-    ensures ok { IfOk result (λ text. string_bytes text ≡ join_by decimal (codes ",") languages.now) }
-    ensures kind { IfErr result (λ kind. kind ≡ OutOfMemory) }
-{
-    let Some((first, others)) = languages.split_first() else {
-        return Ok(String::new(alloc));
-    };
-    let mut text = first.id().to_string(alloc)?;
-    for language in others {
-        let id = language.id().to_string(alloc)?;
-        text.push_str(",")?;
-        text.push_str(id.as_str())?;
-    }
-    Ok(text)
-}
-
 impl SummaryInfo {
     /// The template, empty where there is none.
     fn template(&self) -> &str
@@ -109,7 +92,7 @@ impl SummaryInfo {
         filled(arch_part(self.template()))
     }
 
-    /// Sets the architecture. The languages stay.
+    /// Sets the architecture. The languages stay. A `;` ends the architecture: what stands behind it reads as languages.
     ///
     /// # Errors
     /// `OutOfMemory`.
@@ -158,7 +141,7 @@ impl SummaryInfo {
     {
         let alloc = self.properties.allocator();
         let arch = String::from_str(alloc, arch_part(self.template()))?;
-        let ids = languages_text(alloc, languages)?;
+        let ids = language_list(alloc, languages)?;
         self.set_template(arch, ids.as_str())
     }
 

@@ -18,7 +18,7 @@ pub returns-then-ne : goal.returns-then-ne
 returns-then-ne c =
     let d = decided c.args.columns.now c.args.row.now c.args.other.now c.loop-i.i c.index-columns-i.result c.loop-i-test.true
     (ap (λ (x : ColumnDef). is_of_category_binary x.category) (sym c.index-columns-i.is) ∙ sym c.is_of_category_binary.ensures ∙ c.if-is_of_category_binary.false) in
-    let e : c.compare_places-order.result ≡ option_cmp cell_cmp (slice_get c.args.row.now c.loop-i.i) (slice_get c.args.other.now c.loop-i.i) = search rules in
+    let e : c.cmp-order.result ≡ option_cmp cell_cmp (slice_get c.args.row.now c.loop-i.i) (slice_get c.args.other.now c.loop-i.i) = search rules in
     e ∙ sym (c.loop-i.invariant.same ∙ d ∙ decided_here _ (cmp_from c.args.columns.now c.args.row.now c.args.other.now (c.loop-i.i + 1))
     (ap (λ (o : Ordering). not (eqb (ordering_index o) 1)) (sym e) ∙ sym c.ne.ensures ∙ c.if-ne.true))
 
@@ -26,7 +26,7 @@ pub loop-i-preserved : goal.loop-i-preserved
 loop-i-preserved c =
     let d = decided c.args.columns.now c.args.row.now c.args.other.now c.loop-i.i c.index-columns-i.result c.loop-i-test.true
     (ap (λ (x : ColumnDef). is_of_category_binary x.category) (sym c.index-columns-i.is) ∙ sym c.is_of_category_binary.ensures ∙ c.if-is_of_category_binary.false) in
-    let e : c.compare_places-order.result ≡ option_cmp cell_cmp (slice_get c.args.row.now c.loop-i.i) (slice_get c.args.other.now c.loop-i.i) = search rules in
+    let e : c.cmp-order.result ≡ option_cmp cell_cmp (slice_get c.args.row.now c.loop-i.i) (slice_get c.args.other.now c.loop-i.i) = search rules in
     record {
       same = c.loop-i.invariant.same ∙ d ∙ decided_later _ (cmp_from c.args.columns.now c.args.row.now c.args.other.now (c.loop-i.i + 1))
           (ap (λ (o : Ordering). not (eqb (ordering_index o) 1)) (sym e) ∙ sym c.ne.ensures ∙ c.if-ne.false);

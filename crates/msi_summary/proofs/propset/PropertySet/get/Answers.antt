@@ -3,4 +3,4 @@ use Rattle.msi_summary.proofs.PropertiesLemmas.{value_at-lookup}
 use Rattle.msi_summary.proofs.propset.PropertySet.get.Goals as goal
 
 pub returns : goal.returns
-returns c = rw (← c.self.view_is) (c.get.ensures.value ∙ value_at-lookup c.args.name _)
+returns c = rw (← c.self.view_is) (c.get.ensures.value ∙ value_at-lookup c.args.id _)
