@@ -12,6 +12,7 @@ pub mod SetReadLemmas
 pub mod PlainSectionLemmas
 pub mod ReadBackLemmas
 pub mod PropertiesLemmas
+pub mod KeptSetLemmas
 mod PropertyStreamRows
 pub mod BraceLemmas
 pub mod KeywordLemmas

@@ -149,7 +149,7 @@ told set kept = by_test (is_told (page_of set) set.values) refl
     by_test false is = both (sym (untold_is (page_of set) set.values is) ∙ kept)
 
 pub sets_read_back : SetsReadBack
-sets_read_back set bytes kept writable refused written =
+sets_read_back set bytes kept range writable refused written =
     let q = page_of set in
     let es = set.values in
     let version = least_version set in
@@ -177,7 +177,7 @@ sets_read_back set bytes kept writable refused written =
       head = (header, head, values_in q es, long, split, refl);
       once = listed_once q first es kept.ascending;
       page = kept.page;
-      spelled = values_stand version q bytes 48 first (header ++ head) es headed split (omega arith) (version_one es) kept.values writable;
+      spelled = values_stand version q bytes 48 first (header ++ head) es headed split (omega arith) (version_one es) range writable;
       listed = sym (sorted_same es kept.ascending) ∙ ap (λ (x : List (ℕ × PropertyValue)). by_id x) (sym (entries_again q first es));
     }
 

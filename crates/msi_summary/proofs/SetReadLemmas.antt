@@ -3,11 +3,13 @@ use Rattle.std.proofs.Common.{◌≡◌, ℕ, List, Option, Some, Result, Ok, Er
 use Rattle.std.specs.Prelude.{◌⊎◌, IfOk, IfErr}
 use Rattle.msi_text.specs.declared.errors.ErrorKind.{ErrorKind}
 use Rattle.msi_text.specs.declared.errors.ErrorKind.TheVariants as kind
-use Rattle.msi_summary.specs.Properties.{Properties, NamesPage}
+use Rattle.msi_summary.specs.Properties.{Properties}
+use Rattle.msi_summary.specs.PropertyLaws.{IsKept}
 use Rattle.msi_summary.specs.PropertyStream.{Spells}
 use Rattle.msi_text.specs.PoolReading.{Gives}
 use Rattle.msi_summary.specs.Reading.{set_put}
 use Rattle.msi_summary.proofs.FieldLemmas.{IsBytes}
+use Rattle.msi_summary.proofs.KeptSetLemmas.{IsKept-spelled}
 use Rattle.msi_summary.proofs.SpelledSetLemmas.{set_found, set_again}
 use Rattle.msi_summary.proofs.PutInLemmas.{set_put_in, set_in_put}
 
@@ -27,6 +29,6 @@ is_kind (Err kind.NotFound) o given = absurd given
 is_kind (Err kind.Io) o given = absurd given
 is_kind (Err kind.OutOfMemory) o given = inr refl
 
--- the page of what the code puts together is known
-pub names_page : (bytes : List ℕ) (set : Properties) → IsBytes bytes → set_put bytes ≡ Some set → NamesPage set.values
-names_page bytes set fits put = (set_found bytes set fits (set_put_in bytes set put)).page
+-- what the code puts together is as a set is kept
+pub kept_read : (bytes : List ℕ) (set : Properties) → IsBytes bytes → set_put bytes ≡ Some set → IsKept set
+kept_read bytes set fits put = IsKept-spelled bytes set (set_found bytes set fits (set_put_in bytes set put))

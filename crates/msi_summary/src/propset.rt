@@ -3,7 +3,8 @@
 ghost use Rattle.std.specs.Prelude.{◌≡◌, IfErr, OnOk, OnErr, true, false, if◌then◌else◌};
 ghost use Rattle.std.specs.Option.{option_copied};
 ghost use Rattle.msi_text.specs.declared.errors.ErrorKind.TheVariants.{InvalidInput, OutOfMemory};
-ghost use Rattle.msi_summary.specs.Properties.{NamesPage, can_set, new_set, page_in, page_of, page_value, value_at, with_page, with_value, without_value};
+ghost use Rattle.msi_summary.specs.Properties.{can_set, new_set, page_in, page_of, page_value, value_at, with_page, with_value, without_value};
+ghost use Rattle.msi_summary.specs.PropertyLaws.{IsKept};
 
 use msi_text::codepage::CodePage;
 use msi_text::errors::{Error, ErrorKind, Reason};
@@ -59,13 +60,14 @@ pub struct PropertySet {
 }
 
 impl Model for PropertySet {
-    ghost use Rattle.msi_summary.specs.Properties.{Properties, NamesPage};
+    ghost use Rattle.msi_summary.specs.Properties.{Properties};
+    ghost use Rattle.msi_summary.specs.PropertyLaws.{IsKept};
 
     ghost Value = { Properties };
 
     ghost view = { λ s. record { os = s.os; os_version = s.os_version; clsid = s.clsid; format_identifier = s.format_identifier; values = s.values.entries } };
 
-    ghost invariant = { λ s. NamesPage s.values.entries };
+    ghost invariant = { λ s. IsKept (record { os = s.os; os_version = s.os_version; clsid = s.clsid; format_identifier = s.format_identifier; values = s.values.entries }) };
 }
 
 /// The page that a value of property 1 names, read without sign.
@@ -122,7 +124,7 @@ impl PropertySet {
         format_identifier: [u8; 16],
         values: BTreeMap<u32, PropertyValue>,
     ) -> PropertySet
-        requires { NamesPage values.entries }
+        requires { IsKept (record { os = os; os_version = os_version; clsid = clsid; format_identifier = format_identifier; values = values.entries }) }
         ensures { result ≡ record { os = os; os_version = os_version; clsid = clsid; format_identifier = format_identifier; values = values.entries } }
     {
         PropertySet {
@@ -164,7 +166,7 @@ impl PropertySet {
     /// The values by their ids.
     pub(crate) fn values(&self) -> &BTreeMap<u32, PropertyValue>
         ensures values { result.now.entries ≡ self.now.values }
-        ensures page { NamesPage self.now.values }
+        ensures kept { IsKept self.now }
     {
         &self.values
     }

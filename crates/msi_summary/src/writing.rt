@@ -8,7 +8,8 @@ ghost use Rattle.msi_text.specs.Pages.{bytes_in};
 ghost use Rattle.msi_text.specs.PoolWriting.{is_untold};
 ghost use Rattle.msi_text.specs.declared.errors.ErrorKind.TheVariants.{InvalidInput, Io, OutOfMemory};
 ghost use Rattle.msi_summary.specs.Properties.{page_of};
-ghost use Rattle.msi_summary.specs.PropertyStream.{os_number, needs_version_1 as is_of_version_1, version_of, least_version as least_version_of, header_bytes, section_head, pair_bytes, string_bytes_of, value_bytes, piece_of, property_stream};
+ghost use Rattle.msi_summary.specs.PropertyStream.{os_number, needs_version_1 as is_of_version_1, version_of, least_version as least_version_of, header_bytes, section_head, pair_bytes, string_bytes_of, value_bytes, piece_of, property_stream, AreWritable, FitsValue, Spells};
+ghost use Rattle.msi_summary.specs.PropertyLaws.{AreInRange};
 ghost use Rattle.msi_summary.specs.PropertyWriting.{is_refused, is_told, section_size, pairs_from, piece_in, values_in};
 
 use crate::header::MARK;
@@ -36,6 +37,9 @@ impl PropertySet {
     pub fn write<W: Write>(&self, writer: &mut W) -> Result<(), Error>
         ensures ok { OnOk result ((bytes : List ℕ) × (property_stream self.now ≡ Some bytes)
             × Appends (W.contents writer.old) (W.contents writer.new) bytes) }
+        // Where the page carries each text there and back, what is written spells the set, so reading gives it.
+        ensures spelled { OnOk result ((bytes : List ℕ) × (AreWritable self.now → Spells bytes self.now)
+            × Appends (W.contents writer.old) (W.contents writer.new) bytes) }
         ensures refused { IsErrOf result InvalidInput ↔ IsTrue (is_refused self.now) }
         ensures unwritten { IsErrOf result InvalidInput → writer.new ≡ writer.old }
         ensures kinds { IfErr result (λ kind. (kind ≡ InvalidInput) ⊎ (kind ≡ OutOfMemory) ⊎ (kind ≡ Io)) }
@@ -56,6 +60,7 @@ fn put<W: Write>(writer: &mut W, bytes: &[u8]) -> Result<(), Error>
 /// The bytes of the stream.
 fn stream_of(set: &PropertySet) -> Result<Vec<u8>, Error>
     ensures ok { IfOk result (λ bytes. property_stream set.now ≡ Some bytes.items) }
+    ensures spelled { IfOk result (λ bytes. AreWritable set.now → Spells bytes.items set.now) }
     ensures refused { IsErrOf result InvalidInput ↔ IsTrue (is_refused set.now) }
     ensures kinds { IfErr result (λ kind. (kind ≡ InvalidInput) ⊎ (kind ≡ OutOfMemory)) }
 {
@@ -70,6 +75,7 @@ fn plain_bytes(set: &PropertySet, page: CodePage, size: u32) -> Result<Vec<u8>, 
     requires told { is_told page set.now.values ≡ true }
     requires size { size ≡ section_size page set.now.values }
     ensures ok { IfOk result (λ bytes. property_stream set.now ≡ Some bytes.items) }
+    ensures spelled { IfOk result (λ bytes. AreWritable set.now → Spells bytes.items set.now) }
     ensures kind { IfErr result (λ kind. kind ≡ OutOfMemory) }
 {
     let values = set.values();
@@ -254,6 +260,7 @@ fn push_values(
 ) -> Result<(), Error>
     requires { is_told page values.now.entries ≡ true }
     ensures ok { OnOk result (held.new.items ≡ held.old.items ++ values_in page values.now.entries) }
+    ensures range { OnOk result (AreInRange values.now.entries) }
     ensures kind { IfErr result (λ kind. kind ≡ OutOfMemory) }
 {
     for (_, value) in values {
@@ -266,6 +273,7 @@ fn push_values(
 fn push_piece(held: &mut Vec<u8>, page: CodePage, value: &PropertyValue) -> Result<(), Error>
     requires { is_untold (piece_of page value.now) ≡ false }
     ensures ok { OnOk result (held.new.items ≡ held.old.items ++ piece_in page value.now) }
+    ensures range { FitsValue value.now }
     ensures kind { IfErr result (λ kind. kind ≡ OutOfMemory) }
 {
     let start = held.len();
@@ -288,6 +296,7 @@ fn push_zeros(held: &mut Vec<u8>, count: usize) -> Result<(), AllocError>
 fn push_value(held: &mut Vec<u8>, page: CodePage, value: &PropertyValue) -> Result<(), Error>
     requires { is_untold (value_bytes page value.now) ≡ false }
     ensures ok { OnOk result (held.new.items ≡ held.old.items ++ unwrap_or (value_bytes page value.now) []) }
+    ensures range { FitsValue value.now }
     ensures kind { IfErr result (λ kind. kind ≡ OutOfMemory) }
 {
     match value {

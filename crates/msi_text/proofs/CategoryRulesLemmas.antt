@@ -16,7 +16,7 @@ use Rattle.std.proofs.lemmas.List.Folds.{list_any_at}
 use Rattle.std.proofs.lemmas.List.Sums.{suffix_len_is}
 use Rattle.std.proofs.lemmas.Str.Pattern.{NoCharPasses-char}
 use Rattle.uuid.specs.Text.{parsed, parsed_hyphenated}
-use Rattle.msi_text.specs.CategoryRules.{continues_name, is_guid, is_identifier, is_lower, is_short_name, is_version, starts_name}
+use Rattle.msi_text.specs.CategoryRules.{continues_name, is_braced_uuid, is_identifier, is_short_name, is_version, starts_name}
 use Rattle.msi_text.specs.Numerals.{is_number_within, is_numeral, u16_in}
 
 -- ---- numbers
@@ -80,19 +80,15 @@ is_some-from_Ok (Ok a) None h k = let (x, e) = h refl in cc
 is_some-from_Ok (Err a) (Some x) h k = k (x, refl)
 is_some-from_Ok (Err a) None h k = refl
 
-braces_first : {X : Type 0} (a b low : Bool) (o : Option X) → low ≡ false → is_some (cond ((true && a) && b) o None) ≡ ((((true && a) && b) && not low) && is_some o)
-braces_first true true low o e = ap (λ l. not l && is_some o) (sym e)
-braces_first true false low o e = refl
-braces_first false b low o e = refl
+braces_first : {X : Type 0} (a b : Bool) (o : Option X) → is_some (cond ((true && a) && b) o None) ≡ (((true && a) && b) && is_some o)
+braces_first true true o = refl
+braces_first true false o = refl
+braces_first false b o = refl
 
-pub not_false : (b : Bool) → not b ≡ true → b ≡ false
-not_false true e = sym e
-not_false false e = refl
-
-pub guid_answer : {E : Type 0} (text : List ℕ) (r : Result (List ℕ) E) → length text ≡ 38 → list_any is_lower text ≡ false → (IsOk r → (u : List ℕ) × (parsed text ≡ Some u)) → ((u : List ℕ) × (parsed text ≡ Some u) → IsOk r) → is_ok r ≡ is_guid text
-guid_answer text r l low h k =
+pub braced_answer : {E : Type 0} (text : List ℕ) (r : Result (List ℕ) E) → length text ≡ 38 → (IsOk r → (u : List ℕ) × (parsed text ≡ Some u)) → ((u : List ℕ) × (parsed text ≡ Some u) → IsOk r) → is_ok r ≡ is_braced_uuid text
+braced_answer text r l h k =
     is_some-from_Ok r (parsed text) h k
-    ∙ rw l (braces_first (eqb (get_or text 0 0) 123) (eqb (get_or text 37 0) 125) (list_any is_lower text) (parsed_hyphenated (take 36 (drop 1 text))) low)
+    ∙ rw l (braces_first (eqb (get_or text 0 0) 123) (eqb (get_or text 37 0) 125) (parsed_hyphenated (take 36 (drop 1 text))))
 
 -- ---- versions
 

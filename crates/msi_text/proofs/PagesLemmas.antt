@@ -5,12 +5,13 @@ use Rattle.std.specs.List.{list_all}
 use Rattle.std.specs.Str.{IsAscii}
 use Rattle.std.proofs.Math.Utf8.{scalars}
 use Rattle.std.proofs.lemmas.Bool.{and_parts, ltb-true}
-use Rattle.std.proofs.lemmas.Str.{encodes-IsAscii, chars-IsAscii, encodes-chars, chars-encodes}
+use Rattle.std.proofs.lemmas.Str.{IsUtf8-from_ascii, encodes-IsAscii, chars-IsAscii, encodes-chars, chars-encodes}
 use Rattle.std.proofs.lemmas.Option.{same_Some}
+use Rattle.bstr.proofs.lemmas.EncodeLemmas.{lossy_chars-utf8}
 use Rattle.msi_text.specs.declared.codepage.CodePage.{CodePage}
 use Rattle.msi_text.specs.declared.codepage.CodePage.TheVariants as page
 use Rattle.msi_text.specs.PageTables.{upper_characters, character_read, byte_written, character_of, byte_of}
-use Rattle.msi_text.specs.Pages.{is_ascii, single_byte_text, single_byte_spelling, text_in, bytes_in, PageTextsComeBack, PageBytesComeBack}
+use Rattle.msi_text.specs.Pages.{is_ascii, single_byte_text, single_byte_spelling, text_in, bytes_in, PageTextsComeBack, PageBytesComeBack, Utf8TextsComeBack, AsciiStandsForItself}
 use Rattle.msi_text.proofs.PageTablesLemmas.{is_table, page_has_table, byte_again, character_again, character_scalar}
 
 pub IsAscii-from_test : (bytes : List ℕ) → is_ascii bytes ≡ true → IsAscii bytes
@@ -38,6 +39,13 @@ ascii_text_is None bytes h = ap (λ t. cond t (Some bytes) None) h
 pub ascii_spelling_is : (upper : Option (List ℕ)) (text : List ℕ) → is_ascii text ≡ true → single_byte_spelling upper text ≡ Some text
 ascii_spelling_is (Some upper) text h = ap (λ cs. Some (map (byte_written upper) cs)) (chars-IsAscii text (IsAscii-from_test text h)) ∙ ap Some (ascii_written upper text h)
 ascii_spelling_is None text h = ap (λ t. cond t (Some text) None) h
+
+pub utf8_texts_come_back : Utf8TextsComeBack
+utf8_texts_come_back text utf8 = ap Some (lossy_chars-utf8 text utf8)
+
+pub ascii_stands_for_itself : AsciiStandsForItself
+ascii_stands_for_itself page.Utf8 text h = (refl, ap Some (lossy_chars-utf8 text (IsUtf8-from_ascii text (IsAscii-from_test text h))))
+ascii_stands_for_itself page text h = (ascii_spelling_is (upper_characters page) text h, ascii_text_is (upper_characters page) text h)
 
 -- in a page with a table
 table_text : (page : CodePage) (upper bytes : List ℕ) → upper_characters page ≡ Some upper → text_in page bytes ≡ single_byte_text (Some upper) bytes

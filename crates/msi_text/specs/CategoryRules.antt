@@ -29,10 +29,14 @@ is_identifier (c ∷ cs) = starts_name c && list_all continues_name cs
 abbrev pub is_property : List ℕ → Bool
 is_property text = is_identifier (if slice_index text 0 == 37 then drop 1 text else text)
 
--- a GUID in braces, upper case
+-- 38 bytes: `{`, a UUID with its hyphens, and `}`
+abbrev pub is_braced_uuid : List ℕ → Bool
+is_braced_uuid text = (length text == 38) && (slice_index text 0 == 123) && (slice_index text 37 == 125)
+    && is_some (parsed_hyphenated (take 36 (drop 1 text)))
+
+-- such a UUID, without small letters
 abbrev pub is_guid : List ℕ → Bool
-is_guid text = (length text == 38) && (slice_index text 0 == 123) && (slice_index text 37 == 125)
-    && not (list_any is_lower text) && is_some (parsed_hyphenated (take 36 (drop 1 text)))
+is_guid text = is_braced_uuid text && not (list_any is_lower text)
 
 abbrev pub is_version : List ℕ → Bool
 is_version text = let parts = slice_split (λ c. c == 46) text in

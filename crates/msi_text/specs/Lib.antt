@@ -1,4 +1,5 @@
 -- The words of this crate.
+pub mod Errors
 pub mod Lists
 pub mod PageTables
 pub mod Pages

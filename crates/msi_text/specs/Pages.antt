@@ -46,6 +46,14 @@ abbrev pub PageTextsComeBack : Type 0
 PageTextsComeBack = (page : CodePage) (upper text : List ℕ) → upper_characters page ≡ Some upper → IsUtf8 text
     → list_all (λ c. is_some (byte_of upper c)) (chars text) ≡ true → IsWritable page text
 
+-- in UTF-8 every text is written so that it reads back
+abbrev pub Utf8TextsComeBack : Type 0
+Utf8TextsComeBack = (text : List ℕ) → IsUtf8 text → IsWritable page.Utf8 text
+
+-- in each page ASCII is written as its own bytes, which are read as it
+abbrev pub AsciiStandsForItself : Type 0
+AsciiStandsForItself = (page : CodePage) (text : List ℕ) → is_ascii text ≡ true → Writes page text text × Reads page text text
+
 -- bytes that all stand for characters spell the text that they read as
 abbrev pub PageBytesComeBack : Type 0
 PageBytesComeBack = (page : CodePage) (upper bytes text : List ℕ) → upper_characters page ≡ Some upper

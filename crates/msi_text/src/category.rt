@@ -14,21 +14,21 @@ use std::str::FromStr;
 pub enum Category {
     /// Any text.
     Text,
-    /// Text with no small letter.
+    /// Text without a small letter of ASCII.
     UpperCase,
-    /// Text with no capital letter.
+    /// Text without a capital letter of ASCII.
     LowerCase,
-    /// A number of 16 bits.
+    /// A number from -32768 to 32767.
     Integer,
-    /// A number of 32 bits.
+    /// A number from -2147483648 to 2147483647.
     DoubleInteger,
-    /// A number in a text column.
+    /// Likewise a number from -2147483648 to 2147483647.
     Number,
     /// A date and time of day.
     TimeDate,
-    /// A name of letters, digits, underscores and periods.
+    /// A name of ASCII letters, digits, underscores and periods that begins with a letter or an underscore.
     Identifier,
-    /// An identifier that may begin with a percent sign.
+    /// An identifier, which may have a percent sign in front.
     Property,
     /// The name of a file or folder, short and long.
     Filename,
@@ -52,17 +52,17 @@ pub enum Category {
     Template,
     /// A condition on properties.
     Condition,
-    /// A GUID in braces, with capital letters.
+    /// A UUID with its hyphens, in braces and without small letters.
     Guid,
-    /// A version of up to four numbers.
+    /// A version: one to four numbers from 0 to 65535 between periods.
     Version,
-    /// Languages' numbers between commas.
+    /// Languages: one or more numbers from 0 to 65535 between commas.
     Language,
     /// The name of a stream of bytes.
     Binary,
     /// Where a custom action comes from.
     CustomSource,
-    /// The name of a cabinet.
+    /// A cabinet: `#` and the identifier of a stream, or a file name of 1 to 8 bytes with at most 3 behind its last period.
     Cabinet,
     /// The target of a shortcut.
     Shortcut,

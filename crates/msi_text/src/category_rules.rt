@@ -3,16 +3,24 @@
 ghost use Rattle.std.specs.Prelude.{◌≡◌, is_some, length, neg_ℤ, pos};
 ghost use Rattle.std.specs.Int.{is_in_range};
 ghost use Rattle.std.specs.List.{list_all, list_any};
-ghost use Rattle.msi_text.specs.CategoryRules.{continues_name, is_accepted, is_cabinet, is_guid, is_identifier, is_language_list, is_lower, is_property, is_short_name, is_upper, is_version, starts_name};
+ghost use Rattle.msi_text.specs.CategoryRules.{continues_name, is_accepted, is_braced_uuid, is_cabinet, is_guid, is_identifier, is_language_list, is_lower, is_property, is_short_name, is_upper, is_version, starts_name};
 ghost use Rattle.msi_text.specs.Numerals.{is_number_within, u16_in};
 
 use crate::category::Category;
 use uuid::Uuid;
 
+/// How many bytes a UUID has in braces, with its hyphens.
+const BRACED_UUID_LEN: usize = 38;
+
+/// How many numbers a version may have.
+const MOST_VERSION_PARTS: usize = 4;
+
 impl Category {
     /// Whether a text may stand in a column of this category (MSI SDK, "Column Data Types").
     ///
-    /// A category without a rule accepts every text.
+    /// The rules of UpperCase, LowerCase, Integer, DoubleInteger, Number, Identifier, Property, Guid, Version, Language and
+    /// Cabinet stand beside these members; every other category accepts every text. A number may have a `+` in front, the three
+    /// signed ones a `-` too. It takes no memory.
     pub fn validate(self, text: &str) -> bool
         ensures { result ≡ is_accepted self text.now }
     {
@@ -108,18 +116,25 @@ fn is_property(text: &[u8]) -> bool
     }
 }
 
-/// Whether a text is a GUID in braces, with capital letters.
+/// Whether a text is a GUID in braces, without small letters.
 fn is_guid(text: &str) -> bool
     ensures { result ≡ is_guid text.now }
 {
-    text.len() == 38 && !has_lower(text) && Uuid::parse_str(text).is_ok()
+    is_braced_uuid(text) && !has_lower(text)
+}
+
+/// Whether a text is a UUID with its hyphens, in braces. Only that of its forms has so many bytes.
+fn is_braced_uuid(text: &str) -> bool
+    ensures { result ≡ is_braced_uuid text.now }
+{
+    text.len() == BRACED_UUID_LEN && Uuid::parse_str(text).is_ok()
 }
 
 /// Whether a text is at most four numbers of 16 bits between periods.
 fn is_version(text: &str) -> bool
     ensures { result ≡ is_version text.now }
 {
-    text.split('.').count() <= 4 && text.split('.').all(is_unsigned_number)
+    text.split('.').count() <= MOST_VERSION_PARTS && text.split('.').all(is_unsigned_number)
 }
 
 /// Whether a text is numbers of 16 bits between commas.

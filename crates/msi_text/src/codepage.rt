@@ -217,7 +217,8 @@ impl CodePage {
         }
     }
 
-    /// What bytes read as. In UTF-8 any bytes are a text, with U+FFFD for each maximal part that spells no character. In
+    /// What bytes read as. In UTF-8 any bytes are a text, with U+FFFD for each maximal part that spells no character (The
+    /// Unicode Standard, 3.9, "U+FFFD Substitution of Maximal Subparts"). In
     /// Windows-1252 (also for ISO 8859-1) and Mac OS Roman each byte stands for a character, and in US-ASCII a byte past ASCII
     /// reads as U+FFFD. No byte order mark is looked for.
     ///

@@ -1,6 +1,7 @@
 //! Why a call is refused.
 
-ghost use Rattle.std.specs.Prelude.{◌≡◌};
+ghost use Rattle.std.specs.Prelude.{◌≡◌, Some};
+ghost use Rattle.msi_text.specs.Errors.{kind_name};
 ghost use Rattle.msi_text.specs.declared.errors.ErrorKind.TheVariants.{OutOfMemory};
 
 use std::alloc::{AllocError, AllocFailed};
@@ -25,7 +26,10 @@ pub enum ErrorKind {
     OutOfMemory,
 }
 
+/// Writes the kind's name.
 impl fmt::Display for ErrorKind {
+    ghost output = { λ kind. Some (kind_name kind) };
+
     fn fmt<W: fmt::Write>(&self, f: &mut fmt::Formatter<W>) -> fmt::Result {
         f.write_str(match self {
             ErrorKind::AlreadyExists => "AlreadyExists",

@@ -29,6 +29,8 @@ pub fn read_exactly<R: Read>(reader: &mut R, bytes: &mut [u8], cut: Reason) -> R
     ensures cut { IfErr result (λ kind. kind ≡ InvalidData → IfSome (R.remaining reader.old) (λ left. length left < length bytes.old)) }
     ensures kind { IfErr result (λ kind. (kind ≡ InvalidData) ⊎ ((kind ≡ Io) ⊎ (kind ≡ OutOfMemory))) }
 {
+    // Not `read_exact`: it tells an early end as `UnexpectedEof`, which a reader's own fault may be too. The bound is there
+    // for a reader that is interrupted forever.
     let mut at = 0;
     'reads: for _ in 0..u64::MAX {
         if at == bytes.len() {

@@ -4,7 +4,7 @@ ghost use Rattle.msi_text.specs.Categories.{CategoryNamesComeBack};
 ghost use Rattle.msi_text.specs.FirstFitLaws.{TakenPlacesHoldTheirText, GivenBackTakesOne};
 ghost use Rattle.msi_text.specs.Languages.{LanguageIdsTellTags, LanguagePartsComeBack, LanguageRowsAscend, LanguageTagsTellIds};
 ghost use Rattle.msi_text.specs.PageTables.{PageTablesAgree};
-ghost use Rattle.msi_text.specs.Pages.{PageBytesComeBack, PageIdsTellPages, PageTextsComeBack};
+ghost use Rattle.msi_text.specs.Pages.{AsciiStandsForItself, PageBytesComeBack, PageIdsTellPages, PageTextsComeBack, Utf8TextsComeBack};
 ghost use Rattle.msi_text.specs.PoolLaws.{PoolsReadBack};
 ghost use Rattle.msi_text.specs.PoolReading.{OnePool, IsPoolInSteps};
 ghost use Rattle.msi_text.specs.References.{ReferencesComeBack};
@@ -23,6 +23,16 @@ pub fn page_tables_agree()
 /// A text whose characters all have a place in its page's table is read as it was written.
 pub fn page_texts_come_back()
     ensures { PageTextsComeBack }
+{}
+
+/// In UTF-8 every text is read as it was written.
+pub fn utf8_texts_come_back()
+    ensures { Utf8TextsComeBack }
+{}
+
+/// In each page ASCII is written as its own bytes, which are read as it.
+pub fn ascii_stands_for_itself()
+    ensures { AsciiStandsForItself }
 {}
 
 /// Bytes that all stand for characters are written for the text that they read as.

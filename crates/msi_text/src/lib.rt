@@ -1,4 +1,4 @@
-//! What the layers above share: errors, texts, code pages, categories, and the pool of texts.
+//! What the layers above share: errors, texts, code pages, categories, languages, times, and the pool of texts.
 #![tactic(auto)]
 
 pub mod category;

@@ -7,7 +7,6 @@ mod reading;
 mod reference;
 mod writing;
 
-pub use places::Place;
 pub use pool::StringPool;
 pub use reading::StringPoolBuilder;
 pub use reference::StringRef;

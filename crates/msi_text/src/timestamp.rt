@@ -47,6 +47,7 @@ impl Timestamp {
 
     /// The moment that lies so many seconds, and so many nanoseconds more, after the start of 1970 (the Unix epoch). What
     /// makes no whole tick is cut towards that epoch. A moment before 1601 is tick 0, and one past the last tick is the last.
+    /// `nanos` is below 1000000000, also before 1970, so -1 s and 999999950 ns lie 50 ns before it.
     pub fn from_unix(secs: i64, nanos: u32) -> Timestamp
         requires { nanos < 1000000000 }
         ensures { result ≡ ticks_of_unix secs nanos }

@@ -1,10 +1,13 @@
-//! Numbers in front of a slice.
+//! Numbers of the pool's stream.
 
 ghost use Rattle.std.specs.Prelude.{◌≡◌};
 ghost use Rattle.std.specs.Int.{w16, w32};
 ghost use Rattle.msi_text.specs.PoolReading.{Gives, number_at};
 
 use crate::errors::{Error, ErrorKind, Reason};
+
+/// The bit above the page's id that says that references are long.
+pub const LONG: u32 = 1 << 31;
 
 /// The number of 16 bits in front, and the bytes after it.
 pub fn u16_at(bytes: &[u8]) -> Result<(u16, &[u8]), Error>

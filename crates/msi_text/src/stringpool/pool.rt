@@ -14,6 +14,12 @@ use crate::text::Text;
 use std::alloc::Global;
 use std::marker::Model;
 
+/// How many places a pool may have: as many as long references can name.
+pub const MOST_PLACES: usize = 16_777_215;
+
+/// Up to how many places one is added where references are short.
+const MOST_SHORT_PLACES: usize = 65_535;
+
 /// The pool. Contracts see its page, whether references are long, and its places.
 #[derive(Drop)]
 pub struct StringPool {
@@ -143,7 +149,11 @@ impl StringPool {
     fn most_places(&self) -> usize
         ensures { result ≡ most_of self.now.long }
     {
-        if self.long { 16777215 } else { 65535 }
+        if self.long {
+            MOST_PLACES
+        } else {
+            MOST_SHORT_PLACES
+        }
     }
 
     /// Takes a text, and answers its place: the first that is free or has the text and fewer than 65535 cells, or else a new one.

@@ -10,19 +10,13 @@ ghost use Rattle.msi_text.specs.PoolReading.{PoolStream, IsPoolStream, Gives, Is
 use crate::codepage::CodePage;
 use crate::errors::{Error, ErrorKind, Reason};
 use crate::faults::fault;
-use crate::stringpool::fields::{u16_at, u32_at};
+use crate::stringpool::fields::{LONG, u16_at, u32_at};
 use crate::stringpool::places::Place;
-use crate::stringpool::pool::StringPool;
+use crate::stringpool::pool::{MOST_PLACES, StringPool};
 use crate::text::Text;
 use std::alloc::Global;
 use std::io::Read;
 use std::marker::Model;
-
-/// The bit of the page's id that says that references are long.
-const LONG: u32 = 0x8000_0000;
-
-/// How many places a pool may have.
-const MOST_PLACES: usize = 16_777_215;
 
 /// An entry of the pool's stream: how many bytes its text has in the data stream, and its count.
 #[derive(Drop)]

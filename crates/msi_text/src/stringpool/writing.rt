@@ -11,13 +11,11 @@ ghost use Rattle.msi_text.specs.declared.errors.ErrorKind.TheVariants.{InvalidIn
 use crate::codepage::CodePage;
 use crate::errors::{Error, ErrorKind, Reason};
 use crate::faults::fault;
+use crate::stringpool::fields::LONG;
 use crate::stringpool::places::Place;
 use crate::stringpool::pool::StringPool;
 use std::alloc::AllocError;
 use std::io::Write;
-
-/// The bit above the page's id that tells of long references.
-const LONG: u32 = 1 << 31;
 
 /// From how many bytes on a text has a long entry.
 const SHORT_END: u32 = 65536;
@@ -30,7 +28,7 @@ impl StringPool {
     ///
     /// # Errors
     /// `InvalidInput` where a text in use isn't carried by the page or has 2^32 encoded bytes or more; nothing is written
-    /// then. `OutOfMemory`; `Io` where the writer fails.
+    /// then. `OutOfMemory`; `Io` where the writer fails, and some of the bytes may then be written.
     pub fn write_pool<W: Write>(&self, writer: &mut W) -> Result<(), Error>
         ensures ok { OnOk result ((bytes : List ℕ) × (pool_stream self.now ≡ Some bytes)
             × Appends (W.contents writer.old) (W.contents writer.new) bytes) }
