@@ -3,4 +3,5 @@
 
 pub mod compound;
 pub mod laws;
+mod reasons;
 pub mod streamname;

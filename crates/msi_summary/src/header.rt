@@ -7,7 +7,8 @@ ghost use Rattle.msi_summary.specs.Reading.{os_with_number, header_in, pairs_at,
 
 use crate::fields::{identifier_at, u16_at, u32_at};
 use crate::propset::OperatingSystem;
-use msi_text::errors::{Error, ErrorKind, Reason};
+use crate::reasons;
+use msi_text::errors::{Error, ErrorKind};
 use std::alloc::Global;
 
 /// The mark that a stream begins with: the bytes `FE FF`.
@@ -33,7 +34,7 @@ fn system_of(number: u16) -> Result<OperatingSystem, Error>
         0 => Ok(OperatingSystem::Win16),
         1 => Ok(OperatingSystem::Macintosh),
         2 => Ok(OperatingSystem::Win32),
-        _ => Err(Error::new(ErrorKind::InvalidData, Reason::PropertySystem)),
+        _ => Err(Error::new(ErrorKind::InvalidData, reasons::PROPERTY_SYSTEM)),
     }
 }
 
@@ -52,13 +53,13 @@ pub(crate) fn header_at(bytes: &[u8]) -> Result<Head, Error>
     let (section, _) = u32_at(rest)?;
     let os = system_of(number)?;
     if mark != MARK {
-        return Err(Error::new(ErrorKind::InvalidData, Reason::PropertyMark));
+        return Err(Error::new(ErrorKind::InvalidData, reasons::PROPERTY_MARK));
     }
     if version >= 2 {
-        return Err(Error::new(ErrorKind::InvalidData, Reason::PropertyVersion));
+        return Err(Error::new(ErrorKind::InvalidData, reasons::PROPERTY_VERSION));
     }
     if reserved == 0 {
-        return Err(Error::new(ErrorKind::InvalidData, Reason::PropertySections));
+        return Err(Error::new(ErrorKind::InvalidData, reasons::PROPERTY_SECTIONS));
     }
     Ok(Head {
         version,

@@ -7,6 +7,7 @@ pub mod laws;
 pub mod parts;
 pub mod propset;
 mod reading;
+mod reasons;
 pub mod summary;
 mod values;
 mod writing;

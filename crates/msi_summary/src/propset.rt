@@ -6,8 +6,9 @@ ghost use Rattle.msi_text.specs.declared.errors.ErrorKind.TheVariants.{InvalidIn
 ghost use Rattle.msi_summary.specs.Properties.{can_set, new_set, page_in, page_of, page_value, value_at, with_page, with_value, without_value};
 ghost use Rattle.msi_summary.specs.PropertyLaws.{IsKept};
 
+use crate::reasons;
 use msi_text::codepage::CodePage;
-use msi_text::errors::{Error, ErrorKind, Reason};
+use msi_text::errors::{Error, ErrorKind};
 use msi_text::text::Text;
 use msi_text::timestamp::Timestamp;
 use std::alloc::Global;
@@ -219,7 +220,7 @@ impl PropertySet {
         ensures err { OnErr result (self.new ≡ self.old) }
     {
         if !can_set(id, &value) {
-            return Err(Error::new(ErrorKind::InvalidInput, Reason::PropertyPage));
+            return Err(Error::new(ErrorKind::InvalidInput, reasons::PROPERTY_PAGE));
         }
         self.put(id, value)
     }

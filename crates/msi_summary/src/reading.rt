@@ -10,9 +10,10 @@ ghost use Rattle.msi_summary.specs.Reading.{page_stated, put_values, set_put};
 
 use crate::header::{header_at, section_at};
 use crate::propset::{PropertySet, PropertyValue, page_named};
+use crate::reasons;
 use crate::values::value_at;
 use msi_text::codepage::CodePage;
-use msi_text::errors::{Error, ErrorKind, Reason};
+use msi_text::errors::{Error, ErrorKind};
 use std::alloc::Global;
 use std::collections::BTreeMap;
 
@@ -33,7 +34,7 @@ fn page_from(value: &PropertyValue) -> Result<CodePage, Error>
 {
     match page_named(value) {
         Some(page) => Ok(page),
-        None => Err(Error::new(ErrorKind::InvalidData, Reason::PropertyPage)),
+        None => Err(Error::new(ErrorKind::InvalidData, reasons::PROPERTY_PAGE)),
     }
 }
 
@@ -86,7 +87,7 @@ fn values_of(
         let value = value_at(alloc, version, page, rest)?;
         let before = values.insert(id, value)?;
         if before.is_some() {
-            return Err(Error::new(ErrorKind::InvalidData, Reason::PropertyTwice));
+            return Err(Error::new(ErrorKind::InvalidData, reasons::PROPERTY_TWICE));
         }
     }
     Ok(values)

@@ -15,8 +15,9 @@ mod texts;
 mod times;
 
 use crate::propset::{OperatingSystem, PropertySet, PropertyValue};
+use crate::reasons;
 use msi_text::codepage::CodePage;
-use msi_text::errors::{Error, ErrorKind, Reason};
+use msi_text::errors::{Error, ErrorKind};
 use msi_text::text::IntoText;
 use msi_text::timestamp::Timestamp;
 use std::alloc::Global;
@@ -69,7 +70,7 @@ impl SummaryInfo {
         ensures kind { IfErr result (λ kind. kind ≡ InvalidData) }
     {
         if *properties.format_identifier() != FORMAT {
-            return Err(Error::new(ErrorKind::InvalidData, Reason::SummaryFormat));
+            return Err(Error::new(ErrorKind::InvalidData, reasons::SUMMARY_FORMAT));
         }
         Ok(SummaryInfo { properties })
     }

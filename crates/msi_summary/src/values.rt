@@ -7,8 +7,9 @@ ghost use Rattle.msi_summary.specs.Reading.{string_at, value_in, payload};
 
 use crate::fields::{u8_at, u16_at, u32_at, u64_at};
 use crate::propset::PropertyValue;
+use crate::reasons;
 use msi_text::codepage::CodePage;
-use msi_text::errors::{Error, ErrorKind, Reason};
+use msi_text::errors::{Error, ErrorKind};
 use msi_text::text::Text;
 use msi_text::timestamp::Timestamp;
 use std::alloc::Global;
@@ -29,10 +30,10 @@ fn string_of(alloc: Global, page: CodePage, bytes: &[u8]) -> Result<Text, Error>
     let (count, rest) = u32_at(bytes)?;
     let len = (count as usize).saturating_sub(1);
     if rest.len() <= len {
-        return Err(Error::new(ErrorKind::InvalidData, Reason::PropertyCut));
+        return Err(Error::new(ErrorKind::InvalidData, reasons::PROPERTY_CUT));
     }
     if rest[len] != 0 {
-        return Err(Error::new(ErrorKind::InvalidData, Reason::PropertyText));
+        return Err(Error::new(ErrorKind::InvalidData, reasons::PROPERTY_TEXT));
     }
     text_of(alloc, page, &rest[..len])
 }
@@ -56,7 +57,7 @@ fn payload_at(
         16 if version == 1 => Ok(PropertyValue::I1(u8_at(rest)?.0.cast_signed())),
         30 => Ok(PropertyValue::LpStr(string_of(alloc, page, rest)?)),
         64 => Ok(PropertyValue::FileTime(Timestamp::from_ticks(u64_at(rest)?.0))),
-        _ => Err(Error::new(ErrorKind::InvalidData, Reason::PropertyType)),
+        _ => Err(Error::new(ErrorKind::InvalidData, reasons::PROPERTY_TYPE)),
     }
 }
 

@@ -14,9 +14,11 @@ ghost use Rattle.msi_summary.specs.PropertyWriting.{is_refused, is_told, section
 
 use crate::header::MARK;
 use crate::propset::{OperatingSystem, PropertySet, PropertyValue};
+use crate::reasons;
 use msi_text::codepage::CodePage;
-use msi_text::errors::{Error, ErrorKind, Reason};
-use msi_text::parts::{encoded_len, fault};
+use msi_text::errors::{Error, ErrorKind};
+use msi_text::parts::encoded_len;
+use msi_text::reasons::PAGE_CHARACTER;
 use std::alloc::AllocError;
 use std::collections::BTreeMap;
 use std::io::Write;
@@ -54,7 +56,8 @@ fn put<W: Write>(writer: &mut W, bytes: &[u8]) -> Result<(), Error>
     ensures ok { OnOk result (Appends (W.contents writer.old) (W.contents writer.new) bytes.now) }
     ensures kinds { IfErr result (λ kind. (kind ≡ OutOfMemory) ⊎ (kind ≡ Io)) }
 {
-    writer.write_all(bytes).map_err(|error| fault(error))
+    writer.write_all(bytes)?;
+    Ok(())
 }
 
 /// The bytes of the stream.
@@ -95,7 +98,7 @@ fn section_len(page: CodePage, values: &BTreeMap<u32, PropertyValue>) -> Result<
     for (_, value) in values {
         size += 8 + piece_len(page, value)?;
         if size >= LONG_END {
-            return Err(Error::new(ErrorKind::InvalidInput, Reason::SectionLong));
+            return Err(Error::new(ErrorKind::InvalidInput, reasons::SECTION_LONG));
         }
     }
     Ok(size as u32)
@@ -144,12 +147,12 @@ fn string_len(page: CodePage, text: &str) -> Result<usize, Error>
     ensures refused { IfErr result (λ kind. (kind ≡ InvalidInput) × (is_untold (option_map string_bytes_of (bytes_in page text.now)) ≡ true)) }
 {
     match encoded_len(page, text) {
-        None => Err(Error::new(ErrorKind::InvalidInput, Reason::PageCharacter)),
+        None => Err(Error::new(ErrorKind::InvalidInput, PAGE_CHARACTER)),
         Some(len) => {
             if len < LONG_END {
                 Ok(len + 9)
             } else {
-                Err(Error::new(ErrorKind::InvalidInput, Reason::SectionLong))
+                Err(Error::new(ErrorKind::InvalidInput, reasons::SECTION_LONG))
             }
         }
     }

@@ -9,6 +9,7 @@ pub mod laws;
 mod order;
 pub mod parts;
 mod printing;
+mod reasons;
 pub mod row;
 mod rows;
 pub mod table;

@@ -12,8 +12,8 @@ use crate::column::{Column, ColumnBuilder, ColumnType};
 use crate::row::{Row, Rows};
 use crate::table::Table;
 use crate::value::{Value, ValueRef};
-use crate::{fitting, rows as reading, writing};
-use msi_text::errors::{Error, ErrorKind, Reason};
+use crate::{fitting, reasons, rows as reading, writing};
+use msi_text::errors::{Error, ErrorKind};
 use msi_text::stringpool::StringPool;
 use msi_text::text::Items;
 use std::alloc::Global;
@@ -85,7 +85,7 @@ pub fn type_of_bits(bits: u16) -> Result<ColumnType, Error>
     if size <= 2 {
         return Ok(ColumnType::Int16);
     }
-    Err(Error::new(ErrorKind::InvalidData, Reason::TypeBits))
+    Err(Error::new(ErrorKind::InvalidData, reasons::TYPE_BITS))
 }
 
 /// Ends a builder with the type and the flags that bits name: the column is nullable by them or as the builder left it.

@@ -7,8 +7,9 @@ ghost use Rattle.msi_table.specs.Columns.{types_of};
 
 use crate::cells::{read_cell, width};
 use crate::column::Column;
+use crate::reasons;
 use crate::value::ValueRef;
-use msi_text::errors::{Error, ErrorKind, Reason};
+use msi_text::errors::{Error, ErrorKind};
 use msi_text::text::Items;
 use std::alloc::Global;
 
@@ -78,7 +79,7 @@ pub fn read_rows(
 {
     let count = row_count(long, columns, bytes);
     if count > MOST_ROWS {
-        return Err(Error::new(ErrorKind::InvalidData, Reason::RowsMany));
+        return Err(Error::new(ErrorKind::InvalidData, reasons::ROWS_MANY));
     }
     let mut rows = Vec::new(alloc);
     for i in 0..count {

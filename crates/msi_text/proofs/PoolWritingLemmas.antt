@@ -1,5 +1,5 @@
 -- What is written of the places of a pool.
-use Rattle.std.proofs.Common.{◌≡◌, ℕ, ◌^◌, ◌<◌, cond, false, List, [], ◌∷◌, ◌++◌, length, map, Option, Some, None, option_map, refl, sym, ap, ◌∙◌}
+use Rattle.std.proofs.Common.{◌≡◌, ℕ, ◌^◌, ◌<◌, cond, true, false, List, [], ◌∷◌, ◌++◌, length, map, Option, Some, None, option_map, refl, sym, ap, ◌∙◌}
 use Rattle.std.specs.Prelude.{unwrap_or, option_and_then}
 use Rattle.std.specs.List.{flat_map}
 use Rattle.std.proofs.lemmas.Bool.{not-false, ltb-true, or_parts, eq-eqb}
@@ -14,6 +14,11 @@ use Rattle.msi_text.specs.PoolWriting.{is_untold, has_untold, is_refused, piece_
 pub some_told : (o : Option (List ℕ)) → is_untold o ≡ false → o ≡ Some (unwrap_or o [])
 some_told None told = cc
 some_told (Some bytes) told = refl
+
+-- and what has no length can't be told
+pub none_untold : (o : Option (List ℕ)) → None ≡ option_map length o → true ≡ is_untold o
+none_untold None none = refl
+none_untold (Some bytes) none = cc
 
 -- and not too many
 pub told_few : (o : Option (List ℕ)) → is_untold o ≡ false → length (unwrap_or o []) < 2 ^ 32

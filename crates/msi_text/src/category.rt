@@ -5,7 +5,8 @@ ghost use Rattle.std.specs.Fmt.{padded};
 ghost use Rattle.msi_text.specs.Categories.{all_categories, category_name, category_in, other_name};
 ghost use Rattle.msi_text.specs.declared.errors.ErrorKind.TheVariants.{InvalidData};
 
-use crate::errors::{Error, ErrorKind, Reason};
+use crate::errors::{Error, ErrorKind};
+use crate::reasons;
 use std::fmt;
 use std::str::FromStr;
 
@@ -181,6 +182,6 @@ impl FromStr for Category {
                 return Ok(category);
             }
         }
-        Err(Error::new(ErrorKind::InvalidData, Reason::CategoryName))
+        Err(Error::new(ErrorKind::InvalidData, reasons::CATEGORY_NAME))
     }
 }

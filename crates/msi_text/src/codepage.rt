@@ -8,7 +8,8 @@ ghost use Rattle.msi_text.specs.declared.errors.ErrorKind.TheVariants.{InvalidDa
 mod tables;
 
 use crate::codepage::tables::{bytes_written, character_count, text_read, upper_characters};
-use crate::errors::{Error, ErrorKind, Reason};
+use crate::errors::{Error, ErrorKind};
+use crate::reasons;
 use bstr::ByteSlice;
 use std::alloc::Global;
 use std::str;
@@ -281,7 +282,7 @@ fn single_byte_text(alloc: Global, upper: Option<&[char]>, bytes: &[u8]) -> Resu
     }
     match upper {
         Some(upper) => Ok(text_read(alloc, upper, bytes)?),
-        None => Err(Error::new(ErrorKind::InvalidData, Reason::PageByte)),
+        None => Err(Error::new(ErrorKind::InvalidData, reasons::PAGE_BYTE)),
     }
 }
 
@@ -296,7 +297,7 @@ fn single_byte_spelling(alloc: Global, upper: Option<&[char]>, text: &str) -> Re
     }
     match upper {
         Some(upper) => Ok(bytes_written(alloc, upper, text)?),
-        None => Err(Error::new(ErrorKind::InvalidInput, Reason::PageCharacter)),
+        None => Err(Error::new(ErrorKind::InvalidInput, reasons::PAGE_CHARACTER)),
     }
 }
 

@@ -1,29 +1,18 @@
-//! Faults of readers, writers and files as errors of the six kinds.
+//! Reading a known number of bytes, with the faults of readers as errors of the six kinds.
 
 ghost use Rattle.std.specs.Prelude.{◌≡◌, ◌⊎◌, ◌<◌, IfErr, IfSome, OnOk, length};
 ghost use Rattle.std.specs.Io.KnownBytes.{Consumes};
-ghost use Rattle.std.specs.IoError.{error_kind};
-ghost use Rattle.msi_text.specs.Faults.{kind_of_fault};
 ghost use Rattle.msi_text.specs.declared.errors.ErrorKind.TheVariants.{InvalidData, Io, OutOfMemory};
 
 use crate::errors::{Error, ErrorKind, Reason};
+use crate::reasons;
 use std::io::{self, Read};
-
-/// A fault as an error: `OutOfMemory` where memory was refused, and else `Io`.
-pub fn fault(error: io::Error) -> Error
-    ensures { result ≡ kind_of_fault (error_kind error) }
-{
-    match error.kind() {
-        io::ErrorKind::OutOfMemory => Error::new(ErrorKind::OutOfMemory, Reason::Memory),
-        _ => Error::new(ErrorKind::Io, Reason::Device),
-    }
-}
 
 /// Reads as many bytes as the buffer has.
 ///
 /// # Errors
 /// `InvalidData`, for this reason, where the reader ends before: where its bytes are known, only there. A fault of the
-/// reader is told as by `fault`. No clause says that an early end is `InvalidData`, since none can tell it from a fault.
+/// reader is `OutOfMemory` or `Io`. No clause says that an early end is `InvalidData`, since none can tell it from a fault.
 pub fn read_exactly<R: Read>(reader: &mut R, bytes: &mut [u8], cut: Reason) -> Result<(), Error>
     ensures ok { OnOk result (Consumes (R.remaining reader.old) (R.remaining reader.new) bytes.new) }
     ensures cut { IfErr result (λ kind. kind ≡ InvalidData → IfSome (R.remaining reader.old) (λ left. length left < length bytes.old)) }
@@ -41,9 +30,9 @@ pub fn read_exactly<R: Read>(reader: &mut R, bytes: &mut [u8], cut: Reason) -> R
             Ok(n) => at += n,
             Err(error) => match error.kind() {
                 io::ErrorKind::Interrupted => {}
-                _ => return Err(fault(error)),
+                _ => return Err(Error::from(error)),
             },
         }
     }
-    Err(Error::new(ErrorKind::Io, Reason::Device))
+    Err(Error::new(ErrorKind::Io, reasons::DEVICE))
 }

@@ -9,6 +9,7 @@ mod faults;
 pub mod language;
 pub mod laws;
 pub mod parts;
+pub mod reasons;
 mod spellings;
 pub mod stringpool;
 pub mod text;

@@ -4,7 +4,7 @@ ghost use Rattle.std.specs.Prelude.{◌≡◌, ◌≤◌, length, option_map};
 ghost use Rattle.msi_text.specs.Pages.{bytes_in};
 
 use crate::codepage::CodePage;
-pub use crate::faults::{fault, read_exactly};
+pub use crate::faults::read_exactly;
 pub use crate::spellings::{braced_uuid, language_list, language_text};
 use crate::stringpool::StringRef;
 

@@ -6,8 +6,9 @@ ghost use Rattle.std.specs.Io.KnownBytes.{Appends};
 ghost use Rattle.msi_text.specs.Times.{epoch, ticks_of_unix, unix_of_ticks, stored_moment, ReadsMoment};
 ghost use Rattle.msi_text.specs.declared.errors.ErrorKind.TheVariants.{InvalidData, Io, OutOfMemory};
 
-use crate::errors::{Error, Reason};
-use crate::faults::{fault, read_exactly};
+use crate::errors::Error;
+use crate::faults::read_exactly;
+use crate::reasons;
 use std::io::{Read, Write};
 use std::marker::Model;
 
@@ -80,7 +81,7 @@ impl Timestamp {
         ensures kind { IfErr result (λ kind. (kind ≡ InvalidData) ⊎ ((kind ≡ Io) ⊎ (kind ≡ OutOfMemory))) }
     {
         let mut bytes = [0; 8];
-        read_exactly(reader, &mut bytes, Reason::MomentCut)?;
+        read_exactly(reader, &mut bytes, reasons::MOMENT_CUT)?;
         Ok(Timestamp {
             ticks: u64::from_le_bytes(bytes),
         })
@@ -94,7 +95,8 @@ impl Timestamp {
         ensures ok { OnOk result (Appends (W.contents writer.old) (W.contents writer.new) (stored_moment self)) }
         ensures kind { IfErr result (λ kind. (kind ≡ Io) ⊎ (kind ≡ OutOfMemory)) }
     {
-        writer.write_all(&self.ticks.to_le_bytes()).map_err(fault)
+        writer.write_all(&self.ticks.to_le_bytes())?;
+        Ok(())
     }
 }
 

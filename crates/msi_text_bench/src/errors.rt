@@ -1,25 +1,34 @@
 //! What people read of an error.
 
+use msi_text::reasons::{MEMORY, PAGE_BYTE};
 use msi_text::{Error, ErrorKind, Reason};
 use std::test::Fail;
+
+/// A reason of a crate above.
+const OWN: Reason = Reason("a sector is used twice");
 
 #[test]
 fn errors_tell_kind_and_rule(rt: HostRuntime) -> Result<(), Fail> {
     let cases = [
         (
-            Error::new(ErrorKind::InvalidData, Reason::SectorUsedTwice),
+            ErrorKind::InvalidData,
+            OWN,
             "InvalidData: a sector is used twice",
         ),
         (
-            Error::new(ErrorKind::InvalidInput, Reason::Storages),
-            "InvalidInput: storages lie below the root",
+            ErrorKind::InvalidInput,
+            PAGE_BYTE,
+            "InvalidInput: a byte stands for no character in the code page",
         ),
         (
-            Error::new(ErrorKind::OutOfMemory, Reason::Memory),
+            ErrorKind::OutOfMemory,
+            MEMORY,
             "OutOfMemory: memory was refused",
         ),
     ];
-    for (error, text) in cases {
+    for (kind, reason, text) in cases {
+        let error = Error::new(kind, reason);
+        assert!(rt; error.reason() == reason);
         let printed = format!(in rt.alloc(); "{error}")?;
         assert_eq!(rt; printed.as_str(), text);
     }

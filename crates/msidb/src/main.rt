@@ -12,7 +12,6 @@ mod wrap;
 
 use command::Command;
 use msi_text::Error;
-use msi_text::parts::fault;
 use std::io::{Read, Write};
 use std::process::ExitCode;
 use std::rt::{Env, Files};
@@ -82,7 +81,7 @@ fn words<R: Env + AllocGlobal>(rt: &R) -> Result<Vec<String>, Error> {
             }
         }
         Err(error) if error.kind() == io::ErrorKind::InvalidData => {}
-        Err(error) => return Err(fault(error)),
+        Err(error) => return Err(Error::from(error)),
     }
     Ok(words)
 }

@@ -3,7 +3,6 @@
 use msi_container::compound::{self, Contents};
 use msi_container::streamname;
 use msi_text::Error;
-use msi_text::parts::fault;
 use std::alloc::Global;
 use std::fs;
 use std::io::{Read, Write};
@@ -16,13 +15,12 @@ where
     R::File: Read + Drop,
     O: Write,
 {
-    let bytes = fs::read(rt, file).map_err(|error| fault(error))?;
+    let bytes = fs::read(rt, file)?;
     let contents = compound::read(rt.alloc(), bytes.as_slice())?;
     let lines = list(rt.alloc(), &contents)?;
-    output
-        .write_all(lines.as_slice())
-        .map_err(|error| fault(error))?;
-    output.flush().map_err(|error| fault(error))
+    output.write_all(lines.as_slice())?;
+    output.flush()?;
+    Ok(())
 }
 
 /// A line for each stream: its decoded name, `table` or `stream`, and its number of bytes.
@@ -33,7 +31,7 @@ fn list(alloc: Global, contents: &Contents) -> Result<Vec<u8>, Error> {
         let (name, is_table) = streamname::decode(alloc, encoded.as_str())?;
         let kind = if is_table { "table" } else { "stream" };
         let size = bytes.as_slice().len();
-        writeln!(lines, "{name}\t{kind}\t{size}").map_err(|error| fault(error))?;
+        writeln!(lines, "{name}\t{kind}\t{size}")?;
     }
     Ok(lines)
 }

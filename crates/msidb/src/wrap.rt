@@ -10,12 +10,13 @@ ghost use Rattle.msidb.specs.Wrapped.{wrapped};
 
 use msi_container::compound::{self, Bytes, Contents, Name, Streams};
 use msi_container::streamname;
-use msi_text::parts::fault;
 use msi_text::{Error, ErrorKind, Reason};
 use std::alloc::Global;
 use std::fs;
 use std::io::{Read, Write};
 use std::rt::Files;
+
+const NAME_REFUSED: Reason = Reason("the name can't name a stream");
 
 /// The CLSID of an installer package, as the root stores it: 000C1084-0000-0000-C000-000000000046.
 const INSTALLER_CLSID: [u8; 16] = [
@@ -32,12 +33,12 @@ where
 {
     let name = container_name(rt.alloc(), name)?;
     let mut bytes = Vec::new(rt.alloc());
-    input.read_to_end(&mut bytes).map_err(|error| fault(error))?;
+    input.read_to_end(&mut bytes)?;
     let image = image_of(rt.alloc(), name, bytes)?;
-    let mut file = fs::create(rt, out).map_err(|error| fault(error))?;
-    file.write_all(image.as_slice())
-        .map_err(|error| fault(error))?;
-    file.flush().map_err(|error| fault(error))
+    let mut file = fs::create(rt, out)?;
+    file.write_all(image.as_slice())?;
+    file.flush()?;
+    Ok(())
 }
 
 /// The container's name of an accepted stream name.
@@ -47,7 +48,7 @@ fn container_name(alloc: Global, name: &str) -> Result<Name, Error>
     ensures kinds { IfErr result (λ kind. (kind ≡ InvalidInput) ⊎ (kind ≡ OutOfMemory)) }
 {
     if !streamname::is_valid(name, false) {
-        return Err(Error::new(ErrorKind::InvalidInput, Reason::NameRefused));
+        return Err(Error::new(ErrorKind::InvalidInput, NAME_REFUSED));
     }
     let encoded = streamname::encode(alloc, name, false)?;
     Name::new(encoded.as_str())

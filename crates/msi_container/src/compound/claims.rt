@@ -4,6 +4,7 @@ ghost use Rattle.std.specs.Prelude.{◌≡◌, ◌+◌, ◌<◌, ◌≤◌, ◌�
 ghost use Rattle.msi_text.specs.declared.errors.ErrorKind.TheVariants.{InvalidData};
 ghost use Rattle.msi_container.specs.Chains.{AreDistinct, AreBelow, IsFree, MarkedAre, OthersAreUnmarked, FailsByData};
 
+use crate::reasons;
 use msi_text::{Error, ErrorKind, Reason};
 use std::alloc::{AllocError, Global};
 
@@ -79,18 +80,18 @@ impl Claimed {
     /// Why a number past the limit is refused.
     fn outside(self) -> Reason {
         match self {
-            Claimed::Sectors => Reason::SectorOutsideFile,
-            Claimed::MiniSectors => Reason::MiniSectorOutsideStream,
-            Claimed::Entries => Reason::EntryOutsideDirectory,
+            Claimed::Sectors => reasons::SECTOR_OUTSIDE_FILE,
+            Claimed::MiniSectors => reasons::MINI_SECTOR_OUTSIDE_STREAM,
+            Claimed::Entries => reasons::ENTRY_OUTSIDE_DIRECTORY,
         }
     }
 
     /// Why a number in use is refused.
     fn twice(self) -> Reason {
         match self {
-            Claimed::Sectors => Reason::SectorUsedTwice,
-            Claimed::MiniSectors => Reason::MiniSectorUsedTwice,
-            Claimed::Entries => Reason::EntryReachedTwice,
+            Claimed::Sectors => reasons::SECTOR_USED_TWICE,
+            Claimed::MiniSectors => reasons::MINI_SECTOR_USED_TWICE,
+            Claimed::Entries => reasons::ENTRY_REACHED_TWICE,
         }
     }
 }

@@ -11,7 +11,8 @@ ghost use Rattle.msi_container.specs.Trees.{Tree, members};
 use crate::compound::bytes::{VERSION_4, VERSION_AT, byte, number16, number32, place, sector_size};
 use crate::compound::claims::{Claimed, Claims};
 use crate::compound::name::Name;
-use msi_text::{Error, ErrorKind, Reason};
+use crate::reasons;
+use msi_text::{Error, ErrorKind};
 use std::alloc::Global;
 use std::collections::BTreeSet;
 
@@ -134,13 +135,13 @@ impl<'a> Directory<'a> {
     {
         let size = number16(self.bytes, self.field(entry, 64));
         if size % 2 != 0 || size < 4 || size > 64 {
-            return Err(Error::new(ErrorKind::InvalidData, Reason::NameLength));
+            return Err(Error::new(ErrorKind::InvalidData, reasons::NAME_LENGTH));
         }
         let len = usize::from(size / 2 - 1);
         let units = self.units(entry, len);
         match Name::from_units(units, len) {
             Some(name) => Ok(name),
-            None => Err(Error::new(ErrorKind::InvalidData, Reason::NameText)),
+            None => Err(Error::new(ErrorKind::InvalidData, reasons::NAME_TEXT)),
         }
     }
 
@@ -194,10 +195,10 @@ pub fn check_entries(alloc: Global, directory: &Directory, entries: &[u32]) -> R
     for entry in entries {
         let kind = directory.kind(*entry);
         if kind != STORAGE && kind != STREAM {
-            return Err(Error::new(ErrorKind::InvalidData, Reason::EntryKind));
+            return Err(Error::new(ErrorKind::InvalidData, reasons::ENTRY_KIND));
         }
         if !names.insert(directory.name(*entry)?)? {
-            return Err(Error::new(ErrorKind::InvalidData, Reason::NameTwice));
+            return Err(Error::new(ErrorKind::InvalidData, reasons::NAME_TWICE));
         }
     }
     Ok(())

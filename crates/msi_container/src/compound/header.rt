@@ -6,6 +6,7 @@ ghost use Rattle.msi_container.specs.Bytes as spelled;
 ghost use Rattle.msi_container.specs.Container as container;
 
 use crate::compound::bytes::{VERSION_4, VERSION_AT, number16, number32, sector_size};
+use crate::reasons;
 use msi_text::{Error, ErrorKind, Reason};
 
 /// The signature that begins each compound file.
@@ -74,17 +75,17 @@ fn broken_rule(bytes: &[u8]) -> Option<Reason>
 {
     let version = number16(bytes, VERSION_AT);
     if !is_signed(bytes) {
-        Some(Reason::Signature)
+        Some(reasons::SIGNATURE)
     } else if number16(bytes, BYTE_ORDER_AT) != BYTE_ORDER {
-        Some(Reason::ByteOrder)
+        Some(reasons::BYTE_ORDER)
     } else if !is_known(version) {
-        Some(Reason::Version)
+        Some(reasons::VERSION)
     } else if number16(bytes, SECTOR_SHIFT_AT) != sector_shift(version) {
-        Some(Reason::SectorShift)
+        Some(reasons::SECTOR_SHIFT)
     } else if number16(bytes, MINI_SECTOR_SHIFT_AT) != MINI_SECTOR_SHIFT {
-        Some(Reason::MiniSectorShift)
+        Some(reasons::MINI_SECTOR_SHIFT)
     } else if number32(bytes, MINI_STREAM_CUTOFF_AT) != MINI_STREAM_CUTOFF {
-        Some(Reason::MiniStreamCutoff)
+        Some(reasons::MINI_STREAM_CUTOFF)
     } else {
         None
     }

@@ -10,7 +10,8 @@ ghost use Rattle.std.proofs.Common.{rules};
 ghost use Rattle.msi_text.specs.declared.errors.ErrorKind.TheVariants.{InvalidInput, OutOfMemory};
 ghost use Rattle.msi_container.specs.Names.{name_cmp, capital, capitals, is_text, is_name_length, units_of};
 
-use msi_text::{Error, ErrorKind, Reason};
+use crate::reasons;
+use msi_text::{Error, ErrorKind};
 use std::alloc::Global;
 use std::cmp::Ordering;
 use std::marker::Model;
@@ -53,13 +54,13 @@ impl Name {
         let mut len = 0;
         for unit in text.encode_utf16() {
             if len == MAX_UNITS {
-                return Err(Error::new(ErrorKind::InvalidInput, Reason::NameLength));
+                return Err(Error::new(ErrorKind::InvalidInput, reasons::NAME_LENGTH));
             }
             units[len] = unit;
             len += 1;
         }
         if len == 0 {
-            return Err(Error::new(ErrorKind::InvalidInput, Reason::NameLength));
+            return Err(Error::new(ErrorKind::InvalidInput, reasons::NAME_LENGTH));
         }
         Ok(Name { units, len })
     }

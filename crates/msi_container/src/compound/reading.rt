@@ -22,7 +22,8 @@ use crate::compound::header::{
 use crate::compound::streams::{Tables, Uses, collect, has_storage, streams_among, walk_each};
 use crate::compound::table::{Steps, Table};
 use crate::compound::walks::{walk, walk_to_end};
-use msi_text::{Error, ErrorKind, Reason};
+use crate::reasons;
+use msi_text::{Error, ErrorKind};
 use std::alloc::Global;
 
 /// The contents that the bytes hold, as a compound file of version 3 or 4 (MS-CFB 2).
@@ -119,7 +120,7 @@ fn read_listing(alloc: Global, directory: &Directory) -> Result<Vec<u32>, Error>
     ensures kinds { FailsByData result }
 {
     if directory.kind(0) != ROOT {
-        return Err(Error::new(ErrorKind::InvalidData, Reason::NoRoot));
+        return Err(Error::new(ErrorKind::InvalidData, reasons::NO_ROOT));
     }
     let entries = reach(alloc, directory, directory.child(0))?;
     check_entries(alloc, directory, &entries)?;

@@ -6,7 +6,8 @@ ghost use Rattle.msi_container.specs.Container as container;
 
 use crate::compound::claims::Claims;
 use crate::compound::table::{Steps, Table};
-use msi_text::{Error, ErrorKind, Reason};
+use crate::reasons;
+use msi_text::{Error, ErrorKind};
 use std::alloc::Global;
 
 /// The mark behind a chain's last sector (MS-CFB 2.1).
@@ -22,7 +23,7 @@ fn next_member(table: &Table, start: u32, so_far: &[u32], steps: &mut Steps) -> 
         None => Ok(start),
         Some(last) => match table.successor(*last, steps) {
             Some(next) => Ok(next),
-            None => Err(Error::new(ErrorKind::InvalidData, Reason::SectorWithoutSuccessor)),
+            None => Err(Error::new(ErrorKind::InvalidData, reasons::SECTOR_WITHOUT_SUCCESSOR)),
         },
     }
 }
@@ -75,7 +76,7 @@ pub fn walk_to_end(
     ensures exact { IfOk result (λ chain. steps.new.count ≡ steps.old.count + vec_len chain) }
 {
     if start == END_OF_CHAIN {
-        return Err(Error::new(ErrorKind::InvalidData, Reason::EmptyChain));
+        return Err(Error::new(ErrorKind::InvalidData, reasons::EMPTY_CHAIN));
     }
     let mut chain = Vec::new(alloc);
     let mut link = start;
@@ -85,7 +86,7 @@ pub fn walk_to_end(
         match table.successor(link, steps) {
             Some(next) => link = next,
             None => {
-                return Err(Error::new(ErrorKind::InvalidData, Reason::SectorWithoutSuccessor));
+                return Err(Error::new(ErrorKind::InvalidData, reasons::SECTOR_WITHOUT_SUCCESSOR));
             }
         }
     }

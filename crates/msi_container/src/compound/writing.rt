@@ -17,7 +17,8 @@ use crate::compound::extents::{MINI_SECTOR_SIZE, SECTOR_SIZE, units};
 use crate::compound::mini::{mini_fat, mini_stream};
 use crate::compound::sectors::{Run, image};
 use crate::compound::totals::{MAX_SECTORS, least_total};
-use msi_text::{Error, ErrorKind, Reason};
+use crate::reasons;
+use msi_text::{Error, ErrorKind};
 use std::alloc::{AllocError, Global};
 
 /// The most mini sectors whose mini stream is no longer than the greatest file.
@@ -72,11 +73,11 @@ fn check(contents: &Contents, earlier_len: u64) -> Result<Extent, Error>
     ensures kinds { OnErr result (IsErrOf result InvalidInput) }
 {
     if contents.has_storages {
-        return Err(Error::new(ErrorKind::InvalidInput, Reason::Storages));
+        return Err(Error::new(ErrorKind::InvalidInput, reasons::STORAGES));
     }
     match measure(&contents.streams, earlier_len) {
         Some(extent) => Ok(extent),
-        None => Err(Error::new(ErrorKind::InvalidInput, Reason::ImageTooLarge)),
+        None => Err(Error::new(ErrorKind::InvalidInput, reasons::IMAGE_TOO_LARGE)),
     }
 }
 

@@ -7,7 +7,8 @@ ghost use Rattle.msi_text.specs.FirstFitLaws.{Holds, place_at, text_at, count_at
 ghost use Rattle.msi_text.specs.declared.errors.ErrorKind.TheVariants.{InvalidData, InvalidInput, OutOfMemory};
 
 use crate::codepage::CodePage;
-use crate::errors::{Error, ErrorKind, Reason};
+use crate::errors::{Error, ErrorKind};
+use crate::reasons;
 use crate::stringpool::places::{Place, clone_places, first_place_for, lower_at, put_at};
 use crate::stringpool::reference::StringRef;
 use crate::text::Text;
@@ -172,7 +173,7 @@ impl StringPool {
         let most = self.most_places();
         let at = first_place_for(self.places.as_slice(), &text);
         if at >= self.places.len() && at >= most {
-            return Err(Error::new(ErrorKind::InvalidInput, Reason::PoolFull));
+            return Err(Error::new(ErrorKind::InvalidInput, reasons::POOL_FULL));
         }
         put_at(&mut self.places, at, text)?;
         Ok(StringRef::from_number((at + 1) as u32))
@@ -193,10 +194,10 @@ impl StringPool {
     {
         let at = reference.to_number() as usize - 1;
         if at >= self.places.len() {
-            return Err(Error::new(ErrorKind::InvalidData, Reason::PlaceUnknown));
+            return Err(Error::new(ErrorKind::InvalidData, reasons::PLACE_UNKNOWN));
         }
         if self.places[at].count() == 0 {
-            return Err(Error::new(ErrorKind::InvalidData, Reason::PlaceFree));
+            return Err(Error::new(ErrorKind::InvalidData, reasons::PLACE_FREE));
         }
         lower_at(&mut self.places, at);
         Ok(())

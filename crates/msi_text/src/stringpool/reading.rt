@@ -8,8 +8,8 @@ ghost use Rattle.msi_text.specs.Pool.{SpellsEntries, SpellsTexts};
 ghost use Rattle.msi_text.specs.PoolReading.{PoolStream, IsPoolStream, Gives, IsUnlessFault, IsStreamFault, pool_with, entry_at, place_at, header_in};
 
 use crate::codepage::CodePage;
-use crate::errors::{Error, ErrorKind, Reason};
-use crate::faults::fault;
+use crate::errors::{Error, ErrorKind};
+use crate::reasons;
 use crate::stringpool::fields::{LONG, u16_at, u32_at};
 use crate::stringpool::places::Place;
 use crate::stringpool::pool::{MOST_PLACES, StringPool};
@@ -105,7 +105,7 @@ fn bytes_of<R: Read + Drop>(alloc: Global, mut reader: R) -> Result<Vec<u8>, Err
     ensures kinds { IfErr result (λ kind. (kind ≡ Io) ⊎ (kind ≡ OutOfMemory)) }
 {
     let mut bytes = Vec::new(alloc);
-    reader.read_to_end(&mut bytes).map_err(fault)?;
+    reader.read_to_end(&mut bytes)?;
     Ok(bytes)
 }
 
@@ -119,7 +119,7 @@ fn stream_of(alloc: Global, bytes: &[u8]) -> Result<StringPoolBuilder, Error>
     let (codepage, long) = page_of(header)?;
     let entries = entries_of(alloc, rest)?;
     if entries.len() > MOST_PLACES {
-        return Err(Error::new(ErrorKind::InvalidData, Reason::PoolPlaces));
+        return Err(Error::new(ErrorKind::InvalidData, reasons::POOL_PLACES));
     }
     Ok(StringPoolBuilder {
         codepage,
@@ -145,7 +145,7 @@ fn known_page(id: u32) -> Result<CodePage, Error>
 {
     match CodePage::from_id(id as i32) {
         Some(codepage) => Ok(codepage),
-        None => Err(Error::new(ErrorKind::InvalidData, Reason::PoolPage)),
+        None => Err(Error::new(ErrorKind::InvalidData, reasons::POOL_PAGE)),
     }
 }
 
@@ -212,7 +212,7 @@ fn place_of<'a>(
 {
     let len = entry.len as usize;
     if bytes.len() < len {
-        return Err(Error::new(ErrorKind::InvalidData, Reason::PoolData));
+        return Err(Error::new(ErrorKind::InvalidData, reasons::POOL_DATA));
     }
     let (piece, rest) = bytes.split_at(len);
     let text = text_of(alloc, codepage, piece)?;

@@ -5,8 +5,9 @@ ghost use Rattle.std.specs.Io.KnownBytes.{Appends};
 ghost use Rattle.msi_text.specs.References.{ReadsReference, fits_reference, reference_bytes, reference_width};
 ghost use Rattle.msi_text.specs.declared.errors.ErrorKind.TheVariants.{InvalidData, InvalidInput, Io, OutOfMemory};
 
-use crate::errors::{Error, ErrorKind, Reason};
-use crate::faults::{fault, read_exactly};
+use crate::errors::{Error, ErrorKind};
+use crate::faults::read_exactly;
+use crate::reasons;
 use std::io::{Read, Write};
 use std::marker::Model;
 
@@ -64,11 +65,11 @@ impl StringRef {
     {
         let number = if long {
             let mut bytes = [0; 3];
-            read_exactly(reader, &mut bytes, Reason::ReferenceCut)?;
+            read_exactly(reader, &mut bytes, reasons::REFERENCE_CUT)?;
             bytes[0] as u32 + 256 * (bytes[1] as u32 + 256 * bytes[2] as u32)
         } else {
             let mut bytes = [0; 2];
-            read_exactly(reader, &mut bytes, Reason::ReferenceCut)?;
+            read_exactly(reader, &mut bytes, reasons::REFERENCE_CUT)?;
             bytes[0] as u32 + 256 * bytes[1] as u32
         };
         if number == 0 {
@@ -97,11 +98,13 @@ impl StringRef {
         let second = (number / 256 % 256) as u8;
         if long {
             let third = (number / 65536) as u8;
-            writer.write_all(&[first, second, third]).map_err(fault)
+            writer.write_all(&[first, second, third])?;
+            Ok(())
         } else if number <= 65535 {
-            writer.write_all(&[first, second]).map_err(fault)
+            writer.write_all(&[first, second])?;
+            Ok(())
         } else {
-            Err(Error::new(ErrorKind::InvalidInput, Reason::ReferenceWide))
+            Err(Error::new(ErrorKind::InvalidInput, reasons::REFERENCE_WIDE))
         }
     }
 }

@@ -10,7 +10,7 @@ ghost use Rattle.msi_text.specs.declared.errors.ErrorKind.TheVariants.{InvalidIn
 
 use crate::codepage::CodePage;
 use crate::errors::{Error, ErrorKind, Reason};
-use crate::faults::fault;
+use crate::reasons;
 use crate::stringpool::fields::LONG;
 use crate::stringpool::places::Place;
 use crate::stringpool::pool::StringPool;
@@ -61,7 +61,8 @@ fn put<W: Write>(writer: &mut W, bytes: &[u8]) -> Result<(), Error>
     ensures ok { OnOk result (Appends (W.contents writer.old) (W.contents writer.new) bytes.now) }
     ensures kinds { IfErr result (λ kind. (kind ≡ OutOfMemory) ⊎ (kind ≡ Io)) }
 {
-    writer.write_all(bytes).map_err(fault)
+    writer.write_all(bytes)?;
+    Ok(())
 }
 
 /// The stream of the entries.
@@ -121,14 +122,9 @@ fn place_refusal(page: CodePage, place: &Place) -> Option<Reason>
     ensures { is_some result ≡ is_untold (place_bytes page place.now) }
 {
     match place_len(page, place) {
-        None => Some(Reason::PageCharacter),
-        Some(len) => {
-            if len < LONG_END {
-                None
-            } else {
-                Some(Reason::TextLong)
-            }
-        }
+        None => Some(reasons::PAGE_CHARACTER),
+        Some(len) if len < LONG_END => None,
+        Some(_) => Some(reasons::TEXT_LONG),
     }
 }
 
