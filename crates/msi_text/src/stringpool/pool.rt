@@ -15,8 +15,11 @@ use crate::text::Text;
 use std::alloc::Global;
 use std::marker::Model;
 
+/// The bit above the page's id that says that references are long.
+pub(crate) const LONG: u32 = 1 << 31;
+
 /// How many places a pool may have: as many as long references can name.
-pub const MOST_PLACES: usize = 16_777_215;
+pub(crate) const MOST_PLACES: usize = 16_777_215;
 
 /// Up to how many places one is added where references are short.
 const MOST_SHORT_PLACES: usize = 65_535;
