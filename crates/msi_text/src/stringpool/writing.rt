@@ -6,6 +6,7 @@ ghost use Rattle.std.specs.Io.KnownBytes.{Appends};
 ghost use Rattle.msi_text.specs.Pages.{page_id};
 ghost use Rattle.msi_text.specs.Pool.{place_bytes, plain_entry, pool_stream, data_stream};
 ghost use Rattle.msi_text.specs.PoolWriting.{is_refused_spelling, has_refused_text, is_refused, piece_of, entry_in};
+ghost use Rattle.msi_text.specs.Results.{OnlyMemory};
 ghost use Rattle.msi_text.specs.declared.errors.ErrorKind.TheVariants.{InvalidInput, Io, OutOfMemory};
 
 use crate::codepage::CodePage;
@@ -176,7 +177,7 @@ fn push_entry(held: &mut Vec<u8>, len: u32, count: u16) -> Result<(), AllocError
 fn push_texts(held: &mut Vec<u8>, page: CodePage, places: &[Place]) -> Result<(), Error>
     requires { has_refused_text page places.now ≡ false }
     ensures ok { OnOk result (held.new.items ≡ held.old.items ++ flat_map (piece_of page) places.now) }
-    ensures kind { IfErr result (λ kind. kind ≡ OutOfMemory) }
+    ensures kind { OnlyMemory result }
 {
     for place in places {
         push_text(held, page, place)?;
@@ -188,7 +189,7 @@ fn push_texts(held: &mut Vec<u8>, page: CodePage, places: &[Place]) -> Result<()
 fn push_text(held: &mut Vec<u8>, page: CodePage, place: &Place) -> Result<(), Error>
     requires { is_refused_spelling (place_bytes page place.now) ≡ false }
     ensures ok { OnOk result (held.new.items ≡ held.old.items ++ piece_of page place.now) }
-    ensures kind { IfErr result (λ kind. kind ≡ OutOfMemory) }
+    ensures kind { OnlyMemory result }
 {
     if place.count() > 0 {
         let bytes = page.encode(*held.allocator(), place.text())?;

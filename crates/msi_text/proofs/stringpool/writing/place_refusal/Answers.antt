@@ -1,4 +1,4 @@
-use Rattle.std.proofs.Common.{rules, sym, ◌∙◌}
+use Rattle.std.proofs.Common.{sym, ◌∙◌}
 use Rattle.msi_text.specs.Pool.{place_bytes}
 use Rattle.msi_text.proofs.PoolWritingLemmas.{none_refused}
 use Rattle.msi_text.proofs.stringpool.writing.place_refusal.Goals as goal
