@@ -52,6 +52,12 @@ data_stream_told pool told =
     ap (option_map (flat_map (λ piece. piece))) (pieces_told pool.page pool.places told)
     ∙ ap Some (flat_map-map (λ piece. piece) (piece_of pool.page) pool.places)
 
+-- the pool of a page and places of which none is refused
+pub not_refused : (pool : Pool) (page : CodePage) (places : List Place) → page ≡ pool.page → places ≡ pool.places
+    → has_refused_text page places ≡ false → is_refused pool ≡ false
+not_refused pool page places page_is places_is told =
+    ap (λ p. has_refused_text p pool.places) (sym page_is) ∙ ap (has_refused_text page) (sym places_is) ∙ told
+
 -- bytes that were written of such a pool
 pub pool_written : (pool : Pool) (page : CodePage) (places : List Place) (header held : List ℕ)
     → page ≡ pool.page
@@ -61,7 +67,7 @@ pub pool_written : (pool : Pool) (page : CodePage) (places : List Place) (header
     → held ≡ header ++ flat_map (entry_in page) places
     → pool_stream pool ≡ Some held
 pool_written pool page places header held page_is places_is told header_is held_is =
-    let told_here = ap (λ p. has_refused_text p pool.places) (sym page_is) ∙ ap (has_refused_text page) (sym places_is) ∙ told in
+    let told_here = not_refused pool page places page_is places_is told in
     pool_stream_told pool told_here
     ∙ ap Some (sym (held_is
     ∙ ap (λ bytes. bytes ++ flat_map (entry_in page) places) header_is
@@ -76,7 +82,7 @@ pub data_written : (pool : Pool) (page : CodePage) (places : List Place) (start 
     → held ≡ start ++ flat_map (piece_of page) places
     → data_stream pool ≡ Some held
 data_written pool page places start held page_is places_is told start_is held_is =
-    let told_here = ap (λ p. has_refused_text p pool.places) (sym page_is) ∙ ap (has_refused_text page) (sym places_is) ∙ told in
+    let told_here = not_refused pool page places page_is places_is told in
     data_stream_told pool told_here
     ∙ ap Some (sym (held_is
     ∙ ap (λ bytes. bytes ++ flat_map (piece_of page) places) start_is

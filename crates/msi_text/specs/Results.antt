@@ -20,6 +20,11 @@ abbrev pub Gives : {X Y : Type 0} → (X → Y) → Result X ErrorKind → Optio
 Gives view (Ok x) read = read ≡ Some (view x)
 Gives view (Err e) read = FailsAs e read
 
+-- what a function returned is this, unless memory was refused
+abbrev pub IsUnlessMemory : {X : Type 0} → Result X ErrorKind → X → Type 0
+IsUnlessMemory (Ok x) y = x ≡ y
+IsUnlessMemory (Err e) y = e ≡ kind.OutOfMemory
+
 -- what a function that takes a reader returned is this, unless memory was refused or the reader failed
 abbrev pub IsUnlessFault : {X : Type 0} → Result X ErrorKind → X → Type 0
 IsUnlessFault (Ok x) y = x ≡ y

@@ -2,9 +2,9 @@
 
 mod places;
 mod pool;
-mod reading;
+pub(crate) mod reading;
 mod reference;
-mod writing;
+pub(crate) mod writing;
 
 pub use pool::StringPool;
 pub use reading::StringPoolBuilder;

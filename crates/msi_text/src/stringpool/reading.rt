@@ -4,9 +4,9 @@ ghost use Rattle.std.specs.Prelude.{◌≡◌, ◌⊎◌, ◌<◌, ◌^◌, List
 ghost use Rattle.msi_text.specs.declared.errors.ErrorKind.TheVariants.{Io, InvalidData, OutOfMemory};
 ghost use Rattle.msi_text.specs.Pages.{page_with_id, text_in};
 ghost use Rattle.msi_text.specs.Pool as pools;
-ghost use Rattle.msi_text.specs.Pool.{SpellsEntries, SpellsTexts};
+ghost use Rattle.msi_text.specs.Pool.{CountsFit, IsPool, SpellsEntries, SpellsTexts};
 ghost use Rattle.msi_text.specs.PoolReading.{PoolStream, IsPoolStream, IsStreamFault, pool_with, entry_at, place_in_front, header_in};
-ghost use Rattle.msi_text.specs.Results.{Gives, IsUnlessFault};
+ghost use Rattle.msi_text.specs.Results.{Gives, IsUnlessFault, IsUnlessMemory};
 
 use crate::codepage::CodePage;
 use crate::errors::{Error, ErrorKind};
@@ -90,14 +90,33 @@ impl StringPoolBuilder {
         ensures kinds { IfErr result (λ kind. IsStreamFault kind) }
     {
         let bytes = bytes_of(alloc, reader)?;
-        let places = places_of(
-            alloc,
-            self.codepage,
-            self.entries.as_slice(),
-            bytes.as_slice(),
-        )?;
+        self.with_texts(alloc, bytes.as_slice())
+    }
+
+    /// The pool whose texts the bytes spell.
+    fn with_texts(self, alloc: Global, bytes: &[u8]) -> Result<StringPool, Error>
+        ensures found { IfOk result (λ pool. (pool ≡ pool_with self pool.places) × SpellsTexts self.page bytes.now self.entries pool.places) }
+        ensures only { (places : List pools.Place) → SpellsTexts self.page bytes.now self.entries places → IsUnlessMemory result (pool_with self places) }
+        ensures kinds { IfErr result (λ kind. (kind ≡ InvalidData) ⊎ (kind ≡ OutOfMemory)) }
+    {
+        let places = places_of(alloc, self.codepage, self.entries.as_slice(), bytes)?;
         Ok(StringPool::from_parts(self.codepage, self.long, places))
     }
+}
+
+/// The pool that its two streams hold: that of its entries (`_StringPool`) and that of its texts (`_StringData`), whose
+/// bytes past the last text are ignored.
+///
+/// # Errors
+/// `InvalidData` where the bytes hold no pool: an entry is cut, no page has the id, there are more than 16777215 places, the
+/// second stream ends before a text does, or the page can't read a text. Else `OutOfMemory`.
+pub fn pool_of(alloc: Global, pool_bytes: &[u8], data_bytes: &[u8]) -> Result<StringPool, Error>
+    ensures found { IfOk result (λ pool. IsPool pool_bytes.now data_bytes.now pool) }
+    ensures only { (pool : pools.Pool) → IsPool pool_bytes.now data_bytes.now pool → IsUnlessMemory result pool }
+    ensures kinds { IfErr result (λ kind. (kind ≡ InvalidData) ⊎ (kind ≡ OutOfMemory)) }
+{
+    let stream = stream_of(alloc, pool_bytes)?;
+    stream.with_texts(alloc, data_bytes)
 }
 
 /// All that a reader has left.
@@ -189,6 +208,7 @@ fn places_of(
     bytes: &[u8],
 ) -> Result<Vec<Place>, Error>
     ensures found { IfOk result (λ places. SpellsTexts codepage bytes.now entries.now places.items) }
+    ensures counts { IfOk result (λ places. CountsFit places.items) }
     ensures only { (places : List pools.Place) → SpellsTexts codepage bytes.now entries.now places → Gives (λ v. v.items) result (Some places) }
     ensures kinds { IfErr result (λ kind. (kind ≡ InvalidData) ⊎ (kind ≡ OutOfMemory)) }
 {
@@ -209,7 +229,8 @@ fn place_of<'a>(
     entry: &Entry,
     bytes: &'a [u8],
 ) -> Result<(Place, &'a [u8]), Error>
-    ensures { Gives (λ x. (x.0, x.1.now)) result (place_in_front codepage entry.now bytes.now) }
+    ensures gives { Gives (λ x. (x.0, x.1.now)) result (place_in_front codepage entry.now bytes.now) }
+    ensures count { IfOk result (λ x. x.0.count < 2 ^ 16) }
 {
     let len = entry.len as usize;
     if bytes.len() < len {

@@ -1,12 +1,13 @@
 //! References to places of the pool.
 
-ghost use Rattle.std.specs.Prelude.{◌≡◌, ◌⊎◌, ◌<◌, ◌≤◌, pos, true, false, length, IfSome, IfOk, IfErr, OnOk, IsErrOf};
+ghost use Rattle.std.specs.Prelude.{◌≡◌, ◌⊎◌, ◌<◌, ◌≤◌, pos, true, false, length, IfSome, IfOk, IfErr, OnErr, OnOk, IsErrOf};
 ghost use Rattle.std.specs.Io.KnownBytes.{Appends};
+ghost use Rattle.msi_text.specs.Faults.{AppendsPart};
 ghost use Rattle.msi_text.specs.References.{ReadsReference, fits_reference, reference_bytes, reference_width};
 ghost use Rattle.msi_text.specs.declared.errors.ErrorKind.TheVariants.{InvalidData, InvalidInput, Io, OutOfMemory};
 
 use crate::errors::{Error, ErrorKind};
-use crate::faults::read_exactly;
+use crate::faults::{read_exactly, write_fully};
 use crate::fields::number_of;
 use crate::reasons;
 use byteorder::{ByteOrder, LittleEndian};
@@ -87,13 +88,14 @@ impl StringRef {
     ///
     /// # Errors
     /// `InvalidInput`, with nothing written, for a number above 65535 where references are short. The writer's faults
-    /// are `OutOfMemory` or `Io`; some of the bytes may then be written.
+    /// are `OutOfMemory` or `Io`; it has then taken a beginning of the bytes, perhaps none.
     pub fn write<W: Write>(
         writer: &mut W,
         reference: Option<StringRef>,
         long: bool,
     ) -> Result<(), Error>
         ensures ok { OnOk result (Appends (W.contents writer.old) (W.contents writer.new) (reference_bytes long reference)) }
+        ensures part { OnErr result (AppendsPart (W.contents writer.old) (W.contents writer.new) (reference_bytes long reference)) }
         ensures wide { fits_reference long reference ≡ false → IsErrOf result InvalidInput × (writer.new ≡ writer.old) }
         ensures kind { fits_reference long reference ≡ true → IfErr result (λ kind. (kind ≡ Io) ⊎ (kind ≡ OutOfMemory)) }
     {
@@ -101,13 +103,11 @@ impl StringRef {
         if long {
             let mut bytes = [0; 3];
             LittleEndian::write_u24(&mut bytes, number);
-            writer.write_all(&bytes)?;
-            Ok(())
+            write_fully(writer, &bytes)
         } else if number <= 65535 {
             let mut bytes = [0; 2];
             LittleEndian::write_u16(&mut bytes, number as u16);
-            writer.write_all(&bytes)?;
-            Ok(())
+            write_fully(writer, &bytes)
         } else {
             Err(Error::new(ErrorKind::InvalidInput, reasons::REFERENCE_WIDE))
         }
