@@ -1,7 +1,7 @@
 //! A container of one stream, byte by byte, and what damage to it does.
 
 use crate::samples::{APP_EXE, INSTALLER, assert_invalid, installer, number, put};
-use msi_container::compound::{Bytes, Contents, Name, Streams, read, write};
+use msi_container::compound::{Bytes, Contents, Name, StreamMap, read, write};
 use msi_text::Error;
 use std::alloc::{AllocError, Global};
 use std::process::Abort;
@@ -9,7 +9,7 @@ use std::test::Fail;
 
 /// Contents with these streams.
 fn contents_of(alloc: Global, all: &[(&str, &[u8])]) -> Result<Contents, Error> {
-    let mut streams = Streams::new(alloc);
+    let mut streams = StreamMap::new(alloc);
     for (name, bytes) in all {
         let held = Vec::from_slice(alloc, *bytes)?;
         streams.insert(Name::new(*name)?, Bytes::from_vec(held))?;
@@ -117,7 +117,7 @@ fn several_streams_come_back_in_order(rt: HostRuntime) -> Result<(), Fail> {
 
 #[test]
 fn streams_are_kept_by_name(rt: HostRuntime) -> Result<(), Fail> {
-    let mut streams = Streams::new(rt.alloc());
+    let mut streams = StreamMap::new(rt.alloc());
     assert!(rt; streams.is_empty());
     for (name, size) in [("a", 2), ("b", 0), ("a", 3)] {
         let held = vec![in rt.alloc(); 7; size]?;

@@ -1,7 +1,7 @@
 //! Where the parts of a written file stand: small streams, the DIFAT, and files over longer ones.
 
 use crate::samples::{APP_EXE, DIFAT, END, FAT, FREE, INSTALLER, installer, number};
-use msi_container::compound::{Bytes, Contents, Name, Streams, read, write};
+use msi_container::compound::{Bytes, Contents, Name, StreamMap, read, write};
 use msi_text::{Error, ErrorKind};
 use std::alloc::{AllocError, Global};
 use std::process::Abort;
@@ -18,7 +18,7 @@ fn content(alloc: Global, size: u32) -> Result<Vec<u8>, AllocError> {
 
 /// Contents with streams of these sizes.
 fn contents_of(alloc: Global, all: &[(&str, u32)]) -> Result<Contents, Error> {
-    let mut streams = Streams::new(alloc);
+    let mut streams = StreamMap::new(alloc);
     for (name, size) in all {
         streams.insert(Name::new(*name)?, Bytes::from_vec(content(alloc, *size)?))?;
     }

@@ -1,6 +1,6 @@
 //! What several tests are made of.
 
-use msi_container::compound::{Contents, Streams, read};
+use msi_container::compound::{Contents, StreamMap, read};
 use msi_text::ErrorKind;
 use std::alloc::Global;
 use std::process::Abort;
@@ -23,7 +23,7 @@ pub(crate) const FAT: u32 = 0xFFFF_FFFD;
 pub(crate) const DIFAT: u32 = 0xFFFF_FFFC;
 
 /// An installer's contents.
-pub(crate) fn installer(streams: Streams) -> Contents {
+pub(crate) fn installer(streams: StreamMap) -> Contents {
     Contents {
         clsid: INSTALLER,
         streams,

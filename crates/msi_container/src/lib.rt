@@ -3,5 +3,5 @@
 
 pub mod compound;
 pub mod laws;
-mod reasons;
-pub mod streamname;
+
+pub use msi_compound::streamname;

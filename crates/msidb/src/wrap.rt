@@ -8,7 +8,7 @@ ghost use Rattle.msi_container.specs.Names.{utf16_units};
 ghost use Rattle.msi_container.specs.StreamNames.{encoded_name, is_valid_name};
 ghost use Rattle.msidb.specs.Wrapped.{wrapped};
 
-use msi_container::compound::{self, Bytes, Contents, Name, Streams};
+use msi_container::compound::{self, Bytes, Contents, Name, StreamMap};
 use msi_container::streamname;
 use msi_text::{Error, ErrorKind, Reason};
 use std::alloc::Global;
@@ -61,7 +61,7 @@ fn image_of(alloc: Global, name: Name, bytes: Vec<u8>) -> Result<Vec<u8>, Error>
     ensures refused { IsErrOf result InvalidInput → IsTrue (refuses (wrapped name bytes.items) 0) }
     ensures kinds { IfErr result (λ kind. (kind ≡ InvalidInput) ⊎ (kind ≡ OutOfMemory)) }
 {
-    let mut streams = Streams::new(alloc);
+    let mut streams = StreamMap::new(alloc);
     streams.insert(name, Bytes::from_vec(bytes))?;
     let contents = Contents {
         clsid: INSTALLER_CLSID,

@@ -1,0 +1,9 @@
+-- The words of this crate.
+pub mod Format
+pub mod Bytes
+pub mod Chains
+pub mod Trees
+pub mod Names
+pub mod Container
+pub mod StreamNames
+pub mod StreamNameLaws

@@ -1,0 +1,141 @@
+//! What a compound file holds.
+
+ghost use Rattle.std.specs.Prelude.{◌≡◌, ◌==◌, length, ◌<◌, ◌^◌, OnOk, OnErr, IsErr, IsErrOf};
+ghost use Rattle.std.specs.Option.{option_copied};
+ghost use Rattle.std.specs.FinMap as finite;
+ghost use Rattle.msi_text.specs.declared.errors.ErrorKind.TheVariants.{OutOfMemory};
+
+use crate::name::Name;
+use msi_text::Error;
+use std::alloc::Global;
+use std::collections::{BTreeMap, btree_map};
+use std::marker::Model;
+
+/// The bytes of a stream.
+#[derive(Debug, Drop)]
+pub struct Bytes {
+    held: Vec<u8>,
+}
+
+impl Model for Bytes {
+    ghost use Rattle.std.specs.Prelude.{List, ℕ};
+
+    ghost Value = { List ℕ };
+
+    ghost view = { λ b. b.held.items };
+}
+
+impl Bytes {
+    /// A stream of these bytes.
+    pub fn from_vec(held: Vec<u8>) -> Bytes
+        ensures { result ≡ held.items }
+    {
+        Bytes { held }
+    }
+
+    /// The bytes.
+    pub fn as_slice(&self) -> &[u8]
+        ensures { result.now ≡ self.now }
+    {
+        self.held.as_slice()
+    }
+}
+
+/// Streams by name, in the container's order of names.
+#[derive(Drop)]
+pub struct StreamMap {
+    map: BTreeMap<Name, Bytes>,
+}
+
+impl Model for StreamMap {
+    ghost use Rattle.std.specs.Prelude.{List, ℕ};
+    ghost use Rattle.std.specs.FinMap as finite;
+    ghost use Rattle.std.specs.Coded.{coded_ℕ, coded_list};
+    ghost use Rattle.msi_compound.specs.Names.{name_cmp};
+
+    ghost Value = { finite.FinMap name_cmp (List ℕ) };
+
+    ghost coded = { finite.code (coded_list coded_ℕ) (coded_list coded_ℕ) };
+
+    ghost view = { λ s. finite.from_entries s.map.entries };
+}
+
+impl StreamMap {
+    /// No streams.
+    pub fn new(alloc: Global) -> StreamMap
+        ensures { result ≡ finite.empty }
+    {
+        StreamMap {
+            map: BTreeMap::new(alloc),
+        }
+    }
+
+    /// The bytes of the stream of a name, if there is one.
+    pub fn get(&self, name: &Name) -> Option<&Bytes>
+        ensures { option_copied result ≡ finite.get self.now name.now }
+    {
+        self.map.get(name)
+    }
+
+    /// Whether there is a stream of a name.
+    pub fn contains(&self, name: &Name) -> bool
+        ensures { result ≡ finite.contains_key self.now name.now }
+    {
+        self.map.contains_key(name)
+    }
+
+    /// Puts a stream at a name, in place of the one that was there.
+    ///
+    /// # Errors
+    /// `OutOfMemory`; then nothing is changed.
+    pub fn insert(&mut self, name: Name, bytes: Bytes) -> Result<(), Error>
+        ensures ok { OnOk result (self.new ≡ finite.insert self.old name bytes) }
+        ensures err { OnErr result (self.new ≡ self.old) }
+        ensures memory { IsErr result → IsErrOf result OutOfMemory }
+    {
+        self.map.insert(name, bytes)?;
+        Ok(())
+    }
+
+    /// Takes the stream of a name out, if there is one, and hands its bytes back.
+    pub fn remove(&mut self, name: &Name) -> Option<Bytes>
+        ensures held { result ≡ finite.get self.old name.now }
+        ensures gone { self.new ≡ finite.remove self.old name.now }
+    {
+        self.map.remove(name)
+    }
+
+    /// How many streams there are.
+    pub fn len(&self) -> usize
+        ensures { result ≡ finite.len self.now }
+    {
+        self.map.len()
+    }
+
+    /// Whether there are no streams.
+    pub fn is_empty(&self) -> bool
+        ensures { result ≡ (finite.len self.now == 0) }
+    {
+        self.len() == 0
+    }
+
+    /// The streams in the container's order of names.
+    pub fn iter(&self) -> btree_map::Iter<'_, Name, Bytes>
+        ensures rest { result ≡ finite.entries self.now }
+        ensures len { length result ≡ finite.len self.now }
+        ensures bound { length result < 2 ^ 63 }
+    {
+        self.map.iter()
+    }
+}
+
+/// What a compound file holds: the root's CLSID, its streams, and whether storages lie below the root.
+#[derive(Drop)]
+pub struct Contents {
+    /// The CLSID of the root, as it is stored: the first three of its fields with the lowest byte in front.
+    pub clsid: [u8; 16],
+    /// The streams of the root.
+    pub streams: StreamMap,
+    /// Whether storages lie below the root. They aren't entered.
+    pub has_storages: bool,
+}

@@ -1,0 +1,3 @@
+//! What reader and writer need beyond the surface.
+
+pub use crate::bytes::{byte, number16, number32, number64, place, push_bytes};

@@ -1,0 +1,13 @@
+-- The lemmas of this crate.
+pub mod ClaimLemmas
+pub mod ChainLemmas
+pub mod WholeChainLemmas
+pub mod FatLemmas
+pub mod OwnNameLemmas
+pub mod TreeLemmas
+pub mod SectorBytesLemmas
+pub mod StreamChainLemmas
+pub mod NamedBytesLemmas
+pub mod ListLemmas
+pub mod PlanPartsLemmas
+pub mod ListingLemmas

@@ -1,0 +1,6 @@
+-- The words of this crate.
+pub use Rattle.msi_compound.specs.Container
+pub mod Claims
+pub mod Walks
+pub mod Outcomes
+pub mod Reading

@@ -1,0 +1,232 @@
+//! Reading a compound file.
+
+ghost use Rattle.std.specs.Prelude.{◌≡◌, ℕ, List, [], ◌+◌, ◌<◌, ◌≤◌, ◌^◌, ◌++◌, length, vec_len, IfOk, OnOk, OnErr, IsErrOf};
+ghost use Rattle.std.specs.FinMap.{from_entries};
+ghost use Rattle.msi_text.specs.declared.errors.ErrorKind.TheVariants.{InvalidData};
+ghost use Rattle.msi_compound.specs.declared.contents.Contents as held;
+ghost use Rattle.msi_compound.specs.Chains.{AreBelow};
+ghost use Rattle.msi_compound_read.specs.Claims.{CanClaim};
+ghost use Rattle.msi_compound_read.specs.Outcomes.{Gives, FailsByData};
+ghost use Rattle.msi_compound.specs.Container as container;
+ghost use Rattle.msi_compound.specs.Format as marks;
+ghost use Rattle.msi_compound.specs.Container.{named_bytes, IsListing, IsMiniFat};
+ghost use Rattle.msi_compound_read.specs.Reading.{IsStart, IsMini, AreChained};
+ghost use Rattle.msi_compound.specs.Trees.{Tree, members};
+
+use crate::claims::{Claimed, Claims};
+use crate::directory::{Directory, check_entries, reach};
+use crate::fat::{read_difat, read_fat};
+use crate::header::{check_header, sector_count, sector_size};
+use crate::reasons;
+use crate::streams::{Tables, Uses, collect, has_storage, streams_among, walk_each};
+use crate::table::{AllocationTable, Steps};
+use crate::walks::{walk, walk_to_end};
+use msi_compound::contents::{Contents, StreamMap};
+use msi_compound::format::{
+    DIRECTORY_START_AT, MAX_REGULAR_SECTOR, MINI_FAT_START_AT, MINI_SECTOR_SIZE, ROOT,
+};
+use msi_compound::parts::number32;
+use msi_text::{Error, ErrorKind};
+use std::alloc::Global;
+
+/// The contents that the bytes hold, as a compound file of version 3 or 4 (MS-CFB 2).
+///
+/// Of a chain only as many members are looked at as its stream's size needs. A last sector that is cut reads as followed by
+/// zeros. Storages below the root are told of, and aren't entered.
+///
+/// # Errors
+/// `InvalidData` where the bytes hold none: a checked field of the header has another value; a chain ends early; a sector
+/// lies outside the file, or a mini sector outside the mini stream; one is used twice; the directory's tree is none, or one
+/// of its entries is neither storage nor stream, or has no well-formed name of its own. `OutOfMemory`.
+pub fn read(alloc: Global, bytes: &[u8]) -> Result<Contents, Error>
+    ensures found { IfOk result (λ contents. container.Holds bytes.now contents) }
+    ensures only { (contents : held.Contents) → container.Holds bytes.now contents → Gives (λ c. c) result contents }
+    ensures kinds { FailsByData result }
+{
+    let mut steps = Steps { count: 0 };
+    let mut claims = Claims::new(alloc, Claimed::Sectors, sector_count(bytes))?;
+    let start = read_start(alloc, bytes, &mut claims, &mut steps)?;
+    let fat = AllocationTable {
+        bytes,
+        sectors: &start.fat,
+    };
+    let directory = Directory {
+        bytes,
+        sectors: &start.directory,
+    };
+    let entries = read_listing(alloc, &directory)?;
+    let mini = read_mini(alloc, &fat, &directory, &mut claims, &mut steps)?;
+    let streams = read_streams(alloc, &fat, &directory, &mini, &entries, claims, &mut steps)?;
+    Ok(Contents {
+        clsid: directory.clsid(),
+        streams,
+        has_storages: has_storage(&directory, &entries),
+    })
+}
+
+/// The sectors of the FAT and of the directory.
+#[derive(Drop)]
+struct Start {
+    difat: Vec<u32>,
+    fat: Vec<u32>,
+    directory: Vec<u32>,
+}
+
+/// The sectors of the mini FAT and of the mini stream.
+#[derive(Drop)]
+struct Mini {
+    fat: Vec<u32>,
+    stream: Vec<u32>,
+}
+
+/// Checks the header, and claims the sectors of the DIFAT, the FAT and the directory.
+fn read_start(
+    alloc: Global,
+    bytes: &[u8],
+    claims: &mut Claims,
+    steps: &mut Steps,
+) -> Result<Start, Error>
+    requires empty { claims.old.list.items ≡ [] }
+    requires regular { vec_len claims.old.marks ≤ marks.MAX_REGULAR_SECTOR + 1 }
+    requires steps { steps.old.count + vec_len claims.old.marks + 1 < 2 ^ 64 }
+    ensures limit { vec_len claims.new.marks ≡ vec_len claims.old.marks }
+    ensures found { IfOk result (λ s. IsStart bytes.now (vec_len claims.old.marks) s.difat.items s.fat.items s.directory.items
+        × (claims.new.list.items ≡ s.difat.items ++ s.fat.items ++ s.directory.items)) }
+    ensures only { (difat fat directory : List ℕ) → IsStart bytes.now (vec_len claims.old.marks) difat fat directory
+        → Gives {Y = List ℕ × List ℕ × List ℕ} (λ s. (s.difat.items, s.fat.items, s.directory.items)) result (difat, fat, directory) }
+    ensures kinds { FailsByData result }
+    ensures few { IfOk result (λ s. vec_len s.difat + vec_len s.fat + vec_len s.directory ≤ vec_len claims.old.marks) }
+    ensures steps { steps.new.count + vec_len claims.old.list ≤ steps.old.count + vec_len claims.new.list }
+{
+    check_header(bytes)?;
+    let difat = read_difat(alloc, bytes, claims)?;
+    let fat = read_fat(alloc, bytes, &difat, claims)?;
+    let table = AllocationTable {
+        bytes,
+        sectors: &fat,
+    };
+    let first = number32(bytes, DIRECTORY_START_AT);
+    let directory = walk_to_end(alloc, &table, first, claims, steps)?;
+    Ok(Start {
+        difat,
+        fat,
+        directory,
+    })
+}
+
+/// Checks the root, and lists the entries below it in the tree's order.
+fn read_listing(alloc: Global, directory: &Directory) -> Result<Vec<u32>, Error>
+    requires { 0 < container.entry_count directory.now.bytes.now directory.now.sectors.now }
+    ensures found { IfOk result (λ entries. (tree : Tree) × IsListing directory.now.bytes.now directory.now.sectors.now tree × (members tree ≡ entries.items)) }
+    ensures only { (tree : Tree) → IsListing directory.now.bytes.now directory.now.sectors.now tree → Gives (λ v. v.items) result (members tree) }
+    ensures below { IfOk result (λ entries. AreBelow (container.entry_count directory.now.bytes.now directory.now.sectors.now) entries.items) }
+    ensures kinds { FailsByData result }
+{
+    if directory.kind(0) != ROOT {
+        return Err(Error::new(ErrorKind::InvalidData, reasons::NO_ROOT));
+    }
+    let entries = reach(alloc, directory, directory.child(0))?;
+    check_entries(alloc, directory, &entries)?;
+    Ok(entries)
+}
+
+/// Claims the sectors of the mini FAT, where it has any.
+fn read_mini_fat(
+    alloc: Global,
+    fat: &AllocationTable,
+    claims: &mut Claims,
+    steps: &mut Steps,
+) -> Result<Vec<u32>, Error>
+    requires regular { vec_len claims.old.marks ≤ marks.MAX_REGULAR_SECTOR + 1 }
+    requires steps { steps.old.count + vec_len claims.old.marks + vec_len claims.old.marks + 1 < 2 ^ 64 }
+    ensures limit { vec_len claims.new.marks ≡ vec_len claims.old.marks }
+    ensures found { IfOk result (λ mini_fat. IsMiniFat fat.now.bytes.now fat.now.sectors.now mini_fat.items
+        × (claims.new.list.items ≡ claims.old.list.items ++ mini_fat.items)) }
+    ensures only { (mini_fat : List ℕ) → IsMiniFat fat.now.bytes.now fat.now.sectors.now mini_fat
+        → CanClaim (vec_len claims.old.marks) claims.old.list.items mini_fat → Gives (λ v. v.items) result mini_fat }
+    ensures kinds { FailsByData result }
+    ensures bounded { steps.new.count + vec_len claims.old.list ≤ steps.old.count + vec_len claims.new.list }
+{
+    let first = number32(fat.bytes, MINI_FAT_START_AT);
+    if first <= MAX_REGULAR_SECTOR {
+        walk_to_end(alloc, fat, first, claims, steps)
+    } else {
+        Ok(Vec::new(alloc))
+    }
+}
+
+/// Claims the sectors of the mini FAT and of the mini stream.
+fn read_mini(
+    alloc: Global,
+    fat: &AllocationTable,
+    directory: &Directory,
+    claims: &mut Claims,
+    steps: &mut Steps,
+) -> Result<Mini, Error>
+    requires same { fat.now.bytes.now ≡ directory.now.bytes.now }
+    requires root { 0 < container.entry_count directory.now.bytes.now directory.now.sectors.now }
+    requires regular { vec_len claims.old.marks ≤ marks.MAX_REGULAR_SECTOR + 1 }
+    requires steps { steps.old.count + vec_len claims.old.marks + vec_len claims.old.marks + 1 < 2 ^ 64 }
+    ensures limit { vec_len claims.new.marks ≡ vec_len claims.old.marks }
+    ensures found { IfOk result (λ m. IsMini directory.now.bytes.now (vec_len claims.old.marks) claims.old.list.items fat.now.sectors.now directory.now.sectors.now m.fat.items m.stream.items
+        × (claims.new.list.items ≡ claims.old.list.items ++ m.fat.items ++ m.stream.items)) }
+    ensures only { (mini_fat mini_stream : List ℕ)
+        → IsMini directory.now.bytes.now (vec_len claims.old.marks) claims.old.list.items fat.now.sectors.now directory.now.sectors.now mini_fat mini_stream
+        → Gives {Y = List ℕ × List ℕ} (λ m. (m.fat.items, m.stream.items)) result (mini_fat, mini_stream) }
+    ensures kinds { FailsByData result }
+    ensures few { IfOk result (λ m. vec_len m.fat + vec_len m.stream ≤ vec_len claims.old.marks) }
+    ensures bounded { steps.new.count + vec_len claims.old.list ≤ steps.old.count + vec_len claims.new.list }
+{
+    let mini_fat = read_mini_fat(alloc, fat, claims, steps)?;
+    let size = sector_size(directory.bytes) as u64;
+    let count = directory.size(0).div_ceil(size) as usize;
+    let stream = walk(alloc, fat, directory.start_sector(0), count, claims, steps)?;
+    Ok(Mini {
+        fat: mini_fat,
+        stream,
+    })
+}
+
+/// Claims the members of the streams among some entries, and reads their bytes.
+fn read_streams<'a>(
+    alloc: Global,
+    fat: &AllocationTable<'a>,
+    directory: &Directory<'a>,
+    mini: &'a Mini,
+    entries: &[u32],
+    claims: Claims,
+    steps: &mut Steps,
+) -> Result<StreamMap, Error>
+    requires same { fat.now.bytes.now ≡ directory.now.bytes.now }
+    requires below { AreBelow (container.entry_count directory.now.bytes.now directory.now.sectors.now) entries.now }
+    requires entries { container.AreEntries directory.now.bytes.now directory.now.sectors.now entries.now }
+    requires names { container.HaveOwnNames directory.now.bytes.now directory.now.sectors.now entries.now }
+    requires few { vec_len mini.now.fat + vec_len mini.now.stream ≤ 2 ^ 32 }
+    requires regular { vec_len claims.marks ≤ marks.MAX_REGULAR_SECTOR + 1 }
+    requires steps { steps.old.count ≤ vec_len claims.list }
+    ensures found { IfOk result (λ streams. (chains : List (List ℕ))
+        × AreChained directory.now.bytes.now fat.now.sectors.now mini.now.fat.items directory.now.sectors.now mini.now.stream.items (vec_len claims.marks) claims.list.items
+        (container.streams_among directory.now.bytes.now directory.now.sectors.now entries.now) chains
+        × (streams ≡ from_entries (named_bytes directory.now.bytes.now mini.now.stream.items directory.now.sectors.now
+        (container.streams_among directory.now.bytes.now directory.now.sectors.now entries.now) chains))) }
+    ensures invalid { IsErrOf result InvalidData → (chains : List (List ℕ))
+        → AreChained directory.now.bytes.now fat.now.sectors.now mini.now.fat.items directory.now.sectors.now mini.now.stream.items (vec_len claims.marks) claims.list.items
+        (container.streams_among directory.now.bytes.now directory.now.sectors.now entries.now) chains → ⊥ }
+    ensures kinds { FailsByData result }
+{
+    let streams = streams_among(alloc, directory, entries)?;
+    let tables = Tables {
+        fat: *fat,
+        mini_fat: AllocationTable {
+            bytes: directory.bytes,
+            sectors: &mini.fat,
+        },
+    };
+    let limit = mini.stream.len() * (sector_size(directory.bytes) / MINI_SECTOR_SIZE);
+    let mut uses = Uses {
+        sectors: claims,
+        mini_sectors: Claims::new(alloc, Claimed::MiniSectors, limit)?,
+    };
+    let chains = walk_each(alloc, &tables, directory, &streams, &mut uses, steps)?;
+    collect(alloc, directory, &mini.stream, &streams, &chains)
+}

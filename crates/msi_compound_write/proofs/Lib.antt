@@ -1,0 +1,25 @@
+-- The lemmas of this crate.
+pub mod BalanceLemmas
+pub mod RangeLemmas
+pub mod ExtentsLemmas
+pub mod ImageLemmas
+pub mod TotalsLemmas
+pub mod MiniFatLemmas
+pub mod EntriesLemmas
+pub mod LayoutHeldLemmas
+pub mod LayoutLemmas
+pub mod LayoutRows
+pub mod LaidLemmas
+pub mod PlacedLemmas
+pub mod DirectoryLengthLemmas
+pub mod EntryReadLemmas
+pub mod DirectoryBoundsLemmas
+pub mod DirectoryReadLemmas
+pub mod LaidPartsLemmas
+pub mod MiniReadLemmas
+pub mod StreamsReadLemmas
+pub mod ZippedLemmas
+pub mod ApartLemmas
+pub mod CollectedLemmas
+pub mod PlanWrittenLemmas
+pub mod SpelledPartsLemmas

@@ -1,0 +1,75 @@
+-- Lists that a function of the position gives, one behind another.
+use Rattle.std.proofs.Common.{◌≡◌, ℕ, zero, suc, ◌+◌, ◌-◌, ◌*◌, ◌/◌, ◌%◌, ◌<◌, List, [], ◌∷◌, ◌++◌, length, map, replicate, inl, inr, sym, ◌∙◌, ap, subst, arith, refl}
+use Rattle.std.specs.List.{range_with_len, flat_map}
+use Rattle.std.specs.Int.{to_le_bytes, w32}
+use Rattle.std.proofs.lemmas.Bool.{cases_lt}
+use Rattle.std.proofs.lemmas.List.{append_assoc, length-append, length-replicate, get_or_append_left, get_or-append_right, get_or-replicate}
+use Rattle.std.proofs.lemmas.List.Concat.{flat_map-append}
+use Rattle.std.proofs.lemmas.List.FromFn.{fill_by_all, get_or-map-range_with_len, length-map-range_with_len, map-range_with_len_more}
+use Rattle.msi_compound_write.specs.Extents.{number_byte, table_byte}
+
+-- what agrees with one function below m, and with another above it
+pub map_range_append : (f g h : ℕ → ℕ) (m n : ℕ)
+    → ((k : ℕ) → k < m → f k ≡ g k)
+    → ((k : ℕ) → k < n → f (m + k) ≡ h k)
+    → map f (range_with_len 0 (m + n)) ≡ map g (range_with_len 0 m) ++ map h (range_with_len 0 n)
+map_range_append f g h m n low high =
+    let xs = map g (range_with_len 0 m) in
+    let ys = map h (range_with_len 0 n) in
+    let few : length xs ≡ m = length-map-range_with_len g 0 m in
+    let more : length ys ≡ n = length-map-range_with_len h 0 n in
+    sym (fill_by_all f (xs ++ ys) (m + n) 0 (omega (arith, length-append xs ys)) (λ k l. elim (cases_lt k m) [
+      | inl b ↦ get_or_append_left xs ys 0 k (omega arith) ∙ get_or-map-range_with_len g 0 m k k 0 b (omega arith) ∙ sym (low k b)
+      | inr b ↦
+          let there : m + (k - m) ≡ k = omega arith in
+          get_or-append_right xs ys m k 0 few b ∙ get_or-map-range_with_len h 0 n (k - m) (k - m) 0 (omega arith) (omega arith) ∙ sym (high (k - m) (omega arith)) ∙ ap f there
+    ]))
+
+-- the same list by two functions
+pub map_range_same : (f g : ℕ → ℕ) (m n : ℕ) → m ≡ n → ((k : ℕ) → k < n → f k ≡ g k) → map f (range_with_len 0 m) ≡ map g (range_with_len 0 n)
+map_range_same f g m n long same =
+    fill_by_all g (map f (range_with_len 0 m)) n 0 (length-map-range_with_len f 0 m ∙ long) (λ k l.
+    get_or-map-range_with_len f 0 m k k 0 (omega arith) (omega arith) ∙ same k l)
+
+pub replicate_is_map : (n x : ℕ) → replicate n x ≡ map (λ _. x) (range_with_len 0 n)
+replicate_is_map n x = fill_by_all (λ _. x) (replicate n x) n 0 (length-replicate n x) (λ k l. get_or-replicate n k x 0 l)
+
+-- one more number, in its bytes
+pub numbers_more : (e : ℕ → ℕ) (n : ℕ)
+    → flat_map (to_le_bytes w32) (map e (range_with_len 0 (n + 1))) ≡ flat_map (to_le_bytes w32) (map e (range_with_len 0 n)) ++ to_le_bytes w32 (e n)
+numbers_more e n =
+    ap (flat_map (to_le_bytes w32)) (map-range_with_len_more e 0 n n (omega arith))
+    ∙ flat_map-append (to_le_bytes w32) (map e (range_with_len 0 n)) (e n ∷ [])
+
+-- the same behind a list, after a push
+pub numbers_pushed : (start before now bytes : List ℕ) (e : ℕ → ℕ) (n x : ℕ)
+    → before ≡ start ++ flat_map (to_le_bytes w32) (map e (range_with_len 0 n))
+    → x ≡ e n
+    → bytes ≡ to_le_bytes w32 x
+    → now ≡ before ++ bytes
+    → now ≡ start ++ flat_map (to_le_bytes w32) (map e (range_with_len 0 (n + 1)))
+numbers_pushed start before now bytes e n x was is spelled pushed =
+    let whole = flat_map (to_le_bytes w32) (map e (range_with_len 0 n)) in
+    pushed
+    ∙ ap (λ bs. before ++ bs) spelled
+    ∙ ap (λ bs. bs ++ to_le_bytes w32 x) was
+    ∙ append_assoc start whole (to_le_bytes w32 x)
+    ∙ ap (λ bs. start ++ bs) (ap (λ y. whole ++ to_le_bytes w32 y) is ∙ sym (numbers_more e n))
+
+-- the bytes of numbers in a row, by position
+pub bytes_of_numbers : (e : ℕ → ℕ) (n : ℕ)
+    → flat_map (to_le_bytes w32) (map e (range_with_len 0 n)) ≡ map (table_byte e) (range_with_len 0 (4 * n))
+bytes_of_numbers e zero = refl
+bytes_of_numbers e (suc n) =
+    let byte : ℕ → ℕ = table_byte e in
+    let P : ℕ → Type 0 = λ m. flat_map (to_le_bytes w32) (map e (range_with_len 0 m)) ≡ map byte (range_with_len 0 (4 * m)) in
+    let next : n + 1 ≡ suc n = omega arith in
+    let long : 4 * n + 4 ≡ 4 * (n + 1) = omega arith in
+    subst P next (
+    numbers_more e n
+    ∙ ap (λ bs. bs ++ to_le_bytes w32 (e n)) (bytes_of_numbers e n)
+    ∙ sym (map_range_append byte byte (number_byte (e n)) (4 * n) 4 (λ k l. refl) (λ k l.
+    let q : (4 * n + k) / 4 ≡ n = omega arith in
+    let r : (4 * n + k) % 4 ≡ k = omega arith in
+    rw (q, r) refl))
+    ∙ ap (λ m. map byte (range_with_len 0 m)) long)

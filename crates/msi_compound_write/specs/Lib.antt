@@ -1,0 +1,9 @@
+-- The words of this crate.
+pub use Rattle.msi_compound.specs.Container
+pub mod Views
+pub mod Extents
+pub mod Image
+pub mod Balance
+pub mod SpelledParts
+pub mod Layout
+pub mod LayoutLaw

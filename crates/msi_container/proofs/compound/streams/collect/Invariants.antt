@@ -1,8 +1,0 @@
-use Rattle.std.proofs.Common.{◌≡◌, length, take}
-use Rattle.std.specs.FinMap.{from_entries}
-use Rattle.msi_container.specs.Streams.{named_bytes, views}
-use Rattle.msi_container.proofs.compound.streams.collect.Given as goal
-
-abbrev pub invariant-loop-entry : goal.invariant-loop-entry
-invariant-loop-entry l =
-    l.streams ≡ from_entries (take (length l.yielded) (named_bytes l.directory.bytes.now l.mini_stream l.directory.sectors.now l.entries (views l.chains)))

@@ -1,5 +1,0 @@
-use Rattle.msi_container.proofs.SpelledPartsLemmas.{spelled_image}
-use Rattle.msi_container.proofs.laws.images_spell_parts.Goals as goal
-
-pub returns : goal.returns
-returns c = spelled_image

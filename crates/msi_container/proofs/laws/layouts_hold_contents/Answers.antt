@@ -1,5 +1,0 @@
-use Rattle.msi_container.proofs.LayoutHeldLemmas.{layout_holds}
-use Rattle.msi_container.proofs.laws.layouts_hold_contents.Goals as goal
-
-pub returns : goal.returns
-returns c = layout_holds
