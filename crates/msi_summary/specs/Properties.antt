@@ -1,5 +1,6 @@
 -- Property sets as values (MS-OLEPS 2.20, 2.21).
-use Rattle.std.specs.Prelude.{◌≡◌, ℕ, Bool, true, not, List, [], filter, replicate, Option, Some, None, unwrap_or, is_some, ◌==◌, if◌then◌else◌}
+use Rattle.std.specs.Prelude.{◌≡◌, ℕ, Bool, true, not, List, [], filter, replicate, Option, Some, None, unwrap_or}
+use Rattle.std.specs.Prelude.{is_some, ◌==◌, if◌then◌else◌}
 use Rattle.std.specs.Ordering.{nat_cmp}
 use Rattle.std.specs.BTreeMap.{insert_entry}
 use Rattle.std.specs.Int.{w16, cast_unsigned, cast_signed}
@@ -18,6 +19,11 @@ pub record Properties : Type 0 where
   pub clsid : List ℕ
   pub format_identifier : List ℕ
   pub values : List (ℕ × PropertyValue)
+
+-- a set of its parts
+abbrev pub set_of : OperatingSystem → ℕ → List ℕ → List ℕ → List (ℕ × PropertyValue) → Properties
+set_of os os_version clsid format values =
+    record { os = os; os_version = os_version; clsid = clsid; format_identifier = format; values = values }
 
 abbrev pub value_at : ℕ → List (ℕ × PropertyValue) → Option PropertyValue
 value_at id values = entry_where (λ k. k == id) values
@@ -53,4 +59,4 @@ can_set id value = if id == 1 then is_some (page_in (Some value)) else true
 
 -- a set with no property
 abbrev pub new_set : OperatingSystem → ℕ → List ℕ → Properties
-new_set os os_version format = record { os = os; os_version = os_version; clsid = replicate 16 0; format_identifier = format; values = [] }
+new_set os os_version format = set_of os os_version (replicate 16 0) format []

@@ -1,6 +1,8 @@
--- The summary's properties (MSI SDK, "Summary Information Stream Property Set").
-use Rattle.std.specs.Prelude.{ℕ, ◌-◌, Bool, List, [], ◌∷◌, ◌++◌, map, length, Option, Some, None, option_and_then, unwrap_or, ◌==◌, ◌&&◌, if◌then◌else◌, codes, ℤ, drop, take}
-use Rattle.std.specs.List.{slice_split, before_first, after_first, join_by, filter_map, onto_first, prefix_len, suffix_len}
+-- The summary's properties (Windows Installer SDK, "Summary Information Stream Property Set").
+use Rattle.std.specs.Prelude.{◌≡◌, ℕ, ◌-◌, ℤ, Bool, ◌==◌, ◌&&◌, if◌then◌else◌, List, [], ◌∷◌, ◌++◌, map, length, drop, take, codes}
+use Rattle.std.specs.Prelude.{Option, Some, None, option_and_then, unwrap_or}
+use Rattle.std.specs.List.{slice_split, before_first, after_first, join_by, filter_map, onto_first}
+use Rattle.std.specs.List.{prefix_len, suffix_len}
 use Rattle.std.specs.Str.{trim_end}
 use Rattle.uuid.specs.Text.{parsed}
 use Rattle.msi_text.specs.declared.codepage.CodePage.TheVariants as page
@@ -10,9 +12,16 @@ use Rattle.msi_summary.specs.declared.propset.PropertyValue.{PropertyValue}
 use Rattle.msi_summary.specs.declared.propset.PropertyValue.TheVariants.{I4, LpStr, FileTime}
 use Rattle.msi_summary.specs.declared.propset.OperatingSystem.TheVariants as os
 use Rattle.msi_summary.specs.Properties.{Properties, value_at, with_value, with_page, new_set}
+use Rattle.msi_summary.specs.PropertyStream.{Spells}
 
+-- FMTID_SummaryInformation, F29F85E0-4FF9-1068-AB91-08002B27B3D9, as its bytes stand in a stream
 abbrev pub summary_format : List ℕ
-summary_format = 0xE0 ∷ 0x85 ∷ 0x9F ∷ 0xF2 ∷ 0xF9 ∷ 0x4F ∷ 0x68 ∷ 0x10 ∷ 0xAB ∷ 0x91 ∷ 0x08 ∷ 0x00 ∷ 0x2B ∷ 0x27 ∷ 0xB3 ∷ 0xD9 ∷ []
+summary_format = 0xE0 ∷ 0x85 ∷ 0x9F ∷ 0xF2 ∷ 0xF9 ∷ 0x4F ∷ 0x68 ∷ 0x10 ∷ 0xAB ∷ 0x91 ∷ 0x08 ∷ 0x00 ∷ 0x2B ∷ 0x27 ∷ 0xB3
+    ∷ 0xD9 ∷ []
+
+-- the bytes spell a property set that is a summary
+abbrev pub SpellsSummary : List ℕ → Properties → Type 0
+SpellsSummary bytes set = Spells bytes set × (set.format_identifier ≡ summary_format)
 
 -- the properties' ids: of texts, of numbers, of times, and of the three with a form of their own
 pub data TextProperty : Type 0 where

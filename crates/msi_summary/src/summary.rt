@@ -23,15 +23,16 @@ use msi_text::timestamp::Timestamp;
 use std::alloc::Global;
 use std::marker::Model;
 
-/// What says that a property set is a summary.
+/// The format identifier that says that a property set is a summary (FMTID_SummaryInformation of MS-OLEPS).
 const FORMAT: [u8; 16] = [
     0xE0, 0x85, 0x9F, 0xF2, 0xF9, 0x4F, 0x68, 0x10, 0xAB, 0x91, 0x08, 0x00, 0x2B, 0x27, 0xB3, 0xD9,
 ];
 
-/// The summary of a package. Contracts see its property set.
+/// The summary of a package: a property set of the summary's format (MS-OLEPS 2.21), whose properties have names. Contracts
+/// see the property set.
 ///
-/// A getter answers nothing, or an empty list, where its property is missing or has another type.
-/// A setter that is refused leaves the summary as it was.
+/// A getter answers nothing, or an empty list, where its property is missing or has another type. A setter that is refused
+/// leaves the summary as it was.
 #[derive(Drop)]
 pub struct SummaryInfo {
     properties: PropertySet,
@@ -77,7 +78,8 @@ impl SummaryInfo {
 
     /// The property set, borrowed.
     pub(crate) fn properties(&self) -> &PropertySet
-        ensures { result.now ≡ self.now }
+        ensures set { result.now ≡ self.now }
+        ensures format { self.now.format_identifier ≡ summary_format }
     {
         &self.properties
     }
@@ -90,17 +92,18 @@ impl SummaryInfo {
         properties
     }
 
-    /// The page in which the texts are written.
+    /// The page in which the texts are spelled (MS-OLEPS 2.18.2): the one that property 1 names, and UTF-8 without it.
     pub fn codepage(&self) -> CodePage
         ensures { result ≡ page_of self.now }
     {
         self.properties.codepage()
     }
 
-    /// Sets the page.
+    /// Sets the page in which the texts are spelled (property 1, MS-OLEPS 2.18.2). The texts stay, also where the page
+    /// carries them no longer; the summary can't be written then. When refused, the summary is as before.
     ///
     /// # Errors
-    /// `OutOfMemory`.
+    /// `OutOfMemory` where the property can't be stored.
     pub fn set_codepage(&mut self, page: CodePage) -> Result<(), Error>
         ensures ok { OnOk result (self.new ≡ with_page page self.old) }
         ensures page { OnOk result (page_of self.new ≡ page) }

@@ -1,4 +1,4 @@
-//! The summary's UUID, which tells one package from another.
+//! The summary's UUID, which tells one package from another (Revision Number of the Windows Installer SDK, property 9).
 
 ghost use Rattle.std.specs.Prelude.{◌≡◌, IfErr, OnOk, OnErr};
 ghost use Rattle.msi_text.specs.declared.errors.ErrorKind.TheVariants.{OutOfMemory};
@@ -29,7 +29,8 @@ fn uuid_in(text: &str) -> Option<Uuid>
 }
 
 impl SummaryInfo {
-    /// The UUID; none where the text is in no form of one.
+    /// The UUID of the package (property 9), read from its text without the braces at its ends, in any form of a UUID's text.
+    /// None where the property is missing or of another type, and where the text is in no form of a UUID.
     pub fn uuid(&self) -> Option<Uuid>
         ensures { result ≡ uuid_of self.now }
     {
@@ -37,10 +38,11 @@ impl SummaryInfo {
         uuid_in(without_braces(text))
     }
 
-    /// Sets the UUID, in braces and in upper case.
+    /// Sets the UUID of the package (property 9), as a text in braces and in upper case. When refused, the summary is as
+    /// before.
     ///
     /// # Errors
-    /// `OutOfMemory`.
+    /// `OutOfMemory` where the text can't be made or stored.
     pub fn set_uuid(&mut self, uuid: Uuid) -> Result<(), Error>
         ensures ok { OnOk result (self.new ≡ with_uuid uuid self.old) }
         ensures kind { IfErr result (λ kind. kind ≡ OutOfMemory) }
@@ -50,7 +52,7 @@ impl SummaryInfo {
         self.put(UUID, PropertyValue::LpStr(text))
     }
 
-    /// Removes the UUID.
+    /// Removes the UUID of the package (property 9), where it is there. It can't be refused.
     pub fn clear_uuid(&mut self)
         ensures { self.new ≡ without_value uuid_id self.old }
     {

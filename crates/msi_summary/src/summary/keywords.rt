@@ -1,4 +1,4 @@
-//! The keywords: one text, in which they are parted by `; `.
+//! The keywords (Keywords of the Windows Installer SDK, property 5): one text, in which they are parted by `; `.
 
 ghost use Rattle.std.specs.Prelude.{◌≡◌, [], IfOk, IfErr, OnOk, OnErr, codes, map, string_bytes};
 ghost use Rattle.std.specs.List.{join_by};
@@ -52,10 +52,12 @@ fn joined(alloc: Global, words: &[String]) -> Result<String, Error>
 }
 
 impl SummaryInfo {
-    /// The keywords, without white space at their right ends. Between two `; ` in a row there is an empty one.
+    /// The keywords (property 5), in order: the pieces of their text between each two `; `, without the white space at their
+    /// right ends. Between two `; ` in a row there is an empty one. None where the property is missing, of another type or
+    /// the empty text.
     ///
     /// # Errors
-    /// `OutOfMemory`.
+    /// `OutOfMemory` where the keywords can't be copied.
     pub fn keywords(&self) -> Result<Vec<String>, Error>
         ensures ok { IfOk result (λ words. map string_bytes words.items ≡ keywords_of self.now) }
         ensures kind { IfErr result (λ kind. kind ≡ OutOfMemory) }
@@ -66,10 +68,12 @@ impl SummaryInfo {
         )
     }
 
-    /// Sets the keywords. A keyword that holds `; ` reads back as several, and a lone empty one as none.
+    /// Sets the keywords (property 5): their text is the keywords with `; ` between each two. A keyword that holds `; ` reads
+    /// back as several, a lone empty one as none, and white space at a right end doesn't come back. When refused, the summary
+    /// is as before.
     ///
     /// # Errors
-    /// `OutOfMemory`.
+    /// `OutOfMemory` where the text can't be made or stored.
     pub fn set_keywords(&mut self, keywords: &[String]) -> Result<(), Error>
         ensures ok { OnOk result (self.new ≡ with_keywords (map string_bytes keywords.now) self.old) }
         ensures kind { IfErr result (λ kind. kind ≡ OutOfMemory) }
@@ -79,10 +83,10 @@ impl SummaryInfo {
         self.set_text(KEYWORDS, text)
     }
 
-    /// Sets the keywords to the empty text.
+    /// Sets the keywords (property 5) to the empty text, which reads as no keyword. When refused, the summary is as before.
     ///
     /// # Errors
-    /// `OutOfMemory`.
+    /// `OutOfMemory` where the property can't be stored.
     pub fn clear_keywords(&mut self) -> Result<(), Error>
         ensures ok { OnOk result (self.new ≡ with_keywords [] self.old) }
         ensures kind { IfErr result (λ kind. kind ≡ OutOfMemory) }
