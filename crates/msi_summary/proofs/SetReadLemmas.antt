@@ -6,7 +6,7 @@ use Rattle.msi_text.specs.declared.errors.ErrorKind.TheVariants as kind
 use Rattle.msi_summary.specs.Properties.{Properties}
 use Rattle.msi_summary.specs.PropertyLaws.{IsKept}
 use Rattle.msi_summary.specs.PropertyStream.{Spells}
-use Rattle.msi_text.specs.PoolReading.{Gives}
+use Rattle.msi_text.specs.Results.{Gives}
 use Rattle.msi_summary.specs.Reading.{set_put}
 use Rattle.msi_summary.specs.Summary.{summary_format}
 use Rattle.msi_summary.proofs.FieldLemmas.{IsBytes, some_is}

@@ -25,8 +25,8 @@ abbrev pub set_of : OperatingSystem → ℕ → List ℕ → List ℕ → List (
 set_of os os_version clsid format values =
     record { os = os; os_version = os_version; clsid = clsid; format_identifier = format; values = values }
 
-abbrev pub value_at : ℕ → List (ℕ × PropertyValue) → Option PropertyValue
-value_at id values = entry_where (λ k. k == id) values
+abbrev pub value_with_id : ℕ → List (ℕ × PropertyValue) → Option PropertyValue
+value_with_id id values = entry_where (λ k. k == id) values
 
 abbrev pub with_value : ℕ → PropertyValue → Properties → Properties
 with_value id value set = record set { values = insert_entry nat_cmp set.values id value }
@@ -44,14 +44,14 @@ abbrev pub page_value : CodePage → PropertyValue
 page_value p = I2 (cast_signed w16 (page_id p))
 
 abbrev pub page_of : Properties → CodePage
-page_of set = unwrap_or (page_in (value_at 1 set.values)) page.Utf8
+page_of set = unwrap_or (page_in (value_with_id 1 set.values)) page.Utf8
 
 abbrev pub with_page : CodePage → Properties → Properties
 with_page p set = with_value 1 (page_value p) set
 
 -- the page that the values name is known
 abbrev pub NamesPage : List (ℕ × PropertyValue) → Type 0
-NamesPage values = is_some (page_in (value_at 1 values)) ≡ true
+NamesPage values = is_some (page_in (value_with_id 1 values)) ≡ true
 
 -- whether a value may be set: property 1 only to a known page
 abbrev pub can_set : ℕ → PropertyValue → Bool

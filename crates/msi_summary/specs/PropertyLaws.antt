@@ -2,7 +2,7 @@
 use Rattle.std.specs.Prelude.{◌≡◌, ℕ, ◌^◌, ◌<◌, false, List, [], ◌∷◌, Some, IsSome}
 use Rattle.std.specs.List.{AllByRecursion}
 use Rattle.msi_summary.specs.declared.propset.PropertyValue.{PropertyValue}
-use Rattle.msi_summary.specs.Properties.{Properties, page_in, value_at}
+use Rattle.msi_summary.specs.Properties.{Properties, page_in, value_with_id}
 use Rattle.msi_summary.specs.PropertyStream.{FitsHeader, FitsValue, Spells, AreWritable, property_stream}
 use Rattle.msi_summary.specs.PropertyWriting.{is_refused}
 
@@ -21,7 +21,7 @@ pub record IsKept (set : Properties) : Type 0 where
   pub ids : AllByRecursion (λ e. e.0 < 2 ^ 32) set.values
   pub ascending : Ascending set.values
   pub range : AreInRange set.values
-  pub page : IsSome (page_in (value_at 1 set.values))
+  pub page : IsSome (page_in (value_with_id 1 set.values))
 
 -- bytes spell at most one set
 abbrev pub OneSet : Type 0

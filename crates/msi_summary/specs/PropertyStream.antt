@@ -11,7 +11,7 @@ use Rattle.msi_summary.specs.declared.propset.PropertyValue.{PropertyValue}
 use Rattle.msi_summary.specs.declared.propset.PropertyValue.TheVariants.{Empty, Null, I1, I2, I4, LpStr, FileTime}
 use Rattle.msi_summary.specs.declared.propset.OperatingSystem.{OperatingSystem}
 use Rattle.msi_summary.specs.declared.propset.OperatingSystem.TheVariants as os
-use Rattle.msi_summary.specs.Properties.{Properties, page_in, page_of, value_at}
+use Rattle.msi_summary.specs.Properties.{Properties, page_in, page_of, value_with_id}
 
 abbrev pub os_number : OperatingSystem → ℕ
 os_number os.Win16 = 0
@@ -86,7 +86,7 @@ pub record Spells (bytes : List ℕ) (set : Properties) : Type 0 where
   pub header : StandsAt 0 bytes (λ front. front ≡ header_bytes set version reserved section)
   pub head : StandsAt section bytes (λ front. front ≡ section_head size pairs)
   pub once : has_pair (λ p q. p.0 == q.0) pairs ≡ false
-  pub page : IsSome (page_in (value_at 1 set.values))
+  pub page : IsSome (page_in (value_with_id 1 set.values))
   pub spelled : AllZip (λ p v. FitsValue v × StandsAt (section + p.1) bytes (λ front. SpellsValue version (page_of set) front v)) pairs values
   pub listed : set.values ≡ by_id (zip (map (λ p. p.0) pairs) values)
 

@@ -2,14 +2,14 @@
 use Rattle.std.specs.Prelude.{ℕ, ◌+◌, ◌*◌, ◌^◌, Bool, List, [], map, length, unwrap_or, is_some, zip, nat_lt, ◌&&◌}
 use Rattle.std.specs.List.{list_all, flat_map}
 use Rattle.msi_text.specs.declared.codepage.CodePage.{CodePage}
-use Rattle.msi_text.specs.PoolWriting.{is_untold}
+use Rattle.msi_text.specs.PoolWriting.{is_refused_spelling}
 use Rattle.msi_summary.specs.declared.propset.PropertyValue.{PropertyValue}
 use Rattle.msi_summary.specs.Properties.{Properties, page_of}
 use Rattle.msi_summary.specs.PropertyStream.{value_bytes, piece_of, section_of, ids_of, places_from}
 
 -- a set that isn't written: the page can't carry a text, or the section has 2^32 bytes or more
 abbrev pub is_refused : Properties → Bool
-is_refused set = is_untold (section_of (page_of set) set.values)
+is_refused set = is_refused_spelling (section_of (page_of set) set.values)
 
 -- the page carries each text
 abbrev pub is_carried : CodePage → List (ℕ × PropertyValue) → Bool

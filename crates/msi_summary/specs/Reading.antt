@@ -9,7 +9,8 @@ use Rattle.msi_text.specs.declared.codepage.CodePage.{CodePage}
 use Rattle.msi_text.specs.declared.codepage.CodePage.TheVariants as page
 use Rattle.msi_text.specs.Pages.{text_in}
 use Rattle.msi_text.specs.Lists.{has_pair, entry_where}
-use Rattle.msi_text.specs.PoolReading.{◌>>=◌, number_at}
+use Rattle.msi_text.specs.Numbers.{bytes_at, number_at}
+use Rattle.msi_text.specs.Results.{◌>>=◌}
 use Rattle.msi_summary.specs.declared.propset.PropertyValue.{PropertyValue}
 use Rattle.msi_summary.specs.declared.propset.PropertyValue.TheVariants.{Empty, Null, I1, I2, I4, LpStr, FileTime}
 use Rattle.msi_summary.specs.declared.propset.OperatingSystem.{OperatingSystem}
@@ -18,16 +19,16 @@ use Rattle.msi_summary.specs.Properties.{Properties, page_in}
 use Rattle.msi_summary.specs.PropertyStream.{by_id}
 
 -- a text whose length with the null is n; 0 is read as 1
-abbrev pub piece_at : CodePage → ℕ → List ℕ → Option (List ℕ)
-piece_at page n rest = if nat_lt (n - 1) (length rest) then (if slice_index rest (n - 1) == 0 then text_in page (take (n - 1) rest) else None) else None
+abbrev pub string_with_len : CodePage → ℕ → List ℕ → Option (List ℕ)
+string_with_len page n rest = if nat_lt (n - 1) (length rest) then (if slice_index rest (n - 1) == 0 then text_in page (take (n - 1) rest) else None) else None
 
 unfoldable pub string_at : CodePage → List ℕ → Option (List ℕ)
 string_at page bytes = do
   n ← number_at w32 bytes
-  piece_at page n.0 n.1
+  string_with_len page n.0 n.1
 
-unfoldable pub payload : ℕ → CodePage → ℕ → List ℕ → Option PropertyValue
-payload version page t rest =
+unfoldable pub payload_at : ℕ → CodePage → ℕ → List ℕ → Option PropertyValue
+payload_at version page t rest =
     if t == 0 then Some Empty else
     if t == 1 then Some Null else
     if t == 2 then option_map (λ n. I2 (cast_signed w16 n.0)) (number_at w16 rest) else
@@ -37,14 +38,10 @@ payload version page t rest =
     if t == 64 then option_map (λ n. FileTime n.0) (number_at w64 rest) else None
 
 -- the value whose bytes begin here
-unfoldable pub value_in : ℕ → CodePage → List ℕ → Option PropertyValue
-value_in version page bytes = do
+unfoldable pub value_at : ℕ → CodePage → List ℕ → Option PropertyValue
+value_at version page bytes = do
   t ← number_at w32 bytes
-  payload version page t.0 t.1
-
--- n bytes
-abbrev pub bytes_at : ℕ → List ℕ → Option (List ℕ × List ℕ)
-bytes_at n bytes = if nat_lt (length bytes) n then None else Some (take n bytes, drop n bytes)
+  payload_at version page t.0 t.1
 
 abbrev pub os_with_number : ℕ → Option OperatingSystem
 os_with_number zero = Some os.Win16
@@ -66,8 +63,8 @@ pub record Header : Type 0 where
 abbrev pub checked : ℕ → Header → Option Header
 checked mark h = if mark == 0xFFFE then (if nat_lt h.version 2 then (if nat_lt 0 h.reserved then Some h else None) else None) else None
 
-unfoldable pub header_in : List ℕ → Option Header
-header_in bytes = do
+unfoldable pub header_at : List ℕ → Option Header
+header_at bytes = do
   mark ← number_at w16 bytes
   version ← number_at w16 mark.1
   os_version ← number_at w16 version.1
@@ -87,8 +84,8 @@ pairs_at (suc n) bytes = do
   others ← pairs_at n place.1
   Some ((id.0, place.0) ∷ others)
 
-unfoldable pub section_in : List ℕ → Option (List (ℕ × ℕ))
-section_in bytes = do
+unfoldable pub section_at : List ℕ → Option (List (ℕ × ℕ))
+section_at bytes = do
   size ← number_at w32 bytes
   count ← number_at w32 size.1
   pairs_at count.0 count.1
@@ -97,22 +94,22 @@ section_in bytes = do
 unfoldable pub values_in : ℕ → CodePage → List ℕ → ℕ → List (ℕ × ℕ) → Option (List PropertyValue)
 values_in version page bytes section [] = Some []
 values_in version page bytes section (p ∷ pairs) = do
-  value ← value_in version page (drop (section + p.1) bytes)
+  value ← value_at version page (drop (section + p.1) bytes)
   values ← values_in version page bytes section pairs
   Some (value ∷ values)
 
 -- the page that property 1 states, if there is one
 abbrev pub page_stated : ℕ → List ℕ → ℕ → Option ℕ → Option CodePage
 page_stated version bytes section None = page_in None
-page_stated version bytes section (Some place) = value_in version page.Utf8 (drop (section + place) bytes) >>= λ v. page_in (Some v)
+page_stated version bytes section (Some place) = value_at version page.Utf8 (drop (section + place) bytes) >>= λ v. page_in (Some v)
 
 abbrev pub set_with : Header → List (ℕ × PropertyValue) → Properties
 set_with h values = record { os = h.os; os_version = h.os_version; clsid = h.clsid; format_identifier = h.format_identifier; values = values }
 
 unfoldable pub set_in : List ℕ → Option Properties
 set_in bytes = do
-  h ← header_in bytes
-  pairs ← section_in (drop h.section bytes)
+  h ← header_at bytes
+  pairs ← section_at (drop h.section bytes)
   page ← if has_pair (λ p q. p.0 == q.0) pairs then None else page_stated h.version bytes h.section (entry_where (λ k. k == 1) pairs)
   values ← values_in h.version page bytes h.section pairs
   Some (set_with h (by_id (zip (map (λ p. p.0) pairs) values)))
@@ -121,14 +118,14 @@ set_in bytes = do
 unfoldable pub put_values : ℕ → CodePage → List ℕ → ℕ → List (ℕ × ℕ) → List (ℕ × PropertyValue) → Option (List (ℕ × PropertyValue))
 put_values version page bytes section [] entries = Some entries
 put_values version page bytes section (p ∷ pairs) entries = do
-  value ← value_in version page (drop (section + p.1) bytes)
+  value ← value_at version page (drop (section + p.1) bytes)
   if is_some (lookup (is_at (nat_cmp p.0)) entries) then None else put_values version page bytes section pairs (insert_entry nat_cmp entries p.0 value)
 
 -- the same set, as the code makes it
 unfoldable pub set_put : List ℕ → Option Properties
 set_put bytes = do
-  h ← header_in bytes
-  pairs ← section_in (drop h.section bytes)
+  h ← header_at bytes
+  pairs ← section_at (drop h.section bytes)
   page ← page_stated h.version bytes h.section (entry_where (λ k. k == 1) pairs)
   values ← put_values h.version page bytes h.section pairs []
   Some (set_with h values)

@@ -11,7 +11,7 @@ use Rattle.msi_text.specs.Spellings.{language_list_text, braced_uuid_text}
 use Rattle.msi_summary.specs.declared.propset.PropertyValue.{PropertyValue}
 use Rattle.msi_summary.specs.declared.propset.PropertyValue.TheVariants.{I4, LpStr, FileTime}
 use Rattle.msi_summary.specs.declared.propset.OperatingSystem.TheVariants as os
-use Rattle.msi_summary.specs.Properties.{Properties, value_at, with_value, with_page, new_set}
+use Rattle.msi_summary.specs.Properties.{Properties, value_with_id, with_value, with_page, new_set}
 use Rattle.msi_summary.specs.PropertyStream.{Spells}
 
 -- FMTID_SummaryInformation, F29F85E0-4FF9-1068-AB91-08002B27B3D9, as its bytes stand in a stream
@@ -74,14 +74,14 @@ abbrev pub as_time : PropertyValue → Option ℕ
 as_time (FileTime ticks) = Some ticks
 as_time _ = None
 
-abbrev pub text_at : ℕ → Properties → Option (List ℕ)
-text_at id set = option_and_then as_text (value_at id set.values)
+abbrev pub text_with_id : ℕ → Properties → Option (List ℕ)
+text_with_id id set = option_and_then as_text (value_with_id id set.values)
 
-abbrev pub number_at : ℕ → Properties → Option ℤ
-number_at id set = option_and_then as_number (value_at id set.values)
+abbrev pub number_with_id : ℕ → Properties → Option ℤ
+number_with_id id set = option_and_then as_number (value_with_id id set.values)
 
-abbrev pub time_at : ℕ → Properties → Option ℕ
-time_at id set = option_and_then as_time (value_at id set.values)
+abbrev pub time_with_id : ℕ → Properties → Option ℕ
+time_with_id id set = option_and_then as_time (value_with_id id set.values)
 
 abbrev pub with_text : ℕ → List ℕ → Properties → Properties
 with_text id text set = with_value id (LpStr text) set
@@ -100,7 +100,7 @@ abbrev pub is_comma : ℕ → Bool
 is_comma c = c == 44
 
 abbrev pub template_of : Properties → List ℕ
-template_of set = unwrap_or (text_at template_id set) []
+template_of set = unwrap_or (text_with_id template_id set) []
 
 abbrev pub arch_text : Properties → List ℕ
 arch_text set = before_first is_semicolon (template_of set)
@@ -139,7 +139,7 @@ keywords_in [] = []
 keywords_in (c ∷ cs) = map trim_end (keyword_pieces (c ∷ cs))
 
 abbrev pub keywords_of : Properties → List (List ℕ)
-keywords_of set = keywords_in (unwrap_or (text_at keywords_id set) [])
+keywords_of set = keywords_in (unwrap_or (text_with_id keywords_id set) [])
 
 abbrev pub with_keywords : List (List ℕ) → Properties → Properties
 with_keywords words set = with_text keywords_id (join_by (λ w. w) (codes "; ") words) set
@@ -161,7 +161,7 @@ abbrev pub without_braces : List ℕ → List ℕ
 without_braces text = without_end is_close_brace (without_front is_open_brace text)
 
 abbrev pub uuid_of : Properties → Option (List ℕ)
-uuid_of set = option_and_then (λ text. parsed (without_braces text)) (text_at uuid_id set)
+uuid_of set = option_and_then (λ text. parsed (without_braces text)) (text_with_id uuid_id set)
 
 abbrev pub with_uuid : List ℕ → Properties → Properties
 with_uuid id set = with_text uuid_id (braced_uuid_text id) set

@@ -1,7 +1,7 @@
 //! What the crates above need beyond the surface.
 
 ghost use Rattle.std.specs.Prelude.{◌≡◌, ◌≢◌, ◌⊎◌, ◌↔◌, Some, IsTrue, IfOk, IfErr, OnOk, OnErr, IsErrOf};
-ghost use Rattle.msi_text.specs.PoolReading.{Gives};
+ghost use Rattle.msi_text.specs.Results.{Gives, OnlyMemory};
 ghost use Rattle.msi_text.specs.declared.errors.ErrorKind.TheVariants.{InvalidData, InvalidInput, OutOfMemory};
 ghost use Rattle.msi_summary.specs.Properties.{Properties};
 ghost use Rattle.msi_summary.specs.PropertyLaws.{IsKept};
@@ -21,7 +21,7 @@ use std::alloc::Global;
 /// `OutOfMemory` where the properties can't be stored.
 pub fn new_summary(alloc: Global, title: &str) -> Result<SummaryInfo, Error>
     ensures ok { IfOk result (λ summary. summary ≡ new_summary title.now) }
-    ensures kind { IfErr result (λ kind. kind ≡ OutOfMemory) }
+    ensures kind { OnlyMemory result }
 {
     SummaryInfo::new(alloc, title)
 }

@@ -2,8 +2,9 @@
 
 ghost use Rattle.std.specs.Prelude.{◌≡◌, IfErr, OnOk, OnErr, true, false, if◌then◌else◌};
 ghost use Rattle.std.specs.Option.{option_copied};
+ghost use Rattle.msi_text.specs.Results.{OnlyMemory};
 ghost use Rattle.msi_text.specs.declared.errors.ErrorKind.TheVariants.{InvalidInput, OutOfMemory};
-ghost use Rattle.msi_summary.specs.Properties.{can_set, new_set, page_in, page_of, page_value, set_of, value_at};
+ghost use Rattle.msi_summary.specs.Properties.{can_set, new_set, page_in, page_of, page_value, set_of, value_with_id};
 ghost use Rattle.msi_summary.specs.Properties.{with_page, with_value, without_value};
 ghost use Rattle.msi_summary.specs.PropertyStream.{FitsValue};
 ghost use Rattle.msi_summary.specs.PropertyLaws.{IsKept};
@@ -225,7 +226,7 @@ impl PropertySet {
     pub fn set_codepage(&mut self, page: CodePage) -> Result<(), Error>
         ensures ok { OnOk result (self.new ≡ with_page page self.old) }
         ensures page { OnOk result (page_of self.new ≡ page) }
-        ensures kind { IfErr result (λ kind. kind ≡ OutOfMemory) }
+        ensures kind { OnlyMemory result }
         ensures err { OnErr result (self.new ≡ self.old) }
     {
         self.put(PAGE, page_value(page))
@@ -233,7 +234,7 @@ impl PropertySet {
 
     /// The value of the property with this id, where there is one.
     pub fn get(&self, id: u32) -> Option<&PropertyValue>
-        ensures { option_copied result ≡ value_at id self.now.values }
+        ensures { option_copied result ≡ value_with_id id self.now.values }
     {
         self.values.get(&id)
     }
@@ -259,7 +260,7 @@ impl PropertySet {
     pub(crate) fn put(&mut self, id: u32, value: PropertyValue) -> Result<(), Error>
         requires { can_set id value ≡ true }
         ensures ok { OnOk result (self.new ≡ with_value id value self.old) }
-        ensures kind { IfErr result (λ kind. kind ≡ OutOfMemory) }
+        ensures kind { OnlyMemory result }
         ensures err { OnErr result (self.new ≡ self.old) }
     {
         read_number(&value);

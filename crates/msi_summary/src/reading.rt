@@ -5,7 +5,7 @@ ghost use Rattle.msi_text.specs.declared.errors.ErrorKind.TheVariants.{InvalidDa
 ghost use Rattle.msi_summary.specs.PropertyStream.{Spells};
 ghost use Rattle.msi_text.specs.Lists.{entry_where};
 ghost use Rattle.msi_summary.specs.Properties.{Properties, page_in};
-ghost use Rattle.msi_text.specs.PoolReading.{Gives};
+ghost use Rattle.msi_text.specs.Results.{Gives};
 ghost use Rattle.msi_summary.specs.Reading.{page_stated, put_values, set_put};
 
 use crate::header::{header_at, section_at};

@@ -3,9 +3,10 @@
 
 ghost use Rattle.std.specs.Prelude.{◌≡◌, ◌≢◌, IfOk, IfErr, OnOk, OnErr};
 ghost use Rattle.std.specs.Option.{option_copied};
+ghost use Rattle.msi_text.specs.Results.{OnlyMemory};
 ghost use Rattle.msi_text.specs.declared.errors.ErrorKind.TheVariants.{InvalidData, OutOfMemory};
 ghost use Rattle.msi_summary.specs.Properties.{page_of, with_page, with_value, without_value};
-ghost use Rattle.msi_summary.specs.Summary.{new_summary, number_at, summary_format, text_at, time_at, with_number, with_text, with_time};
+ghost use Rattle.msi_summary.specs.Summary.{new_summary, number_with_id, summary_format, text_with_id, time_with_id, with_number, with_text, with_time};
 
 mod identity;
 mod keywords;
@@ -54,7 +55,7 @@ impl SummaryInfo {
     /// A new summary: a title, and nothing else but the page, UTF-8.
     pub(crate) fn new(alloc: Global, title: &str) -> Result<SummaryInfo, Error>
         ensures ok { IfOk result (λ summary. summary ≡ new_summary title.now) }
-        ensures kind { IfErr result (λ kind. kind ≡ OutOfMemory) }
+        ensures kind { OnlyMemory result }
     {
         let mut properties = PropertySet::new(alloc, OperatingSystem::Win32, 10, FORMAT);
         properties.set_codepage(CodePage::Utf8)?;
@@ -107,7 +108,7 @@ impl SummaryInfo {
     pub fn set_codepage(&mut self, page: CodePage) -> Result<(), Error>
         ensures ok { OnOk result (self.new ≡ with_page page self.old) }
         ensures page { OnOk result (page_of self.new ≡ page) }
-        ensures kind { IfErr result (λ kind. kind ≡ OutOfMemory) }
+        ensures kind { OnlyMemory result }
         ensures err { OnErr result (self.new ≡ self.old) }
     {
         self.properties.set_codepage(page)
@@ -115,7 +116,7 @@ impl SummaryInfo {
 
     /// The text of a property.
     fn text(&self, id: u32) -> Option<&str>
-        ensures { option_copied result ≡ text_at id self.now }
+        ensures { option_copied result ≡ text_with_id id self.now }
     {
         match self.properties.get(id) {
             Some(PropertyValue::LpStr(text)) => Some(text.as_str()),
@@ -125,7 +126,7 @@ impl SummaryInfo {
 
     /// The number of a property.
     fn number(&self, id: u32) -> Option<i32>
-        ensures { result ≡ number_at id self.now }
+        ensures { result ≡ number_with_id id self.now }
     {
         match self.properties.get(id) {
             Some(PropertyValue::I4(number)) => Some(*number),
@@ -135,7 +136,7 @@ impl SummaryInfo {
 
     /// The moment of a property.
     fn time(&self, id: u32) -> Option<Timestamp>
-        ensures { result ≡ time_at id self.now }
+        ensures { result ≡ time_with_id id self.now }
     {
         match self.properties.get(id) {
             Some(PropertyValue::FileTime(time)) => Some(*time),
@@ -147,7 +148,7 @@ impl SummaryInfo {
     fn put(&mut self, id: u32, value: PropertyValue) -> Result<(), Error>
         requires { id ≢ 1 }
         ensures ok { OnOk result (self.new ≡ with_value id value self.old) }
-        ensures kind { IfErr result (λ kind. kind ≡ OutOfMemory) }
+        ensures kind { OnlyMemory result }
         ensures err { OnErr result (self.new ≡ self.old) }
     {
         self.properties.put(id, value)
@@ -157,7 +158,7 @@ impl SummaryInfo {
     fn set_text<S: IntoText>(&mut self, id: u32, text: S) -> Result<(), Error>
         requires { id ≢ 1 }
         ensures ok { OnOk result (self.new ≡ with_text id (S.text text) self.old) }
-        ensures kind { IfErr result (λ kind. kind ≡ OutOfMemory) }
+        ensures kind { OnlyMemory result }
         ensures err { OnErr result (self.new ≡ self.old) }
     {
         let text = text.into_text(self.properties.allocator())?;
@@ -168,7 +169,7 @@ impl SummaryInfo {
     fn set_number(&mut self, id: u32, number: i32) -> Result<(), Error>
         requires { id ≢ 1 }
         ensures ok { OnOk result (self.new ≡ with_number id number self.old) }
-        ensures kind { IfErr result (λ kind. kind ≡ OutOfMemory) }
+        ensures kind { OnlyMemory result }
         ensures err { OnErr result (self.new ≡ self.old) }
     {
         self.put(id, PropertyValue::I4(number))
@@ -178,7 +179,7 @@ impl SummaryInfo {
     fn set_time(&mut self, id: u32, time: Timestamp) -> Result<(), Error>
         requires { id ≢ 1 }
         ensures ok { OnOk result (self.new ≡ with_time id time self.old) }
-        ensures kind { IfErr result (λ kind. kind ≡ OutOfMemory) }
+        ensures kind { OnlyMemory result }
         ensures err { OnErr result (self.new ≡ self.old) }
     {
         self.put(id, PropertyValue::FileTime(time))

@@ -6,7 +6,8 @@ ghost use Rattle.std.specs.Prelude.{Some, option_map, unwrap_or, is_some};
 ghost use Rattle.std.specs.Int.{w32, to_le_bytes};
 ghost use Rattle.std.specs.List.{flat_map};
 ghost use Rattle.std.specs.Io.KnownBytes.{Appends};
-ghost use Rattle.msi_text.specs.PoolWriting.{is_untold};
+ghost use Rattle.msi_text.specs.PoolWriting.{is_refused_spelling};
+ghost use Rattle.msi_text.specs.Results.{OnlyMemory};
 ghost use Rattle.msi_text.specs.declared.errors.ErrorKind.TheVariants.{InvalidInput, Io, OutOfMemory};
 ghost use Rattle.msi_summary.specs.Properties.{page_of};
 ghost use Rattle.msi_summary.specs.PropertyStream.{os_number, header_bytes, version_of, least_version as version_in};
@@ -20,6 +21,7 @@ use crate::propset::{OperatingSystem, PropertySet, PropertyValue};
 use crate::reasons;
 use msi_text::codepage::CodePage;
 use msi_text::errors::{Error, ErrorKind};
+use msi_text::fields::{push_u16, push_u32};
 use msi_text::parts::encoded_len;
 use msi_text::reasons::PAGE_CHARACTER;
 use std::alloc::AllocError;
@@ -84,7 +86,7 @@ fn plain_bytes(set: &PropertySet, page: CodePage, size: u32) -> Result<Vec<u8>, 
     requires size { size ≡ section_size page set.now.values }
     ensures ok { IfOk result (λ bytes. property_stream set.now ≡ Some bytes.items) }
     ensures spelled { IfOk result (λ bytes. AreWritable set.now → Spells bytes.items set.now) }
-    ensures kind { IfErr result (λ kind. kind ≡ OutOfMemory) }
+    ensures kind { OnlyMemory result }
 {
     let values = set.values();
     let mut held = Vec::new(set.allocator());
@@ -116,7 +118,7 @@ fn piece_len(page: CodePage, value: &PropertyValue) -> Result<usize, Error>
     ensures carried { OnOk result (is_some (value_bytes page value.now) ≡ true) }
     ensures len { IfOk result (λ len. len ≡ length (piece_in page value.now)) }
     ensures below { IfOk result (λ len. len < 2 ^ 33) }
-    ensures refused { OnErr result (is_untold (piece_of page value.now) ≡ true) }
+    ensures refused { OnErr result (is_refused_spelling (piece_of page value.now) ≡ true) }
     ensures kind { IfErr result (λ kind. kind ≡ InvalidInput) }
 {
     let len = value_len(page, value)?;
@@ -136,7 +138,7 @@ fn padding(len: usize) -> usize
 fn value_len(page: CodePage, value: &PropertyValue) -> Result<usize, Error>
     ensures len { IfOk result (λ len. option_map length (value_bytes page value.now) ≡ Some len) }
     ensures below { IfOk result (λ len. len < 2 ^ 32 + 9) }
-    ensures refused { OnErr result (is_untold (value_bytes page value.now) ≡ true) }
+    ensures refused { OnErr result (is_refused_spelling (value_bytes page value.now) ≡ true) }
     ensures kind { IfErr result (λ kind. kind ≡ InvalidInput) }
 {
     match value {
@@ -154,7 +156,7 @@ fn value_len(page: CodePage, value: &PropertyValue) -> Result<usize, Error>
 fn string_len(page: CodePage, text: &str) -> Result<usize, Error>
     ensures len { IfOk result (λ len. option_map length (value_bytes page (PropertyValue.LpStr text.now)) ≡ Some len) }
     ensures below { IfOk result (λ len. len < 2 ^ 32 + 9) }
-    ensures refused { OnErr result (is_untold (value_bytes page (PropertyValue.LpStr text.now)) ≡ true) }
+    ensures refused { OnErr result (is_refused_spelling (value_bytes page (PropertyValue.LpStr text.now)) ≡ true) }
     ensures kind { IfErr result (λ kind. kind ≡ InvalidInput) }
 {
     match encoded_len(page, text) {
@@ -173,15 +175,14 @@ fn string_len(page: CodePage, text: &str) -> Result<usize, Error>
 fn push_header(held: &mut Vec<u8>, set: &PropertySet) -> Result<(), AllocError>
     ensures { OnOk result (held.new.items ≡ held.old.items ++ header_bytes set.now (version_in set.now) 1 48) }
 {
-    held.extend_from_slice(&MARK.to_le_bytes())?;
-    held.extend_from_slice(&least_version(set.values()).to_le_bytes())?;
-    held.extend_from_slice(&set.os_version().to_le_bytes())?;
-    held.extend_from_slice(&system_number(set.os()).to_le_bytes())?;
+    push_u16(held, MARK)?;
+    push_u16(held, least_version(set.values()))?;
+    push_u16(held, set.os_version())?;
+    push_u16(held, system_number(set.os()))?;
     held.extend_from_slice(set.clsid())?;
-    held.extend_from_slice(&1u32.to_le_bytes())?;
+    push_u32(held, 1)?;
     held.extend_from_slice(set.format_identifier())?;
-    held.extend_from_slice(&SECTION.to_le_bytes())?;
-    Ok(())
+    push_u32(held, SECTION)
 }
 
 /// The number of a system.
@@ -224,8 +225,8 @@ fn push_section_head(
     requires { can_write page values.now.entries ≡ true }
     ensures { OnOk result (held.new.items ≡ held.old.items ++ section_head size (plain_pairs page values.now.entries)) }
 {
-    held.extend_from_slice(&size.to_le_bytes())?;
-    held.extend_from_slice(&(values.len() as u32).to_le_bytes())?;
+    push_u32(held, size)?;
+    push_u32(held, values.len() as u32)?;
     push_pairs(held, page, values)
 }
 
@@ -236,7 +237,8 @@ fn push_pairs(
     values: &BTreeMap<u32, PropertyValue>,
 ) -> Result<(), AllocError>
     requires { can_write page values.now.entries ≡ true }
-    ensures { OnOk result (held.new.items ≡ held.old.items ++ flat_map pair_bytes (plain_pairs page values.now.entries)) }
+    ensures { OnOk result (held.new.items
+        ≡ held.old.items ++ flat_map pair_bytes (plain_pairs page values.now.entries)) }
 {
     let mut place = 8 + 8 * values.len();
     for (id, value) in values {
@@ -250,14 +252,13 @@ fn push_pairs(
 fn push_pair(held: &mut Vec<u8>, id: u32, place: u32) -> Result<(), AllocError>
     ensures { OnOk result (held.new.items ≡ held.old.items ++ pair_bytes (id, place)) }
 {
-    held.extend_from_slice(&id.to_le_bytes())?;
-    held.extend_from_slice(&place.to_le_bytes())?;
-    Ok(())
+    push_u32(held, id)?;
+    push_u32(held, place)
 }
 
 /// How many bytes a value has that can be written, with its padding.
 fn known_len(page: CodePage, value: &PropertyValue) -> usize
-    requires { is_untold (piece_of page value.now) ≡ false }
+    requires { is_refused_spelling (piece_of page value.now) ≡ false }
     ensures { result ≡ length (piece_in page value.now) }
 {
     match piece_len(page, value) {
@@ -274,7 +275,7 @@ fn push_values(
 ) -> Result<(), Error>
     requires { can_write page values.now.entries ≡ true }
     ensures ok { OnOk result (held.new.items ≡ held.old.items ++ joined_pieces page values.now.entries) }
-    ensures kind { IfErr result (λ kind. kind ≡ OutOfMemory) }
+    ensures kind { OnlyMemory result }
 {
     for (_, value) in values {
         push_piece(held, page, value)?;
@@ -284,9 +285,9 @@ fn push_values(
 
 /// Adds a value with its padding.
 fn push_piece(held: &mut Vec<u8>, page: CodePage, value: &PropertyValue) -> Result<(), Error>
-    requires { is_untold (piece_of page value.now) ≡ false }
+    requires { is_refused_spelling (piece_of page value.now) ≡ false }
     ensures ok { OnOk result (held.new.items ≡ held.old.items ++ piece_in page value.now) }
-    ensures kind { IfErr result (λ kind. kind ≡ OutOfMemory) }
+    ensures kind { OnlyMemory result }
 {
     let start = held.len();
     push_value(held, page, value)?;
@@ -306,9 +307,9 @@ fn push_zeros(held: &mut Vec<u8>, count: usize) -> Result<(), AllocError>
 
 /// Adds a value.
 fn push_value(held: &mut Vec<u8>, page: CodePage, value: &PropertyValue) -> Result<(), Error>
-    requires { is_untold (value_bytes page value.now) ≡ false }
+    requires { is_refused_spelling (value_bytes page value.now) ≡ false }
     ensures ok { OnOk result (held.new.items ≡ held.old.items ++ unwrap_or (value_bytes page value.now) []) }
-    ensures kind { IfErr result (λ kind. kind ≡ OutOfMemory) }
+    ensures kind { OnlyMemory result }
 {
     match value {
         PropertyValue::Empty => push_typed(held, 0, &[]),
@@ -324,19 +325,19 @@ fn push_value(held: &mut Vec<u8>, page: CodePage, value: &PropertyValue) -> Resu
 /// Adds the number of a type, and what stands behind it.
 fn push_typed(held: &mut Vec<u8>, kind: u32, payload: &[u8]) -> Result<(), Error>
     ensures ok { OnOk result (held.new.items ≡ held.old.items ++ to_le_bytes w32 kind ++ payload.now) }
-    ensures kind { IfErr result (λ kind. kind ≡ OutOfMemory) }
+    ensures kind { OnlyMemory result }
 {
-    held.extend_from_slice(&kind.to_le_bytes())?;
+    push_u32(held, kind)?;
     held.extend_from_slice(payload)?;
     Ok(())
 }
 
 /// Adds a text as a value: how many bytes it has in the page with the null, those bytes, and the null.
 fn push_string(held: &mut Vec<u8>, page: CodePage, text: &str) -> Result<(), Error>
-    requires { is_untold (value_bytes page (PropertyValue.LpStr text.now)) ≡ false }
+    requires { is_refused_spelling (value_bytes page (PropertyValue.LpStr text.now)) ≡ false }
     ensures ok { OnOk result (held.new.items
         ≡ held.old.items ++ unwrap_or (value_bytes page (PropertyValue.LpStr text.now)) []) }
-    ensures kind { IfErr result (λ kind. kind ≡ OutOfMemory) }
+    ensures kind { OnlyMemory result }
 {
     let bytes = page.encode(*held.allocator(), text)?;
     let count = bytes.len() as u32 + 1;

@@ -1,6 +1,7 @@
 //! The summary's UUID, which tells one package from another (Revision Number of the Windows Installer SDK, property 9).
 
 ghost use Rattle.std.specs.Prelude.{◌≡◌, IfErr, OnOk, OnErr};
+ghost use Rattle.msi_text.specs.Results.{OnlyMemory};
 ghost use Rattle.msi_text.specs.declared.errors.ErrorKind.TheVariants.{OutOfMemory};
 ghost use Rattle.msi_summary.specs.Properties.{without_value};
 ghost use Rattle.msi_summary.specs.Summary.{uuid_id, uuid_of, with_uuid, without_braces};
@@ -45,7 +46,7 @@ impl SummaryInfo {
     /// `OutOfMemory` where the text can't be made or stored.
     pub fn set_uuid(&mut self, uuid: Uuid) -> Result<(), Error>
         ensures ok { OnOk result (self.new ≡ with_uuid uuid self.old) }
-        ensures kind { IfErr result (λ kind. kind ≡ OutOfMemory) }
+        ensures kind { OnlyMemory result }
         ensures err { OnErr result (self.new ≡ self.old) }
     {
         let text = braced_uuid(self.properties.allocator(), uuid)?;

@@ -1,9 +1,10 @@
 //! The summary's numbers: properties that are an `I4` (MS-OLEPS 2.15). Their names are those of the Windows Installer SDK.
 
 ghost use Rattle.std.specs.Prelude.{◌≡◌, IfErr, OnOk, OnErr};
+ghost use Rattle.msi_text.specs.Results.{OnlyMemory};
 ghost use Rattle.msi_text.specs.declared.errors.ErrorKind.TheVariants.{OutOfMemory};
 ghost use Rattle.msi_summary.specs.Properties.{without_value};
-ghost use Rattle.msi_summary.specs.Summary.{number_at, number_id, with_number};
+ghost use Rattle.msi_summary.specs.Summary.{number_with_id, number_id, with_number};
 ghost use Rattle.msi_summary.specs.Summary as property;
 
 use crate::summary::SummaryInfo;
@@ -22,7 +23,7 @@ impl SummaryInfo {
     /// 14).
     /// None where the property is missing or of another type.
     pub fn page_count(&self) -> Option<i32>
-        ensures { result ≡ number_at (number_id property.page_count) self.now }
+        ensures { result ≡ number_with_id (number_id property.page_count) self.now }
     {
         self.number(PAGE_COUNT)
     }
@@ -34,7 +35,7 @@ impl SummaryInfo {
     /// `OutOfMemory` where the property can't be stored.
     pub fn set_page_count(&mut self, number: i32) -> Result<(), Error>
         ensures ok { OnOk result (self.new ≡ with_number (number_id property.page_count) number self.old) }
-        ensures kind { IfErr result (λ kind. kind ≡ OutOfMemory) }
+        ensures kind { OnlyMemory result }
         ensures err { OnErr result (self.new ≡ self.old) }
     {
         self.set_number(PAGE_COUNT, number)
@@ -51,7 +52,7 @@ impl SummaryInfo {
     /// Where the package's files lie and how their names are spelled, as a sum of flags (Word Count, property 15).
     /// None where the property is missing or of another type.
     pub fn word_count(&self) -> Option<i32>
-        ensures { result ≡ number_at (number_id property.word_count) self.now }
+        ensures { result ≡ number_with_id (number_id property.word_count) self.now }
     {
         self.number(WORD_COUNT)
     }
@@ -62,7 +63,7 @@ impl SummaryInfo {
     /// `OutOfMemory` where the property can't be stored.
     pub fn set_word_count(&mut self, number: i32) -> Result<(), Error>
         ensures ok { OnOk result (self.new ≡ with_number (number_id property.word_count) number self.old) }
-        ensures kind { IfErr result (λ kind. kind ≡ OutOfMemory) }
+        ensures kind { OnlyMemory result }
         ensures err { OnErr result (self.new ≡ self.old) }
     {
         self.set_number(WORD_COUNT, number)
@@ -78,7 +79,7 @@ impl SummaryInfo {
     /// Where a transform applies and which errors it passes over, as a sum of flags (Character Count, property 16).
     /// None where the property is missing or of another type.
     pub fn character_count(&self) -> Option<i32>
-        ensures { result ≡ number_at (number_id property.character_count) self.now }
+        ensures { result ≡ number_with_id (number_id property.character_count) self.now }
     {
         self.number(CHARACTER_COUNT)
     }
@@ -89,7 +90,7 @@ impl SummaryInfo {
     /// `OutOfMemory` where the property can't be stored.
     pub fn set_character_count(&mut self, number: i32) -> Result<(), Error>
         ensures ok { OnOk result (self.new ≡ with_number (number_id property.character_count) number self.old) }
-        ensures kind { IfErr result (λ kind. kind ≡ OutOfMemory) }
+        ensures kind { OnlyMemory result }
         ensures err { OnErr result (self.new ≡ self.old) }
     {
         self.set_number(CHARACTER_COUNT, number)
@@ -106,7 +107,7 @@ impl SummaryInfo {
     /// 19).
     /// None where the property is missing or of another type.
     pub fn doc_security(&self) -> Option<i32>
-        ensures { result ≡ number_at (number_id property.doc_security) self.now }
+        ensures { result ≡ number_with_id (number_id property.doc_security) self.now }
     {
         self.number(DOC_SECURITY)
     }
@@ -118,7 +119,7 @@ impl SummaryInfo {
     /// `OutOfMemory` where the property can't be stored.
     pub fn set_doc_security(&mut self, number: i32) -> Result<(), Error>
         ensures ok { OnOk result (self.new ≡ with_number (number_id property.doc_security) number self.old) }
-        ensures kind { IfErr result (λ kind. kind ≡ OutOfMemory) }
+        ensures kind { OnlyMemory result }
         ensures err { OnErr result (self.new ≡ self.old) }
     {
         self.set_number(DOC_SECURITY, number)

@@ -5,6 +5,7 @@ ghost use Rattle.std.specs.Prelude.{◌≡◌, ◌++◌, [], IfOk, IfErr, OnOk, 
 ghost use Rattle.std.specs.Option.{option_copied};
 ghost use Rattle.std.specs.List.{after_first, before_first, filter_map, slice_split};
 ghost use Rattle.msi_text.specs.Numerals.{u16_in};
+ghost use Rattle.msi_text.specs.Results.{OnlyMemory};
 ghost use Rattle.msi_text.specs.declared.errors.ErrorKind.TheVariants.{OutOfMemory};
 ghost use Rattle.msi_summary.specs.Summary.{arch_of, is_comma, is_semicolon, languages_of, nonempty, template_of, with_arch, with_languages, with_template};
 
@@ -57,7 +58,7 @@ fn language_in(text: &str) -> Option<LanguageId>
 /// The languages whose ids stand in a text between commas; what is no such number is left out.
 fn languages_in(alloc: Global, text: &str) -> Result<Vec<LanguageId>, Error>
     ensures ok { IfOk result (λ languages. languages.items ≡ filter_map u16_in (slice_split is_comma text.now)) }
-    ensures kind { IfErr result (λ kind. kind ≡ OutOfMemory) }
+    ensures kind { OnlyMemory result }
 {
     Ok(
         text.split(',')
@@ -77,7 +78,7 @@ impl SummaryInfo {
     /// Sets the template to its two parts.
     fn set_template(&mut self, arch: String, languages: &str) -> Result<(), Error>
         ensures ok { OnOk result (self.new ≡ with_template (string_bytes arch) languages.now self.old) }
-        ensures kind { IfErr result (λ kind. kind ≡ OutOfMemory) }
+        ensures kind { OnlyMemory result }
         ensures err { OnErr result (self.new ≡ self.old) }
     {
         let mut template = arch;
@@ -102,7 +103,7 @@ impl SummaryInfo {
     /// `OutOfMemory` where the text can't be made or stored.
     pub fn set_arch<S: IntoText>(&mut self, arch: S) -> Result<(), Error>
         ensures ok { OnOk result (self.new ≡ with_arch (S.text arch) self.old) }
-        ensures kind { IfErr result (λ kind. kind ≡ OutOfMemory) }
+        ensures kind { OnlyMemory result }
         ensures err { OnErr result (self.new ≡ self.old) }
     {
         let alloc = self.properties.allocator();
@@ -118,7 +119,7 @@ impl SummaryInfo {
     /// `OutOfMemory` where the text can't be made or stored.
     pub fn clear_arch(&mut self) -> Result<(), Error>
         ensures ok { OnOk result (self.new ≡ with_arch [] self.old) }
-        ensures kind { IfErr result (λ kind. kind ≡ OutOfMemory) }
+        ensures kind { OnlyMemory result }
         ensures err { OnErr result (self.new ≡ self.old) }
     {
         self.set_arch("")
@@ -132,7 +133,7 @@ impl SummaryInfo {
     /// `OutOfMemory` where the list can't be made.
     pub fn languages(&self) -> Result<Vec<LanguageId>, Error>
         ensures ok { IfOk result (λ languages. languages.items ≡ languages_of self.now) }
-        ensures kind { IfErr result (λ kind. kind ≡ OutOfMemory) }
+        ensures kind { OnlyMemory result }
     {
         languages_in(self.properties.allocator(), languages_part(self.template()))
     }
@@ -144,7 +145,7 @@ impl SummaryInfo {
     /// `OutOfMemory` where the text can't be made or stored.
     pub fn set_languages(&mut self, languages: &[LanguageId]) -> Result<(), Error>
         ensures ok { OnOk result (self.new ≡ with_languages languages.now self.old) }
-        ensures kind { IfErr result (λ kind. kind ≡ OutOfMemory) }
+        ensures kind { OnlyMemory result }
         ensures err { OnErr result (self.new ≡ self.old) }
     {
         let alloc = self.properties.allocator();
@@ -160,7 +161,7 @@ impl SummaryInfo {
     /// `OutOfMemory` where the text can't be made or stored.
     pub fn clear_languages(&mut self) -> Result<(), Error>
         ensures ok { OnOk result (self.new ≡ with_languages [] self.old) }
-        ensures kind { IfErr result (λ kind. kind ≡ OutOfMemory) }
+        ensures kind { OnlyMemory result }
         ensures err { OnErr result (self.new ≡ self.old) }
     {
         self.set_languages(&[])

@@ -2,9 +2,10 @@
 
 ghost use Rattle.std.specs.Prelude.{◌≡◌, IfErr, OnOk, OnErr};
 ghost use Rattle.std.specs.Option.{option_copied};
+ghost use Rattle.msi_text.specs.Results.{OnlyMemory};
 ghost use Rattle.msi_text.specs.declared.errors.ErrorKind.TheVariants.{OutOfMemory};
 ghost use Rattle.msi_summary.specs.Properties.{without_value};
-ghost use Rattle.msi_summary.specs.Summary.{text_at, text_id, with_text};
+ghost use Rattle.msi_summary.specs.Summary.{text_with_id, text_id, with_text};
 ghost use Rattle.msi_summary.specs.Summary as property;
 
 use crate::summary::SummaryInfo;
@@ -27,7 +28,7 @@ impl SummaryInfo {
     /// The title (Title, property 2): what the file is, as `Installation Database`.
     /// None where the property is missing or of another type.
     pub fn title(&self) -> Option<&str>
-        ensures { option_copied result ≡ text_at (text_id property.title) self.now }
+        ensures { option_copied result ≡ text_with_id (text_id property.title) self.now }
     {
         self.text(TITLE)
     }
@@ -38,7 +39,7 @@ impl SummaryInfo {
     /// `OutOfMemory` where the text can't be copied or stored.
     pub fn set_title<S: IntoText>(&mut self, text: S) -> Result<(), Error>
         ensures ok { OnOk result (self.new ≡ with_text (text_id property.title) (S.text text) self.old) }
-        ensures kind { IfErr result (λ kind. kind ≡ OutOfMemory) }
+        ensures kind { OnlyMemory result }
         ensures err { OnErr result (self.new ≡ self.old) }
     {
         self.set_text(TITLE, text)
@@ -54,7 +55,7 @@ impl SummaryInfo {
     /// The subject (Subject, property 3): the name of what is installed.
     /// None where the property is missing or of another type.
     pub fn subject(&self) -> Option<&str>
-        ensures { option_copied result ≡ text_at (text_id property.subject) self.now }
+        ensures { option_copied result ≡ text_with_id (text_id property.subject) self.now }
     {
         self.text(SUBJECT)
     }
@@ -65,7 +66,7 @@ impl SummaryInfo {
     /// `OutOfMemory` where the text can't be copied or stored.
     pub fn set_subject<S: IntoText>(&mut self, text: S) -> Result<(), Error>
         ensures ok { OnOk result (self.new ≡ with_text (text_id property.subject) (S.text text) self.old) }
-        ensures kind { IfErr result (λ kind. kind ≡ OutOfMemory) }
+        ensures kind { OnlyMemory result }
         ensures err { OnErr result (self.new ≡ self.old) }
     {
         self.set_text(SUBJECT, text)
@@ -81,7 +82,7 @@ impl SummaryInfo {
     /// The author (Author, property 4): who made the package.
     /// None where the property is missing or of another type.
     pub fn author(&self) -> Option<&str>
-        ensures { option_copied result ≡ text_at (text_id property.author) self.now }
+        ensures { option_copied result ≡ text_with_id (text_id property.author) self.now }
     {
         self.text(AUTHOR)
     }
@@ -92,7 +93,7 @@ impl SummaryInfo {
     /// `OutOfMemory` where the text can't be copied or stored.
     pub fn set_author<S: IntoText>(&mut self, text: S) -> Result<(), Error>
         ensures ok { OnOk result (self.new ≡ with_text (text_id property.author) (S.text text) self.old) }
-        ensures kind { IfErr result (λ kind. kind ≡ OutOfMemory) }
+        ensures kind { OnlyMemory result }
         ensures err { OnErr result (self.new ≡ self.old) }
     {
         self.set_text(AUTHOR, text)
@@ -108,7 +109,7 @@ impl SummaryInfo {
     /// The comments (Comments, property 6): what the package is for.
     /// None where the property is missing or of another type.
     pub fn comments(&self) -> Option<&str>
-        ensures { option_copied result ≡ text_at (text_id property.comments) self.now }
+        ensures { option_copied result ≡ text_with_id (text_id property.comments) self.now }
     {
         self.text(COMMENTS)
     }
@@ -119,7 +120,7 @@ impl SummaryInfo {
     /// `OutOfMemory` where the text can't be copied or stored.
     pub fn set_comments<S: IntoText>(&mut self, text: S) -> Result<(), Error>
         ensures ok { OnOk result (self.new ≡ with_text (text_id property.comments) (S.text text) self.old) }
-        ensures kind { IfErr result (λ kind. kind ≡ OutOfMemory) }
+        ensures kind { OnlyMemory result }
         ensures err { OnErr result (self.new ≡ self.old) }
     {
         self.set_text(COMMENTS, text)
@@ -135,7 +136,7 @@ impl SummaryInfo {
     /// Who saved the package last (Last Saved By, property 8).
     /// None where the property is missing or of another type.
     pub fn last_saved_by(&self) -> Option<&str>
-        ensures { option_copied result ≡ text_at (text_id property.last_saved_by) self.now }
+        ensures { option_copied result ≡ text_with_id (text_id property.last_saved_by) self.now }
     {
         self.text(LAST_SAVED_BY)
     }
@@ -146,7 +147,7 @@ impl SummaryInfo {
     /// `OutOfMemory` where the text can't be copied or stored.
     pub fn set_last_saved_by<S: IntoText>(&mut self, text: S) -> Result<(), Error>
         ensures ok { OnOk result (self.new ≡ with_text (text_id property.last_saved_by) (S.text text) self.old) }
-        ensures kind { IfErr result (λ kind. kind ≡ OutOfMemory) }
+        ensures kind { OnlyMemory result }
         ensures err { OnErr result (self.new ≡ self.old) }
     {
         self.set_text(LAST_SAVED_BY, text)
@@ -162,7 +163,7 @@ impl SummaryInfo {
     /// The program that made the package (Creating Application, property 18).
     /// None where the property is missing or of another type.
     pub fn creating_application(&self) -> Option<&str>
-        ensures { option_copied result ≡ text_at (text_id property.creating_application) self.now }
+        ensures { option_copied result ≡ text_with_id (text_id property.creating_application) self.now }
     {
         self.text(CREATING_APPLICATION)
     }
@@ -173,7 +174,7 @@ impl SummaryInfo {
     /// `OutOfMemory` where the text can't be copied or stored.
     pub fn set_creating_application<S: IntoText>(&mut self, text: S) -> Result<(), Error>
         ensures ok { OnOk result (self.new ≡ with_text (text_id property.creating_application) (S.text text) self.old) }
-        ensures kind { IfErr result (λ kind. kind ≡ OutOfMemory) }
+        ensures kind { OnlyMemory result }
         ensures err { OnErr result (self.new ≡ self.old) }
     {
         self.set_text(CREATING_APPLICATION, text)

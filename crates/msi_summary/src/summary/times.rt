@@ -2,9 +2,10 @@
 //! year 1601. Their names are those of the Windows Installer SDK.
 
 ghost use Rattle.std.specs.Prelude.{◌≡◌, IfErr, OnOk, OnErr};
+ghost use Rattle.msi_text.specs.Results.{OnlyMemory};
 ghost use Rattle.msi_text.specs.declared.errors.ErrorKind.TheVariants.{OutOfMemory};
 ghost use Rattle.msi_summary.specs.Properties.{without_value};
-ghost use Rattle.msi_summary.specs.Summary.{time_at, time_id, with_time};
+ghost use Rattle.msi_summary.specs.Summary.{time_with_id, time_id, with_time};
 ghost use Rattle.msi_summary.specs.Summary as property;
 
 use crate::summary::SummaryInfo;
@@ -21,7 +22,7 @@ impl SummaryInfo {
     /// When the package was printed last (Last Printed, property 11); installers set it when an administrative image is made.
     /// None where the property is missing or of another type.
     pub fn last_printed(&self) -> Option<Timestamp>
-        ensures { result ≡ time_at (time_id property.last_printed) self.now }
+        ensures { result ≡ time_with_id (time_id property.last_printed) self.now }
     {
         self.time(LAST_PRINTED)
     }
@@ -32,7 +33,7 @@ impl SummaryInfo {
     /// `OutOfMemory` where the property can't be stored.
     pub fn set_last_printed(&mut self, time: Timestamp) -> Result<(), Error>
         ensures ok { OnOk result (self.new ≡ with_time (time_id property.last_printed) time self.old) }
-        ensures kind { IfErr result (λ kind. kind ≡ OutOfMemory) }
+        ensures kind { OnlyMemory result }
         ensures err { OnErr result (self.new ≡ self.old) }
     {
         self.set_time(LAST_PRINTED, time)
@@ -44,7 +45,7 @@ impl SummaryInfo {
     /// `OutOfMemory` where the property can't be stored.
     pub fn set_last_printed_to_now(&mut self, now: Timestamp) -> Result<(), Error>
         ensures ok { OnOk result (self.new ≡ with_time (time_id property.last_printed) now self.old) }
-        ensures kind { IfErr result (λ kind. kind ≡ OutOfMemory) }
+        ensures kind { OnlyMemory result }
         ensures err { OnErr result (self.new ≡ self.old) }
     {
         self.set_last_printed(now)
@@ -60,7 +61,7 @@ impl SummaryInfo {
     /// When the package was made (Create Time/Date, property 12).
     /// None where the property is missing or of another type.
     pub fn creation_time(&self) -> Option<Timestamp>
-        ensures { result ≡ time_at (time_id property.creation_time) self.now }
+        ensures { result ≡ time_with_id (time_id property.creation_time) self.now }
     {
         self.time(CREATION_TIME)
     }
@@ -71,7 +72,7 @@ impl SummaryInfo {
     /// `OutOfMemory` where the property can't be stored.
     pub fn set_creation_time(&mut self, time: Timestamp) -> Result<(), Error>
         ensures ok { OnOk result (self.new ≡ with_time (time_id property.creation_time) time self.old) }
-        ensures kind { IfErr result (λ kind. kind ≡ OutOfMemory) }
+        ensures kind { OnlyMemory result }
         ensures err { OnErr result (self.new ≡ self.old) }
     {
         self.set_time(CREATION_TIME, time)
@@ -83,7 +84,7 @@ impl SummaryInfo {
     /// `OutOfMemory` where the property can't be stored.
     pub fn set_creation_time_to_now(&mut self, now: Timestamp) -> Result<(), Error>
         ensures ok { OnOk result (self.new ≡ with_time (time_id property.creation_time) now self.old) }
-        ensures kind { IfErr result (λ kind. kind ≡ OutOfMemory) }
+        ensures kind { OnlyMemory result }
         ensures err { OnErr result (self.new ≡ self.old) }
     {
         self.set_creation_time(now)
@@ -99,7 +100,7 @@ impl SummaryInfo {
     /// When the package was saved last (Last Saved Time/Date, property 13).
     /// None where the property is missing or of another type.
     pub fn last_saved_time(&self) -> Option<Timestamp>
-        ensures { result ≡ time_at (time_id property.last_saved_time) self.now }
+        ensures { result ≡ time_with_id (time_id property.last_saved_time) self.now }
     {
         self.time(LAST_SAVED_TIME)
     }
@@ -110,7 +111,7 @@ impl SummaryInfo {
     /// `OutOfMemory` where the property can't be stored.
     pub fn set_last_save_time(&mut self, time: Timestamp) -> Result<(), Error>
         ensures ok { OnOk result (self.new ≡ with_time (time_id property.last_saved_time) time self.old) }
-        ensures kind { IfErr result (λ kind. kind ≡ OutOfMemory) }
+        ensures kind { OnlyMemory result }
         ensures err { OnErr result (self.new ≡ self.old) }
     {
         self.set_time(LAST_SAVED_TIME, time)
@@ -122,7 +123,7 @@ impl SummaryInfo {
     /// `OutOfMemory` where the property can't be stored.
     pub fn set_last_save_time_to_now(&mut self, now: Timestamp) -> Result<(), Error>
         ensures ok { OnOk result (self.new ≡ with_time (time_id property.last_saved_time) now self.old) }
-        ensures kind { IfErr result (λ kind. kind ≡ OutOfMemory) }
+        ensures kind { OnlyMemory result }
         ensures err { OnErr result (self.new ≡ self.old) }
     {
         self.set_last_save_time(now)
