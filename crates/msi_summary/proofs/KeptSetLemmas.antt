@@ -4,7 +4,7 @@ use Rattle.std.specs.Prelude.{◌⊎◌, ◌==◌, ◌||◌, zip}
 use Rattle.std.specs.List.{list_any, AllByRecursion, AllZip}
 use Rattle.std.specs.Ordering.{nat_cmp}
 use Rattle.std.specs.BTreeMap.{insert_entry}
-use Rattle.std.proofs.lemmas.Bool.{cases_Bool, cases_lt, eqb-false}
+use Rattle.std.proofs.lemmas.Bool.{cases_Bool, cases_lt, eqb-false, or_parts}
 use Rattle.std.proofs.lemmas.Cmp.{by_ranked, ranked}
 use Rattle.msi_text.specs.Lists.{has_pair}
 use Rattle.msi_summary.specs.declared.propset.PropertyValue.{PropertyValue}
@@ -95,10 +95,6 @@ ascending_placed {X = X} e (f ∷ es) apart h = elim (cases_lt f.0 e.0) [
       subst (λ (x : List (ℕ × X)). Ascending x) (sym (pl_ge e f es s)) ((lt, above_all e.0 f.0 es lt h.0), h)
 ]
 
-both_false : (a b : Bool) → (a || b) ≡ false → (a ≡ false) × (b ≡ false)
-both_false true b h = absurd cc
-both_false false b h = (refl, h)
-
 differ : (a b : ℕ) → eqb a b ≡ false → (a < b) ⊎ (b < a)
 differ a b h = elim (cases_lt a b) [
   | inl lt ↦ inl lt
@@ -115,14 +111,14 @@ apart_listed : (id : ℕ) (pairs : List (ℕ × ℕ)) (values : List PropertyVal
 apart_listed id [] values h = tt
 apart_listed id (p ∷ pairs) [] h = tt
 apart_listed id (p ∷ pairs) (v ∷ values) h =
-    let none = both_false (eqb id p.0) (list_any (λ q. eqb id q.0) pairs) h in
+    let none = or_parts (eqb id p.0) (list_any (λ q. eqb id q.0) pairs) h in
     (differ id p.0 none.0, apart_listed id pairs values none.1)
 
 ascending_listed : (pairs : List (ℕ × ℕ)) (values : List PropertyValue) → has_pair (λ p q. eqb p.0 q.0) pairs ≡ false → Ascending (by_id (listed pairs values))
 ascending_listed [] values once = tt
 ascending_listed (p ∷ pairs) [] once = tt
 ascending_listed (p ∷ pairs) (v ∷ values) once =
-    let none = both_false (list_any (λ q. eqb p.0 q.0) pairs) (has_pair (λ p q. eqb p.0 q.0) pairs) once in
+    let none = or_parts (list_any (λ q. eqb p.0 q.0) pairs) (has_pair (λ p q. eqb p.0 q.0) pairs) once in
     ascending_placed (p.0, v) (by_id (listed pairs values)) (apart_sorted p.0 (listed pairs values) (apart_listed p.0 pairs values none.0)) (ascending_listed pairs values none.1)
 
 ids_listed : (pairs : List (ℕ × ℕ)) (values : List PropertyValue) → AllByRecursion (λ p. (p.0 < 2 ^ 32) × (p.1 < 2 ^ 32)) pairs → AllByRecursion (λ e. e.0 < 2 ^ 32) (listed pairs values)

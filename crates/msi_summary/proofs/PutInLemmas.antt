@@ -6,7 +6,7 @@ use Rattle.std.specs.Ordering.{nat_cmp, is_eq}
 use Rattle.std.specs.Map.{lookup}
 use Rattle.std.specs.BTreeMap.{is_at, insert_entry}
 use Rattle.std.specs.Cmp.{nat_cmp_is}
-use Rattle.std.proofs.lemmas.Bool.{eqb-true, cases_lt}
+use Rattle.std.proofs.lemmas.Bool.{eqb-true, cases_lt, or_parts}
 use Rattle.std.proofs.lemmas.Bool.Decides.{nat_tests}
 use Rattle.std.proofs.lemmas.List.{append-nil}
 use Rattle.msi_text.specs.declared.codepage.CodePage.{CodePage}
@@ -21,10 +21,6 @@ use Rattle.msi_summary.proofs.SortedIdsLemmas.{Apart, put_by_id, cmp_less, cmp_g
 
 abbrev Differ : ℕ → ℕ → Type 0
 Differ a b = (a < b) ⊎ (b < a)
-
-or_false : (a b : Bool) → (a || b) ≡ false → (a ≡ false) × (b ≡ false)
-or_false true b h = absurd cc
-or_false false b h = (refl, h)
 
 eq_test : (a b : ℕ) → a ≡ b → eqb a b ≡ true
 eq_test a b e = grind (arith, nat_tests)
@@ -113,7 +109,7 @@ turned a b (inr lt) = inl lt
 fresh_push : (k : ℕ) (v : PropertyValue) (pairs : List (ℕ × ℕ)) (es : List (ℕ × PropertyValue)) → Fresh pairs es → list_any (λ q. eqb k q.0) pairs ≡ false → Fresh pairs (es ++ (k, v) ∷ [])
 fresh_push k v [] es h n = tt
 fresh_push k v (p ∷ pairs) es h n =
-    let o = or_false (eqb k p.0) (list_any (λ q. eqb k q.0) pairs) n in
+    let o = or_parts (eqb k p.0) (list_any (λ q. eqb k q.0) pairs) n in
     (apart_push p.0 k v es h.0 (turned k p.0 (differ_from k p.0 o.0)), fresh_push k v pairs es h.1 o.1)
 
 fresh_pop : (k : ℕ) (v : PropertyValue) (pairs : List (ℕ × ℕ)) (es : List (ℕ × PropertyValue)) → Fresh pairs (es ++ (k, v) ∷ []) → Fresh pairs es × (list_any (λ q. eqb k q.0) pairs ≡ false)
@@ -173,7 +169,7 @@ put_again version q bytes section [] es values read once fresh = subst (λ (x : 
 put_again version q bytes section (p ∷ pairs) es values read once fresh =
     let a = bind_some (value_at version q (drop (section + p.1) bytes)) _ values read in
     let b = bind_some (values_in version q bytes section pairs) _ values a.2 in
-    let o = or_false (list_any (λ q. eqb p.0 q.0) pairs) (has_pair (λ p q. eqb p.0 q.0) pairs) once in
+    let o = or_parts (list_any (λ q. eqb p.0 q.0) pairs) (has_pair (λ p q. eqb p.0 q.0) pairs) once in
     let absent = apart_absent p.0 (by_id es) (apart_sorted p.0 es fresh.0) in
     let more = put_again version q bytes section pairs (es ++ (p.0, a.0) ∷ []) b.0 b.1 o.1 (fresh_push p.0 a.0 pairs es fresh.1 o.0) in
     let all = ap (put_values version q bytes section pairs) (insert_sorted p.0 a.0 es fresh.0) ∙ more ∙ ap (λ (x : List (ℕ × PropertyValue)). Some (by_id x)) (append_assoc es ((p.0, a.0) ∷ []) (listed_as pairs b.0)) in
