@@ -11,7 +11,7 @@ use Rattle.msi_text.specs.Pages.{bytes_in, text_in}
 use Rattle.msi_summary.specs.declared.propset.PropertyValue.{PropertyValue}
 use Rattle.msi_summary.specs.declared.propset.PropertyValue.TheVariants.{Empty, Null, I1, I2, I4, LpStr, FileTime}
 use Rattle.msi_summary.specs.Properties.{Properties, page_of}
-use Rattle.msi_summary.specs.PropertyStream.{os_number, StandsAt, SpellsValue, FitsValue, FitsHeader, value_bytes, padded_to_four, needs_version_1, version_of, least_version, header_bytes, section_head, by_id, IsWritableValue, string_bytes_of}
+use Rattle.msi_summary.specs.PropertyStream.{os_number, StandsAt, ValueStandsAt, SpellsValue, FitsValue, FitsHeader, value_bytes, padded_to_four, needs_version_1, version_of, least_version, header_bytes, section_head, by_id, IsWritableValue, string_bytes_of}
 use Rattle.msi_summary.specs.PropertyLaws.{Ascending, OneSet, SetsReadBack}
 use Rattle.msi_summary.specs.PropertyWriting.{is_refused, can_write, piece_in, joined_pieces, pairs_from, section_size}
 use Rattle.msi_summary.proofs.FieldLemmas.{IsBytes, some_is}
@@ -46,9 +46,6 @@ entries_again q place (e ∷ es) = ap (λ (rest : List (ℕ × PropertyValue)). 
 
 -- ---- the values
 
-abbrev IsSpelled : ℕ → CodePage → List ℕ → ℕ → ℕ × ℕ → PropertyValue → Type 0
-IsSpelled version q bytes section p v = FitsValue v × StandsAt (section + p.1) bytes (λ front. SpellsValue version q front v)
-
 abbrev has_version_1 : List (ℕ × PropertyValue) → Bool
 has_version_1 es = list_any (λ e. needs_version_1 e.1) es
 
@@ -74,7 +71,7 @@ value_stands : (version : ℕ) (q : CodePage) (bytes : List ℕ) (section place 
     → (needs_version_1 e.1 ≡ true → version ≡ 1)
     → FitsValue e.1
     → IsWritableValue q e.1
-    → IsSpelled version q bytes section (e.0, place) e.1
+    → ValueStandsAt version q bytes section (e.0, place) e.1
 value_stands version q bytes section place front e others made made_is at is room one fit ok =
     let pad : List ℕ = replicate ((4 - length made % 4) % 4) 0 in
     let long = length-append (padded_to_four made) others in
@@ -99,7 +96,7 @@ values_stand : (version : ℕ) (q : CodePage) (bytes : List ℕ) (section place 
     → (has_version_1 es ≡ true → version ≡ 1)
     → AllByRecursion (λ e. FitsValue e.1) es
     → AllByRecursion (λ e. IsWritableValue q e.1) es
-    → AllZip (IsSpelled version q bytes section) (pairs_from q place es) (map (λ e. e.1) es)
+    → AllZip (ValueStandsAt version q bytes section) (pairs_from q place es) (map (λ e. e.1) es)
 values_stand version q bytes section place front [] at is room one fit ok = tt
 values_stand version q bytes section place front (e ∷ es) at is room one fit ok =
     let made = unwrap_or (value_bytes q e.1) [] in

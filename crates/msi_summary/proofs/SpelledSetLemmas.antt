@@ -11,7 +11,7 @@ use Rattle.msi_text.specs.Lists.{placed, entry_where, has_pair}
 use Rattle.msi_summary.specs.declared.propset.PropertyValue.{PropertyValue}
 use Rattle.msi_summary.specs.declared.propset.PropertyValue.TheVariants.{Empty, Null, I1, I2, I4, LpStr, FileTime}
 use Rattle.msi_summary.specs.Properties.{Properties, page_in, page_of, value_with_id}
-use Rattle.msi_summary.specs.PropertyStream.{StandsAt, SpellsValue, FitsValue, Spells, by_id, header_bytes, section_head}
+use Rattle.msi_summary.specs.PropertyStream.{StandsAt, ValueStandsAt, SpellsValue, FitsValue, Spells, by_id, header_bytes, section_head}
 use Rattle.msi_summary.specs.Reading.{value_at, values_in, page_stated, Header, header_at, section_at, set_with, set_in}
 use Rattle.msi_summary.proofs.FieldLemmas.{IsBytes, IsBytes-drop, bind_some, guard_passed, some_is, given}
 use Rattle.msi_summary.proofs.ValueLemmas.{Begins, value_found, value_again}
@@ -40,23 +40,20 @@ some_long version p s (FileTime n) e = rw e (omega arith)
 
 -- ---- the values
 
-abbrev Spelled : ℕ → CodePage → List ℕ → ℕ → ℕ × ℕ → PropertyValue → Type 0
-Spelled version page bytes section p v = FitsValue v × StandsAt (section + p.1) bytes (λ front. SpellsValue version page front v)
-
-pub values_found : (version : ℕ) (q : CodePage) (bytes : List ℕ) (section : ℕ) (pairs : List (ℕ × ℕ)) (values : List PropertyValue) → IsBytes bytes → values_in version q bytes section pairs ≡ Some values → AllZip (Spelled version q bytes section) pairs values
+pub values_found : (version : ℕ) (q : CodePage) (bytes : List ℕ) (section : ℕ) (pairs : List (ℕ × ℕ)) (values : List PropertyValue) → IsBytes bytes → values_in version q bytes section pairs ≡ Some values → AllZip (ValueStandsAt version q bytes section) pairs values
 unfolding values_in
-values_found version q bytes section [] values fits e = subst (λ (x : List PropertyValue). AllZip (Spelled version q bytes section) [] x) (some_is [] values e) tt
+values_found version q bytes section [] values fits e = subst (λ (x : List PropertyValue). AllZip (ValueStandsAt version q bytes section) [] x) (some_is [] values e) tt
 values_found version q bytes section (p ∷ pairs) values fits e =
     let a = bind_some (value_at version q (drop (section + p.1) bytes)) _ values e in
     let b = bind_some (values_in version q bytes section pairs) _ values a.2 in
     let f = value_found version q (drop (section + p.1) bytes) a.0 (IsBytes-drop (section + p.1) bytes fits) a.1 in
     let here = stands_here (section + p.1) bytes f.0.spelled f.0.others (λ s. SpellsValue version q s a.0) (some_long version q f.0.spelled a.0 f.0.is) f.0.parts f.0.is in
-    subst (λ (x : List PropertyValue). AllZip (Spelled version q bytes section) (p ∷ pairs) x) (some_is (a.0 ∷ b.0) values b.2) ((f.1, here), values_found version q bytes section pairs b.0 fits b.1)
+    subst (λ (x : List PropertyValue). AllZip (ValueStandsAt version q bytes section) (p ∷ pairs) x) (some_is (a.0 ∷ b.0) values b.2) ((f.1, here), values_found version q bytes section pairs b.0 fits b.1)
 
 value_here : (version : ℕ) (q : CodePage) (bytes : List ℕ) (v : PropertyValue) → FitsValue v → Begins bytes (λ s. SpellsValue version q s v) → value_at version q bytes ≡ Some v
 value_here version q bytes v fit b = ap (value_at version q) b.parts ∙ value_again version q b.spelled b.others v fit b.is
 
-pub values_again : (version : ℕ) (q : CodePage) (bytes : List ℕ) (section : ℕ) (pairs : List (ℕ × ℕ)) (values : List PropertyValue) → AllZip (Spelled version q bytes section) pairs values → values_in version q bytes section pairs ≡ Some values
+pub values_again : (version : ℕ) (q : CodePage) (bytes : List ℕ) (section : ℕ) (pairs : List (ℕ × ℕ)) (values : List PropertyValue) → AllZip (ValueStandsAt version q bytes section) pairs values → values_in version q bytes section pairs ≡ Some values
 unfolding values_in
 values_again version q bytes section [] [] h = refl
 values_again version q bytes section [] (v ∷ values) h = absurd h
@@ -192,7 +189,7 @@ spells_made bytes h pairs q values fits head sect once stated read =
       head = stands_here h.section bytes (section_head sect.size pairs) sect.others (λ front. front ≡ section_head sect.size pairs) (omega arith) sect.parts refl;
       once = once;
       page = is_given _ q page_is;
-      spelled = subst (λ (r : CodePage). AllZip (Spelled h.version r bytes h.section) pairs values) (sym same) (values_found h.version q bytes h.section pairs values fits read);
+      spelled = subst (λ (r : CodePage). AllZip (ValueStandsAt h.version r bytes h.section) pairs values) (sym same) (values_found h.version q bytes h.section pairs values fits read);
       listed = refl;
     }
 

@@ -1,6 +1,7 @@
 -- The summary's properties (Windows Installer SDK, "Summary Information Stream Property Set").
-use Rattle.std.specs.Prelude.{◌≡◌, ℕ, ◌-◌, ℤ, Bool, ◌==◌, ◌&&◌, if◌then◌else◌, List, [], ◌∷◌, ◌++◌, map, length, drop, take, codes}
+use Rattle.std.specs.Prelude.{◌≡◌, ℕ, ◌-◌, ℤ, Bool, ◌==◌, ◌&&◌, if◌then◌else◌}
 use Rattle.std.specs.Prelude.{Option, Some, None, option_and_then, unwrap_or}
+use Rattle.std.specs.Prelude.{List, [], ◌∷◌, ◌++◌, map, length, drop, take, codes}
 use Rattle.std.specs.List.{slice_split, before_first, after_first, join_by, filter_map, onto_first}
 use Rattle.std.specs.List.{prefix_len, suffix_len}
 use Rattle.std.specs.Str.{trim_end}
@@ -132,7 +133,8 @@ with_languages ids set = with_template (arch_text set) (language_list_text ids) 
 abbrev pub keyword_pieces : List ℕ → List (List ℕ)
 keyword_pieces [] = [] ∷ []
 keyword_pieces (c ∷ []) = (c ∷ []) ∷ []
-keyword_pieces (c ∷ d ∷ cs) = if (c == 59) && (d == 32) then [] ∷ keyword_pieces cs else onto_first c (keyword_pieces (d ∷ cs))
+keyword_pieces (c ∷ d ∷ cs) = if (c == 59) && (d == 32) then [] ∷ keyword_pieces cs
+    else onto_first c (keyword_pieces (d ∷ cs))
 
 abbrev pub keywords_in : List ℕ → List (List ℕ)
 keywords_in [] = []
@@ -168,4 +170,5 @@ with_uuid id set = with_text uuid_id (braced_uuid_text id) set
 
 -- a new summary, with its title
 abbrev pub new_summary : List ℕ → Properties
-new_summary title_text = with_text (text_id title) title_text (with_page page.Utf8 (new_set os.Win32 10 summary_format))
+new_summary title_text =
+    with_text (text_id title) title_text (with_page page.Utf8 (new_set os.Win32 10 summary_format))

@@ -8,12 +8,14 @@ use Rattle.msi_summary.specs.Summary.{is_semicolon, nonempty, arch_of, languages
 -- a value that is set is there, and every other stays
 abbrev pub SettingChangesOne : Type 0
 SettingChangesOne = (id other : ℕ) (value : PropertyValue) (set : Properties)
-    → value_with_id other (with_value id value set).values ≡ (if id == other then Some value else value_with_id other set.values)
+    → value_with_id other (with_value id value set).values
+    ≡ (if id == other then Some value else value_with_id other set.values)
 
 -- a value that is removed is gone, and every other stays
 abbrev pub RemovingChangesOne : Type 0
 RemovingChangesOne = (id other : ℕ) (set : Properties)
-    → value_with_id other (without_value id set).values ≡ (if id == other then None else value_with_id other set.values)
+    → value_with_id other (without_value id set).values
+    ≡ (if id == other then None else value_with_id other set.values)
 
 -- an architecture without a `;` is read back, and the languages stay
 abbrev pub ArchKeepsLanguages : Type 0

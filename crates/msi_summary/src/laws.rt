@@ -1,4 +1,5 @@
-//! What holds of the format and of the definitions themselves: each law is what a function without a body ensures.
+//! What holds of the format and of the definitions themselves: each law is what a function without a body
+//! ensures.
 
 ghost use Rattle.msi_summary.specs.PropertyLaws.{OneSet, SetsReadBack};
 ghost use Rattle.msi_summary.specs.SummaryLaws.{ArchKeepsLanguages, LanguagesKeepArch};
@@ -9,7 +10,8 @@ pub fn one_set()
     ensures { OneSet }
 {}
 
-/// What is written of a set spells that set, where the page carries its texts there and back: so reading gives the set.
+/// What is written of a set spells that set, where the page carries its texts there and back: so reading
+/// gives the set.
 pub fn sets_read_back()
     ensures { SetsReadBack }
 {}

@@ -29,8 +29,8 @@ pub fn new_summary(alloc: Global, title: &str) -> Result<SummaryInfo, Error>
 /// The summary that the bytes of a stream spell: a property set (MS-OLEPS 2.21) of the summary's format.
 ///
 /// # Errors
-/// `InvalidData` where the bytes spell no property set, or one of another format. Else `OutOfMemory` where the properties
-/// can't be stored.
+/// `InvalidData` where the bytes spell no property set, or one of another format. Else `OutOfMemory` where
+/// the properties can't be stored.
 pub fn summary_of(alloc: Global, bytes: &[u8]) -> Result<SummaryInfo, Error>
     // What is read is spelled.
     ensures found { IfOk result (λ summary. SpellsSummary bytes.now summary) }
@@ -41,11 +41,12 @@ pub fn summary_of(alloc: Global, bytes: &[u8]) -> Result<SummaryInfo, Error>
     SummaryInfo::from_properties(PropertySet::read(alloc, bytes)?)
 }
 
-/// The bytes of a summary's stream: the plain spelling of its property set (MS-OLEPS 2.21), as `PropertySet::write` has it.
+/// The bytes of a summary's stream: the plain spelling of its property set (MS-OLEPS 2.21), as
+/// `PropertySet::write` has it.
 ///
 /// # Errors
-/// `InvalidInput` where the page doesn't carry a text, or the section would have 2^32 bytes or more. Else `OutOfMemory`
-/// where the bytes can't be held.
+/// `InvalidInput` where the page doesn't carry a text, or the section would have 2^32 bytes or more. Else
+/// `OutOfMemory` where the bytes can't be held.
 pub fn summary_bytes(summary: &SummaryInfo) -> Result<Vec<u8>, Error>
     ensures ok { IfOk result (λ bytes. property_stream summary.now ≡ Some bytes.items) }
     // Where the page carries each text there and back, the bytes spell the summary, so reading gives it.
@@ -56,8 +57,8 @@ pub fn summary_bytes(summary: &SummaryInfo) -> Result<Vec<u8>, Error>
     stream_of(summary.properties())
 }
 
-/// What every summary keeps, whatever was set or removed: it has the summary's format, and is kept as it can be read again.
-/// It does nothing.
+/// What every summary keeps, whatever was set or removed: it has the summary's format, and is kept as it can
+/// be read again. It does nothing.
 pub fn kept(summary: &SummaryInfo)
     ensures set { IsKept summary.now }
     ensures format { summary.now.format_identifier ≡ summary_format }

@@ -1,4 +1,5 @@
-//! Property sets (MS-OLEPS 2.20 and 2.21) as values: the properties by their ids, of which 1 names the code page.
+//! Property sets (MS-OLEPS 2.20 and 2.21) as values: the properties by their ids, of which 1 names the code
+//! page.
 
 ghost use Rattle.std.specs.Prelude.{◌≡◌, IfErr, OnOk, OnErr, true, false, if◌then◌else◌};
 ghost use Rattle.std.specs.Option.{option_copied};
@@ -21,8 +22,8 @@ use std::marker::Model;
 /// The id of the property that names the page (MS-OLEPS 2.18.2).
 const PAGE: u32 = 1;
 
-/// The value of a property, of one of the seven types that installers use (MS-OLEPS 2.15). Every other type of the
-/// standard is refused where a set is read.
+/// The value of a property, of one of the seven types that installers use (MS-OLEPS 2.15). Every other type
+/// of the standard is refused where a set is read.
 #[derive(PartialEq, Eq, Debug, Drop)]
 pub enum PropertyValue {
     /// Nothing (type 0, VT_EMPTY).
@@ -52,9 +53,10 @@ pub enum OperatingSystem {
     Win32,
 }
 
-/// A set of properties (MS-OLEPS 2.21): a system and its version, a class identifier, a format identifier, which says what
-/// the properties mean, and values by their ids, of 32 bits. Contracts see these parts. The page in which texts are spelled
-/// follows from property 1, which is always an `I2` of a known page where it is there.
+/// A set of properties (MS-OLEPS 2.21): a system and its version, a class identifier, a format identifier,
+/// which says what the properties mean, and values by their ids, of 32 bits. Contracts see these parts. The
+/// page in which texts are spelled follows from property 1, which is always an `I2` of a known page where it
+/// is there.
 #[derive(Drop)]
 pub struct PropertySet {
     alloc: Global,
@@ -101,7 +103,8 @@ fn can_set(id: u32, value: &PropertyValue) -> bool
     id != PAGE || page_named(value).is_some()
 }
 
-/// A value's number is one that its type holds, which is known only of a number that is read. Nothing else is done.
+/// A value's number is one that its type holds, which is known only of a number that is read. Nothing else is
+/// done.
 fn read_number(value: &PropertyValue)
     ensures { FitsValue value.now }
 {
@@ -123,8 +126,8 @@ fn read_number(value: &PropertyValue)
 }
 
 impl PropertySet {
-    /// A set of a format without any property, with a class identifier of zeros. Its page is UTF-8, as no property says
-    /// another. It takes no memory.
+    /// A set of a format without any property, with a class identifier of zeros. Its page is UTF-8, as no
+    /// property says another. It takes no memory.
     pub fn new(
         alloc: Global,
         os: OperatingSystem,
@@ -199,15 +202,16 @@ impl PropertySet {
         &self.values
     }
 
-    /// The format identifier: which format says what the properties mean (MS-OLEPS 2.21, FMTID0), as the 16 bytes of the
-    /// stream.
+    /// The format identifier: which format says what the properties mean (MS-OLEPS 2.21, FMTID0), as the 16
+    /// bytes of the stream.
     pub fn format_identifier(&self) -> &[u8; 16]
         ensures { result.now ≡ self.now.format_identifier }
     {
         &self.format_identifier
     }
 
-    /// The page in which the texts are spelled (MS-OLEPS 2.18.2): the one that property 1 names, and UTF-8 without it.
+    /// The page in which the texts are spelled (MS-OLEPS 2.18.2): the one that property 1 names, and UTF-8
+    /// without it.
     pub fn codepage(&self) -> CodePage
         ensures { result ≡ page_of self.now }
     {
@@ -217,9 +221,9 @@ impl PropertySet {
         }
     }
 
-    /// Sets the page in which the texts are spelled (MS-OLEPS 2.18.2): property 1 becomes an `I2` whose 16 bits are the
-    /// page's id. The texts stay, also where the page carries them no longer; `write` is refused then. When refused, the set
-    /// is as before.
+    /// Sets the page in which the texts are spelled (MS-OLEPS 2.18.2): property 1 becomes an `I2` whose 16
+    /// bits are the page's id. The texts stay, also where the page carries them no longer; `write` is refused
+    /// then. When refused, the set is as before.
     ///
     /// # Errors
     /// `OutOfMemory` where the property can't be stored.
@@ -242,8 +246,9 @@ impl PropertySet {
     /// Sets the property with this id, in place of the value that it had. When refused, the set is as before.
     ///
     /// # Errors
-    /// `InvalidInput` where property 1, the page, is to be something else than an `I2` whose 16 bits, read without sign, are
-    /// the id of a known page (MS-OLEPS 2.18.2). Else `OutOfMemory` where the property can't be stored.
+    /// `InvalidInput` where property 1, the page, is to be something else than an `I2` whose 16 bits, read
+    /// without sign, are the id of a known page (MS-OLEPS 2.18.2). Else `OutOfMemory` where the property
+    /// can't be stored.
     pub fn set(&mut self, id: u32, value: PropertyValue) -> Result<(), Error>
         ensures ok { OnOk result (self.new ≡ with_value id value self.old) }
         ensures allowed { OnOk result (can_set id value ≡ true) }
@@ -268,7 +273,8 @@ impl PropertySet {
         Ok(())
     }
 
-    /// Removes the property with this id, where there is one. Without property 1 the page is UTF-8. It can't be refused.
+    /// Removes the property with this id, where there is one. Without property 1 the page is UTF-8. It can't
+    /// be refused.
     pub fn remove(&mut self, id: u32)
         ensures { self.new ≡ without_value id self.old }
     {

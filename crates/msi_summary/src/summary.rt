@@ -1,12 +1,13 @@
-//! The summary of a package: a property set of one format, by the names of its properties.
-//! The ids and types are those of the Windows Installer SDK, "Summary Information Stream Property Set".
+//! The summary of a package: a property set of one format, by the names of its properties. The ids and types
+//! are those of the Windows Installer SDK, "Summary Information Stream Property Set".
 
 ghost use Rattle.std.specs.Prelude.{◌≡◌, ◌≢◌, IfOk, IfErr, OnOk, OnErr};
 ghost use Rattle.std.specs.Option.{option_copied};
 ghost use Rattle.msi_text.specs.Results.{OnlyMemory};
 ghost use Rattle.msi_text.specs.declared.errors.ErrorKind.TheVariants.{InvalidData, OutOfMemory};
 ghost use Rattle.msi_summary.specs.Properties.{page_of, with_page, with_value, without_value};
-ghost use Rattle.msi_summary.specs.Summary.{new_summary, number_with_id, summary_format, text_with_id, time_with_id, with_number, with_text, with_time};
+ghost use Rattle.msi_summary.specs.Summary.{new_summary, summary_format, number_with_id, text_with_id, time_with_id};
+ghost use Rattle.msi_summary.specs.Summary.{with_number, with_text, with_time};
 
 mod identity;
 mod keywords;
@@ -29,11 +30,11 @@ const FORMAT: [u8; 16] = [
     0xE0, 0x85, 0x9F, 0xF2, 0xF9, 0x4F, 0x68, 0x10, 0xAB, 0x91, 0x08, 0x00, 0x2B, 0x27, 0xB3, 0xD9,
 ];
 
-/// The summary of a package: a property set of the summary's format (MS-OLEPS 2.21), whose properties have names. Contracts
-/// see the property set.
+/// The summary of a package: a property set of the summary's format (MS-OLEPS 2.21), whose properties have
+/// names. Contracts see the property set.
 ///
-/// A getter answers nothing, or an empty list, where its property is missing or has another type. A setter that is refused
-/// leaves the summary as it was.
+/// A getter answers nothing, or an empty list, where its property is missing or has another type. A setter
+/// that is refused leaves the summary as it was.
 #[derive(Drop)]
 pub struct SummaryInfo {
     properties: PropertySet,
@@ -93,15 +94,17 @@ impl SummaryInfo {
         properties
     }
 
-    /// The page in which the texts are spelled (MS-OLEPS 2.18.2): the one that property 1 names, and UTF-8 without it.
+    /// The page in which the texts are spelled (MS-OLEPS 2.18.2): the one that property 1 names, and UTF-8
+    /// without it.
     pub fn codepage(&self) -> CodePage
         ensures { result ≡ page_of self.now }
     {
         self.properties.codepage()
     }
 
-    /// Sets the page in which the texts are spelled (property 1, MS-OLEPS 2.18.2). The texts stay, also where the page
-    /// carries them no longer; the summary can't be written then. When refused, the summary is as before.
+    /// Sets the page in which the texts are spelled (property 1, MS-OLEPS 2.18.2). The texts stay, also where
+    /// the page carries them no longer; the summary can't be written then. When refused, the summary is as
+    /// before.
     ///
     /// # Errors
     /// `OutOfMemory` where the property can't be stored.

@@ -22,7 +22,8 @@ fn text_of(alloc: Global, page: CodePage, bytes: &[u8]) -> Result<Text, Error>
     Ok(Text::from_string(text))
 }
 
-/// The text that stands here behind its length, which counts the null at its end. Nothing is asked for bytes that are not there.
+/// The text that stands here behind its length, which counts the null at its end. Nothing is asked for bytes
+/// that are not there.
 #[tactic(auto, unfolding(crate::specs::Reading::string_at))]
 fn string_at(alloc: Global, page: CodePage, bytes: &[u8]) -> Result<Text, Error>
     ensures { Gives (λ t. t) result (string_at page bytes.now) }

@@ -35,14 +35,14 @@ const SECTION: u32 = 48;
 const LONG_END: usize = 1 << 32;
 
 impl PropertySet {
-    /// Writes the set behind what the writer holds, in its plain spelling (MS-OLEPS 2.21): version 1 where a value is an
-    /// `I1`, else 0; the section at byte 48; the values in the order of their ids without gaps, each padded with zeros to a
-    /// multiple of four bytes; the texts in the set's page.
+    /// Writes the set behind what the writer holds, in its plain spelling (MS-OLEPS 2.21): version 1 where a
+    /// value is an `I1`, else 0; the section at byte 48; the values in the order of their ids without gaps,
+    /// each padded with zeros to a multiple of four bytes; the texts in the set's page.
     ///
     /// # Errors
-    /// `InvalidInput` where the page doesn't carry a text, or the section would have 2^32 bytes or more; the writer is then
-    /// as it was. Else `OutOfMemory` where the bytes can't be held or the writer asks for memory in vain, and `Io` where the
-    /// writer fails otherwise; it may then hold more than before.
+    /// `InvalidInput` where the page doesn't carry a text, or the section would have 2^32 bytes or more; the
+    /// writer is then as it was. Else `OutOfMemory` where the bytes can't be held or the writer asks for
+    /// memory in vain, and `Io` where the writer fails otherwise; it may then hold more than before.
     pub fn write<W: Write>(&self, writer: &mut W) -> Result<(), Error>
         ensures ok { OnOk result ((bytes : List ℕ) × (property_stream self.now ≡ Some bytes)
             × Appends (W.contents writer.old) (W.contents writer.new) bytes) }
@@ -223,7 +223,8 @@ fn push_section_head(
     size: u32,
 ) -> Result<(), AllocError>
     requires { can_write page values.now.entries ≡ true }
-    ensures { OnOk result (held.new.items ≡ held.old.items ++ section_head size (plain_pairs page values.now.entries)) }
+    ensures { OnOk result (held.new.items
+        ≡ held.old.items ++ section_head size (plain_pairs page values.now.entries)) }
 {
     push_u32(held, size)?;
     push_u32(held, values.len() as u32)?;

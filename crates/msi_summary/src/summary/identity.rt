@@ -1,4 +1,5 @@
-//! The summary's UUID, which tells one package from another (Revision Number of the Windows Installer SDK, property 9).
+//! The summary's UUID, which tells one package from another (Revision Number of the Windows Installer SDK,
+//! property 9).
 
 ghost use Rattle.std.specs.Prelude.{◌≡◌, IfErr, OnOk, OnErr};
 ghost use Rattle.msi_text.specs.Results.{OnlyMemory};
@@ -30,8 +31,9 @@ fn uuid_in(text: &str) -> Option<Uuid>
 }
 
 impl SummaryInfo {
-    /// The UUID of the package (property 9), read from its text without the braces at its ends, in any form of a UUID's text.
-    /// None where the property is missing or of another type, and where the text is in no form of a UUID.
+    /// The UUID of the package (property 9), read from its text without the braces at its ends, in any form
+    /// of a UUID's text. None where the property is missing or of another type, and where the text is in no
+    /// form of a UUID.
     pub fn uuid(&self) -> Option<Uuid>
         ensures { result ≡ uuid_of self.now }
     {
@@ -39,8 +41,8 @@ impl SummaryInfo {
         uuid_in(without_braces(text))
     }
 
-    /// Sets the UUID of the package (property 9), as a text in braces and in upper case. When refused, the summary is as
-    /// before.
+    /// Sets the UUID of the package (property 9), as a text in braces and in upper case. When refused, the
+    /// summary is as before.
     ///
     /// # Errors
     /// `OutOfMemory` where the text can't be made or stored.

@@ -1,4 +1,5 @@
-//! The keywords (Keywords of the Windows Installer SDK, property 5): one text, in which they are parted by `; `.
+//! The keywords (Keywords of the Windows Installer SDK, property 5): one text, in which they are parted by `;
+//! `.
 
 ghost use Rattle.std.specs.Prelude.{◌≡◌, [], IfOk, IfErr, OnOk, OnErr, codes, map, string_bytes};
 ghost use Rattle.std.specs.List.{join_by};
@@ -53,9 +54,9 @@ fn joined(alloc: Global, words: &[String]) -> Result<String, Error>
 }
 
 impl SummaryInfo {
-    /// The keywords (property 5), in order: the pieces of their text between each two `; `, without the white space at their
-    /// right ends. Between two `; ` in a row there is an empty one. None where the property is missing, of another type or
-    /// the empty text.
+    /// The keywords (property 5), in order: the pieces of their text between each two `; `, without the white
+    /// space at their right ends. Between two `; ` in a row there is an empty one. None where the property is
+    /// missing, of another type or the empty text.
     ///
     /// # Errors
     /// `OutOfMemory` where the keywords can't be copied.
@@ -69,9 +70,9 @@ impl SummaryInfo {
         )
     }
 
-    /// Sets the keywords (property 5): their text is the keywords with `; ` between each two. A keyword that holds `; ` reads
-    /// back as several, a lone empty one as none, and white space at a right end doesn't come back. When refused, the summary
-    /// is as before.
+    /// Sets the keywords (property 5): their text is the keywords with `; ` between each two. A keyword that
+    /// holds `; ` reads back as several, a lone empty one as none, and white space at a right end doesn't
+    /// come back. When refused, the summary is as before.
     ///
     /// # Errors
     /// `OutOfMemory` where the text can't be made or stored.
@@ -84,7 +85,8 @@ impl SummaryInfo {
         self.set_text(KEYWORDS, text)
     }
 
-    /// Sets the keywords (property 5) to the empty text, which reads as no keyword. When refused, the summary is as before.
+    /// Sets the keywords (property 5) to the empty text, which reads as no keyword. When refused, the summary
+    /// is as before.
     ///
     /// # Errors
     /// `OutOfMemory` where the property can't be stored.

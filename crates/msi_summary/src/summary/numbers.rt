@@ -1,4 +1,5 @@
-//! The summary's numbers: properties that are an `I4` (MS-OLEPS 2.15). Their names are those of the Windows Installer SDK.
+//! The summary's numbers: properties that are an `I4` (MS-OLEPS 2.15). Their names are those of the Windows
+//! Installer SDK.
 
 ghost use Rattle.std.specs.Prelude.{◌≡◌, IfErr, OnOk, OnErr};
 ghost use Rattle.msi_text.specs.Results.{OnlyMemory};
@@ -19,17 +20,16 @@ const CHARACTER_COUNT: u32 = 16;
 const DOC_SECURITY: u32 = 19;
 
 impl SummaryInfo {
-    /// The least version of Windows Installer that the package needs, times 100, so 200 for version 2.0 (Page Count, property
-    /// 14).
-    /// None where the property is missing or of another type.
+    /// The least version of Windows Installer that the package needs, times 100, so 200 for version 2.0 (Page
+    /// Count, property 14). None where the property is missing or of another type.
     pub fn page_count(&self) -> Option<i32>
         ensures { result ≡ number_with_id (number_id property.page_count) self.now }
     {
         self.number(PAGE_COUNT)
     }
 
-    /// Sets the least version of Windows Installer that the package needs, times 100 (property 14). When refused, the summary is
-    /// as before.
+    /// Sets the least version of Windows Installer that the package needs, times 100 (property 14). When
+    /// refused, the summary is as before.
     ///
     /// # Errors
     /// `OutOfMemory` where the property can't be stored.
@@ -41,23 +41,24 @@ impl SummaryInfo {
         self.set_number(PAGE_COUNT, number)
     }
 
-    /// Removes the least version of Windows Installer that the package needs (property 14), where it is there. It can't be
-    /// refused.
+    /// Removes the least version of Windows Installer that the package needs (property 14), where it is
+    /// there. It can't be refused.
     pub fn clear_page_count(&mut self)
         ensures { self.new ≡ without_value (number_id property.page_count) self.old }
     {
         self.clear(PAGE_COUNT);
     }
 
-    /// Where the package's files lie and how their names are spelled, as a sum of flags (Word Count, property 15).
-    /// None where the property is missing or of another type.
+    /// Where the package's files lie and how their names are spelled, as a sum of flags (Word Count, property
+    /// 15). None where the property is missing or of another type.
     pub fn word_count(&self) -> Option<i32>
         ensures { result ≡ number_with_id (number_id property.word_count) self.now }
     {
         self.number(WORD_COUNT)
     }
 
-    /// Sets where the package's files lie and how their names are spelled (property 15). When refused, the summary is as before.
+    /// Sets where the package's files lie and how their names are spelled (property 15). When refused, the
+    /// summary is as before.
     ///
     /// # Errors
     /// `OutOfMemory` where the property can't be stored.
@@ -76,15 +77,16 @@ impl SummaryInfo {
         self.clear(WORD_COUNT);
     }
 
-    /// Where a transform applies and which errors it passes over, as a sum of flags (Character Count, property 16).
-    /// None where the property is missing or of another type.
+    /// Where a transform applies and which errors it passes over, as a sum of flags (Character Count,
+    /// property 16). None where the property is missing or of another type.
     pub fn character_count(&self) -> Option<i32>
         ensures { result ≡ number_with_id (number_id property.character_count) self.now }
     {
         self.number(CHARACTER_COUNT)
     }
 
-    /// Sets where a transform applies and which errors it passes over (property 16). When refused, the summary is as before.
+    /// Sets where a transform applies and which errors it passes over (property 16). When refused, the
+    /// summary is as before.
     ///
     /// # Errors
     /// `OutOfMemory` where the property can't be stored.
@@ -103,17 +105,16 @@ impl SummaryInfo {
         self.clear(CHARACTER_COUNT);
     }
 
-    /// Whether the package may be changed: 0 without limits, 2 where it is better not, 4 where it is not (Security, property
-    /// 19).
-    /// None where the property is missing or of another type.
+    /// Whether the package may be changed: 0 without limits, 2 where it is better not, 4 where it is not
+    /// (Security, property 19). None where the property is missing or of another type.
     pub fn doc_security(&self) -> Option<i32>
         ensures { result ≡ number_with_id (number_id property.doc_security) self.now }
     {
         self.number(DOC_SECURITY)
     }
 
-    /// Sets whether the package may be changed, 0, 2 or 4 (property 19); any number is accepted. When refused, the summary is as
-    /// before.
+    /// Sets whether the package may be changed, 0, 2 or 4 (property 19); any number is accepted. When
+    /// refused, the summary is as before.
     ///
     /// # Errors
     /// `OutOfMemory` where the property can't be stored.

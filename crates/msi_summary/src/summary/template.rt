@@ -1,5 +1,5 @@
-//! The template (Template of the Windows Installer SDK, property 7): the architecture, and behind the first `;` the
-//! languages, parted by commas.
+//! The template (Template of the Windows Installer SDK, property 7): the architecture, and behind the first
+//! `;` the languages, parted by commas.
 
 ghost use Rattle.std.specs.Prelude.{◌≡◌, ◌++◌, [], IfOk, IfErr, OnOk, OnErr, string_bytes, unwrap_or};
 ghost use Rattle.std.specs.Option.{option_copied};
@@ -7,7 +7,8 @@ ghost use Rattle.std.specs.List.{after_first, before_first, filter_map, slice_sp
 ghost use Rattle.msi_text.specs.Numerals.{u16_in};
 ghost use Rattle.msi_text.specs.Results.{OnlyMemory};
 ghost use Rattle.msi_text.specs.declared.errors.ErrorKind.TheVariants.{OutOfMemory};
-ghost use Rattle.msi_summary.specs.Summary.{arch_of, is_comma, is_semicolon, languages_of, nonempty, template_of, with_arch, with_languages, with_template};
+ghost use Rattle.msi_summary.specs.Summary.{arch_of, is_comma, is_semicolon, languages_of, nonempty, template_of};
+ghost use Rattle.msi_summary.specs.Summary.{with_arch, with_languages, with_template};
 
 use crate::summary::SummaryInfo;
 use msi_text::errors::Error;
@@ -87,17 +88,19 @@ impl SummaryInfo {
         self.set_text(TEMPLATE, template)
     }
 
-    /// The architecture that the package is for, as `x64`: what the template (property 7) has before its first `;`, or all of
-    /// it without one. None where that is empty, and where the property is missing or of another type.
+    /// The architecture that the package is for, as `x64`: what the template (property 7) has before its
+    /// first `;`, or all of it without one. None where that is empty, and where the property is missing or of
+    /// another type.
     pub fn arch(&self) -> Option<&str>
         ensures { option_copied result ≡ arch_of self.now }
     {
         filled(arch_part(self.template()))
     }
 
-    /// Sets the architecture, which the template (property 7) has before its first `;`, and keeps what it has behind. So the
-    /// languages stay, but where the architecture has a `;` itself: it is then read back only up to that `;`, and the rest of
-    /// it as the beginning of the languages. When refused, the summary is as before.
+    /// Sets the architecture, which the template (property 7) has before its first `;`, and keeps what it has
+    /// behind. So the languages stay, but where the architecture has a `;` itself: it is then read back only
+    /// up to that `;`, and the rest of it as the beginning of the languages. When refused, the summary is as
+    /// before.
     ///
     /// # Errors
     /// `OutOfMemory` where the text can't be made or stored.
@@ -112,8 +115,8 @@ impl SummaryInfo {
         self.set_template(arch, languages.as_str())
     }
 
-    /// Sets the architecture to the empty text, which reads as none, and keeps what the template (property 7) has behind its
-    /// first `;`, so the languages stay. When refused, the summary is as before.
+    /// Sets the architecture to the empty text, which reads as none, and keeps what the template (property 7)
+    /// has behind its first `;`, so the languages stay. When refused, the summary is as before.
     ///
     /// # Errors
     /// `OutOfMemory` where the text can't be made or stored.
@@ -125,9 +128,9 @@ impl SummaryInfo {
         self.set_arch("")
     }
 
-    /// The languages that the package is for, in order: the parts between commas that the template (property 7) has behind its
-    /// first `;`, as decimal numbers. A part that is no number below 2^16 is passed over. None where there is no `;`, and where
-    /// the property is missing or of another type.
+    /// The languages that the package is for, in order: the parts between commas that the template (property
+    /// 7) has behind its first `;`, as decimal numbers. A part that is no number below 2^16 is passed over.
+    /// None where there is no `;`, and where the property is missing or of another type.
     ///
     /// # Errors
     /// `OutOfMemory` where the list can't be made.
@@ -138,8 +141,8 @@ impl SummaryInfo {
         languages_in(self.properties.allocator(), languages_part(self.template()))
     }
 
-    /// Sets the languages, which the template (property 7) has behind its first `;`, as decimal numbers with a comma between
-    /// each two. The architecture stays. When refused, the summary is as before.
+    /// Sets the languages, which the template (property 7) has behind its first `;`, as decimal numbers with
+    /// a comma between each two. The architecture stays. When refused, the summary is as before.
     ///
     /// # Errors
     /// `OutOfMemory` where the text can't be made or stored.
@@ -154,8 +157,8 @@ impl SummaryInfo {
         self.set_template(arch, ids.as_str())
     }
 
-    /// Sets the languages, which the template (property 7) has behind its first `;`, to none. The architecture stays. When
-    /// refused, the summary is as before.
+    /// Sets the languages, which the template (property 7) has behind its first `;`, to none. The
+    /// architecture stays. When refused, the summary is as before.
     ///
     /// # Errors
     /// `OutOfMemory` where the text can't be made or stored.

@@ -1,4 +1,5 @@
-//! The summary's texts: properties that are an `LpStr` (MS-OLEPS 2.15). Their names are those of the Windows Installer SDK.
+//! The summary's texts: properties that are an `LpStr` (MS-OLEPS 2.15). Their names are those of the Windows
+//! Installer SDK.
 
 ghost use Rattle.std.specs.Prelude.{◌≡◌, IfErr, OnOk, OnErr};
 ghost use Rattle.std.specs.Option.{option_copied};
@@ -25,8 +26,8 @@ const LAST_SAVED_BY: u32 = 8;
 const CREATING_APPLICATION: u32 = 18;
 
 impl SummaryInfo {
-    /// The title (Title, property 2): what the file is, as `Installation Database`.
-    /// None where the property is missing or of another type.
+    /// The title (Title, property 2): what the file is, as `Installation Database`. None where the property
+    /// is missing or of another type.
     pub fn title(&self) -> Option<&str>
         ensures { option_copied result ≡ text_with_id (text_id property.title) self.now }
     {
@@ -52,8 +53,8 @@ impl SummaryInfo {
         self.clear(TITLE);
     }
 
-    /// The subject (Subject, property 3): the name of what is installed.
-    /// None where the property is missing or of another type.
+    /// The subject (Subject, property 3): the name of what is installed. None where the property is missing
+    /// or of another type.
     pub fn subject(&self) -> Option<&str>
         ensures { option_copied result ≡ text_with_id (text_id property.subject) self.now }
     {
@@ -79,8 +80,8 @@ impl SummaryInfo {
         self.clear(SUBJECT);
     }
 
-    /// The author (Author, property 4): who made the package.
-    /// None where the property is missing or of another type.
+    /// The author (Author, property 4): who made the package. None where the property is missing or of
+    /// another type.
     pub fn author(&self) -> Option<&str>
         ensures { option_copied result ≡ text_with_id (text_id property.author) self.now }
     {
@@ -106,8 +107,8 @@ impl SummaryInfo {
         self.clear(AUTHOR);
     }
 
-    /// The comments (Comments, property 6): what the package is for.
-    /// None where the property is missing or of another type.
+    /// The comments (Comments, property 6): what the package is for. None where the property is missing or of
+    /// another type.
     pub fn comments(&self) -> Option<&str>
         ensures { option_copied result ≡ text_with_id (text_id property.comments) self.now }
     {
@@ -133,8 +134,8 @@ impl SummaryInfo {
         self.clear(COMMENTS);
     }
 
-    /// Who saved the package last (Last Saved By, property 8).
-    /// None where the property is missing or of another type.
+    /// Who saved the package last (Last Saved By, property 8). None where the property is missing or of
+    /// another type.
     pub fn last_saved_by(&self) -> Option<&str>
         ensures { option_copied result ≡ text_with_id (text_id property.last_saved_by) self.now }
     {
@@ -160,8 +161,8 @@ impl SummaryInfo {
         self.clear(LAST_SAVED_BY);
     }
 
-    /// The program that made the package (Creating Application, property 18).
-    /// None where the property is missing or of another type.
+    /// The program that made the package (Creating Application, property 18). None where the property is
+    /// missing or of another type.
     pub fn creating_application(&self) -> Option<&str>
         ensures { option_copied result ≡ text_with_id (text_id property.creating_application) self.now }
     {
@@ -173,7 +174,8 @@ impl SummaryInfo {
     /// # Errors
     /// `OutOfMemory` where the text can't be copied or stored.
     pub fn set_creating_application<S: IntoText>(&mut self, text: S) -> Result<(), Error>
-        ensures ok { OnOk result (self.new ≡ with_text (text_id property.creating_application) (S.text text) self.old) }
+        ensures ok { OnOk result (self.new
+            ≡ with_text (text_id property.creating_application) (S.text text) self.old) }
         ensures kind { OnlyMemory result }
         ensures err { OnErr result (self.new ≡ self.old) }
     {

@@ -1,5 +1,5 @@
-//! The summary's moments: properties that are a `FileTime` (MS-OLEPS 2.15), counted in steps of 100 nanoseconds since the
-//! year 1601. Their names are those of the Windows Installer SDK.
+//! The summary's moments: properties that are a `FileTime` (MS-OLEPS 2.15), counted in steps of 100
+//! nanoseconds since the year 1601. Their names are those of the Windows Installer SDK.
 
 ghost use Rattle.std.specs.Prelude.{◌≡◌, IfErr, OnOk, OnErr};
 ghost use Rattle.msi_text.specs.Results.{OnlyMemory};
@@ -19,8 +19,8 @@ const CREATION_TIME: u32 = 12;
 const LAST_SAVED_TIME: u32 = 13;
 
 impl SummaryInfo {
-    /// When the package was printed last (Last Printed, property 11); installers set it when an administrative image is made.
-    /// None where the property is missing or of another type.
+    /// When the package was printed last (Last Printed, property 11); installers set it when an
+    /// administrative image is made. None where the property is missing or of another type.
     pub fn last_printed(&self) -> Option<Timestamp>
         ensures { result ≡ time_with_id (time_id property.last_printed) self.now }
     {
@@ -39,7 +39,8 @@ impl SummaryInfo {
         self.set_time(LAST_PRINTED, time)
     }
 
-    /// Sets when the package was printed last (property 11) to the present moment, which the caller hands in, as `set_last_printed` does. When refused, the summary is as before.
+    /// Sets when the package was printed last (property 11) to the present moment, which the caller hands in.
+    /// When refused, the summary is as before.
     ///
     /// # Errors
     /// `OutOfMemory` where the property can't be stored.
@@ -58,8 +59,8 @@ impl SummaryInfo {
         self.clear(LAST_PRINTED);
     }
 
-    /// When the package was made (Create Time/Date, property 12).
-    /// None where the property is missing or of another type.
+    /// When the package was made (Create Time/Date, property 12). None where the property is missing or of
+    /// another type.
     pub fn creation_time(&self) -> Option<Timestamp>
         ensures { result ≡ time_with_id (time_id property.creation_time) self.now }
     {
@@ -78,7 +79,8 @@ impl SummaryInfo {
         self.set_time(CREATION_TIME, time)
     }
 
-    /// Sets when the package was made (property 12) to the present moment, which the caller hands in, as `set_creation_time` does. When refused, the summary is as before.
+    /// Sets when the package was made (property 12) to the present moment, which the caller hands in. When
+    /// refused, the summary is as before.
     ///
     /// # Errors
     /// `OutOfMemory` where the property can't be stored.
@@ -97,8 +99,8 @@ impl SummaryInfo {
         self.clear(CREATION_TIME);
     }
 
-    /// When the package was saved last (Last Saved Time/Date, property 13).
-    /// None where the property is missing or of another type.
+    /// When the package was saved last (Last Saved Time/Date, property 13). None where the property is
+    /// missing or of another type.
     pub fn last_saved_time(&self) -> Option<Timestamp>
         ensures { result ≡ time_with_id (time_id property.last_saved_time) self.now }
     {
@@ -117,7 +119,8 @@ impl SummaryInfo {
         self.set_time(LAST_SAVED_TIME, time)
     }
 
-    /// Sets when the package was saved last (property 13) to the present moment, which the caller hands in, as `set_last_save_time` does. When refused, the summary is as before.
+    /// Sets when the package was saved last (property 13) to the present moment, which the caller hands in.
+    /// When refused, the summary is as before.
     ///
     /// # Errors
     /// `OutOfMemory` where the property can't be stored.
