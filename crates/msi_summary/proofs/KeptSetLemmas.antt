@@ -1,6 +1,6 @@
 -- What a set keeps to: its types, ids that ascend, and a page that is known.
 use Rattle.std.proofs.Common.{◌≡◌, ℕ, ◌^◌, ◌≤◌, ◌<◌, Bool, true, false, not, eqb, List, [], ◌∷◌, map, filter, refl, sym, subst, arith, inl, inr}
-use Rattle.std.specs.Prelude.{◌⊎◌, ◌==◌, ◌||◌, zip}
+use Rattle.std.specs.Prelude.{◌⊎◌, ◌==◌, zip}
 use Rattle.std.specs.List.{list_any, AllByRecursion, AllZip}
 use Rattle.std.specs.Ordering.{nat_cmp}
 use Rattle.std.specs.BTreeMap.{insert_entry}

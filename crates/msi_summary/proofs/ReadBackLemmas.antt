@@ -11,7 +11,7 @@ use Rattle.msi_text.specs.Pages.{bytes_in, text_in}
 use Rattle.msi_summary.specs.declared.propset.PropertyValue.{PropertyValue}
 use Rattle.msi_summary.specs.declared.propset.PropertyValue.TheVariants.{Empty, Null, I1, I2, I4, LpStr, FileTime}
 use Rattle.msi_summary.specs.Properties.{Properties, page_of}
-use Rattle.msi_summary.specs.PropertyStream.{os_number, StandsAt, ValueStandsAt, SpellsValue, FitsValue, FitsHeader, value_bytes, padded_to_four, needs_version_1, version_of, least_version, header_bytes, section_head, by_id, IsWritableValue, string_bytes_of}
+use Rattle.msi_summary.specs.PropertyStream.{os_number, ValueStandsAt, SpellsValue, FitsValue, FitsHeader, value_bytes, padded_to_four, needs_version_1, version_of, least_version, header_bytes, section_head, by_id, IsWritableValue, string_bytes_of}
 use Rattle.msi_summary.specs.PropertyLaws.{Ascending, OneSet, SetsReadBack}
 use Rattle.msi_summary.specs.PropertyWriting.{is_refused, can_write, piece_in, joined_pieces, pairs_from, section_size}
 use Rattle.msi_summary.proofs.FieldLemmas.{IsBytes, some_is}

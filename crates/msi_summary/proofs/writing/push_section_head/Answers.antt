@@ -1,4 +1,4 @@
-use Rattle.std.proofs.Common.{length, sym, ◌∙◌}
+use Rattle.std.proofs.Common.{sym, ◌∙◌}
 use Rattle.msi_summary.specs.PropertyWriting.{plain_pairs}
 use Rattle.msi_summary.proofs.PlainSectionLemmas.{head_written, length-pairs, on_ok}
 use Rattle.msi_summary.proofs.writing.push_section_head.Goals as goal
