@@ -1,6 +1,5 @@
 //! What stands in front of the values: the header of the stream, and the section's list of ids and places.
 
-ghost use Rattle.std.specs.Prelude.{◌≡◌};
 ghost use Rattle.msi_text.specs.Results.{Gives};
 ghost use Rattle.msi_summary.specs.HeaderView.{view_head};
 ghost use Rattle.msi_summary.specs.Reading.{os_with_number, header_at, pairs_at, section_at};

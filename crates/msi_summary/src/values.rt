@@ -1,6 +1,5 @@
 //! Values read from bytes.
 
-ghost use Rattle.std.specs.Prelude.{◌≡◌};
 ghost use Rattle.msi_text.specs.Pages.{text_in};
 ghost use Rattle.msi_text.specs.Results.{Gives};
 ghost use Rattle.msi_summary.specs.Reading.{string_at, value_at, payload_at};

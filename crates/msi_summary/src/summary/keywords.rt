@@ -1,11 +1,10 @@
-//! The keywords (Keywords of the Windows Installer SDK, property 5): one text, in which they are parted by `;
-//! `.
+//! The keywords (Keywords of the Windows Installer SDK, property 5): one text, in which a semicolon and a space
+//! part each two.
 
-ghost use Rattle.std.specs.Prelude.{◌≡◌, [], IfOk, IfErr, OnOk, OnErr, codes, map, string_bytes};
+ghost use Rattle.std.specs.Prelude.{◌≡◌, [], IfOk, OnOk, OnErr, codes, map, string_bytes};
 ghost use Rattle.std.specs.List.{join_by};
 ghost use Rattle.std.specs.Str.{trim_end};
 ghost use Rattle.msi_text.specs.Results.{OnlyMemory};
-ghost use Rattle.msi_text.specs.declared.errors.ErrorKind.TheVariants.{OutOfMemory};
 ghost use Rattle.msi_summary.specs.Summary.{keyword_pieces, keywords_in, keywords_of, with_keywords};
 
 use crate::summary::SummaryInfo;

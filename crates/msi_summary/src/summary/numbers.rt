@@ -1,9 +1,8 @@
 //! The summary's numbers: properties that are an `I4` (MS-OLEPS 2.15). Their names are those of the Windows
 //! Installer SDK.
 
-ghost use Rattle.std.specs.Prelude.{◌≡◌, IfErr, OnOk, OnErr};
+ghost use Rattle.std.specs.Prelude.{◌≡◌, OnOk, OnErr};
 ghost use Rattle.msi_text.specs.Results.{OnlyMemory};
-ghost use Rattle.msi_text.specs.declared.errors.ErrorKind.TheVariants.{OutOfMemory};
 ghost use Rattle.msi_summary.specs.Properties.{without_value};
 ghost use Rattle.msi_summary.specs.Summary.{number_with_id, number_id, with_number};
 ghost use Rattle.msi_summary.specs.Summary as property;
@@ -105,16 +104,16 @@ impl SummaryInfo {
         self.clear(CHARACTER_COUNT);
     }
 
-    /// Whether the package may be changed: 0 without limits, 2 where it is better not, 4 where it is not
-    /// (Security, property 19). None where the property is missing or of another type.
+    /// Whether the package is to be read alone (Security, property 19): 0 says nothing, 2 recommends it, 4
+    /// demands it. None where the property is missing or of another type.
     pub fn doc_security(&self) -> Option<i32>
         ensures { result ≡ number_with_id (number_id property.doc_security) self.now }
     {
         self.number(DOC_SECURITY)
     }
 
-    /// Sets whether the package may be changed, 0, 2 or 4 (property 19); any number is accepted. When
-    /// refused, the summary is as before.
+    /// Sets whether the package is to be read alone (property 19): 0 says nothing, 2 recommends it, 4 demands
+    /// it; any other number is accepted too. When refused, the summary is as before.
     ///
     /// # Errors
     /// `OutOfMemory` where the property can't be stored.
@@ -126,7 +125,7 @@ impl SummaryInfo {
         self.set_number(DOC_SECURITY, number)
     }
 
-    /// Removes whether the package may be changed (property 19), where it is there. It can't be refused.
+    /// Removes whether the package is to be read alone (property 19), where it is there. It can't be refused.
     pub fn clear_doc_security(&mut self)
         ensures { self.new ≡ without_value (number_id property.doc_security) self.old }
     {

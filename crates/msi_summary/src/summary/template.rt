@@ -1,12 +1,11 @@
 //! The template (Template of the Windows Installer SDK, property 7): the architecture, and behind the first
 //! `;` the languages, parted by commas.
 
-ghost use Rattle.std.specs.Prelude.{◌≡◌, ◌++◌, [], IfOk, IfErr, OnOk, OnErr, string_bytes, unwrap_or};
+ghost use Rattle.std.specs.Prelude.{◌≡◌, [], IfOk, OnOk, OnErr, string_bytes, unwrap_or};
 ghost use Rattle.std.specs.Option.{option_copied};
 ghost use Rattle.std.specs.List.{after_first, before_first, filter_map, slice_split};
 ghost use Rattle.msi_text.specs.Numerals.{u16_in};
 ghost use Rattle.msi_text.specs.Results.{OnlyMemory};
-ghost use Rattle.msi_text.specs.declared.errors.ErrorKind.TheVariants.{OutOfMemory};
 ghost use Rattle.msi_summary.specs.Summary.{arch_of, is_comma, is_semicolon, languages_of, nonempty, template_of};
 ghost use Rattle.msi_summary.specs.Summary.{with_arch, with_languages, with_template};
 
@@ -99,8 +98,8 @@ impl SummaryInfo {
 
     /// Sets the architecture, which the template (property 7) has before its first `;`, and keeps what it has
     /// behind. So the languages stay, but where the architecture has a `;` itself: it is then read back only
-    /// up to that `;`, and the rest of it as the beginning of the languages. When refused, the summary is as
-    /// before.
+    /// up to that `;`, and what it has behind becomes the front of the languages' text. When refused, the
+    /// summary is as before.
     ///
     /// # Errors
     /// `OutOfMemory` where the text can't be made or stored.

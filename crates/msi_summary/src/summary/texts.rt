@@ -1,10 +1,9 @@
 //! The summary's texts: properties that are an `LpStr` (MS-OLEPS 2.15). Their names are those of the Windows
 //! Installer SDK.
 
-ghost use Rattle.std.specs.Prelude.{◌≡◌, IfErr, OnOk, OnErr};
+ghost use Rattle.std.specs.Prelude.{◌≡◌, OnOk, OnErr};
 ghost use Rattle.std.specs.Option.{option_copied};
 ghost use Rattle.msi_text.specs.Results.{OnlyMemory};
-ghost use Rattle.msi_text.specs.declared.errors.ErrorKind.TheVariants.{OutOfMemory};
 ghost use Rattle.msi_summary.specs.Properties.{without_value};
 ghost use Rattle.msi_summary.specs.Summary.{text_with_id, text_id, with_text};
 ghost use Rattle.msi_summary.specs.Summary as property;

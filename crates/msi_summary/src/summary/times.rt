@@ -1,9 +1,8 @@
 //! The summary's moments: properties that are a `FileTime` (MS-OLEPS 2.15), counted in steps of 100
 //! nanoseconds since the year 1601. Their names are those of the Windows Installer SDK.
 
-ghost use Rattle.std.specs.Prelude.{◌≡◌, IfErr, OnOk, OnErr};
+ghost use Rattle.std.specs.Prelude.{◌≡◌, OnOk, OnErr};
 ghost use Rattle.msi_text.specs.Results.{OnlyMemory};
-ghost use Rattle.msi_text.specs.declared.errors.ErrorKind.TheVariants.{OutOfMemory};
 ghost use Rattle.msi_summary.specs.Properties.{without_value};
 ghost use Rattle.msi_summary.specs.Summary.{time_with_id, time_id, with_time};
 ghost use Rattle.msi_summary.specs.Summary as property;
