@@ -7,8 +7,8 @@ use Rattle.std.proofs.lemmas.List.{take_at, drop_at, take-append-drop, length-ap
 use Rattle.msi_summary.specs.declared.propset.OperatingSystem.{OperatingSystem}
 use Rattle.msi_summary.specs.declared.propset.OperatingSystem.TheVariants as os
 use Rattle.msi_summary.specs.PropertyStream.{os_number, header_bytes, section_head, pair_bytes}
-use Rattle.msi_text.specs.PoolReading.{number_at}
-use Rattle.msi_summary.specs.Reading.{bytes_at, os_with_number, Header, checked, header_in, pairs_at, section_in, set_with}
+use Rattle.msi_text.specs.Numbers.{bytes_at, number_at}
+use Rattle.msi_summary.specs.Reading.{os_with_number, Header, checked, header_at, pairs_at, section_at, set_with}
 use Rattle.msi_summary.proofs.FieldLemmas.{IsBytes, IsBytes-drop, bind_some, guard_held, guard_passed, some_is, wide16, wide32, Takes, Takes-then, number_takes, number_again}
 
 pub bytes_take : (n : ℕ) (bytes piece rest : List ℕ) → IsBytes bytes → bytes_at n bytes ≡ Some (piece, rest) → Takes bytes piece rest × (length piece ≡ n)
@@ -77,8 +77,8 @@ spelled_parts bytes others mark number h m n e =
     ∙ ap (λ (x : ℕ). (to_le_bytes w16 x ++ to_le_bytes w16 h.version ++ to_le_bytes w16 h.os_version ++ to_le_bytes w16 number ++ h.clsid ++ to_le_bytes w32 h.reserved ++ h.format_identifier ++ to_le_bytes w32 h.section) ++ others) m
     ∙ ap (λ (x : ℕ). (to_le_bytes w16 0xFFFE ++ to_le_bytes w16 h.version ++ to_le_bytes w16 h.os_version ++ to_le_bytes w16 x ++ h.clsid ++ to_le_bytes w32 h.reserved ++ h.format_identifier ++ to_le_bytes w32 h.section) ++ others) n
 
-pub header_found : (bytes : List ℕ) (h : Header) → IsBytes bytes → header_in bytes ≡ Some h → Headed bytes h
-unfolding header_in
+pub header_found : (bytes : List ℕ) (h : Header) → IsBytes bytes → header_at bytes ≡ Some h → Headed bytes h
+unfolding header_at
 header_found bytes h fits e =
     let a = bind_some (number_at w16 bytes) _ h e in
     let b = bind_some (number_at w16 a.0.1) _ h a.2 in
@@ -115,8 +115,8 @@ checked_again h is = rw (lt-ltb h.version 2 is.version, lt-ltb 0 h.reserved is.s
 regroup : (a b c d e f g h others : List ℕ) → (a ++ b ++ c ++ d ++ e ++ f ++ g ++ h) ++ others ≡ a ++ (b ++ (c ++ (d ++ (e ++ (f ++ (g ++ (h ++ others)))))))
 regroup a b c d e f g h others = simp append_assoc
 
-pub header_again : (h : Header) (others : List ℕ) → IsHeader h → header_in (spelled_header h ++ others) ≡ Some h
-unfolding header_in
+pub header_again : (h : Header) (others : List ℕ) → IsHeader h → header_at (spelled_header h ++ others) ≡ Some h
+unfolding header_at
 header_again h others is =
     let number = to_le_bytes w16 (os_number h.os) in
     let r7 = to_le_bytes w32 h.section ++ others in
@@ -127,7 +127,7 @@ header_again h others is =
     let r2 = to_le_bytes w16 h.os_version ++ r3 in
     let r1 = to_le_bytes w16 h.version ++ r2 in
     let grouped : spelled_header h ++ others ≡ to_le_bytes w16 0xFFFE ++ r1 = regroup (to_le_bytes w16 0xFFFE) (to_le_bytes w16 h.version) (to_le_bytes w16 h.os_version) number h.clsid (to_le_bytes w32 h.reserved) h.format_identifier (to_le_bytes w32 h.section) others in
-    ap header_in grouped ∙ rw (
+    ap header_at grouped ∙ rw (
       number_again w16 (2 ^ 16) wide16 0xFFFE r1 (omega arith),
       number_again w16 (2 ^ 16) wide16 h.version r2 (omega (arith, is.version)),
       number_again w16 (2 ^ 16) wide16 h.os_version r3 is.os_version,
@@ -181,8 +181,8 @@ pub record Sectioned (bytes : List ℕ) (pairs : List (ℕ × ℕ)) : Type 0 whe
   pub count_fits : length pairs < 2 ^ 32
   pub fits : AllByRecursion FitsPair pairs
 
-pub section_found : (bytes : List ℕ) (pairs : List (ℕ × ℕ)) → IsBytes bytes → section_in bytes ≡ Some pairs → Sectioned bytes pairs
-unfolding section_in
+pub section_found : (bytes : List ℕ) (pairs : List (ℕ × ℕ)) → IsBytes bytes → section_at bytes ≡ Some pairs → Sectioned bytes pairs
+unfolding section_at
 section_found bytes pairs fits e =
     let a = bind_some (number_at w32 bytes) _ pairs e in
     let b = bind_some (number_at w32 a.0.1) _ pairs a.2 in
@@ -193,9 +193,9 @@ section_found bytes pairs fits e =
     let whole : bytes ≡ (to_le_bytes w32 a.0.0 ++ to_le_bytes w32 b.0.0 ++ flat_map pair_bytes pairs) ++ c.others = front.parts ∙ ap (λ (x : List ℕ). (to_le_bytes w32 a.0.0 ++ to_le_bytes w32 b.0.0) ++ x) c.parts ∙ sym (append_assoc (to_le_bytes w32 a.0.0 ++ to_le_bytes w32 b.0.0) (flat_map pair_bytes pairs) c.others) in
     record { size = a.0.0; others = c.others; parts = whole ∙ ap (λ (k : ℕ). (to_le_bytes w32 a.0.0 ++ to_le_bytes w32 k ++ flat_map pair_bytes pairs) ++ c.others) (sym c.len); size_fits = ta.1; count_fits = omega (arith, c.len, tb.1); fits = c.fits }
 
-pub section_again : (size : ℕ) (pairs : List (ℕ × ℕ)) (others : List ℕ) → size < 2 ^ 32 → length pairs < 2 ^ 32 → AllByRecursion FitsPair pairs → section_in (section_head size pairs ++ others) ≡ Some pairs
-unfolding section_in
+pub section_again : (size : ℕ) (pairs : List (ℕ × ℕ)) (others : List ℕ) → size < 2 ^ 32 → length pairs < 2 ^ 32 → AllByRecursion FitsPair pairs → section_at (section_head size pairs ++ others) ≡ Some pairs
+unfolding section_at
 section_again size pairs others size_fits count_fits fits =
     let rest = flat_map pair_bytes pairs ++ others in
     let grouped : section_head size pairs ++ others ≡ to_le_bytes w32 size ++ (to_le_bytes w32 (length pairs) ++ rest) = append_assoc (to_le_bytes w32 size) (to_le_bytes w32 (length pairs) ++ flat_map pair_bytes pairs) others ∙ ap (λ (x : List ℕ). to_le_bytes w32 size ++ x) (append_assoc (to_le_bytes w32 (length pairs)) (flat_map pair_bytes pairs) others) in
-    ap section_in grouped ∙ rw (number_again w32 (2 ^ 32) wide32 size (to_le_bytes w32 (length pairs) ++ rest) size_fits, number_again w32 (2 ^ 32) wide32 (length pairs) rest count_fits) (pairs_again pairs others fits)
+    ap section_at grouped ∙ rw (number_again w32 (2 ^ 32) wide32 size (to_le_bytes w32 (length pairs) ++ rest) size_fits, number_again w32 (2 ^ 32) wide32 (length pairs) rest count_fits) (pairs_again pairs others fits)

@@ -1,16 +1,16 @@
 -- What a set keeps to: its types, ids that ascend, and a page that is known.
 use Rattle.std.proofs.Common.{◌≡◌, ℕ, ◌^◌, ◌≤◌, ◌<◌, Bool, true, false, not, eqb, List, [], ◌∷◌, map, filter, refl, sym, subst, arith, inl, inr}
-use Rattle.std.specs.Prelude.{◌⊎◌, ◌==◌, ◌||◌, zip}
-use Rattle.std.specs.List.{list_any, AllByRecursion}
+use Rattle.std.specs.Prelude.{◌⊎◌, ◌==◌, zip}
+use Rattle.std.specs.List.{list_any, AllByRecursion, AllZip}
 use Rattle.std.specs.Ordering.{nat_cmp}
 use Rattle.std.specs.BTreeMap.{insert_entry}
-use Rattle.std.proofs.lemmas.Bool.{cases_Bool, cases_lt, eqb-false}
+use Rattle.std.proofs.lemmas.Bool.{cases_Bool, cases_lt, eqb-false, or_parts}
 use Rattle.std.proofs.lemmas.Cmp.{by_ranked, ranked}
 use Rattle.msi_text.specs.Lists.{has_pair}
 use Rattle.msi_summary.specs.declared.propset.PropertyValue.{PropertyValue}
 use Rattle.msi_summary.specs.Properties.{Properties, can_set, with_value, without_value}
-use Rattle.msi_summary.specs.PropertyLaws.{Ascending, IsKept}
-use Rattle.msi_summary.specs.PropertyStream.{Spells, by_id}
+use Rattle.msi_summary.specs.PropertyLaws.{AreInRange, Ascending, IsKept}
+use Rattle.msi_summary.specs.PropertyStream.{FitsValue, Spells, by_id}
 use Rattle.msi_summary.proofs.PropertiesLemmas.{NamesPage-insert_entry, NamesPage-without}
 use Rattle.msi_summary.proofs.SortedIdsLemmas.{Apart, apart_sorted, put_by_id, pl_lt, pl_ge}
 
@@ -34,11 +34,13 @@ ascending_insert k v (e ∷ es) h = by_ranked _ _ _ (nat_cmp k e.0) (ranked k e.
     (λ p same. rw p h)
     (λ p gt. rw p (all_insert (λ f. e.0 < f.0) k v (λ j same. omega (arith, gt, same)) es h.0, ascending_insert k v es h.1))
 
-pub IsKept-with_value : (id : ℕ) (value : PropertyValue) (set : Properties) → can_set id value ≡ true → id < 2 ^ 32 → IsKept set → IsKept (with_value id value set)
-IsKept-with_value id value set can small kept = record {
+pub IsKept-with_value : (id : ℕ) (value : PropertyValue) (set : Properties) → can_set id value ≡ true → id < 2 ^ 32 → FitsValue value
+    → IsKept set → IsKept (with_value id value set)
+IsKept-with_value id value set can small fits kept = record {
   header = kept.header;
   ids = all_insert (λ e. e.0 < 2 ^ 32) id value (λ j same. omega (arith, small, same)) set.values kept.ids;
   ascending = ascending_insert id value set.values kept.ascending;
+  range = all_insert (λ e. FitsValue e.1) id value (λ j same. fits) set.values kept.range;
   page = NamesPage-insert_entry id value set.values can kept.page;
 }
 
@@ -63,6 +65,7 @@ IsKept-without_value id set kept = record {
   header = kept.header;
   ids = all_filter (λ e. e.0 < 2 ^ 32) (λ e. not (e.0 == id)) set.values kept.ids;
   ascending = ascending_filter (λ e. not (e.0 == id)) set.values kept.ascending;
+  range = all_filter (λ e. FitsValue e.1) (λ e. not (e.0 == id)) set.values kept.range;
   page = NamesPage-without id set.values kept.page;
 }
 
@@ -92,10 +95,6 @@ ascending_placed {X = X} e (f ∷ es) apart h = elim (cases_lt f.0 e.0) [
       subst (λ (x : List (ℕ × X)). Ascending x) (sym (pl_ge e f es s)) ((lt, above_all e.0 f.0 es lt h.0), h)
 ]
 
-both_false : (a b : Bool) → (a || b) ≡ false → (a ≡ false) × (b ≡ false)
-both_false true b h = absurd cc
-both_false false b h = (refl, h)
-
 differ : (a b : ℕ) → eqb a b ≡ false → (a < b) ⊎ (b < a)
 differ a b h = elim (cases_lt a b) [
   | inl lt ↦ inl lt
@@ -112,14 +111,14 @@ apart_listed : (id : ℕ) (pairs : List (ℕ × ℕ)) (values : List PropertyVal
 apart_listed id [] values h = tt
 apart_listed id (p ∷ pairs) [] h = tt
 apart_listed id (p ∷ pairs) (v ∷ values) h =
-    let none = both_false (eqb id p.0) (list_any (λ q. eqb id q.0) pairs) h in
+    let none = or_parts (eqb id p.0) (list_any (λ q. eqb id q.0) pairs) h in
     (differ id p.0 none.0, apart_listed id pairs values none.1)
 
 ascending_listed : (pairs : List (ℕ × ℕ)) (values : List PropertyValue) → has_pair (λ p q. eqb p.0 q.0) pairs ≡ false → Ascending (by_id (listed pairs values))
 ascending_listed [] values once = tt
 ascending_listed (p ∷ pairs) [] once = tt
 ascending_listed (p ∷ pairs) (v ∷ values) once =
-    let none = both_false (list_any (λ q. eqb p.0 q.0) pairs) (has_pair (λ p q. eqb p.0 q.0) pairs) once in
+    let none = or_parts (list_any (λ q. eqb p.0 q.0) pairs) (has_pair (λ p q. eqb p.0 q.0) pairs) once in
     ascending_placed (p.0, v) (by_id (listed pairs values)) (apart_sorted p.0 (listed pairs values) (apart_listed p.0 pairs values none.0)) (ascending_listed pairs values none.1)
 
 ids_listed : (pairs : List (ℕ × ℕ)) (values : List PropertyValue) → AllByRecursion (λ p. (p.0 < 2 ^ 32) × (p.1 < 2 ^ 32)) pairs → AllByRecursion (λ e. e.0 < 2 ^ 32) (listed pairs values)
@@ -127,10 +126,18 @@ ids_listed [] values h = tt
 ids_listed (p ∷ pairs) [] h = tt
 ids_listed (p ∷ pairs) (v ∷ values) h = (h.0.0, ids_listed pairs values h.1)
 
+range_listed : (P : ℕ × ℕ → PropertyValue → Type 0) (pairs : List (ℕ × ℕ)) (values : List PropertyValue)
+    → AllZip (λ p v. FitsValue v × P p v) pairs values → AreInRange (listed pairs values)
+range_listed P [] values h = tt
+range_listed P (p ∷ pairs) [] h = tt
+range_listed P (p ∷ pairs) (v ∷ values) h = (h.0.0, range_listed P pairs values h.1)
+
 pub IsKept-spelled : (bytes : List ℕ) (set : Properties) → Spells bytes set → IsKept set
 IsKept-spelled bytes set s = record {
   header = s.held;
   ids = subst (λ (x : List (ℕ × PropertyValue)). AllByRecursion (λ e. e.0 < 2 ^ 32) x) (sym s.listed) (all_sorted (λ e. e.0 < 2 ^ 32) (listed s.pairs s.values) (ids_listed s.pairs s.values s.fits.6));
   ascending = subst (λ (x : List (ℕ × PropertyValue)). Ascending x) (sym s.listed) (ascending_listed s.pairs s.values s.once);
+  range = subst (λ (x : List (ℕ × PropertyValue)). AreInRange x) (sym s.listed)
+      (all_sorted (λ e. FitsValue e.1) (listed s.pairs s.values) (range_listed _ s.pairs s.values s.spelled));
   page = s.page;
 }

@@ -17,4 +17,5 @@ mod PropertyStreamRows
 pub mod BraceLemmas
 pub mod KeywordLemmas
 pub mod NumeralLemmas
+pub mod TemplateLemmas
 mod SummaryRows

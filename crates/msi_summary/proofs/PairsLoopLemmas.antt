@@ -4,7 +4,8 @@ use Rattle.std.specs.Int.{w32}
 use Rattle.std.proofs.lemmas.List.{append-nil}
 use Rattle.msi_text.specs.declared.errors.ErrorKind.{ErrorKind}
 use Rattle.msi_text.specs.declared.errors.ErrorKind.TheVariants as kind
-use Rattle.msi_text.specs.PoolReading.{◌>>=◌, FailsAs, number_at}
+use Rattle.msi_text.specs.Numbers.{number_at}
+use Rattle.msi_text.specs.Results.{◌>>=◌, FailsAs}
 use Rattle.msi_summary.specs.Reading.{pairs_at}
 
 -- what was read before, and what is still read

@@ -11,7 +11,7 @@ use Rattle.msi_text.specs.declared.codepage.CodePage.{CodePage}
 use Rattle.msi_text.specs.declared.codepage.CodePage.TheVariants as page
 use Rattle.msi_text.specs.Lists.{entry_where}
 use Rattle.msi_summary.specs.declared.propset.PropertyValue.{PropertyValue}
-use Rattle.msi_summary.specs.Properties.{Properties, NamesPage, can_set, page_in, page_of, page_value, value_at, with_page}
+use Rattle.msi_summary.specs.Properties.{Properties, NamesPage, can_set, page_in, page_of, page_value, value_with_id, with_page}
 
 same_test : (k q : ℕ) → is_eq (nat_cmp k q) ≡ (q == k)
 same_test k q = grind (arith, nat_tests)
@@ -24,8 +24,8 @@ entry_where-lookup : {X : Type 0} (p : ℕ → Bool) (es : List (ℕ × X)) → 
 entry_where-lookup p [] = refl
 entry_where-lookup p (e ∷ es) = ap (cond (p e.0) (Some e.1)) (entry_where-lookup p es)
 
-pub value_at-lookup : (k : ℕ) (es : List (ℕ × PropertyValue)) → lookup (is_at (nat_cmp k)) es ≡ value_at k es
-value_at-lookup k es = ap (λ p. lookup p es) (same_tests k) ∙ entry_where-lookup (λ q. q == k) es
+pub value_with_id-lookup : (k : ℕ) (es : List (ℕ × PropertyValue)) → lookup (is_at (nat_cmp k)) es ≡ value_with_id k es
+value_with_id-lookup k es = ap (λ p. lookup p es) (same_tests k) ∙ entry_where-lookup (λ q. q == k) es
 
 -- what is set at k is found there, and everything else where it was
 tied : {X : Type 0} (k j q : ℕ) (a b c : X) → k ≡ j → cond (j == q) a c ≡ cond (k == q) a (cond (j == q) b c)
@@ -34,12 +34,12 @@ tied k j q a b c e = grind (arith, nat_tests)
 untied : {X : Type 0} (k j q : ℕ) (a b c : X) → j < k → cond (j == q) b (cond (k == q) a c) ≡ cond (k == q) a (cond (j == q) b c)
 untied k j q a b c lt = grind (arith, nat_tests)
 
-pub value_at-insert_entry : (q k : ℕ) (v : PropertyValue) (es : List (ℕ × PropertyValue)) → value_at q (insert_entry nat_cmp es k v) ≡ cond (k == q) (Some v) (value_at q es)
-value_at-insert_entry q k v [] = refl
-value_at-insert_entry q k v (e ∷ es) = by_ranked _ _ _ (nat_cmp k e.0) (ranked k e.0 (nat_cmp k e.0) refl)
+pub value_with_id-insert_entry : (q k : ℕ) (v : PropertyValue) (es : List (ℕ × PropertyValue)) → value_with_id q (insert_entry nat_cmp es k v) ≡ cond (k == q) (Some v) (value_with_id q es)
+value_with_id-insert_entry q k v [] = refl
+value_with_id-insert_entry q k v (e ∷ es) = by_ranked _ _ _ (nat_cmp k e.0) (ranked k e.0 (nat_cmp k e.0) refl)
     (λ p lt. rw p refl)
-    (λ p same. rw p (tied k e.0 q (Some v) (Some e.1) (value_at q es) same))
-    (λ p gt. rw (p, value_at-insert_entry q k v es) (untied k e.0 q (Some v) (Some e.1) (value_at q es) gt))
+    (λ p same. rw p (tied k e.0 q (Some v) (Some e.1) (value_with_id q es) same))
+    (λ p gt. rw (p, value_with_id-insert_entry q k v es) (untied k e.0 q (Some v) (Some e.1) (value_with_id q es) gt))
 
 -- what is removed is not found, and everything else is
 dropped : {X : Type 0} (k j q : ℕ) (b c : Option X) → (j == k) ≡ true → cond (k == q) None c ≡ cond (k == q) None (cond (j == q) b c)
@@ -48,11 +48,11 @@ dropped k j q b c e = grind (arith, nat_tests)
 kept : {X : Type 0} (k j q : ℕ) (b c : Option X) → (j == k) ≡ false → cond (j == q) b (cond (k == q) None c) ≡ cond (k == q) None (cond (j == q) b c)
 kept k j q b c e = grind (arith, nat_tests)
 
-pub value_at-without : (q k : ℕ) (es : List (ℕ × PropertyValue)) → value_at q (filter (λ e. not (e.0 == k)) es) ≡ cond (k == q) None (value_at q es)
-value_at-without q k [] = grind (arith, nat_tests)
-value_at-without q k (e ∷ es) = elim (cases_Bool (e.0 == k)) [
-  | inl t ↦ rw (t, value_at-without q k es) (dropped k e.0 q (Some e.1) (value_at q es) t)
-  | inr f ↦ rw (f, value_at-without q k es) (kept k e.0 q (Some e.1) (value_at q es) f)
+pub value_with_id-without : (q k : ℕ) (es : List (ℕ × PropertyValue)) → value_with_id q (filter (λ e. not (e.0 == k)) es) ≡ cond (k == q) None (value_with_id q es)
+value_with_id-without q k [] = grind (arith, nat_tests)
+value_with_id-without q k (e ∷ es) = elim (cases_Bool (e.0 == k)) [
+  | inl t ↦ rw (t, value_with_id-without q k es) (dropped k e.0 q (Some e.1) (value_with_id q es) t)
+  | inr f ↦ rw (f, value_with_id-without q k es) (kept k e.0 q (Some e.1) (value_with_id q es) f)
 ]
 
 -- a map without an entry, where no other has its key
@@ -82,14 +82,14 @@ still_named true v old h g = h
 still_named false v old h g = g
 
 pub NamesPage-insert_entry : (k : ℕ) (v : PropertyValue) (es : List (ℕ × PropertyValue)) → can_set k v ≡ true → NamesPage es → NamesPage (insert_entry nat_cmp es k v)
-NamesPage-insert_entry k v es h g = rw (value_at-insert_entry 1 k v es) (still_named (k == 1) v (value_at 1 es) h g)
+NamesPage-insert_entry k v es h g = rw (value_with_id-insert_entry 1 k v es) (still_named (k == 1) v (value_with_id 1 es) h g)
 
 still_named_without : (b : Bool) (old : Option PropertyValue) → is_some (page_in old) ≡ true → is_some (page_in (cond b None old)) ≡ true
 still_named_without true old g = refl
 still_named_without false old g = g
 
 pub NamesPage-without : (k : ℕ) (es : List (ℕ × PropertyValue)) → NamesPage es → NamesPage (filter (λ e. not (e.0 == k)) es)
-NamesPage-without k es g = rw (value_at-without 1 k es) (still_named_without (k == 1) (value_at 1 es) g)
+NamesPage-without k es g = rw (value_with_id-without 1 k es) (still_named_without (k == 1) (value_with_id 1 es) g)
 
 -- a page is named by its value
 pub page_in-page_value : (p : CodePage) → page_in (Some (page_value p)) ≡ Some p
@@ -121,7 +121,7 @@ page_in-page_value page.Iso88598 = refl
 page_in-page_value page.Utf8 = refl
 
 pub page_of-with_page : (p : CodePage) (set : Properties) → page_of (with_page p set) ≡ p
-page_of-with_page p set = rw (value_at-insert_entry 1 1 (page_value p) set.values, page_in-page_value p) refl
+page_of-with_page p set = rw (value_with_id-insert_entry 1 1 (page_value p) set.values, page_in-page_value p) refl
 
 pub OnOk-page_of : {T E : Type 0} (r : Result T E) (p : CodePage) (old new : Properties) → OnOk r (new ≡ with_page p old) → OnOk r (page_of new ≡ p)
 OnOk-page_of (Ok x) p old new h = ap page_of h ∙ page_of-with_page p old

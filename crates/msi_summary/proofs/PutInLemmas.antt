@@ -6,7 +6,7 @@ use Rattle.std.specs.Ordering.{nat_cmp, is_eq}
 use Rattle.std.specs.Map.{lookup}
 use Rattle.std.specs.BTreeMap.{is_at, insert_entry}
 use Rattle.std.specs.Cmp.{nat_cmp_is}
-use Rattle.std.proofs.lemmas.Bool.{eqb-true, cases_lt}
+use Rattle.std.proofs.lemmas.Bool.{eqb-true, cases_lt, or_parts}
 use Rattle.std.proofs.lemmas.Bool.Decides.{nat_tests}
 use Rattle.std.proofs.lemmas.List.{append-nil}
 use Rattle.msi_text.specs.declared.codepage.CodePage.{CodePage}
@@ -14,17 +14,13 @@ use Rattle.msi_text.specs.Lists.{has_pair, entry_where}
 use Rattle.msi_summary.specs.declared.propset.PropertyValue.{PropertyValue}
 use Rattle.msi_summary.specs.Properties.{Properties}
 use Rattle.msi_summary.specs.PropertyStream.{by_id}
-use Rattle.msi_summary.specs.Reading.{Header, header_in, section_in, page_stated, value_in, values_in, put_values, set_with, set_in, set_put}
+use Rattle.msi_summary.specs.Reading.{Header, header_at, section_at, page_stated, value_at, values_in, put_values, set_with, set_in, set_put}
 use Rattle.msi_summary.proofs.FieldLemmas.{bind_some, guard_passed, some_is}
 use Rattle.msi_summary.proofs.SpelledSetLemmas.{listed_as}
 use Rattle.msi_summary.proofs.SortedIdsLemmas.{Apart, put_by_id, cmp_less, cmp_greater, pl_lt, pl_ge, apart_sorted, insert_sorted}
 
 abbrev Differ : ℕ → ℕ → Type 0
 Differ a b = (a < b) ⊎ (b < a)
-
-or_false : (a b : Bool) → (a || b) ≡ false → (a ≡ false) × (b ≡ false)
-or_false true b h = absurd cc
-or_false false b h = (refl, h)
 
 eq_test : (a b : ℕ) → a ≡ b → eqb a b ≡ true
 eq_test a b e = grind (arith, nat_tests)
@@ -113,7 +109,7 @@ turned a b (inr lt) = inl lt
 fresh_push : (k : ℕ) (v : PropertyValue) (pairs : List (ℕ × ℕ)) (es : List (ℕ × PropertyValue)) → Fresh pairs es → list_any (λ q. eqb k q.0) pairs ≡ false → Fresh pairs (es ++ (k, v) ∷ [])
 fresh_push k v [] es h n = tt
 fresh_push k v (p ∷ pairs) es h n =
-    let o = or_false (eqb k p.0) (list_any (λ q. eqb k q.0) pairs) n in
+    let o = or_parts (eqb k p.0) (list_any (λ q. eqb k q.0) pairs) n in
     (apart_push p.0 k v es h.0 (turned k p.0 (differ_from k p.0 o.0)), fresh_push k v pairs es h.1 o.1)
 
 fresh_pop : (k : ℕ) (v : PropertyValue) (pairs : List (ℕ × ℕ)) (es : List (ℕ × PropertyValue)) → Fresh pairs (es ++ (k, v) ∷ []) → Fresh pairs es × (list_any (λ q. eqb k q.0) pairs ≡ false)
@@ -129,22 +125,22 @@ record Put (version : ℕ) (q : CodePage) (bytes : List ℕ) (section : ℕ) (pa
   pub once : has_pair (λ p q. eqb p.0 q.0) pairs ≡ false
   pub fresh : Fresh pairs es
 
-values_cons : (version : ℕ) (q : CodePage) (bytes : List ℕ) (section : ℕ) (p : ℕ × ℕ) (pairs : List (ℕ × ℕ)) (v : PropertyValue) (values : List PropertyValue) → value_in version q (drop (section + p.1) bytes) ≡ Some v → values_in version q bytes section pairs ≡ Some values
+values_cons : (version : ℕ) (q : CodePage) (bytes : List ℕ) (section : ℕ) (p : ℕ × ℕ) (pairs : List (ℕ × ℕ)) (v : PropertyValue) (values : List PropertyValue) → value_at version q (drop (section + p.1) bytes) ≡ Some v → values_in version q bytes section pairs ≡ Some values
     → values_in version q bytes section (p ∷ pairs) ≡ Some (v ∷ values)
 unfolding values_in
 values_cons version q bytes section p pairs v values h g = rw (h, g) refl
 
-put_cons : (version : ℕ) (q : CodePage) (bytes : List ℕ) (section : ℕ) (p : ℕ × ℕ) (pairs : List (ℕ × ℕ)) (v : PropertyValue) (entries : List (ℕ × PropertyValue)) → value_in version q (drop (section + p.1) bytes) ≡ Some v → is_some (lookup (is_at (nat_cmp p.0)) entries) ≡ false
+put_cons : (version : ℕ) (q : CodePage) (bytes : List ℕ) (section : ℕ) (p : ℕ × ℕ) (pairs : List (ℕ × ℕ)) (v : PropertyValue) (entries : List (ℕ × PropertyValue)) → value_at version q (drop (section + p.1) bytes) ≡ Some v → is_some (lookup (is_at (nat_cmp p.0)) entries) ≡ false
     → put_values version q bytes section (p ∷ pairs) entries ≡ put_values version q bytes section pairs (insert_entry nat_cmp entries p.0 v)
 unfolding put_values
 put_cons version q bytes section p pairs v entries h g = rw (h, g) refl
 
-in_made : (bytes : List ℕ) (h : Header) (pairs : List (ℕ × ℕ)) (q : CodePage) (values : List PropertyValue) → header_in bytes ≡ Some h → section_in (drop h.section bytes) ≡ Some pairs → has_pair (λ p q. eqb p.0 q.0) pairs ≡ false
+in_made : (bytes : List ℕ) (h : Header) (pairs : List (ℕ × ℕ)) (q : CodePage) (values : List PropertyValue) → header_at bytes ≡ Some h → section_at (drop h.section bytes) ≡ Some pairs → has_pair (λ p q. eqb p.0 q.0) pairs ≡ false
     → page_stated h.version bytes h.section (entry_where (λ k. eqb k 1) pairs) ≡ Some q → values_in h.version q bytes h.section pairs ≡ Some values → set_in bytes ≡ Some (set_with h (by_id (listed_as pairs values)))
 unfolding set_in
 in_made bytes h pairs q values a b c d e = rw (a, b, c, d, e) refl
 
-put_all : (bytes : List ℕ) (h : Header) (pairs : List (ℕ × ℕ)) (q : CodePage) (values : List (ℕ × PropertyValue)) → header_in bytes ≡ Some h → section_in (drop h.section bytes) ≡ Some pairs
+put_all : (bytes : List ℕ) (h : Header) (pairs : List (ℕ × ℕ)) (q : CodePage) (values : List (ℕ × PropertyValue)) → header_at bytes ≡ Some h → section_at (drop h.section bytes) ≡ Some pairs
     → page_stated h.version bytes h.section (entry_where (λ k. eqb k 1) pairs) ≡ Some q → put_values h.version q bytes h.section pairs [] ≡ Some values → set_put bytes ≡ Some (set_with h values)
 unfolding set_put
 put_all bytes h pairs q values a b d e = rw (a, b, d, e) refl
@@ -153,7 +149,7 @@ put_found : (version : ℕ) (q : CodePage) (bytes : List ℕ) (section : ℕ) (p
 unfolding put_values values_in
 put_found version q bytes section [] es out e = record { values = []; read = refl; is = sym (some_is (by_id es) out e) ∙ ap by_id (sym (append-nil es)); once = refl; fresh = tt }
 put_found version q bytes section (p ∷ pairs) es out e =
-    let a = bind_some (value_in version q (drop (section + p.1) bytes)) _ out e in
+    let a = bind_some (value_at version q (drop (section + p.1) bytes)) _ out e in
     let g = guard_passed (is_some (lookup (is_at (nat_cmp p.0)) (by_id es))) (put_values version q bytes section pairs (insert_entry nat_cmp (by_id es) p.0 a.0)) out a.2 in
     let apart = apart_unsorted p.0 es (absent_apart p.0 (by_id es) g.0) in
     let m = put_found version q bytes section pairs (es ++ (p.0, a.0) ∷ []) out (ap (put_values version q bytes section pairs) (sym (insert_sorted p.0 a.0 es apart)) ∙ g.1) in
@@ -171,9 +167,9 @@ put_again : (version : ℕ) (q : CodePage) (bytes : List ℕ) (section : ℕ) (p
 unfolding put_values values_in
 put_again version q bytes section [] es values read once fresh = subst (λ (x : List PropertyValue). Some (by_id es) ≡ Some (by_id (es ++ listed_as [] x))) (some_is [] values read) (ap (λ (x : List (ℕ × PropertyValue)). Some (by_id x)) (sym (append-nil es)))
 put_again version q bytes section (p ∷ pairs) es values read once fresh =
-    let a = bind_some (value_in version q (drop (section + p.1) bytes)) _ values read in
+    let a = bind_some (value_at version q (drop (section + p.1) bytes)) _ values read in
     let b = bind_some (values_in version q bytes section pairs) _ values a.2 in
-    let o = or_false (list_any (λ q. eqb p.0 q.0) pairs) (has_pair (λ p q. eqb p.0 q.0) pairs) once in
+    let o = or_parts (list_any (λ q. eqb p.0 q.0) pairs) (has_pair (λ p q. eqb p.0 q.0) pairs) once in
     let absent = apart_absent p.0 (by_id es) (apart_sorted p.0 es fresh.0) in
     let more = put_again version q bytes section pairs (es ++ (p.0, a.0) ∷ []) b.0 b.1 o.1 (fresh_push p.0 a.0 pairs es fresh.1 o.0) in
     let all = ap (put_values version q bytes section pairs) (insert_sorted p.0 a.0 es fresh.0) ∙ more ∙ ap (λ (x : List (ℕ × PropertyValue)). Some (by_id x)) (append_assoc es ((p.0, a.0) ∷ []) (listed_as pairs b.0)) in
@@ -182,8 +178,8 @@ put_again version q bytes section (p ∷ pairs) es values read once fresh =
 pub set_put_in : (bytes : List ℕ) (set : Properties) → set_put bytes ≡ Some set → set_in bytes ≡ Some set
 unfolding set_put set_in
 set_put_in bytes set e =
-    let a = bind_some (header_in bytes) _ set e in
-    let b = bind_some (section_in (drop a.0.section bytes)) _ set a.2 in
+    let a = bind_some (header_at bytes) _ set e in
+    let b = bind_some (section_at (drop a.0.section bytes)) _ set a.2 in
     let c = bind_some (page_stated a.0.version bytes a.0.section (entry_where (λ k. eqb k 1) b.0)) _ set b.2 in
     let d = bind_some (put_values a.0.version c.0 bytes a.0.section b.0 []) _ set c.2 in
     let m = put_found a.0.version c.0 bytes a.0.section b.0 [] d.0 d.1 in
@@ -196,8 +192,8 @@ no_clash (p ∷ pairs) = (tt, no_clash pairs)
 pub set_in_put : (bytes : List ℕ) (set : Properties) → set_in bytes ≡ Some set → set_put bytes ≡ Some set
 unfolding set_put set_in
 set_in_put bytes set e =
-    let a = bind_some (header_in bytes) _ set e in
-    let b = bind_some (section_in (drop a.0.section bytes)) _ set a.2 in
+    let a = bind_some (header_at bytes) _ set e in
+    let b = bind_some (section_at (drop a.0.section bytes)) _ set a.2 in
     let c = bind_some (cond (has_pair (λ p q. eqb p.0 q.0) b.0) None (page_stated a.0.version bytes a.0.section (entry_where (λ k. eqb k 1) b.0))) _ set b.2 in
     let g = guard_passed (has_pair (λ p q. eqb p.0 q.0) b.0) (page_stated a.0.version bytes a.0.section (entry_where (λ k. eqb k 1) b.0)) c.0 c.1 in
     let d = bind_some (values_in a.0.version c.0 bytes a.0.section b.0) _ set c.2 in

@@ -11,9 +11,9 @@ use Rattle.msi_text.specs.Pages.{bytes_in, text_in}
 use Rattle.msi_summary.specs.declared.propset.PropertyValue.{PropertyValue}
 use Rattle.msi_summary.specs.declared.propset.PropertyValue.TheVariants.{Empty, Null, I1, I2, I4, LpStr, FileTime}
 use Rattle.msi_summary.specs.Properties.{Properties, page_of}
-use Rattle.msi_summary.specs.PropertyStream.{os_number, StandsAt, SpellsValue, FitsValue, FitsHeader, value_bytes, padded_to_four, needs_version_1, version_of, least_version, header_bytes, section_head, by_id, IsWritableValue, string_bytes_of}
+use Rattle.msi_summary.specs.PropertyStream.{os_number, ValueStandsAt, SpellsValue, FitsValue, FitsHeader, value_bytes, padded_to_four, needs_version_1, version_of, least_version, header_bytes, section_head, by_id, IsWritableValue, string_bytes_of}
 use Rattle.msi_summary.specs.PropertyLaws.{Ascending, OneSet, SetsReadBack}
-use Rattle.msi_summary.specs.PropertyWriting.{is_refused, is_told, piece_in, values_in, pairs_from, section_size}
+use Rattle.msi_summary.specs.PropertyWriting.{is_refused, can_write, piece_in, joined_pieces, pairs_from, section_size}
 use Rattle.msi_summary.proofs.FieldLemmas.{IsBytes, some_is}
 use Rattle.msi_summary.proofs.PlainSectionLemmas.{length-values, length-padded, length-pairs, length-head, told_parts, untold_is, stream_carried}
 use Rattle.msi_summary.proofs.PlainValueLemmas.{plain_value}
@@ -22,7 +22,7 @@ use Rattle.msi_summary.proofs.SpelledSetLemmas.{one_set}
 
 -- ---- the list of ids and places
 
-pairs_fit : (q : CodePage) (place : ℕ) (es : List (ℕ × PropertyValue)) → AllByRecursion (λ e. e.0 < 2 ^ 32) es → place + length (values_in q es) < 2 ^ 32
+pairs_fit : (q : CodePage) (place : ℕ) (es : List (ℕ × PropertyValue)) → AllByRecursion (λ e. e.0 < 2 ^ 32) es → place + length (joined_pieces q es) < 2 ^ 32
     → AllByRecursion (λ p. (p.0 < 2 ^ 32) × (p.1 < 2 ^ 32)) (pairs_from q place es)
 pairs_fit q place [] ids room = tt
 pairs_fit q place (e ∷ es) ids room =
@@ -45,9 +45,6 @@ entries_again q place [] = refl
 entries_again q place (e ∷ es) = ap (λ (rest : List (ℕ × PropertyValue)). e ∷ rest) (entries_again q (place + length (piece_in q e.1)) es)
 
 -- ---- the values
-
-abbrev IsSpelled : ℕ → CodePage → List ℕ → ℕ → ℕ × ℕ → PropertyValue → Type 0
-IsSpelled version q bytes section p v = FitsValue v × StandsAt (section + p.1) bytes (λ front. SpellsValue version q front v)
 
 abbrev has_version_1 : List (ℕ × PropertyValue) → Bool
 has_version_1 es = list_any (λ e. needs_version_1 e.1) es
@@ -74,7 +71,7 @@ value_stands : (version : ℕ) (q : CodePage) (bytes : List ℕ) (section place 
     → (needs_version_1 e.1 ≡ true → version ≡ 1)
     → FitsValue e.1
     → IsWritableValue q e.1
-    → IsSpelled version q bytes section (e.0, place) e.1
+    → ValueStandsAt version q bytes section (e.0, place) e.1
 value_stands version q bytes section place front e others made made_is at is room one fit ok =
     let pad : List ℕ = replicate ((4 - length made % 4) % 4) 0 in
     let long = length-append (padded_to_four made) others in
@@ -94,18 +91,18 @@ made_of (Some bytes) there = refl
 -- each value is spelled at its place
 values_stand : (version : ℕ) (q : CodePage) (bytes : List ℕ) (section place : ℕ) (front : List ℕ) (es : List (ℕ × PropertyValue))
     → length front ≡ section + place
-    → bytes ≡ front ++ values_in q es
-    → length (values_in q es) < 2 ^ 32
+    → bytes ≡ front ++ joined_pieces q es
+    → length (joined_pieces q es) < 2 ^ 32
     → (has_version_1 es ≡ true → version ≡ 1)
     → AllByRecursion (λ e. FitsValue e.1) es
     → AllByRecursion (λ e. IsWritableValue q e.1) es
-    → AllZip (IsSpelled version q bytes section) (pairs_from q place es) (map (λ e. e.1) es)
+    → AllZip (ValueStandsAt version q bytes section) (pairs_from q place es) (map (λ e. e.1) es)
 values_stand version q bytes section place front [] at is room one fit ok = tt
 values_stand version q bytes section place front (e ∷ es) at is room one fit ok =
     let made = unwrap_or (value_bytes q e.1) [] in
     let made_is : value_bytes q e.1 ≡ Some made = made_of (value_bytes q e.1) (writable_some q e.1 ok.0) in
     let piece = piece_in q e.1 in
-    let others = values_in q es in
+    let others = joined_pieces q es in
     let long : length (piece ++ others) ≡ length piece + length others = length-append piece others in
     let same : piece ++ others ≡ padded_to_four made ++ others = ap (λ (x : List ℕ). x ++ others) (piece_is q e.1 made made_is) in
     let first : needs_version_1 e.1 ≡ true → version ≡ 1 = λ needs. one (or_left (needs_version_1 e.1) (has_version_1 es) needs) in
@@ -138,18 +135,18 @@ length-header set version fits =
     let format = fits.2 in
     omega arith
 
-told : (set : Properties) → is_refused set ≡ false → is_told (page_of set) set.values ≡ true
-told set kept = by_test (is_told (page_of set) set.values) refl
+told : (set : Properties) → is_refused set ≡ false → can_write (page_of set) set.values ≡ true
+told set kept = by_test (can_write (page_of set) set.values) refl
   where
     both : {A : Type 0} → true ≡ false → A
     both e = absurd cc
 
-    by_test : (b : Bool) → is_told (page_of set) set.values ≡ b → is_told (page_of set) set.values ≡ true
+    by_test : (b : Bool) → can_write (page_of set) set.values ≡ b → can_write (page_of set) set.values ≡ true
     by_test true is = is
     by_test false is = both (sym (untold_is (page_of set) set.values is) ∙ kept)
 
 pub sets_read_back : SetsReadBack
-sets_read_back set bytes kept range writable refused written =
+sets_read_back set bytes kept writable refused written =
     let q = page_of set in
     let es = set.values in
     let version = least_version set in
@@ -158,8 +155,8 @@ sets_read_back set bytes kept range writable refused written =
     let header = header_bytes set version 1 48 in
     let head = section_head (section_size q es) pairs in
     let parts = told_parts q es (told set refused) in
-    let is : bytes ≡ header ++ (head ++ values_in q es) = some_is bytes _ (sym written ∙ stream_carried set parts.0) in
-    let split : bytes ≡ (header ++ head) ++ values_in q es = is ∙ sym (append_assoc header head (values_in q es)) in
+    let is : bytes ≡ header ++ (head ++ joined_pieces q es) = some_is bytes _ (sym written ∙ stream_carried set parts.0) in
+    let split : bytes ≡ (header ++ head) ++ joined_pieces q es = is ∙ sym (append_assoc header head (joined_pieces q es)) in
     let count = length-pairs q first es in
     let long : length header ≡ 48 = length-header set version kept.header in
     let size : section_size q es < 2 ^ 32 = parts.1 in
@@ -173,11 +170,11 @@ sets_read_back set bytes kept range writable refused written =
       values = map (λ e. e.1) es;
       held = kept.header;
       fits = (version_small (has_version_1 es), omega arith, omega arith, omega arith, size, omega arith, pairs_fit q first es kept.ids size);
-      header = ([], header, head ++ values_in q es, refl, is, refl);
-      head = (header, head, values_in q es, long, split, refl);
+      header = ([], header, head ++ joined_pieces q es, refl, is, refl);
+      head = (header, head, joined_pieces q es, long, split, refl);
       once = listed_once q first es kept.ascending;
       page = kept.page;
-      spelled = values_stand version q bytes 48 first (header ++ head) es headed split (omega arith) (version_one es) range writable;
+      spelled = values_stand version q bytes 48 first (header ++ head) es headed split (omega arith) (version_one es) kept.range writable;
       listed = sym (sorted_same es kept.ascending) ∙ ap (λ (x : List (ℕ × PropertyValue)). by_id x) (sym (entries_again q first es));
     }
 

@@ -1,14 +1,15 @@
 -- The laws of reading, from what the code gives.
-use Rattle.std.proofs.Common.{◌≡◌, ℕ, List, Option, Some, Result, Ok, Err, refl, subst, inl, inr}
-use Rattle.std.specs.Prelude.{◌⊎◌, IfOk, IfErr}
+use Rattle.std.proofs.Common.{◌≡◌, ℕ, List, Option, Some, Result, Ok, Err, refl, sym, ap, subst, ◌∙◌, inl, inr}
+use Rattle.std.specs.Prelude.{◌⊎◌, ◌≢◌, IfOk, IfErr, OnErr}
 use Rattle.msi_text.specs.declared.errors.ErrorKind.{ErrorKind}
 use Rattle.msi_text.specs.declared.errors.ErrorKind.TheVariants as kind
 use Rattle.msi_summary.specs.Properties.{Properties}
 use Rattle.msi_summary.specs.PropertyLaws.{IsKept}
 use Rattle.msi_summary.specs.PropertyStream.{Spells}
-use Rattle.msi_text.specs.PoolReading.{Gives}
+use Rattle.msi_text.specs.Results.{Gives}
 use Rattle.msi_summary.specs.Reading.{set_put}
-use Rattle.msi_summary.proofs.FieldLemmas.{IsBytes}
+use Rattle.msi_summary.specs.Summary.{summary_format}
+use Rattle.msi_summary.proofs.FieldLemmas.{IsBytes, some_is}
 use Rattle.msi_summary.proofs.KeptSetLemmas.{IsKept-spelled}
 use Rattle.msi_summary.proofs.SpelledSetLemmas.{set_found, set_again}
 use Rattle.msi_summary.proofs.PutInLemmas.{set_put_in, set_in_put}
@@ -28,6 +29,13 @@ is_kind (Err kind.InvalidInput) o given = absurd given
 is_kind (Err kind.NotFound) o given = absurd given
 is_kind (Err kind.Io) o given = absurd given
 is_kind (Err kind.OutOfMemory) o given = inr refl
+
+-- a set that was read and is a summary where it has the format is the one that is spelled
+pub is_only_summary : (r : Result Properties ErrorKind) (read set : Properties) → Some set ≡ Some read → set.format_identifier ≡ summary_format
+    → IfOk r (λ s. s ≡ read) → OnErr r (read.format_identifier ≢ summary_format) → Gives (λ (s : Properties). s) r (Some set)
+is_only_summary (Ok s) read set same format ok refused = same ∙ ap Some (sym ok)
+is_only_summary (Err e) read set same format ok refused =
+    absurd (refused (ap (λ (s : Properties). s.format_identifier) (sym (some_is set read same)) ∙ format))
 
 -- what the code puts together is as a set is kept
 pub kept_read : (bytes : List ℕ) (set : Properties) → IsBytes bytes → set_put bytes ≡ Some set → IsKept set

@@ -10,9 +10,9 @@ use Rattle.msi_text.specs.declared.codepage.CodePage.TheVariants as page
 use Rattle.msi_text.specs.Lists.{placed, entry_where, has_pair}
 use Rattle.msi_summary.specs.declared.propset.PropertyValue.{PropertyValue}
 use Rattle.msi_summary.specs.declared.propset.PropertyValue.TheVariants.{Empty, Null, I1, I2, I4, LpStr, FileTime}
-use Rattle.msi_summary.specs.Properties.{Properties, page_in, page_of, value_at}
-use Rattle.msi_summary.specs.PropertyStream.{StandsAt, SpellsValue, FitsValue, Spells, by_id, header_bytes, section_head}
-use Rattle.msi_summary.specs.Reading.{value_in, values_in, page_stated, Header, header_in, section_in, set_with, set_in}
+use Rattle.msi_summary.specs.Properties.{Properties, page_in, page_of, value_with_id}
+use Rattle.msi_summary.specs.PropertyStream.{StandsAt, ValueStandsAt, SpellsValue, FitsValue, Spells, by_id, header_bytes, section_head}
+use Rattle.msi_summary.specs.Reading.{value_at, values_in, page_stated, Header, header_at, section_at, set_with, set_in}
 use Rattle.msi_summary.proofs.FieldLemmas.{IsBytes, IsBytes-drop, bind_some, guard_passed, some_is, given}
 use Rattle.msi_summary.proofs.ValueLemmas.{Begins, value_found, value_again}
 use Rattle.msi_summary.proofs.HeaderLemmas.{Headed, IsHeader, header_found, header_again, Sectioned, section_found, section_again}
@@ -40,23 +40,20 @@ some_long version p s (FileTime n) e = rw e (omega arith)
 
 -- ---- the values
 
-abbrev Spelled : ℕ → CodePage → List ℕ → ℕ → ℕ × ℕ → PropertyValue → Type 0
-Spelled version page bytes section p v = FitsValue v × StandsAt (section + p.1) bytes (λ front. SpellsValue version page front v)
-
-pub values_found : (version : ℕ) (q : CodePage) (bytes : List ℕ) (section : ℕ) (pairs : List (ℕ × ℕ)) (values : List PropertyValue) → IsBytes bytes → values_in version q bytes section pairs ≡ Some values → AllZip (Spelled version q bytes section) pairs values
+pub values_found : (version : ℕ) (q : CodePage) (bytes : List ℕ) (section : ℕ) (pairs : List (ℕ × ℕ)) (values : List PropertyValue) → IsBytes bytes → values_in version q bytes section pairs ≡ Some values → AllZip (ValueStandsAt version q bytes section) pairs values
 unfolding values_in
-values_found version q bytes section [] values fits e = subst (λ (x : List PropertyValue). AllZip (Spelled version q bytes section) [] x) (some_is [] values e) tt
+values_found version q bytes section [] values fits e = subst (λ (x : List PropertyValue). AllZip (ValueStandsAt version q bytes section) [] x) (some_is [] values e) tt
 values_found version q bytes section (p ∷ pairs) values fits e =
-    let a = bind_some (value_in version q (drop (section + p.1) bytes)) _ values e in
+    let a = bind_some (value_at version q (drop (section + p.1) bytes)) _ values e in
     let b = bind_some (values_in version q bytes section pairs) _ values a.2 in
     let f = value_found version q (drop (section + p.1) bytes) a.0 (IsBytes-drop (section + p.1) bytes fits) a.1 in
     let here = stands_here (section + p.1) bytes f.0.spelled f.0.others (λ s. SpellsValue version q s a.0) (some_long version q f.0.spelled a.0 f.0.is) f.0.parts f.0.is in
-    subst (λ (x : List PropertyValue). AllZip (Spelled version q bytes section) (p ∷ pairs) x) (some_is (a.0 ∷ b.0) values b.2) ((f.1, here), values_found version q bytes section pairs b.0 fits b.1)
+    subst (λ (x : List PropertyValue). AllZip (ValueStandsAt version q bytes section) (p ∷ pairs) x) (some_is (a.0 ∷ b.0) values b.2) ((f.1, here), values_found version q bytes section pairs b.0 fits b.1)
 
-value_here : (version : ℕ) (q : CodePage) (bytes : List ℕ) (v : PropertyValue) → FitsValue v → Begins bytes (λ s. SpellsValue version q s v) → value_in version q bytes ≡ Some v
-value_here version q bytes v fit b = ap (value_in version q) b.parts ∙ value_again version q b.spelled b.others v fit b.is
+value_here : (version : ℕ) (q : CodePage) (bytes : List ℕ) (v : PropertyValue) → FitsValue v → Begins bytes (λ s. SpellsValue version q s v) → value_at version q bytes ≡ Some v
+value_here version q bytes v fit b = ap (value_at version q) b.parts ∙ value_again version q b.spelled b.others v fit b.is
 
-pub values_again : (version : ℕ) (q : CodePage) (bytes : List ℕ) (section : ℕ) (pairs : List (ℕ × ℕ)) (values : List PropertyValue) → AllZip (Spelled version q bytes section) pairs values → values_in version q bytes section pairs ≡ Some values
+pub values_again : (version : ℕ) (q : CodePage) (bytes : List ℕ) (section : ℕ) (pairs : List (ℕ × ℕ)) (values : List PropertyValue) → AllZip (ValueStandsAt version q bytes section) pairs values → values_in version q bytes section pairs ≡ Some values
 unfolding values_in
 values_again version q bytes section [] [] h = refl
 values_again version q bytes section [] (v ∷ values) h = absurd h
@@ -67,7 +64,7 @@ values_again version q bytes section (p ∷ pairs) (v ∷ values) h =
 -- ---- the page
 
 -- a number is the same in each page
-same_page : (version : ℕ) (p r q : CodePage) (bytes : List ℕ) (v : PropertyValue) → IsBytes bytes → value_in version p bytes ≡ Some v → page_in (Some v) ≡ Some q → value_in version r bytes ≡ Some v
+same_page : (version : ℕ) (p r q : CodePage) (bytes : List ℕ) (v : PropertyValue) → IsBytes bytes → value_at version p bytes ≡ Some v → page_in (Some v) ≡ Some q → value_at version r bytes ≡ Some v
 same_page version p r q bytes Empty fits e h = absurd cc
 same_page version p r q bytes Null fits e h = absurd cc
 same_page version p r q bytes (I1 n) fits e h = absurd cc
@@ -83,40 +80,40 @@ listed_as pairs values = zip (map (λ p. p.0) pairs) values
 
 -- the page by property 1 as it is stated, and as its value states it
 pub page_found : (version : ℕ) (q : CodePage) (bytes : List ℕ) (section : ℕ) (pairs : List (ℕ × ℕ)) (values : List PropertyValue) → IsBytes bytes → values_in version q bytes section pairs ≡ Some values
-    → page_stated version bytes section (entry_where (λ k. eqb k 1) pairs) ≡ Some q → page_in (value_at 1 (listed_as pairs values)) ≡ Some q
+    → page_stated version bytes section (entry_where (λ k. eqb k 1) pairs) ≡ Some q → page_in (value_with_id 1 (listed_as pairs values)) ≡ Some q
 unfolding values_in
-page_found version q bytes section [] values fits e h = subst (λ (x : List PropertyValue). page_in (value_at 1 (listed_as [] x)) ≡ Some q) (some_is [] values e) h
+page_found version q bytes section [] values fits e h = subst (λ (x : List PropertyValue). page_in (value_with_id 1 (listed_as [] x)) ≡ Some q) (some_is [] values e) h
 page_found version q bytes section (p ∷ pairs) values fits e h =
-    let a = bind_some (value_in version q (drop (section + p.1) bytes)) _ values e in
+    let a = bind_some (value_at version q (drop (section + p.1) bytes)) _ values e in
     let b = bind_some (values_in version q bytes section pairs) _ values a.2 in
-    subst (λ (x : List PropertyValue). page_in (value_at 1 (listed_as (p ∷ pairs) x)) ≡ Some q) (some_is (a.0 ∷ b.0) values b.2)
+    subst (λ (x : List PropertyValue). page_in (value_with_id 1 (listed_as (p ∷ pairs) x)) ≡ Some q) (some_is (a.0 ∷ b.0) values b.2)
     (by_first version q bytes section p pairs a.0 b.0 (eqb p.0 1) refl fits a.1 h (page_found version q bytes section pairs b.0 fits b.1))
   where
     by_first : (version : ℕ) (q : CodePage) (bytes : List ℕ) (section : ℕ) (p : ℕ × ℕ) (pairs : List (ℕ × ℕ)) (v : PropertyValue) (values : List PropertyValue) (t : Bool) → eqb p.0 1 ≡ t → IsBytes bytes
-        → value_in version q (drop (section + p.1) bytes) ≡ Some v
+        → value_at version q (drop (section + p.1) bytes) ≡ Some v
         → page_stated version bytes section (cond t (Some p.1) (entry_where (λ k. eqb k 1) pairs)) ≡ Some q
-        → (page_stated version bytes section (entry_where (λ k. eqb k 1) pairs) ≡ Some q → page_in (value_at 1 (listed_as pairs values)) ≡ Some q)
-        → page_in (cond t (Some v) (value_at 1 (listed_as pairs values))) ≡ Some q
+        → (page_stated version bytes section (entry_where (λ k. eqb k 1) pairs) ≡ Some q → page_in (value_with_id 1 (listed_as pairs values)) ≡ Some q)
+        → page_in (cond t (Some v) (value_with_id 1 (listed_as pairs values))) ≡ Some q
     by_first version q bytes section p pairs v values true t fits e h more =
-        let w = bind_some (value_in version page.Utf8 (drop (section + p.1) bytes)) (λ w. page_in (Some w)) q h in
+        let w = bind_some (value_at version page.Utf8 (drop (section + p.1) bytes)) (λ w. page_in (Some w)) q h in
         let again = same_page version page.Utf8 q q (drop (section + p.1) bytes) w.0 (IsBytes-drop (section + p.1) bytes fits) w.1 w.2 in
         subst (λ (x : PropertyValue). page_in (Some x) ≡ Some q) (some_is w.0 v (sym again ∙ e)) w.2
     by_first version q bytes section p pairs v values false t fits e h more = more h
 
 pub page_again : (version : ℕ) (q : CodePage) (bytes : List ℕ) (section : ℕ) (pairs : List (ℕ × ℕ)) (values : List PropertyValue) → IsBytes bytes → values_in version q bytes section pairs ≡ Some values
-    → page_in (value_at 1 (listed_as pairs values)) ≡ Some q → page_stated version bytes section (entry_where (λ k. eqb k 1) pairs) ≡ Some q
+    → page_in (value_with_id 1 (listed_as pairs values)) ≡ Some q → page_stated version bytes section (entry_where (λ k. eqb k 1) pairs) ≡ Some q
 unfolding values_in
-page_again version q bytes section [] values fits e h = subst (λ (x : List PropertyValue). page_in (value_at 1 (listed_as [] x)) ≡ Some q) (sym (some_is [] values e)) h
+page_again version q bytes section [] values fits e h = subst (λ (x : List PropertyValue). page_in (value_with_id 1 (listed_as [] x)) ≡ Some q) (sym (some_is [] values e)) h
 page_again version q bytes section (p ∷ pairs) values fits e h =
-    let a = bind_some (value_in version q (drop (section + p.1) bytes)) _ values e in
+    let a = bind_some (value_at version q (drop (section + p.1) bytes)) _ values e in
     let b = bind_some (values_in version q bytes section pairs) _ values a.2 in
-    let h2 = subst (λ (x : List PropertyValue). page_in (value_at 1 (listed_as (p ∷ pairs) x)) ≡ Some q) (sym (some_is (a.0 ∷ b.0) values b.2)) h in
+    let h2 = subst (λ (x : List PropertyValue). page_in (value_with_id 1 (listed_as (p ∷ pairs) x)) ≡ Some q) (sym (some_is (a.0 ∷ b.0) values b.2)) h in
     by_first version q bytes section p pairs a.0 b.0 (eqb p.0 1) fits a.1 h2 (page_again version q bytes section pairs b.0 fits b.1)
   where
     by_first : (version : ℕ) (q : CodePage) (bytes : List ℕ) (section : ℕ) (p : ℕ × ℕ) (pairs : List (ℕ × ℕ)) (v : PropertyValue) (values : List PropertyValue) (t : Bool) → IsBytes bytes
-        → value_in version q (drop (section + p.1) bytes) ≡ Some v
-        → page_in (cond t (Some v) (value_at 1 (listed_as pairs values))) ≡ Some q
-        → (page_in (value_at 1 (listed_as pairs values)) ≡ Some q → page_stated version bytes section (entry_where (λ k. eqb k 1) pairs) ≡ Some q)
+        → value_at version q (drop (section + p.1) bytes) ≡ Some v
+        → page_in (cond t (Some v) (value_with_id 1 (listed_as pairs values))) ≡ Some q
+        → (page_in (value_with_id 1 (listed_as pairs values)) ≡ Some q → page_stated version bytes section (entry_where (λ k. eqb k 1) pairs) ≡ Some q)
         → page_stated version bytes section (cond t (Some p.1) (entry_where (λ k. eqb k 1) pairs)) ≡ Some q
     by_first version q bytes section p pairs v values true fits e h more =
         rw (same_page version q page.Utf8 q (drop (section + p.1) bytes) v (IsBytes-drop (section + p.1) bytes fits) e h) h
@@ -177,7 +174,7 @@ spells_made : (bytes : List ℕ) (h : Header) (pairs : List (ℕ × ℕ)) (q : C
     → page_stated h.version bytes h.section (entry_where (λ k. eqb k 1) pairs) ≡ Some q → values_in h.version q bytes h.section pairs ≡ Some values → Spells bytes (set_with h (by_id (listed_as pairs values)))
 spells_made bytes h pairs q values fits head sect once stated read =
     let sorted = find_sorted 1 (listed_as pairs values) in
-    let page_is : page_in (value_at 1 (by_id (listed_as pairs values))) ≡ Some q = ap page_in sorted ∙ page_found h.version q bytes h.section pairs values fits read stated in
+    let page_is : page_in (value_with_id 1 (by_id (listed_as pairs values))) ≡ Some q = ap page_in sorted ∙ page_found h.version q bytes h.section pairs values fits read stated in
     let same : page_of (set_with h (by_id (listed_as pairs values))) ≡ q = ap (λ (o : Option CodePage). unwrap_or o page.Utf8) page_is in
     record {
       version = h.version;
@@ -192,15 +189,15 @@ spells_made bytes h pairs q values fits head sect once stated read =
       head = stands_here h.section bytes (section_head sect.size pairs) sect.others (λ front. front ≡ section_head sect.size pairs) (omega arith) sect.parts refl;
       once = once;
       page = is_given _ q page_is;
-      spelled = subst (λ (r : CodePage). AllZip (Spelled h.version r bytes h.section) pairs values) (sym same) (values_found h.version q bytes h.section pairs values fits read);
+      spelled = subst (λ (r : CodePage). AllZip (ValueStandsAt h.version r bytes h.section) pairs values) (sym same) (values_found h.version q bytes h.section pairs values fits read);
       listed = refl;
     }
 
 pub set_found : (bytes : List ℕ) (set : Properties) → IsBytes bytes → set_in bytes ≡ Some set → Spells bytes set
 unfolding set_in
 set_found bytes set fits e =
-    let a = bind_some (header_in bytes) _ set e in
-    let b = bind_some (section_in (drop a.0.section bytes)) _ set a.2 in
+    let a = bind_some (header_at bytes) _ set e in
+    let b = bind_some (section_at (drop a.0.section bytes)) _ set a.2 in
     let c = bind_some (cond (has_pair (λ p q. eqb p.0 q.0) b.0) None (page_stated a.0.version bytes a.0.section (entry_where (λ k. eqb k 1) b.0))) _ set b.2 in
     let g = guard_passed (has_pair (λ p q. eqb p.0 q.0) b.0) (page_stated a.0.version bytes a.0.section (entry_where (λ k. eqb k 1) b.0)) c.0 c.1 in
     let d = bind_some (values_in a.0.version c.0 bytes a.0.section b.0) _ set c.2 in
@@ -215,11 +212,11 @@ set_again bytes set fits s =
     let q = page_of set in
     let is : IsHeader h = record { version = s.fits.0; os_version = s.held.0; clsid = s.held.1; some = s.fits.1; reserved = s.fits.2; format = s.held.2; section = s.fits.3 } in
     let top = stands_drop 0 bytes (λ front. front ≡ header_bytes set s.version s.reserved s.section) s.header in
-    let head : header_in bytes ≡ Some h = ap header_in (top.parts ∙ ap (λ (x : List ℕ). x ++ top.others) top.is) ∙ header_again h top.others is in
+    let head : header_at bytes ≡ Some h = ap header_at (top.parts ∙ ap (λ (x : List ℕ). x ++ top.others) top.is) ∙ header_again h top.others is in
     let low = stands_drop s.section bytes (λ front. front ≡ section_head s.size s.pairs) s.head in
-    let sect : section_in (drop s.section bytes) ≡ Some s.pairs = ap section_in (low.parts ∙ ap (λ (x : List ℕ). x ++ low.others) low.is) ∙ section_again s.size s.pairs low.others s.fits.4 s.fits.5 s.fits.6 in
+    let sect : section_at (drop s.section bytes) ≡ Some s.pairs = ap section_at (low.parts ∙ ap (λ (x : List ℕ). x ++ low.others) low.is) ∙ section_again s.size s.pairs low.others s.fits.4 s.fits.5 s.fits.6 in
     let read : values_in s.version q bytes s.section s.pairs ≡ Some s.values = values_again s.version q bytes s.section s.pairs s.values s.spelled in
-    let by_value : page_in (value_at 1 (listed_as s.pairs s.values)) ≡ Some q = ap page_in (sym (find_sorted 1 (listed_as s.pairs s.values)) ∙ ap (value_at 1) (sym s.listed)) ∙ given_is (page_in (value_at 1 set.values)) page.Utf8 s.page in
+    let by_value : page_in (value_with_id 1 (listed_as s.pairs s.values)) ≡ Some q = ap page_in (sym (find_sorted 1 (listed_as s.pairs s.values)) ∙ ap (value_with_id 1) (sym s.listed)) ∙ given_is (page_in (value_with_id 1 set.values)) page.Utf8 s.page in
     let stated : page_stated s.version bytes s.section (entry_where (λ k. eqb k 1) s.pairs) ≡ Some q = page_again s.version q bytes s.section s.pairs s.values fits read by_value in
     rw (head, sect, s.once, stated, read) (ap (λ (x : List (ℕ × PropertyValue)). given (set_with h x)) (sym s.listed))
 

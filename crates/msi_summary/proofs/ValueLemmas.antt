@@ -15,8 +15,8 @@ use Rattle.msi_text.specs.Pages.{text_in, Reads}
 use Rattle.msi_summary.specs.declared.propset.PropertyValue.{PropertyValue}
 use Rattle.msi_summary.specs.declared.propset.PropertyValue.TheVariants.{Empty, Null, I1, I2, I4, LpStr, FileTime}
 use Rattle.msi_summary.specs.PropertyStream.{SpellsValue, SpellsString, FitsValue}
-use Rattle.msi_text.specs.PoolReading.{number_at}
-use Rattle.msi_summary.specs.Reading.{piece_at, string_at, payload, value_in}
+use Rattle.msi_text.specs.Numbers.{number_at}
+use Rattle.msi_summary.specs.Reading.{string_with_len, string_at, payload_at, value_at}
 use Rattle.msi_summary.proofs.FieldLemmas.{IsBytes, bind_some, map_some, guard_held, branch, some_is, given, IsWide, wide8, wide16, wide32, wide64, number_takes, number_again}
 
 -- bytes of which P holds stand in front
@@ -50,7 +50,7 @@ spells_piece p (suc n) piece text reads lt e =
 pub string_found : (p : CodePage) (bytes text : List ℕ) → IsBytes bytes → string_at p bytes ≡ Some text → Begins (to_le_bytes w32 30 ++ bytes) (λ s. SpellsString p s text)
 unfolding string_at
 string_found p bytes text fits e =
-    let b = bind_some (number_at w32 bytes) (λ n. piece_at p n.0 n.1) text e in
+    let b = bind_some (number_at w32 bytes) (λ n. string_with_len p n.0 n.1) text e in
     let n = b.0.0 in
     let rest = b.0.1 in
     let t = number_takes w32 (2 ^ 32) wide32 bytes n rest fits b.1 in
@@ -63,7 +63,7 @@ string_found p bytes text fits e =
     let len : n - 1 ≡ length piece = omega (arith, length-take (n - 1) rest) in
     record { spelled = to_le_bytes w32 30 ++ to_le_bytes w32 n ++ piece ++ 0 ∷ []; others = drop (suc (n - 1)) rest; parts = string_parts n bytes rest piece (drop (suc (n - 1)) rest) t.0.parts rest_is; is = spells_piece p n piece text h.1 t.1 len }
 
-piece_again : (p : CodePage) (n : ℕ) (piece others text : List ℕ) → n - 1 ≡ length piece → Reads p piece text → piece_at p n (piece ++ (0 ∷ others)) ≡ Some text
+piece_again : (p : CodePage) (n : ℕ) (piece others text : List ℕ) → n - 1 ≡ length piece → Reads p piece text → string_with_len p n (piece ++ (0 ∷ others)) ≡ Some text
 piece_again p n piece others text e reads =
     let lt : ltb (length piece) (length (piece ++ (0 ∷ others))) ≡ true = lt-ltb _ _ (omega (arith, length-append piece (0 ∷ others))) in
     rw (e, lt, get_at piece 0 others, take_at piece (0 ∷ others) (length piece) refl) reads
@@ -157,8 +157,8 @@ byte_found version p rest v fits e =
     let g = guard_held (eqb version 1) (option_map (λ (x : ℕ × List ℕ). I1 (cast_signed w8 x.0)) (number_at w8 rest)) v e in
     signed_found w8 (2 ^ 8) wide8 version p 16 rest v (λ z. I1 z) refl (λ z h. h) (λ z. (eqb-true _ _ g.0, refl)) fits g.1
 
-payload_found : (version : ℕ) (p : CodePage) (t : ℕ) (rest : List ℕ) (v : PropertyValue) → IsBytes rest → payload version p t rest ≡ Some v → IsFound version p (to_le_bytes w32 t ++ rest) v
-unfolding payload
+payload_found : (version : ℕ) (p : CodePage) (t : ℕ) (rest : List ℕ) (v : PropertyValue) → IsBytes rest → payload_at version p t rest ≡ Some v → IsFound version p (to_le_bytes w32 t ++ rest) v
+unfolding payload_at
 payload_found version p t rest v fits e =
     let at = λ (k : ℕ) (h : eqb t k ≡ true) (found : IsFound version p (to_le_bytes w32 k ++ rest) v). subst (λ (x : ℕ). IsFound version p (to_le_bytes w32 x ++ rest) v) (sym (eqb-true t k h)) found in
     elim (branch (eqb t 0) _ _ v e) [
@@ -182,20 +182,20 @@ payload_found version p t rest v fits e =
     ]
 
 -- what is read is spelled in front, and its type holds it
-pub value_found : (version : ℕ) (p : CodePage) (bytes : List ℕ) (v : PropertyValue) → IsBytes bytes → value_in version p bytes ≡ Some v → Begins bytes (λ s. SpellsValue version p s v) × FitsValue v
-unfolding value_in IsFound
+pub value_found : (version : ℕ) (p : CodePage) (bytes : List ℕ) (v : PropertyValue) → IsBytes bytes → value_at version p bytes ≡ Some v → Begins bytes (λ s. SpellsValue version p s v) × FitsValue v
+unfolding value_at IsFound
 value_found version p bytes v fits e =
-    let b = bind_some (number_at w32 bytes) (λ t. payload version p t.0 t.1) v e in
+    let b = bind_some (number_at w32 bytes) (λ t. payload_at version p t.0 t.1) v e in
     let t = number_takes w32 (2 ^ 32) wide32 bytes b.0.0 b.0.1 fits b.1 in
     subst (λ (x : List ℕ). Begins x (λ s. SpellsValue version p s v) × FitsValue v) (sym t.0.parts) (payload_found version p b.0.0 b.0.1 v t.0.rest_fits b.2)
 
-typed_again : (version : ℕ) (p : CodePage) (t : ℕ) (rest : List ℕ) → t < 2 ^ 32 → value_in version p (to_le_bytes w32 t ++ rest) ≡ payload version p t rest
-unfolding value_in
+typed_again : (version : ℕ) (p : CodePage) (t : ℕ) (rest : List ℕ) → t < 2 ^ 32 → value_at version p (to_le_bytes w32 t ++ rest) ≡ payload_at version p t rest
+unfolding value_at
 typed_again version p t rest lt = rw (number_again w32 (2 ^ 32) wide32 t rest lt) refl
 
 -- what is spelled in front is read
-pub value_again : (version : ℕ) (p : CodePage) (spelled others : List ℕ) (v : PropertyValue) → FitsValue v → SpellsValue version p spelled v → value_in version p (spelled ++ others) ≡ Some v
-unfolding payload
+pub value_again : (version : ℕ) (p : CodePage) (spelled others : List ℕ) (v : PropertyValue) → FitsValue v → SpellsValue version p spelled v → value_at version p (spelled ++ others) ≡ Some v
+unfolding payload_at
 value_again version p spelled others Empty fit e = rw e (typed_again version p 0 others (omega arith))
 value_again version p spelled others Null fit e = rw e (typed_again version p 1 others (omega arith))
 value_again version p spelled others (I2 n) fit e = rw e (typed_again version p 2 (to_le_bytes w16 (cast_unsigned w16 n) ++ others) (omega arith) ∙ counted_again w16 (2 ^ 16) wide16 (cast_unsigned w16 n) others (λ n. I2 (cast_signed w16 n)) (unsigned_fits w16 n fit) ∙ ap (λ (z : ℤ). given (I2 z)) (to_z-of_z w16 n fit))

@@ -5,4 +5,5 @@ pub mod PropertyWriting
 pub mod PropertyLaws
 pub mod Reading
 pub mod Summary
+pub mod SummaryLaws
 pub mod HeaderView

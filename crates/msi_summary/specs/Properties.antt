@@ -1,5 +1,6 @@
 -- Property sets as values (MS-OLEPS 2.20, 2.21).
-use Rattle.std.specs.Prelude.{◌≡◌, ℕ, Bool, true, not, List, [], filter, replicate, Option, Some, None, unwrap_or, is_some, ◌==◌, if◌then◌else◌}
+use Rattle.std.specs.Prelude.{◌≡◌, ℕ, Bool, true, not, List, [], filter, replicate, Option, Some, None, unwrap_or}
+use Rattle.std.specs.Prelude.{is_some, ◌==◌, if◌then◌else◌}
 use Rattle.std.specs.Ordering.{nat_cmp}
 use Rattle.std.specs.BTreeMap.{insert_entry}
 use Rattle.std.specs.Int.{w16, cast_unsigned, cast_signed}
@@ -19,8 +20,13 @@ pub record Properties : Type 0 where
   pub format_identifier : List ℕ
   pub values : List (ℕ × PropertyValue)
 
-abbrev pub value_at : ℕ → List (ℕ × PropertyValue) → Option PropertyValue
-value_at id values = entry_where (λ k. k == id) values
+-- a set of its parts
+abbrev pub set_of : OperatingSystem → ℕ → List ℕ → List ℕ → List (ℕ × PropertyValue) → Properties
+set_of os os_version clsid format values =
+    record { os = os; os_version = os_version; clsid = clsid; format_identifier = format; values = values }
+
+abbrev pub value_with_id : ℕ → List (ℕ × PropertyValue) → Option PropertyValue
+value_with_id id values = entry_where (λ k. k == id) values
 
 abbrev pub with_value : ℕ → PropertyValue → Properties → Properties
 with_value id value set = record set { values = insert_entry nat_cmp set.values id value }
@@ -38,14 +44,14 @@ abbrev pub page_value : CodePage → PropertyValue
 page_value p = I2 (cast_signed w16 (page_id p))
 
 abbrev pub page_of : Properties → CodePage
-page_of set = unwrap_or (page_in (value_at 1 set.values)) page.Utf8
+page_of set = unwrap_or (page_in (value_with_id 1 set.values)) page.Utf8
 
 abbrev pub with_page : CodePage → Properties → Properties
 with_page p set = with_value 1 (page_value p) set
 
 -- the page that the values name is known
 abbrev pub NamesPage : List (ℕ × PropertyValue) → Type 0
-NamesPage values = is_some (page_in (value_at 1 values)) ≡ true
+NamesPage values = is_some (page_in (value_with_id 1 values)) ≡ true
 
 -- whether a value may be set: property 1 only to a known page
 abbrev pub can_set : ℕ → PropertyValue → Bool
@@ -53,4 +59,4 @@ can_set id value = if id == 1 then is_some (page_in (Some value)) else true
 
 -- a set with no property
 abbrev pub new_set : OperatingSystem → ℕ → List ℕ → Properties
-new_set os os_version format = record { os = os; os_version = os_version; clsid = replicate 16 0; format_identifier = format; values = [] }
+new_set os os_version format = set_of os os_version (replicate 16 0) format []

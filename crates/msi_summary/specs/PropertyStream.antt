@@ -1,5 +1,6 @@
 -- The stream of a property set (MS-OLEPS 2.20, 2.21 and 2.15).
-use Rattle.std.specs.Prelude.{◌≡◌, ℕ, ◌+◌, ◌-◌, ◌*◌, ◌%◌, ◌^◌, ◌<◌, ◌≤◌, ◌⊎◌, Bool, true, false, List, [], ◌∷◌, ◌++◌, map, length, replicate, Option, Some, option_map, IsSome, ◌==◌, if◌then◌else◌, zip}
+use Rattle.std.specs.Prelude.{◌≡◌, ℕ, ◌+◌, ◌-◌, ◌*◌, ◌%◌, ◌^◌, ◌<◌, ◌≤◌, ◌⊎◌, Bool, true, false, ◌==◌, if◌then◌else◌}
+use Rattle.std.specs.Prelude.{List, [], ◌∷◌, ◌++◌, map, length, replicate, zip, Option, Some, option_map, IsSome}
 use Rattle.std.specs.List.{flat_map, list_any, AllByRecursion, AllZip}
 use Rattle.std.specs.Ordering.{nat_cmp}
 use Rattle.std.specs.Int.RustNames.{FitsSigned}
@@ -11,7 +12,7 @@ use Rattle.msi_summary.specs.declared.propset.PropertyValue.{PropertyValue}
 use Rattle.msi_summary.specs.declared.propset.PropertyValue.TheVariants.{Empty, Null, I1, I2, I4, LpStr, FileTime}
 use Rattle.msi_summary.specs.declared.propset.OperatingSystem.{OperatingSystem}
 use Rattle.msi_summary.specs.declared.propset.OperatingSystem.TheVariants as os
-use Rattle.msi_summary.specs.Properties.{Properties, page_in, page_of, value_at}
+use Rattle.msi_summary.specs.Properties.{Properties, page_in, page_of, value_with_id}
 
 abbrev pub os_number : OperatingSystem → ℕ
 os_number os.Win16 = 0
@@ -20,16 +21,18 @@ os_number os.Win32 = 2
 
 -- `FE FF`, version, system version, system, CLSID, a number of at least 1, format id, where the section stands
 abbrev pub header_bytes : Properties → ℕ → ℕ → ℕ → List ℕ
-header_bytes set version reserved section = to_le_bytes w16 0xFFFE ++ to_le_bytes w16 version ++ to_le_bytes w16 set.os_version
+header_bytes set version reserved section =
+    to_le_bytes w16 0xFFFE ++ to_le_bytes w16 version ++ to_le_bytes w16 set.os_version
     ++ to_le_bytes w16 (os_number set.os) ++ set.clsid ++ to_le_bytes w32 reserved ++ set.format_identifier ++ to_le_bytes w32 section
 
 -- a text by its bytes in the page: their number with the null, the bytes, the null
 abbrev pub string_bytes_of : List ℕ → List ℕ
-string_bytes_of piece = to_le_bytes w32 30 ++ to_le_bytes w32 (length piece + 1) ++ piece ++ 0 ∷ []
+string_bytes_of encoded = to_le_bytes w32 30 ++ to_le_bytes w32 (length encoded + 1) ++ encoded ++ 0 ∷ []
 
 -- a text may be spelled by any bytes that read as it; the number 0 is read as 1
 abbrev pub SpellsString : CodePage → List ℕ → List ℕ → Type 0
-SpellsString page bytes text = ((piece : List ℕ) × (length piece + 1 < 2 ^ 32) × Reads page piece text × (bytes ≡ string_bytes_of piece))
+SpellsString page bytes text =
+    ((encoded : List ℕ) × (length encoded + 1 < 2 ^ 32) × Reads page encoded text × (bytes ≡ string_bytes_of encoded))
     ⊎ Reads page [] text × (bytes ≡ to_le_bytes w32 30 ++ to_le_bytes w32 0 ++ 0 ∷ [])
 
 -- the bytes of a value in a set of this version, without padding
@@ -38,7 +41,8 @@ SpellsValue version page bytes Empty = bytes ≡ to_le_bytes w32 0
 SpellsValue version page bytes Null = bytes ≡ to_le_bytes w32 1
 SpellsValue version page bytes (I2 n) = bytes ≡ to_le_bytes w32 2 ++ to_le_bytes w16 (cast_unsigned w16 n)
 SpellsValue version page bytes (I4 n) = bytes ≡ to_le_bytes w32 3 ++ to_le_bytes w32 (cast_unsigned w32 n)
-SpellsValue version page bytes (I1 n) = (version ≡ 1) × (bytes ≡ to_le_bytes w32 16 ++ to_le_bytes w8 (cast_unsigned w8 n))
+SpellsValue version page bytes (I1 n) =
+    (version ≡ 1) × (bytes ≡ to_le_bytes w32 16 ++ to_le_bytes w8 (cast_unsigned w8 n))
 SpellsValue version page bytes (LpStr text) = SpellsString page bytes text
 SpellsValue version page bytes (FileTime ticks) = bytes ≡ to_le_bytes w32 64 ++ to_le_bytes w64 ticks
 
@@ -70,8 +74,14 @@ by_id entries = stable_sort (λ x y. nat_cmp x.0 y.0) entries
 
 -- numbers that their fields can hold
 abbrev pub FitsFields : ℕ → ℕ → ℕ → ℕ → List (ℕ × ℕ) → Type 0
-FitsFields version reserved section size pairs = (version < 2) × (1 ≤ reserved) × (reserved < 2 ^ 32) × (section < 2 ^ 32) × (size < 2 ^ 32)
+FitsFields version reserved section size pairs =
+    (version < 2) × (1 ≤ reserved) × (reserved < 2 ^ 32) × (section < 2 ^ 32) × (size < 2 ^ 32)
     × (length pairs < 2 ^ 32) × AllByRecursion (λ p. (p.0 < 2 ^ 32) × (p.1 < 2 ^ 32)) pairs
+
+-- the value of an id is spelled at its place, counted from the section
+abbrev pub ValueStandsAt : ℕ → CodePage → List ℕ → ℕ → ℕ × ℕ → PropertyValue → Type 0
+ValueStandsAt version page bytes section pair value =
+    FitsValue value × StandsAt (section + pair.1) bytes (λ front. SpellsValue version page front value)
 
 -- the value of each id, listed once, is spelled at its place
 pub record Spells (bytes : List ℕ) (set : Properties) : Type 0 where
@@ -86,8 +96,8 @@ pub record Spells (bytes : List ℕ) (set : Properties) : Type 0 where
   pub header : StandsAt 0 bytes (λ front. front ≡ header_bytes set version reserved section)
   pub head : StandsAt section bytes (λ front. front ≡ section_head size pairs)
   pub once : has_pair (λ p q. p.0 == q.0) pairs ≡ false
-  pub page : IsSome (page_in (value_at 1 set.values))
-  pub spelled : AllZip (λ p v. FitsValue v × StandsAt (section + p.1) bytes (λ front. SpellsValue version (page_of set) front v)) pairs values
+  pub page : IsSome (page_in (value_with_id 1 set.values))
+  pub spelled : AllZip (ValueStandsAt version (page_of set) bytes section) pairs values
   pub listed : set.values ≡ by_id (zip (map (λ p. p.0) pairs) values)
 
 -- The plain spelling, which is what is written: values in the order of their ids, each padded to four bytes
@@ -130,10 +140,12 @@ abbrev pub ids_of : List (ℕ × PropertyValue) → List ℕ
 ids_of entries = map (λ e. e.0) entries
 
 abbrev pub section_of : CodePage → List (ℕ × PropertyValue) → Option (List ℕ)
-section_of page entries = option_map (section_bytes (ids_of entries)) (all_present (map (λ e. piece_of page e.1) entries))
+section_of page entries =
+    option_map (section_bytes (ids_of entries)) (all_present (map (λ e. piece_of page e.1) entries))
 
 abbrev pub property_stream : Properties → Option (List ℕ)
-property_stream set = option_map (λ section. header_bytes set (least_version set) 1 48 ++ section) (section_of (page_of set) set.values)
+property_stream set =
+    option_map (λ section. header_bytes set (least_version set) 1 48 ++ section) (section_of (page_of set) set.values)
 
 -- each text can be written in the page
 abbrev pub IsWritableValue : CodePage → PropertyValue → Type 0

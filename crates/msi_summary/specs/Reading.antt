@@ -1,6 +1,6 @@
 -- Reading a property set from its bytes, as a computation.
-use Rattle.std.specs.Prelude.{ℕ, zero, suc, ◌+◌, ◌-◌, List, [], ◌∷◌, length, take, drop, map, zip, Option, Some, None, option_map, slice_index, nat_lt, ◌==◌, if◌then◌else◌}
-use Rattle.std.specs.Prelude.{is_some}
+use Rattle.std.specs.Prelude.{ℕ, zero, suc, ◌+◌, ◌-◌, nat_lt, ◌==◌, if◌then◌else◌, Option, Some, None, option_map, is_some}
+use Rattle.std.specs.Prelude.{List, [], ◌∷◌, length, take, drop, map, zip, slice_index}
 use Rattle.std.specs.Ordering.{nat_cmp}
 use Rattle.std.specs.Map.{lookup}
 use Rattle.std.specs.BTreeMap.{is_at, insert_entry}
@@ -9,25 +9,28 @@ use Rattle.msi_text.specs.declared.codepage.CodePage.{CodePage}
 use Rattle.msi_text.specs.declared.codepage.CodePage.TheVariants as page
 use Rattle.msi_text.specs.Pages.{text_in}
 use Rattle.msi_text.specs.Lists.{has_pair, entry_where}
-use Rattle.msi_text.specs.PoolReading.{◌>>=◌, number_at}
+use Rattle.msi_text.specs.Numbers.{bytes_at, number_at}
+use Rattle.msi_text.specs.Results.{◌>>=◌}
 use Rattle.msi_summary.specs.declared.propset.PropertyValue.{PropertyValue}
 use Rattle.msi_summary.specs.declared.propset.PropertyValue.TheVariants.{Empty, Null, I1, I2, I4, LpStr, FileTime}
 use Rattle.msi_summary.specs.declared.propset.OperatingSystem.{OperatingSystem}
 use Rattle.msi_summary.specs.declared.propset.OperatingSystem.TheVariants as os
-use Rattle.msi_summary.specs.Properties.{Properties, page_in}
+use Rattle.msi_summary.specs.Properties.{Properties, page_in, set_of}
 use Rattle.msi_summary.specs.PropertyStream.{by_id}
 
 -- a text whose length with the null is n; 0 is read as 1
-abbrev pub piece_at : CodePage → ℕ → List ℕ → Option (List ℕ)
-piece_at page n rest = if nat_lt (n - 1) (length rest) then (if slice_index rest (n - 1) == 0 then text_in page (take (n - 1) rest) else None) else None
+abbrev pub string_with_len : CodePage → ℕ → List ℕ → Option (List ℕ)
+string_with_len page n rest = if nat_lt (n - 1) (length rest)
+    then (if slice_index rest (n - 1) == 0 then text_in page (take (n - 1) rest) else None)
+    else None
 
 unfoldable pub string_at : CodePage → List ℕ → Option (List ℕ)
 string_at page bytes = do
   n ← number_at w32 bytes
-  piece_at page n.0 n.1
+  string_with_len page n.0 n.1
 
-unfoldable pub payload : ℕ → CodePage → ℕ → List ℕ → Option PropertyValue
-payload version page t rest =
+unfoldable pub payload_at : ℕ → CodePage → ℕ → List ℕ → Option PropertyValue
+payload_at version page t rest =
     if t == 0 then Some Empty else
     if t == 1 then Some Null else
     if t == 2 then option_map (λ n. I2 (cast_signed w16 n.0)) (number_at w16 rest) else
@@ -37,14 +40,10 @@ payload version page t rest =
     if t == 64 then option_map (λ n. FileTime n.0) (number_at w64 rest) else None
 
 -- the value whose bytes begin here
-unfoldable pub value_in : ℕ → CodePage → List ℕ → Option PropertyValue
-value_in version page bytes = do
+unfoldable pub value_at : ℕ → CodePage → List ℕ → Option PropertyValue
+value_at version page bytes = do
   t ← number_at w32 bytes
-  payload version page t.0 t.1
-
--- n bytes
-abbrev pub bytes_at : ℕ → List ℕ → Option (List ℕ × List ℕ)
-bytes_at n bytes = if nat_lt (length bytes) n then None else Some (take n bytes, drop n bytes)
+  payload_at version page t.0 t.1
 
 abbrev pub os_with_number : ℕ → Option OperatingSystem
 os_with_number zero = Some os.Win16
@@ -62,12 +61,14 @@ pub record Header : Type 0 where
   pub format_identifier : List ℕ
   pub section : ℕ
 
--- the fields, of which any number is a field
+-- a header with the right mark, a known version and a reserved number of at least 1
 abbrev pub checked : ℕ → Header → Option Header
-checked mark h = if mark == 0xFFFE then (if nat_lt h.version 2 then (if nat_lt 0 h.reserved then Some h else None) else None) else None
+checked mark h = if mark == 0xFFFE
+    then (if nat_lt h.version 2 then (if nat_lt 0 h.reserved then Some h else None) else None)
+    else None
 
-unfoldable pub header_in : List ℕ → Option Header
-header_in bytes = do
+unfoldable pub header_at : List ℕ → Option Header
+header_at bytes = do
   mark ← number_at w16 bytes
   version ← number_at w16 mark.1
   os_version ← number_at w16 version.1
@@ -77,7 +78,15 @@ header_in bytes = do
   format ← bytes_at 16 reserved.1
   section ← number_at w32 format.1
   system ← os_with_number number.0
-  checked mark.0 (record { version = version.0; os_version = os_version.0; os = system; clsid = clsid.0; reserved = reserved.0; format_identifier = format.0; section = section.0 })
+  checked mark.0 (record {
+    version = version.0;
+    os_version = os_version.0;
+    os = system;
+    clsid = clsid.0;
+    reserved = reserved.0;
+    format_identifier = format.0;
+    section = section.0;
+  })
 
 unfoldable pub pairs_at : ℕ → List ℕ → Option (List (ℕ × ℕ))
 pairs_at zero bytes = Some []
@@ -87,8 +96,8 @@ pairs_at (suc n) bytes = do
   others ← pairs_at n place.1
   Some ((id.0, place.0) ∷ others)
 
-unfoldable pub section_in : List ℕ → Option (List (ℕ × ℕ))
-section_in bytes = do
+unfoldable pub section_at : List ℕ → Option (List (ℕ × ℕ))
+section_at bytes = do
   size ← number_at w32 bytes
   count ← number_at w32 size.1
   pairs_at count.0 count.1
@@ -97,38 +106,42 @@ section_in bytes = do
 unfoldable pub values_in : ℕ → CodePage → List ℕ → ℕ → List (ℕ × ℕ) → Option (List PropertyValue)
 values_in version page bytes section [] = Some []
 values_in version page bytes section (p ∷ pairs) = do
-  value ← value_in version page (drop (section + p.1) bytes)
+  value ← value_at version page (drop (section + p.1) bytes)
   values ← values_in version page bytes section pairs
   Some (value ∷ values)
 
 -- the page that property 1 states, if there is one
 abbrev pub page_stated : ℕ → List ℕ → ℕ → Option ℕ → Option CodePage
 page_stated version bytes section None = page_in None
-page_stated version bytes section (Some place) = value_in version page.Utf8 (drop (section + place) bytes) >>= λ v. page_in (Some v)
+page_stated version bytes section (Some place) =
+    value_at version page.Utf8 (drop (section + place) bytes) >>= λ v. page_in (Some v)
 
 abbrev pub set_with : Header → List (ℕ × PropertyValue) → Properties
-set_with h values = record { os = h.os; os_version = h.os_version; clsid = h.clsid; format_identifier = h.format_identifier; values = values }
+set_with h values = set_of h.os h.os_version h.clsid h.format_identifier values
 
 unfoldable pub set_in : List ℕ → Option Properties
 set_in bytes = do
-  h ← header_in bytes
-  pairs ← section_in (drop h.section bytes)
-  page ← if has_pair (λ p q. p.0 == q.0) pairs then None else page_stated h.version bytes h.section (entry_where (λ k. k == 1) pairs)
+  h ← header_at bytes
+  pairs ← section_at (drop h.section bytes)
+  page ← if has_pair (λ p q. p.0 == q.0) pairs then None
+      else page_stated h.version bytes h.section (entry_where (λ k. k == 1) pairs)
   values ← values_in h.version page bytes h.section pairs
   Some (set_with h (by_id (zip (map (λ p. p.0) pairs) values)))
 
 -- the values put into what is there, none at an id that is there
-unfoldable pub put_values : ℕ → CodePage → List ℕ → ℕ → List (ℕ × ℕ) → List (ℕ × PropertyValue) → Option (List (ℕ × PropertyValue))
+unfoldable pub put_values :
+    ℕ → CodePage → List ℕ → ℕ → List (ℕ × ℕ) → List (ℕ × PropertyValue) → Option (List (ℕ × PropertyValue))
 put_values version page bytes section [] entries = Some entries
 put_values version page bytes section (p ∷ pairs) entries = do
-  value ← value_in version page (drop (section + p.1) bytes)
-  if is_some (lookup (is_at (nat_cmp p.0)) entries) then None else put_values version page bytes section pairs (insert_entry nat_cmp entries p.0 value)
+  value ← value_at version page (drop (section + p.1) bytes)
+  if is_some (lookup (is_at (nat_cmp p.0)) entries) then None
+      else put_values version page bytes section pairs (insert_entry nat_cmp entries p.0 value)
 
 -- the same set, as the code makes it
 unfoldable pub set_put : List ℕ → Option Properties
 set_put bytes = do
-  h ← header_in bytes
-  pairs ← section_in (drop h.section bytes)
+  h ← header_at bytes
+  pairs ← section_at (drop h.section bytes)
   page ← page_stated h.version bytes h.section (entry_where (λ k. k == 1) pairs)
   values ← put_values h.version page bytes h.section pairs []
   Some (set_with h values)

@@ -1,6 +1,9 @@
--- The summary's properties (MSI SDK, "Summary Information Stream Property Set").
-use Rattle.std.specs.Prelude.{ℕ, ◌-◌, Bool, List, [], ◌∷◌, ◌++◌, map, length, Option, Some, None, option_and_then, unwrap_or, ◌==◌, ◌&&◌, if◌then◌else◌, codes, ℤ, drop, take}
-use Rattle.std.specs.List.{slice_split, before_first, after_first, join_by, filter_map, onto_first, prefix_len, suffix_len}
+-- The summary's properties (Windows Installer SDK, "Summary Information Stream Property Set").
+use Rattle.std.specs.Prelude.{◌≡◌, ℕ, ◌-◌, ℤ, Bool, ◌==◌, ◌&&◌, if◌then◌else◌}
+use Rattle.std.specs.Prelude.{Option, Some, None, option_and_then, unwrap_or}
+use Rattle.std.specs.Prelude.{List, [], ◌∷◌, ◌++◌, map, length, drop, take, codes}
+use Rattle.std.specs.List.{slice_split, before_first, after_first, join_by, filter_map, onto_first}
+use Rattle.std.specs.List.{prefix_len, suffix_len}
 use Rattle.std.specs.Str.{trim_end}
 use Rattle.uuid.specs.Text.{parsed}
 use Rattle.msi_text.specs.declared.codepage.CodePage.TheVariants as page
@@ -9,10 +12,17 @@ use Rattle.msi_text.specs.Spellings.{language_list_text, braced_uuid_text}
 use Rattle.msi_summary.specs.declared.propset.PropertyValue.{PropertyValue}
 use Rattle.msi_summary.specs.declared.propset.PropertyValue.TheVariants.{I4, LpStr, FileTime}
 use Rattle.msi_summary.specs.declared.propset.OperatingSystem.TheVariants as os
-use Rattle.msi_summary.specs.Properties.{Properties, value_at, with_value, with_page, new_set}
+use Rattle.msi_summary.specs.Properties.{Properties, value_with_id, with_value, with_page, new_set}
+use Rattle.msi_summary.specs.PropertyStream.{Spells}
 
+-- FMTID_SummaryInformation, F29F85E0-4FF9-1068-AB91-08002B27B3D9, as its bytes stand in a stream
 abbrev pub summary_format : List ℕ
-summary_format = 0xE0 ∷ 0x85 ∷ 0x9F ∷ 0xF2 ∷ 0xF9 ∷ 0x4F ∷ 0x68 ∷ 0x10 ∷ 0xAB ∷ 0x91 ∷ 0x08 ∷ 0x00 ∷ 0x2B ∷ 0x27 ∷ 0xB3 ∷ 0xD9 ∷ []
+summary_format = 0xE0 ∷ 0x85 ∷ 0x9F ∷ 0xF2 ∷ 0xF9 ∷ 0x4F ∷ 0x68 ∷ 0x10 ∷ 0xAB ∷ 0x91 ∷ 0x08 ∷ 0x00 ∷ 0x2B ∷ 0x27 ∷ 0xB3
+    ∷ 0xD9 ∷ []
+
+-- the bytes spell a property set that is a summary
+abbrev pub SpellsSummary : List ℕ → Properties → Type 0
+SpellsSummary bytes set = Spells bytes set × (set.format_identifier ≡ summary_format)
 
 -- the properties' ids: of texts, of numbers, of times, and of the three with a form of their own
 pub data TextProperty : Type 0 where
@@ -65,14 +75,14 @@ abbrev pub as_time : PropertyValue → Option ℕ
 as_time (FileTime ticks) = Some ticks
 as_time _ = None
 
-abbrev pub text_at : ℕ → Properties → Option (List ℕ)
-text_at id set = option_and_then as_text (value_at id set.values)
+abbrev pub text_with_id : ℕ → Properties → Option (List ℕ)
+text_with_id id set = option_and_then as_text (value_with_id id set.values)
 
-abbrev pub number_at : ℕ → Properties → Option ℤ
-number_at id set = option_and_then as_number (value_at id set.values)
+abbrev pub number_with_id : ℕ → Properties → Option ℤ
+number_with_id id set = option_and_then as_number (value_with_id id set.values)
 
-abbrev pub time_at : ℕ → Properties → Option ℕ
-time_at id set = option_and_then as_time (value_at id set.values)
+abbrev pub time_with_id : ℕ → Properties → Option ℕ
+time_with_id id set = option_and_then as_time (value_with_id id set.values)
 
 abbrev pub with_text : ℕ → List ℕ → Properties → Properties
 with_text id text set = with_value id (LpStr text) set
@@ -91,7 +101,7 @@ abbrev pub is_comma : ℕ → Bool
 is_comma c = c == 44
 
 abbrev pub template_of : Properties → List ℕ
-template_of set = unwrap_or (text_at template_id set) []
+template_of set = unwrap_or (text_with_id template_id set) []
 
 abbrev pub arch_text : Properties → List ℕ
 arch_text set = before_first is_semicolon (template_of set)
@@ -123,14 +133,15 @@ with_languages ids set = with_template (arch_text set) (language_list_text ids) 
 abbrev pub keyword_pieces : List ℕ → List (List ℕ)
 keyword_pieces [] = [] ∷ []
 keyword_pieces (c ∷ []) = (c ∷ []) ∷ []
-keyword_pieces (c ∷ d ∷ cs) = if (c == 59) && (d == 32) then [] ∷ keyword_pieces cs else onto_first c (keyword_pieces (d ∷ cs))
+keyword_pieces (c ∷ d ∷ cs) = if (c == 59) && (d == 32) then [] ∷ keyword_pieces cs
+    else onto_first c (keyword_pieces (d ∷ cs))
 
 abbrev pub keywords_in : List ℕ → List (List ℕ)
 keywords_in [] = []
 keywords_in (c ∷ cs) = map trim_end (keyword_pieces (c ∷ cs))
 
 abbrev pub keywords_of : Properties → List (List ℕ)
-keywords_of set = keywords_in (unwrap_or (text_at keywords_id set) [])
+keywords_of set = keywords_in (unwrap_or (text_with_id keywords_id set) [])
 
 abbrev pub with_keywords : List (List ℕ) → Properties → Properties
 with_keywords words set = with_text keywords_id (join_by (λ w. w) (codes "; ") words) set
@@ -152,11 +163,12 @@ abbrev pub without_braces : List ℕ → List ℕ
 without_braces text = without_end is_close_brace (without_front is_open_brace text)
 
 abbrev pub uuid_of : Properties → Option (List ℕ)
-uuid_of set = option_and_then (λ text. parsed (without_braces text)) (text_at uuid_id set)
+uuid_of set = option_and_then (λ text. parsed (without_braces text)) (text_with_id uuid_id set)
 
 abbrev pub with_uuid : List ℕ → Properties → Properties
 with_uuid id set = with_text uuid_id (braced_uuid_text id) set
 
 -- a new summary, with its title
 abbrev pub new_summary : List ℕ → Properties
-new_summary title_text = with_text (text_id title) title_text (with_page page.Utf8 (new_set os.Win32 10 summary_format))
+new_summary title_text =
+    with_text (text_id title) title_text (with_page page.Utf8 (new_set os.Win32 10 summary_format))

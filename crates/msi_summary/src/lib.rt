@@ -1,7 +1,6 @@
 //! Property sets, and the summary of a package.
 #![tactic(auto)]
 
-mod fields;
 mod header;
 pub mod laws;
 pub mod parts;

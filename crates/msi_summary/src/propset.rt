@@ -1,9 +1,13 @@
-//! Property sets (MS-OLEPS 2.20 and 2.21) as values: the properties by their ids, of which 1 names the code page.
+//! Property sets (MS-OLEPS 2.20 and 2.21) as values: the properties by their ids, of which 1 names the code
+//! page.
 
-ghost use Rattle.std.specs.Prelude.{◌≡◌, IfErr, OnOk, OnErr, true, false, if◌then◌else◌};
+ghost use Rattle.std.specs.Prelude.{◌≡◌, IfErr, OnOk, OnErr, true, if◌then◌else◌};
 ghost use Rattle.std.specs.Option.{option_copied};
+ghost use Rattle.msi_text.specs.Results.{OnlyMemory};
 ghost use Rattle.msi_text.specs.declared.errors.ErrorKind.TheVariants.{InvalidInput, OutOfMemory};
-ghost use Rattle.msi_summary.specs.Properties.{can_set, new_set, page_in, page_of, page_value, value_at, with_page, with_value, without_value};
+ghost use Rattle.msi_summary.specs.Properties.{can_set, new_set, page_in, page_of, page_value, set_of, value_with_id};
+ghost use Rattle.msi_summary.specs.Properties.{with_page, with_value, without_value};
+ghost use Rattle.msi_summary.specs.PropertyStream.{FitsValue};
 ghost use Rattle.msi_summary.specs.PropertyLaws.{IsKept};
 
 use crate::reasons;
@@ -15,10 +19,11 @@ use std::alloc::Global;
 use std::collections::BTreeMap;
 use std::marker::Model;
 
-/// The id of the property that names the page.
+/// The id of the property that names the page (MS-OLEPS 2.18.2).
 const PAGE: u32 = 1;
 
-/// The value of a property, of one of the seven types that installers use (MS-OLEPS 2.15).
+/// The value of a property, of one of the seven types that installers use (MS-OLEPS 2.15). Every other type
+/// of the standard is refused where a set is read.
 #[derive(PartialEq, Eq, Debug, Drop)]
 pub enum PropertyValue {
     /// Nothing (type 0, VT_EMPTY).
@@ -31,9 +36,9 @@ pub enum PropertyValue {
     I2(i16),
     /// A number of four bytes (type 3, VT_I4).
     I4(i32),
-    /// A text (type 30, VT_LPSTR).
+    /// A text (type 30, VT_LPSTR), which is spelled in the page of the set that holds it.
     LpStr(Text),
-    /// A moment (type 64, VT_FILETIME).
+    /// A moment (type 64, VT_FILETIME), counted in steps of 100 nanoseconds since the year 1601.
     FileTime(Timestamp),
 }
 
@@ -48,8 +53,10 @@ pub enum OperatingSystem {
     Win32,
 }
 
-/// A set of properties. Contracts see its header, and its values by their ids; the page follows from property 1,
-/// which is always an `I2` of a known page where it is there.
+/// A set of properties (MS-OLEPS 2.21): a system and its version, a class identifier, a format identifier,
+/// which says what the properties mean, and values by their ids, of 32 bits. Contracts see these parts. The
+/// page in which texts are spelled follows from property 1, which is always an `I2` of a known page where it
+/// is there.
 #[derive(Drop)]
 pub struct PropertySet {
     alloc: Global,
@@ -61,14 +68,14 @@ pub struct PropertySet {
 }
 
 impl Model for PropertySet {
-    ghost use Rattle.msi_summary.specs.Properties.{Properties};
+    ghost use Rattle.msi_summary.specs.Properties.{Properties, set_of};
     ghost use Rattle.msi_summary.specs.PropertyLaws.{IsKept};
 
     ghost Value = { Properties };
 
-    ghost view = { λ s. record { os = s.os; os_version = s.os_version; clsid = s.clsid; format_identifier = s.format_identifier; values = s.values.entries } };
+    ghost view = { λ s. set_of s.os s.os_version s.clsid s.format_identifier s.values.entries };
 
-    ghost invariant = { λ s. IsKept (record { os = s.os; os_version = s.os_version; clsid = s.clsid; format_identifier = s.format_identifier; values = s.values.entries }) };
+    ghost invariant = { λ s. IsKept (set_of s.os s.os_version s.clsid s.format_identifier s.values.entries) };
 }
 
 /// The page that a value of property 1 names, read without sign.
@@ -96,8 +103,31 @@ fn can_set(id: u32, value: &PropertyValue) -> bool
     id != PAGE || page_named(value).is_some()
 }
 
+/// A value's number is one that its type holds, which is known only of a number that is read. Nothing else is
+/// done.
+fn read_number(value: &PropertyValue)
+    ensures { FitsValue value.now }
+{
+    match value {
+        PropertyValue::I1(number) => {
+            let _number = *number;
+        }
+        PropertyValue::I2(number) => {
+            let _number = *number;
+        }
+        PropertyValue::I4(number) => {
+            let _number = *number;
+        }
+        PropertyValue::FileTime(time) => {
+            let _ticks = time.ticks();
+        }
+        PropertyValue::Empty | PropertyValue::Null | PropertyValue::LpStr(_) => {}
+    }
+}
+
 impl PropertySet {
-    /// An empty set of a format, with a class identifier of zeros. Its page is UTF-8, as no property says another.
+    /// A set of a format without any property, with a class identifier of zeros. Its page is UTF-8, as no
+    /// property says another. It takes no memory.
     pub fn new(
         alloc: Global,
         os: OperatingSystem,
@@ -125,8 +155,8 @@ impl PropertySet {
         format_identifier: [u8; 16],
         values: BTreeMap<u32, PropertyValue>,
     ) -> PropertySet
-        requires { IsKept (record { os = os; os_version = os_version; clsid = clsid; format_identifier = format_identifier; values = values.entries }) }
-        ensures { result ≡ record { os = os; os_version = os_version; clsid = clsid; format_identifier = format_identifier; values = values.entries } }
+        requires { IsKept (set_of os os_version clsid format_identifier values.entries) }
+        ensures { result ≡ set_of os os_version clsid format_identifier values.entries }
     {
         PropertySet {
             alloc,
@@ -172,14 +202,16 @@ impl PropertySet {
         &self.values
     }
 
-    /// The format identifier: what the properties mean (MS-OLEPS 2.21, FMTID0).
+    /// The format identifier: which format says what the properties mean (MS-OLEPS 2.21, FMTID0), as the 16
+    /// bytes of the stream.
     pub fn format_identifier(&self) -> &[u8; 16]
         ensures { result.now ≡ self.now.format_identifier }
     {
         &self.format_identifier
     }
 
-    /// The page in which the texts are written: what property 1 names, and UTF-8 without it.
+    /// The page in which the texts are spelled (MS-OLEPS 2.18.2): the one that property 1 names, and UTF-8
+    /// without it.
     pub fn codepage(&self) -> CodePage
         ensures { result ≡ page_of self.now }
     {
@@ -189,30 +221,34 @@ impl PropertySet {
         }
     }
 
-    /// Sets property 1 to the page's id. When refused, the set is as before.
+    /// Sets the page in which the texts are spelled (MS-OLEPS 2.18.2): property 1 becomes an `I2` whose 16
+    /// bits are the page's id. The texts stay, also where the page carries them no longer; `write` is refused
+    /// then. When refused, the set is as before.
     ///
     /// # Errors
-    /// `OutOfMemory`.
+    /// `OutOfMemory` where the property can't be stored.
     pub fn set_codepage(&mut self, page: CodePage) -> Result<(), Error>
         ensures ok { OnOk result (self.new ≡ with_page page self.old) }
         ensures page { OnOk result (page_of self.new ≡ page) }
-        ensures kind { IfErr result (λ kind. kind ≡ OutOfMemory) }
+        ensures kind { OnlyMemory result }
         ensures err { OnErr result (self.new ≡ self.old) }
     {
         self.put(PAGE, page_value(page))
     }
 
-    /// The value of a property.
+    /// The value of the property with this id, where there is one.
     pub fn get(&self, id: u32) -> Option<&PropertyValue>
-        ensures { option_copied result ≡ value_at id self.now.values }
+        ensures { option_copied result ≡ value_with_id id self.now.values }
     {
         self.values.get(&id)
     }
 
-    /// Sets a property. When refused, the set is as before.
+    /// Sets the property with this id, in place of the value that it had. When refused, the set is as before.
     ///
     /// # Errors
-    /// `InvalidInput` for property 1 and a value that is no `I2` of a known page, read without sign; `OutOfMemory`.
+    /// `InvalidInput` where property 1, the page, is to be something else than an `I2` whose 16 bits, read
+    /// without sign, are the id of a known page (MS-OLEPS 2.18.2). Else `OutOfMemory` where the property
+    /// can't be stored.
     pub fn set(&mut self, id: u32, value: PropertyValue) -> Result<(), Error>
         ensures ok { OnOk result (self.new ≡ with_value id value self.old) }
         ensures allowed { OnOk result (can_set id value ≡ true) }
@@ -229,14 +265,16 @@ impl PropertySet {
     pub(crate) fn put(&mut self, id: u32, value: PropertyValue) -> Result<(), Error>
         requires { can_set id value ≡ true }
         ensures ok { OnOk result (self.new ≡ with_value id value self.old) }
-        ensures kind { IfErr result (λ kind. kind ≡ OutOfMemory) }
+        ensures kind { OnlyMemory result }
         ensures err { OnErr result (self.new ≡ self.old) }
     {
+        read_number(&value);
         self.values.insert(id, value)?;
         Ok(())
     }
 
-    /// Removes a property, if it is there. Without property 1 the page is UTF-8.
+    /// Removes the property with this id, where there is one. Without property 1 the page is UTF-8. It can't
+    /// be refused.
     pub fn remove(&mut self, id: u32)
         ensures { self.new ≡ without_value id self.old }
     {

@@ -5,7 +5,7 @@ ghost use Rattle.msi_text.specs.declared.errors.ErrorKind.TheVariants.{InvalidDa
 ghost use Rattle.msi_summary.specs.PropertyStream.{Spells};
 ghost use Rattle.msi_text.specs.Lists.{entry_where};
 ghost use Rattle.msi_summary.specs.Properties.{Properties, page_in};
-ghost use Rattle.msi_text.specs.PoolReading.{Gives};
+ghost use Rattle.msi_text.specs.Results.{Gives};
 ghost use Rattle.msi_summary.specs.Reading.{page_stated, put_values, set_put};
 
 use crate::header::{header_at, section_at};
@@ -114,15 +114,16 @@ fn set_at(alloc: Global, bytes: &[u8]) -> Result<PropertySet, Error>
 }
 
 impl PropertySet {
-    /// The set that the bytes of a stream spell (MS-OLEPS 2.21). A value is looked for where the section lists it, in any order;
-    /// bytes that nothing points at, the section's size and the padding are ignored. No memory is asked for a number or a
-    /// length that the bytes can't hold.
+    /// The set that the bytes of a stream spell (MS-OLEPS 2.21). A value is looked for where the section
+    /// lists it, in any order; bytes that nothing points at, the section's size and the padding are ignored.
+    /// No memory is asked for a number or a length that the bytes can't hold.
     ///
     /// # Errors
-    /// `InvalidData` where the bytes spell no set: a field, a value or a text goes past the end; the mark, the version, the
-    /// system or the reserved number is none that is known; a type is unknown, or an 8-bit number stands in a set of version 0;
-    /// a text ends in no null, or isn't read in its page; property 1 is no 16-bit number of a known page; an id is listed twice.
-    /// `OutOfMemory`.
+    /// `InvalidData` where the bytes spell no set: a field, a value or a text goes past the end; the mark,
+    /// the version, the system or the reserved number is none that is known; a type is unknown, or an 8-bit
+    /// number stands in a set of version 0; a text ends in no null, or isn't read in its page; property 1 is
+    /// no 16-bit number of a known page; an id is listed twice. Else `OutOfMemory` where the values can't be
+    /// stored.
     pub fn read(alloc: Global, bytes: &[u8]) -> Result<PropertySet, Error>
         // What is read is spelled.
         ensures found { IfOk result (λ set. Spells bytes.now set) }

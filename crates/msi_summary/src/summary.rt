@@ -1,11 +1,13 @@
-//! The summary of a package: a property set of one format, by the names of its properties.
-//! The ids and types are those of the Windows Installer SDK, "Summary Information Stream Property Set".
+//! The summary of a package: a property set of one format, by the names of its properties. The ids and types
+//! are those of the Windows Installer SDK, "Summary Information Stream Property Set".
 
 ghost use Rattle.std.specs.Prelude.{◌≡◌, ◌≢◌, IfOk, IfErr, OnOk, OnErr};
 ghost use Rattle.std.specs.Option.{option_copied};
-ghost use Rattle.msi_text.specs.declared.errors.ErrorKind.TheVariants.{InvalidData, OutOfMemory};
+ghost use Rattle.msi_text.specs.Results.{OnlyMemory};
+ghost use Rattle.msi_text.specs.declared.errors.ErrorKind.TheVariants.{InvalidData};
 ghost use Rattle.msi_summary.specs.Properties.{page_of, with_page, with_value, without_value};
-ghost use Rattle.msi_summary.specs.Summary.{new_summary, number_at, summary_format, text_at, time_at, with_number, with_text, with_time};
+ghost use Rattle.msi_summary.specs.Summary.{new_summary, summary_format, number_with_id, text_with_id, time_with_id};
+ghost use Rattle.msi_summary.specs.Summary.{with_number, with_text, with_time};
 
 mod identity;
 mod keywords;
@@ -23,15 +25,16 @@ use msi_text::timestamp::Timestamp;
 use std::alloc::Global;
 use std::marker::Model;
 
-/// What says that a property set is a summary.
+/// The format identifier that says that a property set is a summary (FMTID_SummaryInformation of MS-OLEPS).
 const FORMAT: [u8; 16] = [
     0xE0, 0x85, 0x9F, 0xF2, 0xF9, 0x4F, 0x68, 0x10, 0xAB, 0x91, 0x08, 0x00, 0x2B, 0x27, 0xB3, 0xD9,
 ];
 
-/// The summary of a package. Contracts see its property set.
+/// The summary of a package: a property set of the summary's format (MS-OLEPS 2.21), whose properties have
+/// names. Contracts see the property set.
 ///
-/// A getter answers nothing, or an empty list, where its property is missing or has another type.
-/// A setter that is refused leaves the summary as it was.
+/// A getter answers nothing, or an empty list, where its property is missing or has another type. A setter
+/// that is refused leaves the summary as it was.
 #[derive(Drop)]
 pub struct SummaryInfo {
     properties: PropertySet,
@@ -53,7 +56,7 @@ impl SummaryInfo {
     /// A new summary: a title, and nothing else but the page, UTF-8.
     pub(crate) fn new(alloc: Global, title: &str) -> Result<SummaryInfo, Error>
         ensures ok { IfOk result (λ summary. summary ≡ new_summary title.now) }
-        ensures kind { IfErr result (λ kind. kind ≡ OutOfMemory) }
+        ensures kind { OnlyMemory result }
     {
         let mut properties = PropertySet::new(alloc, OperatingSystem::Win32, 10, FORMAT);
         properties.set_codepage(CodePage::Utf8)?;
@@ -77,7 +80,8 @@ impl SummaryInfo {
 
     /// The property set, borrowed.
     pub(crate) fn properties(&self) -> &PropertySet
-        ensures { result.now ≡ self.now }
+        ensures set { result.now ≡ self.now }
+        ensures format { self.now.format_identifier ≡ summary_format }
     {
         &self.properties
     }
@@ -90,21 +94,24 @@ impl SummaryInfo {
         properties
     }
 
-    /// The page in which the texts are written.
+    /// The page in which the texts are spelled (MS-OLEPS 2.18.2): the one that property 1 names, and UTF-8
+    /// without it.
     pub fn codepage(&self) -> CodePage
         ensures { result ≡ page_of self.now }
     {
         self.properties.codepage()
     }
 
-    /// Sets the page.
+    /// Sets the page in which the texts are spelled (property 1, MS-OLEPS 2.18.2). The texts stay, also where
+    /// the page carries them no longer; the summary can't be written then. When refused, the summary is as
+    /// before.
     ///
     /// # Errors
-    /// `OutOfMemory`.
+    /// `OutOfMemory` where the property can't be stored.
     pub fn set_codepage(&mut self, page: CodePage) -> Result<(), Error>
         ensures ok { OnOk result (self.new ≡ with_page page self.old) }
         ensures page { OnOk result (page_of self.new ≡ page) }
-        ensures kind { IfErr result (λ kind. kind ≡ OutOfMemory) }
+        ensures kind { OnlyMemory result }
         ensures err { OnErr result (self.new ≡ self.old) }
     {
         self.properties.set_codepage(page)
@@ -112,7 +119,7 @@ impl SummaryInfo {
 
     /// The text of a property.
     fn text(&self, id: u32) -> Option<&str>
-        ensures { option_copied result ≡ text_at id self.now }
+        ensures { option_copied result ≡ text_with_id id self.now }
     {
         match self.properties.get(id) {
             Some(PropertyValue::LpStr(text)) => Some(text.as_str()),
@@ -122,7 +129,7 @@ impl SummaryInfo {
 
     /// The number of a property.
     fn number(&self, id: u32) -> Option<i32>
-        ensures { result ≡ number_at id self.now }
+        ensures { result ≡ number_with_id id self.now }
     {
         match self.properties.get(id) {
             Some(PropertyValue::I4(number)) => Some(*number),
@@ -132,7 +139,7 @@ impl SummaryInfo {
 
     /// The moment of a property.
     fn time(&self, id: u32) -> Option<Timestamp>
-        ensures { result ≡ time_at id self.now }
+        ensures { result ≡ time_with_id id self.now }
     {
         match self.properties.get(id) {
             Some(PropertyValue::FileTime(time)) => Some(*time),
@@ -144,7 +151,7 @@ impl SummaryInfo {
     fn put(&mut self, id: u32, value: PropertyValue) -> Result<(), Error>
         requires { id ≢ 1 }
         ensures ok { OnOk result (self.new ≡ with_value id value self.old) }
-        ensures kind { IfErr result (λ kind. kind ≡ OutOfMemory) }
+        ensures kind { OnlyMemory result }
         ensures err { OnErr result (self.new ≡ self.old) }
     {
         self.properties.put(id, value)
@@ -154,7 +161,7 @@ impl SummaryInfo {
     fn set_text<S: IntoText>(&mut self, id: u32, text: S) -> Result<(), Error>
         requires { id ≢ 1 }
         ensures ok { OnOk result (self.new ≡ with_text id (S.text text) self.old) }
-        ensures kind { IfErr result (λ kind. kind ≡ OutOfMemory) }
+        ensures kind { OnlyMemory result }
         ensures err { OnErr result (self.new ≡ self.old) }
     {
         let text = text.into_text(self.properties.allocator())?;
@@ -165,7 +172,7 @@ impl SummaryInfo {
     fn set_number(&mut self, id: u32, number: i32) -> Result<(), Error>
         requires { id ≢ 1 }
         ensures ok { OnOk result (self.new ≡ with_number id number self.old) }
-        ensures kind { IfErr result (λ kind. kind ≡ OutOfMemory) }
+        ensures kind { OnlyMemory result }
         ensures err { OnErr result (self.new ≡ self.old) }
     {
         self.put(id, PropertyValue::I4(number))
@@ -175,7 +182,7 @@ impl SummaryInfo {
     fn set_time(&mut self, id: u32, time: Timestamp) -> Result<(), Error>
         requires { id ≢ 1 }
         ensures ok { OnOk result (self.new ≡ with_time id time self.old) }
-        ensures kind { IfErr result (λ kind. kind ≡ OutOfMemory) }
+        ensures kind { OnlyMemory result }
         ensures err { OnErr result (self.new ≡ self.old) }
     {
         self.put(id, PropertyValue::FileTime(time))

@@ -1,22 +1,27 @@
 //! A set written as its bytes.
 
-ghost use Rattle.std.specs.Prelude.{◌≡◌, ℕ, ◌+◌, ◌-◌, ◌*◌, ◌%◌, ◌^◌, ◌<◌, ◌⊎◌, ◌↔◌, ◌++◌, List, IsTrue, true, false, length, [], OnOk, IfOk, IfErr, IsErrOf, Some, option_map, unwrap_or, is_some, replicate};
+ghost use Rattle.std.specs.Prelude.{◌≡◌, ℕ, ◌+◌, ◌-◌, ◌%◌, ◌^◌, ◌<◌, ◌⊎◌, ◌↔◌, ◌++◌, List, [], length, replicate};
+ghost use Rattle.std.specs.Prelude.{true, false, IsTrue, OnOk, OnErr, IfOk, IfErr, IsErrOf};
+ghost use Rattle.std.specs.Prelude.{Some, option_map, unwrap_or, is_some};
 ghost use Rattle.std.specs.Int.{w32, to_le_bytes};
 ghost use Rattle.std.specs.List.{flat_map};
 ghost use Rattle.std.specs.Io.KnownBytes.{Appends};
-ghost use Rattle.msi_text.specs.Pages.{bytes_in};
-ghost use Rattle.msi_text.specs.PoolWriting.{is_untold};
+ghost use Rattle.msi_text.specs.PoolWriting.{is_refused_spelling};
+ghost use Rattle.msi_text.specs.Results.{OnlyMemory};
 ghost use Rattle.msi_text.specs.declared.errors.ErrorKind.TheVariants.{InvalidInput, Io, OutOfMemory};
 ghost use Rattle.msi_summary.specs.Properties.{page_of};
-ghost use Rattle.msi_summary.specs.PropertyStream.{os_number, needs_version_1 as is_of_version_1, version_of, least_version as least_version_of, header_bytes, section_head, pair_bytes, string_bytes_of, value_bytes, piece_of, property_stream, AreWritable, FitsValue, Spells};
-ghost use Rattle.msi_summary.specs.PropertyLaws.{AreInRange};
-ghost use Rattle.msi_summary.specs.PropertyWriting.{is_refused, is_told, section_size, pairs_from, piece_in, values_in};
+ghost use Rattle.msi_summary.specs.PropertyStream.{os_number, header_bytes, version_of, least_version as version_in};
+ghost use Rattle.msi_summary.specs.PropertyStream.{needs_version_1 as is_of_version_1, value_bytes, piece_of};
+ghost use Rattle.msi_summary.specs.PropertyStream.{pair_bytes, section_head, property_stream, AreWritable, Spells};
+ghost use Rattle.msi_summary.specs.PropertyWriting.{can_write, is_refused, joined_pieces, piece_in, plain_pairs};
+ghost use Rattle.msi_summary.specs.PropertyWriting.{section_size};
 
 use crate::header::MARK;
 use crate::propset::{OperatingSystem, PropertySet, PropertyValue};
 use crate::reasons;
 use msi_text::codepage::CodePage;
 use msi_text::errors::{Error, ErrorKind};
+use msi_text::fields::{push_u16, push_u32};
 use msi_text::parts::encoded_len;
 use msi_text::reasons::PAGE_CHARACTER;
 use std::alloc::AllocError;
@@ -26,16 +31,18 @@ use std::io::Write;
 /// Where the section stands: behind the header.
 const SECTION: u32 = 48;
 
-/// From how many bytes on a section isn't written.
+/// From how many bytes on a text or a section isn't written.
 const LONG_END: usize = 1 << 32;
 
 impl PropertySet {
-    /// Writes the set in its plain spelling, behind what the writer holds: the least version that fits, the section at byte
-    /// 48, and the values in the order of their ids without gaps, each padded to four bytes (MS-OLEPS 2.21).
+    /// Writes the set behind what the writer holds, in its plain spelling (MS-OLEPS 2.21): version 1 where a
+    /// value is an `I1`, else 0; the section at byte 48; the values in the order of their ids without gaps,
+    /// each padded with zeros to a multiple of four bytes; the texts in the set's page.
     ///
     /// # Errors
-    /// `InvalidInput` where the page doesn't carry a text, or the section would have 2^32 bytes or more; nothing is written
-    /// then. `OutOfMemory`; `Io` where the writer fails.
+    /// `InvalidInput` where the page doesn't carry a text, or the section would have 2^32 bytes or more; the
+    /// writer is then as it was. Else `OutOfMemory` where the bytes can't be held or the writer asks for
+    /// memory in vain, and `Io` where the writer fails otherwise; it may then hold more than before.
     pub fn write<W: Write>(&self, writer: &mut W) -> Result<(), Error>
         ensures ok { OnOk result ((bytes : List ℕ) × (property_stream self.now ≡ Some bytes)
             × Appends (W.contents writer.old) (W.contents writer.new) bytes) }
@@ -47,12 +54,12 @@ impl PropertySet {
         ensures kinds { IfErr result (λ kind. (kind ≡ InvalidInput) ⊎ (kind ≡ OutOfMemory) ⊎ (kind ≡ Io)) }
     {
         let bytes = stream_of(self)?;
-        put(writer, bytes.as_slice())
+        write_bytes(writer, bytes.as_slice())
     }
 }
 
-/// Gives all of the bytes to a writer.
-fn put<W: Write>(writer: &mut W, bytes: &[u8]) -> Result<(), Error>
+/// Writes all of the bytes.
+fn write_bytes<W: Write>(writer: &mut W, bytes: &[u8]) -> Result<(), Error>
     ensures ok { OnOk result (Appends (W.contents writer.old) (W.contents writer.new) bytes.now) }
     ensures kinds { IfErr result (λ kind. (kind ≡ OutOfMemory) ⊎ (kind ≡ Io)) }
 {
@@ -61,7 +68,7 @@ fn put<W: Write>(writer: &mut W, bytes: &[u8]) -> Result<(), Error>
 }
 
 /// The bytes of the stream.
-fn stream_of(set: &PropertySet) -> Result<Vec<u8>, Error>
+pub(crate) fn stream_of(set: &PropertySet) -> Result<Vec<u8>, Error>
     ensures ok { IfOk result (λ bytes. property_stream set.now ≡ Some bytes.items) }
     ensures spelled { IfOk result (λ bytes. AreWritable set.now → Spells bytes.items set.now) }
     ensures refused { IsErrOf result InvalidInput ↔ IsTrue (is_refused set.now) }
@@ -75,11 +82,11 @@ fn stream_of(set: &PropertySet) -> Result<Vec<u8>, Error>
 /// The bytes of the stream of a set that can be written, in its page and with a section of this size.
 fn plain_bytes(set: &PropertySet, page: CodePage, size: u32) -> Result<Vec<u8>, Error>
     requires page { page ≡ page_of set.now }
-    requires told { is_told page set.now.values ≡ true }
+    requires accepted { can_write page set.now.values ≡ true }
     requires size { size ≡ section_size page set.now.values }
     ensures ok { IfOk result (λ bytes. property_stream set.now ≡ Some bytes.items) }
     ensures spelled { IfOk result (λ bytes. AreWritable set.now → Spells bytes.items set.now) }
-    ensures kind { IfErr result (λ kind. kind ≡ OutOfMemory) }
+    ensures kind { OnlyMemory result }
 {
     let values = set.values();
     let mut held = Vec::new(set.allocator());
@@ -91,8 +98,10 @@ fn plain_bytes(set: &PropertySet, page: CodePage, size: u32) -> Result<Vec<u8>, 
 
 /// How many bytes the section has, where it can be written. It takes no memory.
 fn section_len(page: CodePage, values: &BTreeMap<u32, PropertyValue>) -> Result<u32, Error>
-    ensures told { IfOk result (λ size. (is_told page values.now.entries ≡ true) × (size ≡ section_size page values.now.entries)) }
-    ensures refused { IfErr result (λ kind. (kind ≡ InvalidInput) × (is_told page values.now.entries ≡ false)) }
+    ensures accepted { OnOk result (can_write page values.now.entries ≡ true) }
+    ensures size { IfOk result (λ size. size ≡ section_size page values.now.entries) }
+    ensures refused { OnErr result (can_write page values.now.entries ≡ false) }
+    ensures kind { IfErr result (λ kind. kind ≡ InvalidInput) }
 {
     let mut size = 8;
     for (_, value) in values {
@@ -106,9 +115,11 @@ fn section_len(page: CodePage, values: &BTreeMap<u32, PropertyValue>) -> Result<
 
 /// How many bytes a value has with its padding, where the page carries it and they aren't too many.
 fn piece_len(page: CodePage, value: &PropertyValue) -> Result<usize, Error>
-    ensures told { IfOk result (λ len. (is_some (value_bytes page value.now) ≡ true) × (len ≡ length (piece_in page value.now))) }
+    ensures carried { OnOk result (is_some (value_bytes page value.now) ≡ true) }
+    ensures len { IfOk result (λ len. len ≡ length (piece_in page value.now)) }
     ensures below { IfOk result (λ len. len < 2 ^ 33) }
-    ensures refused { IfErr result (λ kind. (kind ≡ InvalidInput) × (is_untold (piece_of page value.now) ≡ true)) }
+    ensures refused { OnErr result (is_refused_spelling (piece_of page value.now) ≡ true) }
+    ensures kind { IfErr result (λ kind. kind ≡ InvalidInput) }
 {
     let len = value_len(page, value)?;
     Ok(len + padding(len))
@@ -125,9 +136,10 @@ fn padding(len: usize) -> usize
 
 /// How many bytes a value has, where the page carries it and they aren't too many.
 fn value_len(page: CodePage, value: &PropertyValue) -> Result<usize, Error>
-    ensures told { IfOk result (λ len. option_map length (value_bytes page value.now) ≡ Some len) }
+    ensures len { IfOk result (λ len. option_map length (value_bytes page value.now) ≡ Some len) }
     ensures below { IfOk result (λ len. len < 2 ^ 32 + 9) }
-    ensures refused { IfErr result (λ kind. (kind ≡ InvalidInput) × (is_untold (value_bytes page value.now) ≡ true)) }
+    ensures refused { OnErr result (is_refused_spelling (value_bytes page value.now) ≡ true) }
+    ensures kind { IfErr result (λ kind. kind ≡ InvalidInput) }
 {
     match value {
         PropertyValue::Empty => Ok(4),
@@ -142,9 +154,10 @@ fn value_len(page: CodePage, value: &PropertyValue) -> Result<usize, Error>
 
 /// How many bytes a text has as a value: its type, its length, its bytes in the page and a null.
 fn string_len(page: CodePage, text: &str) -> Result<usize, Error>
-    ensures told { IfOk result (λ len. option_map length (option_map string_bytes_of (bytes_in page text.now)) ≡ Some len) }
+    ensures len { IfOk result (λ len. option_map length (value_bytes page (PropertyValue.LpStr text.now)) ≡ Some len) }
     ensures below { IfOk result (λ len. len < 2 ^ 32 + 9) }
-    ensures refused { IfErr result (λ kind. (kind ≡ InvalidInput) × (is_untold (option_map string_bytes_of (bytes_in page text.now)) ≡ true)) }
+    ensures refused { OnErr result (is_refused_spelling (value_bytes page (PropertyValue.LpStr text.now)) ≡ true) }
+    ensures kind { IfErr result (λ kind. kind ≡ InvalidInput) }
 {
     match encoded_len(page, text) {
         None => Err(Error::new(ErrorKind::InvalidInput, PAGE_CHARACTER)),
@@ -160,17 +173,16 @@ fn string_len(page: CodePage, text: &str) -> Result<usize, Error>
 
 /// Adds the header.
 fn push_header(held: &mut Vec<u8>, set: &PropertySet) -> Result<(), AllocError>
-    ensures { OnOk result (held.new.items ≡ held.old.items ++ header_bytes set.now (least_version_of set.now) 1 48) }
+    ensures { OnOk result (held.new.items ≡ held.old.items ++ header_bytes set.now (version_in set.now) 1 48) }
 {
-    held.extend_from_slice(&MARK.to_le_bytes())?;
-    held.extend_from_slice(&least_version(set.values()).to_le_bytes())?;
-    held.extend_from_slice(&set.os_version().to_le_bytes())?;
-    held.extend_from_slice(&system_number(set.os()).to_le_bytes())?;
+    push_u16(held, MARK)?;
+    push_u16(held, least_version(set.values()))?;
+    push_u16(held, set.os_version())?;
+    push_u16(held, system_number(set.os()))?;
     held.extend_from_slice(set.clsid())?;
-    held.extend_from_slice(&1u32.to_le_bytes())?;
+    push_u32(held, 1)?;
     held.extend_from_slice(set.format_identifier())?;
-    held.extend_from_slice(&SECTION.to_le_bytes())?;
-    Ok(())
+    push_u32(held, SECTION)
 }
 
 /// The number of a system.
@@ -210,11 +222,12 @@ fn push_section_head(
     values: &BTreeMap<u32, PropertyValue>,
     size: u32,
 ) -> Result<(), AllocError>
-    requires { is_told page values.now.entries ≡ true }
-    ensures { OnOk result (held.new.items ≡ held.old.items ++ section_head size (pairs_from page (8 + 8 * length values.now.entries) values.now.entries)) }
+    requires { can_write page values.now.entries ≡ true }
+    ensures { OnOk result (held.new.items
+        ≡ held.old.items ++ section_head size (plain_pairs page values.now.entries)) }
 {
-    held.extend_from_slice(&size.to_le_bytes())?;
-    held.extend_from_slice(&(values.len() as u32).to_le_bytes())?;
+    push_u32(held, size)?;
+    push_u32(held, values.len() as u32)?;
     push_pairs(held, page, values)
 }
 
@@ -224,8 +237,9 @@ fn push_pairs(
     page: CodePage,
     values: &BTreeMap<u32, PropertyValue>,
 ) -> Result<(), AllocError>
-    requires { is_told page values.now.entries ≡ true }
-    ensures { OnOk result (held.new.items ≡ held.old.items ++ flat_map pair_bytes (pairs_from page (8 + 8 * length values.now.entries) values.now.entries)) }
+    requires { can_write page values.now.entries ≡ true }
+    ensures { OnOk result (held.new.items
+        ≡ held.old.items ++ flat_map pair_bytes (plain_pairs page values.now.entries)) }
 {
     let mut place = 8 + 8 * values.len();
     for (id, value) in values {
@@ -239,14 +253,13 @@ fn push_pairs(
 fn push_pair(held: &mut Vec<u8>, id: u32, place: u32) -> Result<(), AllocError>
     ensures { OnOk result (held.new.items ≡ held.old.items ++ pair_bytes (id, place)) }
 {
-    held.extend_from_slice(&id.to_le_bytes())?;
-    held.extend_from_slice(&place.to_le_bytes())?;
-    Ok(())
+    push_u32(held, id)?;
+    push_u32(held, place)
 }
 
 /// How many bytes a value has that can be written, with its padding.
 fn known_len(page: CodePage, value: &PropertyValue) -> usize
-    requires { is_untold (piece_of page value.now) ≡ false }
+    requires { is_refused_spelling (piece_of page value.now) ≡ false }
     ensures { result ≡ length (piece_in page value.now) }
 {
     match piece_len(page, value) {
@@ -261,10 +274,9 @@ fn push_values(
     page: CodePage,
     values: &BTreeMap<u32, PropertyValue>,
 ) -> Result<(), Error>
-    requires { is_told page values.now.entries ≡ true }
-    ensures ok { OnOk result (held.new.items ≡ held.old.items ++ values_in page values.now.entries) }
-    ensures range { OnOk result (AreInRange values.now.entries) }
-    ensures kind { IfErr result (λ kind. kind ≡ OutOfMemory) }
+    requires { can_write page values.now.entries ≡ true }
+    ensures ok { OnOk result (held.new.items ≡ held.old.items ++ joined_pieces page values.now.entries) }
+    ensures kind { OnlyMemory result }
 {
     for (_, value) in values {
         push_piece(held, page, value)?;
@@ -274,10 +286,9 @@ fn push_values(
 
 /// Adds a value with its padding.
 fn push_piece(held: &mut Vec<u8>, page: CodePage, value: &PropertyValue) -> Result<(), Error>
-    requires { is_untold (piece_of page value.now) ≡ false }
+    requires { is_refused_spelling (piece_of page value.now) ≡ false }
     ensures ok { OnOk result (held.new.items ≡ held.old.items ++ piece_in page value.now) }
-    ensures range { FitsValue value.now }
-    ensures kind { IfErr result (λ kind. kind ≡ OutOfMemory) }
+    ensures kind { OnlyMemory result }
 {
     let start = held.len();
     push_value(held, page, value)?;
@@ -297,10 +308,9 @@ fn push_zeros(held: &mut Vec<u8>, count: usize) -> Result<(), AllocError>
 
 /// Adds a value.
 fn push_value(held: &mut Vec<u8>, page: CodePage, value: &PropertyValue) -> Result<(), Error>
-    requires { is_untold (value_bytes page value.now) ≡ false }
+    requires { is_refused_spelling (value_bytes page value.now) ≡ false }
     ensures ok { OnOk result (held.new.items ≡ held.old.items ++ unwrap_or (value_bytes page value.now) []) }
-    ensures range { FitsValue value.now }
-    ensures kind { IfErr result (λ kind. kind ≡ OutOfMemory) }
+    ensures kind { OnlyMemory result }
 {
     match value {
         PropertyValue::Empty => push_typed(held, 0, &[]),
@@ -316,18 +326,19 @@ fn push_value(held: &mut Vec<u8>, page: CodePage, value: &PropertyValue) -> Resu
 /// Adds the number of a type, and what stands behind it.
 fn push_typed(held: &mut Vec<u8>, kind: u32, payload: &[u8]) -> Result<(), Error>
     ensures ok { OnOk result (held.new.items ≡ held.old.items ++ to_le_bytes w32 kind ++ payload.now) }
-    ensures kind { IfErr result (λ kind. kind ≡ OutOfMemory) }
+    ensures kind { OnlyMemory result }
 {
-    held.extend_from_slice(&kind.to_le_bytes())?;
+    push_u32(held, kind)?;
     held.extend_from_slice(payload)?;
     Ok(())
 }
 
 /// Adds a text as a value: how many bytes it has in the page with the null, those bytes, and the null.
 fn push_string(held: &mut Vec<u8>, page: CodePage, text: &str) -> Result<(), Error>
-    requires { is_untold (option_map string_bytes_of (bytes_in page text.now)) ≡ false }
-    ensures ok { OnOk result (held.new.items ≡ held.old.items ++ unwrap_or (option_map string_bytes_of (bytes_in page text.now)) []) }
-    ensures kind { IfErr result (λ kind. kind ≡ OutOfMemory) }
+    requires { is_refused_spelling (value_bytes page (PropertyValue.LpStr text.now)) ≡ false }
+    ensures ok { OnOk result (held.new.items
+        ≡ held.old.items ++ unwrap_or (value_bytes page (PropertyValue.LpStr text.now)) []) }
+    ensures kind { OnlyMemory result }
 {
     let bytes = page.encode(*held.allocator(), text)?;
     let count = bytes.len() as u32 + 1;

@@ -1,6 +1,6 @@
 //! The summary: what its calls set, give and remove.
 
-use msi_summary::parts::{into_properties, new_summary, properties_of, summary_of};
+use msi_summary::parts::{into_properties, new_summary, properties_of, from_properties};
 use msi_summary::{OperatingSystem, PropertySet, PropertyValue, SummaryInfo};
 use msi_text::{CodePage, ErrorKind, LanguageId, Text, Timestamp};
 use std::alloc::Global;
@@ -18,7 +18,7 @@ fn with_text(alloc: Global, id: u32, text: &str) -> Result<SummaryInfo, Fail> {
     let mut properties = into_properties(summary(alloc)?);
     let text = Text::from_string(String::from_str(alloc, text)?);
     properties.set(id, PropertyValue::LpStr(text))?;
-    Ok(summary_of(properties)?)
+    Ok(from_properties(properties)?)
 }
 
 /// The text of a property, as it is kept.
@@ -256,11 +256,11 @@ fn another_type_is_no_text_and_another_format_no_summary(rt: HostRuntime) -> Res
     let mut properties = into_properties(summary(alloc)?);
     properties.set(2, PropertyValue::I4(7))?;
     properties.set(14, PropertyValue::I2(7))?;
-    let summary = summary_of(properties)?;
+    let summary = from_properties(properties)?;
     assert_eq!(rt; summary.title(), None);
     assert_eq!(rt; summary.page_count(), None);
     let other = PropertySet::new(alloc, OperatingSystem::Win16, 3, [7; 16]);
-    match summary_of(other) {
+    match from_properties(other) {
         Ok(_) => panic!(rt; "another format was taken"),
         Err(error) => assert_eq!(rt; error.kind(), ErrorKind::InvalidData),
     }

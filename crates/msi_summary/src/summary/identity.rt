@@ -1,7 +1,8 @@
-//! The summary's UUID, which tells one package from another.
+//! The summary's UUID, which tells one package from another (Revision Number of the Windows Installer SDK,
+//! property 9).
 
-ghost use Rattle.std.specs.Prelude.{◌≡◌, IfErr, OnOk, OnErr};
-ghost use Rattle.msi_text.specs.declared.errors.ErrorKind.TheVariants.{OutOfMemory};
+ghost use Rattle.std.specs.Prelude.{◌≡◌, OnOk, OnErr};
+ghost use Rattle.msi_text.specs.Results.{OnlyMemory};
 ghost use Rattle.msi_summary.specs.Properties.{without_value};
 ghost use Rattle.msi_summary.specs.Summary.{uuid_id, uuid_of, with_uuid, without_braces};
 ghost use Rattle.uuid.specs.Text.{parsed};
@@ -29,7 +30,9 @@ fn uuid_in(text: &str) -> Option<Uuid>
 }
 
 impl SummaryInfo {
-    /// The UUID; none where the text is in no form of one.
+    /// The UUID of the package (property 9), read from its text without the braces at its ends, in any form
+    /// of a UUID's text. None where the property is missing or of another type, and where the text is in no
+    /// form of a UUID.
     pub fn uuid(&self) -> Option<Uuid>
         ensures { result ≡ uuid_of self.now }
     {
@@ -37,20 +40,21 @@ impl SummaryInfo {
         uuid_in(without_braces(text))
     }
 
-    /// Sets the UUID, in braces and in upper case.
+    /// Sets the UUID of the package (property 9), as a text in braces and in upper case. When refused, the
+    /// summary is as before.
     ///
     /// # Errors
-    /// `OutOfMemory`.
+    /// `OutOfMemory` where the text can't be made or stored.
     pub fn set_uuid(&mut self, uuid: Uuid) -> Result<(), Error>
         ensures ok { OnOk result (self.new ≡ with_uuid uuid self.old) }
-        ensures kind { IfErr result (λ kind. kind ≡ OutOfMemory) }
+        ensures kind { OnlyMemory result }
         ensures err { OnErr result (self.new ≡ self.old) }
     {
         let text = braced_uuid(self.properties.allocator(), uuid)?;
         self.put(UUID, PropertyValue::LpStr(text))
     }
 
-    /// Removes the UUID.
+    /// Removes the UUID of the package (property 9), where it is there. It can't be refused.
     pub fn clear_uuid(&mut self)
         ensures { self.new ≡ without_value uuid_id self.old }
     {

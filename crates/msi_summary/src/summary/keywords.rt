@@ -1,9 +1,10 @@
-//! The keywords: one text, in which they are parted by `; `.
+//! The keywords (Keywords of the Windows Installer SDK, property 5): one text, in which a semicolon and a space
+//! part each two.
 
-ghost use Rattle.std.specs.Prelude.{◌≡◌, [], IfOk, IfErr, OnOk, OnErr, codes, map, string_bytes};
+ghost use Rattle.std.specs.Prelude.{◌≡◌, [], IfOk, OnOk, OnErr, codes, map, string_bytes};
 ghost use Rattle.std.specs.List.{join_by};
 ghost use Rattle.std.specs.Str.{trim_end};
-ghost use Rattle.msi_text.specs.declared.errors.ErrorKind.TheVariants.{OutOfMemory};
+ghost use Rattle.msi_text.specs.Results.{OnlyMemory};
 ghost use Rattle.msi_summary.specs.Summary.{keyword_pieces, keywords_in, keywords_of, with_keywords};
 
 use crate::summary::SummaryInfo;
@@ -15,7 +16,7 @@ const KEYWORDS: u32 = 5;
 /// The pieces of a text that is cut at each `; `, without white space at their right ends.
 fn trimmed_pieces(alloc: Global, text: &str) -> Result<Vec<String>, Error>
     ensures ok { IfOk result (λ words. map string_bytes words.items ≡ map trim_end (keyword_pieces text.now)) }
-    ensures kind { IfErr result (λ kind. kind ≡ OutOfMemory) }
+    ensures kind { OnlyMemory result }
 {
     let mut words = Vec::new(alloc);
     for piece in text.split("; ") {
@@ -27,7 +28,7 @@ fn trimmed_pieces(alloc: Global, text: &str) -> Result<Vec<String>, Error>
 /// The keywords of a text: none in the empty one.
 fn keywords_in(alloc: Global, text: &str) -> Result<Vec<String>, Error>
     ensures ok { IfOk result (λ words. map string_bytes words.items ≡ keywords_in text.now) }
-    ensures kind { IfErr result (λ kind. kind ≡ OutOfMemory) }
+    ensures kind { OnlyMemory result }
 {
     if text.is_empty() {
         return Ok(Vec::new(alloc));
@@ -38,7 +39,7 @@ fn keywords_in(alloc: Global, text: &str) -> Result<Vec<String>, Error>
 /// The words, with `; ` between each two.
 fn joined(alloc: Global, words: &[String]) -> Result<String, Error>
     ensures ok { IfOk result (λ text. string_bytes text ≡ join_by string_bytes (codes "; ") words.now) }
-    ensures kind { IfErr result (λ kind. kind ≡ OutOfMemory) }
+    ensures kind { OnlyMemory result }
 {
     let Some((first, others)) = words.split_first() else {
         return Ok(String::new(alloc));
@@ -52,13 +53,15 @@ fn joined(alloc: Global, words: &[String]) -> Result<String, Error>
 }
 
 impl SummaryInfo {
-    /// The keywords, without white space at their right ends. Between two `; ` in a row there is an empty one.
+    /// The keywords (property 5), in order: the pieces of their text between each two `; `, without the white
+    /// space at their right ends. Between two `; ` in a row there is an empty one. None where the property is
+    /// missing, of another type or the empty text.
     ///
     /// # Errors
-    /// `OutOfMemory`.
+    /// `OutOfMemory` where the keywords can't be copied.
     pub fn keywords(&self) -> Result<Vec<String>, Error>
         ensures ok { IfOk result (λ words. map string_bytes words.items ≡ keywords_of self.now) }
-        ensures kind { IfErr result (λ kind. kind ≡ OutOfMemory) }
+        ensures kind { OnlyMemory result }
     {
         keywords_in(
             self.properties.allocator(),
@@ -66,26 +69,29 @@ impl SummaryInfo {
         )
     }
 
-    /// Sets the keywords. A keyword that holds `; ` reads back as several, and a lone empty one as none.
+    /// Sets the keywords (property 5): their text is the keywords with `; ` between each two. A keyword that
+    /// holds `; ` reads back as several, a lone empty one as none, and white space at a right end doesn't
+    /// come back. When refused, the summary is as before.
     ///
     /// # Errors
-    /// `OutOfMemory`.
+    /// `OutOfMemory` where the text can't be made or stored.
     pub fn set_keywords(&mut self, keywords: &[String]) -> Result<(), Error>
         ensures ok { OnOk result (self.new ≡ with_keywords (map string_bytes keywords.now) self.old) }
-        ensures kind { IfErr result (λ kind. kind ≡ OutOfMemory) }
+        ensures kind { OnlyMemory result }
         ensures err { OnErr result (self.new ≡ self.old) }
     {
         let text = joined(self.properties.allocator(), keywords)?;
         self.set_text(KEYWORDS, text)
     }
 
-    /// Sets the keywords to the empty text.
+    /// Sets the keywords (property 5) to the empty text, which reads as no keyword. When refused, the summary
+    /// is as before.
     ///
     /// # Errors
-    /// `OutOfMemory`.
+    /// `OutOfMemory` where the property can't be stored.
     pub fn clear_keywords(&mut self) -> Result<(), Error>
         ensures ok { OnOk result (self.new ≡ with_keywords [] self.old) }
-        ensures kind { IfErr result (λ kind. kind ≡ OutOfMemory) }
+        ensures kind { OnlyMemory result }
         ensures err { OnErr result (self.new ≡ self.old) }
     {
         self.set_keywords(&[])

@@ -1,9 +1,10 @@
-//! The summary's numbers.
+//! The summary's numbers: properties that are an `I4` (MS-OLEPS 2.15). Their names are those of the Windows
+//! Installer SDK.
 
-ghost use Rattle.std.specs.Prelude.{◌≡◌, IfErr, OnOk, OnErr};
-ghost use Rattle.msi_text.specs.declared.errors.ErrorKind.TheVariants.{OutOfMemory};
+ghost use Rattle.std.specs.Prelude.{◌≡◌, OnOk, OnErr};
+ghost use Rattle.msi_text.specs.Results.{OnlyMemory};
 ghost use Rattle.msi_summary.specs.Properties.{without_value};
-ghost use Rattle.msi_summary.specs.Summary.{number_at, number_id, with_number};
+ghost use Rattle.msi_summary.specs.Summary.{number_with_id, number_id, with_number};
 ghost use Rattle.msi_summary.specs.Summary as property;
 
 use crate::summary::SummaryInfo;
@@ -18,104 +19,113 @@ const CHARACTER_COUNT: u32 = 16;
 const DOC_SECURITY: u32 = 19;
 
 impl SummaryInfo {
-    /// The least version of Windows Installer that the package needs, times 100.
+    /// The least version of Windows Installer that the package needs, times 100, so 200 for version 2.0 (Page
+    /// Count, property 14). None where the property is missing or of another type.
     pub fn page_count(&self) -> Option<i32>
-        ensures { result ≡ number_at (number_id property.page_count) self.now }
+        ensures { result ≡ number_with_id (number_id property.page_count) self.now }
     {
         self.number(PAGE_COUNT)
     }
 
-    /// Sets that version, times 100.
+    /// Sets the least version of Windows Installer that the package needs, times 100 (property 14). When
+    /// refused, the summary is as before.
     ///
     /// # Errors
-    /// `OutOfMemory`.
+    /// `OutOfMemory` where the property can't be stored.
     pub fn set_page_count(&mut self, number: i32) -> Result<(), Error>
         ensures ok { OnOk result (self.new ≡ with_number (number_id property.page_count) number self.old) }
-        ensures kind { IfErr result (λ kind. kind ≡ OutOfMemory) }
+        ensures kind { OnlyMemory result }
         ensures err { OnErr result (self.new ≡ self.old) }
     {
         self.set_number(PAGE_COUNT, number)
     }
 
-    /// Removes that version.
+    /// Removes the least version of Windows Installer that the package needs (property 14), where it is
+    /// there. It can't be refused.
     pub fn clear_page_count(&mut self)
         ensures { self.new ≡ without_value (number_id property.page_count) self.old }
     {
         self.clear(PAGE_COUNT);
     }
 
-    /// Where the files lie and how names are spelled, as a sum of flags.
+    /// Where the package's files lie and how their names are spelled, as a sum of flags (Word Count, property
+    /// 15). None where the property is missing or of another type.
     pub fn word_count(&self) -> Option<i32>
-        ensures { result ≡ number_at (number_id property.word_count) self.now }
+        ensures { result ≡ number_with_id (number_id property.word_count) self.now }
     {
         self.number(WORD_COUNT)
     }
 
-    /// Sets those flags.
+    /// Sets where the package's files lie and how their names are spelled (property 15). When refused, the
+    /// summary is as before.
     ///
     /// # Errors
-    /// `OutOfMemory`.
+    /// `OutOfMemory` where the property can't be stored.
     pub fn set_word_count(&mut self, number: i32) -> Result<(), Error>
         ensures ok { OnOk result (self.new ≡ with_number (number_id property.word_count) number self.old) }
-        ensures kind { IfErr result (λ kind. kind ≡ OutOfMemory) }
+        ensures kind { OnlyMemory result }
         ensures err { OnErr result (self.new ≡ self.old) }
     {
         self.set_number(WORD_COUNT, number)
     }
 
-    /// Removes those flags.
+    /// Removes the flags of the package's files (property 15), where they are there. It can't be refused.
     pub fn clear_word_count(&mut self)
         ensures { self.new ≡ without_value (number_id property.word_count) self.old }
     {
         self.clear(WORD_COUNT);
     }
 
-    /// Which transforms are valid, as a sum of flags in a transform.
+    /// Where a transform applies and which errors it passes over, as a sum of flags (Character Count,
+    /// property 16). None where the property is missing or of another type.
     pub fn character_count(&self) -> Option<i32>
-        ensures { result ≡ number_at (number_id property.character_count) self.now }
+        ensures { result ≡ number_with_id (number_id property.character_count) self.now }
     {
         self.number(CHARACTER_COUNT)
     }
 
-    /// Sets those flags.
+    /// Sets where a transform applies and which errors it passes over (property 16). When refused, the
+    /// summary is as before.
     ///
     /// # Errors
-    /// `OutOfMemory`.
+    /// `OutOfMemory` where the property can't be stored.
     pub fn set_character_count(&mut self, number: i32) -> Result<(), Error>
         ensures ok { OnOk result (self.new ≡ with_number (number_id property.character_count) number self.old) }
-        ensures kind { IfErr result (λ kind. kind ≡ OutOfMemory) }
+        ensures kind { OnlyMemory result }
         ensures err { OnErr result (self.new ≡ self.old) }
     {
         self.set_number(CHARACTER_COUNT, number)
     }
 
-    /// Removes those flags.
+    /// Removes the flags of a transform (property 16), where they are there. It can't be refused.
     pub fn clear_character_count(&mut self)
         ensures { self.new ≡ without_value (number_id property.character_count) self.old }
     {
         self.clear(CHARACTER_COUNT);
     }
 
-    /// Whether the package should be changed: 0 without limits, 2 better not, 4 not.
+    /// Whether the package is to be read alone (Security, property 19): 0 says nothing, 2 recommends it, 4
+    /// demands it. None where the property is missing or of another type.
     pub fn doc_security(&self) -> Option<i32>
-        ensures { result ≡ number_at (number_id property.doc_security) self.now }
+        ensures { result ≡ number_with_id (number_id property.doc_security) self.now }
     {
         self.number(DOC_SECURITY)
     }
 
-    /// Sets that number.
+    /// Sets whether the package is to be read alone (property 19): 0 says nothing, 2 recommends it, 4 demands
+    /// it; any other number is accepted too. When refused, the summary is as before.
     ///
     /// # Errors
-    /// `OutOfMemory`.
+    /// `OutOfMemory` where the property can't be stored.
     pub fn set_doc_security(&mut self, number: i32) -> Result<(), Error>
         ensures ok { OnOk result (self.new ≡ with_number (number_id property.doc_security) number self.old) }
-        ensures kind { IfErr result (λ kind. kind ≡ OutOfMemory) }
+        ensures kind { OnlyMemory result }
         ensures err { OnErr result (self.new ≡ self.old) }
     {
         self.set_number(DOC_SECURITY, number)
     }
 
-    /// Removes that number.
+    /// Removes whether the package is to be read alone (property 19), where it is there. It can't be refused.
     pub fn clear_doc_security(&mut self)
         ensures { self.new ≡ without_value (number_id property.doc_security) self.old }
     {

@@ -1,11 +1,13 @@
-//! The template: the architecture, and behind the first `;` the languages, parted by commas.
+//! The template (Template of the Windows Installer SDK, property 7): the architecture, and behind the first
+//! `;` the languages, parted by commas.
 
-ghost use Rattle.std.specs.Prelude.{◌≡◌, ◌++◌, [], IfOk, IfErr, OnOk, OnErr, string_bytes, unwrap_or};
+ghost use Rattle.std.specs.Prelude.{◌≡◌, [], IfOk, OnOk, OnErr, string_bytes, unwrap_or};
 ghost use Rattle.std.specs.Option.{option_copied};
 ghost use Rattle.std.specs.List.{after_first, before_first, filter_map, slice_split};
 ghost use Rattle.msi_text.specs.Numerals.{u16_in};
-ghost use Rattle.msi_text.specs.declared.errors.ErrorKind.TheVariants.{OutOfMemory};
-ghost use Rattle.msi_summary.specs.Summary.{arch_of, is_comma, is_semicolon, languages_of, nonempty, template_of, with_arch, with_languages, with_template};
+ghost use Rattle.msi_text.specs.Results.{OnlyMemory};
+ghost use Rattle.msi_summary.specs.Summary.{arch_of, is_comma, is_semicolon, languages_of, nonempty, template_of};
+ghost use Rattle.msi_summary.specs.Summary.{with_arch, with_languages, with_template};
 
 use crate::summary::SummaryInfo;
 use msi_text::errors::Error;
@@ -56,7 +58,7 @@ fn language_in(text: &str) -> Option<LanguageId>
 /// The languages whose ids stand in a text between commas; what is no such number is left out.
 fn languages_in(alloc: Global, text: &str) -> Result<Vec<LanguageId>, Error>
     ensures ok { IfOk result (λ languages. languages.items ≡ filter_map u16_in (slice_split is_comma text.now)) }
-    ensures kind { IfErr result (λ kind. kind ≡ OutOfMemory) }
+    ensures kind { OnlyMemory result }
 {
     Ok(
         text.split(',')
@@ -76,7 +78,7 @@ impl SummaryInfo {
     /// Sets the template to its two parts.
     fn set_template(&mut self, arch: String, languages: &str) -> Result<(), Error>
         ensures ok { OnOk result (self.new ≡ with_template (string_bytes arch) languages.now self.old) }
-        ensures kind { IfErr result (λ kind. kind ≡ OutOfMemory) }
+        ensures kind { OnlyMemory result }
         ensures err { OnErr result (self.new ≡ self.old) }
     {
         let mut template = arch;
@@ -85,20 +87,25 @@ impl SummaryInfo {
         self.set_text(TEMPLATE, template)
     }
 
-    /// The architecture that the package is for, as `x64`; none where it is empty.
+    /// The architecture that the package is for, as `x64`: what the template (property 7) has before its
+    /// first `;`, or all of it without one. None where that is empty, and where the property is missing or of
+    /// another type.
     pub fn arch(&self) -> Option<&str>
         ensures { option_copied result ≡ arch_of self.now }
     {
         filled(arch_part(self.template()))
     }
 
-    /// Sets the architecture. The languages stay. A `;` ends the architecture: what stands behind it reads as languages.
+    /// Sets the architecture, which the template (property 7) has before its first `;`, and keeps what it has
+    /// behind. So the languages stay, but where the architecture has a `;` itself: it is then read back only
+    /// up to that `;`, and what it has behind becomes the front of the languages' text. When refused, the
+    /// summary is as before.
     ///
     /// # Errors
-    /// `OutOfMemory`.
+    /// `OutOfMemory` where the text can't be made or stored.
     pub fn set_arch<S: IntoText>(&mut self, arch: S) -> Result<(), Error>
         ensures ok { OnOk result (self.new ≡ with_arch (S.text arch) self.old) }
-        ensures kind { IfErr result (λ kind. kind ≡ OutOfMemory) }
+        ensures kind { OnlyMemory result }
         ensures err { OnErr result (self.new ≡ self.old) }
     {
         let alloc = self.properties.allocator();
@@ -107,36 +114,40 @@ impl SummaryInfo {
         self.set_template(arch, languages.as_str())
     }
 
-    /// Sets the architecture to the empty text. The languages stay.
+    /// Sets the architecture to the empty text, which reads as none, and keeps what the template (property 7)
+    /// has behind its first `;`, so the languages stay. When refused, the summary is as before.
     ///
     /// # Errors
-    /// `OutOfMemory`.
+    /// `OutOfMemory` where the text can't be made or stored.
     pub fn clear_arch(&mut self) -> Result<(), Error>
         ensures ok { OnOk result (self.new ≡ with_arch [] self.old) }
-        ensures kind { IfErr result (λ kind. kind ≡ OutOfMemory) }
+        ensures kind { OnlyMemory result }
         ensures err { OnErr result (self.new ≡ self.old) }
     {
         self.set_arch("")
     }
 
-    /// The languages that the package is for. A part between two commas that is no number below 2^16 is passed over.
+    /// The languages that the package is for, in order: the parts between commas that the template (property
+    /// 7) has behind its first `;`, as decimal numbers. A part that is no number below 2^16 is passed over.
+    /// None where there is no `;`, and where the property is missing or of another type.
     ///
     /// # Errors
-    /// `OutOfMemory`.
+    /// `OutOfMemory` where the list can't be made.
     pub fn languages(&self) -> Result<Vec<LanguageId>, Error>
         ensures ok { IfOk result (λ languages. languages.items ≡ languages_of self.now) }
-        ensures kind { IfErr result (λ kind. kind ≡ OutOfMemory) }
+        ensures kind { OnlyMemory result }
     {
         languages_in(self.properties.allocator(), languages_part(self.template()))
     }
 
-    /// Sets the languages. The architecture stays.
+    /// Sets the languages, which the template (property 7) has behind its first `;`, as decimal numbers with
+    /// a comma between each two. The architecture stays. When refused, the summary is as before.
     ///
     /// # Errors
-    /// `OutOfMemory`.
+    /// `OutOfMemory` where the text can't be made or stored.
     pub fn set_languages(&mut self, languages: &[LanguageId]) -> Result<(), Error>
         ensures ok { OnOk result (self.new ≡ with_languages languages.now self.old) }
-        ensures kind { IfErr result (λ kind. kind ≡ OutOfMemory) }
+        ensures kind { OnlyMemory result }
         ensures err { OnErr result (self.new ≡ self.old) }
     {
         let alloc = self.properties.allocator();
@@ -145,13 +156,14 @@ impl SummaryInfo {
         self.set_template(arch, ids.as_str())
     }
 
-    /// Sets the languages to none. The architecture stays.
+    /// Sets the languages, which the template (property 7) has behind its first `;`, to none. The
+    /// architecture stays. When refused, the summary is as before.
     ///
     /// # Errors
-    /// `OutOfMemory`.
+    /// `OutOfMemory` where the text can't be made or stored.
     pub fn clear_languages(&mut self) -> Result<(), Error>
         ensures ok { OnOk result (self.new ≡ with_languages [] self.old) }
-        ensures kind { IfErr result (λ kind. kind ≡ OutOfMemory) }
+        ensures kind { OnlyMemory result }
         ensures err { OnErr result (self.new ≡ self.old) }
     {
         self.set_languages(&[])

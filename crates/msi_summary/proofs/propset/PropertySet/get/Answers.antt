@@ -1,6 +1,6 @@
 use Rattle.std.proofs.Common.{◌∙◌}
-use Rattle.msi_summary.proofs.PropertiesLemmas.{value_at-lookup}
+use Rattle.msi_summary.proofs.PropertiesLemmas.{value_with_id-lookup}
 use Rattle.msi_summary.proofs.propset.PropertySet.get.Goals as goal
 
 pub returns : goal.returns
-returns c = rw (← c.self.view_is) (c.get.ensures.value ∙ value_at-lookup c.args.id _)
+returns c = rw (← c.self.view_is) (c.get.ensures.value ∙ value_with_id-lookup c.args.id _)

@@ -1,7 +1,7 @@
 use Rattle.std.proofs.lemmas.Result.{err_from_is_err_and}
 use Rattle.msi_summary.specs.Reading.{pairs_at}
 use Rattle.msi_summary.proofs.PairsLoopLemmas.{goes_on, no_id, no_place, is_done}
-use Rattle.msi_summary.proofs.header.pairs_of.Goals as goal
+use Rattle.msi_summary.proofs.header.pairs_at.Goals as goal
 
 pub returns : goal.returns
 returns c = is_done c.loop.pairs.items c.args.count c.loop.counter c.loop.rest.now (pairs_at c.args.count c.args.bytes.now) c.loop-test.false c.loop.invariant
