@@ -10,6 +10,7 @@ ghost use Rattle.msi_table.specs.Columns.{HasShortLength, table_of, types_of, ha
 
 use crate::column::{Column, ColumnBuilder, ColumnType};
 pub use crate::columns::{column_index, copied_columns, has_column};
+pub use crate::order::{compare_keys, sort_by_keys};
 use crate::row::{Row, Rows, values_of};
 use crate::table::Table;
 use crate::value::{Value, ValueRef};
@@ -133,12 +134,15 @@ pub fn nullable(column: Column) -> Column
     column.nullable()
 }
 
-/// The rows that the bytes of a table's stream spell; bytes past the last whole row are ignored.
+/// The rows that the bytes of a table's stream spell; bytes past the last whole row are ignored. Each has a cell for each
+/// column, and a table that has a column can store them.
 ///
 /// # Errors
 /// `InvalidData` above 65536 rows; `OutOfMemory`.
 pub fn read_rows(alloc: Global, table: &Table, bytes: &[u8]) -> Result<Vec<Items<ValueRef>>, Error>
     ensures ok { IfOk result (λ rows. rows_in table.now.long (types_of table.now.columns) bytes.now ≡ Some rows.items) }
+    ensures wide { IfOk result (λ rows. AreAsWide table.now.columns rows.items) }
+    ensures fits { IfOk result (λ rows. 0 < length table.now.columns → FitsTable table.now.long (types_of table.now.columns) rows.items) }
     ensures kind { IfErr result (λ kind. kind ≡ (if is_some (rows_in table.now.long (types_of table.now.columns) bytes.now) then OutOfMemory else InvalidData)) }
 {
     reading::read_rows(alloc, table.is_long(), table.columns(), bytes)
