@@ -2,6 +2,8 @@
 pub mod FirstFitLemmas
 pub mod PoolRows
 pub mod TakenLemmas
+pub mod CountLemmas
+pub mod ForgottenLemmas
 pub mod PoolWritingLemmas
 pub mod PoolReadBackLemmas
 pub mod ReadFieldLemmas
@@ -12,5 +14,7 @@ pub mod ReadFaultLemmas
 pub mod PageTablesLemmas
 pub mod PagesLemmas
 pub mod ReadLemmas
+pub mod WriteLemmas
+pub mod NumberLemmas
 pub mod LanguageRowsLemmas
 pub mod CategoryRulesLemmas

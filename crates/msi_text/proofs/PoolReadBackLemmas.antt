@@ -1,5 +1,5 @@
 -- What was written of a pool is read as the pool.
-use Rattle.std.proofs.Common.{◌≡◌, ℕ, ◌^◌, ◌<◌, cond, eqb, ltb, ◌&&◌, false, List, [], ◌∷◌, length, map, Option, Some, None, inl, inr, refl, sym, ap, ◌∙◌, subst, arith}
+use Rattle.std.proofs.Common.{◌≡◌, ℕ, ◌^◌, ◌<◌, cond, eqb, ltb, ◌&&◌, true, false, List, [], ◌∷◌, length, map, Option, Some, None, inl, inr, refl, sym, ap, ◌∙◌, subst, arith}
 use Rattle.std.specs.Prelude.{unwrap_or, option_and_then}
 use Rattle.std.specs.List.{flat_map, AllByRecursion}
 use Rattle.std.proofs.lemmas.Bool.{cases_eq, cases_Bool, or_parts, or_from, or_left, or_right, and_parts, eq-eqb, ne_eqb, ltb-true}
@@ -9,8 +9,8 @@ use Rattle.msi_text.specs.declared.codepage.CodePage.{CodePage}
 use Rattle.msi_text.specs.declared.codepage.CodePage.TheVariants as page
 use Rattle.bstr.specs.Utf8.{pieces_from}
 use Rattle.msi_text.specs.Pages.{IsWritable, text_in, bytes_in, page_id, page_with_id}
-use Rattle.msi_text.specs.Pool.{Place, Entry, short_entry, long_entry, plain_entry, entry_of, place_bytes, SpellsEntry, SpellsEntries, SpellsTexts, PlacesWritten}
-use Rattle.msi_text.specs.PoolWriting.{has_untold, is_untold, piece_of, entry_in}
+use Rattle.msi_text.specs.Pool.{Place, Entry, short_entry, long_entry, plain_entry, entry_of, place_bytes, SpellsEntry, SpellsEntries, SpellsTexts, CountsFit, forgotten}
+use Rattle.msi_text.specs.PoolWriting.{has_refused_text, is_refused_spelling, piece_of, entry_in}
 use Rattle.msi_text.specs.PoolLaws.{PoolsReadBack}
 use Rattle.msi_text.proofs.PoolWritingLemmas.{told_few, free_piece, pool_stream_told, data_stream_told}
 
@@ -51,20 +51,24 @@ reads_some : (f : List ℕ → Option (List ℕ)) (o : Option (List ℕ)) (text 
 reads_some f None text h = cc
 reads_some f (Some bytes) text h = h
 
--- what is written of a place reads as its text
-place_reads : (page : CodePage) (p : Place) → (p.count ≡ 0 → p.text ≡ []) → (0 < p.count → IsWritable page p.text) → text_in page (piece_of page p) ≡ Some p.text
-place_reads page p written writable = elim (cases_eq p.count 0) [
-  | inl free ↦ ap (text_in page) (free_piece page p free) ∙ empty_reads page ∙ ap Some (sym (written free))
+-- what is written of a place reads as its text, and as the empty one where it is free
+place_reads : (page : CodePage) (p : Place) → (0 < p.count → IsWritable page p.text) → text_in page (piece_of page p) ≡ Some (forgotten false p).text
+place_reads page p writable = elim (cases_eq p.count 0) [
+  | inl free ↦
+      ap (text_in page) (free_piece page p free)
+      ∙ empty_reads page
+      ∙ ap (λ b. Some (cond (b && true) [] p.text)) (sym (eq-eqb p.count 0 free))
   | inr used ↦
       ap (λ b. text_in page (unwrap_or (cond b (Some []) (bytes_in page p.text)) [])) (ne_eqb p.count 0 used)
       ∙ reads_some (text_in page) (bytes_in page p.text) p.text (writable (omega arith))
+      ∙ ap (λ b. Some (cond (b && true) [] p.text)) (sym (ne_eqb p.count 0 used))
 ]
 
-entries_spelled : (page : CodePage) (places : List Place) → AllByRecursion (λ p. p.count < 2 ^ 16) places → has_untold page places ≡ false
+entries_spelled : (page : CodePage) (places : List Place) → CountsFit places → has_refused_text page places ≡ false
     → SpellsEntries (flat_map (entry_in page) places) (map (λ p. entry_of p (piece_of page p)) places)
 entries_spelled page [] counts told = omega arith
 entries_spelled page (p ∷ ps) counts told =
-    let parts = or_parts (is_untold (place_bytes page p)) (has_untold page ps) told in (
+    let parts = or_parts (is_refused_spelling (place_bytes page p)) (has_refused_text page ps) told in (
       entry_in page p,
       flat_map (entry_in page) ps,
       refl,
@@ -72,21 +76,21 @@ entries_spelled page (p ∷ ps) counts told =
       entries_spelled page ps (counts.1) (parts.1),
     )
 
-texts_spelled : (page : CodePage) (places : List Place) → PlacesWritten places → AllByRecursion (λ p. (0 < p.count) → IsWritable page p.text) places
-    → SpellsTexts page (flat_map (piece_of page) places) (map (λ p. entry_of p (piece_of page p)) places) places
-texts_spelled page [] written writable = tt
-texts_spelled page (p ∷ ps) written writable = (
+texts_spelled : (page : CodePage) (places : List Place) → AllByRecursion (λ p. (0 < p.count) → IsWritable page p.text) places
+    → SpellsTexts page (flat_map (piece_of page) places) (map (λ p. entry_of p (piece_of page p)) places) (map (forgotten false) places)
+texts_spelled page [] writable = tt
+texts_spelled page (p ∷ ps) writable = (
   piece_of page p,
   flat_map (piece_of page) ps,
   refl,
   refl,
-  place_reads page p (written.0) (writable.0),
+  place_reads page p (writable.0),
   refl,
-  texts_spelled page ps (written.1) (writable.1),
+  texts_spelled page ps (writable.1),
 )
 
 pub pools_read_back : PoolsReadBack
-pools_read_back pool stream texts few counts written writable told stream_is texts_are =
+pools_read_back pool few counts told stream texts stream_is texts_are writable =
     let entry : Place → Entry = λ p. entry_of p (piece_of pool.page p) in
     let entries = map entry pool.places in
     let long : length entries ≡ length pool.places = length-map pool.places entry in
@@ -102,5 +106,5 @@ pools_read_back pool stream texts few counts written writable told stream_is tex
         entries_spelled pool.page pool.places counts told,
         omega arith,
       ),
-      subst (λ ts. SpellsTexts pool.page ts entries pool.places) (sym texts_told) (texts_spelled pool.page pool.places written writable),
+      subst (λ ts. SpellsTexts pool.page ts entries (map (forgotten false) pool.places)) (sym texts_told) (texts_spelled pool.page pool.places writable),
     )

@@ -1,14 +1,16 @@
 -- The pool's stream is read from its header and its entries; and two streams hold at most one pool.
 use Rattle.std.proofs.Common.{◌≡◌, ℕ, ◌+◌, ◌-◌, ◌^◌, ◌<◌, ◌≤◌, Bool, true, false, ltb, List, [], ◌++◌, length, Some, refl, sym, ap, subst, ◌∙◌, arith, inl, inr}
-use Rattle.std.specs.Prelude.{option_map, if◌then◌else◌}
+use Rattle.std.specs.Prelude.{Result, option_map, if◌then◌else◌}
 use Rattle.std.specs.Int.{w32, to_le_bytes}
 use Rattle.std.proofs.lemmas.Bool.{lt-ltb, ltb-true, ltb-false, le-ltb}
 use Rattle.msi_text.specs.declared.codepage.CodePage.{CodePage}
 use Rattle.msi_text.specs.declared.errors.ErrorKind.{ErrorKind}
 use Rattle.msi_text.specs.declared.errors.ErrorKind.TheVariants as kind
 use Rattle.msi_text.specs.Pages.{page_with_id}
-use Rattle.msi_text.specs.Pool.{Entry, Place, Pool, SpellsEntries, SpellsPool, SpellsTexts}
-use Rattle.msi_text.specs.PoolReading.{PoolStream, IsPoolStream, FailsAs, number_at, header_in, pool_with, OnePool, IsPoolInSteps}
+use Rattle.msi_text.specs.Pool.{Entry, Place, Pool, IsPool, SpellsEntries, SpellsPool, SpellsTexts}
+use Rattle.msi_text.specs.PoolReading.{PoolStream, IsPoolStream, header_in, pool_with, OnePool, IsPoolInSteps}
+use Rattle.msi_text.specs.Numbers.{number_at}
+use Rattle.msi_text.specs.Results.{FailsAs, IsUnlessMemory}
 use Rattle.msi_text.proofs.ReadFieldLemmas.{IsBytes, map_some, branch, some_is, given, not_given, wide32, number_takes, number_again}
 use Rattle.msi_text.proofs.ReadEntriesLemmas.{one_list}
 use Rattle.msi_text.proofs.ReadTextsLemmas.{one_texts}
@@ -163,3 +165,27 @@ pool_in_steps pool_stream data_stream pool = (
         subst (λ (page : CodePage). SpellsTexts page data_stream stream.entries pool.places) page-is texts,
       ),
 )
+
+-- a fault of the pool's stream is one of the pool
+pub stream_cut : (k : ErrorKind) (pool_stream data_stream : List ℕ) → ((stream : PoolStream) → IsPoolStream pool_stream stream → FailsAs k (given stream))
+    → (pool : Pool) → IsPool pool_stream data_stream pool → k ≡ kind.OutOfMemory
+stream_cut k pool_stream data_stream cut pool (es, p, texts) = only_memory k (stream_with pool.page pool.long es) (cut (stream_with pool.page pool.long es) p)
+  where
+    only_memory : (k : ErrorKind) (stream : PoolStream) → FailsAs k (given stream) → k ≡ kind.OutOfMemory
+    only_memory kind.AlreadyExists stream f = absurd f
+    only_memory kind.InvalidData stream f = absurd (not_given stream f)
+    only_memory kind.InvalidInput stream f = absurd f
+    only_memory kind.NotFound stream f = absurd f
+    only_memory kind.Io stream f = absurd f
+    only_memory kind.OutOfMemory stream f = refl
+
+-- what reads the texts of the stream reads the pool
+pub pool_only : (pool_stream data_stream : List ℕ) (stream : PoolStream) (r : Result Pool ErrorKind) → IsPoolStream pool_stream stream
+    → ((places : List Place) → SpellsTexts stream.page data_stream stream.entries places → IsUnlessMemory r (pool_with stream places))
+    → (pool : Pool) → IsPool pool_stream data_stream pool → IsUnlessMemory r pool
+pool_only pool_stream data_stream stream r found only pool is =
+    let steps = (pool_in_steps pool_stream data_stream pool).0 is in
+    let here : steps.0 ≡ stream = one_stream pool_stream steps.0 stream steps.1 found in
+    let texts : SpellsTexts stream.page data_stream stream.entries pool.places = subst (λ (x : PoolStream). SpellsTexts x.page data_stream x.entries pool.places) here steps.3 in
+    let same : pool_with stream pool.places ≡ pool = sym (steps.2 ∙ ap (λ (x : PoolStream). pool_with x pool.places) here) in
+    subst (λ (x : Pool). IsUnlessMemory r x) same (only pool.places texts)

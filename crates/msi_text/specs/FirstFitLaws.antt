@@ -1,8 +1,8 @@
 -- What a number of the pool names, and what taking a text and giving a place back do.
-use Rattle.std.specs.Prelude.{◌≡◌, ◌≢◌, ℕ, ◌+◌, ◌-◌, ◌<◌, Bool, List, [], length, max, Option, Some, option_map, slice_get}
+use Rattle.std.specs.Prelude.{◌≡◌, ◌≢◌, ℕ, ◌+◌, ◌-◌, ◌<◌, ◌≤◌, Bool, List, [], length, max, Option, Some, option_map, slice_get}
 use Rattle.std.specs.Option.{option_map_or}
-use Rattle.msi_text.specs.Pool.{Place}
-use Rattle.msi_text.specs.FirstFit.{count_of, taken, given_back}
+use Rattle.msi_text.specs.Pool.{Place, CountsFit}
+use Rattle.msi_text.specs.FirstFit.{count_of, most_places, taken, given_back}
 
 -- the place of a number
 abbrev pub place_at : List Place → ℕ → Option Place
@@ -50,3 +50,14 @@ TakenPlacesHoldTheirText = (long : Bool) (before after : List Place) (text : Lis
 abbrev pub GivenBackTakesOne : Type 0
 GivenBackTakesOne = (before after : List Place) (number : ℕ) → 0 < number
     → given_back before number ≡ Some after → GivesBack number before after
+
+-- a text takes a place that there is, or one that the width can name; and counts keep to 16 bits
+abbrev pub TakenPlacesStayInRange : Type 0
+TakenPlacesStayInRange = (long : Bool) (before after : List Place) (text : List ℕ) (number : ℕ)
+    → taken long before text ≡ Some (number, after)
+    → (number ≤ max (length before) (most_places long)) × (CountsFit before → CountsFit after)
+
+-- giving a place back keeps counts to 16 bits
+abbrev pub GivenBackStaysInRange : Type 0
+GivenBackStaysInRange = (before after : List Place) (number : ℕ)
+    → given_back before number ≡ Some after → CountsFit before → CountsFit after

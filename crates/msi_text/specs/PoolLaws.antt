@@ -1,18 +1,15 @@
--- What was written is read as the pool.
-use Rattle.std.specs.Prelude.{◌≡◌, ℕ, ◌^◌, ◌<◌, ◌≤◌, false, List, length, Some}
-use Rattle.std.specs.List as lists
-use Rattle.msi_text.specs.Pool.{Pool, IsPool, pool_stream, data_stream, AreWritable, PlacesWritten}
+-- What is written of a pool is read as it.
+use Rattle.std.specs.Prelude.{◌≡◌, ℕ, ◌≤◌, false, List, length, Some}
+use Rattle.msi_text.specs.Pool.{Pool, CountsFit, IsPool, pool_stream, data_stream, AreWritable, as_written}
 use Rattle.msi_text.specs.PoolWriting.{is_refused}
 
--- the two streams of a pool hold it, where its counts and places are few enough, a free place has the empty text, what is
--- written of a text reads as the text, and no text is too long
+-- where the page carries each text in use there and back, the two streams that are written hold the pool, but for the texts
+-- of its free places
+abbrev pub ReadsBack : Pool → Type 0
+ReadsBack pool = (stream texts : List ℕ) → pool_stream pool ≡ Some stream → data_stream pool ≡ Some texts
+    → AreWritable pool → IsPool stream texts (as_written pool)
+
+-- so it is of each pool that is in range and isn't refused
 abbrev pub PoolsReadBack : Type 0
-PoolsReadBack = (pool : Pool) (written texts : List ℕ)
-    → length pool.places ≤ 16777215
-    → lists.AllByRecursion (λ p. p.count < 2 ^ 16) pool.places
-    → PlacesWritten pool.places
-    → AreWritable pool
-    → is_refused pool ≡ false
-    → pool_stream pool ≡ Some written
-    → data_stream pool ≡ Some texts
-    → IsPool written texts pool
+PoolsReadBack = (pool : Pool) → length pool.places ≤ 16777215 → CountsFit pool.places → is_refused pool ≡ false
+    → ReadsBack pool

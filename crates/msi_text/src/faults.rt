@@ -1,12 +1,13 @@
-//! Reading a known number of bytes, with the faults of readers as errors of the six kinds.
+//! Reading and writing a known number of bytes, with the faults of readers and writers as errors of the six kinds.
 
-ghost use Rattle.std.specs.Prelude.{◌≡◌, ◌⊎◌, ◌<◌, IfErr, IfSome, OnOk, length};
-ghost use Rattle.std.specs.Io.KnownBytes.{Consumes};
+ghost use Rattle.std.specs.Prelude.{◌≡◌, ◌⊎◌, ◌<◌, IfErr, IfSome, OnErr, OnOk, length};
+ghost use Rattle.std.specs.Io.KnownBytes.{Appends, Consumes};
+ghost use Rattle.msi_text.specs.Faults.{AppendsPart};
 ghost use Rattle.msi_text.specs.declared.errors.ErrorKind.TheVariants.{InvalidData, Io, OutOfMemory};
 
 use crate::errors::{Error, ErrorKind, Reason};
 use crate::reasons;
-use std::io::{self, Read};
+use std::io::{self, Read, Write};
 
 /// Reads as many bytes as the buffer has.
 ///
@@ -27,6 +28,33 @@ pub fn read_exactly<R: Read>(reader: &mut R, bytes: &mut [u8], cut: Reason) -> R
         }
         match reader.read(&mut bytes[at..]) {
             Ok(0) => return Err(Error::new(ErrorKind::InvalidData, cut)),
+            Ok(n) => at += n,
+            Err(error) => match error.kind() {
+                io::ErrorKind::Interrupted => {}
+                _ => return Err(Error::from(error)),
+            },
+        }
+    }
+    Err(Error::new(ErrorKind::Io, reasons::DEVICE))
+}
+
+/// Writes all of the bytes.
+///
+/// # Errors
+/// `OutOfMemory` or `Io`, where the writer fails or takes no more. It has taken a beginning of the bytes then, perhaps none.
+pub fn write_fully<W: Write>(writer: &mut W, bytes: &[u8]) -> Result<(), Error>
+    ensures ok { OnOk result (Appends (W.contents writer.old) (W.contents writer.new) bytes.now) }
+    ensures part { OnErr result (AppendsPart (W.contents writer.old) (W.contents writer.new) bytes.now) }
+    ensures kind { IfErr result (λ kind. (kind ≡ Io) ⊎ (kind ≡ OutOfMemory)) }
+{
+    // Not `write_all`: its contract doesn't tell what the writer has after an error.
+    let mut at = 0;
+    'writes: for _ in 0..u64::MAX {
+        if at == bytes.len() {
+            return Ok(());
+        }
+        match writer.write(&bytes[at..]) {
+            Ok(0) => return Err(Error::new(ErrorKind::Io, reasons::DEVICE)),
             Ok(n) => at += n,
             Err(error) => match error.kind() {
                 io::ErrorKind::Interrupted => {}

@@ -1,7 +1,7 @@
-//! What holds of the formats themselves: each law is what a function without a body ensures.
+//! What holds of the formats themselves: each law is what a function ensures, mostly one without a body.
 
 ghost use Rattle.msi_text.specs.Categories.{CategoryNamesComeBack};
-ghost use Rattle.msi_text.specs.FirstFitLaws.{TakenPlacesHoldTheirText, GivenBackTakesOne};
+ghost use Rattle.msi_text.specs.FirstFitLaws.{TakenPlacesHoldTheirText, TakenPlacesStayInRange, GivenBackTakesOne, GivenBackStaysInRange};
 ghost use Rattle.msi_text.specs.Languages.{LanguageIdsTellTags, LanguagePartsComeBack, LanguageRowsAscend, LanguageTagsTellIds};
 ghost use Rattle.msi_text.specs.PageTables.{PageTablesAgree};
 ghost use Rattle.msi_text.specs.Pages.{AsciiStandsForItself, PageBytesComeBack, PageIdsTellPages, PageTextsComeBack, Utf8TextsComeBack};
@@ -9,6 +9,12 @@ ghost use Rattle.msi_text.specs.PoolLaws.{PoolsReadBack};
 ghost use Rattle.msi_text.specs.PoolReading.{OnePool, IsPoolInSteps};
 ghost use Rattle.msi_text.specs.References.{ReferencesComeBack};
 ghost use Rattle.msi_text.specs.Times.{MomentsComeBackFromUnix, StoredMomentsComeBack};
+ghost use Rattle.std.specs.Ordering.{nat_cmp};
+ghost use Rattle.std.specs.Prelude.{◌≡◌, ◌↔◌, IsTrue};
+ghost use Rattle.std.specs.declared.cmp.Ordering.TheVariants.{Equal};
+
+use crate::stringpool::StringRef;
+use std::cmp::Ordering;
 
 /// The id of a code page is read as that page.
 pub fn page_ids_tell_pages()
@@ -70,14 +76,39 @@ pub fn references_come_back()
     ensures { ReferencesComeBack }
 {}
 
+/// References are ordered as their numbers, and compare as equal exactly where they are equal.
+pub fn references_are_ordered(a: StringRef, b: StringRef) -> Ordering
+    ensures order { result ≡ nat_cmp a b }
+    ensures equal { (result ≡ Equal) ↔ (a ≡ b) }
+{
+    a.cmp(&b)
+}
+
+/// References are equal exactly where their numbers are.
+pub fn references_are_equal(a: StringRef, b: StringRef) -> bool
+    ensures { IsTrue result ↔ (a ≡ b) }
+{
+    a == b
+}
+
 /// A text that is taken stands at the number that is answered, which one cell more names; no other place changes.
 pub fn taken_places_hold_their_text()
     ensures { TakenPlacesHoldTheirText }
 {}
 
+/// A text takes a place that there is, or one whose number the width of references can name; counts keep to 16 bits.
+pub fn taken_places_stay_in_range()
+    ensures { TakenPlacesStayInRange }
+{}
+
 /// Giving a place back takes one cell from it, and its text with the last; no other place changes.
 pub fn given_back_takes_one()
     ensures { GivenBackTakesOne }
+{}
+
+/// Giving a place back keeps counts to 16 bits.
+pub fn given_back_stays_in_range()
+    ensures { GivenBackStaysInRange }
 {}
 
 /// Two streams hold at most one pool.
@@ -91,7 +122,8 @@ pub fn pool_in_steps()
     ensures { IsPoolInSteps }
 {}
 
-/// What was written of a pool is read as the pool.
+/// What is written of a pool is read as the pool, but for the texts of its free places, where the page carries each text in
+/// use there and back.
 pub fn pools_read_back()
     ensures { PoolsReadBack }
 {}

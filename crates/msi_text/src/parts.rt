@@ -4,9 +4,11 @@ ghost use Rattle.std.specs.Prelude.{◌≡◌, ◌≤◌, length, option_map};
 ghost use Rattle.msi_text.specs.Pages.{bytes_in};
 
 use crate::codepage::CodePage;
-pub use crate::faults::read_exactly;
+pub use crate::faults::{read_exactly, write_fully};
 pub use crate::spellings::{braced_uuid, language_list, language_text};
 use crate::stringpool::StringRef;
+pub use crate::stringpool::reading::pool_of;
+pub use crate::stringpool::writing::{data_stream_of, pool_stream_of};
 
 /// The place of a number.
 pub fn string_ref(number: u32) -> StringRef

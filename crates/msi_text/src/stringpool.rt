@@ -1,11 +1,10 @@
 //! The pool of texts that a package's tables name by number (`_StringPool` and `_StringData`).
 
-mod fields;
 mod places;
 mod pool;
-mod reading;
+pub(crate) mod reading;
 mod reference;
-mod writing;
+pub(crate) mod writing;
 
 pub use pool::StringPool;
 pub use reading::StringPoolBuilder;

@@ -1,13 +1,14 @@
 //! Moments.
 
-ghost use Rattle.std.specs.Prelude.{◌≡◌, ◌⊎◌, ◌<◌, pos, ◌+ℤ◌, ◌*ℤ◌, int_div, length, IfSome, IfOk, IfErr, OnOk};
+ghost use Rattle.std.specs.Prelude.{◌≡◌, ◌⊎◌, ◌<◌, pos, ◌+ℤ◌, ◌*ℤ◌, int_div, length, IfSome, IfOk, IfErr, OnErr, OnOk};
 ghost use Rattle.std.specs.Int.{w64, saturate_unsigned};
 ghost use Rattle.std.specs.Io.KnownBytes.{Appends};
+ghost use Rattle.msi_text.specs.Faults.{AppendsPart};
 ghost use Rattle.msi_text.specs.Times.{epoch, ticks_of_unix, unix_of_ticks, stored_moment, ReadsMoment};
 ghost use Rattle.msi_text.specs.declared.errors.ErrorKind.TheVariants.{InvalidData, Io, OutOfMemory};
 
 use crate::errors::Error;
-use crate::faults::read_exactly;
+use crate::faults::{read_exactly, write_fully};
 use crate::reasons;
 use std::io::{Read, Write};
 use std::marker::Model;
@@ -90,13 +91,13 @@ impl Timestamp {
     /// Writes the moment: its ticks in 8 bytes, the lowest first (MS-DTYP 2.3.3).
     ///
     /// # Errors
-    /// The writer's faults are `OutOfMemory` or `Io`; some of the bytes may then be written.
+    /// The writer's faults are `OutOfMemory` or `Io`; it has then taken a beginning of the bytes, perhaps none.
     pub fn write_to<W: Write>(self, writer: &mut W) -> Result<(), Error>
         ensures ok { OnOk result (Appends (W.contents writer.old) (W.contents writer.new) (stored_moment self)) }
+        ensures part { OnErr result (AppendsPart (W.contents writer.old) (W.contents writer.new) (stored_moment self)) }
         ensures kind { IfErr result (λ kind. (kind ≡ Io) ⊎ (kind ≡ OutOfMemory)) }
     {
-        writer.write_all(&self.ticks.to_le_bytes())?;
-        Ok(())
+        write_fully(writer, &self.ticks.to_le_bytes())
     }
 }
 

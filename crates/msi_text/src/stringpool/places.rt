@@ -1,7 +1,9 @@
 //! The places of the pool: which one a text takes, and what giving one back leaves.
 
 ghost use Rattle.std.specs.Prelude.{◌≡◌, ◌<◌, ◌≤◌, ◌+◌, IfOk, IfErr, OnOk, OnErr, Some, length, position, vec_len, slice_get, max};
+ghost use Rattle.msi_text.specs.Pool.{CountsFit, forgotten, without_unnamed_texts};
 ghost use Rattle.msi_text.specs.FirstFit.{is_fit, first_fit, with_text_at, count_of, given_back};
+ghost use Rattle.msi_text.specs.Results.{OnlyMemory};
 ghost use Rattle.msi_text.specs.declared.errors.ErrorKind.TheVariants.{OutOfMemory};
 
 use crate::errors::Error;
@@ -49,7 +51,7 @@ impl Place {
     /// The same place once more. The only error is `OutOfMemory`.
     fn clone(&self, alloc: Global) -> Result<Place, Error>
         ensures ok { IfOk result (λ place. place ≡ self.now) }
-        ensures kind { IfErr result (λ kind. kind ≡ OutOfMemory) }
+        ensures kind { OnlyMemory result }
     {
         Ok(Place {
             text: self.text.clone(alloc)?,
@@ -61,7 +63,7 @@ impl Place {
 /// The same places once more. The only error is `OutOfMemory`.
 pub fn clone_places(places: &Vec<Place>) -> Result<Vec<Place>, Error>
     ensures ok { IfOk result (λ copies. copies.items ≡ places.now.items) }
-    ensures kind { IfErr result (λ kind. kind ≡ OutOfMemory) }
+    ensures kind { OnlyMemory result }
 {
     let alloc = *places.allocator();
     let mut copies = Vec::new(alloc);
@@ -100,8 +102,9 @@ pub fn put_at(places: &mut Vec<Place>, at: usize, text: Text) -> Result<(), Erro
     requires room { at < vec_len places.old → count_of (slice_get places.old.items at) < 65535 }
     ensures ok { OnOk result (places.new.items ≡ with_text_at places.old.items at text) }
     ensures len { OnOk result (vec_len places.new ≤ max (vec_len places.old) (at + 1)) }
+    ensures counts { CountsFit places.old.items → CountsFit places.new.items }
     ensures err { OnErr result (places.new.items ≡ places.old.items) }
-    ensures kind { IfErr result (λ kind. kind ≡ OutOfMemory) }
+    ensures kind { OnlyMemory result }
 {
     if at < places.len() {
         let place = &mut places[at];
@@ -119,11 +122,34 @@ pub fn lower_at(places: &mut Vec<Place>, at: usize)
     requires used { 0 < count_of (slice_get places.old.items at) }
     ensures items { given_back places.old.items (at + 1) ≡ Some places.new.items }
     ensures len { vec_len places.new ≡ vec_len places.old }
+    ensures counts { CountsFit places.old.items → CountsFit places.new.items }
 {
     let alloc = *places.allocator();
     let place = &mut places[at];
     place.count -= 1;
     if place.count == 0 {
         place.text = Text::from_string(String::new(alloc));
+    }
+}
+
+/// Empties the text of a place that is free and isn't named.
+fn forget_text(place: &mut Place, named: bool, alloc: Global)
+    ensures { place.new ≡ forgotten named place.old }
+{
+    if place.count == 0 && !named {
+        place.text = Text::from_string(String::new(alloc));
+    }
+}
+
+/// Empties the texts of free places that aren't named.
+pub fn forget_texts(places: &mut Vec<Place>, is_named: &[bool])
+    requires { length is_named.now ≡ vec_len places.old }
+    ensures items { places.new.items ≡ without_unnamed_texts is_named.now places.old.items }
+    ensures len { vec_len places.new ≡ vec_len places.old }
+    ensures counts { CountsFit places.old.items → CountsFit places.new.items }
+{
+    let alloc = *places.allocator();
+    for (i, named) in is_named.iter().enumerate() {
+        forget_text(&mut places[i], *named, alloc);
     }
 }

@@ -2,21 +2,28 @@
 
 ghost use Rattle.std.specs.Prelude.{◌≡◌, IfOk, IfErr, OnOk, OnErr, Some, is_some, is_ok, if◌then◌else◌, [], false, length, string_bytes, ◌≤◌, vec_len};
 ghost use Rattle.std.specs.Option.{option_copied};
+ghost use Rattle.msi_text.specs.Pool.{CountsFit, without_unnamed_texts};
 ghost use Rattle.msi_text.specs.FirstFit.{taken, given_back, most_places as most_of};
 ghost use Rattle.msi_text.specs.FirstFitLaws.{Holds, place_at, text_at, count_at};
+ghost use Rattle.msi_text.specs.Results.{OnlyMemory};
 ghost use Rattle.msi_text.specs.declared.errors.ErrorKind.TheVariants.{InvalidData, InvalidInput, OutOfMemory};
 
 use crate::codepage::CodePage;
 use crate::errors::{Error, ErrorKind};
 use crate::reasons;
-use crate::stringpool::places::{Place, clone_places, first_place_for, lower_at, put_at};
+use crate::stringpool::places::{
+    Place, clone_places, first_place_for, forget_texts, lower_at, put_at,
+};
 use crate::stringpool::reference::StringRef;
 use crate::text::Text;
 use std::alloc::Global;
 use std::marker::Model;
 
+/// The bit above the page's id that says that references are long.
+pub(crate) const LONG: u32 = 1 << 31;
+
 /// How many places a pool may have: as many as long references can name.
-pub const MOST_PLACES: usize = 16_777_215;
+pub(crate) const MOST_PLACES: usize = 16_777_215;
 
 /// Up to how many places one is added where references are short.
 const MOST_SHORT_PLACES: usize = 65_535;
@@ -30,14 +37,14 @@ pub struct StringPool {
 }
 
 impl Model for StringPool {
-    ghost use Rattle.msi_text.specs.Pool.{Pool};
+    ghost use Rattle.msi_text.specs.Pool.{Pool, CountsFit};
     ghost use Rattle.std.specs.Prelude.{◌≤◌, vec_len};
 
     ghost Value = { Pool };
 
     ghost view = { λ p. record { page = p.codepage; long = p.long; places = p.places.items } };
 
-    ghost invariant = { λ p. vec_len p.places ≤ 16777215 };
+    ghost invariant = { λ p. (vec_len p.places ≤ 16777215) × CountsFit p.places.items };
 }
 
 impl StringPool {
@@ -54,7 +61,8 @@ impl StringPool {
 
     /// A pool of its parts.
     pub(crate) fn from_parts(codepage: CodePage, long: bool, places: Vec<Place>) -> StringPool
-        requires { vec_len places ≤ 16777215 }
+        requires most { vec_len places ≤ 16777215 }
+        requires counts { CountsFit places.items }
         ensures { result ≡ record { page = codepage; long = long; places = places.items } }
     {
         StringPool {
@@ -85,9 +93,11 @@ impl StringPool {
         self.long
     }
 
-    /// How many places there are, free ones among them.
+    /// How many places there are, free ones among them: at most 16777215. Each of them is named by at most 65535 cells.
     pub fn num_strings(&self) -> u32
-        ensures { result ≡ length self.now.places }
+        ensures many { result ≡ length self.now.places }
+        ensures most { result ≤ 16777215 }
+        ensures counts { CountsFit self.now.places }
     {
         self.places.len() as u32
     }
@@ -125,7 +135,7 @@ impl StringPool {
     /// `OutOfMemory`.
     pub fn clone(&self) -> Result<StringPool, Error>
         ensures ok { IfOk result (λ pool. pool ≡ self.now) }
-        ensures kind { IfErr result (λ kind. kind ≡ OutOfMemory) }
+        ensures kind { OnlyMemory result }
     {
         Ok(StringPool {
             codepage: self.codepage,
@@ -136,7 +146,9 @@ impl StringPool {
 
     /// The places, from number 1 on.
     pub(crate) fn places(&self) -> &[Place]
-        ensures { result.now ≡ self.now.places }
+        ensures places { result.now ≡ self.now.places }
+        ensures most { length self.now.places ≤ 16777215 }
+        ensures counts { CountsFit self.now.places }
     {
         self.places.as_slice()
     }
@@ -201,5 +213,14 @@ impl StringPool {
         }
         lower_at(&mut self.places, at);
         Ok(())
+    }
+
+    /// Empties the text of each place that is free and isn't named: `is_named` tells it of each place, from number 1 on.
+    /// All else stays. It takes no memory.
+    pub fn forget_texts(&mut self, is_named: &[bool])
+        requires { length is_named.now ≡ length self.old.places }
+        ensures { self.new ≡ record self.old { places = without_unnamed_texts is_named.now self.old.places } }
+    {
+        forget_texts(&mut self.places, is_named);
     }
 }

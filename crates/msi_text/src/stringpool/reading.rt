@@ -4,15 +4,16 @@ ghost use Rattle.std.specs.Prelude.{◌≡◌, ◌⊎◌, ◌<◌, ◌^◌, List
 ghost use Rattle.msi_text.specs.declared.errors.ErrorKind.TheVariants.{Io, InvalidData, OutOfMemory};
 ghost use Rattle.msi_text.specs.Pages.{page_with_id, text_in};
 ghost use Rattle.msi_text.specs.Pool as pools;
-ghost use Rattle.msi_text.specs.Pool.{SpellsEntries, SpellsTexts};
-ghost use Rattle.msi_text.specs.PoolReading.{PoolStream, IsPoolStream, Gives, IsUnlessFault, IsStreamFault, pool_with, entry_at, place_at, header_in};
+ghost use Rattle.msi_text.specs.Pool.{CountsFit, IsPool, SpellsEntries, SpellsTexts};
+ghost use Rattle.msi_text.specs.PoolReading.{PoolStream, IsPoolStream, IsStreamFault, pool_with, entry_at, place_in_front, header_in};
+ghost use Rattle.msi_text.specs.Results.{Gives, IsUnlessFault, IsUnlessMemory};
 
 use crate::codepage::CodePage;
 use crate::errors::{Error, ErrorKind};
+use crate::fields::{u16_at, u32_at};
 use crate::reasons;
-use crate::stringpool::fields::{LONG, u16_at, u32_at};
 use crate::stringpool::places::Place;
-use crate::stringpool::pool::{MOST_PLACES, StringPool};
+use crate::stringpool::pool::{LONG, MOST_PLACES, StringPool};
 use crate::text::Text;
 use std::alloc::Global;
 use std::io::Read;
@@ -89,14 +90,33 @@ impl StringPoolBuilder {
         ensures kinds { IfErr result (λ kind. IsStreamFault kind) }
     {
         let bytes = bytes_of(alloc, reader)?;
-        let places = places_of(
-            alloc,
-            self.codepage,
-            self.entries.as_slice(),
-            bytes.as_slice(),
-        )?;
+        self.with_texts(alloc, bytes.as_slice())
+    }
+
+    /// The pool whose texts the bytes spell.
+    fn with_texts(self, alloc: Global, bytes: &[u8]) -> Result<StringPool, Error>
+        ensures found { IfOk result (λ pool. (pool ≡ pool_with self pool.places) × SpellsTexts self.page bytes.now self.entries pool.places) }
+        ensures only { (places : List pools.Place) → SpellsTexts self.page bytes.now self.entries places → IsUnlessMemory result (pool_with self places) }
+        ensures kinds { IfErr result (λ kind. (kind ≡ InvalidData) ⊎ (kind ≡ OutOfMemory)) }
+    {
+        let places = places_of(alloc, self.codepage, self.entries.as_slice(), bytes)?;
         Ok(StringPool::from_parts(self.codepage, self.long, places))
     }
+}
+
+/// The pool that its two streams hold: that of its entries (`_StringPool`) and that of its texts (`_StringData`), whose
+/// bytes past the last text are ignored.
+///
+/// # Errors
+/// `InvalidData` where the bytes hold no pool: an entry is cut, no page has the id, there are more than 16777215 places, the
+/// second stream ends before a text does, or the page can't read a text. Else `OutOfMemory`.
+pub fn pool_of(alloc: Global, pool_bytes: &[u8], data_bytes: &[u8]) -> Result<StringPool, Error>
+    ensures found { IfOk result (λ pool. IsPool pool_bytes.now data_bytes.now pool) }
+    ensures only { (pool : pools.Pool) → IsPool pool_bytes.now data_bytes.now pool → IsUnlessMemory result pool }
+    ensures kinds { IfErr result (λ kind. (kind ≡ InvalidData) ⊎ (kind ≡ OutOfMemory)) }
+{
+    let stream = stream_of(alloc, pool_bytes)?;
+    stream.with_texts(alloc, data_bytes)
 }
 
 /// All that a reader has left.
@@ -115,7 +135,7 @@ fn stream_of(alloc: Global, bytes: &[u8]) -> Result<StringPoolBuilder, Error>
     ensures only { (stream : PoolStream) → IsPoolStream bytes.now stream → Gives (λ s. s) result (Some stream) }
     ensures kinds { IfErr result (λ kind. (kind ≡ InvalidData) ⊎ (kind ≡ OutOfMemory)) }
 {
-    let (header, rest) = u32_at(bytes)?;
+    let (header, rest) = u32_at(bytes, reasons::POOL_CUT)?;
     let (codepage, long) = page_of(header)?;
     let entries = entries_of(alloc, rest)?;
     if entries.len() > MOST_PLACES {
@@ -170,13 +190,13 @@ fn entries_of(alloc: Global, bytes: &[u8]) -> Result<Vec<Entry>, Error>
 fn entry_of(bytes: &[u8]) -> Result<(Entry, &[u8]), Error>
     ensures { Gives (λ x. (x.0, x.1.now)) result (entry_at bytes.now) }
 {
-    let (short, rest) = u16_at(bytes)?;
-    let (count, rest) = u16_at(rest)?;
+    let (short, rest) = u16_at(bytes, reasons::POOL_CUT)?;
+    let (count, rest) = u16_at(rest, reasons::POOL_CUT)?;
     if short > 0 || count == 0 {
         let len = short as u32;
         return Ok((Entry { len, count }, rest));
     }
-    let (len, rest) = u32_at(rest)?;
+    let (len, rest) = u32_at(rest, reasons::POOL_CUT)?;
     Ok((Entry { len, count }, rest))
 }
 
@@ -188,6 +208,7 @@ fn places_of(
     bytes: &[u8],
 ) -> Result<Vec<Place>, Error>
     ensures found { IfOk result (λ places. SpellsTexts codepage bytes.now entries.now places.items) }
+    ensures counts { IfOk result (λ places. CountsFit places.items) }
     ensures only { (places : List pools.Place) → SpellsTexts codepage bytes.now entries.now places → Gives (λ v. v.items) result (Some places) }
     ensures kinds { IfErr result (λ kind. (kind ≡ InvalidData) ⊎ (kind ≡ OutOfMemory)) }
 {
@@ -208,7 +229,8 @@ fn place_of<'a>(
     entry: &Entry,
     bytes: &'a [u8],
 ) -> Result<(Place, &'a [u8]), Error>
-    ensures { Gives (λ x. (x.0, x.1.now)) result (place_at codepage entry.now bytes.now) }
+    ensures gives { Gives (λ x. (x.0, x.1.now)) result (place_in_front codepage entry.now bytes.now) }
+    ensures count { IfOk result (λ x. x.0.count < 2 ^ 16) }
 {
     let len = entry.len as usize;
     if bytes.len() < len {

@@ -1,13 +1,16 @@
 //! References to places of the pool.
 
-ghost use Rattle.std.specs.Prelude.{◌≡◌, ◌⊎◌, ◌<◌, ◌≤◌, pos, true, false, length, IfSome, IfOk, IfErr, OnOk, IsErrOf};
+ghost use Rattle.std.specs.Prelude.{◌≡◌, ◌⊎◌, ◌<◌, ◌≤◌, pos, true, false, length, IfSome, IfOk, IfErr, OnErr, OnOk, IsErrOf};
 ghost use Rattle.std.specs.Io.KnownBytes.{Appends};
+ghost use Rattle.msi_text.specs.Faults.{AppendsPart};
 ghost use Rattle.msi_text.specs.References.{ReadsReference, fits_reference, reference_bytes, reference_width};
 ghost use Rattle.msi_text.specs.declared.errors.ErrorKind.TheVariants.{InvalidData, InvalidInput, Io, OutOfMemory};
 
 use crate::errors::{Error, ErrorKind};
-use crate::faults::read_exactly;
+use crate::faults::{read_exactly, write_fully};
+use crate::fields::number_of;
 use crate::reasons;
+use byteorder::{ByteOrder, LittleEndian};
 use std::io::{Read, Write};
 use std::marker::Model;
 
@@ -66,16 +69,18 @@ impl StringRef {
         let number = if long {
             let mut bytes = [0; 3];
             read_exactly(reader, &mut bytes, reasons::REFERENCE_CUT)?;
-            bytes[0] as u32 + 256 * (bytes[1] as u32 + 256 * bytes[2] as u32)
+            number_of(&bytes)
         } else {
             let mut bytes = [0; 2];
             read_exactly(reader, &mut bytes, reasons::REFERENCE_CUT)?;
-            bytes[0] as u32 + 256 * bytes[1] as u32
+            number_of(&bytes)
         };
         if number == 0 {
             Ok(None)
         } else {
-            Ok(Some(StringRef { number }))
+            Ok(Some(StringRef {
+                number: number as u32,
+            }))
         }
     }
 
@@ -83,26 +88,26 @@ impl StringRef {
     ///
     /// # Errors
     /// `InvalidInput`, with nothing written, for a number above 65535 where references are short. The writer's faults
-    /// are `OutOfMemory` or `Io`; some of the bytes may then be written.
+    /// are `OutOfMemory` or `Io`; it has then taken a beginning of the bytes, perhaps none.
     pub fn write<W: Write>(
         writer: &mut W,
         reference: Option<StringRef>,
         long: bool,
     ) -> Result<(), Error>
         ensures ok { OnOk result (Appends (W.contents writer.old) (W.contents writer.new) (reference_bytes long reference)) }
+        ensures part { OnErr result (AppendsPart (W.contents writer.old) (W.contents writer.new) (reference_bytes long reference)) }
         ensures wide { fits_reference long reference ≡ false → IsErrOf result InvalidInput × (writer.new ≡ writer.old) }
         ensures kind { fits_reference long reference ≡ true → IfErr result (λ kind. (kind ≡ Io) ⊎ (kind ≡ OutOfMemory)) }
     {
         let number = reference.map_or(0, |reference| reference.number);
-        let first = (number % 256) as u8;
-        let second = (number / 256 % 256) as u8;
         if long {
-            let third = (number / 65536) as u8;
-            writer.write_all(&[first, second, third])?;
-            Ok(())
+            let mut bytes = [0; 3];
+            LittleEndian::write_u24(&mut bytes, number);
+            write_fully(writer, &bytes)
         } else if number <= 65535 {
-            writer.write_all(&[first, second])?;
-            Ok(())
+            let mut bytes = [0; 2];
+            LittleEndian::write_u16(&mut bytes, number as u16);
+            write_fully(writer, &bytes)
         } else {
             Err(Error::new(ErrorKind::InvalidInput, reasons::REFERENCE_WIDE))
         }

@@ -1,19 +1,23 @@
 //! Writing the pool's two streams.
 
-ghost use Rattle.std.specs.Prelude.{◌≡◌, ℕ, ◌+◌, ◌<◌, ◌^◌, ◌⊎◌, ◌↔◌, ◌++◌, List, IsTrue, false, length, OnOk, IfOk, IfErr, IsErrOf, Some, option_map, is_some, if◌then◌else◌};
+ghost use Rattle.std.specs.Prelude.{◌≡◌, ℕ, ◌+◌, ◌<◌, ◌^◌, ◌⊎◌, ◌↔◌, ◌++◌, List, [], IsTrue, false, length, OnErr, OnOk, IfOk, IfErr, IsErrOf, Some, option_map, unwrap_or, is_some, if◌then◌else◌};
 ghost use Rattle.std.specs.List.{flat_map};
 ghost use Rattle.std.specs.Io.KnownBytes.{Appends};
+ghost use Rattle.msi_text.specs.Faults.{AppendsPart};
 ghost use Rattle.msi_text.specs.Pages.{page_id};
 ghost use Rattle.msi_text.specs.Pool.{place_bytes, plain_entry, pool_stream, data_stream};
-ghost use Rattle.msi_text.specs.PoolWriting.{is_untold, has_untold, is_refused, piece_of, entry_in};
+ghost use Rattle.msi_text.specs.PoolLaws.{ReadsBack};
+ghost use Rattle.msi_text.specs.PoolWriting.{is_refused_spelling, has_refused_text, is_refused, piece_of, entry_in};
+ghost use Rattle.msi_text.specs.Results.{OnlyMemory};
 ghost use Rattle.msi_text.specs.declared.errors.ErrorKind.TheVariants.{InvalidInput, Io, OutOfMemory};
 
 use crate::codepage::CodePage;
 use crate::errors::{Error, ErrorKind, Reason};
+use crate::faults::write_fully;
+use crate::fields::{push_u16, push_u32};
 use crate::reasons;
-use crate::stringpool::fields::LONG;
 use crate::stringpool::places::Place;
-use crate::stringpool::pool::StringPool;
+use crate::stringpool::pool::{LONG, StringPool};
 use std::alloc::AllocError;
 use std::io::Write;
 
@@ -28,56 +32,79 @@ impl StringPool {
     ///
     /// # Errors
     /// `InvalidInput` where a text in use isn't carried by the page or has 2^32 encoded bytes or more; nothing is written
-    /// then. `OutOfMemory`; `Io` where the writer fails, and some of the bytes may then be written.
+    /// then. `OutOfMemory`; `Io` where the writer fails. It has then taken a beginning of the bytes, perhaps none.
     pub fn write_pool<W: Write>(&self, writer: &mut W) -> Result<(), Error>
         ensures ok { OnOk result ((bytes : List ℕ) × (pool_stream self.now ≡ Some bytes)
             × Appends (W.contents writer.old) (W.contents writer.new) bytes) }
+        ensures spelled { OnOk result (ReadsBack self.now) }
         ensures refused { IsErrOf result InvalidInput ↔ IsTrue (is_refused self.now) }
         ensures unwritten { IsErrOf result InvalidInput → writer.new ≡ writer.old }
+        ensures part { OnErr result
+            (AppendsPart (W.contents writer.old) (W.contents writer.new) (unwrap_or (pool_stream self.now) [])) }
         ensures kinds { IfErr result (λ kind. (kind ≡ InvalidInput) ⊎ (kind ≡ OutOfMemory) ⊎ (kind ≡ Io)) }
     {
-        let bytes = pool_bytes(self)?;
-        put(writer, bytes.as_slice())
+        let bytes = pool_stream_of(self)?;
+        write_fully(writer, bytes.as_slice())
     }
 
     /// Writes the stream of the texts (`_StringData`), behind what the writer holds.
     ///
     /// # Errors
-    /// As `write_pool`.
+    /// `InvalidInput` where a text in use isn't carried by the page or has 2^32 encoded bytes or more; nothing is written
+    /// then. `OutOfMemory`; `Io` where the writer fails. It has then taken a beginning of the bytes, perhaps none.
     pub fn write_data<W: Write>(&self, writer: &mut W) -> Result<(), Error>
         ensures ok { OnOk result ((bytes : List ℕ) × (data_stream self.now ≡ Some bytes)
             × Appends (W.contents writer.old) (W.contents writer.new) bytes) }
+        ensures spelled { OnOk result (ReadsBack self.now) }
         ensures refused { IsErrOf result InvalidInput ↔ IsTrue (is_refused self.now) }
         ensures unwritten { IsErrOf result InvalidInput → writer.new ≡ writer.old }
+        ensures part { OnErr result
+            (AppendsPart (W.contents writer.old) (W.contents writer.new) (unwrap_or (data_stream self.now) [])) }
         ensures kinds { IfErr result (λ kind. (kind ≡ InvalidInput) ⊎ (kind ≡ OutOfMemory) ⊎ (kind ≡ Io)) }
     {
-        let bytes = data_bytes(self)?;
-        put(writer, bytes.as_slice())
+        let bytes = data_stream_of(self)?;
+        write_fully(writer, bytes.as_slice())
     }
 }
 
-/// Gives all of the bytes to a writer.
-fn put<W: Write>(writer: &mut W, bytes: &[u8]) -> Result<(), Error>
-    ensures ok { OnOk result (Appends (W.contents writer.old) (W.contents writer.new) bytes.now) }
-    ensures kinds { IfErr result (λ kind. (kind ≡ OutOfMemory) ⊎ (kind ≡ Io)) }
-{
-    writer.write_all(bytes)?;
-    Ok(())
-}
-
-/// The stream of the entries.
-fn pool_bytes(pool: &StringPool) -> Result<Vec<u8>, Error>
+/// The stream of the entries (`_StringPool`) in its plain spelling.
+///
+/// # Errors
+/// `InvalidInput` where a text in use isn't carried by the page or has 2^32 encoded bytes or more. Else `OutOfMemory`.
+pub fn pool_stream_of(pool: &StringPool) -> Result<Vec<u8>, Error>
     ensures ok { IfOk result (λ bytes. pool_stream pool.now ≡ Some bytes.items) }
+    ensures spelled { OnOk result (ReadsBack pool.now) }
     ensures refused { IsErrOf result InvalidInput ↔ IsTrue (is_refused pool.now) }
     ensures kinds { IfErr result (λ kind. (kind ≡ InvalidInput) ⊎ (kind ≡ OutOfMemory)) }
 {
     let page = pool.codepage();
-    if let Some(reason) = refusal(page, pool.places()) {
+    let places = pool.places();
+    if let Some(reason) = refusal(page, places) {
         return Err(Error::new(ErrorKind::InvalidInput, reason));
     }
     let mut held = Vec::new(pool.allocator());
-    held.extend_from_slice(&header(page, pool.long_string_refs()).to_le_bytes())?;
-    push_entries(&mut held, page, pool.places())?;
+    push_u32(&mut held, header(page, pool.long_string_refs()))?;
+    push_entries(&mut held, page, places)?;
+    Ok(held)
+}
+
+/// The stream of the texts (`_StringData`).
+///
+/// # Errors
+/// `InvalidInput` where a text in use isn't carried by the page or has 2^32 encoded bytes or more. Else `OutOfMemory`.
+pub fn data_stream_of(pool: &StringPool) -> Result<Vec<u8>, Error>
+    ensures ok { IfOk result (λ bytes. data_stream pool.now ≡ Some bytes.items) }
+    ensures spelled { OnOk result (ReadsBack pool.now) }
+    ensures refused { IsErrOf result InvalidInput ↔ IsTrue (is_refused pool.now) }
+    ensures kinds { IfErr result (λ kind. (kind ≡ InvalidInput) ⊎ (kind ≡ OutOfMemory)) }
+{
+    let page = pool.codepage();
+    let places = pool.places();
+    if let Some(reason) = refusal(page, places) {
+        return Err(Error::new(ErrorKind::InvalidInput, reason));
+    }
+    let mut held = Vec::new(pool.allocator());
+    push_texts(&mut held, page, places)?;
     Ok(held)
 }
 
@@ -89,24 +116,9 @@ fn header(page: CodePage, long: bool) -> u32
     if long { id + LONG } else { id }
 }
 
-/// The stream of the texts.
-fn data_bytes(pool: &StringPool) -> Result<Vec<u8>, Error>
-    ensures ok { IfOk result (λ bytes. data_stream pool.now ≡ Some bytes.items) }
-    ensures refused { IsErrOf result InvalidInput ↔ IsTrue (is_refused pool.now) }
-    ensures kinds { IfErr result (λ kind. (kind ≡ InvalidInput) ⊎ (kind ≡ OutOfMemory)) }
-{
-    let page = pool.codepage();
-    if let Some(reason) = refusal(page, pool.places()) {
-        return Err(Error::new(ErrorKind::InvalidInput, reason));
-    }
-    let mut held = Vec::new(pool.allocator());
-    push_texts(&mut held, page, pool.places())?;
-    Ok(held)
-}
-
 /// Why one of the places can't be written.
 fn refusal(page: CodePage, places: &[Place]) -> Option<Reason>
-    ensures { is_some result ≡ has_untold page places.now }
+    ensures { is_some result ≡ has_refused_text page places.now }
 {
     for place in places {
         let reason = place_refusal(page, place);
@@ -119,7 +131,7 @@ fn refusal(page: CodePage, places: &[Place]) -> Option<Reason>
 
 /// Why a place can't be written.
 fn place_refusal(page: CodePage, place: &Place) -> Option<Reason>
-    ensures { is_some result ≡ is_untold (place_bytes page place.now) }
+    ensures { is_some result ≡ is_refused_spelling (place_bytes page place.now) }
 {
     match place_len(page, place) {
         None => Some(reasons::PAGE_CHARACTER),
@@ -140,7 +152,7 @@ fn place_len(page: CodePage, place: &Place) -> Option<usize>
 
 /// Adds the entries of the places.
 fn push_entries(held: &mut Vec<u8>, page: CodePage, places: &[Place]) -> Result<(), AllocError>
-    requires { has_untold page places.now ≡ false }
+    requires { has_refused_text page places.now ≡ false }
     ensures { OnOk result (held.new.items ≡ held.old.items ++ flat_map (entry_in page) places.now) }
 {
     for place in places {
@@ -151,7 +163,7 @@ fn push_entries(held: &mut Vec<u8>, page: CodePage, places: &[Place]) -> Result<
 
 /// Adds the entry of a place.
 fn push_place(held: &mut Vec<u8>, page: CodePage, place: &Place) -> Result<(), AllocError>
-    requires { is_untold (place_bytes page place.now) ≡ false }
+    requires { is_refused_spelling (place_bytes page place.now) ≡ false }
     ensures { OnOk result (held.new.items ≡ held.old.items ++ entry_in page place.now) }
 {
     let len = place_len(page, place).unwrap_or(0);
@@ -164,21 +176,19 @@ fn push_entry(held: &mut Vec<u8>, len: u32, count: u16) -> Result<(), AllocError
     ensures { OnOk result (held.new.items ≡ held.old.items ++ plain_entry (record { len = len; count = count })) }
 {
     if count == 0 || (0 < len && len < SHORT_END) {
-        held.extend_from_slice(&(len as u16).to_le_bytes())?;
-        held.extend_from_slice(&count.to_le_bytes())?;
-        return Ok(());
+        push_u16(held, len as u16)?;
+        return push_u16(held, count);
     }
-    held.extend_from_slice(&[0; 2])?;
-    held.extend_from_slice(&count.to_le_bytes())?;
-    held.extend_from_slice(&len.to_le_bytes())?;
-    Ok(())
+    push_u16(held, 0)?;
+    push_u16(held, count)?;
+    push_u32(held, len)
 }
 
 /// Adds the bytes of the texts, one behind the other.
 fn push_texts(held: &mut Vec<u8>, page: CodePage, places: &[Place]) -> Result<(), Error>
-    requires { has_untold page places.now ≡ false }
+    requires { has_refused_text page places.now ≡ false }
     ensures ok { OnOk result (held.new.items ≡ held.old.items ++ flat_map (piece_of page) places.now) }
-    ensures kind { IfErr result (λ kind. kind ≡ OutOfMemory) }
+    ensures kind { OnlyMemory result }
 {
     for place in places {
         push_text(held, page, place)?;
@@ -188,9 +198,9 @@ fn push_texts(held: &mut Vec<u8>, page: CodePage, places: &[Place]) -> Result<()
 
 /// Adds the bytes of a place's text, and none of a free place.
 fn push_text(held: &mut Vec<u8>, page: CodePage, place: &Place) -> Result<(), Error>
-    requires { is_untold (place_bytes page place.now) ≡ false }
+    requires { is_refused_spelling (place_bytes page place.now) ≡ false }
     ensures ok { OnOk result (held.new.items ≡ held.old.items ++ piece_of page place.now) }
-    ensures kind { IfErr result (λ kind. kind ≡ OutOfMemory) }
+    ensures kind { OnlyMemory result }
 {
     if place.count() > 0 {
         let bytes = page.encode(*held.allocator(), place.text())?;
