@@ -5,6 +5,9 @@ pub mod StableSortLemmas
 pub mod PlacesLemmas
 pub mod RowOrderLemmas
 pub mod SortedFitsLemmas
+pub mod SortedRowsLemmas
+pub mod ReadRowsLemmas
+pub mod StoredValuesLemmas
 pub mod FittingLemmas
 pub mod ColumnLemmas
 pub mod TypeBitsLemmas

@@ -1,6 +1,6 @@
 -- The order of rows, cell by cell.
-use Rattle.std.proofs.Common.{◌≡◌, ℕ, ◌+◌, ◌<◌, ◌≤◌, Bool, true, false, List, [], ◌∷◌, length, drop, refl, sym, ◌∙◌, arith, Ordering, eqb, ⊎_elim}
-use Rattle.std.specs.Prelude.{slice_index_or, not}
+use Rattle.std.proofs.Common.{◌≡◌, ℕ, ◌+◌, ◌<◌, ◌≤◌, Bool, true, false, List, [], ◌∷◌, length, drop, refl, sym, ap, ◌∙◌, arith, Ordering, eqb, ⊎_elim}
+use Rattle.std.specs.Prelude.{slice_index_or, not, option_map}
 use Rattle.std.specs.List.{slice_get}
 use Rattle.std.specs.Option.{option_cmp}
 use Rattle.std.specs.declared.cmp.Ordering.TheVariants.{Less, Equal, Greater}
@@ -9,69 +9,103 @@ use Rattle.std.specs.Cmp.{IsStrictWeakOrder}
 use Rattle.std.specs.Cmp.Lexicographic.{slice_cmp, lists_total}
 use Rattle.std.proofs.lemmas.List as lists
 use Rattle.std.proofs.lemmas.List.Sorted.{ranks_by}
-use Rattle.std.proofs.lemmas.Option.{slice_get_cases}
-use Rattle.msi_table.specs.declared.value.ValueRef.{ValueRef}
+use Rattle.std.proofs.lemmas.Option.{slice_get_cases, slice_get-map}
+use Rattle.msi_text.specs.Pool.{Place}
 use Rattle.msi_table.specs.Columns.{ColumnDef}
-use Rattle.msi_table.specs.OrderLaws.{cell_cmp-total}
-use Rattle.msi_table.specs.StoredOrder.{cell_cmp, parts_where, ordering_cells, row_cmp, is_of_category_binary}
+use Rattle.msi_table.specs.OrderLaws.{cell_cmp-total, value_cmp-total}
+use Rattle.msi_table.specs.declared.value.ValueRef.{ValueRef}
+use Rattle.msi_table.specs.Cells.{value_of_cell}
+use Rattle.msi_table.specs.Values.{value_cmp}
+use Rattle.msi_table.specs.StoredOrder.{parts_where, cell_cmp, ordering_cells, row_cmp, row_values, is_of_category_binary}
+use Rattle.msi_table.specs.KeyOrder.{key_of, key_cmp}
 
+-- both orders compare the parts of rows as lists
 pub row_cmp-weak : (columns : List ColumnDef) → IsStrictWeakOrder (λ x y. is_lt (row_cmp columns x y))
 row_cmp-weak columns = ranks_by (lists_total cell_cmp-total) (ordering_cells columns)
 
--- the cells of a row from a column on, that columns of category Binary leave out
-abbrev pub from_column : List ColumnDef → List ValueRef → ℕ → List ValueRef
-from_column columns row i = ordering_cells (drop i columns) (drop i row)
-
-abbrev pub cmp_from : List ColumnDef → List ValueRef → List ValueRef → ℕ → Ordering
-cmp_from columns row other i = slice_cmp cell_cmp (from_column columns row i) (from_column columns other i)
+pub key_cmp-weak : (columns : List ColumnDef) (places : List Place) → IsStrictWeakOrder (λ x y. is_lt (key_cmp columns places x y))
+key_cmp-weak columns places = ranks_by (lists_total value_cmp-total) (λ row. key_of columns (row_values places row))
 
 nothing_left : {X : Type 0} (test : ColumnDef → Bool) (cs : List ColumnDef) → parts_where {X = X} test cs [] ≡ []
 nothing_left test [] = refl
 nothing_left test (c ∷ cs) = refl
 
-past_end : (columns : List ColumnDef) (row : List ValueRef) (i : ℕ) → length row ≤ i → from_column columns row i ≡ []
-past_end columns row i h = rw (lists.drop_all i row h) (nothing_left _ (drop i columns))
+-- what a comparison says of the rest
+no_tie : (o rest : Ordering) → not (eqb (ordering_index o) 1) ≡ true → ordering_then o rest ≡ o
+no_tie Less rest e = refl
+no_tie Equal rest e = cc
+no_tie Greater rest e = refl
 
-skipped_row : (columns : List ColumnDef) (row : List ValueRef) (i : ℕ) (d : ColumnDef) → i < length columns → is_of_category_binary (slice_index_or columns i d).category ≡ true
-    → from_column columns row i ≡ from_column columns row (i + 1)
-skipped_row columns row i d h t = ⊎_elim
-    (λ f. rw (lists.drop_more columns i d h, lists.drop_more row i f.0 f.1, t))
-    (λ f. past_end columns row i f.0 ∙ sym (past_end columns row (i + 1) (omega arith)))
-    (slice_get_cases row i).1
+a_tie : (o rest : Ordering) → not (eqb (ordering_index o) 1) ≡ false → ordering_then o rest ≡ rest
+a_tie Less rest e = cc
+a_tie Equal rest e = refl
+a_tie Greater rest e = cc
 
--- a column of category Binary changes nothing
-pub skipped : (columns : List ColumnDef) (row other : List ValueRef) (i : ℕ) (d : ColumnDef) → i < length columns → is_of_category_binary (slice_index_or columns i d).category ≡ true
-    → cmp_from columns row other i ≡ cmp_from columns row other (i + 1)
-skipped columns row other i d h t = rw (skipped_row columns row i d h t, skipped_row columns other i d h t)
+module _ {X : Type 0} (cmp : X → X → Ordering) (test : ColumnDef → Bool) where
+  -- the parts of a row from a column on, for the columns that pass
+  abbrev pub parts_from : List ColumnDef → List X → ℕ → List X
+  parts_from columns row i = parts_where test (drop i columns) (drop i row)
 
-taken_row : (columns : List ColumnDef) (row : List ValueRef) (i : ℕ) (d : ColumnDef) (x : ValueRef) → i < length columns → is_of_category_binary (slice_index_or columns i d).category ≡ false
-    → i < length row → slice_index_or row i x ≡ x → from_column columns row i ≡ x ∷ from_column columns row (i + 1)
-taken_row columns row i d x h t l e = rw (lists.drop_more columns i d h, lists.drop_more row i x l, t, e)
+  abbrev pub cmp_from : List ColumnDef → List X → List X → ℕ → Ordering
+  cmp_from columns row other i = slice_cmp cmp (parts_from columns row i) (parts_from columns other i)
 
--- another column decides, or else those behind it
-pub decided : (columns : List ColumnDef) (row other : List ValueRef) (i : ℕ) (d : ColumnDef) → i < length columns → is_of_category_binary (slice_index_or columns i d).category ≡ false
-    → cmp_from columns row other i ≡ ordering_then (option_cmp cell_cmp (slice_get row i) (slice_get other i)) (cmp_from columns row other (i + 1))
-decided columns row other i d h t = ⊎_elim
-    (λ f. ⊎_elim
-    (λ g. rw (taken_row columns row i d f.0 h t f.1 f.3, taken_row columns other i d g.0 h t g.1 g.3, f.2, g.2))
-    (λ g. rw (taken_row columns row i d f.0 h t f.1 f.3, past_end columns other i g.0, f.2, g.1))
-    (slice_get_cases other i).1)
-    (λ f. ⊎_elim
-    (λ g. rw (past_end columns row i f.0, taken_row columns other i d g.0 h t g.1 g.3, f.1, g.2))
-    (λ g. rw (past_end columns row i f.0, past_end columns other i g.0, f.1, g.1, past_end columns row (i + 1) (omega arith), past_end columns other (i + 1) (omega arith)))
-    (slice_get_cases other i).1)
-    (slice_get_cases row i).1
+  past_end : (columns : List ColumnDef) (row : List X) (i : ℕ) → length row ≤ i → parts_from columns row i ≡ []
+  past_end columns row i h = rw (lists.drop_all i row h) (nothing_left test (drop i columns))
 
--- what a comparison that isn't `Equal` says of the rest, and one that is
-pub decided_here : (o rest : Ordering) → not (eqb (ordering_index o) 1) ≡ true → ordering_then o rest ≡ o
-decided_here Less rest e = refl
-decided_here Equal rest e = cc
-decided_here Greater rest e = refl
+  skipped_row : (columns : List ColumnDef) (row : List X) (i : ℕ) (d : ColumnDef) → i < length columns → test (slice_index_or columns i d) ≡ false
+      → parts_from columns row i ≡ parts_from columns row (i + 1)
+  skipped_row columns row i d h t = ⊎_elim
+      (λ f. rw (lists.drop_more columns i d h, lists.drop_more row i f.0 f.1, t))
+      (λ f. past_end columns row i f.0 ∙ sym (past_end columns row (i + 1) (omega arith)))
+      (slice_get_cases row i).1
 
-pub decided_later : (o rest : Ordering) → not (eqb (ordering_index o) 1) ≡ false → ordering_then o rest ≡ rest
-decided_later Less rest e = cc
-decided_later Equal rest e = refl
-decided_later Greater rest e = cc
+  -- a column that doesn't pass changes nothing
+  pub skipped : (columns : List ColumnDef) (row other : List X) (i : ℕ) (d : ColumnDef) → i < length columns → test (slice_index_or columns i d) ≡ false
+      → cmp_from columns row other i ≡ cmp_from columns row other (i + 1)
+  skipped columns row other i d h t = rw (skipped_row columns row i d h t, skipped_row columns other i d h t)
 
-pub at_end : (columns : List ColumnDef) (row other : List ValueRef) (i : ℕ) → length columns ≤ i → cmp_from columns row other i ≡ Equal
-at_end columns row other i h = rw (lists.drop_all i columns h)
+  taken_row : (columns : List ColumnDef) (row : List X) (i : ℕ) (d : ColumnDef) (x : X) → i < length columns → test (slice_index_or columns i d) ≡ true
+      → i < length row → slice_index_or row i x ≡ x → parts_from columns row i ≡ x ∷ parts_from columns row (i + 1)
+  taken_row columns row i d x h t l e = rw (lists.drop_more columns i d h, lists.drop_more row i x l, t, e)
+
+  -- one that passes decides, or else those behind it
+  decided : (columns : List ColumnDef) (row other : List X) (i : ℕ) (d : ColumnDef) → i < length columns → test (slice_index_or columns i d) ≡ true
+      → cmp_from columns row other i ≡ ordering_then (option_cmp cmp (slice_get row i) (slice_get other i)) (cmp_from columns row other (i + 1))
+  decided columns row other i d h t = ⊎_elim
+      (λ f. ⊎_elim
+      (λ g. rw (taken_row columns row i d f.0 h t f.1 f.3, taken_row columns other i d g.0 h t g.1 g.3, f.2, g.2))
+      (λ g. rw (taken_row columns row i d f.0 h t f.1 f.3, past_end columns other i g.0, f.2, g.1))
+      (slice_get_cases other i).1)
+      (λ f. ⊎_elim
+      (λ g. rw (past_end columns row i f.0, taken_row columns other i d g.0 h t g.1 g.3, f.1, g.2))
+      (λ g. rw (past_end columns row i f.0, past_end columns other i g.0, f.1, g.1, past_end columns row (i + 1) (omega arith), past_end columns other (i + 1) (omega arith)))
+      (slice_get_cases other i).1)
+      (slice_get_cases row i).1
+
+  -- the comparison at such a column, where it doesn't tie and where it does
+  pub decided_here : (columns : List ColumnDef) (row other : List X) (i : ℕ) (d : ColumnDef) → i < length columns → test (slice_index_or columns i d) ≡ true
+      → (o : Ordering) → o ≡ option_cmp cmp (slice_get row i) (slice_get other i) → not (eqb (ordering_index o) 1) ≡ true → cmp_from columns row other i ≡ o
+  decided_here columns row other i d h t o e n = decided columns row other i d h t ∙ ap (λ (o : Ordering). ordering_then o (cmp_from columns row other (i + 1))) (sym e) ∙ no_tie o (cmp_from columns row other (i + 1)) n
+
+  pub decided_later : (columns : List ColumnDef) (row other : List X) (i : ℕ) (d : ColumnDef) → i < length columns → test (slice_index_or columns i d) ≡ true
+      → (o : Ordering) → o ≡ option_cmp cmp (slice_get row i) (slice_get other i) → not (eqb (ordering_index o) 1) ≡ false → cmp_from columns row other i ≡ cmp_from columns row other (i + 1)
+  decided_later columns row other i d h t o e n = decided columns row other i d h t ∙ ap (λ (o : Ordering). ordering_then o (cmp_from columns row other (i + 1))) (sym e) ∙ a_tie o (cmp_from columns row other (i + 1)) n
+
+-- what is left of comparing two rows: their cells in stored order, and their keys
+abbrev pub orders_rows : ColumnDef → Bool
+orders_rows c = not (is_of_category_binary c.category)
+
+abbrev pub stored_from : List ColumnDef → List ValueRef → List ValueRef → ℕ → Ordering
+stored_from = cmp_from cell_cmp orders_rows
+
+abbrev pub is_key : ColumnDef → Bool
+is_key c = c.is_primary_key
+
+abbrev pub keys_from : List ColumnDef → List Place → List ValueRef → List ValueRef → ℕ → Ordering
+keys_from columns places row other = cmp_from value_cmp is_key columns (row_values places row) (row_values places other)
+
+-- the values at a place
+pub values_at : (places : List Place) (row other : List ValueRef) (i : ℕ) (o : Ordering)
+    → o ≡ option_cmp value_cmp (option_map (value_of_cell places) (slice_get row i)) (option_map (value_of_cell places) (slice_get other i))
+    → o ≡ option_cmp value_cmp (slice_get (row_values places row) i) (slice_get (row_values places other) i)
+values_at places row other i o e = e ∙ rw (slice_get-map (value_of_cell places) row i, slice_get-map (value_of_cell places) other i)

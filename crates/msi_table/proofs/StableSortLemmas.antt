@@ -1,14 +1,15 @@
 -- A list that is sorted and keeps the order of ties is the stable sort.
-use Rattle.std.proofs.Common.{◌≡◌, ℕ, suc, ◌<◌, ◌≤◌, Bool, true, false, List, [], ◌∷◌, length, refl, sym, ap, ◌∙◌, arith, subst, Ordering, Bor, Result}
+use Rattle.std.proofs.Common.{◌≡◌, ℕ, zero, suc, ◌+◌, ◌<◌, ◌≤◌, Bool, true, false, List, [], ◌∷◌, length, refl, sym, ap, ◌∙◌, arith, subst, Ordering, Bor, Result}
 use Rattle.std.specs.List.{AllByRecursion, filter}
 use Rattle.std.specs.Fn.{ComparesAs, Mut}
 use Rattle.std.specs.List.Sorted.{IsSortedBy, IsStableBy, IsSortedByClosure, IsStableByClosure, ties}
 use Rattle.std.proofs.lemmas.Result.{on_ok_weaker}
 use Rattle.std.specs.Cmp.{IsStrictWeakOrder}
 use Rattle.std.specs.Ordering.{is_lt}
-use Rattle.std.specs.Prelude.{slice_index_or, not, ◌&&◌, ⊤, OnOk}
-use Rattle.std.proofs.lemmas.List.Sorted.{sorted_far}
+use Rattle.std.specs.Prelude.{slice_index_or, not, ◌&&◌, ⊤, OnOk, ◌↔◌, IsPermutation}
+use Rattle.std.proofs.lemmas.List.Sorted.{sorted_far, IsPermutation-refl, IsPermutation-sym, IsPermutation-trans, IsPermutation-cons, IsPermutation-middle}
 use Rattle.msi_text.specs.Lists.{placed, stable_sort}
+use Rattle.msi_table.specs.SortedRows.{IsStableSort}
 
 same_head : {X : Type 0} (x y : X) (xs ys : List X) → x ∷ xs ≡ y ∷ ys → x ≡ y
 same_head x y xs ys e = cc
@@ -74,6 +75,12 @@ IsUp lt (x ∷ xs) = AllByRecursion (λ y. lt y x ≡ false) xs × IsUp lt xs
 up_from_far : {X : Type 0} (lt : X → X → Bool) (xs : List X) → ((i j : ℕ) (d : X) → i ≤ j → j < length xs → lt (slice_index_or xs j d) (slice_index_or xs i d) ≡ false) → IsUp lt xs
 up_from_far lt [] f = tt
 up_from_far lt (x ∷ xs) f = (all_from_places _ xs (λ k d h. f 0 (suc k) d (omega arith) (omega arith)), up_from_far lt xs (λ i j d h l. f (suc i) (suc j) d (omega arith) (omega arith)))
+
+next_from_up : {X : Type 0} (lt : X → X → Bool) (xs : List X) → IsUp lt xs → (k : ℕ) (d : X) → suc k < length xs → lt (slice_index_or xs (suc k) d) (slice_index_or xs k d) ≡ false
+next_from_up lt [] u k d h = absurd (omega arith)
+next_from_up lt (x ∷ []) u k d h = absurd (omega arith)
+next_from_up lt (x ∷ y ∷ ys) u zero d h = u.0.0
+next_from_up lt (x ∷ y ∷ ys) u (suc k) d h = next_from_up lt (y ∷ ys) u.1 k d (omega arith)
 
 module _ {X : Type 0} (lt : X → X → Bool) (o : IsStrictWeakOrder lt) where
   not_below_itself : (x : X) → lt x x ≡ false
@@ -145,6 +152,31 @@ module _ {X : Type 0} (cmp : X → X → Ordering) (o : IsStrictWeakOrder (λ x 
   is_stable_sort xs ys sorted stable = same_sorted below o ys (stable_sort cmp xs)
       (up_from_far below ys (λ i j d h l. sorted_far below o ys sorted i j d h l)) (up_stable_sort xs)
       (λ t. stable t ∙ sym (filter_stable_sort t xs))
+
+  -- a stable sort only moves elements
+  placed_moves : (x : X) (ys : List X) → IsPermutation (x ∷ ys) (placed cmp x ys)
+  placed_moves x [] = IsPermutation-refl (x ∷ [])
+  placed_moves x (y ∷ ys) = by_test (is_lt (cmp y x))
+      (λ t. rw t (IsPermutation-trans (x ∷ y ∷ ys) (y ∷ x ∷ ys) (y ∷ placed cmp x ys)
+      (IsPermutation-sym (y ∷ x ∷ ys) (x ∷ y ∷ ys) (IsPermutation-middle (y ∷ []) x ys))
+      (IsPermutation-cons y (x ∷ ys) (placed cmp x ys) (placed_moves x ys))))
+      (λ t. rw t (IsPermutation-refl (x ∷ y ∷ ys)))
+
+  sort_moves : (xs : List X) → IsPermutation xs (stable_sort cmp xs)
+  sort_moves [] = IsPermutation-refl []
+  sort_moves (x ∷ xs) = IsPermutation-trans (x ∷ xs) (x ∷ stable_sort cmp xs) (placed cmp x (stable_sort cmp xs))
+      (IsPermutation-cons x xs (stable_sort cmp xs) (sort_moves xs)) (placed_moves x (stable_sort cmp xs))
+
+  stable_sort_is : (xs : List X) → IsStableSort cmp xs (stable_sort cmp xs)
+  stable_sort_is xs = record {
+    moved = sort_moves xs;
+    ascends = λ k d l h. let e : k + 1 ≡ suc k = omega arith in rw e (next_from_up below (stable_sort cmp xs) (up_stable_sort xs) k d (omega arith));
+    stable = λ t. filter_stable_sort t xs;
+  }
+
+  -- it is the one list that is sorted so
+  pub only_stable_sort : (xs sorted : List X) → (sorted ≡ stable_sort cmp xs) ↔ IsStableSort cmp xs sorted
+  only_stable_sort xs sorted = (λ e. subst (IsStableSort cmp xs) (sym e) (stable_sort_is xs), λ s. is_stable_sort xs sorted s.ascends s.stable)
 
   -- what all have, all of the sorted list have
   pub all_sorted : (P : X → Type 0) (xs : List X) → AllByRecursion P xs → AllByRecursion P (stable_sort cmp xs)

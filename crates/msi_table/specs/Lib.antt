@@ -5,6 +5,9 @@ pub mod ValidValues
 pub mod Cells
 pub mod CellValues
 pub mod StoredOrder
+pub mod KeyOrder
 pub mod OrderLaws
 pub mod ReadBack
 pub mod Rows
+pub mod SortedRows
+pub mod StoredValues

@@ -1,11 +1,18 @@
-//! The stored order of rows.
+//! The orders of rows: the one in which a table stores them, and the one of their keys.
 
-ghost use Rattle.std.specs.Prelude.{◌≡◌, OnOk, OnErr};
+ghost use Rattle.std.specs.Prelude.{◌≡◌, IfErr, OnOk, OnErr, option_map};
 ghost use Rattle.std.specs.List.{slice_get};
+ghost use Rattle.std.specs.Option.{option_cmp};
+ghost use Rattle.msi_text.specs.declared.errors.ErrorKind.TheVariants.{OutOfMemory};
+ghost use Rattle.msi_table.specs.Cells.{value_of_cell};
+ghost use Rattle.msi_table.specs.KeyOrder.{key_cmp, in_key_order};
 ghost use Rattle.msi_table.specs.StoredOrder.{row_cmp, in_stored_order};
+ghost use Rattle.msi_table.specs.Values.{value_cmp};
 
 use crate::column::Column;
 use crate::value::ValueRef;
+use msi_text::errors::Error;
+use msi_text::stringpool::StringPool;
 use msi_text::text::Items;
 use std::alloc::AllocError;
 use std::cmp::Ordering;
@@ -34,9 +41,84 @@ fn compare_rows(columns: &[Column], row: &[ValueRef], other: &[ValueRef]) -> Ord
 }
 
 /// Puts rows into their stored order.
-pub fn sort_rows(columns: &[Column], rows: &mut Vec<Items<ValueRef>>) -> Result<(), AllocError>
+pub(crate) fn sort_rows(
+    columns: &[Column],
+    rows: &mut Vec<Items<ValueRef>>,
+) -> Result<(), AllocError>
     ensures ok { OnOk result (rows.new.items ≡ in_stored_order columns.now rows.old.items) }
     ensures err { OnErr result (rows.new.items ≡ rows.old.items) }
 {
     rows.sort_by(|row, other| compare_rows(columns, row.as_slice(), other.as_slice()))
+}
+
+/// How the values of two cells stand to one another. No text is copied.
+fn compare_values(pool: &StringPool, cell: ValueRef, other: ValueRef) -> Ordering
+    ensures { result ≡ value_cmp (value_of_cell pool.now.places cell) (value_of_cell pool.now.places other) }
+{
+    match cell {
+        ValueRef::Str(text) => match other {
+            ValueRef::Str(other_text) => pool.get(text).cmp(pool.get(other_text)),
+            _ => cell.cmp(&other),
+        },
+        _ => cell.cmp(&other),
+    }
+}
+
+/// The same, where a missing cell comes first.
+fn compare_if_present(
+    pool: &StringPool,
+    cell: Option<ValueRef>,
+    other: Option<ValueRef>,
+) -> Ordering
+    ensures { result ≡ option_cmp value_cmp (option_map (value_of_cell pool.now.places) cell) (option_map (value_of_cell pool.now.places) other) }
+{
+    match cell {
+        Some(cell) => match other {
+            Some(other) => compare_values(pool, cell, other),
+            None => Ordering::Greater,
+        },
+        None => match other {
+            Some(_) => Ordering::Less,
+            None => Ordering::Equal,
+        },
+    }
+}
+
+/// How the keys of two rows stand to one another: the first value of a key column that differs decides. Where a row ends
+/// before, its missing values come first. No text is copied.
+pub fn compare_keys(
+    columns: &[Column],
+    pool: &StringPool,
+    row: &[ValueRef],
+    other: &[ValueRef],
+) -> Ordering
+    ensures { result ≡ key_cmp columns.now pool.now.places row.now other.now }
+{
+    for i in 0..columns.len() {
+        if !columns[i].is_primary_key() {
+            continue;
+        }
+        let order = compare_if_present(pool, cell_of(row, i), cell_of(other, i));
+        if order != Ordering::Equal {
+            return order;
+        }
+    }
+    Ordering::Equal
+}
+
+/// Puts rows into the order of their keys; rows with one key stay in their order. When refused, they are as before.
+///
+/// # Errors
+/// `OutOfMemory`.
+pub fn sort_by_keys(
+    columns: &[Column],
+    pool: &StringPool,
+    rows: &mut Vec<Items<ValueRef>>,
+) -> Result<(), Error>
+    ensures ok { OnOk result (rows.new.items ≡ in_key_order columns.now pool.now.places rows.old.items) }
+    ensures kind { IfErr result (λ kind. kind ≡ OutOfMemory) }
+    ensures err { OnErr result (rows.new.items ≡ rows.old.items) }
+{
+    rows.sort_by(|row, other| compare_keys(columns, pool, row.as_slice(), other.as_slice()))?;
+    Ok(())
 }

@@ -1,6 +1,6 @@
 //! Values, and the cells that stand for them.
 
-ghost use Rattle.std.specs.Prelude.{◌≡◌, ◌↔◌, ◌-◌, IfOk, IfErr, OnOk, OnErr, IsErr, Some, None, is_some, option_copied, if◌then◌else◌};
+ghost use Rattle.std.specs.Prelude.{◌≡◌, ◌↔◌, ◌-◌, IfOk, IfErr, OnOk, OnErr, IsErr, IsSome, Some, None, is_some, option_copied, if◌then◌else◌};
 ghost use Rattle.std.specs.Cmp.{po, partial_equiv_from_equiv, eq_by_cmp_equiv};
 ghost use Rattle.std.specs.Hash.{same_Alike};
 ghost use Rattle.std.specs.Ordering.{as_partial_cmp, eq_by_cmp};
@@ -197,13 +197,15 @@ pub enum ValueRef {
 }
 
 impl ValueRef {
-    /// The cell of a value, whose text the pool takes. When refused, the pool is as before.
+    /// The cell of a value, whose text the pool takes. When refused, the pool is as before; only a text can be refused, as
+    /// nothing else takes memory.
     ///
     /// # Errors
     /// `InvalidInput` where the pool is full; `OutOfMemory`.
     pub fn create(value: Value, pool: &mut StringPool) -> Result<ValueRef, Error>
         ensures ok { IfOk result (λ cell. cell_of_value pool.old.long pool.old.places value ≡ Some (cell, pool.new.places)) }
         ensures kind { IfErr result (λ kind. kind ≡ (if is_some (cell_of_value pool.old.long pool.old.places value) then OutOfMemory else InvalidInput)) }
+        ensures only_texts { OnErr result (IsSome (text_of value)) }
         ensures err { OnErr result (pool.new ≡ pool.old) }
         ensures page { pool.new.page ≡ pool.old.page }
         ensures long { pool.new.long ≡ pool.old.long }

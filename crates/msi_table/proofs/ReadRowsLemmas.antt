@@ -1,0 +1,137 @@
+-- Rows that are read are as wide as the columns, and fit them.
+use Rattle.std.proofs.Common.{◌≡◌, ℕ, zero, suc, ◌+◌, ◌^◌, ◌<◌, ◌≤◌, Bool, true, false, List, [], ◌∷◌, length, take, drop, map, refl, ap, ◌∙◌, subst, arith, Some, ⊎_elim}
+use Rattle.std.proofs.lemmas.Bool.{cases_Bool}
+use Rattle.std.proofs.lemmas.Bool.Decides.{nat_tests}
+use Rattle.std.proofs.lemmas.Int.{ints}
+use Rattle.std.proofs.lemmas.List as lists
+use Rattle.std.proofs.lemmas.Option.{cond_some, slice_get-get_or}
+use Rattle.std.specs.List.{slice_get, AllByRecursion}
+use Rattle.std.specs.Prelude.{slice_index, slice_index_or, All, nat_le, ◌==◌, if◌then◌else◌}
+use Rattle.msi_text.specs.Lists.{numbers_from, tabulated}
+use Rattle.msi_text.specs.References.{number_of}
+use Rattle.msi_table.specs.declared.column.ColumnType.{ColumnType}
+use Rattle.msi_table.specs.declared.column.ColumnType.TheVariants as coltype
+use Rattle.msi_table.specs.declared.value.ValueRef.TheVariants as cell
+use Rattle.msi_table.specs.Cells.{width, row_count, cell_in, cell_of_number, cell_at, cell_place, row_in}
+use Rattle.msi_table.specs.Columns.{types_of}
+use Rattle.msi_table.specs.ReadBack.{FitsColumn, FitsRow, FitsTable}
+use Rattle.msi_table.specs.Rows.{AreAsWide}
+use Rattle.msi_table.specs.StoredValues.{ReadRowsFit}
+use Rattle.msi_table.proofs.FittingLemmas.{fits_by_cells}
+use Rattle.msi_table.proofs.PlacesLemmas.{length-types_of}
+use Rattle.msi_table.proofs.ReadBackLemmas.{all_at}
+
+-- lists by index
+length-numbers_from : (i n : ℕ) → length (numbers_from i n) ≡ n
+length-numbers_from i zero = refl
+length-numbers_from i (suc n) = ap suc (length-numbers_from (i + 1) n)
+
+length-tabulated : {X : Type 0} (n : ℕ) (f : ℕ → X) → length (tabulated n f) ≡ n
+length-tabulated n f = lists.length-map (numbers_from 0 n) f ∙ length-numbers_from 0 n
+
+mapped_at : {X : Type 0} (f : ℕ → X) (i n j : ℕ) → j < n → slice_get (map f (numbers_from i n)) j ≡ Some (f (i + j))
+mapped_at f i zero j h = absurd (omega arith)
+mapped_at f i (suc n) zero h = let e : i ≡ i + 0 = omega arith in ap (λ k. Some (f k)) e
+mapped_at f i (suc n) (suc j) h = mapped_at f (i + 1) n j (omega arith) ∙ (let e : i + 1 + j ≡ i + suc j = omega arith in ap (λ k. Some (f k)) e)
+
+tabulated_at : {X : Type 0} (f : ℕ → X) (n j : ℕ) → j < n → slice_get (tabulated n f) j ≡ Some (f j)
+tabulated_at f n j h = mapped_at f 0 n j h ∙ (let e : 0 + j ≡ j = omega arith in ap (λ k. Some (f k)) e)
+
+all_mapped : {X : Type 0} (P : X → Type 0) (f : ℕ → X) → ((i : ℕ) → P (f i)) → (ns : List ℕ) → AllByRecursion P (map f ns)
+all_mapped P f each [] = tt
+all_mapped P f each (n ∷ ns) = (each n, all_mapped P f each ns)
+
+-- bytes, and what few of them spell
+abbrev AreBytes : List ℕ → Type 0
+AreBytes = AllByRecursion (λ b. b < 256)
+
+bytes_from : (bs : List ℕ) → All (λ b. b < 256) bs → AreBytes bs
+bytes_from [] h = tt
+bytes_from (b ∷ bs) h = (h 0 0 (omega arith), bytes_from bs (λ k d l. h (suc k) d (omega arith)))
+
+-- as a function knows them
+bytes_by_index : (bs : List ℕ) → ((i : ℕ) → slice_index bs i < 256) → AreBytes bs
+bytes_by_index [] h = tt
+bytes_by_index (b ∷ bs) h = (h 0, bytes_by_index bs (λ i. h (suc i)))
+
+pub all_bytes : (bs : List ℕ) → ((i : ℕ) → slice_index bs i < 256) → All (λ b. b < 256) bs
+all_bytes bs h k d l = all_at (λ b. b < 256) bs k d (bytes_by_index bs h) l
+
+bytes_dropped : (n : ℕ) (bs : List ℕ) → AreBytes bs → AreBytes (drop n bs)
+bytes_dropped zero bs h = h
+bytes_dropped (suc n) [] h = tt
+bytes_dropped (suc n) (b ∷ bs) h = bytes_dropped n bs h.1
+
+bytes_taken : (n : ℕ) (bs : List ℕ) → AreBytes bs → AreBytes (take n bs)
+bytes_taken zero bs h = tt
+bytes_taken (suc n) [] h = tt
+bytes_taken (suc n) (b ∷ bs) h = (h.0, bytes_taken n bs h.1)
+
+number_of_two : (bs : List ℕ) → length bs ≤ 2 → AreBytes bs → number_of bs < 65536
+number_of_two [] l h = omega arith
+number_of_two (a ∷ []) l h = omega (arith, h.0)
+number_of_two (a ∷ b ∷ []) l h = omega (arith, h.0, h.1.0)
+number_of_two (a ∷ b ∷ c ∷ cs) l h = absurd (omega arith)
+
+number_of_three : (bs : List ℕ) → length bs ≤ 3 → AreBytes bs → number_of bs < 16777216
+number_of_three [] l h = omega arith
+number_of_three (a ∷ bs) l h = omega (arith, h.0, number_of_two bs (omega arith) h.1)
+
+number_of_four : (bs : List ℕ) → length bs ≤ 4 → AreBytes bs → number_of bs < 4294967296
+number_of_four [] l h = omega arith
+number_of_four (a ∷ bs) l h = omega (arith, h.0, number_of_three bs (omega arith) h.1)
+
+-- the cell that such bytes spell
+int_fits_16 : (long : Bool) (n : ℕ) → n < 65536 → FitsColumn long coltype.Int16 (cell_of_number (2 ^ 15) n)
+int_fits_16 long n h = ⊎_elim
+    (λ t. rw t tt)
+    (λ t. let some : 0 < n = grind (arith, nat_tests) in rw t (omega (arith, ints), omega (arith, ints)))
+    (cases_Bool (n == 0))
+
+int_fits_32 : (long : Bool) (n : ℕ) → n < 4294967296 → FitsColumn long coltype.Int32 (cell_of_number (2 ^ 31) n)
+int_fits_32 long n h = ⊎_elim
+    (λ t. rw t tt)
+    (λ t. let some : 0 < n = grind (arith, nat_tests) in rw t (omega (arith, ints), omega (arith, ints)))
+    (cases_Bool (n == 0))
+
+text_fits_long : (k n : ℕ) → n < 16777216 → FitsColumn true (coltype.Str k) (if n == 0 then cell.Null else cell.Str n)
+text_fits_long k n h = ⊎_elim (λ t. rw t tt) (λ t. let some : 0 < n = grind (arith, nat_tests) in rw t (some, h)) (cases_Bool (n == 0))
+
+text_fits_short : (k n : ℕ) → n < 65536 → FitsColumn false (coltype.Str k) (if n == 0 then cell.Null else cell.Str n)
+text_fits_short k n h = ⊎_elim (λ t. rw t tt) (λ t. let some : 0 < n = grind (arith, nat_tests) in rw t (some, h)) (cases_Bool (n == 0))
+
+cell_fits : (long : Bool) (type : ColumnType) (bs : List ℕ) → length bs ≤ width long type → AreBytes bs → FitsColumn long type (cell_in type bs)
+cell_fits long coltype.Int16 bs l h = int_fits_16 long (number_of bs) (number_of_two bs l h)
+cell_fits long coltype.Int32 bs l h = int_fits_32 long (number_of bs) (number_of_four bs l h)
+cell_fits true (coltype.Str k) bs l h = text_fits_long k (number_of bs) (number_of_three bs l h)
+cell_fits false (coltype.Str k) bs l h = text_fits_short k (number_of bs) (number_of_two bs l h)
+cell_fits long coltype.Binary bs l h = tt
+
+few_taken : (n : ℕ) (bs : List ℕ) → length (take n bs) ≤ n
+few_taken n bs = simp lists.length-take (omega arith)
+
+module _ (long : Bool) (types : List ColumnType) (bytes : List ℕ) (h : AreBytes bytes) where
+  cell_at_fits : (i j : ℕ) → j < length types → FitsColumn long (slice_index_or types j coltype.Int16) (cell_at long types bytes i j)
+  cell_at_fits i j l =
+      let t : ColumnType = slice_index_or types j coltype.Int16 in
+      let at : ℕ = cell_place long types (row_count long types bytes) j t i in
+      rw (slice_get-get_or types j coltype.Int16 l)
+      (cell_fits long t (take (width long t) (drop at bytes)) (few_taken (width long t) (drop at bytes)) (bytes_taken (width long t) (drop at bytes) (bytes_dropped at bytes h)))
+
+  row_fits : (i : ℕ) → FitsRow long types (row_in long types bytes i)
+  row_fits i = fits_by_cells long types (row_in long types bytes i) (length-tabulated (length types) (cell_at long types bytes i))
+      (λ j l. rw (tabulated_at (cell_at long types bytes i) (length types) j l) (cell_at_fits i j l))
+
+pub read_fits : ReadRowsFit
+read_fits long columns bytes rows e =
+    let types : List ColumnType = types_of columns in
+    let count : ℕ = row_count long types bytes in
+    let is = cond_some (nat_le count 65536) (tabulated count (row_in long types bytes)) rows e in (
+      subst (AreAsWide columns) is.1
+          (all_mapped (λ row. length row ≡ length columns) (row_in long types bytes) (λ i. length-tabulated (length types) (cell_at long types bytes i) ∙ length-types_of columns) (numbers_from 0 count)),
+      λ some h. subst (FitsTable long types) is.1 (record {
+        some_column = omega (arith, length-types_of columns, some);
+        few_rows = let few : count ≤ 65536 = grind (arith, nat_tests, is) in omega (arith, length-tabulated count (row_in long types bytes), few);
+        each_row = all_mapped (FitsRow long types) (row_in long types bytes) (row_fits long types bytes (bytes_from bytes h)) (numbers_from 0 count);
+      }),
+    )

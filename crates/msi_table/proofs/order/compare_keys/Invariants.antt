@@ -1,0 +1,9 @@
+use Rattle.std.proofs.Common.{◌≡◌}
+use Rattle.msi_table.specs.KeyOrder.{key_cmp}
+use Rattle.msi_table.proofs.RowOrderLemmas.{keys_from}
+use Rattle.msi_table.proofs.order.compare_keys.Given as goal
+
+abbrev pub invariant-loop-i : goal.invariant-loop-i
+invariant-loop-i l = record {
+  same : key_cmp l.columns l.pool.places l.row l.other ≡ keys_from l.columns l.pool.places l.row l.other l.i;
+}
