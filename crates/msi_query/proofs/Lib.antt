@@ -1,4 +1,5 @@
 pub mod FoldingLemmas
+pub mod BuiltLemmas
 pub mod NamesLemmas
 pub mod EvaluationRows
 pub mod ReaderLemmas

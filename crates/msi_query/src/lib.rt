@@ -3,6 +3,8 @@
 
 pub mod expr;
 pub mod laws;
+mod lookup;
+pub mod parts;
 pub mod query;
 
 pub use expr::Expr;
