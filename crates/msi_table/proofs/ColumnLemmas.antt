@@ -1,14 +1,12 @@
 -- Columns in loops, and by their names.
-use Rattle.std.proofs.Common.{◌≡◌, ℕ, ◌+◌, ◌<◌, ◌≤◌, Bool, true, false, refl, Some, None, List, [], ◌∷◌, ◌++◌, length, drop, sym, ap, ◌∙◌}
-use Rattle.std.specs.Prelude.{slice_index_or, bytes_eq, option_and_then}
-use Rattle.std.specs.List.{slice_get, list_any, position_from}
+use Rattle.std.proofs.Common.{◌≡◌, ℕ, ◌+◌, ◌<◌, ◌≤◌, Bool, true, false, refl, Some, Option, List, [], ◌∷◌, ◌++◌, length, drop, sym, ap, ◌∙◌, arith}
+use Rattle.std.specs.Prelude.{slice_index_or, bytes_eq, is_some, nat_lt}
+use Rattle.std.specs.List.{list_any, position_from}
 use Rattle.std.proofs.lemmas.List.Quantifiers.{position-Some}
 use Rattle.std.proofs.lemmas.Iterator.Adapters.{position_from-zero}
-use Rattle.std.proofs.lemmas.Option.{slice_get-get_or}
-use Rattle.msi_table.specs.declared.value.Value.{Value}
+use Rattle.std.proofs.lemmas.Bool.Decides.{nat_tests}
 use Rattle.std.proofs.lemmas.List as lists
 use Rattle.msi_table.specs.Columns.{ColumnDef, begun_column, column_index, has_column, key_places_from}
-use Rattle.msi_table.specs.Rows.{RowDef, value_named}
 
 -- a key column is listed
 pub key_listed : (columns : List ColumnDef) (places more : List ℕ) (i : ℕ) (d : ColumnDef) → i < length columns → (slice_index_or columns i d).is_primary_key ≡ true → more ≡ places ++ i ∷ []
@@ -30,23 +28,17 @@ by_test : {P : Type 0} (b : Bool) → (b ≡ true → P) → (b ≡ false → P)
 by_test true f g = f refl
 by_test false f g = g refl
 
-some_is_none : {X P : Type 0} (x : X) → Some x ≡ None → P
-some_is_none x e = cc
+-- a place is found exactly where one passes
+found_from : {X : Type 0} (p : X → Bool) (i : ℕ) (xs : List X) → is_some (position_from p i xs) ≡ list_any p xs
+found_from p i [] = refl
+found_from p i (x ∷ xs) = by_test (p x) (λ t. rw t refl) (λ t. rw t (found_from p (i + 1) xs))
 
-yes_is_no : {P : Type 0} (b : Bool) → b ≡ true → b ≡ false → P
-yes_is_no b t f = cc
+pub column_found : (columns : List ColumnDef) (name : List ℕ) (place : Option ℕ) → place ≡ column_index name columns → is_some place ≡ has_column name columns
+column_found columns name place e = ap is_some (e ∙ position_from-zero (λ (c : ColumnDef). bytes_eq c.name name) columns) ∙ found_from (λ c. bytes_eq c.name name) 0 columns
 
--- where no place is found, none passes
-nowhere_from : {X : Type 0} (p : X → Bool) (i : ℕ) (xs : List X) → position_from p i xs ≡ None → list_any p xs ≡ false
-nowhere_from p i [] e = refl
-nowhere_from p i (x ∷ xs) e = by_test (p x) (λ t. some_is_none i (rw t at e)) (λ t. rw t (nowhere_from p (i + 1) xs (rw t at e)))
-
-pub not_nowhere : (columns : List ColumnDef) (name : List ℕ) → column_index name columns ≡ None → has_column name columns ≡ true → ⊥
-not_nowhere columns name e t = yes_is_no (has_column name columns) t (nowhere_from (λ c. bytes_eq c.name name) 0 columns (sym (position_from-zero (λ (c : ColumnDef). bytes_eq c.name name) columns) ∙ e))
-
-pub place_inside : (columns : List ColumnDef) (name : List ℕ) (i : ℕ) → column_index name columns ≡ Some i → i < length columns
-place_inside columns name i e = (position-Some (λ (c : ColumnDef). bytes_eq c.name name) columns i (begun_column []) e).0
-
--- the value beside a column
-pub value_at_place : (row : RowDef) (name : List ℕ) (i : ℕ) (x : Value) → column_index name row.columns ≡ Some i → i < length row.values → x ≡ slice_index_or row.values i x → value_named name row ≡ Some x
-value_at_place row name i x e h is = ap (option_and_then (slice_get row.values)) e ∙ slice_get-get_or row.values i x h ∙ ap Some (sym is)
+-- a column has a value beside it
+pub value_inside : (columns : List ColumnDef) (name : List ℕ) (count i : ℕ) → Some i ≡ column_index name columns → count ≡ length columns → nat_lt i count ≡ has_column name columns
+value_inside columns name count i e wide =
+    let inside : i < length columns = (position-Some (λ (c : ColumnDef). bytes_eq c.name name) columns i (begun_column []) (sym e)).0 in
+    let below : nat_lt i count ≡ true = grind (arith, nat_tests) in
+    below ∙ column_found columns name (Some i) e

@@ -24,6 +24,14 @@ pub record TableDef : Type 0 where
   pub columns : List ColumnDef
   pub long : Bool
 
+-- the numbers of a table's columns are stored in 16 bits
+abbrev pub most_columns : ℕ
+most_columns = 32767
+
+-- a table of its parts, where its columns are few enough
+abbrev pub table_of : List ℕ → List ColumnDef → Bool → Option TableDef
+table_of name columns long = if nat_le (length columns) most_columns then Some (record { name = name; columns = columns; long = long }) else None
+
 -- a column as a builder begins it: nothing is set, and no end has named a type
 abbrev pub begun_column : List ℕ → ColumnDef
 begun_column name = record {

@@ -1,9 +1,9 @@
 //! Columns.
 
-ghost use Rattle.std.specs.Prelude.{◌≡◌, ◌≤◌, IfOk, IfErr, Some, true, map, option_map, bytes_eq, ◌||◌};
+ghost use Rattle.std.specs.Prelude.{◌≡◌, ◌≤◌, IfOk, IfErr, Some, true, map, option_map, ◌||◌};
 ghost use Rattle.msi_text.specs.declared.category.Category.TheVariants as category_of;
 ghost use Rattle.msi_text.specs.declared.errors.ErrorKind.TheVariants.{OutOfMemory};
-ghost use Rattle.msi_table.specs.Columns.{begun_column, column_index as index_of, has_column as has_one, some_texts, type_name};
+ghost use Rattle.msi_table.specs.Columns.{begun_column, some_texts, type_name};
 ghost use Rattle.msi_table.specs.StoredOrder.{is_of_category_binary as is_binary};
 ghost use Rattle.msi_table.specs.declared.column.ColumnType.TheVariants as type_of;
 
@@ -172,12 +172,23 @@ impl Column {
         ensures ok { IfOk result (λ column. column ≡ self.now) }
         ensures kind { IfErr result (λ kind. kind ≡ OutOfMemory) }
     {
+        self.renamed(alloc, self.name.clone(alloc)?)
+    }
+
+    /// The same column under another name.
+    ///
+    /// # Errors
+    /// `OutOfMemory`.
+    pub(crate) fn renamed(&self, alloc: Global, name: Text) -> Result<Column, Error>
+        ensures ok { IfOk result (λ column. column ≡ record self.now { name = name }) }
+        ensures kind { IfErr result (λ kind. kind ≡ OutOfMemory) }
+    {
         let foreign_key = match &self.foreign_key {
             Some((table, column)) => Some((table.clone(alloc)?, *column)),
             None => None,
         };
         Ok(Column {
-            name: self.name.clone(alloc)?,
+            name,
             coltype: self.coltype,
             is_localizable: self.is_localizable,
             is_nullable: self.is_nullable,
@@ -187,6 +198,15 @@ impl Column {
             category: self.category,
             enum_values: copied_texts(alloc, self.enum_values.as_slice())?,
         })
+    }
+
+    /// The column, which takes null from now on.
+    pub(crate) fn nullable(self) -> Column
+        ensures { result ≡ record self { is_nullable = true } }
+    {
+        let mut column = self;
+        column.is_nullable = true;
+        column
     }
 
     /// Whether the column's cells stand for streams, which have no order.
@@ -375,40 +395,4 @@ impl ColumnBuilder {
         column.coltype = coltype;
         column
     }
-}
-
-/// The columns once more, in order.
-///
-/// # Errors
-/// `OutOfMemory`.
-pub(crate) fn copied_columns(alloc: Global, columns: &[Column]) -> Result<Items<Column>, Error>
-    ensures ok { IfOk result (λ copies. copies ≡ columns.now) }
-    ensures kind { IfErr result (λ kind. kind ≡ OutOfMemory) }
-{
-    let mut copies = Vec::new(alloc);
-    for column in columns {
-        copies.push(column.clone(alloc)?)?;
-    }
-    Ok(Items::from_vec(copies))
-}
-
-/// Whether the column has this name.
-fn is_named(column: &Column, name: &str) -> bool
-    ensures { result ≡ bytes_eq column.now.name name.now }
-{
-    column.name() == name
-}
-
-/// Where the column of a name stands; of a repeated name the first.
-pub(crate) fn column_index(columns: &[Column], name: &str) -> Option<usize>
-    ensures { result ≡ index_of name.now columns.now }
-{
-    columns.iter().position(|column| is_named(column, name))
-}
-
-/// Whether one has this name.
-pub(crate) fn has_column(columns: &[Column], name: &str) -> bool
-    ensures { result ≡ has_one name.now columns.now }
-{
-    columns.iter().any(|column| is_named(column, name))
 }

@@ -3,6 +3,7 @@
 
 mod cells;
 pub mod column;
+mod columns;
 mod conversions;
 mod fitting;
 pub mod laws;

@@ -34,7 +34,10 @@ fn compare_rows(columns: &[Column], row: &[ValueRef], other: &[ValueRef]) -> Ord
 }
 
 /// Puts rows into their stored order.
-pub fn sort_rows(columns: &[Column], rows: &mut Vec<Items<ValueRef>>) -> Result<(), AllocError>
+pub(crate) fn sort_rows(
+    columns: &[Column],
+    rows: &mut Vec<Items<ValueRef>>,
+) -> Result<(), AllocError>
     ensures ok { OnOk result (rows.new.items ≡ in_stored_order columns.now rows.old.items) }
     ensures err { OnErr result (rows.new.items ≡ rows.old.items) }
 {

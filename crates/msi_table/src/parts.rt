@@ -1,21 +1,22 @@
 //! What the crates above need beyond the surface.
 
-ghost use Rattle.std.specs.Prelude.{◌≡◌, ◌<◌, ◌≤◌, ◌↔◌, IfOk, IfErr, IsErr, IsTrue, Some, None, is_some, if◌then◌else◌, length};
+ghost use Rattle.std.specs.Prelude.{◌≡◌, ◌<◌, ◌≤◌, ◌↔◌, IfOk, IfErr, IsErr, IsTrue, Some, None, is_some, true, if◌then◌else◌, length, option_copied};
 ghost use Rattle.msi_text.specs.declared.errors.ErrorKind.TheVariants.{InvalidData, OutOfMemory};
 ghost use Rattle.msi_table.specs.Cells.{rows_in, table_bytes};
 ghost use Rattle.msi_table.specs.ReadBack.{FitsTable};
-ghost use Rattle.msi_table.specs.Rows.{AreAsWide};
-ghost use Rattle.msi_table.specs.StoredOrder.{in_stored_order};
-ghost use Rattle.msi_table.specs.Columns.{HasShortLength, types_of, bit_if as number_if, column_of_bits as column_in, has_bit as is_set, kind_bits as bits_of_kind, type_bits as bits_of, type_of_bits as type_in};
+ghost use Rattle.msi_table.specs.Rows.{AreAsWide, value_named as value_in_row};
+ghost use Rattle.msi_table.specs.StoredOrder.{in_stored_order, row_values};
+ghost use Rattle.msi_table.specs.Columns.{HasShortLength, table_of, types_of, has_column as has_one, bit_if as number_if, column_of_bits as column_in, has_bit as is_set, kind_bits as bits_of_kind, type_bits as bits_of, type_of_bits as type_in};
 
 use crate::column::{Column, ColumnBuilder, ColumnType};
-use crate::row::{Row, Rows};
+pub use crate::columns::{column_index, copied_columns, has_column};
+use crate::row::{Row, Rows, values_of};
 use crate::table::Table;
 use crate::value::{Value, ValueRef};
 use crate::{fitting, reasons, rows as reading, writing};
 use msi_text::errors::{Error, ErrorKind};
 use msi_text::stringpool::StringPool;
-use msi_text::text::Items;
+use msi_text::text::{IntoText, Items, Text};
 use std::alloc::Global;
 use std::rc::Rc;
 
@@ -106,6 +107,32 @@ pub fn column_of_bits(builder: ColumnBuilder, bits: u16) -> Result<Column, Error
     ))
 }
 
+/// A table of its parts, where its columns are at most 32767: their numbers are stored in 16 bits. References to texts take
+/// three bytes where they are long, else two.
+pub fn table(name: Text, columns: Items<Column>, long: bool) -> Option<Table>
+    ensures { result ≡ table_of name columns long }
+{
+    Table::of_parts(name, columns, long)
+}
+
+/// A column once more under another name.
+///
+/// # Errors
+/// `OutOfMemory`.
+pub fn renamed<S: IntoText>(alloc: Global, column: &Column, name: S) -> Result<Column, Error>
+    ensures ok { IfOk result (λ renamed. renamed ≡ record column.now { name = S.text name }) }
+    ensures kind { IfErr result (λ kind. kind ≡ OutOfMemory) }
+{
+    column.renamed(alloc, name.into_text(alloc)?)
+}
+
+/// A column that takes null, and else is as it was.
+pub fn nullable(column: Column) -> Column
+    ensures { result ≡ record column { is_nullable = true } }
+{
+    column.nullable()
+}
+
 /// The rows that the bytes of a table's stream spell; bytes past the last whole row are ignored.
 ///
 /// # Errors
@@ -139,6 +166,25 @@ pub fn write_rows(
     ensures kind { IfErr result (λ kind. kind ≡ OutOfMemory) }
 {
     writing::write_rows(alloc, table.is_long(), table.columns(), rows)
+}
+
+/// The values that cells stand for, in order.
+///
+/// # Errors
+/// `OutOfMemory`.
+pub fn values(alloc: Global, pool: &StringPool, cells: &[ValueRef]) -> Result<Items<Value>, Error>
+    ensures ok { IfOk result (λ values. values ≡ row_values pool.now.places cells.now) }
+    ensures kind { IfErr result (λ kind. kind ≡ OutOfMemory) }
+{
+    values_of(alloc, pool, cells)
+}
+
+/// The value of the column of a name in a row, unless the row has no such column; of a repeated name the first.
+pub fn value_named<'a>(row: &'a Row, name: &str) -> Option<&'a Value>
+    ensures value { option_copied result ≡ value_in_row name.now row.now }
+    ensures found { is_some result ≡ has_one name.now row.now.columns }
+{
+    row.value_named(name)
 }
 
 /// A row of a value for each column.

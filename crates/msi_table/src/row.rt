@@ -1,13 +1,14 @@
 //! Rows with their values.
 
-ghost use Rattle.std.specs.Prelude.{◌≡◌, ◌<◌, ◌==◌, IsTrue, IfOk, IfErr, Some, length, slice_get, option_copied};
+ghost use Rattle.std.specs.Prelude.{◌≡◌, ◌<◌, ◌==◌, IsTrue, IfOk, IfErr, Some, is_some, length, slice_get, option_copied};
 ghost use Rattle.std.specs.Iterator.{at_most};
 ghost use Rattle.msi_text.specs.declared.errors.ErrorKind.TheVariants.{OutOfMemory};
 ghost use Rattle.msi_table.specs.Columns.{has_column as has_one};
 ghost use Rattle.msi_table.specs.Rows.{AreAsWide, GivesRow, value_named};
 ghost use Rattle.msi_table.specs.StoredOrder.{row_values};
 
-use crate::column::{Column, column_index, has_column};
+use crate::column::Column;
+use crate::columns::{column_index, has_column};
 use crate::value::{Value, ValueRef};
 use msi_text::errors::Error;
 use msi_text::stringpool::StringPool;
@@ -87,6 +88,17 @@ impl Row {
     {
         has_column(self.columns(), name)
     }
+
+    /// The value of the column of a name, where it has one; of a repeated name the first.
+    pub(crate) fn value_named(&self, name: &str) -> Option<&Value>
+        ensures value { option_copied result ≡ value_named name.now self.now }
+        ensures found { is_some result ≡ has_one name.now self.now.columns }
+    {
+        match column_index(self.columns.as_slice(), name) {
+            Some(index) => self.values.as_slice().get(index),
+            None => None,
+        }
+    }
 }
 
 /// The value of the column at a place, from 0 on, which has to be below `len`.
@@ -111,8 +123,8 @@ impl<'a> Index<&'a str> for Row {
     ghost index_gives = { λ row name value. value_named name.now row ≡ Some value };
 
     fn index(&self, name: &'a str) -> &Value {
-        match column_index(self.columns(), name) {
-            Some(index) => &self.values.as_slice()[index],
+        match self.value_named(name) {
+            Some(value) => value,
             None => unreachable!(),
         }
     }
@@ -137,7 +149,11 @@ fn copied_values(alloc: Global, values: &[Value]) -> Result<Items<Value>, Error>
 ///
 /// # Errors
 /// `OutOfMemory`.
-fn values_of(alloc: Global, pool: &StringPool, cells: &[ValueRef]) -> Result<Items<Value>, Error>
+pub(crate) fn values_of(
+    alloc: Global,
+    pool: &StringPool,
+    cells: &[ValueRef],
+) -> Result<Items<Value>, Error>
     ensures ok { IfOk result (λ values. values ≡ row_values pool.now.places cells.now) }
     ensures kind { IfErr result (λ kind. kind ≡ OutOfMemory) }
 {

@@ -3,7 +3,7 @@
 ghost use Rattle.std.specs.Prelude.{◌≡◌, ◌<◌, ◌≤◌, length, sum, IfOk, IfErr, Some, is_some, if◌then◌else◌};
 ghost use Rattle.msi_text.specs.declared.errors.ErrorKind.TheVariants.{OutOfMemory, InvalidData};
 ghost use Rattle.msi_table.specs.Cells.{widths, row_count as count_of, row_in, rows_in};
-ghost use Rattle.msi_table.specs.Columns.{types_of};
+ghost use Rattle.msi_table.specs.Columns.{most_columns, types_of};
 
 use crate::cells::{read_cell, width};
 use crate::column::Column;
@@ -18,7 +18,7 @@ const MOST_ROWS: usize = 65536;
 
 /// How many bytes a row takes.
 fn row_width(long: bool, columns: &[Column]) -> usize
-    requires { length columns.now ≤ 32767 }
+    requires { length columns.now ≤ most_columns }
     ensures { result ≡ sum (widths long (types_of columns.now)) }
 {
     let mut total = 0;
@@ -30,7 +30,7 @@ fn row_width(long: bool, columns: &[Column]) -> usize
 
 /// How many whole rows the bytes hold.
 fn row_count(long: bool, columns: &[Column], bytes: &[u8]) -> usize
-    requires { length columns.now ≤ 32767 }
+    requires { length columns.now ≤ most_columns }
     ensures { result ≡ count_of long (types_of columns.now) bytes.now }
 {
     let width = row_width(long, columns);
@@ -73,7 +73,7 @@ pub fn read_rows(
     columns: &[Column],
     bytes: &[u8],
 ) -> Result<Vec<Items<ValueRef>>, Error>
-    requires { length columns.now ≤ 32767 }
+    requires { length columns.now ≤ most_columns }
     ensures ok { IfOk result (λ rows. rows_in long (types_of columns.now) bytes.now ≡ Some rows.items) }
     ensures kind { IfErr result (λ kind. kind ≡ (if is_some (rows_in long (types_of columns.now) bytes.now) then OutOfMemory else InvalidData)) }
 {

@@ -1,17 +1,18 @@
 //! Tables.
 
-ghost use Rattle.std.specs.Prelude.{◌≡◌, ◌≤◌, IfOk, IfErr, length, option_copied, vec_len};
+ghost use Rattle.std.specs.Prelude.{◌≡◌, ◌≤◌, IfOk, IfErr, length, option_copied};
 ghost use Rattle.msi_text.specs.declared.errors.ErrorKind.TheVariants.{OutOfMemory};
-ghost use Rattle.msi_table.specs.Columns.{column_named, has_column as has_one, key_places};
+ghost use Rattle.msi_table.specs.Columns.{column_named, has_column as has_one, key_places, most_columns, table_of};
 
-use crate::column::{Column, column_index, copied_columns, has_column};
+use crate::column::Column;
+use crate::columns::{column_index, copied_columns, has_column};
 use msi_text::errors::Error;
 use msi_text::text::{Items, Text};
 use std::alloc::Global;
 use std::marker::Model;
 
 /// The most columns of a table: their numbers are stored in 16 bits.
-pub const MOST_COLUMNS: usize = 32767;
+const MOST_COLUMNS: usize = 32767;
 
 /// A table's name and columns, and whether its references to texts are long.
 #[derive(Drop)]
@@ -23,26 +24,28 @@ pub struct Table {
 
 impl Model for Table {
     ghost use Rattle.std.specs.Prelude.{◌≤◌, length};
-    ghost use Rattle.msi_table.specs.Columns.{TableDef};
+    ghost use Rattle.msi_table.specs.Columns.{TableDef, most_columns};
 
     ghost Value = { TableDef };
 
     ghost view = { λ t. record { name = t.name; columns = t.columns; long = t.long } };
 
-    ghost invariant = { λ t. length t.columns ≤ 32767 };
+    ghost invariant = { λ t. length t.columns ≤ most_columns };
 }
 
 impl Table {
-    /// A table of at most `MOST_COLUMNS` columns. Its references to texts take three bytes where they are long, else two.
-    pub fn new(name: Text, columns: Vec<Column>, long: bool) -> Table
-        requires { vec_len columns ≤ 32767 }
-        ensures { result ≡ record { name = name; columns = columns.items; long = long } }
+    /// A table of its parts, where its columns are few enough.
+    pub(crate) fn of_parts(name: Text, columns: Items<Column>, long: bool) -> Option<Table>
+        ensures { result ≡ table_of name columns long }
     {
-        Table {
-            name,
-            columns: Items::from_vec(columns),
-            long,
+        if columns.len() > MOST_COLUMNS {
+            return None;
         }
+        Some(Table {
+            name,
+            columns,
+            long,
+        })
     }
 
     /// The table's name.
@@ -55,7 +58,7 @@ impl Table {
     /// The table's columns, in order.
     pub fn columns(&self) -> &[Column]
         ensures columns { result.now ≡ self.now.columns }
-        ensures few { length self.now.columns ≤ 32767 }
+        ensures few { length self.now.columns ≤ most_columns }
     {
         self.columns.as_slice()
     }

@@ -1,9 +1,8 @@
 //! Columns, their types, and the bits of types.
 
-use msi_table::parts::{column_of_bits, type_bits, type_of_bits};
-use msi_table::table::MOST_COLUMNS;
+use msi_table::parts::{self, column_of_bits, type_bits, type_of_bits};
 use msi_table::{Column, ColumnType, Table};
-use msi_text::{Category, Error, ErrorKind, Text};
+use msi_text::{Category, Error, ErrorKind, Items, Text};
 use std::alloc::Global;
 use std::process::Abort;
 use std::test::Fail;
@@ -86,9 +85,8 @@ fn columns_have_the_rules_that_they_were_built_with(rt: HostRuntime) -> Result<(
 fn keyed(rt: &impl Abort, alloc: Global) -> Result<Table, Error> {
     let key = Column::build(alloc, "Key")?.primary_key().int32();
     let columns = vec![in alloc; key, told(alloc)?]?;
-    assert!(rt; columns.len() <= MOST_COLUMNS);
     let name = Text::from_string(String::from_str(alloc, "T")?);
-    Ok(Table::new(name, columns, false))
+    Ok(parts::table(name, Items::from_vec(columns), false).expect(rt, "few columns"))
 }
 
 #[test]

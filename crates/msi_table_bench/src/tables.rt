@@ -1,7 +1,6 @@
 //! Cells and the streams of tables.
 
 use msi_table::parts::{self, read_rows};
-use msi_table::table::MOST_COLUMNS;
 use msi_table::{Column, Table, ValueRef};
 use msi_text::{Error, ErrorKind, Items, Text};
 use std::alloc::Global;
@@ -10,9 +9,8 @@ use std::test::Fail;
 
 /// A table of these columns, with short references.
 fn table(rt: &impl Abort, alloc: Global, columns: Vec<Column>) -> Result<Table, Error> {
-    assert!(rt; columns.len() <= MOST_COLUMNS);
     let name = Text::from_string(String::from_str(alloc, "T")?);
-    Ok(Table::new(name, columns, false))
+    Ok(parts::table(name, Items::from_vec(columns), false).expect(rt, "few columns"))
 }
 
 /// A table of one column.
