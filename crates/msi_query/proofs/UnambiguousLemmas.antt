@@ -126,7 +126,8 @@ positive n h = let bound : n ≤ 2147483647 = leb-true n 2147483647 h in omega a
 negative : (n : ℕ) → is_i32 (negsuc n) ≡ true → suc n < 2 ^ 64
 negative n h = let bound : n ≤ 2147483647 = leb-true n 2147483647 (and_parts (leb n 2147483647) true h).0 in omega arith
 
-values : (v : Value) → is_plain_value v ≡ true → fits_literal v ≡ true → Prints (literal v) 10 (expression_text (literal v))
+values : (v : Value) → is_plain_value v ≡ true → fits_literal v ≡ true
+    → Prints (literal v) 10 (expression_text (literal v))
 values Null h g = record { text = codes "NULL"; is = refl; reads = λ fs _. at_place _ 10 (codes "NULL") fs (word (codes "NULL") fs) refl refl refl }
 values (Int (pos n)) h g = record {
   text = decimal n;
@@ -160,18 +161,24 @@ names n h =
           (not_from_false (bytes_eq n (codes "NOT")) no_word.1) (ap (λ e. place e fs) (cond-false (bytes_eq n (codes "NULL")) _ _ no_word.0));
     }
 
-prints : (e : Expression) → is_plain e ≡ true → is_folded e ≡ true → literals_fit e ≡ true → Prints e (level e) (expression_text e)
+prints : (e : Expression) → is_plain e ≡ true → is_folded e ≡ true → literals_fit e ≡ true
+    → Prints e (level e) (expression_text e)
 prints (literal v) h f g = values v h g
 prints (column n) h f g = names n h
 prints (unary op e) h f g = let folded = and_parts _ _ f in
     fronts op e _ (not-true _ folded.0) (brackets e 10 _ (prints e h folded.1 g))
-prints (binary op l r) h f g = let plain = and_parts _ _ h in let folded = and_parts _ _ f in let fit = and_parts _ _ g in
+prints (binary op l r) h f g =
+    let plain = and_parts _ _ h in let folded = and_parts _ _ f in let fit = and_parts _ _ g in
     links (by op) l r _ _ (brackets l (op_level op) _ (prints l plain.0 (and_parts _ _ folded.0).1 fit.0))
     (brackets r (op_level op + 1) _ (prints r plain.1 folded.1 fit.1))
-prints (both l r) h f g = let plain = and_parts _ _ h in let folded = and_parts _ _ f in let fit = and_parts _ _ g in
-    links and_link l r _ _ (brackets l 2 _ (prints l plain.0 folded.0 fit.0)) (brackets r 3 _ (prints r plain.1 folded.1 fit.1))
-prints (either l r) h f g = let plain = and_parts _ _ h in let folded = and_parts _ _ f in let fit = and_parts _ _ g in
-    links or_link l r _ _ (brackets l 1 _ (prints l plain.0 folded.0 fit.0)) (brackets r 2 _ (prints r plain.1 folded.1 fit.1))
+prints (both l r) h f g =
+    let plain = and_parts _ _ h in let folded = and_parts _ _ f in let fit = and_parts _ _ g in
+    links and_link l r _ _ (brackets l 2 _ (prints l plain.0 folded.0 fit.0))
+    (brackets r 3 _ (prints r plain.1 folded.1 fit.1))
+prints (either l r) h f g =
+    let plain = and_parts _ _ h in let folded = and_parts _ _ f in let fit = and_parts _ _ g in
+    links or_link l r _ _ (brackets l 1 _ (prints l plain.0 folded.0 fit.0))
+    (brackets r 2 _ (prints r plain.1 folded.1 fit.1))
 
 prints_built : (e : Expression) → is_plain e ≡ true → is_built e ≡ true → Prints e (level e) (expression_text e)
 prints_built e h built = let parts = and_parts (is_folded e) (literals_fit e) built in prints e h parts.0 parts.1

@@ -17,8 +17,8 @@ value_at_place row place = unwrap_or (slice_get row place) Null
 abbrev pub value_in : List ColumnDef → List Value → List ℕ → Value
 value_in columns row name = unwrap_or (option_and_then (slice_get row) (column_index name columns)) Null
 
--- whether a row of values of the columns meets a condition: where there is none each does, else those for which its value
--- counts as true
+-- whether a row of values of the columns meets a condition: where there is none each does, else those for which its
+-- value counts as true
 abbrev pub meets : List ColumnDef → Option Expression → List Value → Bool
 meets columns None row = true
 meets columns (Some condition) row = is_true (value_of (value_in columns row) condition)

@@ -48,7 +48,8 @@ is_folded (either l r) = is_folded l && is_folded r
 -- what the constructors make of folded expressions is folded
 abbrev pub ConstructorsFold : Type 0
 ConstructorsFold = ((op : UnaryOp) (e : Expression) → IsTrue (is_folded e) → IsTrue (is_folded (folded_unary op e)))
-    × ((op : BinaryOp) (l r : Expression) → IsTrue (is_folded l) → IsTrue (is_folded r) → IsTrue (is_folded (folded_binary op l r)))
+    × ((op : BinaryOp) (l r : Expression)
+    → IsTrue (is_folded l) → IsTrue (is_folded r) → IsTrue (is_folded (folded_binary op l r)))
     × ((l r : Expression) → IsTrue (is_folded l) → IsTrue (is_folded r) → IsTrue (is_folded (both l r)))
     × ((l r : Expression) → IsTrue (is_folded l) → IsTrue (is_folded r) → IsTrue (is_folded (either l r)))
 

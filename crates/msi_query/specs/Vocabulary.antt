@@ -5,7 +5,7 @@ use Rattle.msi_text.specs.Pages.{is_ascii}
 use Rattle.msi_table.specs.declared.value.Value.{Value}
 use Rattle.msi_table.specs.declared.value.Value.TheVariants.{Str}
 use Rattle.msi_query.specs.Expressions.{Expression, literal, column, unary, binary, both, either}
-use Rattle.msi_query.specs.Evaluation.{is_built}
+use Rattle.msi_query.specs.Folding.{is_built}
 use Rattle.msi_query.specs.Printing.{expression_text}
 
 -- an Identifier that is no word that an operand begins with: `AND` and `OR` stand only behind an operand, so they are

@@ -87,11 +87,11 @@ pub(crate) enum Tree<C> {
     Or(Box<Tree<C>>, Box<Tree<C>>),
 }
 
-/// An expression on rows. A contract sees its tree, without where the parts lie in memory. No operator stands over literals
-/// alone, but for `and` and `or`; numbers have 32 bits, and no literal stands for a stream.
+/// An expression on rows. A contract sees its tree, without where the parts lie in memory. No operator but `and` and `or`
+/// stands over literals alone, numbers have 32 bits, and no literal stands for a stream.
 ///
-/// Evaluation, printing, `column_names` and the drop go down the tree by recursion, so its depth is bounded by the stack
-/// alone.
+/// Evaluation, printing, `column_names` and the drop go down the tree by recursion, so its depth is bounded by the
+/// stack alone.
 #[derive(Drop)]
 pub struct Expr {
     tree: Tree<Text>,
@@ -364,8 +364,8 @@ impl Expr {
         self.binary(alloc, BinaryOp::Mul, rhs)
     }
 
-    /// The quotient of two numbers, cut towards zero; Null where the divisor is 0 or the quotient doesn't fit 32 bits, and of
-    /// anything else.
+    /// The quotient of two numbers, cut towards zero; Null where the divisor is 0 or the quotient doesn't fit 32 bits,
+    /// and of anything else.
     ///
     /// # Errors
     /// `OutOfMemory`.
@@ -451,7 +451,8 @@ impl Expr {
     /// # Errors
     /// `OutOfMemory`.
     pub fn column_names(&self, alloc: Global) -> Result<HashSet<&str>, Error>
-        ensures ok { IfOk result (λ names. (name : List ℕ) → IsTrue (has_name names name) ↔ Contains (names_in self.now) name) }
+        ensures ok { IfOk result (λ names. (name : List ℕ)
+            → IsTrue (has_name names name) ↔ Contains (names_in self.now) name) }
         ensures kind { IfErr result (λ kind. kind ≡ OutOfMemory) }
     {
         let mut names = HashSet::new(alloc);

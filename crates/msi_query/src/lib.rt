@@ -3,7 +3,6 @@
 
 pub mod expr;
 pub mod laws;
-mod lookup;
 pub mod parts;
 pub mod query;
 

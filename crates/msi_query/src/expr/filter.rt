@@ -16,8 +16,8 @@ ghost use Rattle.msi_query.specs.Views.{seen_value};
 use super::evaluation::operand_of;
 use super::views::{ColumnValues, ValueView};
 use super::{Expr, Tree};
-use crate::lookup::column_index;
 use msi_table::column::Column;
+use msi_table::parts::column_index;
 use msi_table::value::{Value, ValueRef};
 use msi_text::errors::Error;
 use msi_text::stringpool::StringPool;
@@ -122,8 +122,8 @@ fn placed_condition(
     }
 }
 
-/// A condition on rows of cells, or none, which each row meets. The columns' places are looked up once, and no text of a row
-/// is copied, but where texts are joined. A contract sees the columns and the condition.
+/// A condition on rows of cells, or none, which each row meets. The columns' places are looked up once, and no text of a
+/// row is copied, but where texts are joined. A contract sees the columns and the condition.
 #[derive(Drop)]
 pub struct RowFilter<'a> {
     columns: &'a [Column],
@@ -158,7 +158,8 @@ impl<'a> RowFilter<'a> {
         columns: &'a [Column],
         condition: Option<&'a Expr>,
     ) -> Result<RowFilter<'a>, Error>
-        ensures ok { IfOk result (λ filter. filter ≡ record { columns = columns.now; condition = option_copied condition.entry }) }
+        ensures ok { IfOk result (λ filter. filter
+            ≡ record { columns = columns.now; condition = option_copied condition.entry }) }
         ensures kind { IfErr result (λ kind. kind ≡ OutOfMemory) }
     {
         let tree = placed_condition(alloc, columns, condition)?;
@@ -174,7 +175,8 @@ impl<'a> RowFilter<'a> {
     /// # Errors
     /// `OutOfMemory`, where something is added in the condition.
     pub fn meets(&self, alloc: Global, pool: &StringPool, row: &[ValueRef]) -> Result<bool, Error>
-        ensures ok { IfOk result (λ met. met ≡ meets_one self.now.columns self.now.condition (row_values pool.now.places row.now)) }
+        ensures ok { IfOk result (λ met. met
+            ≡ meets_one self.now.columns self.now.condition (row_values pool.now.places row.now)) }
         ensures kind { IfErr result (λ kind. kind ≡ OutOfMemory) }
         ensures memory { IsErr result → IsTrue (option_map_or has_sum self.now.condition false) }
     {

@@ -37,7 +37,8 @@ pub(crate) fn fold_binary(
     left: Tree<Text>,
     right: Tree<Text>,
 ) -> Result<Tree<Text>, Error>
-    ensures ok { IfOk result (λ folded. expression_of folded ≡ folded_binary op (expression_of left) (expression_of right)) }
+    ensures ok { IfOk result (λ folded. expression_of folded
+        ≡ folded_binary op (expression_of left) (expression_of right)) }
     ensures kind { IfErr result (λ kind. kind ≡ OutOfMemory) }
 {
     match (left, right) {

@@ -9,8 +9,8 @@ ghost use Rattle.msi_query.specs.Names.{has_name};
 ghost use Rattle.msi_query.specs.Trees.{expression_of};
 
 use super::Tree;
-use crate::lookup::has_column;
 use msi_table::column::Column;
+use msi_table::parts::has_column;
 use msi_text::errors::Error;
 use msi_text::text::Text;
 use std::collections::HashSet;

@@ -136,9 +136,9 @@ fn write_operand<W: fmt::Write>(
     }
 }
 
-/// Writes the condition as a query has it, as `Foo - (Bar - Baz)`. Literal texts past ASCII, and formats with a width or
-/// other options, are promised nothing. No other expression writes these bytes, where columns are Identifiers other than
-/// `NULL` and `NOT` and literal texts are ASCII.
+/// Writes the condition as a query has it, as `Foo - (Bar - Baz)`. Literal texts past ASCII, and formats with a width
+/// or other options, are promised nothing. No other expression writes these bytes, where columns are Identifiers other
+/// than `NULL` and `NOT` and literal texts are ASCII.
 impl fmt::Display for Expr {
     ghost output = { expression_text };
 

@@ -8,7 +8,7 @@ ghost use Rattle.msi_query.specs.Conditions.{is_text};
 ghost use Rattle.msi_query.specs.Evaluation.{value_at as value_in_row};
 ghost use Rattle.msi_query.specs.Views.{seen_value};
 
-use crate::lookup::value_named;
+use msi_table::parts::value_named;
 use msi_table::row::Row;
 use msi_table::value::Value;
 use msi_text::errors::Error;

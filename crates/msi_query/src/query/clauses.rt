@@ -11,8 +11,8 @@ use msi_text::text::{Items, Text};
 use std::alloc::Global;
 use std::marker::Model;
 
-/// The columns that are kept of rows, where none keeps all, and the condition on rows, if any. The condition is judged before
-/// columns are left out.
+/// The columns that are kept of rows, where none keeps all, and the condition on rows, if any. The condition is judged
+/// before columns are left out.
 #[derive(Drop)]
 pub struct Clauses {
     columns: Items<Text>,
@@ -79,7 +79,8 @@ impl Clauses {
     /// # Errors
     /// `OutOfMemory`.
     pub(crate) fn narrowed(self, alloc: Global, condition: Expr) -> Result<Clauses, Error>
-        ensures ok { IfOk result (λ clauses. clauses ≡ record self { condition = narrowed_by self.condition condition }) }
+        ensures ok { IfOk result (λ clauses. clauses
+            ≡ record self { condition = narrowed_by self.condition condition }) }
         ensures kind { IfErr result (λ kind. kind ≡ OutOfMemory) }
     {
         let Clauses {

@@ -115,7 +115,8 @@ impl Insert {
     /// # Errors
     /// `OutOfMemory`.
     pub fn rows(self, rows: Vec<Vec<Value>>) -> Result<Insert, Error>
-        ensures ok { IfOk result (λ query. query ≡ record self { rows = self.rows ++ map (λ row. row.items) rows.items }) }
+        ensures ok { IfOk result (λ query. query
+            ≡ record self { rows = self.rows ++ map (λ row. row.items) rows.items }) }
         ensures kind { IfErr result (λ kind. kind ≡ OutOfMemory) }
     {
         let Insert {
@@ -153,8 +154,8 @@ fn write_rows<W: fmt::Write>(f: &mut fmt::Formatter<W>, rows: &[NewRow]) -> fmt:
     write_list(f, rows)
 }
 
-/// Writes the query as SQL, as `INSERT INTO Quux VALUES (1, "a"), (NULL, "b")`. Literal texts past ASCII, and formats with a
-/// width or other options, are promised nothing.
+/// Writes the query as SQL, as `INSERT INTO Quux VALUES (1, "a"), (NULL, "b")`. Literal texts past ASCII, and formats
+/// with a width or other options, are promised nothing.
 impl fmt::Display for Insert {
     ghost output = { insert_text };
 

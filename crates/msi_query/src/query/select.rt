@@ -126,7 +126,8 @@ impl Select {
         })
     }
 
-    /// The same rows with these columns, in this order, in place of those that were named before; an empty list keeps all.
+    /// The same rows with these columns, in this order, in place of those that were named before; an empty list keeps
+    /// all.
     ///
     /// # Errors
     /// `OutOfMemory`.

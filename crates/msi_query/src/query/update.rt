@@ -78,8 +78,8 @@ impl Model for Update {
     ghost view = { λ q. record { table = q.table; sets = q.sets; condition = q.condition } };
 }
 
-/// What an update is made of: the table's name, the columns with their new values in the order in which they were set, and
-/// the condition on the rows to be changed, if any.
+/// What an update is made of: the table's name, the columns with their new values in the order in which they were set,
+/// and the condition on the rows to be changed, if any.
 #[derive(Drop)]
 pub struct UpdateParts {
     pub table: Text,
@@ -184,8 +184,8 @@ fn write_sets<W: fmt::Write>(f: &mut fmt::Formatter<W>, sets: &[Assignment]) -> 
     write_list(f, sets)
 }
 
-/// Writes the query as SQL, as `UPDATE Quux SET Foo = 1 WHERE Bar > 42`. Literal texts past ASCII, and formats with a width
-/// or other options, are promised nothing.
+/// Writes the query as SQL, as `UPDATE Quux SET Foo = 1 WHERE Bar > 42`. Literal texts past ASCII, and formats with a
+/// width or other options, are promised nothing.
 impl fmt::Display for Update {
     ghost output = { update_text };
 
