@@ -5,7 +5,8 @@ use Rattle.msi_table.specs.declared.value.Value.TheVariants.{Null, Int, Str, Bin
 use Rattle.msi_query.specs.declared.expr.UnaryOp.TheVariants as one
 use Rattle.msi_query.specs.declared.expr.BinaryOp.TheVariants as two
 use Rattle.msi_query.specs.Expressions.{Expression, literal, column, unary, binary, both, either, names_in}
-use Rattle.msi_query.specs.Evaluation.{value_of, folded_unary, folded_binary}
+use Rattle.msi_query.specs.Evaluation.{value_of}
+use Rattle.msi_query.specs.Folding.{folded_unary, folded_binary}
 
 abbrev num : ℤ → Expression
 num n = literal (Int n)

@@ -6,7 +6,8 @@ use Rattle.msi_table.specs.Values.{is_true}
 use Rattle.msi_query.specs.declared.expr.UnaryOp.{UnaryOp}
 use Rattle.msi_query.specs.declared.expr.BinaryOp.{BinaryOp}
 use Rattle.msi_query.specs.Expressions.{Expression, literal, column, unary, binary, both, either}
-use Rattle.msi_query.specs.Evaluation.{truth, unary_value, binary_value, value_of, folded_unary, folded_binary, folded, is_folded, FoldingKeepsValues, ConstructorsFold}
+use Rattle.msi_query.specs.Evaluation.{truth, unary_value, binary_value, value_of}
+use Rattle.msi_query.specs.Folding.{folded_unary, folded_binary, folded, is_folded, FoldingKeepsValues, ConstructorsFold}
 
 value_of-folded_unary : (at : List ℕ → Value) (op : UnaryOp) (e : Expression) → value_of at (folded_unary op e) ≡ value_of at (unary op e)
 value_of-folded_unary at op (literal v) = refl
@@ -31,15 +32,15 @@ value_of-folded at (either l r) = ap (λ v. truth (is_true v || is_true (value_o
 pub folding_keeps_values : FoldingKeepsValues
 folding_keeps_values at = (value_of-folded_unary at, value_of-folded_binary at, value_of-folded at)
 
-and_both : (a b : Bool) → IsTrue a → IsTrue b → IsTrue (a && b)
+pub and_both : (a b : Bool) → IsTrue a → IsTrue b → IsTrue (a && b)
 and_both true b p q = q
 and_both false b p q = p
 
-is_folded-folded_unary : (op : UnaryOp) (e : Expression) → IsTrue (is_folded e) → IsTrue (is_folded (folded_unary op e))
+pub is_folded-folded_unary : (op : UnaryOp) (e : Expression) → IsTrue (is_folded e) → IsTrue (is_folded (folded_unary op e))
 is_folded-folded_unary op (literal v) h = h
 is_folded-folded_unary op e h = h
 
-is_folded-folded_binary : (op : BinaryOp) (l r : Expression) → IsTrue (is_folded l) → IsTrue (is_folded r) → IsTrue (is_folded (folded_binary op l r))
+pub is_folded-folded_binary : (op : BinaryOp) (l r : Expression) → IsTrue (is_folded l) → IsTrue (is_folded r) → IsTrue (is_folded (folded_binary op l r))
 is_folded-folded_binary op (literal v) (literal w) h k = h
 is_folded-folded_binary op (literal v) r h k = k
 is_folded-folded_binary op l r h k = and_both (is_folded l) (is_folded r) h k

@@ -1,4 +1,6 @@
 pub mod FoldingLemmas
+pub mod BuiltLemmas
+pub mod TreeLemmas
 pub mod NamesLemmas
 pub mod EvaluationRows
 pub mod ReaderLemmas

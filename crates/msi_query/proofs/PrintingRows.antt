@@ -4,7 +4,7 @@ use Rattle.msi_table.specs.declared.value.Value.TheVariants.{Null, Int, Str}
 use Rattle.msi_query.specs.declared.expr.UnaryOp.TheVariants as one
 use Rattle.msi_query.specs.declared.expr.BinaryOp.TheVariants as two
 use Rattle.msi_query.specs.Expressions.{Expression, literal, column, unary, binary, both, either}
-use Rattle.msi_query.specs.Evaluation.{is_folded, folded_binary}
+use Rattle.msi_query.specs.Folding.{is_built, folded_binary}
 use Rattle.msi_query.specs.Printing.{expression_text}
 use Rattle.msi_query.specs.Vocabulary.{is_plain}
 use Rattle.msi_query.proofs.ReaderLemmas.{read}
@@ -52,7 +52,7 @@ prints_so : expression_text sample ≡ Some sample_text
 unfolding Rattle.std.specs.Fmt.digits Rattle.std.specs.Fmt.debug_escape
 prints_so = refl
 
-is_within : (is_plain sample ≡ true) × (is_folded sample ≡ true)
+is_within : (is_plain sample ≡ true) × (is_built sample ≡ true)
 is_within = (refl, refl)
 
 is_read : read sample_text ≡ sample

@@ -10,7 +10,8 @@ use Rattle.msi_query.specs.declared.expr.UnaryOp.{UnaryOp}
 use Rattle.msi_query.specs.declared.expr.UnaryOp.TheVariants as one
 use Rattle.msi_query.specs.declared.expr.BinaryOp.TheVariants as two
 use Rattle.msi_query.specs.Expressions.{Expression, literal, column, unary, binary, both, either}
-use Rattle.msi_query.specs.Evaluation.{is_i32, is_folded, is_literal}
+use Rattle.msi_query.specs.Evaluation.{is_i32}
+use Rattle.msi_query.specs.Folding.{fits_literal, is_built, is_folded, is_literal, literals_fit}
 use Rattle.msi_query.specs.Printing.{expression_text, level, op_level, bracketed, unary_text}
 use Rattle.msi_query.specs.Vocabulary.{is_plain, is_plain_name, is_plain_value, PrintsAlone}
 use Rattle.msi_query.proofs.ReaderLemmas.{Link, by, and_link, or_link, linked, link_level, link_text, Frame, prefix, left, bracket, frame_level, top_level, prefixed, filled, place, settle, settled, State, wanting, word, number, after, right_of, closed, run, is_ready, place_of, read}
@@ -125,27 +126,28 @@ positive n h = let bound : n ≤ 2147483647 = leb-true n 2147483647 h in omega a
 negative : (n : ℕ) → is_i32 (negsuc n) ≡ true → suc n < 2 ^ 64
 negative n h = let bound : n ≤ 2147483647 = leb-true n 2147483647 (and_parts (leb n 2147483647) true h).0 in omega arith
 
-values : (v : Value) → is_plain_value v ≡ true → Prints (literal v) 10 (expression_text (literal v))
-values Null h = record { text = codes "NULL"; is = refl; reads = λ fs _. at_place _ 10 (codes "NULL") fs (word (codes "NULL") fs) refl refl refl }
-values (Int (pos n)) h = record {
+values : (v : Value) → is_plain_value v ≡ true → fits_literal v ≡ true
+    → Prints (literal v) 10 (expression_text (literal v))
+values Null h g = record { text = codes "NULL"; is = refl; reads = λ fs _. at_place _ 10 (codes "NULL") fs (word (codes "NULL") fs) refl refl refl }
+values (Int (pos n)) h g = record {
   text = decimal n;
   is = refl;
-  reads = λ fs _. at_place (literal (Int (pos n))) 10 (decimal n) fs (number n fs) (decimal_run fs n (positive n h)) refl refl;
+  reads = λ fs _. at_place (literal (Int (pos n))) 10 (decimal n) fs (number n fs) (decimal_run fs n (positive n g)) refl refl;
 }
-values (Int (negsuc n)) h = record {
+values (Int (negsuc n)) h g = record {
   text = 45 ∷ decimal (suc n);
   is = refl;
-  reads = λ fs _. let path = decimal_run (prefix one.Neg ∷ fs) (suc n) (negative n h) in record {
+  reads = λ fs _. let path = decimal_run (prefix one.Neg ∷ fs) (suc n) (negative n g) in record {
     ready = ap is_ready path;
     settles = λ k m l. ap (λ x. settle k (place_of x)) path ∙ fills k (literal (Int (pos (suc n)))) (prefix one.Neg) fs (omega arith);
   };
 }
-values (Str text) h = record {
+values (Str text) h g = record {
   text = 34 ∷ (flat_map (debug_escape 34) text ++ 34 ∷ []);
   is = cond-true (list_all is_ascii text) _ _ h;
   reads = λ fs _. at_place (literal (Str text)) 10 (34 ∷ (flat_map (debug_escape 34) text ++ 34 ∷ [])) fs (after (place (literal (Str text)) fs)) (quoted_run fs text h) refl refl;
 }
-values Binary h = absurd (let clash : false ≡ true = h in cc)
+values Binary h g = absurd (let clash : false ≡ true = g in cc)
 
 -- columns
 names : (n : List ℕ) → is_plain_name n ≡ true → Prints (column n) 10 (Some n)
@@ -159,23 +161,34 @@ names n h =
           (not_from_false (bytes_eq n (codes "NOT")) no_word.1) (ap (λ e. place e fs) (cond-false (bytes_eq n (codes "NULL")) _ _ no_word.0));
     }
 
-prints : (e : Expression) → is_plain e ≡ true → is_folded e ≡ true → Prints e (level e) (expression_text e)
-prints (literal v) h f = values v h
-prints (column n) h f = names n h
-prints (unary op e) h f = let folded = and_parts _ _ f in fronts op e _ (not-true _ folded.0) (brackets e 10 _ (prints e h folded.1))
-prints (binary op l r) h f = let plain = and_parts _ _ h in let folded = and_parts _ _ f in
-    links (by op) l r _ _ (brackets l (op_level op) _ (prints l plain.0 (and_parts _ _ folded.0).1)) (brackets r (op_level op + 1) _ (prints r plain.1 folded.1))
-prints (both l r) h f = let plain = and_parts _ _ h in let folded = and_parts _ _ f in
-    links and_link l r _ _ (brackets l 2 _ (prints l plain.0 folded.0)) (brackets r 3 _ (prints r plain.1 folded.1))
-prints (either l r) h f = let plain = and_parts _ _ h in let folded = and_parts _ _ f in
-    links or_link l r _ _ (brackets l 1 _ (prints l plain.0 folded.0)) (brackets r 2 _ (prints r plain.1 folded.1))
+prints : (e : Expression) → is_plain e ≡ true → is_folded e ≡ true → literals_fit e ≡ true
+    → Prints e (level e) (expression_text e)
+prints (literal v) h f g = values v h g
+prints (column n) h f g = names n h
+prints (unary op e) h f g = let folded = and_parts _ _ f in
+    fronts op e _ (not-true _ folded.0) (brackets e 10 _ (prints e h folded.1 g))
+prints (binary op l r) h f g =
+    let plain = and_parts _ _ h in let folded = and_parts _ _ f in let fit = and_parts _ _ g in
+    links (by op) l r _ _ (brackets l (op_level op) _ (prints l plain.0 (and_parts _ _ folded.0).1 fit.0))
+    (brackets r (op_level op + 1) _ (prints r plain.1 folded.1 fit.1))
+prints (both l r) h f g =
+    let plain = and_parts _ _ h in let folded = and_parts _ _ f in let fit = and_parts _ _ g in
+    links and_link l r _ _ (brackets l 2 _ (prints l plain.0 folded.0 fit.0))
+    (brackets r 3 _ (prints r plain.1 folded.1 fit.1))
+prints (either l r) h f g =
+    let plain = and_parts _ _ h in let folded = and_parts _ _ f in let fit = and_parts _ _ g in
+    links or_link l r _ _ (brackets l 1 _ (prints l plain.0 folded.0 fit.0))
+    (brackets r 2 _ (prints r plain.1 folded.1 fit.1))
+
+prints_built : (e : Expression) → is_plain e ≡ true → is_built e ≡ true → Prints e (level e) (expression_text e)
+prints_built e h built = let parts = and_parts (is_folded e) (literals_fit e) built in prints e h parts.0 parts.1
 
 reads_back : (e : Expression) (o : Option (List ℕ)) (h : Prints e (level e) o) → read h.text ≡ e
 reads_back e o h = let r = h.reads [] (level-pos e) in ap (λ p. p.operand) (r.settles 1 (level-pos e) (omega arith))
 
-pub prints_alone : (e : Expression) → PrintsAlone e
-prints_alone e p f other q g same =
-    let a = prints other q g in
-    let b = prints e p f in
+pub prints_alone : (e : Expression) → is_built e ≡ true → PrintsAlone e
+prints_alone e built plain other other_plain other_built same =
+    let a = prints_built other other_plain other_built in
+    let b = prints_built e plain built in
     let texts : Some a.text ≡ Some b.text = sym a.is ∙ same ∙ b.is in
     sym (reads_back other _ a) ∙ ap (λ o. read (unwrap_or o [])) texts ∙ reads_back e _ b

@@ -1,12 +1,13 @@
 -- What an expression is worth: whole numbers without bounds, and Null where a result is none of 32 bits.
-use Rattle.std.specs.Prelude.{◌≡◌, ℕ, ◌^◌, Bool, true, false, not, List, ◌++◌, nat_abs, ◌&&◌, ◌||◌, if◌then◌else◌, ℤ, pos, neg_ℤ, ◌+ℤ◌, ◌-ℤ◌, ◌*ℤ◌, int_le, int_div, IsTrue, unwrap_or}
+use Rattle.std.specs.Prelude.{ℕ, ◌^◌, Bool, true, false, not, List, ◌++◌, nat_abs, ◌&&◌, ◌||◌, if◌then◌else◌, ℤ, pos, neg_ℤ, ◌+ℤ◌, ◌-ℤ◌, ◌*ℤ◌}
+use Rattle.std.specs.Prelude.{int_le, int_div, IsTrue, unwrap_or}
 use Rattle.std.specs.List.{list_all}
 use Rattle.std.specs.Ordering.{is_eq, is_lt, is_le, int_cmp}
 use Rattle.std.specs.Int.{w32, int_bit_and, int_bit_or, int_bit_xor, int_shl, int_shr}
 use Rattle.msi_table.specs.declared.value.Value.{Value}
 use Rattle.msi_table.specs.declared.value.Value.TheVariants.{Null, Int, Str}
 use Rattle.msi_table.specs.Values.{value_cmp, is_true}
-use Rattle.msi_table.specs.Columns.{has_column}
+use Rattle.msi_table.specs.Columns.{ColumnDef, has_column}
 use Rattle.msi_table.specs.Rows.{RowDef, value_named}
 use Rattle.msi_query.specs.declared.expr.UnaryOp.{UnaryOp}
 use Rattle.msi_query.specs.declared.expr.UnaryOp.TheVariants as one
@@ -77,51 +78,10 @@ value_of at (either l r) = truth (is_true (value_of at l) || is_true (value_of a
 abbrev pub value_at : RowDef → List ℕ → Value
 value_at row name = unwrap_or (value_named name row) Null
 
+-- whether each name in an expression is that of a column
+abbrev pub knows_names : List ColumnDef → Expression → Bool
+knows_names columns e = list_all (λ name. has_column name columns) (names_in e)
+
 -- the row has every column that the expression names
 abbrev pub HasColumnsOf : RowDef → Expression → Type 0
-HasColumnsOf row e = IsTrue (list_all (λ name. has_column name row.columns) (names_in e))
-
--- What the constructors make: literals under unary and binary operators fold
-abbrev pub folded_unary : UnaryOp → Expression → Expression
-folded_unary op (literal v) = literal (unary_value op v)
-folded_unary op e = unary op e
-
-abbrev pub folded_binary : BinaryOp → Expression → Expression → Expression
-folded_binary op (literal v) (literal w) = literal (binary_value op v w)
-folded_binary op l r = binary op l r
-
--- the expression that the constructors make where this one says what is built
-abbrev pub folded : Expression → Expression
-folded (literal v) = literal v
-folded (column n) = column n
-folded (unary op e) = folded_unary op (folded e)
-folded (binary op l r) = folded_binary op (folded l) (folded r)
-folded (both l r) = both (folded l) (folded r)
-folded (either l r) = either (folded l) (folded r)
-
--- folding changes no value: not at one operator, and so not of a whole expression
-abbrev pub FoldingKeepsValues : Type 0
-FoldingKeepsValues = (at : List ℕ → Value)
-    → ((op : UnaryOp) (e : Expression) → value_of at (folded_unary op e) ≡ value_of at (unary op e))
-    × ((op : BinaryOp) (l r : Expression) → value_of at (folded_binary op l r) ≡ value_of at (binary op l r))
-    × ((e : Expression) → value_of at (folded e) ≡ value_of at e)
-
--- an expression that the constructors made: no operator stands over literals alone
-abbrev pub is_literal : Expression → Bool
-is_literal (literal v) = true
-is_literal _ = false
-
-abbrev pub is_folded : Expression → Bool
-is_folded (literal v) = true
-is_folded (column n) = true
-is_folded (unary op e) = not (is_literal e) && is_folded e
-is_folded (binary op l r) = not (is_literal l && is_literal r) && is_folded l && is_folded r
-is_folded (both l r) = is_folded l && is_folded r
-is_folded (either l r) = is_folded l && is_folded r
-
--- what the constructors make of folded expressions is folded
-abbrev pub ConstructorsFold : Type 0
-ConstructorsFold = ((op : UnaryOp) (e : Expression) → IsTrue (is_folded e) → IsTrue (is_folded (folded_unary op e)))
-    × ((op : BinaryOp) (l r : Expression) → IsTrue (is_folded l) → IsTrue (is_folded r) → IsTrue (is_folded (folded_binary op l r)))
-    × ((l r : Expression) → IsTrue (is_folded l) → IsTrue (is_folded r) → IsTrue (is_folded (both l r)))
-    × ((l r : Expression) → IsTrue (is_folded l) → IsTrue (is_folded r) → IsTrue (is_folded (either l r)))
+HasColumnsOf row e = IsTrue (knows_names row.columns e)

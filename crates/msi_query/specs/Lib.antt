@@ -2,9 +2,13 @@
 pub mod Expressions
 pub mod ExpressionCode
 pub mod Evaluation
+pub mod Conditions
+pub mod Folding
 pub mod Names
+pub mod Views
 pub mod Operands
 pub mod Trees
+pub mod RowFilters
 pub mod Printing
 pub mod Vocabulary
 pub mod Queries

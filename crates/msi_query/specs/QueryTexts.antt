@@ -24,7 +24,8 @@ columns_text [] = codes "*"
 columns_text (n ∷ ns) = join_by (λ t. t) (codes ", ") (n ∷ ns)
 
 abbrev pub select_text : Clauses → Option (List ℕ) → Option (List ℕ)
-select_text c from = Some (codes "SELECT " ++ columns_text c.columns ++ codes " FROM ") ++? from ++? where_text c.condition
+select_text c from =
+    Some (codes "SELECT " ++ columns_text c.columns ++ codes " FROM ") ++? from ++? where_text c.condition
 
 abbrev pub join_word : JoinKind → List ℕ
 join_word Inner = codes " INNER JOIN "
@@ -47,7 +48,8 @@ side_text q text = or_bracketed (bare_name q) text
 abbrev pub query_text : Query → Option (List ℕ)
 query_text (table name c) = select_text c (Some name)
 query_text (join kind l r on c) =
-    select_text c (side_text l (query_text l) ++? Some (join_word kind) ++? side_text r (query_text r) ++? Some (codes " ON ") ++? expression_text on)
+    select_text c (side_text l (query_text l) ++? Some (join_word kind) ++? side_text r (query_text r)
+    ++? Some (codes " ON ") ++? expression_text on)
 
 abbrev pub row_text : List Value → Option (List ℕ)
 row_text row = Some (codes "(") ++? listed (map value_text row) ++? Some (codes ")")

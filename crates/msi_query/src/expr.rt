@@ -1,26 +1,31 @@
 //! Expressions on rows: how they are built, what they are worth, and which columns they name.
 
-ghost use Rattle.std.specs.Prelude.{◌≡◌, IfOk, IfErr, IsTrue, ◌↔◌, Contains, ℕ, List};
+ghost use Rattle.std.specs.Prelude.{◌≡◌, ◌||◌, IfOk, IfErr, IsErr, IsTrue, ◌↔◌, Contains, ℕ, List};
 ghost use Rattle.msi_text.specs.declared.errors.ErrorKind.TheVariants.{OutOfMemory};
 ghost use Rattle.msi_table.specs.declared.value.Value.TheVariants.{Null, Int, Str};
 ghost use Rattle.msi_query.specs.Expressions.{literal, column, both, either, names_in};
-ghost use Rattle.msi_query.specs.Evaluation.{truth, value_of, folded_unary, folded_binary, value_at, HasColumnsOf};
+ghost use Rattle.msi_query.specs.Conditions.{has_sum, is_text};
+ghost use Rattle.msi_query.specs.Evaluation.{knows_names as knows_each, truth, value_of, value_at, HasColumnsOf};
+ghost use Rattle.msi_query.specs.Folding.{folded_unary, folded_binary};
 ghost use Rattle.msi_query.specs.Names.{has_name};
 
 mod evaluation;
+pub(crate) mod filter;
 mod folding;
 mod names;
 mod operands;
 mod operators;
 mod printing;
+mod views;
 
 use evaluation::operand_of;
 use folding::{fold_binary, fold_unary};
+use msi_table::column::Column;
 use msi_table::row::Row;
 use msi_table::value::Value;
 use msi_text::errors::Error;
 use msi_text::text::{IntoText, Text};
-use names::collect_names;
+use names::{collect_names, knows_names};
 use std::alloc::Global;
 use std::collections::HashSet;
 use std::marker::Model;
@@ -71,38 +76,43 @@ pub enum BinaryOp {
     Shr,
 }
 
-/// The tree of an expression.
+/// The tree of an expression, in which columns stand as their names, or as their places in rows.
 #[derive(Drop)]
-pub(crate) enum Tree {
+pub(crate) enum Tree<C> {
     Literal(Value),
-    Column(Text),
-    Unary(UnaryOp, Box<Tree>),
-    Binary(BinaryOp, Box<Tree>, Box<Tree>),
-    And(Box<Tree>, Box<Tree>),
-    Or(Box<Tree>, Box<Tree>),
+    Column(C),
+    Unary(UnaryOp, Box<Tree<C>>),
+    Binary(BinaryOp, Box<Tree<C>>, Box<Tree<C>>),
+    And(Box<Tree<C>>, Box<Tree<C>>),
+    Or(Box<Tree<C>>, Box<Tree<C>>),
 }
 
-/// An expression on rows. A contract sees its tree, without where the parts lie in memory.
+/// An expression on rows. A contract sees its tree, without where the parts lie in memory. No operator but `and` and `or`
+/// stands over literals alone, numbers have 32 bits, and no literal stands for a stream.
 ///
-/// Evaluation, printing, `column_names` and the drop go down the tree by recursion, so its depth is bounded by the stack alone.
+/// Evaluation, printing, `column_names` and the drop go down the tree by recursion, so its depth is bounded by the
+/// stack alone.
 #[derive(Drop)]
 pub struct Expr {
-    tree: Tree,
+    tree: Tree<Text>,
 }
 
 impl Model for Expr {
-    ghost use Rattle.std.specs.Prelude.{List};
-    ghost use Rattle.std.specs.Coded.{code_by, codes};
+    ghost use Rattle.std.specs.Prelude.{IsTrue};
+    ghost use Rattle.std.specs.Coded.{codes};
     ghost use Rattle.msi_query.specs.Expressions.{Expression};
-    ghost use Rattle.msi_query.specs.ExpressionCode.{Symbol, postfix, from_postfix, from_postfix-postfix};
+    ghost use Rattle.msi_query.specs.ExpressionCode.{expression_code};
+    ghost use Rattle.msi_query.specs.Folding.{is_built};
 
     ghost Value = { Expression };
 
-    ghost coded = { code_by (List Symbol) (Prim.hlevel codes) postfix from_postfix from_postfix-postfix };
+    ghost coded = { expression_code (Prim.hlevel codes) };
 
     ghost use Rattle.msi_query.specs.Trees.{expression_of};
 
     ghost view = { λ e. expression_of e.tree };
+
+    ghost invariant = { λ e. IsTrue (is_built (expression_of e.tree)) };
 }
 
 impl Expr {
@@ -354,7 +364,8 @@ impl Expr {
         self.binary(alloc, BinaryOp::Mul, rhs)
     }
 
-    /// The quotient of two numbers, cut towards zero; Null where the divisor is 0 or the quotient doesn't fit 32 bits, and of anything else.
+    /// The quotient of two numbers, cut towards zero; Null where the divisor is 0 or the quotient doesn't fit 32 bits,
+    /// and of anything else.
     ///
     /// # Errors
     /// `OutOfMemory`.
@@ -398,7 +409,8 @@ impl Expr {
         self.binary(alloc, BinaryOp::BitXor, rhs)
     }
 
-    /// A number shifted left by 0 to 31 bits, of which the low 32 stay; Null for another distance, and of anything but numbers.
+    /// A number shifted left by 0 to 31 bits, of which the low 32 stay; Null for another distance, and of anything but
+    /// numbers.
     ///
     /// # Errors
     /// `OutOfMemory`.
@@ -409,7 +421,8 @@ impl Expr {
         self.binary(alloc, BinaryOp::Shl, rhs)
     }
 
-    /// A number shifted right by 0 to 31 bits, with copies of its sign; Null for another distance, and of anything but numbers.
+    /// A number shifted right by 0 to 31 bits, with copies of its sign; Null for another distance, and of anything but
+    /// numbers.
     ///
     /// # Errors
     /// `OutOfMemory`.
@@ -423,11 +436,12 @@ impl Expr {
     /// The value on a row that has a column of each name in it (`column_names`, `Row::has_column`).
     ///
     /// # Errors
-    /// `OutOfMemory`.
+    /// `OutOfMemory`, where something is added in it or its value is a text.
     pub fn eval(&self, alloc: Global, row: &Row) -> Result<Value, Error>
         requires { HasColumnsOf row.now self.now }
         ensures ok { IfOk result (λ value. value ≡ value_of (value_at row.now) self.now) }
         ensures kind { IfErr result (λ kind. kind ≡ OutOfMemory) }
+        ensures memory { IsErr result → IsTrue (has_sum self.now || is_text (value_of (value_at row.now) self.now)) }
     {
         operand_of(alloc, &self.tree, row)?.into_value(alloc)
     }
@@ -437,11 +451,18 @@ impl Expr {
     /// # Errors
     /// `OutOfMemory`.
     pub fn column_names(&self, alloc: Global) -> Result<HashSet<&str>, Error>
-        ensures ok { IfOk result (λ names. (name : List ℕ) → IsTrue (has_name names name) ↔ Contains (names_in self.now) name) }
+        ensures ok { IfOk result (λ names. (name : List ℕ)
+            → IsTrue (has_name names name) ↔ Contains (names_in self.now) name) }
         ensures kind { IfErr result (λ kind. kind ≡ OutOfMemory) }
     {
         let mut names = HashSet::new(alloc);
         collect_names(&self.tree, &mut names)?;
         Ok(names)
+    }
+    /// Whether each name in it is that of a column.
+    pub(crate) fn knows_names(&self, columns: &[Column]) -> bool
+        ensures { result ≡ knows_each columns.now self.now }
+    {
+        knows_names(&self.tree, columns)
     }
 }

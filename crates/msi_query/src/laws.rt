@@ -1,6 +1,6 @@
 //! What holds of the definitions themselves: each law is what a function without a body ensures.
 
-ghost use Rattle.msi_query.specs.Evaluation.{FoldingKeepsValues, ConstructorsFold};
+ghost use Rattle.msi_query.specs.Folding.{FoldingKeepsValues, ConstructorsFold};
 ghost use Rattle.msi_query.specs.Vocabulary.{PrintedConditionsAreUnambiguous};
 
 /// Folding changes the value of no expression on any row.
@@ -13,8 +13,8 @@ pub fn constructors_fold()
     ensures { ConstructorsFold }
 {}
 
-/// No two expressions print alike, where columns are Identifiers other than `NULL` and `NOT`, literal texts are ASCII, and no
-/// operator stands over literals alone.
+/// No two expressions that the constructors make print alike, where columns are Identifiers other than `NULL` and `NOT`
+/// and literal texts are ASCII.
 #[tactic(auto, using(crate::proofs::UnambiguousLemmas::prints_alone))]
 pub fn printed_conditions_are_unambiguous()
     ensures { PrintedConditionsAreUnambiguous }

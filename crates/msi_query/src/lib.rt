@@ -3,6 +3,7 @@
 
 pub mod expr;
 pub mod laws;
+pub mod parts;
 pub mod query;
 
 pub use expr::Expr;

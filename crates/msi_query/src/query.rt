@@ -4,11 +4,12 @@ ghost use Rattle.std.specs.Prelude.{◌≡◌, IfOk, IfErr, Some};
 ghost use Rattle.msi_text.specs.declared.errors.ErrorKind.TheVariants.{OutOfMemory};
 ghost use Rattle.msi_query.specs.Queries.{narrowed as narrowed_by};
 
-mod delete;
-mod insert;
+pub(crate) mod clauses;
+pub(crate) mod delete;
+pub(crate) mod insert;
 mod printing;
-mod select;
-mod update;
+pub(crate) mod select;
+pub(crate) mod update;
 
 use crate::expr::Expr;
 pub use delete::Delete;

@@ -2,25 +2,27 @@
 
 ghost use Rattle.std.specs.Prelude.{◌≡◌, IfOk, IfErr};
 ghost use Rattle.msi_text.specs.declared.errors.ErrorKind.TheVariants.{OutOfMemory};
-ghost use Rattle.msi_query.specs.Evaluation.{folded_unary, folded_binary};
+ghost use Rattle.msi_query.specs.Folding.{folded_unary, folded_binary};
 ghost use Rattle.msi_query.specs.Trees.{expression_of};
 
 use super::operands::Operand;
 use super::operators::{binary_value, unary_value};
+use super::views::ValueView;
 use super::{BinaryOp, Tree, UnaryOp};
 use msi_text::errors::Error;
+use msi_text::text::Text;
 use std::alloc::Global;
 
 /// An operator over one tree; a literal folds.
 ///
 /// # Errors
 /// `OutOfMemory`.
-pub(crate) fn fold_unary(alloc: Global, op: UnaryOp, tree: Tree) -> Result<Tree, Error>
+pub(crate) fn fold_unary(alloc: Global, op: UnaryOp, tree: Tree<Text>) -> Result<Tree<Text>, Error>
     ensures ok { IfOk result (λ folded. expression_of folded ≡ folded_unary op (expression_of tree)) }
     ensures kind { IfErr result (λ kind. kind ≡ OutOfMemory) }
 {
     match tree {
-        Tree::Literal(value) => Ok(Tree::Literal(unary_value(op, &value))),
+        Tree::Literal(value) => Ok(Tree::Literal(unary_value(op, ValueView::of(&value)))),
         tree => Ok(Tree::Unary(op, Box::new(alloc, tree)?)),
     }
 }
@@ -32,10 +34,11 @@ pub(crate) fn fold_unary(alloc: Global, op: UnaryOp, tree: Tree) -> Result<Tree,
 pub(crate) fn fold_binary(
     alloc: Global,
     op: BinaryOp,
-    left: Tree,
-    right: Tree,
-) -> Result<Tree, Error>
-    ensures ok { IfOk result (λ folded. expression_of folded ≡ folded_binary op (expression_of left) (expression_of right)) }
+    left: Tree<Text>,
+    right: Tree<Text>,
+) -> Result<Tree<Text>, Error>
+    ensures ok { IfOk result (λ folded. expression_of folded
+        ≡ folded_binary op (expression_of left) (expression_of right)) }
     ensures kind { IfErr result (λ kind. kind ≡ OutOfMemory) }
 {
     match (left, right) {
@@ -43,7 +46,7 @@ pub(crate) fn fold_binary(
             alloc,
             op,
             Operand::Computed(value),
-            &other,
+            ValueView::of(&other),
         )?)),
         (left, right) => Ok(Tree::Binary(op, Box::new(alloc, left)?, Box::new(alloc, right)?)),
     }

@@ -1,30 +1,22 @@
 //! What operators give of values.
 
-ghost use Rattle.std.specs.Prelude.{◌≡◌, ◌++◌, IfOk, IfErr, None};
+ghost use Rattle.std.specs.Prelude.{◌≡◌, ◌++◌, IfOk, IfErr, IsErr, IsTrue, None};
 ghost use Rattle.msi_text.specs.declared.errors.ErrorKind.TheVariants.{OutOfMemory};
-ghost use Rattle.msi_table.specs.Values.{is_true as counts, int_of};
+ghost use Rattle.msi_table.specs.Values.{int_of};
 ghost use Rattle.msi_query.specs.declared.expr.BinaryOp.TheVariants.{Add, Shl, Shr};
+ghost use Rattle.msi_query.specs.Conditions.{is_sum};
+ghost use Rattle.msi_query.specs.Evaluation.{of_numbers, of_operands};
+ghost use Rattle.msi_query.specs.Evaluation.{unary_value as value_of_one, binary_value as value_of_two};
 ghost use Rattle.msi_query.specs.Operands.{operand_value, number_or_null as value_or_null};
-ghost use Rattle.msi_query.specs.Evaluation.{of_numbers, of_operands, unary_value as value_of_one, binary_value as value_of_two};
+ghost use Rattle.msi_query.specs.Views.{seen_value};
 
 use super::operands::Operand;
+use super::views::ValueView;
 use super::{BinaryOp, UnaryOp};
 use msi_table::value::Value;
 use msi_text::errors::Error;
 use msi_text::text::Text;
 use std::alloc::Global;
-
-/// Whether a value counts as true: Null, 0 and the empty text don't.
-pub(crate) fn is_true(value: &Value) -> bool
-    ensures { result ≡ counts value.now }
-{
-    match value {
-        Value::Null => false,
-        Value::Int(number) => *number != 0,
-        Value::Str(text) => !text.as_str().is_empty(),
-        Value::Binary => true,
-    }
-}
 
 /// A number where there is one, else Null.
 fn number_or_null(number: Option<i32>) -> Value
@@ -37,19 +29,19 @@ fn number_or_null(number: Option<i32>) -> Value
 }
 
 /// What an operator gives of one value.
-pub(crate) fn unary_value(op: UnaryOp, value: &Value) -> Value
-    ensures { result ≡ value_of_one op value.now }
+pub(crate) fn unary_value(op: UnaryOp, value: ValueView) -> Value
+    ensures { result ≡ value_of_one op (seen_value value.entry) }
 {
     match op {
         UnaryOp::Neg => match value {
-            Value::Int(number) => number_or_null(number.checked_neg()),
+            ValueView::Int(number) => number_or_null(number.checked_neg()),
             _ => Value::Null,
         },
         UnaryOp::BitNot => match value {
-            Value::Int(number) => Value::Int(!*number),
+            ValueView::Int(number) => Value::Int(!number),
             _ => Value::Null,
         },
-        UnaryOp::BoolNot => Value::from(!is_true(value)),
+        UnaryOp::BoolNot => Value::from(!value.is_true()),
     }
 }
 
@@ -122,18 +114,17 @@ fn joined_copy(alloc: Global, text: &str, rest: &str) -> Result<Text, Error>
 ///
 /// # Errors
 /// `OutOfMemory`.
-fn joined_texts(alloc: Global, left: Operand, right: &Value) -> Result<Value, Error>
-    ensures ok { IfOk result (λ value. int_of (operand_value left.entry) ≡ None → value ≡ of_operands Add (operand_value left.entry) right.now) }
+fn joined_texts(alloc: Global, left: Operand, right: ValueView) -> Result<Value, Error>
+    ensures ok { IfOk result (λ value. int_of (operand_value left.entry) ≡ None
+        → value ≡ of_operands Add (operand_value left.entry) (seen_value right.entry)) }
     ensures kind { IfErr result (λ kind. kind ≡ OutOfMemory) }
 {
     match right {
-        Value::Str(rest) => match left {
-            Operand::Borrowed(Value::Str(text)) => Ok(Value::Str(joined_copy(
-                alloc,
-                text.as_str(),
-                rest.as_str(),
-            )?)),
-            Operand::Computed(Value::Str(text)) => Ok(Value::Str(joined(text, rest.as_str())?)),
+        ValueView::Str(rest) => match left {
+            Operand::Borrowed(ValueView::Str(text)) => {
+                Ok(Value::Str(joined_copy(alloc, text, rest)?))
+            }
+            Operand::Computed(Value::Str(text)) => Ok(Value::Str(joined(text, rest)?)),
             _ => Ok(Value::Null),
         },
         _ => Ok(Value::Null),
@@ -143,17 +134,18 @@ fn joined_texts(alloc: Global, left: Operand, right: &Value) -> Result<Value, Er
 /// What an operator that compares nothing gives of two operands.
 ///
 /// # Errors
-/// `OutOfMemory`.
-fn arithmetic(alloc: Global, op: BinaryOp, left: Operand, right: &Value) -> Result<Value, Error>
-    ensures ok { IfOk result (λ value. value ≡ of_operands op (operand_value left.entry) right.now) }
+/// `OutOfMemory`, of a sum alone.
+fn arithmetic(alloc: Global, op: BinaryOp, left: Operand, right: ValueView) -> Result<Value, Error>
+    ensures ok { IfOk result (λ value. value ≡ of_operands op (operand_value left.entry) (seen_value right.entry)) }
     ensures kind { IfErr result (λ kind. kind ≡ OutOfMemory) }
+    ensures memory { IsErr result → IsTrue (is_sum op) }
 {
-    match left.as_value().as_int() {
-        Some(number) => match right {
-            Value::Int(other) => Ok(value_of_numbers(op, number, *other)),
+    match left.as_view() {
+        ValueView::Int(number) => match right {
+            ValueView::Int(other) => Ok(value_of_numbers(op, number, other)),
             _ => Ok(Value::Null),
         },
-        None => match op {
+        _ => match op {
             BinaryOp::Add => joined_texts(alloc, left, right),
             _ => Ok(Value::Null),
         },
@@ -163,23 +155,24 @@ fn arithmetic(alloc: Global, op: BinaryOp, left: Operand, right: &Value) -> Resu
 /// What an operator gives of two operands.
 ///
 /// # Errors
-/// `OutOfMemory`.
+/// `OutOfMemory`, of a sum alone.
 pub(crate) fn binary_value(
     alloc: Global,
     op: BinaryOp,
     left: Operand,
-    right: &Value,
+    right: ValueView,
 ) -> Result<Value, Error>
-    ensures ok { IfOk result (λ value. value ≡ value_of_two op (operand_value left.entry) right.now) }
+    ensures ok { IfOk result (λ value. value ≡ value_of_two op (operand_value left.entry) (seen_value right.entry)) }
     ensures kind { IfErr result (λ kind. kind ≡ OutOfMemory) }
+    ensures memory { IsErr result → IsTrue (is_sum op) }
 {
     match op {
-        BinaryOp::Eq => Ok(Value::from(left.as_value().cmp(right).is_eq())),
-        BinaryOp::Ne => Ok(Value::from(left.as_value().cmp(right).is_ne())),
-        BinaryOp::Lt => Ok(Value::from(left.as_value().cmp(right).is_lt())),
-        BinaryOp::Le => Ok(Value::from(left.as_value().cmp(right).is_le())),
-        BinaryOp::Gt => Ok(Value::from(left.as_value().cmp(right).is_gt())),
-        BinaryOp::Ge => Ok(Value::from(left.as_value().cmp(right).is_ge())),
+        BinaryOp::Eq => Ok(Value::from(left.as_view().compare(right).is_eq())),
+        BinaryOp::Ne => Ok(Value::from(left.as_view().compare(right).is_ne())),
+        BinaryOp::Lt => Ok(Value::from(left.as_view().compare(right).is_lt())),
+        BinaryOp::Le => Ok(Value::from(left.as_view().compare(right).is_le())),
+        BinaryOp::Gt => Ok(Value::from(left.as_view().compare(right).is_gt())),
+        BinaryOp::Ge => Ok(Value::from(left.as_view().compare(right).is_ge())),
         _ => arithmetic(alloc, op, left, right),
     }
 }

@@ -7,6 +7,7 @@ ghost use Rattle.msi_query.specs.Trees.{expression_of};
 ghost use Rattle.msi_query.specs.Vocabulary.{PrintsAlone};
 
 use crate::expr::{BinaryOp, Expr, Tree, UnaryOp};
+use msi_text::text::Text;
 use std::fmt;
 
 /// The level of what needs no brackets.
@@ -71,7 +72,7 @@ impl BinaryOp {
     }
 }
 
-impl Tree {
+impl Tree<Text> {
     /// How tightly the top of the tree binds.
     fn level(&self) -> u8
         ensures { result ≡ level (expression_of self.now) }
@@ -85,9 +86,10 @@ impl Tree {
     }
 }
 
-/// Writes the text of a tree. Equal levels group to the left, so what stands to the right of an operator needs a level more.
+/// Writes the text of a tree. Equal levels group to the left, so what stands to the right of an operator needs a level
+/// more.
 #[cycle(writing)]
-fn write_tree<W: fmt::Write>(f: &mut fmt::Formatter<W>, tree: &Tree) -> fmt::Result
+fn write_tree<W: fmt::Write>(f: &mut fmt::Formatter<W>, tree: &Tree<Text>) -> fmt::Result
     ensures { DisplaysOnOk W.write_str_gives f.old result (expression_text (expression_of tree.now)) f.new }
 {
     match tree {
@@ -120,7 +122,7 @@ fn write_tree<W: fmt::Write>(f: &mut fmt::Formatter<W>, tree: &Tree) -> fmt::Res
 fn write_operand<W: fmt::Write>(
     f: &mut fmt::Formatter<W>,
     needed: u8,
-    operand: &Tree,
+    operand: &Tree<Text>,
 ) -> fmt::Result
     ensures { DisplaysOnOk W.write_str_gives f.old result
         (bracketed needed (level (expression_of operand.now)) (expression_text (expression_of operand.now))) f.new }
@@ -134,9 +136,9 @@ fn write_operand<W: fmt::Write>(
     }
 }
 
-/// Writes the condition as a query has it, as `Foo - (Bar - Baz)`. Literal texts past ASCII, and formats with a width or other
-/// options, are promised nothing. No other expression writes these bytes, where columns are Identifiers other than `NULL` and
-/// `NOT` and literal texts are ASCII.
+/// Writes the condition as a query has it, as `Foo - (Bar - Baz)`. Literal texts past ASCII, and formats with a width
+/// or other options, are promised nothing. No other expression writes these bytes, where columns are Identifiers other
+/// than `NULL` and `NOT` and literal texts are ASCII.
 impl fmt::Display for Expr {
     ghost output = { expression_text };
 

@@ -23,17 +23,22 @@ pub struct Delete {
 }
 
 impl Model for Delete {
-    ghost use Rattle.std.specs.Prelude.{List};
-    ghost use Rattle.std.specs.Coded.{Coded, code_by, codes};
+    ghost use Rattle.std.specs.Coded.{codes};
+    ghost use Rattle.msi_query.specs.ExpressionCode.{expression_code};
     ghost use Rattle.msi_query.specs.Queries.{DeleteQuery};
-    ghost use Rattle.msi_query.specs.Expressions.{Expression};
-    ghost use Rattle.msi_query.specs.ExpressionCode.{Symbol, postfix, from_postfix, from_postfix-postfix};
 
     ghost Value = { DeleteQuery };
 
-    ghost coded = { let expression : Coded Expression = code_by (List Symbol) (Prim.hlevel codes) postfix from_postfix from_postfix-postfix in Prim.hlevel (codes, expression) };
+    ghost coded = { Prim.hlevel (codes, expression_code (Prim.hlevel codes)) };
 
     ghost view = { λ q. record { table = q.table; condition = q.condition } };
+}
+
+/// What a delete is made of: the table's name, and the condition on the rows to be taken out, if any.
+#[derive(Drop)]
+pub struct DeleteParts {
+    pub table: Text,
+    pub condition: Option<Expr>,
 }
 
 impl Delete {
@@ -73,15 +78,28 @@ impl Delete {
             condition: Some(both),
         })
     }
+
+    /// What it is made of, moved out.
+    pub(crate) fn into_parts(self) -> DeleteParts
+        ensures table { result.table ≡ self.table }
+        ensures condition { result.condition ≡ self.condition }
+    {
+        let Delete {
+            alloc: _,
+            table,
+            condition,
+        } = self;
+        DeleteParts { table, condition }
+    }
 }
 
-/// Writes the query as SQL, as `DELETE FROM Quux WHERE Foo > 42`. Literal texts past ASCII, and formats with a width or other
-/// options, are promised nothing.
+/// Writes the query as SQL, as `DELETE FROM Quux WHERE Foo > 42`. Literal texts past ASCII, and formats with a width or
+/// other options, are promised nothing.
 impl fmt::Display for Delete {
     ghost output = { delete_text };
 
     fn fmt<W: fmt::Write>(&self, f: &mut fmt::Formatter<W>) -> fmt::Result {
         write!(f, "DELETE FROM {}", self.table)?;
-        write_condition(f, &self.condition)
+        write_condition(f, self.condition.as_ref())
     }
 }

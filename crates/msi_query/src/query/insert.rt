@@ -28,6 +28,23 @@ impl Model for NewRow {
     ghost view = { λ r. r.values.items };
 }
 
+impl NewRow {
+    /// The values, in order.
+    pub fn values(&self) -> &[Value]
+        ensures { result.now ≡ self.now }
+    {
+        self.values.as_slice()
+    }
+
+    /// The values, moved out.
+    pub fn into_values(self) -> Vec<Value>
+        ensures { result.items ≡ self }
+    {
+        let NewRow { values } = self;
+        values
+    }
+}
+
 impl fmt::Display for NewRow {
     ghost output = { row_text };
 
@@ -51,6 +68,13 @@ impl Model for Insert {
     ghost Value = { InsertQuery };
 
     ghost view = { λ q. record { table = q.table; rows = q.rows } };
+}
+
+/// What an insert is made of: the table's name, and the rows to be added, in order.
+#[derive(Drop)]
+pub struct InsertParts {
+    pub table: Text,
+    pub rows: Items<NewRow>,
 }
 
 impl Insert {
@@ -91,7 +115,8 @@ impl Insert {
     /// # Errors
     /// `OutOfMemory`.
     pub fn rows(self, rows: Vec<Vec<Value>>) -> Result<Insert, Error>
-        ensures ok { IfOk result (λ query. query ≡ record self { rows = self.rows ++ map (λ row. row.items) rows.items }) }
+        ensures ok { IfOk result (λ query. query
+            ≡ record self { rows = self.rows ++ map (λ row. row.items) rows.items }) }
         ensures kind { IfErr result (λ kind. kind ≡ OutOfMemory) }
     {
         let Insert {
@@ -107,6 +132,15 @@ impl Insert {
             rows: Items::from_vec(all),
         })
     }
+
+    /// What it is made of, moved out.
+    pub(crate) fn into_parts(self) -> InsertParts
+        ensures table { result.table ≡ self.table }
+        ensures rows { result.rows ≡ self.rows }
+    {
+        let Insert { table, rows } = self;
+        InsertParts { table, rows }
+    }
 }
 
 /// Writes rows behind their word, where there are some.
@@ -120,8 +154,8 @@ fn write_rows<W: fmt::Write>(f: &mut fmt::Formatter<W>, rows: &[NewRow]) -> fmt:
     write_list(f, rows)
 }
 
-/// Writes the query as SQL, as `INSERT INTO Quux VALUES (1, "a"), (NULL, "b")`. Literal texts past ASCII, and formats with a width
-/// or other options, are promised nothing.
+/// Writes the query as SQL, as `INSERT INTO Quux VALUES (1, "a"), (NULL, "b")`. Literal texts past ASCII, and formats
+/// with a width or other options, are promised nothing.
 impl fmt::Display for Insert {
     ghost output = { insert_text };
 

@@ -1,6 +1,6 @@
 //! How lists and conditions print in queries.
 
-ghost use Rattle.std.specs.Prelude.{◌≡◌, map};
+ghost use Rattle.std.specs.Prelude.{◌≡◌, map, option_copied};
 ghost use Rattle.std.specs.Fmt.{DisplaysOnOk};
 ghost use Rattle.msi_query.specs.QueryTexts.{listed, where_text};
 
@@ -27,9 +27,9 @@ pub(crate) fn write_list<T: fmt::Display, W: fmt::Write>(
 /// Writes a condition behind its word, where there is one.
 pub(crate) fn write_condition<W: fmt::Write>(
     f: &mut fmt::Formatter<W>,
-    condition: &Option<Expr>,
+    condition: Option<&Expr>,
 ) -> fmt::Result
-    ensures { DisplaysOnOk W.write_str_gives f.old result (where_text condition.now) f.new }
+    ensures { DisplaysOnOk W.write_str_gives f.old result (where_text (option_copied condition.entry)) f.new }
 {
     match condition {
         Some(condition) => write!(f, " WHERE {condition}"),

@@ -7,8 +7,9 @@ ghost use Rattle.msi_query.specs.Queries.{table, join, no_clauses, narrowed_quer
 ghost use Rattle.msi_query.specs.QueryTexts.{bare_name, columns_text, join_word, query_text, side_text};
 ghost use Rattle.msi_query.specs.QueryTrees.{query_of};
 
+use super::JoinKind;
+use super::clauses::Clauses;
 use super::printing::{write_condition, write_list};
-use super::{JoinKind, narrowed};
 use crate::expr::Expr;
 use msi_text::errors::Error;
 use msi_text::text::{IntoText, Items, Text};
@@ -16,11 +17,22 @@ use std::alloc::Global;
 use std::fmt;
 use std::marker::Model;
 
-/// Where rows come from, the columns that are kept of them, and the condition on them.
+/// The tree of a query for rows.
 #[derive(Drop)]
-pub enum Rows {
-    Table(Text, Items<Text>, Option<Expr>),
-    Join(JoinKind, Box<Rows>, Box<Rows>, Expr, Items<Text>, Option<Expr>),
+pub enum SelectTree {
+    /// The rows of a table.
+    Table {
+        name: Text,
+        clauses: Clauses,
+    },
+    /// The pairs of the rows of two queries for which a condition holds.
+    Join {
+        kind: JoinKind,
+        left: Box<SelectTree>,
+        right: Box<SelectTree>,
+        on: Expr,
+        clauses: Clauses,
+    },
 }
 
 /// A query for rows. A contract sees its tree.
@@ -29,24 +41,22 @@ pub enum Rows {
 #[derive(Drop)]
 pub struct Select {
     alloc: Global,
-    rows: Rows,
+    tree: SelectTree,
 }
 
 impl Model for Select {
-    ghost use Rattle.std.specs.Prelude.{List};
-    ghost use Rattle.std.specs.Coded.{Coded, code_by, codes};
+    ghost use Rattle.std.specs.Coded.{codes};
+    ghost use Rattle.msi_query.specs.ExpressionCode.{expression_code};
     ghost use Rattle.msi_query.specs.Queries.{Query};
-    ghost use Rattle.msi_query.specs.Expressions.{Expression};
-    ghost use Rattle.msi_query.specs.ExpressionCode.{Symbol, postfix, from_postfix, from_postfix-postfix};
-    ghost use Rattle.msi_query.specs.QueryCode.{Step, steps_of, from_steps, from_steps-steps_of};
+    ghost use Rattle.msi_query.specs.QueryCode.{query_code};
 
     ghost Value = { Query };
 
-    ghost coded = { let expression : Coded Expression = code_by (List Symbol) (Prim.hlevel codes) postfix from_postfix from_postfix-postfix in code_by (List Step) (Prim.hlevel (codes, expression)) steps_of from_steps from_steps-steps_of };
+    ghost coded = { query_code (Prim.hlevel (codes, expression_code (Prim.hlevel codes))) };
 
     ghost use Rattle.msi_query.specs.QueryTrees.{query_of};
 
-    ghost view = { λ s. query_of s.rows };
+    ghost view = { λ s. query_of s.tree };
 }
 
 impl Select {
@@ -59,10 +69,10 @@ impl Select {
         ensures kind { IfErr result (λ kind. kind ≡ OutOfMemory) }
     {
         let name = name.into_text(alloc)?;
-        let columns = Items::from_vec(Vec::new(alloc));
+        let clauses = Clauses::new(alloc);
         Ok(Select {
             alloc,
-            rows: Rows::Table(name, columns, None),
+            tree: SelectTree::Table { name, clauses },
         })
     }
 
@@ -96,21 +106,28 @@ impl Select {
         ensures ok { IfOk result (λ query. query ≡ join kind self rhs on no_clauses) }
         ensures kind { IfErr result (λ kind. kind ≡ OutOfMemory) }
     {
-        let Select { alloc, rows: left } = self;
+        let Select { alloc, tree: left } = self;
         let Select {
             alloc: _,
-            rows: right,
+            tree: right,
         } = rhs;
         let left = Box::new(alloc, left)?;
         let right = Box::new(alloc, right)?;
-        let columns = Items::from_vec(Vec::new(alloc));
+        let clauses = Clauses::new(alloc);
         Ok(Select {
             alloc,
-            rows: Rows::Join(kind, left, right, on, columns, None),
+            tree: SelectTree::Join {
+                kind,
+                left,
+                right,
+                on,
+                clauses,
+            },
         })
     }
 
-    /// The same rows with these columns, in this order, in place of those that were named before; an empty list keeps all.
+    /// The same rows with these columns, in this order, in place of those that were named before; an empty list keeps
+    /// all.
     ///
     /// # Errors
     /// `OutOfMemory`.
@@ -118,15 +135,28 @@ impl Select {
         ensures ok { IfOk result (λ query. query ≡ projected_query self (map (λ name. name.now) names.now)) }
         ensures kind { IfErr result (λ kind. kind ≡ OutOfMemory) }
     {
-        let Select { alloc, rows } = self;
+        let Select { alloc, tree } = self;
         let columns = copied_list(alloc, names)?;
-        let rows = match rows {
-            Rows::Table(name, _before, condition) => Rows::Table(name, columns, condition),
-            Rows::Join(kind, left, right, on, _before, condition) => {
-                Rows::Join(kind, left, right, on, columns, condition)
-            }
+        let tree = match tree {
+            SelectTree::Table { name, clauses } => SelectTree::Table {
+                name,
+                clauses: clauses.projected(columns),
+            },
+            SelectTree::Join {
+                kind,
+                left,
+                right,
+                on,
+                clauses,
+            } => SelectTree::Join {
+                kind,
+                left,
+                right,
+                on,
+                clauses: clauses.projected(columns),
+            },
         };
-        Ok(Select { alloc, rows })
+        Ok(Select { alloc, tree })
     }
 
     /// Those of the rows for which the condition holds too. It is judged before columns are left out.
@@ -137,17 +167,34 @@ impl Select {
         ensures ok { IfOk result (λ query. query ≡ narrowed_query self condition) }
         ensures kind { IfErr result (λ kind. kind ≡ OutOfMemory) }
     {
-        let Select { alloc, rows } = self;
-        let rows = match rows {
-            Rows::Table(name, columns, first) => {
-                Rows::Table(name, columns, Some(narrowed(alloc, first, condition)?))
-            }
-            Rows::Join(kind, left, right, on, columns, first) => {
-                let both = narrowed(alloc, first, condition)?;
-                Rows::Join(kind, left, right, on, columns, Some(both))
-            }
+        let Select { alloc, tree } = self;
+        let tree = match tree {
+            SelectTree::Table { name, clauses } => SelectTree::Table {
+                name,
+                clauses: clauses.narrowed(alloc, condition)?,
+            },
+            SelectTree::Join {
+                kind,
+                left,
+                right,
+                on,
+                clauses,
+            } => SelectTree::Join {
+                kind,
+                left,
+                right,
+                on,
+                clauses: clauses.narrowed(alloc, condition)?,
+            },
         };
-        Ok(Select { alloc, rows })
+        Ok(Select { alloc, tree })
+    }
+
+    /// Its tree.
+    pub(crate) fn tree(&self) -> &SelectTree
+        ensures { query_of result.now ≡ self.now }
+    {
+        &self.tree
     }
 }
 
@@ -166,13 +213,13 @@ fn copied_list(alloc: Global, texts: &[&str]) -> Result<Items<Text>, Error>
     Ok(Items::from_vec(copies))
 }
 
-impl Rows {
+impl SelectTree {
     /// The name of a table of which all is wanted.
     fn bare_name(&self) -> Option<&str>
         ensures { option_copied result ≡ bare_name (query_of self.now) }
     {
         match self {
-            Rows::Table(name, columns, None) if columns.is_empty() => Some(name.as_str()),
+            SelectTree::Table { name, clauses } if clauses.keep_all() => Some(name.as_str()),
             _ => None,
         }
     }
@@ -203,7 +250,8 @@ fn write_names<W: fmt::Write>(f: &mut fmt::Formatter<W>, columns: &[Text]) -> fm
 
 /// Writes what stands before the place that rows come from.
 fn write_columns<W: fmt::Write>(f: &mut fmt::Formatter<W>, columns: &[Text]) -> fmt::Result
-    ensures { DisplaysOnOk W.write_str_gives f.old result (Some (codes "SELECT " ++ columns_text columns.now ++ codes " FROM ")) f.new }
+    ensures { DisplaysOnOk W.write_str_gives f.old result
+        (Some (codes "SELECT " ++ columns_text columns.now ++ codes " FROM ")) f.new }
 {
     f.write_str("SELECT ")?;
     write_names(f, columns)?;
@@ -212,47 +260,54 @@ fn write_columns<W: fmt::Write>(f: &mut fmt::Formatter<W>, columns: &[Text]) -> 
 
 /// Writes the text of a query.
 #[cycle(writing)]
-fn write_query<W: fmt::Write>(f: &mut fmt::Formatter<W>, rows: &Rows) -> fmt::Result
-    ensures { DisplaysOnOk W.write_str_gives f.old result (query_text (query_of rows.now)) f.new }
+fn write_query<W: fmt::Write>(f: &mut fmt::Formatter<W>, tree: &SelectTree) -> fmt::Result
+    ensures { DisplaysOnOk W.write_str_gives f.old result (query_text (query_of tree.now)) f.new }
 {
-    match rows {
-        Rows::Table(name, columns, condition) => {
-            write_columns(f, columns.as_slice())?;
+    match tree {
+        SelectTree::Table { name, clauses } => {
+            write_columns(f, clauses.columns())?;
             f.write_str(name.as_str())?;
-            write_condition(f, condition)
+            write_condition(f, clauses.condition())
         }
-        Rows::Join(kind, left, right, on, columns, condition) => {
-            write_columns(f, columns.as_slice())?;
+        SelectTree::Join {
+            kind,
+            left,
+            right,
+            on,
+            clauses,
+        } => {
+            write_columns(f, clauses.columns())?;
             write_side(f, left)?;
             f.write_str(kind.words())?;
             write_side(f, right)?;
             write!(f, " ON {on}")?;
-            write_condition(f, condition)
+            write_condition(f, clauses.condition())
         }
     }
 }
 
 /// Writes a side of a join: a table of which all is wanted by its name, all else in brackets.
 #[cycle(writing)]
-fn write_side<W: fmt::Write>(f: &mut fmt::Formatter<W>, rows: &Rows) -> fmt::Result
-    ensures { DisplaysOnOk W.write_str_gives f.old result (side_text (query_of rows.now) (query_text (query_of rows.now))) f.new }
+fn write_side<W: fmt::Write>(f: &mut fmt::Formatter<W>, tree: &SelectTree) -> fmt::Result
+    ensures { DisplaysOnOk W.write_str_gives f.old result
+        (side_text (query_of tree.now) (query_text (query_of tree.now))) f.new }
 {
-    match rows.bare_name() {
+    match tree.bare_name() {
         Some(name) => f.write_str(name),
         None => {
             f.write_str("(")?;
-            write_query(f, rows)?;
+            write_query(f, tree)?;
             f.write_str(")")
         }
     }
 }
 
-/// Writes the query as SQL, as `SELECT Foo, Bar FROM Quux WHERE Foo > 42`. Literal texts past ASCII, and formats with a width or
-/// other options, are promised nothing.
+/// Writes the query as SQL, as `SELECT Foo, Bar FROM Quux WHERE Foo > 42`. Literal texts past ASCII, and formats with a
+/// width or other options, are promised nothing.
 impl fmt::Display for Select {
     ghost output = { query_text };
 
     fn fmt<W: fmt::Write>(&self, f: &mut fmt::Formatter<W>) -> fmt::Result {
-        write_query(f, &self.rows)
+        write_query(f, &self.tree)
     }
 }

@@ -32,6 +32,22 @@ impl Model for Assignment {
     ghost view = { λ s. (s.column, s.value) };
 }
 
+impl Assignment {
+    /// The column's name.
+    pub fn column(&self) -> &str
+        ensures { result.now ≡ self.now.0 }
+    {
+        self.column.as_str()
+    }
+
+    /// The new value.
+    pub fn value(&self) -> &Value
+        ensures { result.now ≡ self.now.1 }
+    {
+        &self.value
+    }
+}
+
 impl fmt::Display for Assignment {
     ghost output = { set_text };
 
@@ -40,7 +56,8 @@ impl fmt::Display for Assignment {
     }
 }
 
-/// New values for columns of a table's rows. A contract sees the table's name, the columns with their values, and the condition.
+/// New values for columns of a table's rows. A contract sees the table's name, the columns with their values, and the
+/// condition.
 #[derive(Drop)]
 pub struct Update {
     alloc: Global,
@@ -50,17 +67,24 @@ pub struct Update {
 }
 
 impl Model for Update {
-    ghost use Rattle.std.specs.Prelude.{List};
-    ghost use Rattle.std.specs.Coded.{Coded, code_by, codes};
+    ghost use Rattle.std.specs.Coded.{codes};
+    ghost use Rattle.msi_query.specs.ExpressionCode.{expression_code};
     ghost use Rattle.msi_query.specs.Queries.{UpdateQuery};
-    ghost use Rattle.msi_query.specs.Expressions.{Expression};
-    ghost use Rattle.msi_query.specs.ExpressionCode.{Symbol, postfix, from_postfix, from_postfix-postfix};
 
     ghost Value = { UpdateQuery };
 
-    ghost coded = { let expression : Coded Expression = code_by (List Symbol) (Prim.hlevel codes) postfix from_postfix from_postfix-postfix in Prim.hlevel (codes, expression) };
+    ghost coded = { Prim.hlevel (codes, expression_code (Prim.hlevel codes)) };
 
     ghost view = { λ q. record { table = q.table; sets = q.sets; condition = q.condition } };
+}
+
+/// What an update is made of: the table's name, the columns with their new values in the order in which they were set,
+/// and the condition on the rows to be changed, if any.
+#[derive(Drop)]
+pub struct UpdateParts {
+    pub table: Text,
+    pub sets: Items<Assignment>,
+    pub condition: Option<Expr>,
 }
 
 impl Update {
@@ -128,6 +152,25 @@ impl Update {
             condition: Some(both),
         })
     }
+
+    /// What it is made of, moved out.
+    pub(crate) fn into_parts(self) -> UpdateParts
+        ensures table { result.table ≡ self.table }
+        ensures sets { result.sets ≡ self.sets }
+        ensures condition { result.condition ≡ self.condition }
+    {
+        let Update {
+            alloc: _,
+            table,
+            sets,
+            condition,
+        } = self;
+        UpdateParts {
+            table,
+            sets,
+            condition,
+        }
+    }
 }
 
 /// Writes the new values behind their word, where there are some.
@@ -141,14 +184,14 @@ fn write_sets<W: fmt::Write>(f: &mut fmt::Formatter<W>, sets: &[Assignment]) -> 
     write_list(f, sets)
 }
 
-/// Writes the query as SQL, as `UPDATE Quux SET Foo = 1 WHERE Bar > 42`. Literal texts past ASCII, and formats with a width or
-/// other options, are promised nothing.
+/// Writes the query as SQL, as `UPDATE Quux SET Foo = 1 WHERE Bar > 42`. Literal texts past ASCII, and formats with a
+/// width or other options, are promised nothing.
 impl fmt::Display for Update {
     ghost output = { update_text };
 
     fn fmt<W: fmt::Write>(&self, f: &mut fmt::Formatter<W>) -> fmt::Result {
         write!(f, "UPDATE {}", self.table)?;
         write_sets(f, self.sets.as_slice())?;
-        write_condition(f, &self.condition)
+        write_condition(f, self.condition.as_ref())
     }
 }

@@ -1,4 +1,5 @@
 use Rattle.std.proofs.Common.{ℕ, ◌++◌, List, Option, Some, codes, refl}
+use Rattle.std.specs.Prelude.{option_copied}
 use Rattle.std.specs.Fmt.{◌++?◌}
 use Rattle.msi_query.specs.Printing.{expression_text}
 use Rattle.msi_query.specs.Queries.{Query}
@@ -14,15 +15,22 @@ side q = side_text q (query_text q)
 pub write_query-returns-in_ok-write-in-Join : goal.write_query-returns-in_ok-write-in-Join
 write_query-returns-in_ok-write-in-Join g t c =
     let took = g.W.Write.write_str_gives in
-    let columns : Option (List ℕ) = Some (codes "SELECT " ++ columns_text c.as_slice-in-Join.result.now ++ codes " FROM ") in
+    let columns : Option (List ℕ) = Some (codes "SELECT " ++ columns_text c.columns-in-Join.result.now ++ codes " FROM ") in
     let left : Option (List ℕ) = side (query_of c.deref.result.now) in
     let words : Option (List ℕ) = Some c.words.result.now in
     let right : Option (List ℕ) = side (query_of c.deref-in-Join.result.now) in
     let on : Option (List ℕ) = Some (codes " ON ") ++? expression_text c.in-Join.on in
     three_writes took c.args.f.now c.write_columns-in-Join.new.f c.write.new.self c.write_condition-in-Join.new.f
     c.write_columns-in-Join.result c.write.result c.write_condition-in-Join.result
-    columns (left ++? words ++? right ++? on) (where_text c.in-Join.condition) _
-    (rw (c.in-Join.is, c.as_slice-in-Join.ensures, c.deref.ensures, c.words.ensures, c.deref-in-Join.ensures) refl)
+    columns (left ++? words ++? right ++? on) (where_text (option_copied c.condition-in-Join.result)) _
+    (rw (
+      c.in-Join.is,
+      c.columns-in-Join.ensures,
+      c.deref.ensures,
+      c.words.ensures,
+      c.deref-in-Join.ensures,
+      c.condition-in-Join.ensures,
+    ) refl)
     (rw c.in_ok-write_columns-in-Join.was refl) (rw c.in_ok-write-in-Join.was refl)
     c.write_columns-in-Join.ensures
     (four_writes took c.write_columns-in-Join.new.f c.write_side.new.f c.write_str-in-Join.new.self c.write_side-in-Join.new.f c.write.new.self
@@ -33,7 +41,7 @@ write_query-returns-in_ok-write-in-Join g t c =
 
 pub write_side-returns-in_ok-write_query-in-None : goal.write_side-returns-in_ok-write_query-in-None
 write_side-returns-in_ok-write_query-in-None g t c =
-    let q = query_of c.args.rows.now in
+    let q = query_of c.args.tree.now in
     three_writes g.W.Write.write_str_gives c.args.f.now c.write_str-in-None.new.self c.write_query.new.f c.write_str-in-None-2.new.self
     c.write_str-in-None.result c.write_query.result c.write_str-in-None-2.result
     (Some (codes "(")) (query_text q) (Some (codes ")")) _

@@ -1,0 +1,96 @@
+//! What queries keep of rows.
+
+ghost use Rattle.std.specs.Prelude.{◌≡◌, ◌==◌, ◌&&◌, IfOk, IfErr, is_none, length, option_copied};
+ghost use Rattle.msi_text.specs.declared.errors.ErrorKind.TheVariants.{OutOfMemory};
+ghost use Rattle.msi_query.specs.Queries.{narrowed as narrowed_by, no_clauses};
+
+use super::narrowed;
+use crate::expr::Expr;
+use msi_text::errors::Error;
+use msi_text::text::{Items, Text};
+use std::alloc::Global;
+use std::marker::Model;
+
+/// The columns that are kept of rows, where none keeps all, and the condition on rows, if any. The condition is judged
+/// before columns are left out.
+#[derive(Drop)]
+pub struct Clauses {
+    columns: Items<Text>,
+    condition: Option<Expr>,
+}
+
+impl Model for Clauses {
+    ghost use Rattle.std.specs.Coded.{codes};
+    ghost use Rattle.msi_query.specs.ExpressionCode.{expression_code};
+    ghost use Rattle.msi_query.specs.Queries.{Clauses as Kept};
+
+    ghost Value = { Kept };
+
+    ghost coded = { Prim.hlevel (codes, expression_code (Prim.hlevel codes)) };
+
+    ghost view = { λ c. record { columns = c.columns; condition = c.condition } };
+}
+
+impl Clauses {
+    /// All columns of all rows.
+    pub(crate) fn new(alloc: Global) -> Clauses
+        ensures { result ≡ no_clauses }
+    {
+        Clauses {
+            columns: Items::from_vec(Vec::new(alloc)),
+            condition: None,
+        }
+    }
+
+    /// The columns that are kept; where there is none, all are.
+    pub fn columns(&self) -> &[Text]
+        ensures { result.now ≡ self.now.columns }
+    {
+        self.columns.as_slice()
+    }
+
+    /// The condition on rows.
+    pub fn condition(&self) -> Option<&Expr>
+        ensures { option_copied result ≡ self.now.condition }
+    {
+        self.condition.as_ref()
+    }
+
+    /// Whether all columns of all rows are kept.
+    pub(crate) fn keep_all(&self) -> bool
+        ensures { result ≡ ((length self.now.columns == 0) && is_none self.now.condition) }
+    {
+        self.columns.is_empty() && self.condition.is_none()
+    }
+
+    /// The same condition with these columns.
+    pub(crate) fn projected(self, columns: Items<Text>) -> Clauses
+        ensures { result ≡ record self { columns = columns } }
+    {
+        let Clauses {
+            columns: _before,
+            condition,
+        } = self;
+        Clauses { columns, condition }
+    }
+
+    /// The same columns under one more condition.
+    ///
+    /// # Errors
+    /// `OutOfMemory`.
+    pub(crate) fn narrowed(self, alloc: Global, condition: Expr) -> Result<Clauses, Error>
+        ensures ok { IfOk result (λ clauses. clauses
+            ≡ record self { condition = narrowed_by self.condition condition }) }
+        ensures kind { IfErr result (λ kind. kind ≡ OutOfMemory) }
+    {
+        let Clauses {
+            columns,
+            condition: first,
+        } = self;
+        let both = narrowed(alloc, first, condition)?;
+        Ok(Clauses {
+            columns,
+            condition: Some(both),
+        })
+    }
+}
