@@ -1,7 +1,9 @@
 //! A device in memory, which tells its bytes.
 
-ghost use Rattle.std.specs.Prelude.{◌≡◌, Some, false};
-ghost use Rattle.msi_device.specs.Held.{all_bytes, from_first};
+ghost use Rattle.std.specs.Prelude.{◌≡◌, IfErr, IfOk, IsOk, OnErr, OnOk, Some, false, length, min, take, true};
+ghost use Rattle.std.specs.IoError.{error_kind};
+ghost use Rattle.std.specs.declared.io.ErrorKind.TheVariants.{OutOfMemory};
+ghost use Rattle.msi_device.specs.Held.{all_bytes, at_end, at_start, from_first, further, with_piece};
 
 use crate::device::Device;
 use crate::source::Source;
@@ -69,12 +71,20 @@ impl Source for Memory {
         self.failed = false;
     }
 
-    fn rewind(&mut self) -> io::Result<()> {
+    fn rewind(&mut self) -> io::Result<()>
+        ensures ok { IsOk result }
+        ensures after { self.new ≡ record self.old { held = at_start self.old.held } }
+    {
         self.place = 0;
         Ok(())
     }
 
-    fn read(&mut self, buf: &mut [u8]) -> io::Result<usize> {
+    /// Fills the buffer, or reads all that lies ahead where that is less.
+    fn read(&mut self, buf: &mut [u8]) -> io::Result<usize>
+        ensures count { result ≡ Ok (min (length buf.old) (length self.old.held.ahead)) }
+        ensures read { IfOk result (λ n. take n buf.new ≡ take n self.old.held.ahead) }
+        ensures after { IfOk result (λ n. self.new ≡ record self.old { held = further n self.old.held }) }
+    {
         let count = buf.len().min(self.bytes.len() - self.place);
         buf[..count].copy_from_slice(&self.bytes[self.place..self.place + count]);
         self.place += count;
@@ -83,12 +93,21 @@ impl Source for Memory {
 }
 
 impl Device for Memory {
-    fn length(&mut self) -> io::Result<u64> {
+    fn length(&mut self) -> io::Result<u64>
+        ensures count { result ≡ Ok (length (all_bytes self.old.held)) }
+        ensures after { self.new ≡ record self.old { held = at_end self.old.held } }
+    {
         self.place = self.bytes.len();
         Ok(self.place as u64)
     }
 
-    fn write(&mut self, piece: &[u8]) -> io::Result<usize> {
+    /// Takes the whole piece, or none of it where memory is refused.
+    fn write(&mut self, piece: &[u8]) -> io::Result<usize>
+        ensures count { IfOk result (λ n. n ≡ length piece.now) }
+        ensures ok { OnOk result (self.new ≡ record self.old { held = with_piece piece.now self.old.held }) }
+        ensures err { OnErr result (self.new ≡ record self.old { failed = true }) }
+        ensures kind { IfErr result (λ e. error_kind e ≡ OutOfMemory) }
+    {
         let over = piece.len().min(self.bytes.len() - self.place);
         if let Err(error) = self.bytes.extend_from_slice(&piece[over..]) {
             self.failed = true;
@@ -99,7 +118,10 @@ impl Device for Memory {
         Ok(piece.len())
     }
 
-    fn flush(&mut self) -> io::Result<()> {
+    fn flush(&mut self) -> io::Result<()>
+        ensures ok { IsOk result }
+        ensures after { self.new ≡ self.old }
+    {
         Ok(())
     }
 }

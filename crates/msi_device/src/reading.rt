@@ -5,7 +5,7 @@ ghost use Rattle.msi_device.specs.Faults.{is_io};
 ghost use Rattle.msi_device.specs.Held.{all_bytes, at_end, bytes_told};
 ghost use Rattle.msi_text.specs.declared.errors.ErrorKind.TheVariants.{Io, OutOfMemory};
 
-use crate::faults::or_fault;
+use crate::faults::fault;
 use crate::source::Source;
 use msi_text::Error;
 use std::alloc::Global;
@@ -24,11 +24,11 @@ pub fn read_all<S: Source>(alloc: Global, source: &mut S) -> Result<Vec<u8>, Err
     ensures failed { S.failed source.new ≡ (S.failed source.old || is_io result) }
     ensures kinds { IfErr result (λ kind. (kind ≡ Io) ⊎ (kind ≡ OutOfMemory)) }
 {
-    or_fault(source.rewind())?;
+    source.rewind().map_err(fault)?;
     let mut bytes = Vec::new(alloc);
     let mut chunk = [0; CHUNK_LEN];
     loop {
-        let count = or_fault(source.read(&mut chunk))?;
+        let count = source.read(&mut chunk).map_err(fault)?;
         if count == 0 {
             return Ok(bytes);
         }

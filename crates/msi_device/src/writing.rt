@@ -5,7 +5,7 @@ ghost use Rattle.msi_device.specs.Held.{StandsInPart, with_piece};
 ghost use Rattle.msi_text.specs.declared.errors.ErrorKind.TheVariants.{Io};
 
 use crate::device::Device;
-use crate::faults::or_fault;
+use crate::faults::fault;
 use crate::reasons;
 use msi_text::{Error, ErrorKind};
 
@@ -23,7 +23,7 @@ pub fn write_all<W: Device>(device: &mut W, piece: &[u8]) -> Result<(), Error>
 {
     let mut written = 0;
     while written < piece.len() {
-        let count = or_fault(device.write(&piece[written..]))?;
+        let count = device.write(&piece[written..]).map_err(fault)?;
         if count == 0 {
             return Err(Error::new(ErrorKind::Io, reasons::NOTHING_TAKEN));
         }
