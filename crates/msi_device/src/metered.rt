@@ -1,6 +1,9 @@
 //! A device over any reader, writer and seeker of `std`.
 
-ghost use Rattle.std.specs.Prelude.{◌≡◌, ◌||◌, None, false, is_err};
+ghost use Rattle.std.specs.Prelude.{◌≡◌, ◌≤◌, ◌||◌, IfOk, None, false, is_err, length, pos};
+ghost use Rattle.std.specs.Io.KnownBytes.{Keeps, ReadConsumes, WriteAppends};
+ghost use Rattle.std.specs.Io.Seek.{MovesTo, SeekMoves};
+ghost use Rattle.msi_device.specs.Faults.{is_write_fault};
 
 use crate::device::Device;
 use crate::source::Source;
@@ -69,25 +72,39 @@ impl<F: Read + Seek> Source for Metered<F> {
         self.failed = false;
     }
 
-    fn rewind(&mut self) -> io::Result<()> {
+    fn rewind(&mut self) -> io::Result<()>
+        ensures passed { MovesTo (F.stream_position self.old.inner) (F.stream_position self.new.inner) 0 result }
+        ensures failed { self.new.failed ≡ (self.old.failed || is_err result) }
+    {
         let answer = self.inner.seek(SeekFrom::Start(0));
         self.watch(answer)?;
         Ok(())
     }
 
-    fn read(&mut self, buf: &mut [u8]) -> io::Result<usize> {
+    fn read(&mut self, buf: &mut [u8]) -> io::Result<usize>
+        ensures count { IfOk result (λ n. n ≤ length buf.old) }
+        ensures passed { ReadConsumes (F.remaining self.old.inner) (F.remaining self.new.inner) result buf.new }
+        ensures failed { self.new.failed ≡ (self.old.failed || is_err result) }
+    {
         let answer = self.inner.read(buf);
         self.watch(answer)
     }
 }
 
 impl<F: Read + Write + Seek> Device for Metered<F> {
-    fn length(&mut self) -> io::Result<u64> {
+    fn length(&mut self) -> io::Result<u64>
+        ensures passed { SeekMoves (F.stream_position self.old.inner) (F.stream_position self.new.inner) (F.stream_bytes self.old.inner) (SeekFrom.End (pos 0)) result }
+        ensures failed { self.new.failed ≡ (self.old.failed || is_err result) }
+    {
         let answer = self.inner.seek(SeekFrom::End(0));
         self.watch(answer)
     }
 
-    fn write(&mut self, piece: &[u8]) -> io::Result<usize> {
+    fn write(&mut self, piece: &[u8]) -> io::Result<usize>
+        ensures count { IfOk result (λ n. n ≤ length piece.now) }
+        ensures passed { WriteAppends (F.contents self.old.inner) (F.contents self.new.inner) result piece.now }
+        ensures failed { self.new.failed ≡ (self.old.failed || is_write_fault piece.now result) }
+    {
         let answer = self.inner.write(piece);
         if let Ok(0) = answer
             && !piece.is_empty()
@@ -97,7 +114,10 @@ impl<F: Read + Write + Seek> Device for Metered<F> {
         self.watch(answer)
     }
 
-    fn flush(&mut self) -> io::Result<()> {
+    fn flush(&mut self) -> io::Result<()>
+        ensures passed { Keeps (F.contents self.old.inner) (F.contents self.new.inner) }
+        ensures failed { self.new.failed ≡ (self.old.failed || is_err result) }
+    {
         let answer = self.inner.flush();
         self.watch(answer)
     }
