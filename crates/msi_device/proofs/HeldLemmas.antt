@@ -1,8 +1,8 @@
 -- What reads and writes in a row do to the bytes held.
 use Rattle.std.specs.Prelude.{Option}
-use Rattle.std.proofs.Common.{◌≡◌, ℕ, ◌+◌, List, ◌++◌, length, take, drop, Some, None, refl, sym, ap, ◌∙◌, append_assoc, length-append, option_map, arith}
-use Rattle.std.proofs.lemmas.List.{drop-drop, take-append-le}
-use Rattle.std.proofs.Math.Seq.{take-append_seam, take-append-add, drop-append-add, take-add}
+use Rattle.std.proofs.Common.{◌≡◌, ℕ, ◌+◌, List, [], ◌++◌, length, take, drop, Some, None, refl, sym, ap, ◌∙◌, append_assoc, length-append, option_map, arith}
+use Rattle.std.proofs.lemmas.List.{append-nil, drop-drop, take-append-le}
+use Rattle.std.proofs.Math.Seq.{take-append_seam, take-append-add, take-length, drop-append-add, take-add}
 use Rattle.msi_device.specs.Held.{Held, further, with_piece, bytes_told, StandsInPart}
 use Rattle.msi_device.specs.HeldLaws.{PiecesJoin, PiecesStandAtThePlace}
 
@@ -29,16 +29,32 @@ more_of_piece piece more k n old mid new first second is =
 pub piece_at_place : PiecesStandAtThePlace
 piece_at_place piece h = (rw (take-append_seam h.before h.ahead, drop-append-add h.before h.ahead (length piece)) refl, length-append h.before piece)
 
-pub part_of_first : (piece next : List ℕ) (old new : Option Held) → StandsInPart piece old new → StandsInPart (piece ++ next) old new
-part_of_first piece next old new part = record {
+-- nothing put there changes nothing
+nothing_put : (old : Option Held) → bytes_told (option_map (with_piece []) old) ≡ bytes_told old
+nothing_put None = refl
+nothing_put (Some h) = ap (λ b. Some (b ++ h.ahead)) (append-nil h.before)
+
+pub part_none : (piece : List ℕ) (old new : Option Held) → bytes_told new ≡ bytes_told old → StandsInPart piece old new
+part_none piece old new same = record { count = 0; within = omega arith; bytes = same ∙ sym (nothing_put old) }
+
+pub part_whole : (piece : List ℕ) (old new : Option Held)
+    → bytes_told new ≡ bytes_told (option_map (with_piece piece) old) → StandsInPart piece old new
+part_whole piece old new is = record {
+  count = length piece;
+  within = omega arith;
+  bytes = is ∙ ap (λ p. bytes_told (option_map (with_piece p) old)) (sym (take-length piece));
+}
+
+pub part_in_front : (piece next : List ℕ) (old new : Option Held) → StandsInPart piece old new → StandsInPart (piece ++ next) old new
+part_in_front piece next old new part = record {
   count = part.count;
   within = rw (length-append piece next) (omega (arith, part.within));
   bytes = part.bytes ∙ ap (λ p. bytes_told (option_map (with_piece p) old)) (sym (take-append-le part.count piece next part.within));
 }
 
-pub part_of_second : (piece next : List ℕ) (old new : Option Held)
+pub part_behind : (piece next : List ℕ) (old new : Option Held)
     → StandsInPart next (option_map (with_piece piece) old) new → StandsInPart (piece ++ next) old new
-part_of_second piece next old new part = record {
+part_behind piece next old new part = record {
   count = length piece + part.count;
   within = rw (length-append piece next) (omega (arith, part.within));
   bytes = part.bytes ∙ ap bytes_told (pieces_join piece (take part.count next) old

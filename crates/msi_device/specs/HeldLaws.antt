@@ -1,6 +1,6 @@
 -- What holds of the bytes that devices hold.
 use Rattle.std.specs.Prelude.{◌≡◌, ℕ, ◌+◌, ◌≤◌, List, ◌++◌, length, take, drop, Option, option_map}
-use Rattle.msi_device.specs.Held.{Held, all_bytes, place_of, with_piece, StandsInPart}
+use Rattle.msi_device.specs.Held.{bytes_told, Held, all_bytes, place_of, with_piece, StandsInPart}
 
 -- bytes with a piece put over them from a place on
 abbrev pub put_at : List ℕ → ℕ → List ℕ → List ℕ
@@ -17,10 +17,14 @@ abbrev pub PiecesJoin : Type 0
 PiecesJoin = (piece next : List ℕ) (held : Option Held)
     → option_map (with_piece next) (option_map (with_piece piece) held) ≡ option_map (with_piece (piece ++ next)) held
 
--- a beginning of a piece, also of one put behind another, is a beginning of their concatenation
+-- a beginning of a piece stands where none of it does, where all of it does, where a beginning of its front does, and where its front
+-- does with a beginning of the rest behind it
 pub record PartsJoin : Type 0 where
-  pub first : (piece next : List ℕ) (old new : Option Held) → StandsInPart piece old new → StandsInPart (piece ++ next) old new
-  pub second : (piece next : List ℕ) (old new : Option Held)
+  pub none : (piece : List ℕ) (old new : Option Held) → bytes_told new ≡ bytes_told old → StandsInPart piece old new
+  pub whole : (piece : List ℕ) (old new : Option Held)
+      → bytes_told new ≡ bytes_told (option_map (with_piece piece) old) → StandsInPart piece old new
+  pub front : (piece next : List ℕ) (old new : Option Held) → StandsInPart piece old new → StandsInPart (piece ++ next) old new
+  pub behind : (piece next : List ℕ) (old new : Option Held)
       → StandsInPart next (option_map (with_piece piece) old) new → StandsInPart (piece ++ next) old new
 
 -- a piece as long as what lies ahead takes the place of all that

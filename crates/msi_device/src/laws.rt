@@ -7,7 +7,8 @@ pub fn pieces_join()
     ensures { PiecesJoin }
 {}
 
-/// A beginning of a piece, also of one that is put behind another, is a beginning of their concatenation.
+/// What counts as a beginning of a piece: none of it, all of it, a beginning of its front, and its front with a beginning of
+/// the rest behind it.
 pub fn parts_join()
     ensures { PartsJoin }
 {}

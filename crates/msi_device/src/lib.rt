@@ -2,7 +2,7 @@
 #![tactic(auto)]
 
 pub mod device;
-mod faults;
+pub mod faults;
 pub mod laws;
 pub mod memory;
 pub mod metered;
