@@ -1,0 +1,4 @@
+-- The words of this crate.
+pub mod Held
+pub mod Faults
+pub mod HeldLaws

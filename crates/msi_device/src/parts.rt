@@ -1,0 +1,5 @@
+//! What the crates above need beyond the surface.
+
+pub use crate::faults::fault;
+pub use crate::reading::read_all;
+pub use crate::writing::write_all;

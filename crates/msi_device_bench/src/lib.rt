@@ -1,0 +1,11 @@
+//! Tests of the crate `msi_device`.
+#![tactic(auto)]
+
+#[cfg(test)]
+mod faulty;
+#[cfg(test)]
+mod memory;
+#[cfg(test)]
+mod metered;
+#[cfg(test)]
+mod wholes;
