@@ -1,5 +1,7 @@
 -- The words of the crates below.
 pub use Rattle.msi_compound.specs.declared.contents.Contents
+pub use Rattle.msi_device.specs.Held
+pub use Rattle.msi_device.specs.HeldLaws
 pub use Rattle.msi_compound.specs.Format
 pub use Rattle.msi_compound.specs.Bytes
 pub use Rattle.msi_compound.specs.Chains
