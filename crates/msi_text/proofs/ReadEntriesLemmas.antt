@@ -6,7 +6,9 @@ use Rattle.std.proofs.lemmas.List.{append-nil, length-append}
 use Rattle.msi_text.specs.declared.errors.ErrorKind.{ErrorKind}
 use Rattle.msi_text.specs.declared.errors.ErrorKind.TheVariants as kind
 use Rattle.msi_text.specs.Pool.{Entry, short_entry, long_entry, SpellsEntry, SpellsEntries}
-use Rattle.msi_text.specs.PoolReading.{FailsAs, number_at, entry_with, entry_at}
+use Rattle.msi_text.specs.PoolReading.{entry_with, entry_at}
+use Rattle.msi_text.specs.Numbers.{number_at}
+use Rattle.msi_text.specs.Results.{FailsAs}
 use Rattle.msi_text.proofs.ReadFieldLemmas.{IsBytes, bind_some, map_some, branch, some_is, given, not_given, wide16, wide32, Takes-then, number_takes, number_again}
 
 -- bytes in front spell the entry

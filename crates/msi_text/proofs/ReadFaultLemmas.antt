@@ -3,7 +3,8 @@ use Rattle.std.proofs.Common.{◌≡◌, ℕ, List, Option, Some, None, refl, sy
 use Rattle.std.specs.Prelude.{Result, Ok, Err, IfSome}
 use Rattle.msi_text.specs.declared.errors.ErrorKind.{ErrorKind}
 use Rattle.msi_text.specs.declared.errors.ErrorKind.TheVariants as kind
-use Rattle.msi_text.specs.PoolReading.{PoolStream, IsPoolStream, Gives, IsUnlessFault}
+use Rattle.msi_text.specs.Pool.{PoolStream, IsPoolStream}
+use Rattle.msi_text.specs.Results.{Gives, IsUnlessFault}
 use Rattle.msi_text.proofs.ReadFieldLemmas.{given, not_given, some_is}
 
 known_is : {X : Type 0} (r : Result X ErrorKind) (x : X) → Gives (λ (y : X). y) r (given x) → IsUnlessFault r x

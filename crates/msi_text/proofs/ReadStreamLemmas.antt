@@ -7,8 +7,9 @@ use Rattle.msi_text.specs.declared.codepage.CodePage.{CodePage}
 use Rattle.msi_text.specs.declared.errors.ErrorKind.{ErrorKind}
 use Rattle.msi_text.specs.declared.errors.ErrorKind.TheVariants as kind
 use Rattle.msi_text.specs.Pages.{page_with_id}
-use Rattle.msi_text.specs.Pool.{Entry, Place, Pool, IsPool, SpellsEntries, SpellsPool, SpellsTexts}
-use Rattle.msi_text.specs.PoolReading.{PoolStream, IsPoolStream, header_in, pool_with, OnePool, IsPoolInSteps}
+use Rattle.msi_text.specs.Pool.{Entry, Place, Pool, IsPool, SpellsEntries, SpellsPool, SpellsTexts, PoolStream, IsPoolStream, pool_with}
+use Rattle.msi_text.specs.PoolReading.{header_in}
+use Rattle.msi_text.specs.PoolLaws.{OnePool, IsPoolInSteps}
 use Rattle.msi_text.specs.Numbers.{number_at}
 use Rattle.msi_text.specs.Results.{FailsAs, IsUnlessMemory}
 use Rattle.msi_text.proofs.ReadFieldLemmas.{IsBytes, map_some, branch, some_is, given, not_given, wide32, number_takes, number_again}

@@ -9,7 +9,8 @@ use Rattle.msi_text.specs.declared.errors.ErrorKind.{ErrorKind}
 use Rattle.msi_text.specs.declared.errors.ErrorKind.TheVariants as kind
 use Rattle.msi_text.specs.Pages.{text_in}
 use Rattle.msi_text.specs.Pool.{Entry, Place, SpellsTexts}
-use Rattle.msi_text.specs.PoolReading.{FailsAs, place_with, place_in_front}
+use Rattle.msi_text.specs.PoolReading.{place_with, place_in_front}
+use Rattle.msi_text.specs.Results.{FailsAs}
 use Rattle.msi_text.proofs.ReadFieldLemmas.{map_some, guard_passed, some_is, given, not_given}
 
 -- bytes in front read as the text of the place

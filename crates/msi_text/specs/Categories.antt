@@ -34,10 +34,12 @@ category_name category.Cabinet = codes "Cabinet"
 category_name category.Shortcut = codes "Shortcut"
 
 abbrev pub all_categories : List Category
-all_categories = category.Text ∷ category.UpperCase ∷ category.LowerCase ∷ category.Integer ∷ category.DoubleInteger ∷ category.Number ∷ category.TimeDate
-    ∷ category.Identifier ∷ category.Property ∷ category.Filename ∷ category.WildCardFilename ∷ category.Path ∷ category.Paths ∷ category.AnyPath
-    ∷ category.DefaultDir ∷ category.RegPath ∷ category.Formatted ∷ category.FormattedSddlText ∷ category.Template ∷ category.Condition ∷ category.Guid
-    ∷ category.Version ∷ category.Language ∷ category.Binary ∷ category.CustomSource ∷ category.Cabinet ∷ category.Shortcut ∷ []
+all_categories = category.Text ∷ category.UpperCase ∷ category.LowerCase ∷ category.Integer
+    ∷ category.DoubleInteger ∷ category.Number ∷ category.TimeDate ∷ category.Identifier ∷ category.Property
+    ∷ category.Filename ∷ category.WildCardFilename ∷ category.Path ∷ category.Paths ∷ category.AnyPath
+    ∷ category.DefaultDir ∷ category.RegPath ∷ category.Formatted ∷ category.FormattedSddlText
+    ∷ category.Template ∷ category.Condition ∷ category.Guid ∷ category.Version ∷ category.Language
+    ∷ category.Binary ∷ category.CustomSource ∷ category.Cabinet ∷ category.Shortcut ∷ []
 
 -- how else a category may be written
 abbrev pub other_name : Category → List ℕ

@@ -1,4 +1,5 @@
--- Language ids (MS-LCID 2.2): ten bits of a primary language, and six of a sub-language. Ids that have a row have a tag (BCP 47).
+-- Language ids (MS-LCID 2.2): ten bits of a primary language, and six of a sub-language. An id that has a row has a tag
+-- (BCP 47).
 use Rattle.std.specs.Prelude.{◌≡◌, ℕ, ◌*◌, ◌/◌, ◌%◌, ◌^◌, ◌<◌, ◌==◌, List, bit_or, bytes_eq, find, map, codes, Contains}
 use Rattle.std.specs.Option.{option_map_or}
 use Rattle.std.specs.List.Sorted.{IsStrictlyIncreasing}

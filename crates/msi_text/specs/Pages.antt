@@ -10,8 +10,8 @@ use Rattle.msi_text.specs.PageTables.{upper_characters, character_of, byte_of, c
 abbrev pub is_ascii : List ℕ → Bool
 is_ascii bytes = list_all (λ b. nat_lt b 0x80) bytes
 
--- a text is its bytes in UTF-8, as a `String` is. What bytes read as where these characters stand from byte 0x80 on; in a page
--- without a table ASCII alone
+-- a text is its bytes in UTF-8, as a `String` is. What bytes read as where these characters stand from byte 0x80 on; in a
+-- page without a table ASCII alone
 abbrev pub single_byte_text : Option (List ℕ) → List ℕ → Option (List ℕ)
 single_byte_text (Some upper) bytes = Some (encode_utf8_all (map (character_read upper) bytes))
 single_byte_text None bytes = if is_ascii bytes then Some bytes else None
@@ -52,7 +52,8 @@ Utf8TextsComeBack = (text : List ℕ) → IsUtf8 text → IsWritable page.Utf8 t
 
 -- in each page ASCII is written as its own bytes, which are read as it
 abbrev pub AsciiStandsForItself : Type 0
-AsciiStandsForItself = (page : CodePage) (text : List ℕ) → is_ascii text ≡ true → Writes page text text × Reads page text text
+AsciiStandsForItself = (page : CodePage) (text : List ℕ) → is_ascii text ≡ true
+    → Writes page text text × Reads page text text
 
 -- bytes that all stand for characters spell the text that they read as
 abbrev pub PageBytesComeBack : Type 0
@@ -90,9 +91,11 @@ page_id page.Utf8 = 65001
 
 abbrev pub all_pages : List CodePage
 all_pages = page.Windows932 ∷ page.Windows936 ∷ page.Windows949 ∷ page.Windows950 ∷ page.Windows951
-    ∷ page.Windows1250 ∷ page.Windows1251 ∷ page.Windows1252 ∷ page.Windows1253 ∷ page.Windows1254 ∷ page.Windows1255 ∷ page.Windows1256 ∷ page.Windows1257 ∷ page.Windows1258
+    ∷ page.Windows1250 ∷ page.Windows1251 ∷ page.Windows1252 ∷ page.Windows1253
+    ∷ page.Windows1254 ∷ page.Windows1255 ∷ page.Windows1256 ∷ page.Windows1257 ∷ page.Windows1258
     ∷ page.MacintoshRoman ∷ page.MacintoshCyrillic ∷ page.UsAscii
-    ∷ page.Iso88591 ∷ page.Iso88592 ∷ page.Iso88593 ∷ page.Iso88594 ∷ page.Iso88595 ∷ page.Iso88596 ∷ page.Iso88597 ∷ page.Iso88598 ∷ page.Utf8 ∷ []
+    ∷ page.Iso88591 ∷ page.Iso88592 ∷ page.Iso88593 ∷ page.Iso88594 ∷ page.Iso88595
+    ∷ page.Iso88596 ∷ page.Iso88597 ∷ page.Iso88598 ∷ page.Utf8 ∷ []
 
 -- the page of an id: 0 is Utf8 too
 abbrev pub page_with_id : ℕ → Option CodePage

@@ -1,30 +1,11 @@
--- Reading the pool's two streams, step by step.
-use Rattle.std.specs.Prelude.{◌≡◌, ◌↔◌, ℕ, ◌-◌, ◌^◌, ◌⊎◌, Bool, true, false, List, length, take, drop, Option, Some, None, option_map, nat_lt, ◌==◌, ◌||◌, if◌then◌else◌}
+-- Scaffolding of proofs: how the pool's two streams are read, one step after the other. The format stands in `Pool`.
+use Rattle.std.specs.Prelude.{ℕ, ◌-◌, ◌^◌, Bool, true, false, List, length, take, drop, Option, Some, None, option_map, nat_lt, ◌==◌, ◌||◌, if◌then◌else◌}
 use Rattle.std.specs.Int.{w16, w32}
 use Rattle.msi_text.specs.declared.codepage.CodePage.{CodePage}
-use Rattle.msi_text.specs.declared.errors.ErrorKind.{ErrorKind}
-use Rattle.msi_text.specs.declared.errors.ErrorKind.TheVariants as kind
 use Rattle.msi_text.specs.Pages.{text_in, page_with_id}
-use Rattle.msi_text.specs.Pool.{Place, Pool, Entry, SpellsPool, SpellsTexts, IsPool}
+use Rattle.msi_text.specs.Pool.{Place, Entry}
 pub use Rattle.msi_text.specs.Numbers.{number_at}
-pub use Rattle.msi_text.specs.Results.{◌>>=◌, FailsAs, Gives, IsUnlessFault}
-
--- what the pool's stream says
-pub record PoolStream : Type 0 where
-  pub page : CodePage
-  pub long : Bool
-  pub entries : List Entry
-
-abbrev pub IsPoolStream : List ℕ → PoolStream → Type 0
-IsPoolStream bytes stream = SpellsPool bytes stream.page stream.long stream.entries
-
--- the pool of a stream with these places
-abbrev pub pool_with : PoolStream → List Place → Pool
-pool_with stream places = record { page = stream.page; long = stream.long; places = places }
-
--- why a stream is not read
-abbrev pub IsStreamFault : ErrorKind → Type 0
-IsStreamFault e = (e ≡ kind.InvalidData) ⊎ (e ≡ kind.OutOfMemory) ⊎ (e ≡ kind.Io)
+pub use Rattle.msi_text.specs.Results.{◌>>=◌, FailsAs, Gives}
 
 -- the page of a header, and whether references are long
 abbrev pub header_in : ℕ → Option (CodePage × Bool)
@@ -49,15 +30,3 @@ place_with e text = record { text = text; count = e.count }
 abbrev pub place_in_front : CodePage → Entry → List ℕ → Option (Place × List ℕ)
 place_in_front page e bytes = if nat_lt (length bytes) e.len then None
     else option_map (λ text. (place_with e text, drop e.len bytes)) (text_in page (take e.len bytes))
-
--- two streams hold at most one pool
-abbrev pub OnePool : Type 0
-OnePool = (pool_stream data_stream : List ℕ) (a b : Pool)
-    → IsPool pool_stream data_stream a → IsPool pool_stream data_stream b → a ≡ b
-
--- a pool is held by the two streams where the one says its page, its references and its entries, and the other spells its
--- texts
-abbrev pub IsPoolInSteps : Type 0
-IsPoolInSteps = (pool_stream data_stream : List ℕ) (pool : Pool) → IsPool pool_stream data_stream pool
-    ↔ ((stream : PoolStream) × IsPoolStream pool_stream stream × (pool ≡ pool_with stream pool.places)
-    × SpellsTexts stream.page data_stream stream.entries pool.places)

@@ -1,4 +1,4 @@
--- Which pools are refused when they are written, and what is written of a place.
+-- Which pools are refused when they are written; and, as scaffolding of proofs, what is written of a place.
 use Rattle.std.specs.Prelude.{ℕ, ◌^◌, Bool, true, List, [], length, not, nat_lt, Option, Some, None, unwrap_or}
 use Rattle.std.specs.List.{list_any}
 use Rattle.msi_text.specs.declared.codepage.CodePage.{CodePage}
@@ -21,7 +21,7 @@ has_refused_text page places = list_any (λ p. is_refused_spelling (place_bytes 
 abbrev pub is_refused : Pool → Bool
 is_refused pool = has_refused_text pool.page pool.places
 
--- what is written of a place that can be: in the data stream, and in the pool's stream
+-- scaffolding: what is written of a place that isn't refused, in the data stream and in the pool's stream
 abbrev pub piece_of : CodePage → Place → List ℕ
 piece_of page p = unwrap_or (place_bytes page p) []
 

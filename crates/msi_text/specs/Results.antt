@@ -30,6 +30,10 @@ abbrev pub IsUnlessFault : {X : Type 0} → Result X ErrorKind → X → Type 0
 IsUnlessFault (Ok x) y = x ≡ y
 IsUnlessFault (Err e) y = (e ≡ kind.OutOfMemory) ⊎ (e ≡ kind.Io)
 
+-- why a stream is not read
+abbrev pub IsStreamFault : ErrorKind → Type 0
+IsStreamFault e = (e ≡ kind.InvalidData) ⊎ (e ≡ kind.OutOfMemory) ⊎ (e ≡ kind.Io)
+
 -- there is no error but a refused growth
 abbrev pub OnlyMemory : {X : Type 0} → Result X ErrorKind → Type 0
 OnlyMemory result = IfErr result (λ e. e ≡ kind.OutOfMemory)

@@ -22,12 +22,15 @@ stored_moment ticks = to_le_bytes w64 ticks
 
 -- a reader gave the bytes of the moment
 abbrev pub ReadsMoment : Option (List ℕ) → Option (List ℕ) → ℕ → Type 0
-ReadsMoment old new ticks = (bytes : List ℕ) × (length bytes ≡ 8) × Consumes old new bytes × (ticks ≡ from_le_bytes w64 bytes)
+ReadsMoment old new ticks = (bytes : List ℕ) × (length bytes ≡ 8) × Consumes old new bytes
+    × (ticks ≡ from_le_bytes w64 bytes)
 
 -- a moment comes back from its seconds and nanoseconds
 abbrev pub MomentsComeBackFromUnix : Type 0
-MomentsComeBackFromUnix = (ticks : ℕ) → ticks < 2 ^ 64 → ticks_of_unix (unix_of_ticks ticks).0 (unix_of_ticks ticks).1 ≡ ticks
+MomentsComeBackFromUnix = (ticks : ℕ) → ticks < 2 ^ 64
+    → ticks_of_unix (unix_of_ticks ticks).0 (unix_of_ticks ticks).1 ≡ ticks
 
 -- a moment that is stored has eight bytes, which are read as it
 abbrev pub StoredMomentsComeBack : Type 0
-StoredMomentsComeBack = (ticks : ℕ) → ticks < 2 ^ 64 → (length (stored_moment ticks) ≡ 8) × (from_le_bytes w64 (stored_moment ticks) ≡ ticks)
+StoredMomentsComeBack = (ticks : ℕ) → ticks < 2 ^ 64
+    → (length (stored_moment ticks) ≡ 8) × (from_le_bytes w64 (stored_moment ticks) ≡ ticks)

@@ -23,7 +23,7 @@ pub enum Category {
     Integer,
     /// A number from -2147483648 to 2147483647.
     DoubleInteger,
-    /// Likewise a number from -2147483648 to 2147483647.
+    /// A number from -2147483648 to 2147483647, as a double integer is.
     Number,
     /// A date and time of day.
     TimeDate,
@@ -33,7 +33,7 @@ pub enum Category {
     Property,
     /// The name of a file or folder, short and long.
     Filename,
-    /// Such a name with wildcards.
+    /// The name of a file or folder, short and long, with wildcards.
     WildCardFilename,
     /// A full path.
     Path,
@@ -47,7 +47,7 @@ pub enum Category {
     RegPath,
     /// Text with properties in square brackets.
     Formatted,
-    /// Such text that holds a security descriptor.
+    /// Text with properties in square brackets that holds a security descriptor.
     FormattedSddlText,
     /// Formatted text that may hold placeholders of fields.
     Template,
@@ -174,7 +174,8 @@ impl fmt::Display for Category {
 impl FromStr for Category {
     type Err = Error;
 
-    ghost from_str_gives = { λ text r. IfOk r (λ category. category_in text ≡ Some category) × IfErr r (λ kind. (category_in text ≡ None) × (kind ≡ InvalidData)) };
+    ghost from_str_gives = { λ text r. IfOk r (λ category. category_in text ≡ Some category)
+        × IfErr r (λ kind. (category_in text ≡ None) × (kind ≡ InvalidData)) };
 
     fn from_str(text: &str) -> Result<Category, Error> {
         for category in Category::all() {

@@ -227,7 +227,8 @@ impl CodePage {
     /// `InvalidData` for a byte past ASCII in another page, and `OutOfMemory`.
     pub fn decode(self, alloc: Global, bytes: &[u8]) -> Result<String, Error>
         ensures ok { IfOk result (λ text. Reads self bytes.now (string_bytes text)) }
-        ensures kind { IfErr result (λ kind. kind ≡ (if is_some (text_in self bytes.now) then OutOfMemory else InvalidData)) }
+        ensures kind { IfErr result (λ kind.
+            kind ≡ (if is_some (text_in self bytes.now) then OutOfMemory else InvalidData)) }
     {
         match self {
             CodePage::Utf8 => Ok(bytes.to_str_lossy(alloc)?.into_owned(alloc)?),
@@ -242,7 +243,8 @@ impl CodePage {
     /// `InvalidInput` for a character past ASCII in another page than these and UTF-8, and `OutOfMemory`.
     pub fn encode(self, alloc: Global, text: &str) -> Result<Vec<u8>, Error>
         ensures ok { IfOk result (λ bytes. Writes self text.now bytes.items) }
-        ensures kind { IfErr result (λ kind. kind ≡ (if is_some (bytes_in self text.now) then OutOfMemory else InvalidInput)) }
+        ensures kind { IfErr result (λ kind.
+            kind ≡ (if is_some (bytes_in self text.now) then OutOfMemory else InvalidInput)) }
     {
         match self {
             CodePage::Utf8 => Ok(Vec::from_slice(alloc, text.as_bytes())?),
@@ -275,7 +277,8 @@ impl CodePage {
 /// What bytes read as where these characters stand from byte 0x80 on, or in a page without a table. ASCII reads as itself.
 fn single_byte_text(alloc: Global, upper: Option<&[char]>, bytes: &[u8]) -> Result<String, Error>
     ensures ok { IfOk result (λ text. single_byte_text (option_copied upper.entry) bytes.now ≡ Some (string_bytes text)) }
-    ensures kind { IfErr result (λ kind. kind ≡ (if is_some (single_byte_text (option_copied upper.entry) bytes.now) then OutOfMemory else InvalidData)) }
+    ensures kind { IfErr result (λ kind.
+        kind ≡ (if is_some (single_byte_text (option_copied upper.entry) bytes.now) then OutOfMemory else InvalidData)) }
 {
     if let Some(text) = ascii_text(bytes) {
         return Ok(String::from_str(alloc, text)?);
@@ -290,7 +293,8 @@ fn single_byte_text(alloc: Global, upper: Option<&[char]>, bytes: &[u8]) -> Resu
 fn single_byte_spelling(alloc: Global, upper: Option<&[char]>, text: &str) -> Result<Vec<u8>, Error>
     requires { IfSome upper (λ characters. length characters.now ≤ 128) }
     ensures ok { IfOk result (λ bytes. single_byte_spelling (option_copied upper.entry) text.now ≡ Some bytes.items) }
-    ensures kind { IfErr result (λ kind. kind ≡ (if is_some (single_byte_spelling (option_copied upper.entry) text.now) then OutOfMemory else InvalidInput)) }
+    ensures kind { IfErr result (λ kind.
+        kind ≡ (if is_some (single_byte_spelling (option_copied upper.entry) text.now) then OutOfMemory else InvalidInput)) }
 {
     if is_ascii(text.as_bytes()) {
         return Ok(Vec::from_slice(alloc, text.as_bytes())?);
@@ -310,7 +314,8 @@ fn is_ascii(bytes: &[u8]) -> bool
 
 /// The bytes as a text, where each is ASCII.
 fn ascii_text(bytes: &[u8]) -> Option<&str>
-    ensures { MatchOption result (is_ascii bytes.now ≡ false) (λ text. (is_ascii bytes.now ≡ true) × (text.now ≡ bytes.now)) }
+    ensures { MatchOption result (is_ascii bytes.now ≡ false)
+        (λ text. (is_ascii bytes.now ≡ true) × (text.now ≡ bytes.now)) }
 {
     if !is_ascii(bytes) {
         return None;

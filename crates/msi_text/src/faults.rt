@@ -2,7 +2,7 @@
 
 ghost use Rattle.std.specs.Prelude.{◌≡◌, ◌⊎◌, ◌<◌, IfErr, IfSome, OnErr, OnOk, length};
 ghost use Rattle.std.specs.Io.KnownBytes.{Appends, Consumes};
-ghost use Rattle.msi_text.specs.Faults.{AppendsPart};
+ghost use Rattle.msi_text.specs.Faults.{AppendsPart, HasFewer};
 ghost use Rattle.msi_text.specs.declared.errors.ErrorKind.TheVariants.{InvalidData, Io, OutOfMemory};
 
 use crate::errors::{Error, ErrorKind, Reason};
@@ -16,7 +16,7 @@ use std::io::{self, Read, Write};
 /// reader is `OutOfMemory` or `Io`. No clause says that an early end is `InvalidData`, since none can tell it from a fault.
 pub fn read_exactly<R: Read>(reader: &mut R, bytes: &mut [u8], cut: Reason) -> Result<(), Error>
     ensures ok { OnOk result (Consumes (R.remaining reader.old) (R.remaining reader.new) bytes.new) }
-    ensures cut { IfErr result (λ kind. kind ≡ InvalidData → IfSome (R.remaining reader.old) (λ left. length left < length bytes.old)) }
+    ensures cut { IfErr result (λ kind. kind ≡ InvalidData → HasFewer (R.remaining reader.old) (length bytes.old)) }
     ensures kind { IfErr result (λ kind. (kind ≡ InvalidData) ⊎ ((kind ≡ Io) ⊎ (kind ≡ OutOfMemory))) }
 {
     // Not `read_exact`: it tells an early end as `UnexpectedEof`, which a reader's own fault may be too. The bound is there

@@ -5,8 +5,7 @@ ghost use Rattle.msi_text.specs.FirstFitLaws.{TakenPlacesHoldTheirText, TakenPla
 ghost use Rattle.msi_text.specs.Languages.{LanguageIdsTellTags, LanguagePartsComeBack, LanguageRowsAscend, LanguageTagsTellIds};
 ghost use Rattle.msi_text.specs.PageTables.{PageTablesAgree};
 ghost use Rattle.msi_text.specs.Pages.{AsciiStandsForItself, PageBytesComeBack, PageIdsTellPages, PageTextsComeBack, Utf8TextsComeBack};
-ghost use Rattle.msi_text.specs.PoolLaws.{PoolsReadBack};
-ghost use Rattle.msi_text.specs.PoolReading.{OnePool, IsPoolInSteps};
+ghost use Rattle.msi_text.specs.PoolLaws.{EmptyPlacesAreWritten, IsPoolInSteps, MarksStandForTests, OnePool, PoolsReadBack};
 ghost use Rattle.msi_text.specs.References.{ReferencesComeBack};
 ghost use Rattle.msi_text.specs.Times.{MomentsComeBackFromUnix, StoredMomentsComeBack};
 ghost use Rattle.std.specs.Ordering.{nat_cmp};
@@ -126,6 +125,16 @@ pub fn pool_in_steps()
 /// use there and back.
 pub fn pools_read_back()
     ensures { PoolsReadBack }
+{}
+
+/// A pool whose free places have the empty text is written as it is.
+pub fn empty_places_are_written()
+    ensures { EmptyPlacesAreWritten }
+{}
+
+/// Marks that tell of each place whether its number passes a test stand for the test, when texts are forgotten.
+pub fn marks_stand_for_tests()
+    ensures { MarksStandForTests }
 {}
 
 /// A moment comes back from its seconds and nanoseconds since 1970.

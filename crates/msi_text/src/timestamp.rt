@@ -3,7 +3,7 @@
 ghost use Rattle.std.specs.Prelude.{◌≡◌, ◌⊎◌, ◌<◌, pos, ◌+ℤ◌, ◌*ℤ◌, int_div, length, IfSome, IfOk, IfErr, OnErr, OnOk};
 ghost use Rattle.std.specs.Int.{w64, saturate_unsigned};
 ghost use Rattle.std.specs.Io.KnownBytes.{Appends};
-ghost use Rattle.msi_text.specs.Faults.{AppendsPart};
+ghost use Rattle.msi_text.specs.Faults.{AppendsPart, HasFewer};
 ghost use Rattle.msi_text.specs.Times.{epoch, ticks_of_unix, unix_of_ticks, stored_moment, ReadsMoment};
 ghost use Rattle.msi_text.specs.declared.errors.ErrorKind.TheVariants.{InvalidData, Io, OutOfMemory};
 
@@ -78,7 +78,7 @@ impl Timestamp {
     /// `OutOfMemory` or `Io`. No clause says that an early end is `InvalidData`, since none can tell it from a fault.
     pub fn read_from<R: Read>(reader: &mut R) -> Result<Timestamp, Error>
         ensures ok { IfOk result (λ moment. ReadsMoment (R.remaining reader.old) (R.remaining reader.new) moment) }
-        ensures cut { IfErr result (λ kind. kind ≡ InvalidData → IfSome (R.remaining reader.old) (λ left. length left < 8)) }
+        ensures cut { IfErr result (λ kind. kind ≡ InvalidData → HasFewer (R.remaining reader.old) 8) }
         ensures kind { IfErr result (λ kind. (kind ≡ InvalidData) ⊎ ((kind ≡ Io) ⊎ (kind ≡ OutOfMemory))) }
     {
         let mut bytes = [0; 8];

@@ -1,5 +1,6 @@
 //! The string pool: worked streams, which place a text takes, and what a cut does.
 
+use msi_text::parts::{data_stream_of, pool_of, pool_stream_of};
 use msi_text::{CodePage, ErrorKind, StringPool, StringPoolBuilder, StringRef};
 use std::alloc::Global;
 use std::process::Abort;
@@ -250,5 +251,44 @@ fn bytes_that_spell_no_character_are_replaced(rt: HostRuntime) -> Result<(), Fai
         Ok(_) => panic!(&rt; "a byte past ASCII was read"),
         Err(error) => assert_eq!(rt; error.kind(), ErrorKind::InvalidData),
     }
+    Ok(())
+}
+
+#[test]
+fn a_pool_from_its_streams_and_back(rt: HostRuntime) -> Result<(), Fail> {
+    let alloc = rt.alloc();
+    // `Foo` in use, and `bar` free with its text.
+    let places = [0xE9, 0xFD, 0, 0, 3, 0, 1, 0, 3, 0, 0, 0];
+    let mut pool = pool_of(alloc, places.as_slice(), b"Foobar".as_slice())?;
+    assert_eq!(rt; pool.get(reference(&rt, 2)), "bar");
+    assert_eq!(rt; pool.num_strings(), 2);
+    pool.forget_texts([false, true].as_slice());
+    assert_eq!(rt; pool.get(reference(&rt, 1)), "Foo");
+    assert_eq!(rt; pool.get(reference(&rt, 2)), "bar");
+    // What is free is written empty.
+    assert_eq!(rt;
+        pool_stream_of(&pool)?.as_slice(),
+        [0xE9, 0xFD, 0, 0, 3, 0, 1, 0, 0, 0, 0, 0].as_slice()
+    );
+    assert_eq!(rt; data_stream_of(&pool)?.as_slice(), b"Foo".as_slice());
+    assert_eq!(rt; pool.num_strings(), 2);
+    pool.forget_texts([false, false].as_slice());
+    assert_eq!(rt; pool.get(reference(&rt, 1)), "Foo");
+    assert_eq!(rt; pool.get(reference(&rt, 2)), "");
+    Ok(())
+}
+
+#[test]
+fn a_writer_that_is_full_has_a_beginning(rt: HostRuntime) -> Result<(), Fail> {
+    let alloc = rt.alloc();
+    let mut pool = StringPool::new(alloc, CodePage::Utf8);
+    take(alloc, &mut pool, "Foo")?;
+    let mut room = [0; 6];
+    let mut writer: &mut [u8] = &mut room;
+    match pool.write_pool(&mut writer) {
+        Ok(()) => panic!(&rt; "it was written"),
+        Err(error) => assert_eq!(rt; error.kind(), ErrorKind::Io),
+    }
+    assert_eq!(rt; room.as_slice(), [0xE9, 0xFD, 0, 0, 3, 0].as_slice());
     Ok(())
 }

@@ -50,7 +50,7 @@ static MACINTOSH_ROMAN: [char; 128] = [
 
 /// The characters of the bytes from 0x80 on, where the page has a table.
 #[tactic(auto, unfolding(crate::specs::PageTables::windows_1252, crate::specs::PageTables::macintosh_roman))]
-pub fn upper_characters(page: CodePage) -> Option<&'static [char]>
+pub(crate) fn upper_characters(page: CodePage) -> Option<&'static [char]>
     ensures table { option_copied result ≡ upper_characters page }
     ensures few { IfSome result (λ upper. length upper.now ≤ 128) }
 {
@@ -97,7 +97,7 @@ fn byte_written(upper: &[char], character: char) -> u8
 }
 
 /// The text of the characters that are read for the bytes.
-pub fn text_read(alloc: Global, upper: &[char], bytes: &[u8]) -> Result<String, AllocError>
+pub(crate) fn text_read(alloc: Global, upper: &[char], bytes: &[u8]) -> Result<String, AllocError>
     ensures { IfOk result (λ text. string_bytes text ≡ encode_utf8_all (map (character_read upper.now) bytes.now)) }
 {
     let mut text = String::with_capacity(alloc, bytes.len())?;
@@ -108,14 +108,18 @@ pub fn text_read(alloc: Global, upper: &[char], bytes: &[u8]) -> Result<String, 
 }
 
 /// How many characters a text has.
-pub fn character_count(text: &str) -> usize
+pub(crate) fn character_count(text: &str) -> usize
     ensures { result ≡ length (chars text.now) }
 {
     text.chars().count()
 }
 
 /// The bytes that are written for the characters of a text.
-pub fn bytes_written(alloc: Global, upper: &[char], text: &str) -> Result<Vec<u8>, AllocError>
+pub(crate) fn bytes_written(
+    alloc: Global,
+    upper: &[char],
+    text: &str,
+) -> Result<Vec<u8>, AllocError>
     requires { length upper.now ≤ 128 }
     ensures { IfOk result (λ bytes. bytes.items ≡ map (byte_written upper.now) (chars text.now)) }
 {

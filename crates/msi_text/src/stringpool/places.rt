@@ -13,7 +13,7 @@ use std::marker::Model;
 
 /// A text of the pool with the number of cells that name it.
 #[derive(Drop)]
-pub struct Place {
+pub(crate) struct Place {
     text: Text,
     count: u16,
 }
@@ -61,7 +61,7 @@ impl Place {
 }
 
 /// The same places once more. The only error is `OutOfMemory`.
-pub fn clone_places(places: &Vec<Place>) -> Result<Vec<Place>, Error>
+pub(crate) fn clone_places(places: &Vec<Place>) -> Result<Vec<Place>, Error>
     ensures ok { IfOk result (λ copies. copies.items ≡ places.now.items) }
     ensures kind { OnlyMemory result }
 {
@@ -88,7 +88,7 @@ fn place_for(places: &[Place], text: &Text) -> Option<usize>
 }
 
 /// The first such place, or one past the end.
-pub fn first_place_for(places: &[Place], text: &Text) -> usize
+pub(crate) fn first_place_for(places: &[Place], text: &Text) -> usize
     ensures value { result ≡ first_fit text.now places.now }
     ensures inside { result ≤ length places.now }
     ensures room { result < length places.now → count_of (slice_get places.now result) < 65535 }
@@ -97,7 +97,7 @@ pub fn first_place_for(places: &[Place], text: &Text) -> usize
 }
 
 /// Puts the text at a place, or behind the last. The only error is `OutOfMemory`, and then the places are as they were.
-pub fn put_at(places: &mut Vec<Place>, at: usize, text: Text) -> Result<(), Error>
+pub(crate) fn put_at(places: &mut Vec<Place>, at: usize, text: Text) -> Result<(), Error>
     requires place { at ≤ vec_len places.old }
     requires room { at < vec_len places.old → count_of (slice_get places.old.items at) < 65535 }
     ensures ok { OnOk result (places.new.items ≡ with_text_at places.old.items at text) }
@@ -117,7 +117,7 @@ pub fn put_at(places: &mut Vec<Place>, at: usize, text: Text) -> Result<(), Erro
 }
 
 /// Takes one cell from a place that is in use. The text goes with the last.
-pub fn lower_at(places: &mut Vec<Place>, at: usize)
+pub(crate) fn lower_at(places: &mut Vec<Place>, at: usize)
     requires place { at < vec_len places.old }
     requires used { 0 < count_of (slice_get places.old.items at) }
     ensures items { given_back places.old.items (at + 1) ≡ Some places.new.items }
@@ -127,9 +127,7 @@ pub fn lower_at(places: &mut Vec<Place>, at: usize)
     let alloc = *places.allocator();
     let place = &mut places[at];
     place.count -= 1;
-    if place.count == 0 {
-        place.text = Text::from_string(String::new(alloc));
-    }
+    forget_text(place, false, alloc);
 }
 
 /// Empties the text of a place that is free and isn't named.
@@ -142,7 +140,7 @@ fn forget_text(place: &mut Place, named: bool, alloc: Global)
 }
 
 /// Empties the texts of free places that aren't named.
-pub fn forget_texts(places: &mut Vec<Place>, is_named: &[bool])
+pub(crate) fn forget_texts(places: &mut Vec<Place>, is_named: &[bool])
     requires { length is_named.now ≡ vec_len places.old }
     ensures items { places.new.items ≡ without_unnamed_texts is_named.now places.old.items }
     ensures len { vec_len places.new ≡ vec_len places.old }

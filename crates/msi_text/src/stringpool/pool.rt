@@ -169,14 +169,17 @@ impl StringPool {
         }
     }
 
-    /// Takes a text, and answers its place: the first that is free or has the text and fewer than 65535 cells, or else a new one.
+    /// Takes a text, and answers its place: the first that is free or has the text and fewer than 65535 cells, or else a
+    /// new one.
     ///
     /// # Errors
     /// `InvalidInput` where the pool is full, and else `OutOfMemory`. Then the pool is as it was, and the text is given up.
     pub fn incref(&mut self, text: String) -> Result<StringRef, Error>
-        ensures ok { IfOk result (λ number. taken self.old.long self.old.places (string_bytes text) ≡ Some (number, self.new.places)) }
+        ensures ok { IfOk result (λ number.
+            taken self.old.long self.old.places (string_bytes text) ≡ Some (number, self.new.places)) }
         ensures holds { IfOk result (λ number. Holds self.new.places number (string_bytes text)) }
-        ensures kind { IfErr result (λ kind. kind ≡ (if is_some (taken self.old.long self.old.places (string_bytes text)) then OutOfMemory else InvalidInput)) }
+        ensures kind { let room = is_some (taken self.old.long self.old.places (string_bytes text)) in
+            IfErr result (λ kind. kind ≡ (if room then OutOfMemory else InvalidInput)) }
         ensures err { OnErr result (self.new ≡ self.old) }
         ensures page { self.new.page ≡ self.old.page }
         ensures long { self.new.long ≡ self.old.long }

@@ -4,9 +4,9 @@ ghost use Rattle.std.specs.Prelude.{◌≡◌, ◌⊎◌, ◌<◌, ◌^◌, List
 ghost use Rattle.msi_text.specs.declared.errors.ErrorKind.TheVariants.{Io, InvalidData, OutOfMemory};
 ghost use Rattle.msi_text.specs.Pages.{page_with_id, text_in};
 ghost use Rattle.msi_text.specs.Pool as pools;
-ghost use Rattle.msi_text.specs.Pool.{CountsFit, IsPool, SpellsEntries, SpellsTexts};
-ghost use Rattle.msi_text.specs.PoolReading.{PoolStream, IsPoolStream, IsStreamFault, pool_with, entry_at, place_in_front, header_in};
-ghost use Rattle.msi_text.specs.Results.{Gives, IsUnlessFault, IsUnlessMemory};
+ghost use Rattle.msi_text.specs.Pool.{CountsFit, IsPool, IsPoolStream, PoolStream, SpellsEntries, SpellsTexts, pool_with};
+ghost use Rattle.msi_text.specs.PoolReading.{entry_at, place_in_front, header_in};
+ghost use Rattle.msi_text.specs.Results.{Gives, IsStreamFault, IsUnlessFault, IsUnlessMemory};
 
 use crate::codepage::CodePage;
 use crate::errors::{Error, ErrorKind};
@@ -21,7 +21,7 @@ use std::marker::Model;
 
 /// An entry of the pool's stream: how many bytes its text has in the data stream, and its count.
 #[derive(Drop)]
-pub struct Entry {
+pub(crate) struct Entry {
     len: u32,
     count: u16,
 }
@@ -43,7 +43,7 @@ pub struct StringPoolBuilder {
 }
 
 impl Model for StringPoolBuilder {
-    ghost use Rattle.msi_text.specs.PoolReading.{PoolStream};
+    ghost use Rattle.msi_text.specs.Pool.{PoolStream};
     ghost use Rattle.std.specs.Prelude.{◌≤◌, vec_len};
 
     ghost Value = { PoolStream };
@@ -66,7 +66,8 @@ impl StringPoolBuilder {
         // What is read is spelled.
         ensures found { IfSome (R.remaining reader) (λ bytes. IfOk result (λ stream. IsPoolStream bytes stream)) }
         // What is spelled is read, and nothing else.
-        ensures only { IfSome (R.remaining reader) (λ bytes. (stream : PoolStream) → IsPoolStream bytes stream → IsUnlessFault result stream) }
+        ensures only { IfSome (R.remaining reader) (λ bytes.
+            (stream : PoolStream) → IsPoolStream bytes stream → IsUnlessFault result stream) }
         ensures kinds { IfErr result (λ kind. IsStreamFault kind) }
     {
         let bytes = bytes_of(alloc, reader)?;
@@ -84,9 +85,11 @@ impl StringPoolBuilder {
         reader: R,
     ) -> Result<StringPool, Error>
         // The pool has the texts that are spelled.
-        ensures found { IfSome (R.remaining reader) (λ bytes. IfOk result (λ pool. (pool ≡ pool_with self pool.places) × SpellsTexts self.page bytes self.entries pool.places)) }
+        ensures found { IfSome (R.remaining reader) (λ bytes. IfOk result (λ pool.
+            (pool ≡ pool_with self pool.places) × SpellsTexts self.page bytes self.entries pool.places)) }
         // Texts that are spelled are read, and nothing else.
-        ensures only { IfSome (R.remaining reader) (λ bytes. (places : List pools.Place) → SpellsTexts self.page bytes self.entries places → IsUnlessFault result (pool_with self places)) }
+        ensures only { IfSome (R.remaining reader) (λ bytes. (places : List pools.Place)
+            → SpellsTexts self.page bytes self.entries places → IsUnlessFault result (pool_with self places)) }
         ensures kinds { IfErr result (λ kind. IsStreamFault kind) }
     {
         let bytes = bytes_of(alloc, reader)?;
@@ -95,8 +98,10 @@ impl StringPoolBuilder {
 
     /// The pool whose texts the bytes spell.
     fn with_texts(self, alloc: Global, bytes: &[u8]) -> Result<StringPool, Error>
-        ensures found { IfOk result (λ pool. (pool ≡ pool_with self pool.places) × SpellsTexts self.page bytes.now self.entries pool.places) }
-        ensures only { (places : List pools.Place) → SpellsTexts self.page bytes.now self.entries places → IsUnlessMemory result (pool_with self places) }
+        ensures found { IfOk result (λ pool.
+            (pool ≡ pool_with self pool.places) × SpellsTexts self.page bytes.now self.entries pool.places) }
+        ensures only { (places : List pools.Place)
+            → SpellsTexts self.page bytes.now self.entries places → IsUnlessMemory result (pool_with self places) }
         ensures kinds { IfErr result (λ kind. (kind ≡ InvalidData) ⊎ (kind ≡ OutOfMemory)) }
     {
         let places = places_of(alloc, self.codepage, self.entries.as_slice(), bytes)?;
@@ -172,7 +177,8 @@ fn known_page(id: u32) -> Result<CodePage, Error>
 /// The entries that the bytes spell. Each is kept only once its bytes are there.
 fn entries_of(alloc: Global, bytes: &[u8]) -> Result<Vec<Entry>, Error>
     ensures found { IfOk result (λ entries. SpellsEntries bytes.now entries.items) }
-    ensures only { (entries : List pools.Entry) → SpellsEntries bytes.now entries → Gives (λ v. v.items) result (Some entries) }
+    ensures only { (entries : List pools.Entry)
+        → SpellsEntries bytes.now entries → Gives (λ v. v.items) result (Some entries) }
     ensures kinds { IfErr result (λ kind. (kind ≡ InvalidData) ⊎ (kind ≡ OutOfMemory)) }
 {
     let mut entries = Vec::new(alloc);
@@ -209,7 +215,8 @@ fn places_of(
 ) -> Result<Vec<Place>, Error>
     ensures found { IfOk result (λ places. SpellsTexts codepage bytes.now entries.now places.items) }
     ensures counts { IfOk result (λ places. CountsFit places.items) }
-    ensures only { (places : List pools.Place) → SpellsTexts codepage bytes.now entries.now places → Gives (λ v. v.items) result (Some places) }
+    ensures only { (places : List pools.Place)
+        → SpellsTexts codepage bytes.now entries.now places → Gives (λ v. v.items) result (Some places) }
     ensures kinds { IfErr result (λ kind. (kind ≡ InvalidData) ⊎ (kind ≡ OutOfMemory)) }
 {
     let mut places = Vec::new(alloc);

@@ -2,7 +2,7 @@
 
 ghost use Rattle.std.specs.Prelude.{◌≡◌, ◌⊎◌, ◌<◌, ◌≤◌, pos, true, false, length, IfSome, IfOk, IfErr, OnErr, OnOk, IsErrOf};
 ghost use Rattle.std.specs.Io.KnownBytes.{Appends};
-ghost use Rattle.msi_text.specs.Faults.{AppendsPart};
+ghost use Rattle.msi_text.specs.Faults.{AppendsPart, HasFewer};
 ghost use Rattle.msi_text.specs.References.{ReadsReference, fits_reference, reference_bytes, reference_width};
 ghost use Rattle.msi_text.specs.declared.errors.ErrorKind.TheVariants.{InvalidData, InvalidInput, Io, OutOfMemory};
 
@@ -62,8 +62,9 @@ impl StringRef {
     /// `InvalidData` where the bytes end early: where the reader's bytes are known, only there. The reader's faults are
     /// `OutOfMemory` or `Io`. No clause says that an early end is `InvalidData`, since none can tell it from a fault.
     pub fn read<R: Read>(reader: &mut R, long: bool) -> Result<Option<StringRef>, Error>
-        ensures ok { IfOk result (λ reference. ReadsReference long (R.remaining reader.old) (R.remaining reader.new) reference) }
-        ensures cut { IfErr result (λ kind. kind ≡ InvalidData → IfSome (R.remaining reader.old) (λ left. length left < reference_width long)) }
+        ensures ok { IfOk result (λ reference.
+            ReadsReference long (R.remaining reader.old) (R.remaining reader.new) reference) }
+        ensures cut { IfErr result (λ kind. kind ≡ InvalidData → HasFewer (R.remaining reader.old) (reference_width long)) }
         ensures kind { IfErr result (λ kind. (kind ≡ InvalidData) ⊎ ((kind ≡ Io) ⊎ (kind ≡ OutOfMemory))) }
     {
         let number = if long {
@@ -94,8 +95,10 @@ impl StringRef {
         reference: Option<StringRef>,
         long: bool,
     ) -> Result<(), Error>
-        ensures ok { OnOk result (Appends (W.contents writer.old) (W.contents writer.new) (reference_bytes long reference)) }
-        ensures part { OnErr result (AppendsPart (W.contents writer.old) (W.contents writer.new) (reference_bytes long reference)) }
+        ensures ok { OnOk result
+            (Appends (W.contents writer.old) (W.contents writer.new) (reference_bytes long reference)) }
+        ensures part { OnErr result
+            (AppendsPart (W.contents writer.old) (W.contents writer.new) (reference_bytes long reference)) }
         ensures wide { fits_reference long reference ≡ false → IsErrOf result InvalidInput × (writer.new ≡ writer.old) }
         ensures kind { fits_reference long reference ≡ true → IfErr result (λ kind. (kind ≡ Io) ⊎ (kind ≡ OutOfMemory)) }
     {

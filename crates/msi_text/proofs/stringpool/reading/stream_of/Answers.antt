@@ -1,6 +1,6 @@
 use Rattle.std.proofs.Common.{Some, ap, arith, ◌<◌, ◌≤◌, length}
 use Rattle.std.proofs.lemmas.Result.{err_from_is_err_and}
-use Rattle.msi_text.specs.PoolReading.{PoolStream}
+use Rattle.msi_text.specs.Pool.{PoolStream}
 use Rattle.msi_text.proofs.ReadStreamLemmas.{stream_found, stream_only, no_page, cut_entries, too_many}
 use Rattle.msi_text.proofs.stringpool.reading.stream_of.Goals as goal
 
