@@ -1,6 +1,7 @@
 -- Which sets are refused when they are written, and what is written of a value.
-use Rattle.std.specs.Prelude.{ℕ, ◌+◌, ◌*◌, ◌^◌, Bool, List, [], map, length, unwrap_or, is_some, zip, nat_lt, ◌&&◌}
+use Rattle.std.specs.Prelude.{◌≡◌, ◌++◌, Option, ℕ, ◌+◌, ◌*◌, ◌^◌, Bool, List, [], map, length, unwrap_or, is_some, zip, nat_lt, ◌&&◌}
 use Rattle.std.specs.List.{list_all, flat_map}
+use Rattle.std.specs.Io.KnownBytes.{Appends}
 use Rattle.msi_text.specs.declared.codepage.CodePage.{CodePage}
 use Rattle.msi_text.specs.PoolWriting.{is_refused_spelling}
 use Rattle.msi_summary.specs.declared.propset.PropertyValue.{PropertyValue}
@@ -28,6 +29,11 @@ joined_pieces page entries = flat_map (λ e. piece_in page e.1) entries
 
 abbrev pub section_size : CodePage → List (ℕ × PropertyValue) → ℕ
 section_size page entries = 8 + 8 * length entries + length (joined_pieces page entries)
+
+-- known bytes grow by a beginning of these
+abbrev pub AppendsBeginning : Option (List ℕ) → Option (List ℕ) → List ℕ → Type 0
+AppendsBeginning old new bytes =
+    (begun : List ℕ) × (others : List ℕ) × (bytes ≡ begun ++ others) × Appends old new begun
 
 -- the id and the place of each value, the first at `place`
 abbrev pub pairs_from : CodePage → ℕ → List (ℕ × PropertyValue) → List (ℕ × ℕ)

@@ -33,3 +33,5 @@ pub(crate) const SECTION_LONG: Reason = Reason(
 );
 
 pub(crate) const SUMMARY_FORMAT: Reason = Reason("the property set is not a summary");
+
+pub(crate) const WRITER_ENDED: Reason = Reason("the writer takes no more bytes");

@@ -14,7 +14,7 @@ ghost use Rattle.msi_summary.specs.PropertyStream.{os_number, header_bytes, vers
 ghost use Rattle.msi_summary.specs.PropertyStream.{needs_version_1 as is_of_version_1, value_bytes, piece_of};
 ghost use Rattle.msi_summary.specs.PropertyStream.{pair_bytes, section_head, property_stream, AreWritable, Spells};
 ghost use Rattle.msi_summary.specs.PropertyWriting.{can_write, is_refused, joined_pieces, piece_in, plain_pairs};
-ghost use Rattle.msi_summary.specs.PropertyWriting.{section_size};
+ghost use Rattle.msi_summary.specs.PropertyWriting.{section_size, AppendsBeginning};
 
 use crate::header::MARK;
 use crate::propset::{OperatingSystem, PropertySet, PropertyValue};
@@ -26,7 +26,7 @@ use msi_text::parts::encoded_len;
 use msi_text::reasons::PAGE_CHARACTER;
 use std::alloc::AllocError;
 use std::collections::BTreeMap;
-use std::io::Write;
+use std::io::{self, Write};
 
 /// Where the section stands: behind the header.
 const SECTION: u32 = 48;
@@ -42,7 +42,7 @@ impl PropertySet {
     /// # Errors
     /// `InvalidInput` where the page doesn't carry a text, or the section would have 2^32 bytes or more; the
     /// writer is then as it was. Else `OutOfMemory` where the bytes can't be held or the writer asks for
-    /// memory in vain, and `Io` where the writer fails otherwise; it may then hold more than before.
+    /// memory in vain, and `Io` where the writer fails otherwise; it may then hold a beginning of the bytes.
     pub fn write<W: Write>(&self, writer: &mut W) -> Result<(), Error>
         ensures ok { OnOk result ((bytes : List ℕ) × (property_stream self.now ≡ Some bytes)
             × Appends (W.contents writer.old) (W.contents writer.new) bytes) }
@@ -51,6 +51,9 @@ impl PropertySet {
             × Appends (W.contents writer.old) (W.contents writer.new) bytes) }
         ensures refused { IsErrOf result InvalidInput ↔ IsTrue (is_refused self.now) }
         ensures unwritten { IsErrOf result InvalidInput → writer.new ≡ writer.old }
+        // What a refused call has written is a beginning of the spelling, and nothing else.
+        ensures begun { OnErr result (AppendsBeginning (W.contents writer.old) (W.contents writer.new)
+            (unwrap_or (property_stream self.now) [])) }
         ensures kinds { IfErr result (λ kind. (kind ≡ InvalidInput) ⊎ (kind ≡ OutOfMemory) ⊎ (kind ≡ Io)) }
     {
         let bytes = stream_of(self)?;
@@ -58,13 +61,29 @@ impl PropertySet {
     }
 }
 
-/// Writes all of the bytes.
+/// Writes all of the bytes, or a beginning of them where the writer fails.
 fn write_bytes<W: Write>(writer: &mut W, bytes: &[u8]) -> Result<(), Error>
     ensures ok { OnOk result (Appends (W.contents writer.old) (W.contents writer.new) bytes.now) }
+    ensures err { OnErr result (AppendsBeginning (W.contents writer.old) (W.contents writer.new) bytes.now) }
     ensures kinds { IfErr result (λ kind. (kind ≡ OutOfMemory) ⊎ (kind ≡ Io)) }
 {
-    writer.write_all(bytes)?;
-    Ok(())
+    // Not `write_all`: its contract doesn't tell what it has written where it fails. The bound is there for a
+    // writer that is interrupted forever.
+    let mut rest = bytes;
+    'writes: for _ in 0..u64::MAX {
+        if rest.is_empty() {
+            return Ok(());
+        }
+        match writer.write(rest) {
+            Ok(0) => return Err(Error::new(ErrorKind::Io, reasons::WRITER_ENDED)),
+            Ok(n) => rest = &rest[n..],
+            Err(error) => match error.kind() {
+                io::ErrorKind::Interrupted => {}
+                _ => return Err(Error::from(error)),
+            },
+        }
+    }
+    Err(Error::new(ErrorKind::Io, reasons::WRITER_ENDED))
 }
 
 /// The bytes of the stream.
