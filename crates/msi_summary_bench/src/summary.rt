@@ -1,6 +1,6 @@
 //! The summary: what its calls set, give and remove.
 
-use msi_summary::parts::{into_properties, new_summary, properties_of, from_properties};
+use msi_summary::parts::{from_properties, into_properties, new_summary, properties_of};
 use msi_summary::{OperatingSystem, PropertySet, PropertyValue, SummaryInfo};
 use msi_text::{CodePage, ErrorKind, LanguageId, Text, Timestamp};
 use std::alloc::Global;
