@@ -1,53 +1,94 @@
-//! Columns, their types, and the bits of types.
+//! Columns, their types, the bits of types, and tables.
 
+use crate::samples::of_type;
 use msi_table::parts::{self, column_of_bits, type_bits, type_of_bits};
 use msi_table::{Column, ColumnType, Table};
 use msi_text::{Category, Error, ErrorKind, Items, Text};
-use std::alloc::Global;
+use std::alloc::{AllocError, Global};
 use std::process::Abort;
 use std::test::Fail;
 
-#[test]
-fn the_bits_of_a_key_of_16_bits(rt: HostRuntime) -> Result<(), Fail> {
-    let key = Column::build(rt.alloc(), "Number")?.primary_key().int16();
-    assert_eq!(rt; type_bits(&key), 0x2502);
-    Ok(())
-}
+/// Whether a column is localizable, nullable, and a part of the key.
+type Flags = [bool; 3];
 
-#[test]
-fn the_bits_of_a_nullable_text(rt: HostRuntime) -> Result<(), Fail> {
-    let word = Column::build(rt.alloc(), "Word")?.nullable().string(50);
-    assert_eq!(rt; type_bits(&word), 0x1D32);
-    Ok(())
-}
-
-#[test]
-fn bits_are_read_again(rt: HostRuntime) -> Result<(), Fail> {
-    let word = column_of_bits(Column::build(rt.alloc(), "Word")?, 0x1D32)?;
-    assert!(rt; word.coltype() == ColumnType::Str(50));
-    assert!(rt; word.is_nullable() && !word.is_primary_key() && !word.is_localizable());
-    Ok(())
-}
-
-#[test]
-fn some_bits_name_no_type(rt: HostRuntime) -> Result<(), Fail> {
-    assert!(rt; type_of_bits(0x1900)? == ColumnType::Binary);
-    match type_of_bits(0x103) {
-        Ok(_) => panic!(rt; "a type of size 3"),
-        Err(error) => assert_eq!(rt; error.kind(), ErrorKind::InvalidData),
+/// The column of a type and its flags.
+fn flagged(alloc: Global, coltype: ColumnType, flags: Flags) -> Result<Column, Error> {
+    let [localizable, nullable, primary_key] = flags;
+    let mut builder = Column::build(alloc, "Word")?;
+    if localizable {
+        builder = builder.localizable();
     }
+    if nullable {
+        builder = builder.nullable();
+    }
+    if primary_key {
+        builder = builder.primary_key();
+    }
+    Ok(of_type(builder, coltype))
+}
+
+/// Whether a column has a type and flags.
+fn is_flagged(column: &Column, coltype: ColumnType, flags: Flags) -> bool {
+    let found = [
+        column.is_localizable(),
+        column.is_nullable(),
+        column.is_primary_key(),
+    ];
+    column.coltype() == coltype && found == flags
+}
+
+/// The bits of a column's type, where its texts are short enough to have some.
+fn bits_of(column: &Column) -> Option<u16> {
+    match column.coltype() {
+        ColumnType::Str(length) if length > 255 => None,
+        _ => Some(type_bits(column)),
+    }
+}
+
+/// Whether a type and flags have these bits, and are read from them.
+fn has_bits(alloc: Global, coltype: ColumnType, flags: Flags, bits: u16) -> Result<bool, Error> {
+    let column = flagged(alloc, coltype, flags)?;
+    let read = column_of_bits(Column::build(alloc, "Word")?, bits)?;
+    Ok(bits_of(&column) == Some(bits) && is_flagged(&read, coltype, flags))
+}
+
+static BITS: [(ColumnType, Flags, u16); 5] = [
+    (ColumnType::Int16, [false, false, true], 0x2502),
+    (ColumnType::Int32, [false, true, false], 0x1104),
+    (ColumnType::Str(50), [false, true, false], 0x1D32),
+    (ColumnType::Str(0), [true, false, false], 0x0F00),
+    (ColumnType::Binary, [false, true, false], 0x1900),
+];
+
+#[test]
+fn types_and_flags_have_bits(rt: HostRuntime) -> Result<(), Fail> {
+    for (coltype, flags, bits) in &BITS {
+        let has = has_bits(rt.alloc(), *coltype, *flags, *bits)?;
+        assert!(rt; has, "{bits:x}");
+    }
+    // A number of 3 bytes.
+    let refused = type_of_bits(0x103).err().map(|error| error.kind());
+    assert!(rt; refused == Some(ErrorKind::InvalidData));
     Ok(())
 }
+
+/// Whether a type prints as a text.
+fn prints(alloc: Global, coltype: ColumnType, text: &str) -> Result<bool, AllocError> {
+    let printed = coltype.to_string(alloc)?;
+    Ok(printed.as_str() == text)
+}
+
+static NAMES: [(ColumnType, &str); 4] = [
+    (ColumnType::Int16, "SMALLINT"),
+    (ColumnType::Int32, "INTEGER"),
+    (ColumnType::Str(50), "VARCHAR(50)"),
+    (ColumnType::Binary, "BINARY"),
+];
 
 #[test]
 fn types_print_as_in_sql(rt: HostRuntime) -> Result<(), Fail> {
-    for (coltype, name) in [
-        (ColumnType::Int16, "SMALLINT"),
-        (ColumnType::Int32, "INTEGER"),
-        (ColumnType::Str(50), "VARCHAR(50)"),
-        (ColumnType::Binary, "BINARY"),
-    ] {
-        assert_eq!(rt; format!(in rt.alloc(); "{coltype}")?.as_str(), name);
+    for (coltype, text) in &NAMES {
+        assert!(rt; prints(rt.alloc(), *coltype, *text)?, "{text}");
     }
     Ok(())
 }
@@ -62,22 +103,21 @@ fn told(alloc: Global) -> Result<Column, Error> {
     Ok(builder.enum_values(&["a", "b"])?.id_string(72))
 }
 
-#[test]
-fn columns_have_the_type_that_they_were_built_with(rt: HostRuntime) -> Result<(), Fail> {
-    let column = told(rt.alloc())?;
-    assert_eq!(rt; column.name(), "Directory_");
-    assert!(rt; column.coltype() == ColumnType::Str(72));
-    assert!(rt; column.is_localizable() && column.is_nullable() && !column.is_primary_key());
-    Ok(())
+/// Whether a column is as it was told.
+fn is_told(column: &Column) -> bool {
+    column.name() == "Directory_"
+        && is_flagged(column, ColumnType::Str(72), [true, true, false])
+        && column.value_range() == Some((-5, 7))
+        && column.foreign_key() == Some(("Directory", 1))
+        && column.category() == Some(Category::Identifier)
+        && column.enum_values().map_or(0, |values| values.len()) == 2
 }
 
 #[test]
-fn columns_have_the_rules_that_they_were_built_with(rt: HostRuntime) -> Result<(), Fail> {
+fn columns_and_their_copies_are_as_they_were_told(rt: HostRuntime) -> Result<(), Fail> {
     let column = told(rt.alloc())?;
-    assert!(rt; column.value_range() == Some((-5, 7)));
-    assert!(rt; column.foreign_key() == Some(("Directory", 1)));
-    assert!(rt; column.category() == Some(Category::Identifier));
-    assert!(rt; column.enum_values().map_or(0, |values| values.len()) == 2);
+    assert!(rt; is_told(&column));
+    assert!(rt; is_told(&column.clone(rt.alloc())?));
     Ok(())
 }
 
@@ -89,22 +129,30 @@ fn keyed(rt: &impl Abort, alloc: Global) -> Result<Table, Error> {
     Ok(parts::table(name, Items::from_vec(columns), false).expect(rt, "few columns"))
 }
 
-#[test]
-fn tables_have_their_columns(rt: HostRuntime) -> Result<(), Fail> {
-    let table = keyed(&rt, rt.alloc())?;
-    assert_eq!(rt; table.name(), "T");
-    assert!(rt; table.has_column("Key") && !table.has_column("None"));
-    let found = table.get_column("Directory_").expect(&rt, "the column");
-    assert_eq!(rt; found.name(), "Directory_");
-    Ok(())
+/// Whether a table has a column of a name.
+fn has(table: &Table, name: &str) -> bool {
+    let found = table
+        .get_column(name)
+        .is_some_and(|column| column.name() == name);
+    found && table.has_column(name)
+}
+
+/// Whether a table is of these columns, and the first is its key.
+fn is_keyed(alloc: Global, table: &Table) -> Result<bool, Error> {
+    let keys = table.primary_key_indices(alloc)?;
+    Ok(
+        keys.as_slice() == [0].as_slice()
+            && table.name() == "T"
+            && has(table, "Key")
+            && has(table, "Directory_")
+            && !has(table, "None"),
+    )
 }
 
 #[test]
-fn tables_tell_their_keys(rt: HostRuntime) -> Result<(), Fail> {
+fn tables_and_their_copies_tell_their_columns_and_keys(rt: HostRuntime) -> Result<(), Fail> {
     let table = keyed(&rt, rt.alloc())?;
-    assert_eq!(rt;
-        table.primary_key_indices(rt.alloc())?.as_slice(),
-        [0].as_slice()
-    );
+    assert!(rt; is_keyed(rt.alloc(), &table)?);
+    assert!(rt; is_keyed(rt.alloc(), &table.clone(rt.alloc())?)?);
     Ok(())
 }

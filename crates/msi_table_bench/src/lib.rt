@@ -6,6 +6,8 @@ mod columns;
 #[cfg(test)]
 mod rows;
 #[cfg(test)]
+mod samples;
+#[cfg(test)]
 mod tables;
 #[cfg(test)]
 mod valid_values;

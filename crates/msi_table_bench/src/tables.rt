@@ -1,147 +1,169 @@
 //! Cells and the streams of tables.
 
-use msi_table::parts::{self, read_rows};
-use msi_table::{Column, Table, ValueRef};
+use crate::samples::of_type;
+use msi_table::ColumnType::{Binary, Int16, Int32};
+use msi_table::parts::{self, fits_table, read_rows, write_rows};
+use msi_table::{Column, ColumnType, Table, ValueRef};
 use msi_text::{Error, ErrorKind, Items, Text};
-use std::alloc::Global;
+use std::alloc::{AllocError, Global};
 use std::process::Abort;
 use std::test::Fail;
 
-/// A table of these columns, with short references.
-fn table(rt: &impl Abort, alloc: Global, columns: Vec<Column>) -> Result<Table, Error> {
+/// Columns of these types.
+fn columns(alloc: Global, types: &[ColumnType]) -> Result<Vec<Column>, Error> {
+    let mut columns = Vec::new(alloc);
+    for coltype in types {
+        columns.push(of_type(Column::build(alloc, "Column")?, *coltype))?;
+    }
+    Ok(columns)
+}
+
+/// A table of columns of these types, with short references.
+fn table(rt: &impl Abort, alloc: Global, types: &[ColumnType]) -> Result<Table, Error> {
+    let columns = columns(alloc, types)?;
     let name = Text::from_string(String::from_str(alloc, "T")?);
     Ok(parts::table(name, Items::from_vec(columns), false).expect(rt, "few columns"))
 }
 
-/// A table of one column.
-fn narrow(rt: &impl Abort, alloc: Global, column: Column) -> Result<Table, Error> {
-    table(rt, alloc, vec![in alloc; column]?)
-}
-
-/// A row of these cells.
-fn row(alloc: Global, cells: &[ValueRef]) -> Result<Items<ValueRef>, Error> {
-    Ok(Items::from_vec(Vec::from_slice(alloc, cells)?))
-}
-
-/// The stream of a table with these rows.
-fn written(
-    rt: &impl Abort,
-    alloc: Global,
-    table: &Table,
-    rows: Vec<Items<ValueRef>>,
-) -> Result<Vec<u8>, Error> {
-    assert!(rt; parts::fits_table(table, rows.as_slice()));
-    parts::write_rows(alloc, table, rows)
-}
-
-/// The bytes of a cell of a column.
-fn cell_bytes(
-    rt: &impl Abort,
-    alloc: Global,
-    column: Column,
-    cell: ValueRef,
-) -> Result<Vec<u8>, Error> {
-    let table = narrow(rt, alloc, column)?;
-    written(rt, alloc, &table, vec![in alloc; row(alloc, &[cell])?]?)
-}
-
-/// The cell of a column that bytes spell.
-fn cell_in(
-    rt: &impl Abort,
-    alloc: Global,
-    column: Column,
-    bytes: &[u8],
-) -> Result<Option<ValueRef>, Error> {
-    let table = narrow(rt, alloc, column)?;
-    let rows = read_rows(alloc, &table, bytes)?;
-    Ok(match rows.as_slice() {
-        [row] => row.as_slice().first().copied(),
-        _ => None,
-    })
-}
-
-#[test]
-fn numbers_of_16_bits_are_stored_above_the_middle(rt: HostRuntime) -> Result<(), Fail> {
-    let alloc = rt.alloc();
-    for (cell, bytes) in [
-        (ValueRef::Int(-32767), [1, 0]),
-        (ValueRef::Int(32767), [0xFF, 0xFF]),
-        (ValueRef::Int(-1), [0xFF, 0x7F]),
-        (ValueRef::Null, [0, 0]),
-    ] {
-        let column = Column::build(alloc, "n")?.int16();
-        let written = cell_bytes(&rt, alloc, column, cell)?;
-        assert_eq!(rt; written.as_slice(), bytes.as_slice());
-        let column = Column::build(alloc, "n")?.int16();
-        let read = cell_in(&rt, alloc, column, bytes.as_slice())?;
-        assert!(rt; read == Some(cell));
+/// The cell of a number, or else of a stream or of null.
+fn cell(coltype: ColumnType, number: Option<i32>) -> ValueRef {
+    match number {
+        Some(number) => ValueRef::Int(number),
+        None if coltype == Binary => ValueRef::Binary,
+        None => ValueRef::Null,
     }
-    Ok(())
 }
 
-#[test]
-fn numbers_of_32_bits_are_stored_above_the_middle(rt: HostRuntime) -> Result<(), Fail> {
-    let alloc = rt.alloc();
-    let column = Column::build(alloc, "n")?.int32();
-    let written = cell_bytes(&rt, alloc, column, ValueRef::Int(-1))?;
-    assert_eq!(rt; written.as_slice(), [0xFF, 0xFF, 0xFF, 0x7F].as_slice());
-    Ok(())
+/// Numbers, or none, for the columns of a table, row by row.
+type Numbers = &'static [&'static [Option<i32>]];
+
+/// The row of these numbers.
+fn row(
+    alloc: Global,
+    types: &[ColumnType],
+    numbers: &[Option<i32>],
+) -> Result<Items<ValueRef>, AllocError> {
+    let cells = types
+        .iter()
+        .zip(numbers)
+        .map(|(coltype, number)| cell(*coltype, *number))
+        .collect(alloc)?;
+    Ok(Items::from_vec(cells))
 }
 
-/// A table of three columns: of streams of bytes, and of numbers of 16 and 32 bits.
-fn three(rt: &impl Abort, alloc: Global) -> Result<Table, Error> {
-    let streams = Column::build(alloc, "a")?.binary();
-    let small = Column::build(alloc, "b")?.int16();
-    let large = Column::build(alloc, "c")?.int32();
-    table(rt, alloc, vec![in alloc; streams, small, large]?)
-}
-
-/// Three rows of such a table.
-fn three_rows(alloc: Global) -> Result<Vec<Items<ValueRef>>, Error> {
+/// The rows of these numbers.
+fn rows(
+    alloc: Global,
+    types: &[ColumnType],
+    all: Numbers,
+) -> Result<Vec<Items<ValueRef>>, AllocError> {
     let mut rows = Vec::new(alloc);
-    for (small, large) in [(32767, 0), (20, 10), (30, 20)] {
-        rows.push(row(
-            alloc,
-            &[ValueRef::Binary, ValueRef::Int(small), ValueRef::Int(large)],
-        )?)?;
+    for numbers in all {
+        rows.push(row(alloc, types, *numbers)?)?;
     }
     Ok(rows)
 }
 
+/// Whether a table stores rows as these bytes.
+fn stores(
+    alloc: Global,
+    table: &Table,
+    rows: Vec<Items<ValueRef>>,
+    bytes: &[u8],
+) -> Result<bool, Error> {
+    if !fits_table(table, rows.as_slice()) {
+        return Ok(false);
+    }
+    let stored = write_rows(alloc, table, rows)?;
+    Ok(stored.as_slice() == bytes)
+}
+
+/// Whether these bytes are a table's stream of rows.
+fn holds(
+    alloc: Global,
+    table: &Table,
+    rows: &[Items<ValueRef>],
+    bytes: &[u8],
+) -> Result<bool, Error> {
+    let read = read_rows(alloc, table, bytes)?;
+    let same = read
+        .iter()
+        .zip(rows)
+        .all(|(found, row)| found.as_slice() == row.as_slice());
+    Ok(same && read.len() == rows.len())
+}
+
+/// Columns, rows as they are handed in and as they are stored, and the bytes of the stream.
+static STREAMS: [(&[ColumnType], Numbers, Numbers, &[u8]); 9] = [
+    (&[Int16], &[&[Some(-32767)]], &[&[Some(-32767)]], &[1, 0]),
+    (
+        &[Int16],
+        &[&[Some(32767)]],
+        &[&[Some(32767)]],
+        &[0xFF, 0xFF],
+    ),
+    (&[Int16], &[&[Some(-1)]], &[&[Some(-1)]], &[0xFF, 0x7F]),
+    (&[Int16], &[&[None]], &[&[None]], &[0, 0]),
+    (
+        &[Int32],
+        &[&[Some(-1)]],
+        &[&[Some(-1)]],
+        &[0xFF, 0xFF, 0xFF, 0x7F],
+    ),
+    (&[Int32], &[&[None]], &[&[None]], &[0, 0, 0, 0]),
+    (&[Binary], &[&[None]], &[&[None]], &[1, 0]),
+    (&[Int16], &[], &[], &[]),
+    (
+        &[Binary, Int16, Int32],
+        &[
+            &[None, Some(32767), Some(0)],
+            &[None, Some(20), Some(10)],
+            &[None, Some(30), Some(20)],
+        ],
+        &[
+            &[None, Some(20), Some(10)],
+            &[None, Some(30), Some(20)],
+            &[None, Some(32767), Some(0)],
+        ],
+        &[
+            1, 0, 1, 0, 1, 0, 0x14, 0x80, 0x1E, 0x80, 0xFF, 0xFF, 0x0A, 0, 0, 0x80, 0x14, 0, 0,
+            0x80, 0, 0, 0, 0x80,
+        ],
+    ),
+];
+
 #[test]
-fn columns_are_stored_one_behind_another(rt: HostRuntime) -> Result<(), Fail> {
+fn cells_are_stored_column_by_column_and_rows_in_order(rt: HostRuntime) -> Result<(), Fail> {
     let alloc = rt.alloc();
-    let table = three(&rt, alloc)?;
-    let written = written(&rt, alloc, &table, three_rows(alloc)?)?;
-    let expected = [
-        1, 0, 1, 0, 1, 0, 0x14, 0x80, 0x1E, 0x80, 0xFF, 0xFF, 0x0A, 0, 0, 0x80, 0x14, 0, 0, 0x80,
-        0, 0, 0, 0x80,
-    ];
-    assert_eq!(rt; written.as_slice(), expected.as_slice());
+    for (types, handed, stored, bytes) in &STREAMS {
+        let table = table(&rt, alloc, *types)?;
+        let written = stores(alloc, &table, rows(alloc, *types, *handed)?, *bytes)?;
+        let read = holds(alloc, &table, &rows(alloc, *types, *stored)?, *bytes)?;
+        assert!(rt; written && read, "{bytes:?}");
+    }
     Ok(())
 }
 
-/// How many rows of one number of 16 bits the bytes hold.
-fn row_count(rt: &impl Abort, alloc: Global, bytes: &[u8]) -> Result<usize, Error> {
-    let column = Column::build(alloc, "n")?.int16();
-    let table = narrow(rt, alloc, column)?;
-    let rows = read_rows(alloc, &table, bytes)?;
+/// How many rows of one number of 16 bits so many bytes hold, or why they are refused.
+fn row_count(rt: &impl Abort, alloc: Global, len: usize) -> Result<usize, Error> {
+    let table = table(rt, alloc, &[Int16])?;
+    let bytes = vec![in alloc; 0; len]?;
+    let rows = read_rows(alloc, &table, bytes.as_slice())?;
     Ok(rows.len())
 }
 
-#[test]
-fn a_stray_last_byte_is_ignored(rt: HostRuntime) -> Result<(), Fail> {
-    let bytes = vec![in rt.alloc(); 0; 131_073]?;
-    assert_eq!(rt; row_count(&rt, rt.alloc(), bytes.as_slice())?, 65536);
-    Ok(())
-}
+static LENGTHS: [(usize, Result<usize, ErrorKind>); 5] = [
+    (0, Ok(0)),
+    (1, Ok(0)),
+    (3, Ok(1)),
+    (131_073, Ok(65_536)),
+    (131_074, Err(ErrorKind::InvalidData)),
+];
 
 #[test]
-fn more_than_65536_rows_are_refused(rt: HostRuntime) -> Result<(), Fail> {
-    let bytes = vec![in rt.alloc(); 0; 131_074]?;
-    match row_count(&rt, rt.alloc(), bytes.as_slice()) {
-        Ok(count) => panic!(rt; "{count} rows were read"),
-        Err(error) => assert_eq!(rt; error.kind(), ErrorKind::InvalidData),
+fn at_most_65536_rows_are_read_and_a_stray_byte_is_ignored(rt: HostRuntime) {
+    for (len, rows) in &LENGTHS {
+        let found = row_count(&rt, rt.alloc(), *len).map_err(|error| error.kind());
+        assert!(rt; found == *rows, "{len} bytes");
     }
-    Ok(())
 }

@@ -1,125 +1,185 @@
-//! Values: how they print, and what they are made of.
+//! Values: how they print, what they are made of, and their order.
 
+use crate::samples::Given::{self, Binary, Int, Null, Str};
+use crate::samples::value;
 use msi_table::Value;
-use msi_text::LanguageId;
-use std::alloc::Global;
-use std::process::Abort;
+use msi_text::{Error, LanguageId};
+use std::alloc::{AllocError, Global};
 use std::test::Fail;
 use uuid::Uuid;
 
-/// The value of a text.
-fn text(alloc: Global, text: &str) -> Result<Value, Fail> {
-    Ok(Value::from_text(alloc, text)?)
+/// Whether a value prints as a text.
+fn prints(alloc: Global, given: Given, text: &str) -> Result<bool, Error> {
+    let printed = value(alloc, given)?.to_string(alloc)?;
+    Ok(printed.as_str() == text)
 }
+
+static PRINTED: [(Given, &str); 8] = [
+    (Null, "NULL"),
+    (Int(17), "17"),
+    (Int(-2_147_483_648), "-2147483648"),
+    (Binary, "BINARY_STREAM"),
+    (Str("Foo"), "\"Foo\""),
+    (Str(""), "\"\""),
+    (Str("\"'\\"), "\"\\\"'\\\\\""),
+    (
+        Str("\0\t\r\n\u{1b}\u{7f}"),
+        "\"\\0\\t\\r\\n\\u{1b}\\u{7f}\"",
+    ),
+];
 
 #[test]
 fn values_print(rt: HostRuntime) -> Result<(), Fail> {
-    let alloc = rt.alloc();
-    for (value, printed) in [
-        (Value::Null, "NULL"),
-        (Value::Int(17), "17"),
-        (Value::Int(-2_147_483_648), "-2147483648"),
-        (Value::Binary, "BINARY_STREAM"),
-    ] {
-        assert_eq!(rt; value.to_string(alloc)?.as_str(), printed, "{printed}");
-    }
-    for (of, printed) in [
-        ("Foo", "\"Foo\""),
-        ("", "\"\""),
-        ("\"'\\", "\"\\\"'\\\\\""),
-        ("\0\t\r\n\u{1b}\u{7f}", "\"\\0\\t\\r\\n\\u{1b}\\u{7f}\""),
-    ] {
-        assert_eq!(rt;
-            text(alloc, of)?.to_string(alloc)?.as_str(),
-            printed,
-            "{printed}"
-        );
+    for (given, text) in &PRINTED {
+        assert!(rt; prints(rt.alloc(), *given, *text)?, "{text}");
     }
     Ok(())
 }
 
+/// A value in a width of 3 and of 8, to the left, to the right, and in the middle.
+fn aligned(alloc: Global, value: &Value) -> Result<String, AllocError> {
+    format!(in alloc;
+        "{value:3}|{value:8}|{value:<8}|{value:>8}|{value:*^7}|{value:é^9}|{value:_>14}"
+    )
+}
+
+/// A value that is cut, in a width or in none.
+fn cut(alloc: Global, value: &Value) -> Result<String, AllocError> {
+    format!(in alloc; "{value:.3}|{value:4.3}|{value:>4.2}")
+}
+
+/// Whether a value prints as these texts in widths, and cut.
+fn prints_styled(alloc: Global, given: Given, wide: &str, short: &str) -> Result<bool, Error> {
+    let value = value(alloc, given)?;
+    Ok(aligned(alloc, &value)?.as_str() == wide && cut(alloc, &value)?.as_str() == short)
+}
+
+static STYLED: [(Given, &str, &str); 5] = [
+    (
+        Null,
+        "NULL|NULL    |NULL    |    NULL|*NULL**|ééNULLééé|__________NULL",
+        "NUL|NUL |  NU",
+    ),
+    (
+        Int(-7),
+        " -7|      -7|-7      |      -7|**-7***|ééé-7éééé|____________-7",
+        "-7|  -7|  -7",
+    ),
+    (
+        Binary,
+        "BINARY_STREAM|BINARY_STREAM|BINARY_STREAM|BINARY_STREAM|BINARY_STREAM|BINARY_STREAM|_BINARY_STREAM",
+        "BIN|BIN |  BI",
+    ),
+    (
+        Str("a\"b"),
+        r#""a\"b"|"a\"b"  |"a\"b"  |  "a\"b"|"a\"b"*|é"a\"b"éé|________"a\"b""#,
+        r#""a\|"a\ |  "a"#,
+    ),
+    (
+        Str("☃é"),
+        r#""☃é"|"☃é"    |"☃é"    |    "☃é"|*"☃é"**|éé"☃é"ééé|__________"☃é""#,
+        r#""☃é|"☃é |  "☃"#,
+    ),
+];
+
 #[test]
-fn values_print_with_a_width(rt: HostRuntime) -> Result<(), Fail> {
-    let alloc = rt.alloc();
-    let null = Value::Null;
-    let number = Value::Int(-7);
-    let binary = Value::Binary;
-    let quoted = text(alloc, "a\"b")?;
-    let wide = text(alloc, "\u{2603}\u{e9}")?;
-    for (printed, wanted) in [
-        (
-            format!(in alloc; "{null:6}|{null:>6}|{null:*^7}")?,
-            "NULL  |  NULL|*NULL**",
-        ),
-        (
-            format!(in alloc; "{number:6}|{number:<6}|{number:.^6}")?,
-            "    -7|-7    |..-7..",
-        ),
-        (
-            format!(in alloc; "{binary:15}|{binary:_>14}")?,
-            "BINARY_STREAM  |_BINARY_STREAM",
-        ),
-        (
-            format!(in alloc; "{quoted:8}|{quoted:>8}|{quoted:\u{e9}^9}")?,
-            "\"a\\\"b\"  |  \"a\\\"b\"|\u{e9}\"a\\\"b\"\u{e9}\u{e9}",
-        ),
-        (
-            format!(in alloc; "{wide:5}|{wide:>6}|{wide:3}")?,
-            "\"\u{2603}\u{e9}\" |  \"\u{2603}\u{e9}\"|\"\u{2603}\u{e9}\"",
-        ),
-        (
-            format!(in alloc; "{quoted:.3}|{quoted:4.3}|{wide:>4.2}")?,
-            "\"a\\|\"a\\ |  \"\u{2603}",
-        ),
-    ] {
-        assert_eq!(rt; printed.as_str(), wanted, "{wanted}");
+fn values_print_with_a_width_and_cut(rt: HostRuntime) -> Result<(), Fail> {
+    for (given, wide, short) in &STYLED {
+        assert!(rt; prints_styled(rt.alloc(), *given, *wide, *short)?, "{wide}");
     }
     Ok(())
 }
 
-/// Asserts that a value is this text.
-fn assert_text(rt: &impl Abort, value: &Value, wanted: &str) {
-    assert_eq!(rt; value.as_str(), Some(wanted));
+/// What a value is made of.
+#[derive(Clone, Copy)]
+enum Source {
+    Bool(bool),
+    I16(i16),
+    U16(u16),
+    I32(i32),
+    Owned(&'static str),
+    Borrowed(&'static str),
+    Uuid(&'static str),
+    Language(u16),
+    Languages(&'static [u16]),
 }
 
+/// The value of languages.
+fn of_languages(alloc: Global, ids: &[u16]) -> Result<Value, Error> {
+    let languages: Vec<LanguageId> = ids
+        .iter()
+        .map(|id| LanguageId::from_id(*id))
+        .collect(alloc)?;
+    Value::from_languages(alloc, languages.as_slice())
+}
+
+/// The value that is made.
+fn made(alloc: Global, source: Source) -> Result<Value, Fail> {
+    Ok(match source {
+        Source::Bool(truth) => Value::from(truth),
+        Source::I16(number) => Value::from(number),
+        Source::U16(number) => Value::from(number),
+        Source::I32(number) => Value::from(number),
+        Source::Owned(text) => Value::from(String::from_str(alloc, text)?),
+        Source::Borrowed(text) => Value::from_text(alloc, text)?,
+        Source::Uuid(text) => Value::from_uuid(alloc, Uuid::parse_str(text)?)?,
+        Source::Language(id) => Value::from_language(alloc, LanguageId::from_id(id))?,
+        Source::Languages(ids) => of_languages(alloc, ids)?,
+    })
+}
+
+/// Whether a value is made of something.
+fn makes(alloc: Global, source: Source, given: Given) -> Result<bool, Fail> {
+    let made = made(alloc, source)?;
+    Ok(made == value(alloc, given)?)
+}
+
+static MADE: [(Source, Given); 11] = [
+    (Source::Bool(true), Int(1)),
+    (Source::Bool(false), Int(0)),
+    (Source::I16(-32_768), Int(-32_768)),
+    (Source::U16(65_535), Int(65_535)),
+    (Source::I32(-2_147_483_648), Int(-2_147_483_648)),
+    (Source::Owned("Foo"), Str("Foo")),
+    (Source::Borrowed("Quux"), Str("Quux")),
+    (
+        Source::Uuid("fa62a4b0-6ed1-4a5c-9d21-0c5b8a3e7f90"),
+        Str("{FA62A4B0-6ED1-4A5C-9D21-0C5B8A3E7F90}"),
+    ),
+    (Source::Language(1033), Str("1033")),
+    (Source::Languages(&[1033, 2052, 0]), Str("1033,2052,0")),
+    (Source::Languages(&[]), Str("")),
+];
+
 #[test]
-fn values_of_numbers(rt: HostRuntime) {
-    for (value, number) in [
-        (Value::from(true), 1),
-        (Value::from(false), 0),
-        (Value::from(-32_768i16), -32_768),
-        (Value::from(65_535u16), 65_535),
-        (Value::from(-2_147_483_648i32), -2_147_483_648),
-    ] {
-        assert_eq!(rt; value.as_int(), Some(number), "{number}");
+fn values_are_made_of_numbers_texts_uuids_and_languages(rt: HostRuntime) -> Result<(), Fail> {
+    for (row, (source, given)) in MADE.iter().enumerate() {
+        assert!(rt; makes(rt.alloc(), *source, *given)?, "row {row}");
     }
-}
-
-#[test]
-fn values_of_texts(rt: HostRuntime) -> Result<(), Fail> {
-    let alloc = rt.alloc();
-    assert_text(&rt, &Value::from(String::from_str(alloc, "Foo")?), "Foo");
-    assert_text(&rt, &Value::from_text(alloc, "Quux")?, "Quux");
-    let uuid = Uuid::parse_str("fa62a4b0-6ed1-4a5c-9d21-0c5b8a3e7f90")?;
-    assert_text(
-        &rt,
-        &Value::from_uuid(alloc, uuid)?,
-        "{FA62A4B0-6ED1-4A5C-9D21-0C5B8A3E7F90}",
-    );
     Ok(())
 }
 
+/// Whether a value comes before another, and equals its copy.
+fn comes_before(alloc: Global, first: Given, second: Given) -> Result<bool, Error> {
+    let first = value(alloc, first)?;
+    let copy = first.clone(alloc)?;
+    Ok(first == copy && first < value(alloc, second)?)
+}
+
+static ASCENDING: [(Given, Given, &str); 7] = [
+    (Null, Int(-1), "null before numbers"),
+    (Int(-1), Int(2), "numbers in order"),
+    (Int(2), Str(""), "numbers before texts"),
+    (Str(""), Str("B"), "the empty text before others"),
+    (Str("B"), Str("a"), "capitals before small letters"),
+    (Str("B"), Str("BA"), "a beginning before the whole"),
+    (Str("b"), Binary, "texts before streams"),
+];
+
 #[test]
-fn values_of_languages(rt: HostRuntime) -> Result<(), Fail> {
-    let alloc = rt.alloc();
-    let first = LanguageId::from_id(1033);
-    let languages = [first, LanguageId::from_id(2052), LanguageId::from_id(0)];
-    assert_text(&rt, &Value::from_language(alloc, first)?, "1033");
-    assert_text(
-        &rt,
-        &Value::from_languages(alloc, &languages)?,
-        "1033,2052,0",
-    );
-    assert_text(&rt, &Value::from_languages(alloc, &[])?, "");
+fn values_ascend_by_kind_number_and_bytes(rt: HostRuntime) -> Result<(), Fail> {
+    for (first, second, what) in &ASCENDING {
+        assert!(rt; comes_before(rt.alloc(), *first, *second)?, "{what}");
+    }
     Ok(())
 }
