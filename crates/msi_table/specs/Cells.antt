@@ -50,7 +50,8 @@ cell_place long types n j type i = n * sum (take j (widths long types)) + i * wi
 
 abbrev pub cell_at : Bool → List ColumnType → List ℕ → ℕ → ℕ → ValueRef
 cell_at long types bytes i j = options.option_map_or
-    (λ type. cell_in type (take (width long type) (drop (cell_place long types (row_count long types bytes) j type i) bytes)))
+    (λ type. cell_in type (take (width long type)
+    (drop (cell_place long types (row_count long types bytes) j type i) bytes)))
     (slice_get types j) cell.Null
 
 abbrev pub row_in : Bool → List ColumnType → List ℕ → ℕ → List ValueRef
@@ -68,7 +69,8 @@ cell_of row j = unwrap_or (slice_get row j) cell.Null
 
 abbrev pub column_bytes : Bool → List (List ValueRef) → ℕ → List ColumnType → List ℕ
 column_bytes long rows j [] = []
-column_bytes long rows j (type ∷ types) = flat_map (λ row. cell_bytes long type (cell_of row j)) rows ++ column_bytes long rows (j + 1) types
+column_bytes long rows j (type ∷ types) = flat_map (λ row. cell_bytes long type (cell_of row j)) rows
+    ++ column_bytes long rows (j + 1) types
 
 abbrev pub table_bytes : Bool → List ColumnType → List (List ValueRef) → List ℕ
 table_bytes long types rows = column_bytes long rows 0 types

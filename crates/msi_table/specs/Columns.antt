@@ -24,13 +24,22 @@ pub record TableDef : Type 0 where
   pub columns : List ColumnDef
   pub long : Bool
 
+-- the greatest numbers of 16 and of 32 bits; the least that a column takes are their negatives
+abbrev pub greatest_16 : ℕ
+greatest_16 = 32767
+
+abbrev pub greatest_32 : ℕ
+greatest_32 = 2147483647
+
 -- the numbers of a table's columns are stored in 16 bits
 abbrev pub most_columns : ℕ
-most_columns = 32767
+most_columns = greatest_16
 
 -- a table of its parts, where its columns are few enough
 abbrev pub table_of : List ℕ → List ColumnDef → Bool → Option TableDef
-table_of name columns long = if nat_le (length columns) most_columns then Some (record { name = name; columns = columns; long = long }) else None
+table_of name columns long = if nat_le (length columns) most_columns
+    then Some (record { name = name; columns = columns; long = long })
+    else None
 
 -- a column as a builder begins it: nothing is set, and no end has named a type
 abbrev pub begun_column : List ℕ → ColumnDef
@@ -90,7 +99,8 @@ kind_bits coltype.Binary = 0x900
 
 -- the bits of a column's type
 abbrev pub type_bits : ColumnDef → ℕ
-type_bits c = kind_bits c.coltype + bit_if c.is_localizable 0x200 + bit_if c.is_nullable 0x1000 + bit_if c.is_primary_key 0x2000
+type_bits c = kind_bits c.coltype
+    + bit_if c.is_localizable 0x200 + bit_if c.is_nullable 0x1000 + bit_if c.is_primary_key 0x2000
 
 abbrev pub has_bit : ℕ → ℕ → Bool
 has_bit bits mask = (bits / mask) % 2 == 1
@@ -127,5 +137,6 @@ IsPlainIfBinary c = c.coltype ≡ coltype.Binary → (c.is_localizable ≡ false
 -- the bits of a column tell its flags and its type
 abbrev pub TypeBitsComeBack : Type 0
 TypeBitsComeBack = (c : ColumnDef) → HasShortLength c.coltype
-    → (has_bit (type_bits c) 0x200 ≡ c.is_localizable) × (has_bit (type_bits c) 0x1000 ≡ c.is_nullable) × (has_bit (type_bits c) 0x2000 ≡ c.is_primary_key)
+    → (has_bit (type_bits c) 0x200 ≡ c.is_localizable) × (has_bit (type_bits c) 0x1000 ≡ c.is_nullable)
+    × (has_bit (type_bits c) 0x2000 ≡ c.is_primary_key)
     × (IsPlainIfBinary c → type_of_bits (type_bits c) ≡ Some c.coltype)

@@ -21,7 +21,8 @@ same_key k l = is_eq (slice_cmp value_cmp k l)
 
 -- the first key value that differs decides
 abbrev pub key_cmp : List ColumnDef → List Place → List ValueRef → List ValueRef → Ordering
-key_cmp columns places row other = slice_cmp value_cmp (key_of columns (row_values places row)) (key_of columns (row_values places other))
+key_cmp columns places row other = slice_cmp value_cmp
+    (key_of columns (row_values places row)) (key_of columns (row_values places other))
 
 -- an insert gives its rows this order first
 abbrev pub in_key_order : List ColumnDef → List Place → List (List ValueRef) → List (List ValueRef)

@@ -1,4 +1,5 @@
 -- The words of this crate.
+pub mod Refusals
 pub mod Values
 pub mod Columns
 pub mod ValidValues
@@ -8,6 +9,7 @@ pub mod StoredOrder
 pub mod KeyOrder
 pub mod OrderLaws
 pub mod ReadBack
+pub mod Tables
 pub mod Rows
 pub mod SortedRows
 pub mod StoredValues

@@ -75,7 +75,8 @@ same_order value.Binary (value.Str t) = refl
 same_order value.Binary value.Binary = refl
 
 pub value_cmp-total : IsTotalOrder value_cmp
-value_cmp-total = subst IsTotalOrder (λ i v w. same_order v w i) (then_total (on_total kind_of nat_cmp_total) (then_total (on_total number_of int_cmp_total) (on_total bytes_of (lists_total nat_cmp_total))))
+value_cmp-total = subst IsTotalOrder (λ i v w. same_order v w i) (then_total (on_total kind_of nat_cmp_total)
+    (then_total (on_total number_of int_cmp_total) (on_total bytes_of (lists_total nat_cmp_total))))
 
 pub values_tie : (v w : Value) → value_cmp v w ≡ Equal → v ≡ w
 values_tie value.Null value.Null e = refl
@@ -97,7 +98,10 @@ values_tie value.Binary (value.Str t) e = greater_no_tie e
 
 -- `==` says whether two values are equal
 pub value_eq-Decides : (v w : Value) → Decides (eq_by_cmp value_cmp v w) (v ≡ w)
-value_eq-Decides v w = (λ e. values_tie v w ((Equal-is (value_cmp v w)).0 e), λ e. ap is_eq (ap (value_cmp v) (sym e) ∙ tied_itself value_cmp-total v))
+value_eq-Decides v w = (
+  λ e. values_tie v w ((Equal-is (value_cmp v w)).0 e),
+  λ e. ap is_eq (ap (value_cmp v) (sym e) ∙ tied_itself value_cmp-total v),
+)
 
 -- a cell by its kind, its number and its place
 abbrev cell_kind : ValueRef → ℕ
@@ -136,7 +140,8 @@ same_cell_order cell.Binary (cell.Str t) = refl
 same_cell_order cell.Binary cell.Binary = refl
 
 pub cell_cmp-total : IsTotalOrder cell_cmp
-cell_cmp-total = subst IsTotalOrder (λ i c d. same_cell_order c d i) (then_total (on_total cell_kind nat_cmp_total) (then_total (on_total cell_number int_cmp_total) (on_total cell_place nat_cmp_total)))
+cell_cmp-total = subst IsTotalOrder (λ i c d. same_cell_order c d i) (then_total (on_total cell_kind nat_cmp_total)
+    (then_total (on_total cell_number int_cmp_total) (on_total cell_place nat_cmp_total)))
 
 pub cells_tie : (c d : ValueRef) → cell_cmp c d ≡ Equal → c ≡ d
 cells_tie cell.Null cell.Null e = refl

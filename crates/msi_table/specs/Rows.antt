@@ -32,6 +32,8 @@ AreAsWide columns rows = AllByRecursion (λ row. length row ≡ length columns) 
 -- the first row is given and the others are left; or, where memory is refused, none is left; or there was none
 abbrev pub GivesRow : RowsDef → Option (Result RowDef ErrorKind) → RowsDef → Type 0
 GivesRow before None after = (before.rows ≡ []) × (after ≡ before)
-GivesRow before (Some (Ok row)) after = (cells : List ValueRef) × (before ≡ record after { rows = cells ∷ after.rows })
+GivesRow before (Some (Ok row)) after = (cells : List ValueRef)
+    × (before ≡ record after { rows = cells ∷ after.rows })
     × (row ≡ record { columns = before.columns; values = row_values before.places cells })
-GivesRow before (Some (Err kind)) after = (kind ≡ OutOfMemory) × (0 < length before.rows) × (after ≡ record before { rows = [] })
+GivesRow before (Some (Err kind)) after = (kind ≡ OutOfMemory) × (0 < length before.rows)
+    × (after ≡ record before { rows = [] })

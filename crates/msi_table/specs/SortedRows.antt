@@ -34,6 +34,7 @@ HoldsNumbers type = (type ≡ coltype.Int16) ⊎ (type ≡ coltype.Int32)
 
 -- the values of a first column of numbers that isn't of category Binary ascend in stored order
 abbrev pub LeadingNumbersAscend : Type 0
-LeadingNumbersAscend = (long : Bool) (first : ColumnDef) (others : List ColumnDef) (places : List Place) (rows : List (List ValueRef))
-    → HoldsNumbers first.coltype → is_of_category_binary first.category ≡ false → AllByRecursion (FitsRow long (types_of (first ∷ others))) rows
+LeadingNumbersAscend = (long : Bool) (first : ColumnDef) (others : List ColumnDef) (places : List Place)
+    (rows : List (List ValueRef)) → HoldsNumbers first.coltype → is_of_category_binary first.category ≡ false
+    → AllByRecursion (FitsRow long (types_of (first ∷ others))) rows
     → IsSortedByKey (λ row. value_of_cell places (cell_of row 0)) value_cmp (in_stored_order (first ∷ others) rows)

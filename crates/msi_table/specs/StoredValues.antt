@@ -22,7 +22,8 @@ StoredValuesComeBack = (long : Bool) (before after : List Place) (value : Value)
 -- where the pool is no larger than references can name, the cell of a valid value can be stored
 abbrev pub ValidValuesFit : Type 0
 ValidValuesFit = (column : ColumnDef) (long : Bool) (before after : List Place) (value : Value) (c : ValueRef)
-    → is_valid_value column value ≡ true → length before ≤ most_places long → cell_of_value long before value ≡ Some (c, after)
+    → is_valid_value column value ≡ true → length before ≤ most_places long
+    → cell_of_value long before value ≡ Some (c, after)
     → FitsColumn long column.coltype c × (length after ≤ most_places long)
 
 -- rows that are read have a cell for each column, and can be stored again
@@ -52,5 +53,6 @@ StoringKeepsValues = (long : Bool) (before after : List Place) (value : Value) (
 
 -- so does a cell that is removed, which is never refused
 abbrev pub RemovingKeepsValues : Type 0
-RemovingKeepsValues = (before : List Place) (c : ValueRef) (others : List ValueRef) → CountsSuffice before (c ∷ others)
-    → (after : List Place) × (places_without before c ≡ Some after) × CountsSuffice after others × (row_values after others ≡ row_values before others)
+RemovingKeepsValues = (before : List Place) (c : ValueRef) (others : List ValueRef)
+    → CountsSuffice before (c ∷ others) → (after : List Place) × (places_without before c ≡ Some after)
+    × CountsSuffice after others × (row_values after others ≡ row_values before others)

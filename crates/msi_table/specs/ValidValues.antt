@@ -7,7 +7,7 @@ use Rattle.msi_table.specs.declared.column.ColumnType.{ColumnType}
 use Rattle.msi_table.specs.declared.column.ColumnType.TheVariants as coltype
 use Rattle.msi_table.specs.declared.value.Value.{Value}
 use Rattle.msi_table.specs.declared.value.Value.TheVariants.{Null, Int, Str, Binary}
-use Rattle.msi_table.specs.Columns.{ColumnDef}
+use Rattle.msi_table.specs.Columns.{ColumnDef, greatest_16, greatest_32}
 
 abbrev pub is_within : ℤ → ℤ → ℤ → Bool
 is_within low high n = int_le low n && int_le n high
@@ -27,10 +27,10 @@ abbrev pub is_of_values : List (List ℕ) → List ℕ → Bool
 is_of_values [] text = true
 is_of_values (v ∷ vs) text = list_any (bytes_eq text) (v ∷ vs)
 
--- a number of the type; a text of at most n characters, where 0 sets no limit. The least number of a width stands for no value
+-- a number of the type, but the least, which stands for no value; a text of at most n characters, where 0 sets no limit
 abbrev pub fits_type : ColumnType → Value → Bool
-fits_type coltype.Int16 (Int n) = is_within (neg_ℤ (pos 32767)) (pos 32767) n
-fits_type coltype.Int32 (Int n) = is_within (neg_ℤ (pos 2147483647)) (pos 2147483647) n
+fits_type coltype.Int16 (Int n) = is_within (neg_ℤ (pos greatest_16)) (pos greatest_16) n
+fits_type coltype.Int32 (Int n) = is_within (neg_ℤ (pos greatest_32)) (pos greatest_32) n
 fits_type (coltype.Str n) (Str text) = (n == 0) || nat_le (length (chars text)) n
 fits_type coltype.Binary Binary = true
 fits_type _ _ = false
@@ -39,5 +39,6 @@ fits_type _ _ = false
 abbrev pub is_valid_value : ColumnDef → Value → Bool
 is_valid_value c Null = c.is_nullable && not (fits_type c.coltype Binary)
 is_valid_value c (Int n) = fits_type c.coltype (Int n) && is_in_value_range c.value_range n
-is_valid_value c (Str text) = fits_type c.coltype (Str text) && is_of_category c.category text && is_of_values c.enum_values text
+is_valid_value c (Str text) = fits_type c.coltype (Str text)
+    && is_of_category c.category text && is_of_values c.enum_values text
 is_valid_value c Binary = fits_type c.coltype Binary

@@ -2,14 +2,14 @@
 
 ghost use Rattle.std.specs.Prelude.{◌≡◌, ◌<◌, ◌≤◌, ◌+◌, ◌^◌, length, take, drop};
 ghost use Rattle.msi_table.specs.Cells.{width as width_of, cell_of_number, cell_in};
-ghost use Rattle.msi_text.specs.References.{number_of as number_in};
 
 use crate::column::ColumnType;
 use crate::value::ValueRef;
+use msi_text::fields::number_of;
 use msi_text::parts::string_ref;
 
 /// How many bytes a cell of a column takes.
-pub fn width(long: bool, coltype: ColumnType) -> usize
+pub(crate) fn width(long: bool, coltype: ColumnType) -> usize
     ensures value { result ≡ width_of long coltype }
     ensures least { 2 ≤ result }
     ensures most { result ≤ 4 }
@@ -21,23 +21,8 @@ pub fn width(long: bool, coltype: ColumnType) -> usize
     }
 }
 
-/// The number that bytes spell, the lowest first.
-fn number_of(bytes: &[u8]) -> u32
-    requires least { 2 ≤ length bytes.now }
-    requires most { length bytes.now ≤ 4 }
-    ensures value { result ≡ number_in bytes.now }
-    ensures small { length bytes.now ≤ 3 → result < 2 ^ 24 }
-{
-    match bytes {
-        [a, b] => *a as u32 + 256 * *b as u32,
-        [a, b, c] => *a as u32 + 256 * *b as u32 + 65536 * *c as u32,
-        [a, b, c, d] => *a as u32 + 256 * *b as u32 + 65536 * *c as u32 + 16777216 * *d as u32,
-        _ => 0,
-    }
-}
-
 /// The cell of a number that stands above the middle.
-fn number_cell(middle: u32, number: u32) -> ValueRef
+fn number_cell(middle: u32, number: u64) -> ValueRef
     requires inside { middle ≤ 2 ^ 31 }
     requires narrow { number < 2 ^ 31 + middle }
     ensures { result ≡ cell_of_number middle number }
@@ -58,14 +43,14 @@ fn cell_of(long: bool, coltype: ColumnType, bytes: &[u8]) -> ValueRef
         ColumnType::Int32 => number_cell(0x8000_0000, number_of(bytes)),
         ColumnType::Str(_) => match number_of(bytes) {
             0 => ValueRef::Null,
-            number => ValueRef::Str(string_ref(number)),
+            number => ValueRef::Str(string_ref(number as u32)),
         },
         ColumnType::Binary => ValueRef::Binary,
     }
 }
 
 /// The cell whose bytes begin at a place.
-pub fn read_cell(long: bool, coltype: ColumnType, bytes: &[u8], at: usize) -> ValueRef
+pub(crate) fn read_cell(long: bool, coltype: ColumnType, bytes: &[u8], at: usize) -> ValueRef
     requires { at + width_of long coltype ≤ length bytes.now }
     ensures { result ≡ cell_in coltype (take (width_of long coltype) (drop at bytes.now)) }
 {

@@ -1,8 +1,8 @@
 //! Columns.
 
-ghost use Rattle.std.specs.Prelude.{◌≡◌, ◌≤◌, IfOk, IfErr, Some, true, map, option_map, ◌||◌};
+ghost use Rattle.std.specs.Prelude.{◌≡◌, ◌≤◌, IfOk, Some, true, map, option_map, ◌||◌};
 ghost use Rattle.msi_text.specs.declared.category.Category.TheVariants as category_of;
-ghost use Rattle.msi_text.specs.declared.errors.ErrorKind.TheVariants.{OutOfMemory};
+ghost use Rattle.msi_text.specs.Results.{OnlyMemory};
 ghost use Rattle.msi_table.specs.Columns.{begun_column, some_texts, type_name};
 ghost use Rattle.msi_table.specs.StoredOrder.{is_of_category_binary as is_binary};
 ghost use Rattle.msi_table.specs.declared.column.ColumnType.TheVariants as type_of;
@@ -81,7 +81,7 @@ impl Column {
     /// `OutOfMemory`.
     pub fn build<S: IntoText>(alloc: Global, name: S) -> Result<ColumnBuilder, Error>
         ensures ok { IfOk result (λ builder. builder ≡ begun_column (S.text name)) }
-        ensures kind { IfErr result (λ kind. kind ≡ OutOfMemory) }
+        ensures kind { OnlyMemory result }
     {
         let column = Column {
             name: name.into_text(alloc)?,
@@ -111,35 +111,35 @@ impl Column {
         self.coltype
     }
 
-    /// Whether its texts can be localized.
+    /// Whether the column's texts can be localized.
     pub fn is_localizable(&self) -> bool
         ensures { result ≡ self.now.is_localizable }
     {
         self.is_localizable
     }
 
-    /// Whether it takes null.
+    /// Whether the column takes null.
     pub fn is_nullable(&self) -> bool
         ensures { result ≡ self.now.is_nullable }
     {
         self.is_nullable
     }
 
-    /// Whether it is a part of the key.
+    /// Whether the column is a part of the key.
     pub fn is_primary_key(&self) -> bool
         ensures { result ≡ self.now.is_primary_key }
     {
         self.is_primary_key
     }
 
-    /// The least and the greatest number that it takes, if they are set.
+    /// The least and the greatest number that the column takes, if they are set.
     pub fn value_range(&self) -> Option<(i32, i32)>
         ensures { result ≡ self.now.value_range }
     {
         self.value_range
     }
 
-    /// The table and the number of the key column, from 1 on, that it refers to, if they are set.
+    /// The table and the number of the key column, from 1 on, that the column refers to, if they are set.
     pub fn foreign_key(&self) -> Option<(&str, i32)>
         ensures { option_map (λ key. (key.0.now, key.1)) result ≡ self.now.foreign_key }
     {
@@ -149,14 +149,14 @@ impl Column {
         }
     }
 
-    /// What its texts are for, if that is set.
+    /// What the column's texts are for, if that is set.
     pub fn category(&self) -> Option<Category>
         ensures { result ≡ self.now.category }
     {
         self.category
     }
 
-    /// The texts that it takes, where they are listed.
+    /// The texts that the column takes, where they are listed.
     pub fn enum_values(&self) -> Option<&[Text]>
         ensures { option_map (λ texts. texts.now) result ≡ some_texts self.now.enum_values }
     {
@@ -164,24 +164,24 @@ impl Column {
         if texts.is_empty() { None } else { Some(texts) }
     }
 
-    /// The same column once more.
+    /// The column once more.
     ///
     /// # Errors
     /// `OutOfMemory`.
     pub fn clone(&self, alloc: Global) -> Result<Column, Error>
         ensures ok { IfOk result (λ column. column ≡ self.now) }
-        ensures kind { IfErr result (λ kind. kind ≡ OutOfMemory) }
+        ensures kind { OnlyMemory result }
     {
         self.renamed(alloc, self.name.clone(alloc)?)
     }
 
-    /// The same column under another name.
+    /// The column once more under another name.
     ///
     /// # Errors
     /// `OutOfMemory`.
     pub(crate) fn renamed(&self, alloc: Global, name: Text) -> Result<Column, Error>
         ensures ok { IfOk result (λ column. column ≡ record self.now { name = name }) }
-        ensures kind { IfErr result (λ kind. kind ≡ OutOfMemory) }
+        ensures kind { OnlyMemory result }
     {
         let foreign_key = match &self.foreign_key {
             Some((table, column)) => Some((table.clone(alloc)?, *column)),
@@ -236,7 +236,7 @@ impl Model for ColumnBuilder {
 }
 
 impl ColumnBuilder {
-    /// Its texts can be localized.
+    /// Lets the column's texts be localized.
     pub fn localizable(self) -> ColumnBuilder
         ensures { result ≡ record self { is_localizable = true } }
     {
@@ -245,7 +245,7 @@ impl ColumnBuilder {
         ColumnBuilder { alloc, column }
     }
 
-    /// It takes null.
+    /// Lets the column take null.
     pub fn nullable(self) -> ColumnBuilder
         ensures { result ≡ record self { is_nullable = true } }
     {
@@ -254,7 +254,7 @@ impl ColumnBuilder {
         ColumnBuilder { alloc, column }
     }
 
-    /// It is a part of the key.
+    /// Makes the column a part of the key.
     pub fn primary_key(self) -> ColumnBuilder
         ensures { result ≡ record self { is_primary_key = true } }
     {
@@ -263,7 +263,7 @@ impl ColumnBuilder {
         ColumnBuilder { alloc, column }
     }
 
-    /// It takes the numbers from `min` to `max`, both included.
+    /// Lets the column take numbers from `min` to `max` alone, both included.
     pub fn range(self, min: i32, max: i32) -> ColumnBuilder
         ensures { result ≡ record self { value_range = Some (min, max) } }
     {
@@ -272,13 +272,13 @@ impl ColumnBuilder {
         ColumnBuilder { alloc, column }
     }
 
-    /// It refers to a key column of a table by its number, from 1 on.
+    /// Makes the column refer to a key column of a table by that column's number, from 1 on.
     ///
     /// # Errors
     /// `OutOfMemory`.
     pub fn foreign_key<S: IntoText>(self, table: S, column: i32) -> Result<ColumnBuilder, Error>
         ensures ok { IfOk result (λ builder. builder ≡ record self { foreign_key = Some (S.text table, column) }) }
-        ensures kind { IfErr result (λ kind. kind ≡ OutOfMemory) }
+        ensures kind { OnlyMemory result }
     {
         let ColumnBuilder {
             alloc,
@@ -291,7 +291,7 @@ impl ColumnBuilder {
         })
     }
 
-    /// Its texts are of a category.
+    /// Gives the column's texts a category.
     pub fn category(self, category: Category) -> ColumnBuilder
         ensures { result ≡ record self { category = Some category } }
     {
@@ -300,13 +300,13 @@ impl ColumnBuilder {
         ColumnBuilder { alloc, column }
     }
 
-    /// It takes these texts; where none is listed, all texts.
+    /// Lets the column take these texts alone; where none is listed, all texts.
     ///
     /// # Errors
     /// `OutOfMemory`.
     pub fn enum_values(self, texts: &[&str]) -> Result<ColumnBuilder, Error>
         ensures ok { IfOk result (λ builder. builder ≡ record self { enum_values = map (λ text. text.now) texts.now }) }
-        ensures kind { IfErr result (λ kind. kind ≡ OutOfMemory) }
+        ensures kind { OnlyMemory result }
     {
         let ColumnBuilder { alloc, mut column } = self;
         column.enum_values = copied_list(alloc, texts)?;
@@ -371,7 +371,12 @@ impl ColumnBuilder {
         nullable: bool,
         primary_key: bool,
     ) -> Column
-        ensures { result ≡ record self { coltype = coltype; is_localizable = localizable; is_nullable = nullable || self.is_nullable; is_primary_key = primary_key } }
+        ensures { result ≡ record self {
+          coltype = coltype;
+          is_localizable = localizable;
+          is_nullable = nullable || self.is_nullable;
+          is_primary_key = primary_key;
+        } }
     {
         let ColumnBuilder {
             alloc: _,

@@ -1,7 +1,7 @@
 //! Columns in a row: look-ups by name, and copies.
 
-ghost use Rattle.std.specs.Prelude.{◌≡◌, IfOk, IfErr, bytes_eq};
-ghost use Rattle.msi_text.specs.declared.errors.ErrorKind.TheVariants.{OutOfMemory};
+ghost use Rattle.std.specs.Prelude.{◌≡◌, IfOk, bytes_eq};
+ghost use Rattle.msi_text.specs.Results.{OnlyMemory};
 ghost use Rattle.msi_table.specs.Columns.{column_index as index_of, has_column as has_one};
 
 use crate::column::Column;
@@ -36,7 +36,7 @@ pub fn has_column(columns: &[Column], name: &str) -> bool
 /// `OutOfMemory`.
 pub fn copied_columns(alloc: Global, columns: &[Column]) -> Result<Items<Column>, Error>
     ensures ok { IfOk result (λ copies. copies ≡ columns.now) }
-    ensures kind { IfErr result (λ kind. kind ≡ OutOfMemory) }
+    ensures kind { OnlyMemory result }
 {
     let mut copies = Vec::new(alloc);
     for column in columns {

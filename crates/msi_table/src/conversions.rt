@@ -1,9 +1,9 @@
 //! Values made of other types.
 
-ghost use Rattle.std.specs.Prelude.{◌≡◌, pos, string_bytes, IfOk, IfErr, if◌then◌else◌};
+ghost use Rattle.std.specs.Prelude.{◌≡◌, pos, string_bytes, IfOk, if◌then◌else◌};
 ghost use Rattle.std.specs.Fmt.{decimal};
 ghost use Rattle.msi_text.specs.Spellings.{language_list_text, braced_uuid_text};
-ghost use Rattle.msi_text.specs.declared.errors.ErrorKind.TheVariants.{OutOfMemory};
+ghost use Rattle.msi_text.specs.Results.{OnlyMemory};
 ghost use Rattle.msi_table.specs.declared.value.Value.TheVariants.{Int, Str};
 
 use crate::value::Value;
@@ -14,7 +14,7 @@ use msi_text::text::{IntoText, Text};
 use std::alloc::Global;
 use uuid::Uuid;
 
-/// The number 1 for true, and 0 for false.
+/// A truth as a value: the number 1 for true, and 0 for false.
 impl From<bool> for Value {
     ghost from_gives = { λ truth value. value ≡ Int (pos (if truth then 1 else 0)) };
 
@@ -23,7 +23,7 @@ impl From<bool> for Value {
     }
 }
 
-/// The number.
+/// A number of 16 bits with a sign, as a value.
 impl From<i16> for Value {
     ghost from_gives = { λ number value. value ≡ Int number };
 
@@ -32,7 +32,7 @@ impl From<i16> for Value {
     }
 }
 
-/// The number.
+/// A number of 16 bits without a sign, as a value.
 impl From<u16> for Value {
     ghost from_gives = { λ number value. value ≡ Int (pos number) };
 
@@ -41,7 +41,7 @@ impl From<u16> for Value {
     }
 }
 
-/// The number.
+/// A number of 32 bits with a sign, as a value.
 impl From<i32> for Value {
     ghost from_gives = { λ number value. value ≡ Int number };
 
@@ -50,7 +50,7 @@ impl From<i32> for Value {
     }
 }
 
-/// The text, which is moved in.
+/// A text, as a value; it is moved in.
 impl From<String> for Value {
     ghost from_gives = { λ text value. value ≡ Str (string_bytes text) };
 
@@ -60,13 +60,13 @@ impl From<String> for Value {
 }
 
 impl Value {
-    /// The text, which is copied.
+    /// A text, as a value; it is copied.
     ///
     /// # Errors
     /// `OutOfMemory`.
     pub fn from_text(alloc: Global, text: &str) -> Result<Value, Error>
         ensures ok { IfOk result (λ value. value ≡ Str text.now) }
-        ensures kind { IfErr result (λ kind. kind ≡ OutOfMemory) }
+        ensures kind { OnlyMemory result }
     {
         Ok(Value::Str(text.into_text(alloc)?))
     }
@@ -77,7 +77,7 @@ impl Value {
     /// `OutOfMemory`.
     pub fn from_language(alloc: Global, language: LanguageId) -> Result<Value, Error>
         ensures ok { IfOk result (λ value. value ≡ Str (decimal language)) }
-        ensures kind { IfErr result (λ kind. kind ≡ OutOfMemory) }
+        ensures kind { OnlyMemory result }
     {
         Ok(Value::Str(language_text(alloc, language)?))
     }
@@ -89,7 +89,7 @@ impl Value {
     /// `OutOfMemory`.
     pub fn from_languages(alloc: Global, languages: &[LanguageId]) -> Result<Value, Error>
         ensures ok { IfOk result (λ value. value ≡ Str (language_list_text languages.now)) }
-        ensures kind { IfErr result (λ kind. kind ≡ OutOfMemory) }
+        ensures kind { OnlyMemory result }
     {
         Ok(Value::Str(language_list(alloc, languages)?))
     }
@@ -100,7 +100,7 @@ impl Value {
     /// `OutOfMemory`.
     pub fn from_uuid(alloc: Global, uuid: Uuid) -> Result<Value, Error>
         ensures ok { IfOk result (λ value. value ≡ Str (braced_uuid_text uuid)) }
-        ensures kind { IfErr result (λ kind. kind ≡ OutOfMemory) }
+        ensures kind { OnlyMemory result }
     {
         Ok(Value::Str(braced_uuid(alloc, uuid)?))
     }

@@ -5,6 +5,7 @@ ghost use Rattle.msi_table.specs.Columns.{types_of};
 ghost use Rattle.msi_table.specs.ReadBack.{FitsColumn, FitsRow, FitsTable};
 
 use crate::column::{Column, ColumnType};
+use crate::valid_values::{fits_number, holds_streams};
 use crate::value::ValueRef;
 use msi_text::parts::place_number;
 use msi_text::text::Items;
@@ -13,23 +14,13 @@ use msi_text::text::Items;
 fn fits_column(long: bool, coltype: ColumnType, cell: ValueRef) -> bool
     ensures { IsTrue result ↔ FitsColumn long coltype cell }
 {
-    match coltype {
-        ColumnType::Int16 => match cell {
-            ValueRef::Null => true,
-            ValueRef::Int(number) => -32767 <= number && number <= 32767,
-            _ => false,
-        },
-        ColumnType::Int32 => match cell {
-            ValueRef::Null => true,
-            ValueRef::Int(number) => -2147483647 <= number,
-            _ => false,
-        },
-        ColumnType::Str(_) => match cell {
-            ValueRef::Null => true,
-            ValueRef::Str(place) => long || place_number(place) < 65536,
-            _ => false,
-        },
-        ColumnType::Binary => matches!(cell, ValueRef::Binary),
+    match cell {
+        ValueRef::Null => !holds_streams(coltype),
+        ValueRef::Int(number) => fits_number(coltype, number),
+        ValueRef::Str(place) => {
+            matches!(coltype, ColumnType::Str(_)) && (long || place_number(place) < 65536)
+        }
+        ValueRef::Binary => holds_streams(coltype),
     }
 }
 
@@ -49,7 +40,7 @@ fn fits_row(long: bool, columns: &[Column], row: &[ValueRef]) -> bool
 }
 
 /// Whether columns can store rows.
-pub fn fits_table(long: bool, columns: &[Column], rows: &[Items<ValueRef>]) -> bool
+pub(crate) fn fits_table(long: bool, columns: &[Column], rows: &[Items<ValueRef>]) -> bool
     ensures { IsTrue result ↔ FitsTable long (types_of columns.now) rows.now }
 {
     !columns.is_empty()

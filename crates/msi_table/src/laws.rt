@@ -18,7 +18,8 @@ pub fn cells_are_ordered()
     ensures { CellsAreOrdered }
 {}
 
-/// The bits of a column tell its flags, where its length is below 256; and its type, where no Binary column is localizable or a key.
+/// The bits of a column tell its flags, where its length is below 256; and its type, where no Binary column is
+/// localizable or a key.
 pub fn type_bits_come_back()
     ensures { TypeBitsComeBack }
 {}

@@ -1,9 +1,9 @@
 //! The orders of rows: the one in which a table stores them, and the one of their keys.
 
-ghost use Rattle.std.specs.Prelude.{◌≡◌, IfErr, OnOk, OnErr, option_map};
+ghost use Rattle.std.specs.Prelude.{◌≡◌, OnOk, OnErr, option_map};
 ghost use Rattle.std.specs.List.{slice_get};
 ghost use Rattle.std.specs.Option.{option_cmp};
-ghost use Rattle.msi_text.specs.declared.errors.ErrorKind.TheVariants.{OutOfMemory};
+ghost use Rattle.msi_text.specs.Results.{OnlyMemory};
 ghost use Rattle.msi_table.specs.Cells.{value_of_cell};
 ghost use Rattle.msi_table.specs.KeyOrder.{key_cmp, in_key_order};
 ghost use Rattle.msi_table.specs.StoredOrder.{row_cmp, in_stored_order};
@@ -24,7 +24,8 @@ fn cell_of(row: &[ValueRef], i: usize) -> Option<ValueRef>
     row.get(i).copied()
 }
 
-/// The first cell that differs decides, skipping columns of category Binary. Where a row ends before, its missing cells come first.
+/// The first cell that differs decides, skipping columns of category Binary. Where a row ends before, its missing cells
+/// come first.
 fn compare_rows(columns: &[Column], row: &[ValueRef], other: &[ValueRef]) -> Ordering
     ensures { result ≡ row_cmp columns.now row.now other.now }
 {
@@ -64,13 +65,14 @@ fn compare_values(pool: &StringPool, cell: ValueRef, other: ValueRef) -> Orderin
     }
 }
 
-/// The same, where a missing cell comes first.
+/// How the values of two cells stand to one another, where a missing cell comes first. No text is copied.
 fn compare_if_present(
     pool: &StringPool,
     cell: Option<ValueRef>,
     other: Option<ValueRef>,
 ) -> Ordering
-    ensures { result ≡ option_cmp value_cmp (option_map (value_of_cell pool.now.places) cell) (option_map (value_of_cell pool.now.places) other) }
+    ensures { let value = value_of_cell pool.now.places in
+        result ≡ option_cmp value_cmp (option_map value cell) (option_map value other) }
 {
     match cell {
         Some(cell) => match other {
@@ -84,8 +86,8 @@ fn compare_if_present(
     }
 }
 
-/// How the keys of two rows stand to one another: the first value of a key column that differs decides. Where a row ends
-/// before, its missing values come first. No text is copied.
+/// How the keys of two rows stand to one another: the first value of a key column that differs decides. Where a row
+/// ends before, its missing values come first. No text is copied.
 pub fn compare_keys(
     columns: &[Column],
     pool: &StringPool,
@@ -116,7 +118,7 @@ pub fn sort_by_keys(
     rows: &mut Vec<Items<ValueRef>>,
 ) -> Result<(), Error>
     ensures ok { OnOk result (rows.new.items ≡ in_key_order columns.now pool.now.places rows.old.items) }
-    ensures kind { IfErr result (λ kind. kind ≡ OutOfMemory) }
+    ensures kind { OnlyMemory result }
     ensures err { OnErr result (rows.new.items ≡ rows.old.items) }
 {
     rows.sort_by(|row, other| compare_keys(columns, pool, row.as_slice(), other.as_slice()))?;

@@ -1,18 +1,20 @@
 //! What the crates above need beyond the surface.
 
-ghost use Rattle.std.specs.Prelude.{◌≡◌, ◌<◌, ◌≤◌, ◌↔◌, IfOk, IfErr, IsErr, IsTrue, Some, None, is_some, true, if◌then◌else◌, length, option_copied};
-ghost use Rattle.msi_text.specs.declared.errors.ErrorKind.TheVariants.{InvalidData, OutOfMemory};
-ghost use Rattle.msi_table.specs.Cells.{rows_in, table_bytes};
-ghost use Rattle.msi_table.specs.ReadBack.{FitsTable};
+ghost use Rattle.std.specs.Prelude.{◌≡◌, ◌<◌, ◌≤◌, ◌↔◌, IfOk, IfErr, IsErr, IsTrue, Some, None, is_some, true, length, option_copied};
+ghost use Rattle.msi_text.specs.Results.{OnlyMemory};
+ghost use Rattle.msi_text.specs.declared.errors.ErrorKind.TheVariants.{InvalidData};
+ghost use Rattle.msi_table.specs.Refusals.{FailsWith};
+ghost use Rattle.msi_table.specs.Tables.{CanStore, rows_spelled, stored_bytes};
 ghost use Rattle.msi_table.specs.Rows.{AreAsWide, value_named as value_in_row};
 ghost use Rattle.msi_table.specs.StoredOrder.{in_stored_order, row_values};
-ghost use Rattle.msi_table.specs.Columns.{HasShortLength, table_of, types_of, has_column as has_one, bit_if as number_if, column_of_bits as column_in, has_bit as is_set, kind_bits as bits_of_kind, type_bits as bits_of, type_of_bits as type_in};
+ghost use Rattle.msi_table.specs.Columns.{HasShortLength, table_of, has_column as has_one, bit_if as number_if, column_of_bits as column_in, has_bit as is_set, kind_bits as bits_of_kind, type_bits as bits_of, type_of_bits as type_in};
 
 use crate::column::{Column, ColumnBuilder, ColumnType};
 pub use crate::columns::{column_index, copied_columns, has_column};
 pub use crate::order::{compare_keys, sort_by_keys};
 use crate::row::{Row, Rows, values_of};
 use crate::table::Table;
+pub use crate::texts::{copied_list, copied_texts};
 use crate::value::{Value, ValueRef};
 use crate::{fitting, reasons, rows as reading, writing};
 use msi_text::errors::{Error, ErrorKind};
@@ -108,8 +110,8 @@ pub fn column_of_bits(builder: ColumnBuilder, bits: u16) -> Result<Column, Error
     ))
 }
 
-/// A table of its parts, where its columns are at most 32767: their numbers are stored in 16 bits. References to texts take
-/// three bytes where they are long, else two.
+/// A table of its parts, where its columns are at most 32767: their numbers are stored in 16 bits. References to texts
+/// take three bytes where they are long, else two.
 pub fn table(name: Text, columns: Items<Column>, long: bool) -> Option<Table>
     ensures { result ≡ table_of name columns long }
 {
@@ -122,7 +124,7 @@ pub fn table(name: Text, columns: Items<Column>, long: bool) -> Option<Table>
 /// `OutOfMemory`.
 pub fn renamed<S: IntoText>(alloc: Global, column: &Column, name: S) -> Result<Column, Error>
     ensures ok { IfOk result (λ renamed. renamed ≡ record column.now { name = S.text name }) }
-    ensures kind { IfErr result (λ kind. kind ≡ OutOfMemory) }
+    ensures kind { OnlyMemory result }
 {
     column.renamed(alloc, name.into_text(alloc)?)
 }
@@ -134,28 +136,30 @@ pub fn nullable(column: Column) -> Column
     column.nullable()
 }
 
-/// The rows that the bytes of a table's stream spell; bytes past the last whole row are ignored. Each has a cell for each
-/// column, and a table that has a column can store them.
+/// The rows that the bytes of a table's stream spell; bytes past the last whole row are ignored. Each row has a cell
+/// for each column, and a table that has a column can store them.
 ///
 /// # Errors
 /// `InvalidData` above 65536 rows; `OutOfMemory`.
 pub fn read_rows(alloc: Global, table: &Table, bytes: &[u8]) -> Result<Vec<Items<ValueRef>>, Error>
-    ensures ok { IfOk result (λ rows. rows_in table.now.long (types_of table.now.columns) bytes.now ≡ Some rows.items) }
+    ensures ok { IfOk result (λ rows. rows_spelled table.now bytes.now ≡ Some rows.items) }
     ensures wide { IfOk result (λ rows. AreAsWide table.now.columns rows.items) }
-    ensures fits { IfOk result (λ rows. 0 < length table.now.columns → FitsTable table.now.long (types_of table.now.columns) rows.items) }
-    ensures kind { IfErr result (λ kind. kind ≡ (if is_some (rows_in table.now.long (types_of table.now.columns) bytes.now) then OutOfMemory else InvalidData)) }
+    ensures storable { IfOk result (λ rows. 0 < length table.now.columns → CanStore table.now rows.items) }
+    ensures kind { FailsWith InvalidData result (rows_spelled table.now bytes.now) }
 {
     reading::read_rows(alloc, table.is_long(), table.columns(), bytes)
 }
 
-/// Whether a table can store rows: it has a column, they are at most 65536, and each has a cell for each column, which the column can store.
+/// Whether a table can store rows: it has a column, they are at most 65536, and each has a cell for each column, which
+/// the column can store.
 pub fn fits_table(table: &Table, rows: &[Items<ValueRef>]) -> bool
-    ensures { IsTrue result ↔ FitsTable table.now.long (types_of table.now.columns) rows.now }
+    ensures { IsTrue result ↔ CanStore table.now rows.now }
 {
     fitting::fits_table(table.is_long(), table.columns(), rows)
 }
 
-/// The bytes of a table's rows in their stored order, which read back. `fits_table` has to tell that the table can store the rows.
+/// The bytes of a table's rows in their stored order, which read back. `fits_table` has to tell that the table can
+/// store the rows.
 ///
 /// # Errors
 /// `OutOfMemory`.
@@ -164,10 +168,11 @@ pub fn write_rows(
     table: &Table,
     rows: Vec<Items<ValueRef>>,
 ) -> Result<Vec<u8>, Error>
-    requires { FitsTable table.now.long (types_of table.now.columns) rows.items }
-    ensures ok { IfOk result (λ bytes. bytes.items ≡ table_bytes table.now.long (types_of table.now.columns) (in_stored_order table.now.columns rows.items)) }
-    ensures reads_back { IfOk result (λ bytes. rows_in table.now.long (types_of table.now.columns) bytes.items ≡ Some (in_stored_order table.now.columns rows.items)) }
-    ensures kind { IfErr result (λ kind. kind ≡ OutOfMemory) }
+    requires { CanStore table.now rows.items }
+    ensures ok { IfOk result (λ bytes. bytes.items ≡ stored_bytes table.now.long table.now.columns rows.items) }
+    ensures reads_back { let stored = in_stored_order table.now.columns rows.items in
+        IfOk result (λ bytes. rows_spelled table.now bytes.items ≡ Some stored) }
+    ensures kind { OnlyMemory result }
 {
     writing::write_rows(alloc, table.is_long(), table.columns(), rows)
 }
@@ -178,7 +183,7 @@ pub fn write_rows(
 /// `OutOfMemory`.
 pub fn values(alloc: Global, pool: &StringPool, cells: &[ValueRef]) -> Result<Items<Value>, Error>
     ensures ok { IfOk result (λ values. values ≡ row_values pool.now.places cells.now) }
-    ensures kind { IfErr result (λ kind. kind ≡ OutOfMemory) }
+    ensures kind { OnlyMemory result }
 {
     values_of(alloc, pool, cells)
 }
@@ -210,8 +215,9 @@ pub fn rows<'a>(
     cells: Vec<Items<ValueRef>>,
 ) -> Result<Rows<'a>, Error>
     requires { AreAsWide columns cells.items }
-    ensures ok { IfOk result (λ rows. rows ≡ record { columns = columns; places = pool.now.places; rows = cells.items }) }
-    ensures kind { IfErr result (λ kind. kind ≡ OutOfMemory) }
+    ensures ok { IfOk result (λ rows.
+        rows ≡ record { columns = columns; places = pool.now.places; rows = cells.items }) }
+    ensures kind { OnlyMemory result }
 {
     Rows::new(alloc, pool, columns, cells)
 }

@@ -7,7 +7,8 @@ ghost use Rattle.msi_table.specs.Values.{value_text};
 use crate::value::Value;
 use std::fmt::{self, Alignment, Debug, Display, Write};
 
-/// Writes `NULL`, a number in decimal, a text in its debug form, or `BINARY_STREAM`: each with width, fill and alignment.
+/// Writes `NULL`, a number in decimal, a text in its debug form, or `BINARY_STREAM`: each with width, fill and
+/// alignment.
 impl fmt::Display for Value {
     ghost output = { value_text };
 
@@ -95,7 +96,9 @@ struct Cut<'a, W> {
 }
 
 impl<W: fmt::Write> fmt::Write for Cut<'_, W> {
-    ghost write_str_gives = { λ old text new. (new.f.ghost_name ≡ old.f.ghost_name) × (new.left ≡ old.left - char_count text) × (IsFlush old.f.now → HasWrittenStyled W.write_str_gives old.f.now (take_chars old.left text) new.f.now) };
+    ghost write_str_gives = { λ old text new. (new.f.ghost_name ≡ old.f.ghost_name)
+        × (new.left ≡ old.left - char_count text)
+        × (IsFlush old.f.now → HasWrittenStyled W.write_str_gives old.f.now (take_chars old.left text) new.f.now) };
 
     fn write_str(&mut self, text: &str) -> fmt::Result {
         let Some(shown) = text.get(..end_of(text.as_bytes(), self.left)) else {

@@ -1,8 +1,8 @@
 //! Rows with their values.
 
-ghost use Rattle.std.specs.Prelude.{◌≡◌, ◌<◌, ◌==◌, IsTrue, IfOk, IfErr, Some, is_some, length, slice_get, option_copied};
+ghost use Rattle.std.specs.Prelude.{◌≡◌, ◌<◌, ◌==◌, IsTrue, IfOk, Some, is_some, length, slice_get, option_copied};
 ghost use Rattle.std.specs.Iterator.{at_most};
-ghost use Rattle.msi_text.specs.declared.errors.ErrorKind.TheVariants.{OutOfMemory};
+ghost use Rattle.msi_text.specs.Results.{OnlyMemory};
 ghost use Rattle.msi_table.specs.Columns.{has_column as has_one};
 ghost use Rattle.msi_table.specs.Rows.{AreAsWide, GivesRow, value_named};
 ghost use Rattle.msi_table.specs.StoredOrder.{row_values};
@@ -45,21 +45,21 @@ impl Row {
         Row { columns, values }
     }
 
-    /// How many values it has.
+    /// How many values the row has.
     pub fn len(&self) -> usize
         ensures { result ≡ length self.now.values }
     {
         self.values.as_slice().len()
     }
 
-    /// Whether it has none.
+    /// Whether the row has no value.
     pub fn is_empty(&self) -> bool
         ensures { result ≡ (length self.now.values == 0) }
     {
         self.len() == 0
     }
 
-    /// The columns of its values.
+    /// The columns of the row's values.
     pub fn columns(&self) -> &[Column]
         ensures columns { result.now ≡ self.now.columns }
         ensures len { length self.now.columns ≡ length self.now.values }
@@ -67,13 +67,13 @@ impl Row {
         self.columns.as_slice()
     }
 
-    /// The same row once more.
+    /// The row once more.
     ///
     /// # Errors
     /// `OutOfMemory`.
     pub fn clone(&self, alloc: Global) -> Result<Row, Error>
         ensures ok { IfOk result (λ row. row ≡ self.now) }
-        ensures kind { IfErr result (λ kind. kind ≡ OutOfMemory) }
+        ensures kind { OnlyMemory result }
     {
         let values = copied_values(alloc, self.values.as_slice())?;
         Ok(Row {
@@ -82,7 +82,7 @@ impl Row {
         })
     }
 
-    /// Whether it has a column of this name.
+    /// Whether the row has a column of this name.
     pub fn has_column(&self, name: &str) -> bool
         ensures { result ≡ has_one name.now self.now.columns }
     {
@@ -136,7 +136,7 @@ impl<'a> Index<&'a str> for Row {
 /// `OutOfMemory`.
 fn copied_values(alloc: Global, values: &[Value]) -> Result<Items<Value>, Error>
     ensures ok { IfOk result (λ copies. copies ≡ values.now) }
-    ensures kind { IfErr result (λ kind. kind ≡ OutOfMemory) }
+    ensures kind { OnlyMemory result }
 {
     let mut copies = Vec::new(alloc);
     for value in values {
@@ -155,7 +155,7 @@ pub(crate) fn values_of(
     cells: &[ValueRef],
 ) -> Result<Items<Value>, Error>
     ensures ok { IfOk result (λ values. values ≡ row_values pool.now.places cells.now) }
-    ensures kind { IfErr result (λ kind. kind ≡ OutOfMemory) }
+    ensures kind { OnlyMemory result }
 {
     let mut values = Vec::new(alloc);
     for cell in cells {
@@ -175,8 +175,9 @@ fn row_of(
     cells: &[ValueRef],
 ) -> Result<Row, Error>
     requires { length cells.now ≡ length columns.now.value }
-    ensures ok { IfOk result (λ row. row ≡ record { columns = columns.now.value; values = row_values pool.now.places cells.now }) }
-    ensures kind { IfErr result (λ kind. kind ≡ OutOfMemory) }
+    ensures ok { IfOk result (λ row.
+        row ≡ record { columns = columns.now.value; values = row_values pool.now.places cells.now }) }
+    ensures kind { OnlyMemory result }
 {
     let values = values_of(alloc, pool, cells)?;
     Ok(Row::new(columns.clone()?, values))
@@ -198,7 +199,11 @@ impl<'a> Model for Rows<'a> {
 
     ghost Value = { RowsDef };
 
-    ghost view = { λ r. record { columns = r.columns.value; places = r.pool.now.places; rows = drop r.given r.rows.items } };
+    ghost view = { λ r. record {
+      columns = r.columns.value;
+      places = r.pool.now.places;
+      rows = drop r.given r.rows.items;
+    } };
 
     ghost invariant = { λ r. AreAsWide r.columns.value r.rows.items };
 }
@@ -215,8 +220,9 @@ impl<'a> Rows<'a> {
         rows: Vec<Items<ValueRef>>,
     ) -> Result<Rows<'a>, Error>
         requires { AreAsWide columns rows.items }
-        ensures ok { IfOk result (λ given. given ≡ record { columns = columns; places = pool.now.places; rows = rows.items }) }
-        ensures kind { IfErr result (λ kind. kind ≡ OutOfMemory) }
+        ensures ok { IfOk result (λ given.
+            given ≡ record { columns = columns; places = pool.now.places; rows = rows.items }) }
+        ensures kind { OnlyMemory result }
     {
         let columns = Rc::new(alloc, columns)?;
         Ok(Rows {

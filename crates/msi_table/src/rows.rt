@@ -1,9 +1,11 @@
 //! The rows of a table's stream.
 
-ghost use Rattle.std.specs.Prelude.{◌≡◌, ◌<◌, ◌≤◌, length, sum, IfOk, IfErr, Some, is_some, if◌then◌else◌};
-ghost use Rattle.msi_text.specs.declared.errors.ErrorKind.TheVariants.{OutOfMemory, InvalidData};
+ghost use Rattle.std.specs.Prelude.{◌≡◌, ◌<◌, ◌≤◌, length, sum, IfOk, Some};
+ghost use Rattle.msi_text.specs.Results.{OnlyMemory};
+ghost use Rattle.msi_text.specs.declared.errors.ErrorKind.TheVariants.{InvalidData};
 ghost use Rattle.msi_table.specs.Cells.{widths, row_count as count_of, row_in, rows_in};
 ghost use Rattle.msi_table.specs.Columns.{most_columns, types_of};
+ghost use Rattle.msi_table.specs.Refusals.{FailsWith};
 
 use crate::cells::{read_cell, width};
 use crate::column::Column;
@@ -52,7 +54,7 @@ fn read_row(
     requires count { count ≡ count_of long (types_of columns.now) bytes.now }
     requires inside { i < count }
     ensures ok { IfOk result (λ row. row ≡ row_in long (types_of columns.now) bytes.now i) }
-    ensures kind { IfErr result (λ kind. kind ≡ OutOfMemory) }
+    ensures kind { OnlyMemory result }
 {
     let mut row = Vec::new(alloc);
     let mut start = 0;
@@ -67,7 +69,7 @@ fn read_row(
 }
 
 /// The rows that the bytes of a stream spell.
-pub fn read_rows(
+pub(crate) fn read_rows(
     alloc: Global,
     long: bool,
     columns: &[Column],
@@ -75,7 +77,7 @@ pub fn read_rows(
 ) -> Result<Vec<Items<ValueRef>>, Error>
     requires { length columns.now ≤ most_columns }
     ensures ok { IfOk result (λ rows. rows_in long (types_of columns.now) bytes.now ≡ Some rows.items) }
-    ensures kind { IfErr result (λ kind. kind ≡ (if is_some (rows_in long (types_of columns.now) bytes.now) then OutOfMemory else InvalidData)) }
+    ensures kind { FailsWith InvalidData result (rows_in long (types_of columns.now) bytes.now) }
 {
     let count = row_count(long, columns, bytes);
     if count > MOST_ROWS {

@@ -1,7 +1,7 @@
 //! Tables.
 
-ghost use Rattle.std.specs.Prelude.{◌≡◌, ◌≤◌, IfOk, IfErr, length, option_copied};
-ghost use Rattle.msi_text.specs.declared.errors.ErrorKind.TheVariants.{OutOfMemory};
+ghost use Rattle.std.specs.Prelude.{◌≡◌, ◌≤◌, IfOk, length, option_copied};
+ghost use Rattle.msi_text.specs.Results.{OnlyMemory};
 ghost use Rattle.msi_table.specs.Columns.{column_named, has_column as has_one, key_places, most_columns, table_of};
 
 use crate::column::Column;
@@ -70,14 +70,14 @@ impl Table {
         self.long
     }
 
-    /// Whether it has a column of this name.
+    /// Whether the table has a column of this name.
     pub fn has_column(&self, name: &str) -> bool
         ensures { result ≡ has_one name.now self.now.columns }
     {
         has_column(self.columns(), name)
     }
 
-    /// The column of this name; of a repeated name the first.
+    /// The column of this name, where there is one; of a repeated name the first.
     pub fn get_column(&self, name: &str) -> Option<&Column>
         ensures { option_copied result ≡ column_named name.now self.now.columns }
     {
@@ -88,13 +88,13 @@ impl Table {
         }
     }
 
-    /// Where the key columns stand.
+    /// Where the key columns stand, from 0 on.
     ///
     /// # Errors
     /// `OutOfMemory`.
     pub fn primary_key_indices(&self, alloc: Global) -> Result<Vec<usize>, Error>
         ensures ok { IfOk result (λ places. places.items ≡ key_places self.now.columns) }
-        ensures kind { IfErr result (λ kind. kind ≡ OutOfMemory) }
+        ensures kind { OnlyMemory result }
     {
         let columns = self.columns.as_slice();
         let mut places = Vec::new(alloc);
@@ -106,13 +106,13 @@ impl Table {
         Ok(places)
     }
 
-    /// The same table once more.
+    /// The table once more.
     ///
     /// # Errors
     /// `OutOfMemory`.
     pub fn clone(&self, alloc: Global) -> Result<Table, Error>
         ensures ok { IfOk result (λ table. table ≡ self.now) }
-        ensures kind { IfErr result (λ kind. kind ≡ OutOfMemory) }
+        ensures kind { OnlyMemory result }
     {
         Ok(Table {
             name: self.name.clone(alloc)?,

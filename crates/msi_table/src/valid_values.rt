@@ -13,8 +13,8 @@ impl Column {
     /// Whether a value may stand in the column (MSI SDK, "_Validation table").
     ///
     /// - Null may where the column is nullable and isn't Binary.
-    /// - A number may where it is of the column's width, and in the range, if one is set. The least number of a width may
-    ///   not, since its cell would read as null.
+    /// - A number may where it is of the column's width, and in the range, if one is set. The least number of a width
+    ///   may not, since its cell would read as null.
     /// - A text may in a column of strings, where the category accepts it, it is one of the listed texts, if there are
     ///   some, and it has at most as many characters as the column says, unless that is 0.
     /// - Binary may in a Binary column.
@@ -38,14 +38,14 @@ impl Column {
 }
 
 /// Whether a column's cells stand for streams.
-fn holds_streams(coltype: ColumnType) -> bool
+pub(crate) fn holds_streams(coltype: ColumnType) -> bool
     ensures { result ≡ fits_type coltype value_of.Binary }
 {
     matches!(coltype, ColumnType::Binary)
 }
 
-/// Whether a number is of the width of a column's numbers.
-fn fits_number(coltype: ColumnType, number: i32) -> bool
+/// Whether a number is of the width of a column's numbers, and not the least, whose cell would read as null.
+pub(crate) fn fits_number(coltype: ColumnType, number: i32) -> bool
     ensures { result ≡ fits_type coltype (value_of.Int number) }
 {
     match coltype {

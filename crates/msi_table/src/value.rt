@@ -1,15 +1,17 @@
 //! Values, and the cells that stand for them.
 
-ghost use Rattle.std.specs.Prelude.{◌≡◌, ◌↔◌, ◌-◌, IfOk, IfErr, OnOk, OnErr, IsErr, IsSome, Some, None, is_some, option_copied, if◌then◌else◌};
+ghost use Rattle.std.specs.Prelude.{◌≡◌, ◌↔◌, ◌-◌, IfOk, IfErr, OnOk, OnErr, IsErr, IsSome, Some, None, is_some, option_copied};
 ghost use Rattle.std.specs.Cmp.{po, partial_equiv_from_equiv, eq_by_cmp_equiv};
 ghost use Rattle.std.specs.Hash.{same_Alike};
 ghost use Rattle.std.specs.Ordering.{as_partial_cmp, eq_by_cmp};
 ghost use Rattle.std.proofs.Common.{refl};
-ghost use Rattle.msi_text.specs.declared.errors.ErrorKind.TheVariants.{InvalidData, InvalidInput, OutOfMemory};
+ghost use Rattle.msi_text.specs.Results.{OnlyMemory};
+ghost use Rattle.msi_text.specs.declared.errors.ErrorKind.TheVariants.{InvalidData, InvalidInput};
 ghost use Rattle.msi_table.specs.Values.{value_cmp, is_null, int_of, text_of, value_hash_input};
 ghost use Rattle.msi_table.specs.StoredOrder.{cell_cmp};
 ghost use Rattle.msi_table.specs.Cells.{value_of_cell};
 ghost use Rattle.msi_table.specs.CellValues.{cell_of_value, places_without};
+ghost use Rattle.msi_table.specs.Refusals.{FailsWith};
 ghost use Rattle.msi_table.specs.OrderLaws.{value_cmp-total, value_eq-Decides, cell_cmp-total};
 
 use msi_text::errors::Error;
@@ -35,21 +37,21 @@ pub enum Value {
 }
 
 impl Value {
-    /// Whether it is null.
+    /// Whether the value is null.
     pub fn is_null(&self) -> bool
         ensures { result ≡ is_null self.now }
     {
         matches!(self, Value::Null)
     }
 
-    /// Whether it is a number.
+    /// Whether the value is a number.
     pub fn is_int(&self) -> bool
         ensures { result ≡ is_some (int_of self.now) }
     {
         matches!(self, Value::Int(_))
     }
 
-    /// The number, where it is one.
+    /// The number, where the value is one.
     pub fn as_int(&self) -> Option<i32>
         ensures { result ≡ int_of self.now }
     {
@@ -59,14 +61,14 @@ impl Value {
         }
     }
 
-    /// Whether it is a text.
+    /// Whether the value is a text.
     pub fn is_str(&self) -> bool
         ensures { result ≡ is_some (text_of self.now) }
     {
         matches!(self, Value::Str(_))
     }
 
-    /// The text, where it is one.
+    /// The text, where the value is one.
     pub fn as_str(&self) -> Option<&str>
         ensures { option_copied result ≡ text_of self.now }
     {
@@ -76,13 +78,13 @@ impl Value {
         }
     }
 
-    /// The same value once more.
+    /// The value once more.
     ///
     /// # Errors
     /// `OutOfMemory`.
     pub fn clone(&self, alloc: Global) -> Result<Value, Error>
         ensures ok { IfOk result (λ value. value ≡ self.now) }
-        ensures kind { IfErr result (λ kind. kind ≡ OutOfMemory) }
+        ensures kind { OnlyMemory result }
     {
         Ok(match self {
             Value::Null => Value::Null,
@@ -197,14 +199,15 @@ pub enum ValueRef {
 }
 
 impl ValueRef {
-    /// The cell of a value, whose text the pool takes. When refused, the pool is as before; only a text can be refused, as
-    /// nothing else takes memory.
+    /// The cell of a value, whose text the pool takes. When refused, the pool is as before; only a text can be refused,
+    /// as nothing else takes memory.
     ///
     /// # Errors
     /// `InvalidInput` where the pool is full; `OutOfMemory`.
     pub fn create(value: Value, pool: &mut StringPool) -> Result<ValueRef, Error>
-        ensures ok { IfOk result (λ cell. cell_of_value pool.old.long pool.old.places value ≡ Some (cell, pool.new.places)) }
-        ensures kind { IfErr result (λ kind. kind ≡ (if is_some (cell_of_value pool.old.long pool.old.places value) then OutOfMemory else InvalidInput)) }
+        ensures ok { IfOk result (λ cell.
+            cell_of_value pool.old.long pool.old.places value ≡ Some (cell, pool.new.places)) }
+        ensures kind { FailsWith InvalidInput result (cell_of_value pool.old.long pool.old.places value) }
         ensures only_texts { OnErr result (IsSome (text_of value)) }
         ensures err { OnErr result (pool.new ≡ pool.old) }
         ensures page { pool.new.page ≡ pool.old.page }
@@ -242,7 +245,7 @@ impl ValueRef {
     /// `OutOfMemory`.
     pub fn to_value(self, alloc: Global, pool: &StringPool) -> Result<Value, Error>
         ensures ok { IfOk result (λ value. value ≡ value_of_cell pool.now.places self) }
-        ensures kind { IfErr result (λ kind. kind ≡ OutOfMemory) }
+        ensures kind { OnlyMemory result }
     {
         Ok(match self {
             ValueRef::Null => Value::Null,

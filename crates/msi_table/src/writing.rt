@@ -1,12 +1,13 @@
 //! The bytes of a table's stream.
 
-ghost use Rattle.std.specs.Prelude.{◌≡◌, ℕ, ◌<◌, ◌++◌, length, OnOk, IfOk, IfErr, slice_index_or, [], Some};
+ghost use Rattle.std.specs.Prelude.{◌≡◌, ℕ, ◌<◌, ◌++◌, length, OnOk, IfOk, slice_index_or, [], Some};
 ghost use Rattle.std.specs.List.{flat_map};
-ghost use Rattle.msi_text.specs.declared.errors.ErrorKind.TheVariants.{OutOfMemory};
+ghost use Rattle.msi_text.specs.Results.{OnlyMemory};
 ghost use Rattle.msi_table.specs.Cells.{cell_bytes, cell_of, table_bytes, rows_in};
 ghost use Rattle.msi_table.specs.Columns.{types_of};
 ghost use Rattle.msi_table.specs.StoredOrder.{in_stored_order};
 ghost use Rattle.msi_table.specs.ReadBack.{FitsColumn, FitsTable, stored_number};
+ghost use Rattle.msi_table.specs.Tables.{stored_bytes};
 
 use crate::cells::width;
 use crate::column::{Column, ColumnType};
@@ -48,7 +49,7 @@ fn write_cell(
 ) -> Result<(), Error>
     requires { FitsColumn long coltype cell }
     ensures ok { OnOk result (out.new.items ≡ out.old.items ++ cell_bytes long coltype cell) }
-    ensures kind { IfErr result (λ kind. kind ≡ OutOfMemory) }
+    ensures kind { OnlyMemory result }
 {
     let bytes = number_for(long, coltype, cell).to_le_bytes();
     out.extend_from_slice(&bytes[..width(long, coltype)])?;
@@ -71,8 +72,9 @@ fn write_column(
     j: usize,
 ) -> Result<(), Error>
     requires { (i : ℕ) → i < length rows.now → FitsColumn long coltype (cell_of (slice_index_or rows.now i []) j) }
-    ensures ok { OnOk result (out.new.items ≡ out.old.items ++ flat_map (λ row. cell_bytes long coltype (cell_of row j)) rows.now) }
-    ensures kind { IfErr result (λ kind. kind ≡ OutOfMemory) }
+    ensures ok { let added = flat_map (λ row. cell_bytes long coltype (cell_of row j)) rows.now in
+        OnOk result (out.new.items ≡ out.old.items ++ added) }
+    ensures kind { OnlyMemory result }
 {
     for i in 0..rows.len() {
         write_cell(out, long, coltype, cell_in_row(rows[i].as_slice(), j))?;
@@ -81,7 +83,7 @@ fn write_column(
 }
 
 /// The bytes of rows, column by column.
-pub fn write_table(
+pub(crate) fn write_table(
     alloc: Global,
     long: bool,
     columns: &[Column],
@@ -90,7 +92,7 @@ pub fn write_table(
     requires { FitsTable long (types_of columns.now) rows.now }
     ensures ok { IfOk result (λ bytes. bytes.items ≡ table_bytes long (types_of columns.now) rows.now) }
     ensures reads_back { IfOk result (λ bytes. rows_in long (types_of columns.now) bytes.items ≡ Some rows.now) }
-    ensures kind { IfErr result (λ kind. kind ≡ OutOfMemory) }
+    ensures kind { OnlyMemory result }
 {
     let mut out = Vec::new(alloc);
     for j in 0..columns.len() {
@@ -100,16 +102,17 @@ pub fn write_table(
 }
 
 /// The bytes of rows in their stored order.
-pub fn write_rows(
+pub(crate) fn write_rows(
     alloc: Global,
     long: bool,
     columns: &[Column],
     mut rows: Vec<Items<ValueRef>>,
 ) -> Result<Vec<u8>, Error>
     requires { FitsTable long (types_of columns.now) rows.items }
-    ensures ok { IfOk result (λ bytes. bytes.items ≡ table_bytes long (types_of columns.now) (in_stored_order columns.now rows.items)) }
-    ensures reads_back { IfOk result (λ bytes. rows_in long (types_of columns.now) bytes.items ≡ Some (in_stored_order columns.now rows.items)) }
-    ensures kind { IfErr result (λ kind. kind ≡ OutOfMemory) }
+    ensures ok { IfOk result (λ bytes. bytes.items ≡ stored_bytes long columns.now rows.items) }
+    ensures reads_back { let stored = in_stored_order columns.now rows.items in
+        IfOk result (λ bytes. rows_in long (types_of columns.now) bytes.items ≡ Some stored) }
+    ensures kind { OnlyMemory result }
 {
     sort_rows(columns, &mut rows)?;
     write_table(alloc, long, columns, rows.as_slice())

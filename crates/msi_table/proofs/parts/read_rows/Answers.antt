@@ -7,6 +7,9 @@ use Rattle.msi_table.specs.Rows.{AreAsWide}
 use Rattle.msi_table.proofs.ReadRowsLemmas.{all_bytes, read_fits}
 use Rattle.msi_table.proofs.parts.read_rows.Goals as goal
 
+pub returns-clause-ok : goal.returns-clause-ok
+returns-clause-ok c = rw (← c.is_long.ensures, ← c.columns.ensures.columns) c.read_rows.ensures.ok
+
 pub returns-clause-wide : goal.returns-clause-wide
 returns-clause-wide c =
     let t = c.args.table.now in
@@ -14,8 +17,8 @@ returns-clause-wide c =
     (λ rows e. (read_fits t.long t.columns c.args.bytes.now rows.items e).0)
     (rw (← c.is_long.ensures, ← c.columns.ensures.columns) c.read_rows.ensures.ok)
 
-pub returns-clause-fits : goal.returns-clause-fits
-returns-clause-fits c =
+pub returns-clause-storable : goal.returns-clause-storable
+returns-clause-storable c =
     let t = c.args.table.now in
     IfOk-weaker c.read_rows.result (λ rows. rows_in t.long (types_of t.columns) c.args.bytes.now ≡ Some rows.items) (λ rows. 0 < length t.columns → FitsTable t.long (types_of t.columns) rows.items)
     (λ rows e some. (read_fits t.long t.columns c.args.bytes.now rows.items e).1 some (all_bytes c.args.bytes.now (λ i. omega (arith, c.type_inv.bytes i))))
