@@ -12,5 +12,6 @@ pub mod ReadFaultLemmas
 pub mod PageTablesLemmas
 pub mod PagesLemmas
 pub mod ReadLemmas
+pub mod NumberLemmas
 pub mod LanguageRowsLemmas
 pub mod CategoryRulesLemmas

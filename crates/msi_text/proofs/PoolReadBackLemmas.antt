@@ -10,7 +10,7 @@ use Rattle.msi_text.specs.declared.codepage.CodePage.TheVariants as page
 use Rattle.bstr.specs.Utf8.{pieces_from}
 use Rattle.msi_text.specs.Pages.{IsWritable, text_in, bytes_in, page_id, page_with_id}
 use Rattle.msi_text.specs.Pool.{Place, Entry, short_entry, long_entry, plain_entry, entry_of, place_bytes, SpellsEntry, SpellsEntries, SpellsTexts, PlacesWritten}
-use Rattle.msi_text.specs.PoolWriting.{has_untold, is_untold, piece_of, entry_in}
+use Rattle.msi_text.specs.PoolWriting.{has_refused_text, is_refused_spelling, piece_of, entry_in}
 use Rattle.msi_text.specs.PoolLaws.{PoolsReadBack}
 use Rattle.msi_text.proofs.PoolWritingLemmas.{told_few, free_piece, pool_stream_told, data_stream_told}
 
@@ -60,11 +60,11 @@ place_reads page p written writable = elim (cases_eq p.count 0) [
       ∙ reads_some (text_in page) (bytes_in page p.text) p.text (writable (omega arith))
 ]
 
-entries_spelled : (page : CodePage) (places : List Place) → AllByRecursion (λ p. p.count < 2 ^ 16) places → has_untold page places ≡ false
+entries_spelled : (page : CodePage) (places : List Place) → AllByRecursion (λ p. p.count < 2 ^ 16) places → has_refused_text page places ≡ false
     → SpellsEntries (flat_map (entry_in page) places) (map (λ p. entry_of p (piece_of page p)) places)
 entries_spelled page [] counts told = omega arith
 entries_spelled page (p ∷ ps) counts told =
-    let parts = or_parts (is_untold (place_bytes page p)) (has_untold page ps) told in (
+    let parts = or_parts (is_refused_spelling (place_bytes page p)) (has_refused_text page ps) told in (
       entry_in page p,
       flat_map (entry_in page) ps,
       refl,

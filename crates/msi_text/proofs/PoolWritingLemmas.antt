@@ -8,20 +8,20 @@ use Rattle.msi_text.specs.declared.codepage.CodePage.{CodePage}
 use Rattle.msi_text.specs.Lists.{all_present}
 use Rattle.msi_text.specs.Pages.{bytes_in, page_id}
 use Rattle.msi_text.specs.Pool.{Place, Pool, place_bytes, plain_entries, pool_stream, data_stream, header_of}
-use Rattle.msi_text.specs.PoolWriting.{is_untold, has_untold, is_refused, piece_of, entry_in}
+use Rattle.msi_text.specs.PoolWriting.{is_refused_spelling, has_refused_text, is_refused, piece_of, entry_in}
 
 -- bytes that can be told are there
-pub some_told : (o : Option (List ℕ)) → is_untold o ≡ false → o ≡ Some (unwrap_or o [])
+pub some_told : (o : Option (List ℕ)) → is_refused_spelling o ≡ false → o ≡ Some (unwrap_or o [])
 some_told None told = cc
 some_told (Some bytes) told = refl
 
 -- and what has no length can't be told
-pub none_untold : (o : Option (List ℕ)) → None ≡ option_map length o → true ≡ is_untold o
-none_untold None none = refl
-none_untold (Some bytes) none = cc
+pub none_refused : (o : Option (List ℕ)) → None ≡ option_map length o → true ≡ is_refused_spelling o
+none_refused None none = refl
+none_refused (Some bytes) none = cc
 
 -- and not too many
-pub told_few : (o : Option (List ℕ)) → is_untold o ≡ false → length (unwrap_or o []) < 2 ^ 32
+pub told_few : (o : Option (List ℕ)) → is_refused_spelling o ≡ false → length (unwrap_or o []) < 2 ^ 32
 told_few None told = cc
 told_few (Some bytes) told = ltb-true (length bytes) (2 ^ 32) (not-false _ told)
 
@@ -29,10 +29,10 @@ told_few (Some bytes) told = ltb-true (length bytes) (2 ^ 32) (not-false _ told)
 pub free_piece : (page : CodePage) (p : Place) → p.count ≡ 0 → piece_of page p ≡ []
 free_piece page p free = ap (λ b. unwrap_or (cond b (Some []) (bytes_in page p.text)) []) (eq-eqb p.count 0 free)
 
-pub pieces_told : (page : CodePage) (places : List Place) → has_untold page places ≡ false → all_present (map (place_bytes page) places) ≡ Some (map (piece_of page) places)
+pub pieces_told : (page : CodePage) (places : List Place) → has_refused_text page places ≡ false → all_present (map (place_bytes page) places) ≡ Some (map (piece_of page) places)
 pieces_told page [] told = refl
 pieces_told page (p ∷ ps) told =
-    let parts = or_parts (is_untold (place_bytes page p)) (has_untold page ps) told in
+    let parts = or_parts (is_refused_spelling (place_bytes page p)) (has_refused_text page ps) told in
     ap (option_and_then (λ x. option_map (λ xs. x ∷ xs) (all_present (map (place_bytes page) ps)))) (some_told (place_bytes page p) (parts.0))
     ∙ ap (option_map (λ xs. piece_of page p ∷ xs)) (pieces_told page ps (parts.1))
 
@@ -56,12 +56,12 @@ data_stream_told pool told =
 pub pool_written : (pool : Pool) (page : CodePage) (places : List Place) (header held : List ℕ)
     → page ≡ pool.page
     → places ≡ pool.places
-    → has_untold page places ≡ false
+    → has_refused_text page places ≡ false
     → header ≡ header_of (page_id pool.page) pool.long
     → held ≡ header ++ flat_map (entry_in page) places
     → pool_stream pool ≡ Some held
 pool_written pool page places header held page_is places_is told header_is held_is =
-    let told_here = ap (λ p. has_untold p pool.places) (sym page_is) ∙ ap (has_untold page) (sym places_is) ∙ told in
+    let told_here = ap (λ p. has_refused_text p pool.places) (sym page_is) ∙ ap (has_refused_text page) (sym places_is) ∙ told in
     pool_stream_told pool told_here
     ∙ ap Some (sym (held_is
     ∙ ap (λ bytes. bytes ++ flat_map (entry_in page) places) header_is
@@ -71,12 +71,12 @@ pool_written pool page places header held page_is places_is told header_is held_
 pub data_written : (pool : Pool) (page : CodePage) (places : List Place) (start held : List ℕ)
     → page ≡ pool.page
     → places ≡ pool.places
-    → has_untold page places ≡ false
+    → has_refused_text page places ≡ false
     → start ≡ []
     → held ≡ start ++ flat_map (piece_of page) places
     → data_stream pool ≡ Some held
 data_written pool page places start held page_is places_is told start_is held_is =
-    let told_here = ap (λ p. has_untold p pool.places) (sym page_is) ∙ ap (has_untold page) (sym places_is) ∙ told in
+    let told_here = ap (λ p. has_refused_text p pool.places) (sym page_is) ∙ ap (has_refused_text page) (sym places_is) ∙ told in
     data_stream_told pool told_here
     ∙ ap Some (sym (held_is
     ∙ ap (λ bytes. bytes ++ flat_map (piece_of page) places) start_is

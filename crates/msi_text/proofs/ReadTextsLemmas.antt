@@ -9,7 +9,7 @@ use Rattle.msi_text.specs.declared.errors.ErrorKind.{ErrorKind}
 use Rattle.msi_text.specs.declared.errors.ErrorKind.TheVariants as kind
 use Rattle.msi_text.specs.Pages.{text_in}
 use Rattle.msi_text.specs.Pool.{Entry, Place, SpellsTexts}
-use Rattle.msi_text.specs.PoolReading.{FailsAs, place_with, place_at}
+use Rattle.msi_text.specs.PoolReading.{FailsAs, place_with, place_in_front}
 use Rattle.msi_text.proofs.ReadFieldLemmas.{map_some, guard_passed, some_is, given, not_given}
 
 -- bytes in front read as the text of the place
@@ -20,7 +20,7 @@ pub record Placed (page : CodePage) (e : Entry) (bytes : List ℕ) (p : Place) (
   pub reads : text_in page piece ≡ Some p.text
   pub count : p.count ≡ e.count
 
-pub place_found : (page : CodePage) (e : Entry) (bytes : List ℕ) (p : Place) (rest : List ℕ) → place_at page e bytes ≡ Some (p, rest) → Placed page e bytes p rest
+pub place_found : (page : CodePage) (e : Entry) (bytes : List ℕ) (p : Place) (rest : List ℕ) → place_in_front page e bytes ≡ Some (p, rest) → Placed page e bytes p rest
 place_found page e bytes p rest h =
     let g = guard_passed (ltb (length bytes) e.len) (option_map (λ (text : List ℕ). (place_with e text, drop e.len bytes)) (text_in page (take e.len bytes))) (p, rest) h in
     let long : e.len ≤ length bytes = ltb-false _ _ g.0 in
@@ -28,25 +28,25 @@ place_found page e bytes p rest h =
     subst (λ (x : Place × List ℕ). Placed page e bytes x.0 x.1) m.2
     (record { piece = take e.len bytes; parts = sym (take-append-drop e.len bytes); len = omega (arith, length-take e.len bytes, long); reads = m.1; count = refl })
 
-pub place_again : (page : CodePage) (e : Entry) (p : Place) (piece rest : List ℕ) → length piece ≡ e.len → text_in page piece ≡ Some p.text → p.count ≡ e.count → place_at page e (piece ++ rest) ≡ Some (p, rest)
+pub place_again : (page : CodePage) (e : Entry) (p : Place) (piece rest : List ℕ) → length piece ≡ e.len → text_in page piece ≡ Some p.text → p.count ≡ e.count → place_in_front page e (piece ++ rest) ≡ Some (p, rest)
 place_again page e p piece rest len reads count =
     let long : ltb (length (piece ++ rest)) e.len ≡ false = le-ltb _ _ (omega (arith, length-append piece rest, len)) in
     rw (long, take_at piece rest e.len len, drop_at piece rest e.len len, reads, ← count) refl
 
 -- the places after the first
-next_texts : (page : CodePage) (bytes : List ℕ) (e : Entry) (es : List Entry) (p : Place) (rest : List ℕ) (ps : List Place) → place_at page e bytes ≡ Some (p, rest) → SpellsTexts page bytes (e ∷ es) ps
+next_texts : (page : CodePage) (bytes : List ℕ) (e : Entry) (es : List Entry) (p : Place) (rest : List ℕ) (ps : List Place) → place_in_front page e bytes ≡ Some (p, rest) → SpellsTexts page bytes (e ∷ es) ps
     → (others : List Place) × (ps ≡ p ∷ others) × SpellsTexts page rest es others
 next_texts page bytes e es p rest [] h spelled = absurd spelled
 next_texts page bytes e es p rest (q ∷ qs) h (piece, others, parts, len, reads, count, more) =
-    let both : (p, rest) ≡ (q, others) = some_is (p, rest) (q, others) (sym h ∙ ap (place_at page e) parts ∙ place_again page e q piece others len reads count) in
+    let both : (p, rest) ≡ (q, others) = some_is (p, rest) (q, others) (sym h ∙ ap (place_in_front page e) parts ∙ place_again page e q piece others len reads count) in
     let q-is : q ≡ p = ap (λ (x : Place × List ℕ). x.0) (sym both) in
     let rest-is : others ≡ rest = ap (λ (x : Place × List ℕ). x.1) (sym both) in
     (qs, ap (λ (x : Place). x ∷ qs) q-is, subst (λ (x : List ℕ). SpellsTexts page x es qs) rest-is more)
 
-no_texts : (page : CodePage) (bytes : List ℕ) (e : Entry) (es : List Entry) (ps : List Place) → place_at page e bytes ≡ None → SpellsTexts page bytes (e ∷ es) ps → ⊥
+no_texts : (page : CodePage) (bytes : List ℕ) (e : Entry) (es : List Entry) (ps : List Place) → place_in_front page e bytes ≡ None → SpellsTexts page bytes (e ∷ es) ps → ⊥
 no_texts page bytes e es [] h spelled = spelled
 no_texts page bytes e es (q ∷ qs) h (piece, others, parts, len, reads, count, more) =
-    not_given (q, others) (sym (place_again page e q piece others len reads count) ∙ ap (place_at page e) (sym parts) ∙ h)
+    not_given (q, others) (sym (place_again page e q piece others len reads count) ∙ ap (place_in_front page e) (sym parts) ∙ h)
 
 pub same_length : (page : CodePage) (bytes : List ℕ) (es : List Entry) (ps : List Place) → SpellsTexts page bytes es ps → length ps ≡ length es
 same_length page bytes [] [] h = refl
@@ -69,7 +69,7 @@ pub texts_start : (page : CodePage) (entries : List Entry) (bytes : List ℕ) �
 texts_start page entries bytes = record { into = λ ps h. h; back = λ ps h. (ps, refl, h) }
 
 pub texts_next : (page : CodePage) (entries : List Entry) (bytes : List ℕ) (i : ℕ) (front : List Place) (old : List ℕ) (e : Entry) (p : Place) (rest : List ℕ)
-    → AreInFront page entries bytes i front old → i < length entries → e ≡ get_or entries i e → place_at page e old ≡ Some (p, rest) → AreInFront page entries bytes (i + 1) (front ++ p ∷ []) rest
+    → AreInFront page entries bytes i front old → i < length entries → e ≡ get_or entries i e → place_in_front page e old ≡ Some (p, rest) → AreInFront page entries bytes (i + 1) (front ++ p ∷ []) rest
 texts_next page entries bytes i front old e p rest so_far lt is h =
     let these = later entries i e lt is in
     let f = place_found page e old p rest h in
@@ -103,7 +103,7 @@ texts_only page entries bytes i front rest ps so_far le spelled =
 
 -- a fault of the next place is one of the places
 pub texts_cut : (k : ErrorKind) (page : CodePage) (entries : List Entry) (bytes : List ℕ) (i : ℕ) (front : List Place) (old : List ℕ) (e : Entry) (ps : List Place)
-    → AreInFront page entries bytes i front old → i < length entries → e ≡ get_or entries i e → FailsAs k (place_at page e old) → SpellsTexts page bytes entries ps → FailsAs k (given ps)
+    → AreInFront page entries bytes i front old → i < length entries → e ≡ get_or entries i e → FailsAs k (place_in_front page e old) → SpellsTexts page bytes entries ps → FailsAs k (given ps)
 texts_cut kind.AlreadyExists page entries bytes i front old e ps so_far lt is h spelled = absurd h
 texts_cut kind.InvalidData page entries bytes i front old e ps so_far lt is h spelled =
     let b = so_far.back ps spelled in
@@ -119,6 +119,6 @@ one_texts page bytes [] [] (y ∷ ys) p q = absurd q
 one_texts page bytes [] (x ∷ xs) ys p q = absurd p
 one_texts page bytes (e ∷ es) [] ys p q = absurd p
 one_texts page bytes (e ∷ es) (x ∷ xs) ys (piece, others, parts, len, reads, count, more) q =
-    let read : place_at page e bytes ≡ Some (x, others) = ap (place_at page e) parts ∙ place_again page e x piece others len reads count in
+    let read : place_in_front page e bytes ≡ Some (x, others) = ap (place_in_front page e) parts ∙ place_again page e x piece others len reads count in
     let n = next_texts page bytes e es x others ys read q in
     ap (λ (ps : List Place). x ∷ ps) (one_texts page others es xs n.0 more n.2) ∙ sym n.1

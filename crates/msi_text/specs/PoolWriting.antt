@@ -5,17 +5,21 @@ use Rattle.msi_text.specs.declared.codepage.CodePage.{CodePage}
 use Rattle.msi_text.specs.Pool.{Place, Pool, place_bytes, plain_entry, entry_of}
 
 -- the page can't carry the text, or the text has more bytes than an entry can tell
+abbrev pub is_refused_spelling : Option (List ℕ) → Bool
+is_refused_spelling None = true
+is_refused_spelling (Some bytes) = not (nat_lt (length bytes) (2 ^ 32))
+
+-- the same, by another name
 abbrev pub is_untold : Option (List ℕ) → Bool
-is_untold None = true
-is_untold (Some bytes) = not (nat_lt (length bytes) (2 ^ 32))
+is_untold = is_refused_spelling
 
 -- one of these places can't be written in the page
-abbrev pub has_untold : CodePage → List Place → Bool
-has_untold page places = list_any (λ p. is_untold (place_bytes page p)) places
+abbrev pub has_refused_text : CodePage → List Place → Bool
+has_refused_text page places = list_any (λ p. is_refused_spelling (place_bytes page p)) places
 
 -- a pool that isn't written
 abbrev pub is_refused : Pool → Bool
-is_refused pool = has_untold pool.page pool.places
+is_refused pool = has_refused_text pool.page pool.places
 
 -- what is written of a place that can be: in the data stream, and in the pool's stream
 abbrev pub piece_of : CodePage → Place → List ℕ

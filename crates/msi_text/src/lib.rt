@@ -6,6 +6,7 @@ mod category_rules;
 pub mod codepage;
 pub mod errors;
 mod faults;
+pub mod fields;
 pub mod language;
 pub mod laws;
 pub mod parts;

@@ -3,6 +3,7 @@
 ghost use Rattle.std.specs.Prelude.{◌≡◌, IfOk, IfErr};
 ghost use Rattle.std.specs.Fmt.{decimal};
 ghost use Rattle.msi_text.specs.Spellings.{language_list_text, braced_uuid_text};
+ghost use Rattle.msi_text.specs.Results.{OnlyMemory};
 ghost use Rattle.msi_text.specs.declared.errors.ErrorKind.TheVariants.{OutOfMemory};
 
 use crate::errors::Error;
@@ -17,7 +18,7 @@ use uuid::Uuid;
 /// `OutOfMemory`.
 pub fn language_text(alloc: Global, language: LanguageId) -> Result<Text, Error>
     ensures ok { IfOk result (λ text. text ≡ decimal language) }
-    ensures kind { IfErr result (λ kind. kind ≡ OutOfMemory) }
+    ensures kind { OnlyMemory result }
 {
     Ok(Text::from_string(language.id().to_string(alloc)?))
 }
@@ -28,7 +29,7 @@ pub fn language_text(alloc: Global, language: LanguageId) -> Result<Text, Error>
 /// `OutOfMemory`.
 pub fn language_list(alloc: Global, languages: &[LanguageId]) -> Result<Text, Error>
     ensures ok { IfOk result (λ text. text ≡ language_list_text languages.now) }
-    ensures kind { IfErr result (λ kind. kind ≡ OutOfMemory) }
+    ensures kind { OnlyMemory result }
 {
     let mut text = String::new(alloc);
     if let Some((first, rest)) = languages.split_first() {
@@ -46,7 +47,7 @@ pub fn language_list(alloc: Global, languages: &[LanguageId]) -> Result<Text, Er
 /// `OutOfMemory`.
 pub fn braced_uuid(alloc: Global, uuid: Uuid) -> Result<Text, Error>
     ensures ok { IfOk result (λ text. text ≡ braced_uuid_text uuid) }
-    ensures kind { IfErr result (λ kind. kind ≡ OutOfMemory) }
+    ensures kind { OnlyMemory result }
 {
     let mut buffer = Uuid::encode_buffer();
     Ok(Text::from_string(String::from_str(alloc, uuid.braced().encode_upper(&mut buffer))?))

@@ -1,6 +1,5 @@
 //! The pool of texts that a package's tables name by number (`_StringPool` and `_StringData`).
 
-mod fields;
 mod places;
 mod pool;
 mod reading;

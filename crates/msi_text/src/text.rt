@@ -8,6 +8,7 @@ ghost use Rattle.std.specs.Fmt.{padded};
 ghost use Rattle.std.specs.Hash as fed;
 ghost use Rattle.std.specs.Cmp.Rules.{hashing};
 ghost use Rattle.std.proofs.Common.{refl, rules};
+ghost use Rattle.msi_text.specs.Results.{OnlyMemory};
 ghost use Rattle.msi_text.specs.declared.errors.ErrorKind.TheVariants.{OutOfMemory};
 
 use crate::errors::Error;
@@ -60,7 +61,7 @@ impl Text {
     /// `OutOfMemory`.
     pub fn clone(&self, alloc: Global) -> Result<Text, Error>
         ensures ok { IfOk result (λ text. text ≡ self.now) }
-        ensures kind { IfErr result (λ kind. kind ≡ OutOfMemory) }
+        ensures kind { OnlyMemory result }
     {
         let text = String::from_str(alloc, self.as_str())?;
         Ok(Text { text })
@@ -139,7 +140,7 @@ pub trait IntoText {
     /// `OutOfMemory`.
     fn into_text(self, alloc: Global) -> Result<Text, Error>
         ensures ok { IfOk result (λ t. t ≡ text self) }
-        ensures kind { IfErr result (λ kind. kind ≡ OutOfMemory) };
+        ensures kind { OnlyMemory result };
 }
 
 /// Copies the text.

@@ -2,6 +2,7 @@
 
 ghost use Rattle.std.specs.Prelude.{◌≡◌, ◌<◌, ◌≤◌, ◌+◌, IfOk, IfErr, OnOk, OnErr, Some, length, position, vec_len, slice_get, max};
 ghost use Rattle.msi_text.specs.FirstFit.{is_fit, first_fit, with_text_at, count_of, given_back};
+ghost use Rattle.msi_text.specs.Results.{OnlyMemory};
 ghost use Rattle.msi_text.specs.declared.errors.ErrorKind.TheVariants.{OutOfMemory};
 
 use crate::errors::Error;
@@ -49,7 +50,7 @@ impl Place {
     /// The same place once more. The only error is `OutOfMemory`.
     fn clone(&self, alloc: Global) -> Result<Place, Error>
         ensures ok { IfOk result (λ place. place ≡ self.now) }
-        ensures kind { IfErr result (λ kind. kind ≡ OutOfMemory) }
+        ensures kind { OnlyMemory result }
     {
         Ok(Place {
             text: self.text.clone(alloc)?,
@@ -61,7 +62,7 @@ impl Place {
 /// The same places once more. The only error is `OutOfMemory`.
 pub fn clone_places(places: &Vec<Place>) -> Result<Vec<Place>, Error>
     ensures ok { IfOk result (λ copies. copies.items ≡ places.now.items) }
-    ensures kind { IfErr result (λ kind. kind ≡ OutOfMemory) }
+    ensures kind { OnlyMemory result }
 {
     let alloc = *places.allocator();
     let mut copies = Vec::new(alloc);
@@ -101,7 +102,7 @@ pub fn put_at(places: &mut Vec<Place>, at: usize, text: Text) -> Result<(), Erro
     ensures ok { OnOk result (places.new.items ≡ with_text_at places.old.items at text) }
     ensures len { OnOk result (vec_len places.new ≤ max (vec_len places.old) (at + 1)) }
     ensures err { OnErr result (places.new.items ≡ places.old.items) }
-    ensures kind { IfErr result (λ kind. kind ≡ OutOfMemory) }
+    ensures kind { OnlyMemory result }
 {
     if at < places.len() {
         let place = &mut places[at];

@@ -4,6 +4,7 @@ ghost use Rattle.std.specs.Prelude.{◌≡◌, IfOk, IfErr, OnOk, OnErr, Some, i
 ghost use Rattle.std.specs.Option.{option_copied};
 ghost use Rattle.msi_text.specs.FirstFit.{taken, given_back, most_places as most_of};
 ghost use Rattle.msi_text.specs.FirstFitLaws.{Holds, place_at, text_at, count_at};
+ghost use Rattle.msi_text.specs.Results.{OnlyMemory};
 ghost use Rattle.msi_text.specs.declared.errors.ErrorKind.TheVariants.{InvalidData, InvalidInput, OutOfMemory};
 
 use crate::codepage::CodePage;
@@ -15,8 +16,11 @@ use crate::text::Text;
 use std::alloc::Global;
 use std::marker::Model;
 
+/// The bit above the page's id that says that references are long.
+pub(crate) const LONG: u32 = 1 << 31;
+
 /// How many places a pool may have: as many as long references can name.
-pub const MOST_PLACES: usize = 16_777_215;
+pub(crate) const MOST_PLACES: usize = 16_777_215;
 
 /// Up to how many places one is added where references are short.
 const MOST_SHORT_PLACES: usize = 65_535;
@@ -125,7 +129,7 @@ impl StringPool {
     /// `OutOfMemory`.
     pub fn clone(&self) -> Result<StringPool, Error>
         ensures ok { IfOk result (λ pool. pool ≡ self.now) }
-        ensures kind { IfErr result (λ kind. kind ≡ OutOfMemory) }
+        ensures kind { OnlyMemory result }
     {
         Ok(StringPool {
             codepage: self.codepage,

@@ -5,14 +5,15 @@ ghost use Rattle.msi_text.specs.declared.errors.ErrorKind.TheVariants.{Io, Inval
 ghost use Rattle.msi_text.specs.Pages.{page_with_id, text_in};
 ghost use Rattle.msi_text.specs.Pool as pools;
 ghost use Rattle.msi_text.specs.Pool.{SpellsEntries, SpellsTexts};
-ghost use Rattle.msi_text.specs.PoolReading.{PoolStream, IsPoolStream, Gives, IsUnlessFault, IsStreamFault, pool_with, entry_at, place_at, header_in};
+ghost use Rattle.msi_text.specs.PoolReading.{PoolStream, IsPoolStream, IsStreamFault, pool_with, entry_at, place_in_front, header_in};
+ghost use Rattle.msi_text.specs.Results.{Gives, IsUnlessFault};
 
 use crate::codepage::CodePage;
 use crate::errors::{Error, ErrorKind};
+use crate::fields::{u16_at, u32_at};
 use crate::reasons;
-use crate::stringpool::fields::{LONG, u16_at, u32_at};
 use crate::stringpool::places::Place;
-use crate::stringpool::pool::{MOST_PLACES, StringPool};
+use crate::stringpool::pool::{LONG, MOST_PLACES, StringPool};
 use crate::text::Text;
 use std::alloc::Global;
 use std::io::Read;
@@ -115,7 +116,7 @@ fn stream_of(alloc: Global, bytes: &[u8]) -> Result<StringPoolBuilder, Error>
     ensures only { (stream : PoolStream) → IsPoolStream bytes.now stream → Gives (λ s. s) result (Some stream) }
     ensures kinds { IfErr result (λ kind. (kind ≡ InvalidData) ⊎ (kind ≡ OutOfMemory)) }
 {
-    let (header, rest) = u32_at(bytes)?;
+    let (header, rest) = u32_at(bytes, reasons::POOL_CUT)?;
     let (codepage, long) = page_of(header)?;
     let entries = entries_of(alloc, rest)?;
     if entries.len() > MOST_PLACES {
@@ -170,13 +171,13 @@ fn entries_of(alloc: Global, bytes: &[u8]) -> Result<Vec<Entry>, Error>
 fn entry_of(bytes: &[u8]) -> Result<(Entry, &[u8]), Error>
     ensures { Gives (λ x. (x.0, x.1.now)) result (entry_at bytes.now) }
 {
-    let (short, rest) = u16_at(bytes)?;
-    let (count, rest) = u16_at(rest)?;
+    let (short, rest) = u16_at(bytes, reasons::POOL_CUT)?;
+    let (count, rest) = u16_at(rest, reasons::POOL_CUT)?;
     if short > 0 || count == 0 {
         let len = short as u32;
         return Ok((Entry { len, count }, rest));
     }
-    let (len, rest) = u32_at(rest)?;
+    let (len, rest) = u32_at(rest, reasons::POOL_CUT)?;
     Ok((Entry { len, count }, rest))
 }
 
@@ -208,7 +209,7 @@ fn place_of<'a>(
     entry: &Entry,
     bytes: &'a [u8],
 ) -> Result<(Place, &'a [u8]), Error>
-    ensures { Gives (λ x. (x.0, x.1.now)) result (place_at codepage entry.now bytes.now) }
+    ensures { Gives (λ x. (x.0, x.1.now)) result (place_in_front codepage entry.now bytes.now) }
 {
     let len = entry.len as usize;
     if bytes.len() < len {

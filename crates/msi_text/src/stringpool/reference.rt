@@ -7,7 +7,9 @@ ghost use Rattle.msi_text.specs.declared.errors.ErrorKind.TheVariants.{InvalidDa
 
 use crate::errors::{Error, ErrorKind};
 use crate::faults::read_exactly;
+use crate::fields::number_of;
 use crate::reasons;
+use byteorder::{ByteOrder, LittleEndian};
 use std::io::{Read, Write};
 use std::marker::Model;
 
@@ -66,16 +68,18 @@ impl StringRef {
         let number = if long {
             let mut bytes = [0; 3];
             read_exactly(reader, &mut bytes, reasons::REFERENCE_CUT)?;
-            bytes[0] as u32 + 256 * (bytes[1] as u32 + 256 * bytes[2] as u32)
+            number_of(&bytes)
         } else {
             let mut bytes = [0; 2];
             read_exactly(reader, &mut bytes, reasons::REFERENCE_CUT)?;
-            bytes[0] as u32 + 256 * bytes[1] as u32
+            number_of(&bytes)
         };
         if number == 0 {
             Ok(None)
         } else {
-            Ok(Some(StringRef { number }))
+            Ok(Some(StringRef {
+                number: number as u32,
+            }))
         }
     }
 
@@ -94,14 +98,15 @@ impl StringRef {
         ensures kind { fits_reference long reference ≡ true → IfErr result (λ kind. (kind ≡ Io) ⊎ (kind ≡ OutOfMemory)) }
     {
         let number = reference.map_or(0, |reference| reference.number);
-        let first = (number % 256) as u8;
-        let second = (number / 256 % 256) as u8;
         if long {
-            let third = (number / 65536) as u8;
-            writer.write_all(&[first, second, third])?;
+            let mut bytes = [0; 3];
+            LittleEndian::write_u24(&mut bytes, number);
+            writer.write_all(&bytes)?;
             Ok(())
         } else if number <= 65535 {
-            writer.write_all(&[first, second])?;
+            let mut bytes = [0; 2];
+            LittleEndian::write_u16(&mut bytes, number as u16);
+            writer.write_all(&bytes)?;
             Ok(())
         } else {
             Err(Error::new(ErrorKind::InvalidInput, reasons::REFERENCE_WIDE))

@@ -5,15 +5,16 @@ ghost use Rattle.std.specs.List.{flat_map};
 ghost use Rattle.std.specs.Io.KnownBytes.{Appends};
 ghost use Rattle.msi_text.specs.Pages.{page_id};
 ghost use Rattle.msi_text.specs.Pool.{place_bytes, plain_entry, pool_stream, data_stream};
-ghost use Rattle.msi_text.specs.PoolWriting.{is_untold, has_untold, is_refused, piece_of, entry_in};
+ghost use Rattle.msi_text.specs.PoolWriting.{is_refused_spelling, has_refused_text, is_refused, piece_of, entry_in};
+ghost use Rattle.msi_text.specs.Results.{OnlyMemory};
 ghost use Rattle.msi_text.specs.declared.errors.ErrorKind.TheVariants.{InvalidInput, Io, OutOfMemory};
 
 use crate::codepage::CodePage;
 use crate::errors::{Error, ErrorKind, Reason};
+use crate::fields::{push_u16, push_u32};
 use crate::reasons;
-use crate::stringpool::fields::LONG;
 use crate::stringpool::places::Place;
-use crate::stringpool::pool::StringPool;
+use crate::stringpool::pool::{LONG, StringPool};
 use std::alloc::AllocError;
 use std::io::Write;
 
@@ -76,7 +77,7 @@ fn pool_bytes(pool: &StringPool) -> Result<Vec<u8>, Error>
         return Err(Error::new(ErrorKind::InvalidInput, reason));
     }
     let mut held = Vec::new(pool.allocator());
-    held.extend_from_slice(&header(page, pool.long_string_refs()).to_le_bytes())?;
+    push_u32(&mut held, header(page, pool.long_string_refs()))?;
     push_entries(&mut held, page, pool.places())?;
     Ok(held)
 }
@@ -106,7 +107,7 @@ fn data_bytes(pool: &StringPool) -> Result<Vec<u8>, Error>
 
 /// Why one of the places can't be written.
 fn refusal(page: CodePage, places: &[Place]) -> Option<Reason>
-    ensures { is_some result ≡ has_untold page places.now }
+    ensures { is_some result ≡ has_refused_text page places.now }
 {
     for place in places {
         let reason = place_refusal(page, place);
@@ -119,7 +120,7 @@ fn refusal(page: CodePage, places: &[Place]) -> Option<Reason>
 
 /// Why a place can't be written.
 fn place_refusal(page: CodePage, place: &Place) -> Option<Reason>
-    ensures { is_some result ≡ is_untold (place_bytes page place.now) }
+    ensures { is_some result ≡ is_refused_spelling (place_bytes page place.now) }
 {
     match place_len(page, place) {
         None => Some(reasons::PAGE_CHARACTER),
@@ -140,7 +141,7 @@ fn place_len(page: CodePage, place: &Place) -> Option<usize>
 
 /// Adds the entries of the places.
 fn push_entries(held: &mut Vec<u8>, page: CodePage, places: &[Place]) -> Result<(), AllocError>
-    requires { has_untold page places.now ≡ false }
+    requires { has_refused_text page places.now ≡ false }
     ensures { OnOk result (held.new.items ≡ held.old.items ++ flat_map (entry_in page) places.now) }
 {
     for place in places {
@@ -151,7 +152,7 @@ fn push_entries(held: &mut Vec<u8>, page: CodePage, places: &[Place]) -> Result<
 
 /// Adds the entry of a place.
 fn push_place(held: &mut Vec<u8>, page: CodePage, place: &Place) -> Result<(), AllocError>
-    requires { is_untold (place_bytes page place.now) ≡ false }
+    requires { is_refused_spelling (place_bytes page place.now) ≡ false }
     ensures { OnOk result (held.new.items ≡ held.old.items ++ entry_in page place.now) }
 {
     let len = place_len(page, place).unwrap_or(0);
@@ -164,21 +165,19 @@ fn push_entry(held: &mut Vec<u8>, len: u32, count: u16) -> Result<(), AllocError
     ensures { OnOk result (held.new.items ≡ held.old.items ++ plain_entry (record { len = len; count = count })) }
 {
     if count == 0 || (0 < len && len < SHORT_END) {
-        held.extend_from_slice(&(len as u16).to_le_bytes())?;
-        held.extend_from_slice(&count.to_le_bytes())?;
-        return Ok(());
+        push_u16(held, len as u16)?;
+        return push_u16(held, count);
     }
-    held.extend_from_slice(&[0; 2])?;
-    held.extend_from_slice(&count.to_le_bytes())?;
-    held.extend_from_slice(&len.to_le_bytes())?;
-    Ok(())
+    push_u16(held, 0)?;
+    push_u16(held, count)?;
+    push_u32(held, len)
 }
 
 /// Adds the bytes of the texts, one behind the other.
 fn push_texts(held: &mut Vec<u8>, page: CodePage, places: &[Place]) -> Result<(), Error>
-    requires { has_untold page places.now ≡ false }
+    requires { has_refused_text page places.now ≡ false }
     ensures ok { OnOk result (held.new.items ≡ held.old.items ++ flat_map (piece_of page) places.now) }
-    ensures kind { IfErr result (λ kind. kind ≡ OutOfMemory) }
+    ensures kind { OnlyMemory result }
 {
     for place in places {
         push_text(held, page, place)?;
@@ -188,9 +187,9 @@ fn push_texts(held: &mut Vec<u8>, page: CodePage, places: &[Place]) -> Result<()
 
 /// Adds the bytes of a place's text, and none of a free place.
 fn push_text(held: &mut Vec<u8>, page: CodePage, place: &Place) -> Result<(), Error>
-    requires { is_untold (place_bytes page place.now) ≡ false }
+    requires { is_refused_spelling (place_bytes page place.now) ≡ false }
     ensures ok { OnOk result (held.new.items ≡ held.old.items ++ piece_of page place.now) }
-    ensures kind { IfErr result (λ kind. kind ≡ OutOfMemory) }
+    ensures kind { OnlyMemory result }
 {
     if place.count() > 0 {
         let bytes = page.encode(*held.allocator(), place.text())?;
