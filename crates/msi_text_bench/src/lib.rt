@@ -12,4 +12,6 @@ mod pages;
 #[cfg(test)]
 mod pool;
 #[cfg(test)]
+mod samples;
+#[cfg(test)]
 mod times;
