@@ -10,4 +10,6 @@ mod layouts;
 #[cfg(test)]
 mod names;
 #[cfg(test)]
+mod readme;
+#[cfg(test)]
 mod samples;
