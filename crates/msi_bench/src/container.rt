@@ -1,206 +1,176 @@
-//! A container of one stream, byte by byte, and what damage to it does.
+//! The streams of a container, and what damage to a file does.
 
-use crate::samples::{APP_EXE, INSTALLER, assert_invalid, installer, number, put};
-use msi_container::compound::{Bytes, Contents, Name, StreamMap, read, write};
-use msi_text::Error;
-use std::alloc::{AllocError, Global};
+use crate::foreign::{small_streams, version_4};
+use crate::samples::{APP_EXE, changed, contents_of, file_of, holds};
+use msi_container::compound::{Name, read};
+use msi_text::{Error, ErrorKind};
+use std::alloc::Global;
 use std::process::Abort;
 use std::test::Fail;
 
-/// Contents with these streams.
-fn contents_of(alloc: Global, all: &[(&str, &[u8])]) -> Result<Contents, Error> {
-    let mut streams = StreamMap::new(alloc);
-    for (name, bytes) in all {
-        let held = Vec::from_slice(alloc, *bytes)?;
-        streams.insert(Name::new(*name)?, Bytes::from_vec(held))?;
+/// The names of a file's streams, each with a blank behind it.
+fn names(alloc: Global, file: &[u8]) -> Result<String, Error> {
+    let mut all = String::new(alloc);
+    for (name, _) in read(alloc, file)?.streams.iter() {
+        let text = name.to_text(alloc)?;
+        all.push_str(text.as_str())?;
+        all.push(' ')?;
     }
-    Ok(installer(streams))
-}
-
-/// 4096 bytes, no two neighbours the same.
-fn content(alloc: Global) -> Result<Vec<u8>, AllocError> {
-    let mut bytes = Vec::with_capacity(alloc, 4096)?;
-    for i in 0..4096_u32 {
-        bytes.push((i % 251) as u8)?;
-    }
-    Ok(bytes)
-}
-
-/// The file that holds `App.exe` with that content.
-fn plain_file(alloc: Global) -> Result<Vec<u8>, Fail> {
-    let held = content(alloc)?;
-    Ok(write(
-        alloc,
-        &contents_of(alloc, &[(APP_EXE, held.as_slice())])?,
-        0,
-    )?)
-}
-
-/// The file with some bytes changed.
-fn damaged(file: &[u8], alloc: Global, at: usize, part: &[u8]) -> Result<Vec<u8>, Fail> {
-    let mut bytes = Vec::from_slice(alloc, file)?;
-    put(&mut bytes, at, part);
-    Ok(bytes)
-}
-
-/// Asserts that the bytes hold `App.exe` with its content, and nothing else.
-fn assert_plain(rt: &impl Abort, alloc: Global, bytes: &[u8]) -> Result<(), Fail> {
-    let contents = read(alloc, bytes)?;
-    assert_eq!(rt; contents.clsid.as_slice(), INSTALLER.as_slice());
-    assert!(rt; !contents.has_storages);
-    assert_eq!(rt; contents.streams.iter().count(), 1);
-    let held = contents
-        .streams
-        .get(&Name::new(APP_EXE)?)
-        .expect(rt, "the stream");
-    assert!(rt; held.as_slice() == content(alloc)?.as_slice());
-    Ok(())
+    Ok(all)
 }
 
 #[test]
-fn plain_stream_laid_out(rt: HostRuntime) -> Result<(), Fail> {
-    let file = plain_file(rt.alloc())?;
-    assert_eq!(rt; file.len(), 5632);
-    assert_eq!(rt; number(file.as_slice(), 76), Some(9), "the FAT's sector");
-    let mut fat = vec![in rt.alloc(); 0xFFFF_FFFE, 2, 3, 4, 5, 6, 7, 8, 0xFFFF_FFFE, 0xFFFF_FFFD]?;
-    for _ in 0..118 {
-        fat.push(0xFFFF_FFFF)?;
-    }
-    for (i, entry) in fat.iter().enumerate() {
-        assert_eq!(rt;
-            number(file.as_slice(), 5120 + 4 * i),
-            Some(*entry),
-            "entry {i}"
-        );
-    }
-    assert_plain(&rt, rt.alloc(), file.as_slice())
-}
-
-#[test]
-fn empty_stream_has_no_sector(rt: HostRuntime) -> Result<(), Fail> {
-    let contents = contents_of(rt.alloc(), &[("\u{4824}", b"")])?;
-    let file = write(rt.alloc(), &contents, 0)?;
-    assert_eq!(rt; file.len(), 1536);
-    // The second entry's start.
-    assert_eq!(rt; number(file.as_slice(), 512 + 128 + 116), Some(0xFFFF_FFFE));
-    let again = read(rt.alloc(), file.as_slice())?;
-    let held = again
-        .streams
-        .get(&Name::new("\u{4824}")?)
-        .expect(&rt, "the stream");
-    assert_eq!(rt; held.as_slice().len(), 0);
+fn streams_come_back_in_order(rt: HostRuntime) -> Result<(), Fail> {
+    let all = [("b", 4096), ("A", 0), ("a", 4096), ("bb", 4096), ("B", 0)];
+    let file = file_of(rt.alloc(), &all)?;
+    assert_eq!(rt; names(rt.alloc(), file.as_slice())?.as_str(), "A a B b bb ");
     Ok(())
 }
 
-#[test]
-fn several_streams_come_back_in_order(rt: HostRuntime) -> Result<(), Fail> {
-    let held = content(rt.alloc())?;
-    let all: [(&str, &[u8]); 5] = [
-        ("b", held.as_slice()),
-        ("A", b""),
-        ("a", held.as_slice()),
-        ("bb", held.as_slice()),
-        ("B", b""),
-    ];
-    let file = write(rt.alloc(), &contents_of(rt.alloc(), &all)?, 0)?;
-    let again = read(rt.alloc(), file.as_slice())?;
-    let order = ["A", "a", "B", "b", "bb"];
-    for ((name, bytes), expected) in again.streams.iter().zip(order) {
-        let text = name.to_text(rt.alloc())?;
-        assert_eq!(rt; text.as_str(), expected);
-        let empty = expected == "A" || expected == "B";
-        assert_eq!(rt; bytes.as_slice().is_empty(), empty);
-    }
-    assert_eq!(rt; again.streams.iter().count(), 5);
-    Ok(())
+/// The name of a text.
+fn name(rt: &impl Abort, text: &str) -> Name {
+    Name::new(text).expect(rt, "a name")
 }
 
 #[test]
 fn streams_are_kept_by_name(rt: HostRuntime) -> Result<(), Fail> {
-    let mut streams = StreamMap::new(rt.alloc());
-    assert!(rt; streams.is_empty());
-    for (name, size) in [("a", 2), ("b", 0), ("a", 3)] {
-        let held = vec![in rt.alloc(); 7; size]?;
-        streams.insert(Name::new(name)?, Bytes::from_vec(held))?;
-    }
+    assert!(rt; contents_of(rt.alloc(), &[])?.streams.is_empty());
+    let mut streams = contents_of(rt.alloc(), &[("a", 2), ("b", 0), ("a", 3)])?.streams;
     assert_eq!(rt; streams.len(), 2);
-    assert!(rt; streams.contains(&Name::new("b")?));
     // Capitals are told from small letters.
-    assert!(rt; !streams.contains(&Name::new("A")?));
-    let held = streams.remove(&Name::new("a")?).expect(&rt, "the stream");
-    assert_eq!(rt; held.as_slice(), [7, 7, 7].as_slice());
-    assert!(rt; streams.get(&Name::new("a")?).is_none());
+    for (text, found) in [("a", true), ("b", true), ("A", false)] {
+        assert_eq!(rt; streams.contains(&name(&rt, text)), found, "{text}");
+    }
+    let held = streams.remove(&name(&rt, "a")).expect(&rt, "the stream");
+    assert_eq!(rt; held.as_slice(), [1, 2, 3].as_slice());
+    assert!(rt; streams.get(&name(&rt, "a")).is_none());
     assert_eq!(rt; streams.len(), 1);
+    Ok(())
+}
+
+/// Asserts that the bytes hold nothing.
+fn assert_invalid(rt: &impl Abort, alloc: Global, bytes: &[u8], what: &str) {
+    match read(alloc, bytes) {
+        Ok(_) => panic!(rt; "{what} was read"),
+        Err(error) => assert_eq!(rt; error.kind(), ErrorKind::InvalidData, "{what}"),
+    }
+}
+
+/// A place, what is put there, and what that is.
+type Damage<'a> = (usize, &'a [u8], &'a str);
+
+/// Damage to a file of one stream of 4096 bytes: its FAT stands at 5120, and the stream's entry at 640.
+const DAMAGE: [Damage<'static>; 11] = [
+    (
+        5120,
+        &[0, 0, 0, 0],
+        "a directory whose sector leads to itself",
+    ),
+    (5120 + 4 * 3, &[2, 0, 0, 0], "a chain that leads back"),
+    (
+        640 + 120,
+        &[0xFF, 0xFF, 0xFF, 0xFF],
+        "a size that no chain has",
+    ),
+    (44, &[0, 0, 0, 0], "no FAT sector"),
+    (44, &[2, 0, 0, 0], "a FAT sector that isn't listed"),
+    (
+        44,
+        &[0xFF, 0xFF, 0xFF, 0xFF],
+        "more FAT sectors than can be",
+    ),
+    (640 + 68, &[1, 0, 0, 0], "a left link to the entry itself"),
+    (640 + 68, &[2, 0, 0, 0], "a left link to an unused entry"),
+    (640 + 68, &[4, 0, 0, 0], "a left link past the directory"),
+    (0, &[0], "another signature"),
+    (48, &[0xFE, 0xFF, 0xFF, 0xFF], "no directory"),
+];
+
+/// Damage to a file with a mini stream: its FAT stands at 512, the entries from 1024 on, and the mini FAT at 1536.
+const MINI_DAMAGE: [Damage<'static>; 6] = [
+    (
+        1536 + 8,
+        &[2, 0, 0, 0],
+        "a mini sector that leads to itself",
+    ),
+    (1536 + 8, &[1, 0, 0, 0], "a mini sector used by two streams"),
+    (
+        1536 + 8,
+        &[8, 0, 0, 0],
+        "a mini sector past the mini stream",
+    ),
+    (1152 + 116, &[8, 0, 0, 0], "a start past the mini stream"),
+    (512 + 8, &[2, 0, 0, 0], "a mini FAT that leads to itself"),
+    (1024 + 116, &[4, 0, 0, 0], "a mini stream past the file"),
+];
+
+/// Asserts that a file holds nothing when it is damaged.
+fn assert_refused(
+    rt: &impl Abort,
+    alloc: Global,
+    file: &[u8],
+    all: &[Damage],
+) -> Result<(), Error> {
+    for (at, piece, what) in all {
+        let bytes = changed(alloc, file, *at, *piece, file.len())?;
+        assert_invalid(rt, alloc, bytes.as_slice(), *what);
+    }
     Ok(())
 }
 
 #[test]
 fn damage_is_refused(rt: HostRuntime) -> Result<(), Fail> {
     let alloc = rt.alloc();
-    let file = plain_file(alloc)?;
-    let end = 0xFFFF_FFFE_u32.to_le_bytes();
-    let free = 0xFFFF_FFFF_u32.to_le_bytes();
-    // The FAT stands at 5120, the stream's entry at 640.
-    let cases: [(usize, &[u8], &str); 11] = [
-        (
-            5120,
-            &[0, 0, 0, 0],
-            "a directory whose sector leads to itself",
-        ),
-        (5120 + 4 * 3, &[2, 0, 0, 0], "a chain that leads back"),
-        (640 + 120, &free, "a size that no chain has"),
-        (44, &[0, 0, 0, 0], "no FAT sector"),
-        (44, &[2, 0, 0, 0], "a FAT sector that isn't listed"),
-        (44, &free, "more FAT sectors than can be"),
-        (640 + 68, &[1, 0, 0, 0], "a left link to the entry itself"),
-        (640 + 68, &[2, 0, 0, 0], "a left link to an unused entry"),
-        (640 + 68, &[4, 0, 0, 0], "a left link past the directory"),
-        (0, &[0], "another signature"),
-        (48, &end, "no directory"),
-    ];
-    for (at, part, what) in cases {
-        let bytes = damaged(file.as_slice(), alloc, at, part)?;
-        assert_invalid(&rt, alloc, bytes.as_slice(), what);
+    let file = file_of(alloc, &[(APP_EXE, 4096)])?;
+    assert_refused(&rt, alloc, file.as_slice(), &DAMAGE)?;
+    let file = small_streams(alloc)?;
+    assert_refused(&rt, alloc, file.as_slice(), &MINI_DAMAGE)?;
+    Ok(())
+}
+
+/// Changes to the file of one stream, how long it is then, and what they are.
+const UNSEEN: [(usize, &[u8], usize, &str); 4] = [
+    (
+        5120 + 4 * 8,
+        &[1, 0, 0, 0],
+        5632,
+        "what follows the last sector needed",
+    ),
+    (
+        640 + 124,
+        &[0xFF, 0xFF, 0xFF, 0xFF],
+        5632,
+        "the size's high half",
+    ),
+    (24, &[59, 0], 5632, "the minor version"),
+    // A last sector that is cut reads as followed by zeros. The last successor that is looked up is sector 7's, and of
+    // its four bytes only the first, at 5148, isn't zero.
+    (0, &[], 5149, "zeros at the end"),
+];
+
+#[test]
+fn what_is_not_looked_at_may_change(rt: HostRuntime) -> Result<(), Fail> {
+    let alloc = rt.alloc();
+    let file = file_of(alloc, &[(APP_EXE, 4096)])?;
+    for (at, piece, len, what) in UNSEEN {
+        let bytes = changed(alloc, file.as_slice(), at, piece, len)?;
+        let same = holds(alloc, bytes.as_slice(), &[(APP_EXE, 4096)])?;
+        assert!(rt; same, "{what}");
     }
     Ok(())
 }
 
 #[test]
-fn what_is_not_looked_at_may_change(rt: HostRuntime) -> Result<(), Fail> {
-    let alloc = rt.alloc();
-    let file = plain_file(alloc)?;
-    let cases: [(usize, &[u8], &str); 3] = [
-        (
-            5120 + 4 * 8,
-            &[1, 0, 0, 0],
-            "what follows the last sector needed",
-        ),
-        (640 + 124, &[0xFF, 0xFF, 0xFF, 0xFF], "the size's high half"),
-        (24, &[59, 0], "the minor version"),
-    ];
-    for (at, part, _what) in cases {
-        let bytes = damaged(file.as_slice(), alloc, at, part)?;
-        assert_plain(&rt, alloc, bytes.as_slice())?;
-    }
-    // A last sector that is cut reads as followed by zeros. The last successor that is looked up is sector 7's, and of its
-    // four bytes only the first, at 5148, isn't zero.
-    let (cut, _) = file
-        .as_slice()
-        .split_at_checked(5149)
-        .expect(&rt, "5149 bytes");
-    assert_plain(&rt, alloc, cut)
-}
-
-#[test]
 fn each_shorter_beginning_is_refused(rt: HostRuntime) -> Result<(), Fail> {
     let alloc = rt.alloc();
-    let file = plain_file(alloc)?;
+    let file = file_of(alloc, &[(APP_EXE, 4096)])?;
     for len in 0..5149 {
-        let (cut, _) = file
-            .as_slice()
-            .split_at_checked(len)
-            .expect(&rt, "a beginning");
+        let cut = file.as_slice().get(..len).expect(&rt, "a beginning");
         assert_invalid(&rt, alloc, cut, "a beginning");
     }
+    // The stream of this file starts at 12288.
+    let file = version_4(alloc)?;
+    let cut = file.as_slice().get(..12288).expect(&rt, "a beginning");
+    assert_invalid(&rt, alloc, cut, "a sector past the end");
     Ok(())
 }

@@ -12,4 +12,8 @@ mod pages;
 #[cfg(test)]
 mod pool;
 #[cfg(test)]
+mod samples;
+#[cfg(test)]
 mod times;
+#[cfg(test)]
+mod whole_pools;

@@ -1,294 +1,283 @@
-//! The string pool: worked streams, which place a text takes, and what a cut does.
+//! The string pool: which place a text takes, the streams, and what a cut or a page that lacks a character does.
 
-use msi_text::parts::{data_stream_of, pool_of, pool_stream_of};
-use msi_text::{CodePage, ErrorKind, StringPool, StringPoolBuilder, StringRef};
+use crate::samples::told;
+use msi_text::parts::string_ref;
+use msi_text::{CodePage, Error, ErrorKind, StringPool, StringPoolBuilder, StringRef, Text};
 use std::alloc::Global;
 use std::process::Abort;
 use std::test::Fail;
 
-/// Takes a text, and answers its place's number.
-fn take(alloc: Global, pool: &mut StringPool, text: &str) -> Result<i32, Fail> {
-    Ok(pool.incref(String::from_str(alloc, text)?)?.number())
+/// The two streams of a pool: its entries, and its texts.
+type Streams<'a> = (&'a [u8], &'a [u8]);
+
+/// A step of a pool's life.
+#[derive(Clone, Copy, Debug)]
+enum Step<'a> {
+    /// A text takes this place.
+    Take(&'a str, i32),
+    /// A place is given back.
+    GiveBack(u8),
+    /// A place can't be given back.
+    Keep(u8),
 }
 
-/// The reference of a number below 256.
-fn reference(rt: &impl Abort, number: u8) -> StringRef {
-    let bytes = [number, 0];
-    let mut reader: &[u8] = &bytes;
-    match StringRef::read(&mut reader, false) {
-        Ok(Some(place)) => place,
-        _ => panic!(rt; "place {number}"),
+/// The reference of a number from 1 to 255.
+fn reference(number: u8) -> StringRef {
+    string_ref(u32::from(number.max(1)))
+}
+
+/// Whether a step goes as it says.
+fn goes(alloc: Global, pool: &mut StringPool, step: Step) -> Result<bool, Error> {
+    match step {
+        Step::Take(text, number) => {
+            let text = Text::from_string(String::from_str(alloc, text)?);
+            let place = pool.incref(text.clone(alloc)?.into_string())?;
+            Ok(place.number() == number)
+        }
+        Step::GiveBack(number) => Ok(pool.decref(reference(number)).is_ok()),
+        Step::Keep(number) => {
+            let refused = told(pool.decref(reference(number)));
+            Ok(refused == Err(ErrorKind::InvalidData))
+        }
     }
 }
 
-/// The two streams of a pool.
-fn streams(alloc: Global, pool: &StringPool) -> Result<(Vec<u8>, Vec<u8>), Fail> {
+/// The pool that two streams hold.
+fn pool_in(alloc: Global, streams: Streams) -> Result<StringPool, Error> {
+    let builder = StringPoolBuilder::read_from_pool(alloc, streams.0)?;
+    builder.build_from_data(alloc, streams.1)
+}
+
+/// Whether a pool is written as two streams.
+fn is_written(alloc: Global, pool: &StringPool, streams: Streams) -> Result<bool, Error> {
     let mut places = Vec::new(alloc);
     let mut data = Vec::new(alloc);
     pool.write_pool(&mut places)?;
     pool.write_data(&mut data)?;
-    Ok((places, data))
+    Ok(places.as_slice() == streams.0 && data.as_slice() == streams.1)
 }
 
-/// The pool that two streams hold.
-fn pool_in(alloc: Global, places: &[u8], data: &[u8]) -> Result<StringPool, Fail> {
-    Ok(StringPoolBuilder::read_from_pool(alloc, places)?.build_from_data(alloc, data)?)
-}
-
-/// Asserts that a pool's stream holds none.
-fn assert_no_pool(rt: &impl Abort, alloc: Global, places: &[u8], what: &str) {
-    match StringPoolBuilder::read_from_pool(alloc, places) {
-        Ok(_) => panic!(rt; "{what} was read"),
-        Err(error) => assert_eq!(rt; error.kind(), ErrorKind::InvalidData, "{what}"),
+/// Whether the places of a pool have these texts and counts, and there are no more.
+fn has_places(pool: &StringPool, places: &[(&str, u16)]) -> bool {
+    let mut number = 1_u8;
+    for (text, count) in places {
+        let place = reference(number);
+        if pool.get(place) != *text || pool.refcount(place) != *count {
+            return false;
+        }
+        number = number.saturating_add(1);
     }
+    pool.num_strings() as usize == places.len() && pool.get(reference(number)) == ""
 }
 
-#[test]
-fn three_texts_take_two_places(rt: HostRuntime) -> Result<(), Fail> {
-    let alloc = rt.alloc();
-    let mut pool = StringPool::new(alloc, CodePage::Utf8);
-    let numbers = [
-        take(alloc, &mut pool, "Foo")?,
-        take(alloc, &mut pool, "Quux")?,
-        take(alloc, &mut pool, "Foo")?,
-    ];
-    assert_eq!(rt; numbers, [1, 2, 1]);
-    assert_eq!(rt; pool.num_strings(), 2);
-    assert_eq!(rt; pool.refcount(reference(&rt, 1)), 2);
-    assert_eq!(rt; pool.get(reference(&rt, 2)), "Quux");
-    assert_eq!(rt; pool.get(reference(&rt, 3)), "");
-    let (places, data) = streams(alloc, &pool)?;
-    assert_eq!(rt;
-        places.as_slice(),
-        [0xE9, 0xFD, 0, 0, 3, 0, 2, 0, 4, 0, 1, 0].as_slice()
-    );
-    assert_eq!(rt; data.as_slice(), b"FooQuux".as_slice());
-    let again = pool_in(alloc, places.as_slice(), data.as_slice())?;
-    assert_eq!(rt; again.num_strings(), 2);
-    assert_eq!(rt; again.get(reference(&rt, 1)), "Foo");
-    assert_eq!(rt; again.refcount(reference(&rt, 1)), 2);
-    assert!(rt; again.codepage() == CodePage::Utf8 && !again.long_string_refs());
+/// Asserts that a pool has these places, and is written as these streams.
+fn assert_pool(
+    rt: &impl Abort,
+    alloc: Global,
+    pool: &StringPool,
+    places: &[(&str, u16)],
+    streams: Streams,
+) -> Result<(), Error> {
+    assert!(rt; has_places(pool, places), "{places:?}");
+    assert!(rt; is_written(alloc, pool, streams)?, "{places:?}");
     Ok(())
 }
 
-#[test]
-fn an_empty_text_in_use_is_written_long(rt: HostRuntime) -> Result<(), Fail> {
-    let alloc = rt.alloc();
-    let mut pool = StringPool::new(alloc, CodePage::Utf8);
-    take(alloc, &mut pool, "")?;
-    take(alloc, &mut pool, "a")?;
-    pool.decref(reference(&rt, 2))?;
-    let (places, data) = streams(alloc, &pool)?;
-    assert_eq!(rt;
-        places.as_slice(),
-        [0xE9, 0xFD, 0, 0, 0, 0, 1, 0, 0, 0, 0, 0, 0, 0, 0, 0].as_slice()
-    );
-    assert_eq!(rt; data.len(), 0);
-    let again = pool_in(alloc, places.as_slice(), data.as_slice())?;
-    assert_eq!(rt; again.num_strings(), 2);
-    assert_eq!(rt; again.refcount(reference(&rt, 1)), 1);
-    assert_eq!(rt; again.refcount(reference(&rt, 2)), 0);
-    Ok(())
-}
+/// The streams of a pool in UTF-8 without places.
+const EMPTY: Streams<'static> = (&[0xE9, 0xFD, 0, 0], b"");
 
-#[test]
-fn the_first_free_place_is_taken(rt: HostRuntime) -> Result<(), Fail> {
-    let alloc = rt.alloc();
-    let mut pool = StringPool::new(alloc, CodePage::Utf8);
-    take(alloc, &mut pool, "a")?;
-    take(alloc, &mut pool, "b")?;
-    pool.decref(reference(&rt, 1))?;
-    assert_eq!(rt; take(alloc, &mut pool, "b")?, 1);
-    let copy = pool.clone()?;
-    for number in [1, 2] {
-        assert_eq!(rt; copy.get(reference(&rt, number)), "b");
-        assert_eq!(rt; copy.refcount(reference(&rt, number)), 1);
-    }
+/// Those of a pool with `é` in UTF-8.
+const ACUTE: Streams<'static> = (&[0xE9, 0xFD, 0, 0, 2, 0, 1, 0], &[0xC3, 0xA9]);
+
+/// The entries of a pool with a text of 70000 bytes.
+const LONG: &[u8] = &[0xE9, 0xFD, 0, 0, 0, 0, 1, 0, 0x70, 0x11, 1, 0];
+
+/// A pool's streams, steps, and then its places with their counts and its streams.
+type Life = (
+    Streams<'static>,
+    &'static [Step<'static>],
+    &'static [(&'static str, u16)],
+    Streams<'static>,
+);
+
+const LIVES: [Life; 6] = [
+    (
+        EMPTY,
+        &[
+            Step::Take("Foo", 1),
+            Step::Take("Quux", 2),
+            Step::Take("Foo", 1),
+        ],
+        &[("Foo", 2), ("Quux", 1)],
+        (&[0xE9, 0xFD, 0, 0, 3, 0, 2, 0, 4, 0, 1, 0], b"FooQuux"),
+    ),
+    // An empty text in use is written long.
+    (
+        EMPTY,
+        &[Step::Take("", 1), Step::Take("a", 2), Step::GiveBack(2)],
+        &[("", 1), ("", 0)],
+        (&[0xE9, 0xFD, 0, 0, 0, 0, 1, 0, 0, 0, 0, 0, 0, 0, 0, 0], b""),
+    ),
+    // A free place comes before a later one with the text.
+    (
+        EMPTY,
+        &[
+            Step::Take("a", 1),
+            Step::Take("b", 2),
+            Step::GiveBack(1),
+            Step::Take("b", 1),
+        ],
+        &[("b", 1), ("b", 1)],
+        (&[0xE9, 0xFD, 0, 0, 1, 0, 1, 0, 1, 0, 1, 0], b"bb"),
+    ),
     // What nothing names can't be given back, nor what isn't there.
-    pool.decref(reference(&rt, 1))?;
-    for number in [1, 3] {
-        match pool.decref(reference(&rt, number)) {
-            Ok(()) => panic!(&rt; "place {number} was given back"),
-            Err(error) => assert_eq!(rt; error.kind(), ErrorKind::InvalidData),
+    (
+        (&[0xE9, 0xFD, 0, 0, 1, 0, 1, 0, 1, 0, 1, 0], b"bb"),
+        &[Step::GiveBack(1), Step::Keep(1), Step::Keep(3)],
+        &[("", 0), ("b", 1)],
+        (&[0xE9, 0xFD, 0, 0, 0, 0, 0, 0, 1, 0, 1, 0], b"b"),
+    ),
+    // A full count is not raised.
+    (
+        (&[0xE9, 0xFD, 0, 0, 1, 0, 0xFF, 0xFF], b"b"),
+        &[Step::Take("b", 2)],
+        &[("b", 65535), ("b", 1)],
+        (&[0xE9, 0xFD, 0, 0, 1, 0, 0xFF, 0xFF, 1, 0, 1, 0], b"bb"),
+    ),
+    // Entries count the bytes of the page.
+    (
+        (&[0xE4, 0x04, 0, 0], b""),
+        &[Step::Take("é€", 1)],
+        &[("é€", 1)],
+        (&[0xE4, 0x04, 0, 0, 2, 0, 1, 0], &[0xE9, 0x80]),
+    ),
+];
+
+#[test]
+fn texts_take_the_first_place_that_fits(rt: HostRuntime) -> Result<(), Fail> {
+    let alloc = rt.alloc();
+    for (start, steps, places, end) in LIVES {
+        let mut pool = pool_in(alloc, start)?;
+        for step in steps {
+            assert!(rt; goes(alloc, &mut pool, *step)?, "{step:?}");
         }
+        assert_pool(&rt, alloc, &pool, places, end)?;
+        assert_pool(&rt, alloc, &pool.clone()?, places, end)?;
+        assert_pool(&rt, alloc, &pool_in(alloc, end)?, places, end)?;
     }
     Ok(())
 }
 
 #[test]
-fn a_full_count_is_not_raised(rt: HostRuntime) -> Result<(), Fail> {
+fn a_text_of_70000_bytes_is_written_long(rt: HostRuntime) -> Result<(), Fail> {
     let alloc = rt.alloc();
-    let full = [0xE9, 0xFD, 0, 0, 1, 0, 0xFF, 0xFF];
-    let mut pool = pool_in(alloc, full.as_slice(), b"b".as_slice())?;
-    assert_eq!(rt; take(alloc, &mut pool, "b")?, 2);
-    assert_eq!(rt; pool.refcount(reference(&rt, 1)), 65535);
+    let data = vec![in alloc; b'x'; 70000]?;
+    let pool = pool_in(alloc, (LONG, data.as_slice()))?;
+    assert_eq!(rt; pool.get(reference(1)).len(), 70000);
+    assert!(rt; is_written(alloc, &pool, (LONG, data.as_slice()))?);
     Ok(())
 }
 
-#[test]
-fn a_long_text_is_written_long(rt: HostRuntime) -> Result<(), Fail> {
-    let alloc = rt.alloc();
-    let mut text = String::new(alloc);
-    for _ in 0..70000 {
-        text.push('x')?;
-    }
-    let mut pool = StringPool::new(alloc, CodePage::Utf8);
-    pool.incref(text)?;
-    let (places, data) = streams(alloc, &pool)?;
-    assert_eq!(rt;
-        places.as_slice(),
-        [0xE9, 0xFD, 0, 0, 0, 0, 1, 0, 0x70, 0x11, 1, 0].as_slice()
-    );
-    assert_eq!(rt; data.len(), 70000);
-    let again = pool_in(alloc, places.as_slice(), data.as_slice())?;
-    assert_eq!(rt; again.get(reference(&rt, 1)).len(), 70000);
-    Ok(())
-}
-
-#[test]
-fn cut_pools_are_refused(rt: HostRuntime) -> Result<(), Fail> {
-    let alloc = rt.alloc();
-    assert_no_pool(
-        &rt,
-        alloc,
-        &[0xE9, 0xFD, 0, 0, 3, 0],
-        "an entry without its count",
-    );
-    assert_no_pool(&rt, alloc, &[0xE9, 0xFD, 0], "three bytes");
-    assert_no_pool(&rt, alloc, &[1, 0, 0, 0], "an unknown page");
-    // One stray byte is accepted.
-    let stray = [0xE9, 0xFD, 0, 0, 1, 0, 1, 0, 7];
-    let pool = pool_in(alloc, stray.as_slice(), b"a".as_slice())?;
-    assert_eq!(rt; pool.num_strings(), 1);
-    // An entry that tells more bytes than there are.
-    let huge = [0xE9, 0xFD, 0, 0, 0, 0, 1, 0, 0xFF, 0xFF, 0xFF, 0xFF];
-    let builder = StringPoolBuilder::read_from_pool(alloc, huge.as_slice())?;
-    match builder.build_from_data(alloc, b"".as_slice()) {
-        Ok(_) => panic!(&rt; "4294967295 bytes were found"),
-        Err(error) => assert_eq!(rt; error.kind(), ErrorKind::InvalidData),
-    }
-    Ok(())
-}
-
-#[test]
-fn a_text_that_the_page_lacks_is_refused(rt: HostRuntime) -> Result<(), Fail> {
-    let alloc = rt.alloc();
-    let mut pool = StringPool::new(alloc, CodePage::Windows1250);
-    take(alloc, &mut pool, "\u{E9}")?;
+/// Whether neither stream of a pool can be written, and nothing is.
+fn is_refused(alloc: Global, pool: &StringPool) -> bool {
     let mut written = Vec::new(alloc);
-    let refused = [pool.write_pool(&mut written), pool.write_data(&mut written)];
-    for result in refused {
-        match result {
-            Ok(()) => panic!(&rt; "it was written"),
-            Err(error) => assert_eq!(rt; error.kind(), ErrorKind::InvalidInput),
-        }
-    }
-    assert_eq!(rt; written.len(), 0);
+    told(pool.write_pool(&mut written)) == Err(ErrorKind::InvalidInput)
+        && told(pool.write_data(&mut written)) == Err(ErrorKind::InvalidInput)
+        && written.is_empty()
+}
+
+#[test]
+fn what_the_page_lacks_is_not_written(rt: HostRuntime) -> Result<(), Fail> {
+    let mut pool = StringPool::new(rt.alloc(), CodePage::Windows1250);
+    assert!(rt; goes(rt.alloc(), &mut pool, Step::Take("é", 1))?);
+    assert!(rt; is_refused(rt.alloc(), &pool));
     pool.set_codepage(CodePage::Utf8);
-    let (_, data) = streams(alloc, &pool)?;
-    assert_eq!(rt; data.as_slice(), [0xC3, 0xA9].as_slice());
+    assert!(rt; is_written(rt.alloc(), &pool, ACUTE)?);
     Ok(())
 }
 
+/// How many places the pool has that streams hold, in UTF-8 and with short references.
+fn place_count(rt: &impl Abort, alloc: Global, streams: Streams) -> Result<u32, Error> {
+    let pool = pool_in(alloc, streams)?;
+    assert!(rt; pool.codepage() == CodePage::Utf8 && !pool.long_string_refs());
+    Ok(pool.num_strings())
+}
+
+/// Streams, how many places they hold, and what they are.
+const CUTS: [(Streams<'static>, Result<u32, ErrorKind>, &str); 6] = [
+    (
+        (&[0xE9, 0xFD, 0, 0, 3, 0, 2, 0, 4, 0, 1, 0], b"FooQuux"),
+        Ok(2),
+        "two places",
+    ),
+    (
+        (&[0xE9, 0xFD, 0, 0, 1, 0, 1, 0, 7], b"a"),
+        Ok(1),
+        "one stray byte",
+    ),
+    (
+        (&[0xE9, 0xFD, 0, 0, 3, 0], b""),
+        Err(ErrorKind::InvalidData),
+        "an entry without its count",
+    ),
+    (
+        (&[0xE9, 0xFD, 0], b""),
+        Err(ErrorKind::InvalidData),
+        "three bytes",
+    ),
+    (
+        (&[1, 0, 0, 0], b""),
+        Err(ErrorKind::InvalidData),
+        "an unknown page",
+    ),
+    (
+        (&[0xE9, 0xFD, 0, 0, 0, 0, 1, 0, 0xFF, 0xFF, 0xFF, 0xFF], b""),
+        Err(ErrorKind::InvalidData),
+        "a text of 4294967295 bytes",
+    ),
+];
+
 #[test]
-fn references_of_two_and_three_bytes(rt: HostRuntime) -> Result<(), Fail> {
-    let cases: [(&[u8], bool, i32); 2] = [(&[5, 0], false, 5), (&[5, 0, 1], true, 65541)];
-    for (bytes, long, number) in cases {
-        let mut reader = bytes;
-        let place = StringRef::read(&mut reader, long)?.expect(&rt, "a place");
-        assert_eq!(rt; place.number(), number);
-        let mut written = Vec::new(rt.alloc());
-        StringRef::write(&mut written, Some(place), long)?;
-        assert_eq!(rt; written.as_slice(), bytes);
-        if number > 65535 {
-            match StringRef::write(&mut written, Some(place), false) {
-                Ok(()) => panic!(&rt; "it was written short"),
-                Err(error) => assert_eq!(rt; error.kind(), ErrorKind::InvalidInput),
-            }
+fn cut_pools_are_refused(rt: HostRuntime) {
+    for (streams, expected, what) in CUTS {
+        let found = told(place_count(&rt, rt.alloc(), streams));
+        assert!(rt; found == expected, "{what}");
+    }
+}
+
+/// The number that is read, or none, of which the same bytes are written.
+fn number(rt: &impl Abort, alloc: Global, bytes: &[u8], long: bool) -> Result<i32, Error> {
+    let mut reader = bytes;
+    let mut written = Vec::new(alloc);
+    let number = match StringRef::read(&mut reader, long)? {
+        Some(place) => {
+            StringRef::write(&mut written, Some(place), long)?;
+            place.number()
         }
-    }
-    let mut none: &[u8] = &[0, 0];
-    assert!(rt; StringRef::read(&mut none, false)?.is_none());
-    let mut cut: &[u8] = &[1];
-    match StringRef::read(&mut cut, false) {
-        Ok(_) => panic!(&rt; "one byte was read"),
-        Err(error) => assert_eq!(rt; error.kind(), ErrorKind::InvalidData),
-    }
-    Ok(())
+        None => {
+            StringRef::write(&mut written, None, long)?;
+            0
+        }
+    };
+    assert_eq!(rt; written.as_slice(), bytes);
+    Ok(number)
 }
 
-#[test]
-fn pages_have_ids_and_names(rt: HostRuntime) -> Result<(), Fail> {
-    let cases = [
-        (932, "Windows Japanese Shift JIS"),
-        (951, "Windows Chinese (traditional) Big5-HKSCS"),
-        (1252, "Windows Latin 1"),
-        (10000, "Mac OS Roman"),
-        (20127, "US-ASCII"),
-        (28595, "ISO Latin/Cyrillic"),
-        (65001, "UTF-8"),
-    ];
-    for (id, name) in cases {
-        let page = CodePage::from_id(id).expect(&rt, "a page");
-        assert_eq!(rt; page.id(), id);
-        assert_eq!(rt; page.name(), name);
-    }
-    assert!(rt; CodePage::from_id(0) == Some(CodePage::Utf8));
-    assert!(rt; CodePage::default() == CodePage::Utf8);
-    assert!(rt; CodePage::from_id(1).is_none() && CodePage::from_id(-1).is_none());
-    Ok(())
-}
+/// Bytes, whether references are long, and the number that is read, 0 where it is none.
+const REFERENCES: [(&[u8], bool, Result<i32, ErrorKind>); 4] = [
+    (&[5, 0], false, Ok(5)),
+    (&[5, 0, 1], true, Ok(65541)),
+    (&[0, 0], false, Ok(0)),
+    (&[1], false, Err(ErrorKind::InvalidData)),
+];
 
 #[test]
-fn bytes_that_spell_no_character_are_replaced(rt: HostRuntime) -> Result<(), Fail> {
-    let alloc = rt.alloc();
-    let bytes = [0x41, 0xE2, 0x82, 0x42, 0xFF];
-    let text = CodePage::Utf8.decode(alloc, bytes.as_slice())?;
-    assert_eq!(rt; text.as_str(), "A\u{FFFD}B\u{FFFD}");
-    let plain = CodePage::Windows1250.decode(alloc, b"ab".as_slice())?;
-    assert_eq!(rt; plain.as_str(), "ab");
-    match CodePage::Windows1250.decode(alloc, [0xE9].as_slice()) {
-        Ok(_) => panic!(&rt; "a byte past ASCII was read"),
-        Err(error) => assert_eq!(rt; error.kind(), ErrorKind::InvalidData),
+fn references_have_two_or_three_bytes(rt: HostRuntime) {
+    for (bytes, long, expected) in REFERENCES {
+        let found = told(number(&rt, rt.alloc(), bytes, long));
+        assert!(rt; found == expected, "{bytes:?}");
     }
-    Ok(())
-}
-
-#[test]
-fn a_pool_from_its_streams_and_back(rt: HostRuntime) -> Result<(), Fail> {
-    let alloc = rt.alloc();
-    // `Foo` in use, and `bar` free with its text.
-    let places = [0xE9, 0xFD, 0, 0, 3, 0, 1, 0, 3, 0, 0, 0];
-    let mut pool = pool_of(alloc, places.as_slice(), b"Foobar".as_slice())?;
-    assert_eq!(rt; pool.get(reference(&rt, 2)), "bar");
-    assert_eq!(rt; pool.num_strings(), 2);
-    pool.forget_texts([false, true].as_slice());
-    assert_eq!(rt; pool.get(reference(&rt, 1)), "Foo");
-    assert_eq!(rt; pool.get(reference(&rt, 2)), "bar");
-    // What is free is written empty.
-    assert_eq!(rt;
-        pool_stream_of(&pool)?.as_slice(),
-        [0xE9, 0xFD, 0, 0, 3, 0, 1, 0, 0, 0, 0, 0].as_slice()
-    );
-    assert_eq!(rt; data_stream_of(&pool)?.as_slice(), b"Foo".as_slice());
-    assert_eq!(rt; pool.num_strings(), 2);
-    pool.forget_texts([false, false].as_slice());
-    assert_eq!(rt; pool.get(reference(&rt, 1)), "Foo");
-    assert_eq!(rt; pool.get(reference(&rt, 2)), "");
-    Ok(())
-}
-
-#[test]
-fn a_writer_that_is_full_has_a_beginning(rt: HostRuntime) -> Result<(), Fail> {
-    let alloc = rt.alloc();
-    let mut pool = StringPool::new(alloc, CodePage::Utf8);
-    take(alloc, &mut pool, "Foo")?;
-    let mut room = [0; 6];
-    let mut writer: &mut [u8] = &mut room;
-    match pool.write_pool(&mut writer) {
-        Ok(()) => panic!(&rt; "it was written"),
-        Err(error) => assert_eq!(rt; error.kind(), ErrorKind::Io),
-    }
-    assert_eq!(rt; room.as_slice(), [0xE9, 0xFD, 0, 0, 3, 0].as_slice());
-    Ok(())
+    let mut written = Vec::new(rt.alloc());
+    let wide = StringRef::write(&mut written, Some(string_ref(65541)), false);
+    assert!(rt; told(wide) == Err(ErrorKind::InvalidInput));
 }

@@ -1,7 +1,9 @@
 //! Moments: worked rows, and their bytes.
 
-use msi_text::{ErrorKind, Timestamp};
-use std::test::Fail;
+use crate::samples::told;
+use msi_text::{Error, ErrorKind, Timestamp};
+use std::alloc::Global;
+use std::process::Abort;
 
 #[test]
 fn moments_from_unix(rt: HostRuntime) {
@@ -29,24 +31,30 @@ fn moments_to_unix(rt: HostRuntime) {
     }
 }
 
-#[test]
-fn a_moment_in_eight_bytes(rt: HostRuntime) -> Result<(), Fail> {
-    let bytes = [0x00, 0x80, 0x3E, 0xD5, 0xDE, 0xB1, 0x9D, 0x01];
-    let mut reader: &[u8] = &bytes;
+/// The ticks that are read, of which the same bytes are written.
+fn ticks(rt: &impl Abort, alloc: Global, bytes: &[u8]) -> Result<u64, Error> {
+    let mut reader = bytes;
     let moment = Timestamp::read_from(&mut reader)?;
-    assert_eq!(rt; moment.ticks(), 116_444_736_000_000_000);
-    let mut written = Vec::new(rt.alloc());
+    let mut written = Vec::new(alloc);
     moment.write_to(&mut written)?;
-    assert_eq!(rt; written.as_slice(), bytes.as_slice());
-    Ok(())
+    assert_eq!(rt; written.as_slice(), bytes);
+    Ok(moment.ticks())
 }
 
 #[test]
-fn a_cut_moment_is_refused(rt: HostRuntime) {
-    let bytes = [0x00, 0x80, 0x3E, 0xD5, 0xDE, 0xB1, 0x9D];
-    let mut reader: &[u8] = &bytes;
-    match Timestamp::read_from(&mut reader) {
-        Ok(moment) => panic!(rt; "read as {}", moment.ticks()),
-        Err(error) => assert_eq!(rt; error.kind(), ErrorKind::InvalidData),
+fn a_moment_has_eight_bytes(rt: HostRuntime) {
+    let cases: [(&[u8], Result<u64, ErrorKind>); 2] = [
+        (
+            &[0x00, 0x80, 0x3E, 0xD5, 0xDE, 0xB1, 0x9D, 0x01],
+            Ok(116_444_736_000_000_000),
+        ),
+        (
+            &[0x00, 0x80, 0x3E, 0xD5, 0xDE, 0xB1, 0x9D],
+            Err(ErrorKind::InvalidData),
+        ),
+    ];
+    for (bytes, expected) in cases {
+        let found = told(ticks(&rt, rt.alloc(), bytes));
+        assert!(rt; found == expected, "{bytes:?}");
     }
 }

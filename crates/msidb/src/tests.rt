@@ -1,26 +1,22 @@
-//! The program as a whole, over files in the folder for temporary ones.
+//! The program as a whole, over a file in the folder for temporary ones.
 
 use crate::{USAGE, run};
-use std::alloc::{AllocError, Global};
+use std::alloc::Global;
 use std::io::{self, Read, Write};
 use std::test::Fail;
 use std::{env, fs, process};
 
-/// A reader that fails.
+/// A reader and a writer that fail.
 #[derive(Drop)]
-struct BrokenReader;
+struct Broken;
 
-impl Read for BrokenReader {
+impl Read for Broken {
     fn read(&mut self, _buffer: &mut [u8]) -> io::Result<usize> {
         Err(io::Error::from(io::ErrorKind::BrokenPipe))
     }
 }
 
-/// A writer that fails.
-#[derive(Drop)]
-struct BrokenWriter;
-
-impl Write for BrokenWriter {
+impl Write for Broken {
     fn write(&mut self, _bytes: &[u8]) -> io::Result<usize> {
         Err(io::Error::from(io::ErrorKind::BrokenPipe))
     }
@@ -37,176 +33,120 @@ fn path(rt: &HostRuntime, name: &str) -> Result<String, Fail> {
     Ok(format!(in rt.alloc(); "{}/msidb-{id}-{name}", folder.as_path().display())?)
 }
 
-/// Words as the program is handed them.
-fn words(alloc: Global, all: &[&str]) -> Result<Vec<String>, AllocError> {
+/// Words as the program is handed them, with a path where a word begins with `FILE`.
+fn words(alloc: Global, all: &[&str], path: &str) -> Result<Vec<String>, Fail> {
     let mut words = Vec::new(alloc);
     for word in all {
-        words.push(String::from_str(alloc, word)?)?;
+        words.push(match word.strip_prefix("FILE") {
+            Some(rest) => format!(in alloc; "{path}{rest}")?,
+            None => String::from_str(alloc, word)?,
+        })?;
     }
     Ok(words)
 }
 
-/// What a run printed, and its status.
-#[derive(Drop)]
-struct Outcome {
+/// Whether a run prints this, and ends with this status and this line of errors, if any.
+fn ends(
+    rt: &HostRuntime,
+    words: &[String],
+    mut input: &[u8],
+    output: &str,
     status: u8,
-    output: Vec<u8>,
-    errors: Vec<u8>,
-}
-
-/// Runs the program.
-fn ran(rt: &HostRuntime, all: &[&str], mut input: &[u8]) -> Result<Outcome, Fail> {
-    let words = words(rt.alloc(), all)?;
-    let mut output = Vec::new(rt.alloc());
+    line: Option<&str>,
+) -> bool {
+    let mut printed = Vec::new(rt.alloc());
     let mut errors = Vec::new(rt.alloc());
-    let status = run(rt, words.as_slice(), &mut input, &mut output, &mut errors);
-    Ok(Outcome {
-        status,
-        output,
-        errors,
-    })
+    let ended = run(rt, words, &mut input, &mut printed, &mut errors);
+    ended == status && printed.as_slice() == output.as_bytes() && is_line(errors.as_slice(), line)
 }
 
-#[test]
-fn wraps_a_stream_and_lists_it(rt: HostRuntime) -> Result<(), Fail> {
-    let out = path(&rt, "plain")?;
-    let input = vec![in rt.alloc(); 0x5A; 4096]?;
-    let wrapped = ran(&rt, &["wrap", out.as_str(), "App.exe"], input.as_slice())?;
-    assert_eq!(rt; wrapped.status, 0);
-    assert_eq!(rt; wrapped.output.len() + wrapped.errors.len(), 0);
-    assert_eq!(rt; fs::read(&rt, out.as_str())?.len(), 5632);
-
-    let listed = ran(&rt, &["raw", out.as_str()], b"")?;
-    assert_eq!(rt; listed.status, 0);
-    assert_eq!(rt;
-        listed.output.as_slice(),
-        b"App.exe\tstream\t4096\n".as_slice()
-    );
-    assert_eq!(rt; listed.errors.len(), 0);
-    Ok(fs::remove_file(&rt, out.as_str())?)
-}
-
-#[test]
-fn wraps_no_bytes(rt: HostRuntime) -> Result<(), Fail> {
-    let out = path(&rt, "empty")?;
-    assert_eq!(rt; ran(&rt, &["wrap", out.as_str(), "a"], b"")?.status, 0);
-    assert_eq!(rt; fs::read(&rt, out.as_str())?.len(), 1536);
-    let listed = ran(&rt, &["raw", out.as_str()], b"")?;
-    assert_eq!(rt; listed.output.as_slice(), b"a\tstream\t0\n".as_slice());
-    Ok(fs::remove_file(&rt, out.as_str())?)
-}
-
-#[test]
-fn wraps_small_streams(rt: HostRuntime) -> Result<(), Fail> {
-    let out = path(&rt, "small")?;
-    for (size, len) in [(1, 2560), (4095, 6144)] {
-        let input = vec![in rt.alloc(); 0x5A; size]?;
-        let wrapped = ran(&rt, &["wrap", out.as_str(), "App.exe"], input.as_slice())?;
-        assert_eq!(rt; wrapped.status, 0);
-        assert_eq!(rt; fs::read(&rt, out.as_str())?.len(), len);
-        let listed = ran(&rt, &["raw", out.as_str()], b"")?;
-        let line = format!(in rt.alloc(); "App.exe\tstream\t{size}\n")?;
-        assert_eq!(rt; listed.output.as_slice(), line.as_bytes());
+/// Whether the bytes are this line, or empty where there is none.
+fn is_line(bytes: &[u8], line: Option<&str>) -> bool {
+    match line {
+        Some(line) => bytes.strip_suffix(b"\n") == Some(line.as_bytes()),
+        None => bytes.is_empty(),
     }
-    Ok(fs::remove_file(&rt, out.as_str())?)
+}
+
+/// Whether a file of so many bytes is made of a stream of this size, and lists it.
+fn wraps(rt: &HostRuntime, path: &str, name: &str, size: usize, len: usize) -> Result<bool, Fail> {
+    let input = vec![in rt.alloc(); 0x5A; size]?;
+    let wrap = words(rt.alloc(), &["wrap", "FILE", name], path)?;
+    let wrapped = ends(rt, wrap.as_slice(), input.as_slice(), "", 0, None);
+    let made = fs::read(rt, path)?;
+    let raw = words(rt.alloc(), &["raw", "FILE"], path)?;
+    let line = format!(in rt.alloc(); "{name}\tstream\t{size}\n")?;
+    let listed = ends(rt, raw.as_slice(), b"", line.as_str(), 0, None);
+    Ok(wrapped && made.len() == len && listed)
 }
 
 #[test]
-fn refusals_leave_the_file_as_it_was(rt: HostRuntime) -> Result<(), Fail> {
-    let out = path(&rt, "refused")?;
-    fs::write(&rt, out.as_str(), "as it was")?;
-    let refused = ran(&rt, &["wrap", out.as_str(), "a/b"], b"")?;
-    assert_eq!(rt; refused.status, 1);
-    assert_eq!(rt; refused.errors.as_slice(), b"InvalidInput\n".as_slice());
-    assert_eq!(rt;
-        fs::read(&rt, out.as_str())?.as_slice(),
-        b"as it was".as_slice()
-    );
-    Ok(fs::remove_file(&rt, out.as_str())?)
-}
-
-#[test]
-fn other_words_are_told_the_usage(rt: HostRuntime) -> Result<(), Fail> {
-    let usage = format!(in rt.alloc(); "{USAGE}\n")?;
-    let cases: [&[&str]; 5] = [
-        &[],
-        &["raw"],
-        &["raw", "a", "b"],
-        &["wrap", "a"],
-        &["tables", "a"],
-    ];
-    for all in cases {
-        let told = ran(&rt, all, b"")?;
-        assert_eq!(rt; told.status, 2);
-        assert_eq!(rt; told.output.len(), 0);
-        assert_eq!(rt; told.errors.as_slice(), usage.as_bytes());
+fn streams_are_wrapped_and_listed(rt: HostRuntime) -> Result<(), Fail> {
+    let path = path(&rt, "wrapped")?;
+    for (name, size, len) in [
+        ("App.exe", 4096, 5632),
+        ("a", 0, 1536),
+        ("App.exe", 1, 2560),
+        ("App.exe", 4095, 6144),
+    ] {
+        let wraps = wraps(&rt, path.as_str(), name, size, len)?;
+        assert!(rt; wraps, "{size} bytes");
     }
-    Ok(())
+    Ok(fs::remove_file(&rt, path.as_str())?)
 }
 
+/// Words, the status, and the line of errors.
+const FAULTS: [(&[&str], u8, &str); 9] = [
+    (&["wrap", "FILE", "a/b"], 1, "InvalidInput"),
+    // The file is no compound file.
+    (&["raw", "FILE"], 1, "InvalidData"),
+    (&["raw", "FILE-missing/file"], 1, "Io"),
+    (&["wrap", "FILE-missing/file", "a"], 1, "Io"),
+    (&[], 2, USAGE),
+    (&["raw"], 2, USAGE),
+    (&["raw", "a", "b"], 2, USAGE),
+    (&["wrap", "a"], 2, USAGE),
+    (&["tables", "a"], 2, USAGE),
+];
+
 #[test]
-fn faults_are_told_by_kind(rt: HostRuntime) -> Result<(), Fail> {
-    let missing = path(&rt, "missing/file")?;
-    let raw = ran(&rt, &["raw", missing.as_str()], b"")?;
-    let wrap = ran(&rt, &["wrap", missing.as_str(), "a"], b"")?;
-    for told in [raw, wrap] {
-        assert_eq!(rt; told.status, 1);
-        assert_eq!(rt; told.errors.as_slice(), b"Io\n".as_slice());
+fn faults_are_told_and_leave_the_file_as_it_was(rt: HostRuntime) -> Result<(), Fail> {
+    let path = path(&rt, "refused")?;
+    fs::write(&rt, path.as_str(), "as it was")?;
+    for (all, status, line) in FAULTS {
+        let words = words(rt.alloc(), all, path.as_str())?;
+        let told = ends(&rt, words.as_slice(), b"", "", status, Some(line));
+        assert!(rt; told, "{all:?}");
     }
-    let nonsense = path(&rt, "nonsense")?;
-    fs::write(&rt, nonsense.as_str(), "no compound file")?;
-    let told = ran(&rt, &["raw", nonsense.as_str()], b"")?;
-    assert_eq!(rt; told.status, 1);
-    assert_eq!(rt; told.errors.as_slice(), b"InvalidData\n".as_slice());
-    Ok(fs::remove_file(&rt, nonsense.as_str())?)
+    let left = fs::read(&rt, path.as_str())?;
+    assert_eq!(rt; left.as_slice(), b"as it was".as_slice());
+    Ok(fs::remove_file(&rt, path.as_str())?)
 }
+
+/// Whether a run whose reader and writer fail ends with status 1 and this line of errors.
+fn told_first(rt: &HostRuntime, all: &[&str], path: &str, line: &str) -> Result<bool, Fail> {
+    let words = words(rt.alloc(), all, path)?;
+    let mut errors = Vec::new(rt.alloc());
+    let status = run(rt, words.as_slice(), &mut Broken, &mut Broken, &mut errors);
+    Ok(status == 1 && is_line(errors.as_slice(), Some(line)))
+}
+
+/// Words, and the fault that is told first where standard input and output fail.
+const FIRST: [(&[&str], &str); 3] = [
+    // The name comes before standard input, which comes before the file.
+    (&["wrap", "FILE-missing/file", "a/b"], "InvalidInput"),
+    (&["wrap", "FILE-missing/file", "a"], "Io"),
+    (&["raw", "FILE"], "Io"),
+];
 
 #[test]
 fn the_first_fault_is_told(rt: HostRuntime) -> Result<(), Fail> {
-    let missing = path(&rt, "missing/file")?;
-    let mut output = Vec::new(rt.alloc());
-    // The name comes before standard input.
-    let mut errors = Vec::new(rt.alloc());
-    let named = words(rt.alloc(), &["wrap", missing.as_str(), "a/b"])?;
-    let status = run(
-        &rt,
-        named.as_slice(),
-        &mut BrokenReader,
-        &mut output,
-        &mut errors,
-    );
-    assert_eq!(rt; status, 1);
-    assert_eq!(rt; errors.as_slice(), b"InvalidInput\n".as_slice());
-    // Standard input comes before the image.
-    let mut errors = Vec::new(rt.alloc());
-    let read = words(rt.alloc(), &["wrap", missing.as_str(), "a"])?;
-    let status = run(
-        &rt,
-        read.as_slice(),
-        &mut BrokenReader,
-        &mut output,
-        &mut errors,
-    );
-    assert_eq!(rt; status, 1);
-    assert_eq!(rt; errors.as_slice(), b"Io\n".as_slice());
-    Ok(())
-}
-
-#[test]
-fn a_broken_output_is_told(rt: HostRuntime) -> Result<(), Fail> {
-    let out = path(&rt, "broken")?;
-    assert_eq!(rt; ran(&rt, &["wrap", out.as_str(), "a"], b"")?.status, 0);
-    let words = words(rt.alloc(), &["raw", out.as_str()])?;
-    let mut input: &[u8] = b"";
-    let mut errors = Vec::new(rt.alloc());
-    let status = run(
-        &rt,
-        words.as_slice(),
-        &mut input,
-        &mut BrokenWriter,
-        &mut errors,
-    );
-    assert_eq!(rt; status, 1);
-    assert_eq!(rt; errors.as_slice(), b"Io\n".as_slice());
-    Ok(fs::remove_file(&rt, out.as_str())?)
+    let path = path(&rt, "broken")?;
+    let wraps = wraps(&rt, path.as_str(), "a", 0, 1536)?;
+    assert!(rt; wraps);
+    for (all, line) in FIRST {
+        let told = told_first(&rt, all, path.as_str(), line)?;
+        assert!(rt; told, "{all:?}");
+    }
+    Ok(fs::remove_file(&rt, path.as_str())?)
 }
