@@ -8,10 +8,10 @@ abbrev pub IsFrom : {X : Type 0} → Result X ErrorKind → Option X → Type 0
 IsFrom (Ok x) o = o ≡ Some x
 IsFrom (Err e) o = (e ≡ InvalidData) × (o ≡ None)
 
--- seen by view it is y, unless memory ran out
-abbrev pub Gives : {X Y : Type 0} → (X → Y) → Result X ErrorKind → Y → Type 0
-Gives view (Ok x) y = view x ≡ y
-Gives view (Err e) y = e ≡ OutOfMemory
+-- seen by view it is y, unless memory was refused
+abbrev pub ViewIsUnlessMemory : {X Y : Type 0} → (X → Y) → Result X ErrorKind → Y → Type 0
+ViewIsUnlessMemory view (Ok x) y = view x ≡ y
+ViewIsUnlessMemory view (Err e) y = e ≡ OutOfMemory
 
 -- it fails for its bytes or for want of memory
 abbrev pub FailsByData : {X : Type 0} → Result X ErrorKind → Type 0

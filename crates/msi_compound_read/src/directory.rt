@@ -5,7 +5,7 @@ ghost use Rattle.std.specs.List.{range_with_len};
 ghost use Rattle.msi_text.specs.declared.errors.ErrorKind.TheVariants.{InvalidData};
 ghost use Rattle.msi_compound.specs.Bytes as spelled;
 ghost use Rattle.msi_compound.specs.Chains.{AreBelow, AreDistinct};
-ghost use Rattle.msi_compound_read.specs.Outcomes.{Gives, FailsByData};
+ghost use Rattle.msi_compound_read.specs.Outcomes.{ViewIsUnlessMemory, FailsByData};
 ghost use Rattle.msi_compound.specs.Container as container;
 ghost use Rattle.msi_compound.specs.Trees.{Tree, members};
 
@@ -157,7 +157,7 @@ pub(crate) fn reach(alloc: Global, directory: &Directory, child: u32) -> Result<
     ensures found { IfOk result (λ reached. (tree : Tree) × container.IsDirectoryTree directory.now.bytes.now directory.now.sectors.now child tree
         × (members tree ≡ reached.items) × AreDistinct reached.items) }
     ensures only { (tree : Tree) → container.IsDirectoryTree directory.now.bytes.now directory.now.sectors.now child tree
-        → AreDistinct (members tree) → Gives (λ v. v.items) result (members tree) }
+        → AreDistinct (members tree) → ViewIsUnlessMemory (λ v. v.items) result (members tree) }
     ensures below { IfOk result (λ reached. AreBelow (container.entry_count directory.now.bytes.now directory.now.sectors.now) reached.items) }
     ensures kinds { FailsByData result }
 {

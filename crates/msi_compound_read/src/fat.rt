@@ -2,7 +2,7 @@
 
 ghost use Rattle.std.specs.Prelude.{◌≡◌, ℕ, List, ◌<◌, ◌++◌, vec_len, IfOk};
 ghost use Rattle.msi_compound_read.specs.Claims.{CanClaim};
-ghost use Rattle.msi_compound_read.specs.Outcomes.{Gives, FailsByData};
+ghost use Rattle.msi_compound_read.specs.Outcomes.{ViewIsUnlessMemory, FailsByData};
 ghost use Rattle.msi_compound_read.specs.Walks.{follower};
 ghost use Rattle.msi_compound.specs.Container as container;
 ghost use Rattle.msi_compound.specs.Container.{IsDifat, fat_of};
@@ -24,7 +24,8 @@ pub(crate) fn read_difat(
 ) -> Result<Vec<u32>, Error>
     ensures limit { vec_len claims.new.marks ≡ vec_len claims.old.marks }
     ensures found { IfOk result (λ difat. IsDifat bytes.now difat.items × (claims.new.list.items ≡ claims.old.list.items ++ difat.items)) }
-    ensures only { (difat : List ℕ) → IsDifat bytes.now difat → CanClaim (vec_len claims.old.marks) claims.old.list.items difat → Gives (λ v. v.items) result difat }
+    ensures only { (difat : List ℕ) → IsDifat bytes.now difat → CanClaim (vec_len claims.old.marks) claims.old.list.items difat
+        → ViewIsUnlessMemory (λ v. v.items) result difat }
     ensures kinds { FailsByData result }
 {
     let size = sector_size(bytes);
@@ -61,7 +62,8 @@ pub(crate) fn read_fat(
     requires { IsDifat bytes.now difat.now }
     ensures limit { vec_len claims.new.marks ≡ vec_len claims.old.marks }
     ensures found { IfOk result (λ fat. (fat.items ≡ fat_of bytes.now difat.now) × (claims.new.list.items ≡ claims.old.list.items ++ fat.items)) }
-    ensures only { CanClaim (vec_len claims.old.marks) claims.old.list.items (fat_of bytes.now difat.now) → Gives (λ v. v.items) result (fat_of bytes.now difat.now) }
+    ensures only { CanClaim (vec_len claims.old.marks) claims.old.list.items (fat_of bytes.now difat.now)
+        → ViewIsUnlessMemory (λ v. v.items) result (fat_of bytes.now difat.now) }
     ensures kinds { FailsByData result }
 {
     let mut fat = Vec::new(alloc);

@@ -2,11 +2,12 @@
 
 ghost use Rattle.std.specs.Prelude.{◌≡◌, ℕ, List, [], ◌+◌, ◌<◌, ◌≤◌, ◌^◌, ◌++◌, length, vec_len, IfOk, OnOk, OnErr, IsErrOf};
 ghost use Rattle.std.specs.FinMap.{from_entries};
+ghost use Rattle.msi_text.specs.Results.{IsUnlessMemory};
 ghost use Rattle.msi_text.specs.declared.errors.ErrorKind.TheVariants.{InvalidData};
 ghost use Rattle.msi_compound.specs.declared.contents.Contents as held;
 ghost use Rattle.msi_compound.specs.Chains.{AreBelow};
 ghost use Rattle.msi_compound_read.specs.Claims.{CanClaim};
-ghost use Rattle.msi_compound_read.specs.Outcomes.{Gives, FailsByData};
+ghost use Rattle.msi_compound_read.specs.Outcomes.{ViewIsUnlessMemory, FailsByData};
 ghost use Rattle.msi_compound.specs.Container as container;
 ghost use Rattle.msi_compound.specs.Format as marks;
 ghost use Rattle.msi_compound.specs.Container.{named_bytes, IsListing, IsMiniFat};
@@ -40,7 +41,7 @@ use std::alloc::Global;
 /// of its entries is neither storage nor stream, or has no well-formed name of its own. `OutOfMemory`.
 pub fn read(alloc: Global, bytes: &[u8]) -> Result<Contents, Error>
     ensures found { IfOk result (λ contents. container.Holds bytes.now contents) }
-    ensures only { (contents : held.Contents) → container.Holds bytes.now contents → Gives (λ c. c) result contents }
+    ensures only { (contents : held.Contents) → container.Holds bytes.now contents → IsUnlessMemory result contents }
     ensures kinds { FailsByData result }
 {
     let mut steps = Steps { count: 0 };
@@ -93,7 +94,7 @@ fn read_start(
     ensures found { IfOk result (λ s. IsStart bytes.now (vec_len claims.old.marks) s.difat.items s.fat.items s.directory.items
         × (claims.new.list.items ≡ s.difat.items ++ s.fat.items ++ s.directory.items)) }
     ensures only { (difat fat directory : List ℕ) → IsStart bytes.now (vec_len claims.old.marks) difat fat directory
-        → Gives {Y = List ℕ × List ℕ × List ℕ} (λ s. (s.difat.items, s.fat.items, s.directory.items)) result (difat, fat, directory) }
+        → ViewIsUnlessMemory {Y = List ℕ × List ℕ × List ℕ} (λ s. (s.difat.items, s.fat.items, s.directory.items)) result (difat, fat, directory) }
     ensures kinds { FailsByData result }
     ensures few { IfOk result (λ s. vec_len s.difat + vec_len s.fat + vec_len s.directory ≤ vec_len claims.old.marks) }
     ensures steps { steps.new.count + vec_len claims.old.list ≤ steps.old.count + vec_len claims.new.list }
@@ -118,7 +119,8 @@ fn read_start(
 fn read_listing(alloc: Global, directory: &Directory) -> Result<Vec<u32>, Error>
     requires { 0 < container.entry_count directory.now.bytes.now directory.now.sectors.now }
     ensures found { IfOk result (λ entries. (tree : Tree) × IsListing directory.now.bytes.now directory.now.sectors.now tree × (members tree ≡ entries.items)) }
-    ensures only { (tree : Tree) → IsListing directory.now.bytes.now directory.now.sectors.now tree → Gives (λ v. v.items) result (members tree) }
+    ensures only { (tree : Tree) → IsListing directory.now.bytes.now directory.now.sectors.now tree
+        → ViewIsUnlessMemory (λ v. v.items) result (members tree) }
     ensures below { IfOk result (λ entries. AreBelow (container.entry_count directory.now.bytes.now directory.now.sectors.now) entries.items) }
     ensures kinds { FailsByData result }
 {
@@ -143,7 +145,7 @@ fn read_mini_fat(
     ensures found { IfOk result (λ mini_fat. IsMiniFat fat.now.bytes.now fat.now.sectors.now mini_fat.items
         × (claims.new.list.items ≡ claims.old.list.items ++ mini_fat.items)) }
     ensures only { (mini_fat : List ℕ) → IsMiniFat fat.now.bytes.now fat.now.sectors.now mini_fat
-        → CanClaim (vec_len claims.old.marks) claims.old.list.items mini_fat → Gives (λ v. v.items) result mini_fat }
+        → CanClaim (vec_len claims.old.marks) claims.old.list.items mini_fat → ViewIsUnlessMemory (λ v. v.items) result mini_fat }
     ensures kinds { FailsByData result }
     ensures bounded { steps.new.count + vec_len claims.old.list ≤ steps.old.count + vec_len claims.new.list }
 {
@@ -172,7 +174,7 @@ fn read_mini(
         × (claims.new.list.items ≡ claims.old.list.items ++ m.fat.items ++ m.stream.items)) }
     ensures only { (mini_fat mini_stream : List ℕ)
         → IsMini directory.now.bytes.now (vec_len claims.old.marks) claims.old.list.items fat.now.sectors.now directory.now.sectors.now mini_fat mini_stream
-        → Gives {Y = List ℕ × List ℕ} (λ m. (m.fat.items, m.stream.items)) result (mini_fat, mini_stream) }
+        → ViewIsUnlessMemory {Y = List ℕ × List ℕ} (λ m. (m.fat.items, m.stream.items)) result (mini_fat, mini_stream) }
     ensures kinds { FailsByData result }
     ensures few { IfOk result (λ m. vec_len m.fat + vec_len m.stream ≤ vec_len claims.old.marks) }
     ensures bounded { steps.new.count + vec_len claims.old.list ≤ steps.old.count + vec_len claims.new.list }

@@ -6,7 +6,7 @@ ghost use Rattle.std.specs.FinMap.{from_entries};
 ghost use Rattle.msi_text.specs.declared.errors.ErrorKind.TheVariants.{OutOfMemory};
 ghost use Rattle.msi_compound.specs.Chains.{AreBelow};
 ghost use Rattle.msi_compound_read.specs.Claims.{CanClaim};
-ghost use Rattle.msi_compound_read.specs.Outcomes.{Gives, FailsByData};
+ghost use Rattle.msi_compound_read.specs.Outcomes.{ViewIsUnlessMemory, FailsByData};
 ghost use Rattle.msi_compound.specs.Container as container;
 ghost use Rattle.msi_compound_read.specs.Reading as spec;
 
@@ -97,7 +97,7 @@ fn walk_stream(
         → container.IsMembers directory.now.bytes.now tables.now.fat.sectors.now tables.now.mini_fat.sectors.now directory.now.sectors.now entry chain
         → CanClaim (vec_len uses.old.sectors.marks) uses.old.sectors.list.items (container.sectors_in directory.now.bytes.now directory.now.sectors.now (entry, chain))
         → CanClaim (vec_len uses.old.mini_sectors.marks) uses.old.mini_sectors.list.items (container.mini_sectors_in directory.now.bytes.now directory.now.sectors.now (entry, chain))
-        → Gives (λ v. v.items) result chain }
+        → ViewIsUnlessMemory (λ v. v.items) result chain }
     ensures kinds { FailsByData result }
     ensures bounded { steps.new.count + vec_len uses.old.sectors.list + vec_len uses.old.mini_sectors.list
         ≤ steps.old.count + vec_len uses.new.sectors.list + vec_len uses.new.mini_sectors.list }
@@ -146,7 +146,7 @@ pub(crate) fn walk_each(
         → AllZip (container.IsMembers directory.now.bytes.now tables.now.fat.sectors.now tables.now.mini_fat.sectors.now directory.now.sectors.now) entries.now chains
         → CanClaim (vec_len uses.old.sectors.marks) uses.old.sectors.list.items (container.all_sectors directory.now.bytes.now directory.now.sectors.now entries.now chains)
         → CanClaim (vec_len uses.old.mini_sectors.marks) uses.old.mini_sectors.list.items (container.all_mini_sectors directory.now.bytes.now directory.now.sectors.now entries.now chains)
-        → Gives (λ v. spec.views v.items) result chains }
+        → ViewIsUnlessMemory (λ v. spec.views v.items) result chains }
     ensures kinds { FailsByData result }
 {
     let mut chains = Vec::new(alloc);

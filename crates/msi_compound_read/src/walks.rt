@@ -3,7 +3,7 @@
 ghost use Rattle.std.specs.Prelude.{min, ◌≡◌, ℕ, List, ◌+◌, ◌-◌, ◌<◌, ◌≤◌, ◌^◌, ◌++◌, length, vec_len, IfOk, OnOk};
 ghost use Rattle.msi_compound.specs.Chains.{IsChain};
 ghost use Rattle.msi_compound_read.specs.Claims.{CanClaim};
-ghost use Rattle.msi_compound_read.specs.Outcomes.{IsFrom, Gives, FailsByData};
+ghost use Rattle.msi_compound_read.specs.Outcomes.{IsFrom, ViewIsUnlessMemory, FailsByData};
 ghost use Rattle.msi_compound_read.specs.Walks.{follower};
 ghost use Rattle.msi_compound.specs.Container as container;
 ghost use Rattle.msi_compound.specs.Format as marks;
@@ -49,7 +49,7 @@ pub(crate) fn walk(
     ensures found { IfOk result (λ chain. IsChain (container.successor table.now.bytes.now table.now.sectors.now) start count chain.items
         × (claims.new.list.items ≡ claims.old.list.items ++ chain.items)) }
     ensures only { (chain : List ℕ) → IsChain (container.successor table.now.bytes.now table.now.sectors.now) start count chain
-        → CanClaim (vec_len claims.old.marks) claims.old.list.items chain → Gives (λ v. v.items) result chain }
+        → CanClaim (vec_len claims.old.marks) claims.old.list.items chain → ViewIsUnlessMemory (λ v. v.items) result chain }
     ensures kinds { FailsByData result }
     ensures bounded { steps.new.count + vec_len claims.old.list ≤ steps.old.count + vec_len claims.new.list }
     ensures exact { OnOk result (steps.new.count ≡ steps.old.count + (count - 1)) }
@@ -77,7 +77,7 @@ pub(crate) fn walk_to_end(
     ensures found { IfOk result (λ chain. container.IsWholeChain (container.successor table.now.bytes.now table.now.sectors.now) start chain.items
         × (claims.new.list.items ≡ claims.old.list.items ++ chain.items)) }
     ensures only { (chain : List ℕ) → container.IsWholeChain (container.successor table.now.bytes.now table.now.sectors.now) start chain
-        → CanClaim (vec_len claims.old.marks) claims.old.list.items chain → Gives (λ v. v.items) result chain }
+        → CanClaim (vec_len claims.old.marks) claims.old.list.items chain → ViewIsUnlessMemory (λ v. v.items) result chain }
     ensures kinds { FailsByData result }
     ensures steps { steps.new.count + vec_len claims.old.list ≤ steps.old.count + vec_len claims.new.list }
     ensures exact { IfOk result (λ chain. steps.new.count ≡ steps.old.count + vec_len chain) }
