@@ -121,7 +121,32 @@ fn made(alloc: Global, page: CodePage, values: &[(u32, Given)]) -> Result<Proper
 }
 
 /// The header of a stream, its section, the page and the values there, and the section as it is written.
-static STREAMS: [(&[u8], &[u8], CodePage, Values, &[u8]); 8] = [
+type Worked = (
+    &'static [u8],
+    &'static [u8],
+    CodePage,
+    Values,
+    &'static [u8],
+);
+
+/// Whether a stream is read as its page and values, and written in order again.
+fn is_read(alloc: Global, worked: &Worked) -> Result<bool, Error> {
+    let (header, section, page, values, plain) = worked;
+    let set = read(alloc, *header, *section)?;
+    Ok(
+        set.codepage() == *page
+            && has_values(alloc, &set, *values)?
+            && is_written(alloc, &set, *header, *plain)?,
+    )
+}
+
+/// Whether a set of that page and those values is written in order.
+fn is_made(alloc: Global, worked: &Worked) -> Result<bool, Error> {
+    let (header, _, page, values, plain) = worked;
+    is_written(alloc, &made(alloc, *page, *values)?, *header, *plain)
+}
+
+static STREAMS: [Worked; 8] = [
     (
         &VERSION_0,
         &NOTHING,
@@ -181,25 +206,10 @@ static STREAMS: [(&[u8], &[u8], CodePage, Values, &[u8]); 8] = [
 ];
 
 #[test]
-fn sets_are_read_and_written_in_order(rt: HostRuntime) -> Result<(), Fail> {
-    let alloc = rt.alloc();
-    for (row, (header, section, page, values, plain)) in STREAMS.iter().enumerate() {
-        let set = read(alloc, *header, *section)?;
-        let found = set.codepage() == *page && has_values(alloc, &set, *values)?;
-        assert!(rt;
-            found && is_written(alloc, &set, *header, *plain)?,
-            "row {row}"
-        );
-    }
-    Ok(())
-}
-
-#[test]
-fn sets_of_values_are_written_in_order(rt: HostRuntime) -> Result<(), Fail> {
-    let alloc = rt.alloc();
-    for (row, (header, _, page, values, plain)) in STREAMS.iter().enumerate() {
-        let set = made(alloc, *page, *values)?;
-        assert!(rt; is_written(alloc, &set, *header, *plain)?, "row {row}");
+fn sets_are_read_made_and_written_in_order(rt: HostRuntime) -> Result<(), Fail> {
+    for (row, worked) in STREAMS.iter().enumerate() {
+        let read = is_read(rt.alloc(), worked)?;
+        assert!(rt; read && is_made(rt.alloc(), worked)?, "row {row}");
     }
     Ok(())
 }
@@ -287,8 +297,18 @@ fn has_page(set: &PropertySet, page: CodePage, number: Option<i16>) -> bool {
     set.codepage() == page && set.get(1) == value.as_ref()
 }
 
-/// Steps on one set, what they tell, and the page and property 1 then.
-static STEPS: [(Step, Result<(), ErrorKind>, CodePage, Option<i16>); 8] = [
+/// A step, what it tells, and the page and property 1 then.
+type Taken = (Step, Result<(), ErrorKind>, CodePage, Option<i16>);
+
+/// Whether a step goes as it says.
+fn goes(alloc: Global, set: &mut PropertySet, taken: &Taken) -> Result<bool, Error> {
+    let (step, wanted, page, number) = taken;
+    let told = done(alloc, set, *step)?;
+    Ok(told == *wanted && has_page(set, *page, *number))
+}
+
+/// Steps on one set.
+static STEPS: [Taken; 8] = [
     (
         Step::Page(CodePage::Windows1252),
         Ok(()),
@@ -340,12 +360,8 @@ fn property_1_is_a_known_page(rt: HostRuntime) -> Result<(), Fail> {
     let alloc = rt.alloc();
     let mut set = new_set(alloc);
     assert!(rt; has_page(&set, CodePage::Utf8, None));
-    for (row, (step, wanted, page, number)) in STEPS.iter().enumerate() {
-        let told = done(alloc, &mut set, *step)?;
-        assert!(rt;
-            told == *wanted && has_page(&set, *page, *number),
-            "row {row}"
-        );
+    for (row, taken) in STEPS.iter().enumerate() {
+        assert!(rt; goes(alloc, &mut set, taken)?, "row {row}");
     }
     Ok(())
 }

@@ -136,8 +136,19 @@ fn has_languages(summary: &SummaryInfo, ids: &[u16]) -> Result<bool, Error> {
     Ok(same && languages.len() == ids.len())
 }
 
-/// Steps on one summary, and the template, the architecture and the languages then.
-static STEPS: [(Step, &str, Option<&str>, &[u16]); 5] = [
+/// A step, and the template, the architecture and the languages then.
+type Taken = (Step, &'static str, Option<&'static str>, &'static [u16]);
+
+/// Whether a step goes as it says.
+fn goes(alloc: Global, summary: &mut SummaryInfo, taken: &Taken) -> Result<bool, Error> {
+    let (step, template, arch, ids) = taken;
+    take(alloc, summary, *step)?;
+    let stands = is_text(summary, 7, *template) && summary.arch() == *arch;
+    Ok(stands && has_languages(summary, *ids)?)
+}
+
+/// Steps on one summary.
+static STEPS: [Taken; 5] = [
     (Step::Arch("x64"), "x64;", Some("x64"), &[]),
     (
         Step::Languages(&[1033, 1031]),
@@ -155,29 +166,19 @@ static STEPS: [(Step, &str, Option<&str>, &[u16]); 5] = [
     (Step::ClearLanguages, ";", None, &[]),
 ];
 
-#[test]
-fn architecture_and_languages_share_the_template(rt: HostRuntime) -> Result<(), Fail> {
-    let mut summary = summary(rt.alloc())?;
-    for (step, template, arch, ids) in &STEPS {
-        take(rt.alloc(), &mut summary, *step)?;
-        let stands = is_text(&summary, 7, *template) && summary.arch() == *arch;
-        assert!(rt; stands && has_languages(&summary, *ids)?, "{template}");
-    }
-    Ok(())
-}
-
 /// Whether the languages of a template have these ids.
-fn template_has_languages(
-    alloc: Global,
-    template: &'static str,
-    ids: &[u16],
-) -> Result<bool, Error> {
+fn template_has(alloc: Global, template: &'static str, ids: &[u16]) -> Result<bool, Error> {
     has_languages(&with(alloc, 7, Given::Text(template))?, ids)
 }
 
 #[test]
-fn what_is_no_number_is_no_language(rt: HostRuntime) -> Result<(), Fail> {
-    assert!(rt; template_has_languages(rt.alloc(), "x64;+9,abc,,1033", &[9, 1033])?);
+fn architecture_and_languages_share_the_template(rt: HostRuntime) -> Result<(), Fail> {
+    let mut summary = summary(rt.alloc())?;
+    for (row, taken) in STEPS.iter().enumerate() {
+        assert!(rt; goes(rt.alloc(), &mut summary, taken)?, "row {row}");
+    }
+    // What is no number is no language.
+    assert!(rt; template_has(rt.alloc(), "x64;+9,abc,,1033", &[9, 1033])?);
     Ok(())
 }
 
@@ -189,24 +190,37 @@ enum Told {
     Cleared,
 }
 
-/// Sets these keywords.
-fn set_words(alloc: Global, summary: &mut SummaryInfo, words: &[&str]) -> Result<(), Error> {
-    let mut keywords = Vec::new(alloc);
+/// Words of their own.
+fn owned(alloc: Global, words: &[&str]) -> Result<Vec<String>, Error> {
+    let mut owned = Vec::new(alloc);
     for word in words {
-        keywords.push(String::from_str(alloc, word)?)?;
+        owned.push(String::from_str(alloc, word)?)?;
     }
-    summary.set_keywords(keywords.as_slice())
+    Ok(owned)
+}
+
+/// A new summary whose keywords are set.
+fn with_words(alloc: Global, words: &[&str]) -> Result<SummaryInfo, Error> {
+    let words = owned(alloc, words)?;
+    let mut summary = summary(alloc)?;
+    summary.set_keywords(words.as_slice())?;
+    Ok(summary)
+}
+
+/// A summary whose keyword is removed.
+fn cleared(alloc: Global) -> Result<SummaryInfo, Error> {
+    let mut summary = with_words(alloc, &["x"])?;
+    summary.clear_keywords()?;
+    Ok(summary)
 }
 
 /// A summary with keywords.
 fn with_keywords(alloc: Global, told: Told) -> Result<SummaryInfo, Error> {
-    let mut summary = with(alloc, 5, Given::Text("x"))?;
     match told {
-        Told::Text(text) => return with(alloc, 5, Given::Text(text)),
-        Told::Words(words) => set_words(alloc, &mut summary, words)?,
-        Told::Cleared => summary.clear_keywords()?,
+        Told::Text(text) => with(alloc, 5, Given::Text(text)),
+        Told::Words(words) => with_words(alloc, words),
+        Told::Cleared => cleared(alloc),
     }
-    Ok(summary)
 }
 
 /// Whether a summary has these keywords.
@@ -217,6 +231,12 @@ fn has_words(summary: &SummaryInfo, words: &[&str]) -> Result<bool, Error> {
         .zip(words)
         .all(|(keyword, word)| keyword.as_str() == *word);
     Ok(same && keywords.len() == words.len())
+}
+
+/// Whether what is told leaves this text and these keywords.
+fn keeps(alloc: Global, told: Told, text: &str, words: &[&str]) -> Result<bool, Error> {
+    let summary = with_keywords(alloc, told)?;
+    Ok(is_text(&summary, 5, text) && has_words(&summary, words)?)
 }
 
 /// What is told, the text that is kept, and the keywords.
@@ -234,11 +254,7 @@ static KEYWORDS: [(Told, &str, &[&str]); 8] = [
 #[test]
 fn keywords_are_parted_by_semicolon_and_space(rt: HostRuntime) -> Result<(), Fail> {
     for (row, (told, text, words)) in KEYWORDS.iter().enumerate() {
-        let summary = with_keywords(rt.alloc(), *told)?;
-        assert!(rt;
-            is_text(&summary, 5, *text) && has_words(&summary, *words)?,
-            "row {row}"
-        );
+        assert!(rt; keeps(rt.alloc(), *told, *text, *words)?, "row {row}");
     }
     Ok(())
 }
@@ -386,9 +402,8 @@ fn moments_are_set_and_removed(rt: HostRuntime) -> Result<(), Fail> {
 const PACKAGE: &str = "000c1084-0000-0000-c000-000000000046";
 
 /// Whether a UUID is kept in braces and capitals, given, and removed.
-fn uuid_is_kept(alloc: Global) -> Result<bool, Fail> {
+fn uuid_is_kept(alloc: Global, uuid: Uuid) -> Result<bool, Error> {
     let mut summary = summary(alloc)?;
-    let uuid = Uuid::parse_str(PACKAGE)?;
     summary.set_uuid(uuid)?;
     let kept = is_text(&summary, 9, "{000C1084-0000-0000-C000-000000000046}");
     let given = summary.uuid() == Some(uuid);
@@ -405,7 +420,8 @@ fn page_is_set(alloc: Global) -> Result<bool, Error> {
 
 #[test]
 fn the_uuid_is_set_and_removed_and_the_page_is_set(rt: HostRuntime) -> Result<(), Fail> {
-    assert!(rt; uuid_is_kept(rt.alloc())?);
+    let uuid = Uuid::parse_str(PACKAGE)?;
+    assert!(rt; uuid_is_kept(rt.alloc(), uuid)?);
     assert!(rt; page_is_set(rt.alloc())?);
     Ok(())
 }
