@@ -274,6 +274,7 @@ fn a_lacking_page_and_a_short_writer_are_told(rt: HostRuntime) -> Result<(), Fai
 /// What is done to property 1.
 #[derive(Clone, Copy)]
 enum Step {
+    Nothing,
     Page(CodePage),
     Value(Given),
     Remove,
@@ -282,6 +283,7 @@ enum Step {
 /// What a step on property 1 told.
 fn done(alloc: Global, set: &mut PropertySet, step: Step) -> Result<Result<(), ErrorKind>, Error> {
     Ok(match step {
+        Step::Nothing => Ok(()),
         Step::Page(page) => told(set.set_codepage(page)),
         Step::Value(given) => told(set.set(1, value(alloc, given)?)),
         Step::Remove => {
@@ -308,7 +310,8 @@ fn goes(alloc: Global, set: &mut PropertySet, taken: &Taken) -> Result<bool, Err
 }
 
 /// Steps on one set.
-static STEPS: [Taken; 8] = [
+static STEPS: [Taken; 9] = [
+    (Step::Nothing, Ok(()), CodePage::Utf8, None),
     (
         Step::Page(CodePage::Windows1252),
         Ok(()),
@@ -359,7 +362,6 @@ static STEPS: [Taken; 8] = [
 fn property_1_is_a_known_page(rt: HostRuntime) -> Result<(), Fail> {
     let alloc = rt.alloc();
     let mut set = new_set(alloc);
-    assert!(rt; has_page(&set, CodePage::Utf8, None));
     for (row, taken) in STEPS.iter().enumerate() {
         assert!(rt; goes(alloc, &mut set, taken)?, "row {row}");
     }

@@ -139,11 +139,16 @@ fn has_languages(summary: &SummaryInfo, ids: &[u16]) -> Result<bool, Error> {
 /// A step, and the template, the architecture and the languages then.
 type Taken = (Step, &'static str, Option<&'static str>, &'static [u16]);
 
+/// Whether a summary has this architecture, or none.
+fn has_arch(summary: &SummaryInfo, arch: Option<&str>) -> bool {
+    summary.arch() == arch
+}
+
 /// Whether a step goes as it says.
 fn goes(alloc: Global, summary: &mut SummaryInfo, taken: &Taken) -> Result<bool, Error> {
     let (step, template, arch, ids) = taken;
     take(alloc, summary, *step)?;
-    let stands = is_text(summary, 7, *template) && summary.arch() == *arch;
+    let stands = is_text(summary, 7, *template) && has_arch(summary, *arch);
     Ok(stands && has_languages(summary, *ids)?)
 }
 
@@ -299,14 +304,13 @@ fn has_no_text(summary: &SummaryInfo) -> bool {
         && summary.creating_application().is_none()
 }
 
-#[test]
-fn texts_are_set_and_removed(rt: HostRuntime) -> Result<(), Fail> {
-    let mut summary = summary(rt.alloc())?;
+/// Whether texts are set and removed.
+fn texts_come_and_go(alloc: Global) -> Result<bool, Error> {
+    let mut summary = summary(alloc)?;
     set_texts(&mut summary)?;
-    assert!(rt; has_texts(&summary));
+    let came = has_texts(&summary);
     clear_texts(&mut summary);
-    assert!(rt; has_no_text(&summary));
-    Ok(())
+    Ok(came && has_no_text(&summary))
 }
 
 /// Sets the pages, words, characters and security.
@@ -336,43 +340,21 @@ fn has_numbers(summary: &SummaryInfo, numbers: [Option<i32>; 4]) -> bool {
     found == numbers
 }
 
-#[test]
-fn numbers_are_set_and_removed(rt: HostRuntime) -> Result<(), Fail> {
-    let mut summary = summary(rt.alloc())?;
+/// Whether numbers are set and removed.
+fn numbers_come_and_go(alloc: Global) -> Result<bool, Error> {
+    let mut summary = summary(alloc)?;
     set_numbers(&mut summary)?;
-    let numbers = [Some(200), Some(-2), Some(i32::MIN), Some(i32::MAX)];
-    assert!(rt; has_numbers(&summary, numbers));
+    let came = has_numbers(
+        &summary,
+        [Some(200), Some(-2), Some(i32::MIN), Some(i32::MAX)],
+    );
     clear_numbers(&mut summary);
-    assert!(rt; has_numbers(&summary, [None; 4]));
-    Ok(())
+    Ok(came && has_numbers(&summary, [None; 4]))
 }
 
 /// The first and the last moment.
 fn ends() -> (Timestamp, Timestamp) {
     (Timestamp::from_ticks(0), Timestamp::from_ticks(u64::MAX))
-}
-
-/// Sets the moments of creation, printing and saving.
-fn set_moments(summary: &mut SummaryInfo) -> Result<(), Error> {
-    let (first, last) = ends();
-    summary.set_creation_time(first)?;
-    summary.set_last_printed(last)?;
-    summary.set_last_save_time(first)
-}
-
-/// Sets the moments to each other end, as the present.
-fn set_moments_to_now(summary: &mut SummaryInfo) -> Result<(), Error> {
-    let (first, last) = ends();
-    summary.set_creation_time_to_now(last)?;
-    summary.set_last_printed_to_now(first)?;
-    summary.set_last_save_time_to_now(last)
-}
-
-/// Removes these moments.
-fn clear_moments(summary: &mut SummaryInfo) {
-    summary.clear_creation_time();
-    summary.clear_last_printed();
-    summary.clear_last_save_time();
 }
 
 /// Whether a summary has these moments of creation, printing and saving.
@@ -385,16 +367,44 @@ fn has_moments(summary: &SummaryInfo, moments: [Option<Timestamp>; 3]) -> bool {
     found == moments
 }
 
-#[test]
-fn moments_are_set_and_removed(rt: HostRuntime) -> Result<(), Fail> {
+/// Whether moments are set.
+fn moments_come(summary: &mut SummaryInfo) -> Result<bool, Error> {
     let (first, last) = ends();
-    let mut summary = summary(rt.alloc())?;
-    set_moments(&mut summary)?;
-    assert!(rt; has_moments(&summary, [Some(first), Some(last), Some(first)]));
-    set_moments_to_now(&mut summary)?;
-    assert!(rt; has_moments(&summary, [Some(last), Some(first), Some(last)]));
-    clear_moments(&mut summary);
-    assert!(rt; has_moments(&summary, [None; 3]));
+    summary.set_creation_time(first)?;
+    summary.set_last_printed(last)?;
+    summary.set_last_save_time(first)?;
+    Ok(has_moments(summary, [Some(first), Some(last), Some(first)]))
+}
+
+/// Whether moments are set as the present.
+fn presents_come(summary: &mut SummaryInfo) -> Result<bool, Error> {
+    let (first, last) = ends();
+    summary.set_creation_time_to_now(last)?;
+    summary.set_last_printed_to_now(first)?;
+    summary.set_last_save_time_to_now(last)?;
+    Ok(has_moments(summary, [Some(last), Some(first), Some(last)]))
+}
+
+/// Whether moments are removed.
+fn moments_go(summary: &mut SummaryInfo) -> bool {
+    summary.clear_creation_time();
+    summary.clear_last_printed();
+    summary.clear_last_save_time();
+    has_moments(summary, [None; 3])
+}
+
+/// Whether moments are set, also as the present, and removed.
+fn moments_come_and_go(alloc: Global) -> Result<bool, Error> {
+    let mut summary = summary(alloc)?;
+    let came = moments_come(&mut summary)? && presents_come(&mut summary)?;
+    Ok(came && moments_go(&mut summary))
+}
+
+#[test]
+fn texts_numbers_and_moments_are_set_and_removed(rt: HostRuntime) -> Result<(), Fail> {
+    assert!(rt; texts_come_and_go(rt.alloc())?);
+    assert!(rt; numbers_come_and_go(rt.alloc())?);
+    assert!(rt; moments_come_and_go(rt.alloc())?);
     Ok(())
 }
 
