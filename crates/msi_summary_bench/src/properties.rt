@@ -48,8 +48,8 @@ const MOMENT: [u8; 28] = [
     0xB1, 0x9D, 0x01,
 ];
 
-/// A section whose ids descend: the text `Hi` as property 2, and the page 1252 behind it in the list and before it in the
-/// bytes.
+/// A section whose ids descend: the text `Hi` as property 2, and the page 1252 behind it in the list and before it in
+/// the bytes.
 const DESCENDING: [u8; 44] = [
     44, 0, 0, 0, 2, 0, 0, 0, 2, 0, 0, 0, 32, 0, 0, 0, 1, 0, 0, 0, 24, 0, 0, 0, 2, 0, 0, 0, 0xE4,
     0x04, 0, 0, 30, 0, 0, 0, 3, 0, 0, 0, b'H', b'i', 0, 0,
