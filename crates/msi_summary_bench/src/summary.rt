@@ -1,286 +1,437 @@
-//! The summary: what its calls set, give and remove.
+//! The summary: what its calls set, give and remove, and its stream.
 
-use msi_summary::parts::{from_properties, into_properties, new_summary, properties_of};
+use crate::samples::{Given, value};
+use msi_summary::parts::{
+    from_properties, into_properties, kept, new_summary, properties_of, summary_bytes, summary_of,
+};
 use msi_summary::{OperatingSystem, PropertySet, PropertyValue, SummaryInfo};
-use msi_text::{CodePage, ErrorKind, LanguageId, Text, Timestamp};
+use msi_text::{CodePage, Error, ErrorKind, LanguageId, Timestamp};
 use std::alloc::Global;
-use std::process::Abort;
 use std::test::Fail;
 use uuid::Uuid;
 
 /// The summary of a new package.
-fn summary(alloc: Global) -> Result<SummaryInfo, Fail> {
-    Ok(new_summary(alloc, "Installation Database")?)
+fn summary(alloc: Global) -> Result<SummaryInfo, Error> {
+    new_summary(alloc, "Installation Database")
 }
 
-/// A new summary in which a property is a text.
-fn with_text(alloc: Global, id: u32, text: &str) -> Result<SummaryInfo, Fail> {
+/// A new summary in which a property has a value.
+fn with(alloc: Global, id: u32, given: Given) -> Result<SummaryInfo, Error> {
     let mut properties = into_properties(summary(alloc)?);
-    let text = Text::from_string(String::from_str(alloc, text)?);
-    properties.set(id, PropertyValue::LpStr(text))?;
-    Ok(from_properties(properties)?)
+    properties.set(id, value(alloc, given)?)?;
+    from_properties(properties)
 }
 
-/// The text of a property, as it is kept.
-fn kept(summary: &SummaryInfo, id: u32) -> &str {
+/// Whether a property is a text.
+fn is_text(summary: &SummaryInfo, id: u32, wanted: &str) -> bool {
     match properties_of(summary).get(id) {
-        Some(PropertyValue::LpStr(text)) => text.as_str(),
-        _ => "no text",
+        Some(PropertyValue::LpStr(text)) => text.as_str() == wanted,
+        _ => false,
     }
 }
 
-/// The words, each in brackets.
-fn bracketed(alloc: Global, words: &[String]) -> Result<String, Fail> {
-    let mut text = String::new(alloc);
-    for word in words {
-        text.push_str("[")?;
-        text.push_str(word.as_str())?;
-        text.push_str("]")?;
-    }
-    Ok(text)
+/// The stream of a new summary.
+const NEW: [u8; 112] = [
+    0xFE, 0xFF, 0, 0, 10, 0, 2, 0, 0, 0, 0, 0, 0, 0, 0, 0, 0, 0, 0, 0, 0, 0, 0, 0, 1, 0, 0, 0,
+    0xE0, 0x85, 0x9F, 0xF2, 0xF9, 0x4F, 0x68, 0x10, 0xAB, 0x91, 0x08, 0x00, 0x2B, 0x27, 0xB3, 0xD9,
+    48, 0, 0, 0,
+    // The section: its size, two ids with their places, the page, and the title.
+    64, 0, 0, 0, 2, 0, 0, 0, 1, 0, 0, 0, 24, 0, 0, 0, 2, 0, 0, 0, 32, 0, 0, 0, 2, 0, 0, 0, 0xE9,
+    0xFD, 0, 0, 30, 0, 0, 0, 22, 0, 0, 0, b'I', b'n', b's', b't', b'a', b'l', b'l', b'a', b't',
+    b'i', b'o', b'n', b' ', b'D', b'a', b't', b'a', b'b', b'a', b's', b'e', 0, 0, 0,
+];
+
+/// Whether a new summary has the worked stream.
+fn new_has_stream(alloc: Global) -> Result<bool, Error> {
+    let summary = summary(alloc)?;
+    kept(&summary);
+    Ok(summary_bytes(&summary)?.as_slice() == NEW.as_slice())
 }
 
-/// Asserts that property 1 may not have a value.
-fn assert_no_page(rt: &impl Abort, set: &mut PropertySet, value: PropertyValue) {
-    match set.set(1, value) {
-        Ok(()) => panic!(rt; "property 1 was set"),
-        Err(error) => assert_eq!(rt; error.kind(), ErrorKind::InvalidInput),
-    }
+/// Whether its property set writes that stream.
+fn set_writes_stream(alloc: Global) -> Result<bool, Error> {
+    let summary = summary(alloc)?;
+    let mut bytes = Vec::new(alloc);
+    properties_of(&summary).write(&mut bytes)?;
+    Ok(bytes.as_slice() == NEW.as_slice())
+}
+
+/// Whether the worked stream is read as that summary.
+fn stream_is_read(alloc: Global) -> Result<bool, Error> {
+    let summary = summary_of(alloc, NEW.as_slice())?;
+    kept(&summary);
+    Ok(summary.title() == Some("Installation Database") && summary.codepage() == CodePage::Utf8)
 }
 
 #[test]
-fn a_page_is_set_again(rt: HostRuntime) -> Result<(), Fail> {
-    let mut set = PropertySet::new(rt.alloc(), OperatingSystem::Win32, 10, [0; 16]);
-    assert_eq!(rt; set.codepage(), CodePage::Utf8);
-    set.set_codepage(CodePage::Windows1252)?;
-    assert_eq!(rt; set.codepage(), CodePage::Windows1252);
-    assert_eq!(rt; set.get(1), Some(&PropertyValue::I2(1252)));
-    set.set_codepage(CodePage::Utf8)?;
-    assert_eq!(rt; set.codepage(), CodePage::Utf8);
-    assert_eq!(rt; set.get(1), Some(&PropertyValue::I2(-535)));
+fn a_new_summary_has_112_bytes(rt: HostRuntime) -> Result<(), Fail> {
+    assert!(rt; new_has_stream(rt.alloc())?);
+    assert!(rt; set_writes_stream(rt.alloc())?);
+    assert!(rt; stream_is_read(rt.alloc())?);
     Ok(())
 }
 
+/// Whether a set of another format is refused as a summary.
+fn other_format_is_refused(alloc: Global) -> bool {
+    let other = PropertySet::new(alloc, OperatingSystem::Win16, 3, [7; 16]);
+    let refused = from_properties(other).err();
+    refused.map(|error| error.kind()) == Some(ErrorKind::InvalidData)
+}
+
+/// Whether a number of 32 bits is no title.
+fn number_is_no_title(alloc: Global) -> Result<bool, Error> {
+    let summary = with(alloc, 2, Given::I4(7))?;
+    Ok(summary.title().is_none())
+}
+
+/// Whether a number of 16 bits is no count of pages.
+fn short_number_is_no_count(alloc: Global) -> Result<bool, Error> {
+    let summary = with(alloc, 14, Given::I2(7))?;
+    Ok(summary.page_count().is_none())
+}
+
 #[test]
-fn property_1_is_a_known_page(rt: HostRuntime) -> Result<(), Fail> {
-    let mut set = PropertySet::new(rt.alloc(), OperatingSystem::Win32, 10, [0; 16]);
-    set.set_codepage(CodePage::Windows1252)?;
-    assert_no_page(&rt, &mut set, PropertyValue::I2(1));
-    assert_no_page(&rt, &mut set, PropertyValue::I4(1252));
-    assert_eq!(rt; set.codepage(), CodePage::Windows1252);
-    set.remove(1);
-    assert_eq!(rt; set.codepage(), CodePage::Utf8);
-    assert_eq!(rt; set.get(1), None);
-    set.set_codepage(CodePage::Windows1252)?;
-    set.set(1, PropertyValue::I2(-535))?;
-    assert_eq!(rt; set.codepage(), CodePage::Utf8);
+fn another_type_is_no_text_and_another_format_no_summary(rt: HostRuntime) -> Result<(), Fail> {
+    assert!(rt; number_is_no_title(rt.alloc())?);
+    assert!(rt; short_number_is_no_count(rt.alloc())?);
+    assert!(rt; other_format_is_refused(rt.alloc()));
     Ok(())
+}
+
+/// What is done to the template.
+#[derive(Clone, Copy)]
+enum Step {
+    Arch(&'static str),
+    Languages(&'static [u16]),
+    ClearArch,
+    ClearLanguages,
+}
+
+/// Sets the languages of these ids.
+fn set_languages(alloc: Global, summary: &mut SummaryInfo, ids: &[u16]) -> Result<(), Error> {
+    let languages: Vec<LanguageId> = ids
+        .iter()
+        .map(|id| LanguageId::from_id(*id))
+        .collect(alloc)?;
+    summary.set_languages(languages.as_slice())
+}
+
+/// Does a step.
+fn take(alloc: Global, summary: &mut SummaryInfo, step: Step) -> Result<(), Error> {
+    match step {
+        Step::Arch(arch) => summary.set_arch(arch),
+        Step::Languages(ids) => set_languages(alloc, summary, ids),
+        Step::ClearArch => summary.clear_arch(),
+        Step::ClearLanguages => summary.clear_languages(),
+    }
+}
+
+/// Whether a summary's languages have these ids.
+fn has_languages(summary: &SummaryInfo, ids: &[u16]) -> Result<bool, Error> {
+    let languages = summary.languages()?;
+    let same = languages
+        .iter()
+        .zip(ids)
+        .all(|(language, id)| language.id() == *id);
+    Ok(same && languages.len() == ids.len())
+}
+
+/// A step, and the template, the architecture and the languages then.
+type Taken = (Step, &'static str, Option<&'static str>, &'static [u16]);
+
+/// Whether a summary has this architecture, or none.
+fn has_arch(summary: &SummaryInfo, arch: Option<&str>) -> bool {
+    summary.arch() == arch
+}
+
+/// Whether a step goes as it says.
+fn goes(alloc: Global, summary: &mut SummaryInfo, taken: &Taken) -> Result<bool, Error> {
+    let (step, template, arch, ids) = taken;
+    take(alloc, summary, *step)?;
+    let stands = is_text(summary, 7, *template) && has_arch(summary, *arch);
+    Ok(stands && has_languages(summary, *ids)?)
+}
+
+/// Steps on one summary.
+static STEPS: [Taken; 5] = [
+    (Step::Arch("x64"), "x64;", Some("x64"), &[]),
+    (
+        Step::Languages(&[1033, 1031]),
+        "x64;1033,1031",
+        Some("x64"),
+        &[1033, 1031],
+    ),
+    (
+        Step::Arch("Intel"),
+        "Intel;1033,1031",
+        Some("Intel"),
+        &[1033, 1031],
+    ),
+    (Step::ClearArch, ";1033,1031", None, &[1033, 1031]),
+    (Step::ClearLanguages, ";", None, &[]),
+];
+
+/// Whether the languages of a template have these ids.
+fn template_has(alloc: Global, template: &'static str, ids: &[u16]) -> Result<bool, Error> {
+    has_languages(&with(alloc, 7, Given::Text(template))?, ids)
 }
 
 #[test]
 fn architecture_and_languages_share_the_template(rt: HostRuntime) -> Result<(), Fail> {
-    let alloc = rt.alloc();
-    let mut summary = summary(alloc)?;
-    summary.set_arch("x64")?;
-    assert_eq!(rt; kept(&summary, 7), "x64;");
-    summary.set_languages(&[LanguageId::from_id(1033), LanguageId::from_id(1031)])?;
-    assert_eq!(rt; kept(&summary, 7), "x64;1033,1031");
-    assert_eq!(rt; summary.arch(), Some("x64"));
-    summary.set_arch("Intel")?;
-    assert_eq!(rt; kept(&summary, 7), "Intel;1033,1031");
-    summary.clear_arch()?;
-    assert_eq!(rt; summary.arch(), None);
-    let languages = summary.languages()?;
-    assert_eq!(rt; languages.len(), 2);
-    assert_eq!(rt; [languages[0].id(), languages[1].id()], [1033, 1031]);
-    summary.clear_languages()?;
-    assert_eq!(rt; summary.languages()?.len(), 0);
+    let mut summary = summary(rt.alloc())?;
+    for (row, taken) in STEPS.iter().enumerate() {
+        assert!(rt; goes(rt.alloc(), &mut summary, taken)?, "row {row}");
+    }
+    // What is no number is no language.
+    assert!(rt; template_has(rt.alloc(), "x64;+9,abc,,1033", &[9, 1033])?);
     Ok(())
 }
 
-#[test]
-fn what_is_no_number_is_no_language(rt: HostRuntime) -> Result<(), Fail> {
-    let summary = with_text(rt.alloc(), 7, "x64;+9,abc,,1033")?;
-    let languages = summary.languages()?;
-    assert_eq!(rt; languages.len(), 2);
-    assert_eq!(rt; [languages[0].id(), languages[1].id()], [9, 1033]);
-    Ok(())
+/// How keywords are told to a summary.
+#[derive(Clone, Copy)]
+enum Told {
+    Text(&'static str),
+    Words(&'static [&'static str]),
+    Cleared,
 }
+
+/// Words of their own.
+fn owned(alloc: Global, words: &[&str]) -> Result<Vec<String>, Error> {
+    let mut owned = Vec::new(alloc);
+    for word in words {
+        owned.push(String::from_str(alloc, word)?)?;
+    }
+    Ok(owned)
+}
+
+/// A new summary whose keywords are set.
+fn with_words(alloc: Global, words: &[&str]) -> Result<SummaryInfo, Error> {
+    let words = owned(alloc, words)?;
+    let mut summary = summary(alloc)?;
+    summary.set_keywords(words.as_slice())?;
+    Ok(summary)
+}
+
+/// A summary whose keyword is removed.
+fn cleared(alloc: Global) -> Result<SummaryInfo, Error> {
+    let mut summary = with_words(alloc, &["x"])?;
+    summary.clear_keywords()?;
+    Ok(summary)
+}
+
+/// A summary with keywords.
+fn with_keywords(alloc: Global, told: Told) -> Result<SummaryInfo, Error> {
+    match told {
+        Told::Text(text) => with(alloc, 5, Given::Text(text)),
+        Told::Words(words) => with_words(alloc, words),
+        Told::Cleared => cleared(alloc),
+    }
+}
+
+/// Whether a summary has these keywords.
+fn has_words(summary: &SummaryInfo, words: &[&str]) -> Result<bool, Error> {
+    let keywords = summary.keywords()?;
+    let same = keywords
+        .iter()
+        .zip(words)
+        .all(|(keyword, word)| keyword.as_str() == *word);
+    Ok(same && keywords.len() == words.len())
+}
+
+/// Whether what is told leaves this text and these keywords.
+fn keeps(alloc: Global, told: Told, text: &str, words: &[&str]) -> Result<bool, Error> {
+    let summary = with_keywords(alloc, told)?;
+    Ok(is_text(&summary, 5, text) && has_words(&summary, words)?)
+}
+
+/// What is told, the text that is kept, and the keywords.
+static KEYWORDS: [(Told, &str, &[&str]); 8] = [
+    (Told::Text("A ; B"), "A ; B", &["A", "B"]),
+    (Told::Text("A; ; B"), "A; ; B", &["A", "", "B"]),
+    (Told::Text(""), "", &[]),
+    (Told::Text("; "), "; ", &["", ""]),
+    (Told::Words(&["A", "B"]), "A; B", &["A", "B"]),
+    (Told::Words(&[""]), "", &[]),
+    (Told::Words(&["x"]), "x", &["x"]),
+    (Told::Cleared, "", &[]),
+];
 
 #[test]
 fn keywords_are_parted_by_semicolon_and_space(rt: HostRuntime) -> Result<(), Fail> {
-    let alloc = rt.alloc();
-    for (text, words) in [
-        ("A ; B", "[A][B]"),
-        ("A; ; B", "[A][][B]"),
-        ("", ""),
-        ("; ", "[][]"),
-    ] {
-        let found = with_text(alloc, 5, text)?.keywords()?;
-        assert_eq!(&rt;
-            bracketed(alloc, found.as_slice())?.as_str(),
-            words,
-            "{text}"
-        );
+    for (row, (told, text, words)) in KEYWORDS.iter().enumerate() {
+        assert!(rt; keeps(rt.alloc(), *told, *text, *words)?, "row {row}");
     }
-    let mut summary = summary(alloc)?;
-    let pair = [String::from_str(alloc, "A")?, String::from_str(alloc, "B")?];
-    summary.set_keywords(&pair)?;
-    assert_eq!(rt; kept(&summary, 5), "A; B");
-    let empty = [String::new(alloc)];
-    summary.set_keywords(&empty)?;
-    assert_eq!(rt; summary.keywords()?.len(), 0);
     Ok(())
 }
 
-#[test]
-fn texts_are_set_and_removed(rt: HostRuntime) -> Result<(), Fail> {
-    let mut summary = summary(rt.alloc())?;
-    summary.set_title("x")?;
-    summary.set_subject("x")?;
-    summary.set_author("x")?;
-    summary.set_comments("x")?;
-    summary.set_last_saved_by("x")?;
-    summary.set_creating_application("x")?;
-    for text in [
-        summary.title(),
-        summary.subject(),
-        summary.author(),
-        summary.comments(),
-        summary.last_saved_by(),
-        summary.creating_application(),
-    ] {
-        assert_eq!(&rt; text, Some("x"));
-    }
+/// Sets each text that is nothing else.
+fn set_texts(summary: &mut SummaryInfo) -> Result<(), Error> {
+    summary.set_title("title")?;
+    summary.set_subject("subject")?;
+    summary.set_author("author")?;
+    summary.set_comments("comments")?;
+    summary.set_last_saved_by("last saved by")?;
+    summary.set_creating_application("creating application")
+}
+
+/// Whether each of these texts is itself.
+fn has_texts(summary: &SummaryInfo) -> bool {
+    summary.title() == Some("title")
+        && summary.subject() == Some("subject")
+        && summary.author() == Some("author")
+        && summary.comments() == Some("comments")
+        && summary.last_saved_by() == Some("last saved by")
+        && summary.creating_application() == Some("creating application")
+}
+
+/// Removes these texts.
+fn clear_texts(summary: &mut SummaryInfo) {
     summary.clear_title();
     summary.clear_subject();
     summary.clear_author();
     summary.clear_comments();
     summary.clear_last_saved_by();
     summary.clear_creating_application();
-    for text in [
-        summary.title(),
-        summary.subject(),
-        summary.author(),
-        summary.comments(),
-        summary.last_saved_by(),
-        summary.creating_application(),
-    ] {
-        assert_eq!(&rt; text, None);
-    }
-    Ok(())
 }
 
-/// The summary's numbers.
-fn numbers(summary: &SummaryInfo) -> [Option<i32>; 4] {
-    [
-        summary.page_count(),
-        summary.word_count(),
-        summary.character_count(),
-        summary.doc_security(),
-    ]
+/// Whether none of these texts is there.
+fn has_no_text(summary: &SummaryInfo) -> bool {
+    summary.title().is_none()
+        && summary.subject().is_none()
+        && summary.author().is_none()
+        && summary.comments().is_none()
+        && summary.last_saved_by().is_none()
+        && summary.creating_application().is_none()
 }
 
-#[test]
-fn numbers_are_set_and_removed(rt: HostRuntime) -> Result<(), Fail> {
-    let mut summary = summary(rt.alloc())?;
+/// Whether texts are set and removed.
+fn texts_come_and_go(alloc: Global) -> Result<bool, Error> {
+    let mut summary = summary(alloc)?;
+    set_texts(&mut summary)?;
+    let came = has_texts(&summary);
+    clear_texts(&mut summary);
+    Ok(came && has_no_text(&summary))
+}
+
+/// Sets the pages, words, characters and security.
+fn set_numbers(summary: &mut SummaryInfo) -> Result<(), Error> {
     summary.set_page_count(200)?;
     summary.set_word_count(-2)?;
     summary.set_character_count(i32::MIN)?;
-    summary.set_doc_security(i32::MAX)?;
-    assert_eq!(rt;
-        numbers(&summary),
-        [Some(200), Some(-2), Some(i32::MIN), Some(i32::MAX)]
-    );
+    summary.set_doc_security(i32::MAX)
+}
+
+/// Removes these numbers.
+fn clear_numbers(summary: &mut SummaryInfo) {
     summary.clear_page_count();
     summary.clear_word_count();
     summary.clear_character_count();
     summary.clear_doc_security();
-    assert_eq!(rt; numbers(&summary), [None, None, None, None]);
-    Ok(())
 }
 
-/// The summary's moments.
-fn moments(summary: &SummaryInfo) -> [Option<Timestamp>; 3] {
-    [
+/// Whether a summary has these pages, words, characters and security.
+fn has_numbers(summary: &SummaryInfo, numbers: [Option<i32>; 4]) -> bool {
+    let found = [
+        summary.page_count(),
+        summary.word_count(),
+        summary.character_count(),
+        summary.doc_security(),
+    ];
+    found == numbers
+}
+
+/// Whether numbers are set and removed.
+fn numbers_come_and_go(alloc: Global) -> Result<bool, Error> {
+    let mut summary = summary(alloc)?;
+    set_numbers(&mut summary)?;
+    let came = has_numbers(
+        &summary,
+        [Some(200), Some(-2), Some(i32::MIN), Some(i32::MAX)],
+    );
+    clear_numbers(&mut summary);
+    Ok(came && has_numbers(&summary, [None; 4]))
+}
+
+/// The first and the last moment.
+fn ends() -> (Timestamp, Timestamp) {
+    (Timestamp::from_ticks(0), Timestamp::from_ticks(u64::MAX))
+}
+
+/// Whether a summary has these moments of creation, printing and saving.
+fn has_moments(summary: &SummaryInfo, moments: [Option<Timestamp>; 3]) -> bool {
+    let found = [
         summary.creation_time(),
         summary.last_printed(),
         summary.last_saved_time(),
-    ]
+    ];
+    found == moments
 }
 
-#[test]
-fn moments_are_set_and_removed(rt: HostRuntime) -> Result<(), Fail> {
-    let first = Timestamp::from_ticks(0);
-    let last = Timestamp::from_ticks(u64::MAX);
-    let mut summary = summary(rt.alloc())?;
+/// Whether moments are set.
+fn moments_come(summary: &mut SummaryInfo) -> Result<bool, Error> {
+    let (first, last) = ends();
     summary.set_creation_time(first)?;
     summary.set_last_printed(last)?;
     summary.set_last_save_time(first)?;
-    assert_eq!(rt; moments(&summary), [Some(first), Some(last), Some(first)]);
+    Ok(has_moments(summary, [Some(first), Some(last), Some(first)]))
+}
+
+/// Whether moments are set as the present.
+fn presents_come(summary: &mut SummaryInfo) -> Result<bool, Error> {
+    let (first, last) = ends();
     summary.set_creation_time_to_now(last)?;
     summary.set_last_printed_to_now(first)?;
     summary.set_last_save_time_to_now(last)?;
-    assert_eq!(rt; moments(&summary), [Some(last), Some(first), Some(last)]);
+    Ok(has_moments(summary, [Some(last), Some(first), Some(last)]))
+}
+
+/// Whether moments are removed.
+fn moments_go(summary: &mut SummaryInfo) -> bool {
     summary.clear_creation_time();
     summary.clear_last_printed();
     summary.clear_last_save_time();
-    assert_eq!(rt; moments(&summary), [None, None, None]);
-    Ok(())
+    has_moments(summary, [None; 3])
 }
 
-#[test]
-fn the_keyword_the_uuid_and_the_page_are_set_and_removed(rt: HostRuntime) -> Result<(), Fail> {
-    let alloc = rt.alloc();
+/// Whether moments are set, also as the present, and removed.
+fn moments_come_and_go(alloc: Global) -> Result<bool, Error> {
     let mut summary = summary(alloc)?;
-    let words = [String::from_str(alloc, "x")?];
-    summary.set_keywords(&words)?;
-    let found = summary.keywords()?;
-    assert_eq!(rt; bracketed(alloc, found.as_slice())?.as_str(), "[x]");
-    summary.clear_keywords()?;
-    assert_eq!(rt; summary.keywords()?.len(), 0);
-    let uuid = Uuid::parse_str("000c1084-0000-0000-c000-000000000046")?;
+    let came = moments_come(&mut summary)? && presents_come(&mut summary)?;
+    Ok(came && moments_go(&mut summary))
+}
+
+#[test]
+fn texts_numbers_and_moments_are_set_and_removed(rt: HostRuntime) -> Result<(), Fail> {
+    assert!(rt; texts_come_and_go(rt.alloc())?);
+    assert!(rt; numbers_come_and_go(rt.alloc())?);
+    assert!(rt; moments_come_and_go(rt.alloc())?);
+    Ok(())
+}
+
+/// The UUID of an installer's package, without braces and in small letters.
+const PACKAGE: &str = "000c1084-0000-0000-c000-000000000046";
+
+/// Whether a UUID is kept in braces and capitals, given, and removed.
+fn uuid_is_kept(alloc: Global, uuid: Uuid) -> Result<bool, Error> {
+    let mut summary = summary(alloc)?;
     summary.set_uuid(uuid)?;
-    assert_eq!(rt; kept(&summary, 9), "{000C1084-0000-0000-C000-000000000046}");
-    assert_eq!(rt; summary.uuid(), Some(uuid));
+    let kept = is_text(&summary, 9, "{000C1084-0000-0000-C000-000000000046}");
+    let given = summary.uuid() == Some(uuid);
     summary.clear_uuid();
-    assert_eq!(rt; summary.uuid(), None);
+    Ok(kept && given && summary.uuid().is_none())
+}
+
+/// Whether a page is set.
+fn page_is_set(alloc: Global) -> Result<bool, Error> {
+    let mut summary = summary(alloc)?;
     summary.set_codepage(CodePage::Windows1252)?;
-    assert_eq!(rt; summary.codepage(), CodePage::Windows1252);
-    Ok(())
+    Ok(summary.codepage() == CodePage::Windows1252)
 }
 
 #[test]
-fn another_type_is_no_text_and_another_format_no_summary(rt: HostRuntime) -> Result<(), Fail> {
-    let alloc = rt.alloc();
-    let mut properties = into_properties(summary(alloc)?);
-    properties.set(2, PropertyValue::I4(7))?;
-    properties.set(14, PropertyValue::I2(7))?;
-    let summary = from_properties(properties)?;
-    assert_eq!(rt; summary.title(), None);
-    assert_eq!(rt; summary.page_count(), None);
-    let other = PropertySet::new(alloc, OperatingSystem::Win16, 3, [7; 16]);
-    match from_properties(other) {
-        Ok(_) => panic!(rt; "another format was taken"),
-        Err(error) => assert_eq!(rt; error.kind(), ErrorKind::InvalidData),
-    }
-    Ok(())
-}
-
-/// The stream of a new summary.
-fn new_stream(alloc: Global) -> Result<Vec<u8>, Fail> {
-    let mut bytes = Vec::new(alloc);
-    properties_of(&summary(alloc)?).write(&mut bytes)?;
-    Ok(bytes)
-}
-
-#[test]
-fn a_new_summary_has_112_bytes(rt: HostRuntime) -> Result<(), Fail> {
-    let bytes = new_stream(rt.alloc())?;
-    let places = [1, 0, 0, 0, 24, 0, 0, 0, 2, 0, 0, 0, 32, 0, 0, 0];
-    let page = [2, 0, 0, 0, 0xE9, 0xFD, 0, 0];
-    assert_eq!(rt; bytes.len(), 112);
-    assert!(rt; bytes.as_slice().get(56..72) == Some(places.as_slice()));
-    assert!(rt; bytes.as_slice().get(72..80) == Some(page.as_slice()));
+fn the_uuid_is_set_and_removed_and_the_page_is_set(rt: HostRuntime) -> Result<(), Fail> {
+    let uuid = Uuid::parse_str(PACKAGE)?;
+    assert!(rt; uuid_is_kept(rt.alloc(), uuid)?);
+    assert!(rt; page_is_set(rt.alloc())?);
     Ok(())
 }
