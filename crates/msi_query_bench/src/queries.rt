@@ -1,134 +1,149 @@
 //! Queries: their printed texts.
 
-use msi_query::{Delete, Expr, Insert, Select, Update};
+use crate::samples::Given::{self, Col, Int, Two};
+use crate::samples::Operator::{Eq, Gt, Or};
+use crate::samples::{expression, prints};
+use msi_query::{Delete, Insert, Select, Update};
 use msi_table::Value;
 use msi_text::Error;
 use std::alloc::Global;
 use std::fmt::Display;
-use std::process::Abort;
 use std::test::Fail;
 
-/// Asserts that a query prints as a text.
-fn assert_prints<Q: Display>(
-    rt: &impl Abort,
+/// Whether the query that was made prints as a text.
+fn says<Q: Display + Drop>(
     alloc: Global,
-    query: &Q,
+    made: Result<Q, Error>,
     text: &str,
-) -> Result<(), Error> {
-    let printed = format!(in alloc; "{query}")?;
-    assert_eq!(rt; printed.as_str(), text);
-    Ok(())
+) -> Result<bool, Error> {
+    Ok(prints(alloc, &made?, text)?)
 }
 
-/// The condition that two columns are equal.
-fn same(alloc: Global, name: &str, other: &str) -> Result<Expr, Error> {
-    Expr::col(alloc, name)?.eq(alloc, Expr::col(alloc, other)?)
+const SAME_KEY: Given = Two(&Col("Foobar.Key"), Eq, &Col("Quux.Quay"));
+
+const LARGE_QUAY: Given = Two(&Col("Quay"), Gt, &Int(42));
+
+const SAME_B: Given = Two(&Col("A.k"), Eq, &Col("B.k"));
+
+const SAME_C: Given = Two(&Col("A.k"), Eq, &Col("C.k"));
+
+const LARGE_N: Given = Two(&Col("A.n"), Gt, &Int(42));
+
+const A_OR_B: Given = Two(&Col("A"), Or, &Col("B"));
+
+const LARGE_C: Given = Two(&Col("C"), Gt, &Int(42));
+
+/// A join with a condition on its right side, of which two columns are kept.
+pub(crate) fn narrowed_side(alloc: Global) -> Result<Select, Error> {
+    let right = Select::table(alloc, "Quux")?.with(expression(alloc, &LARGE_QUAY)?)?;
+    let on = expression(alloc, &SAME_KEY)?;
+    let joined = Select::table(alloc, "Foobar")?.inner_join(right, on)?;
+    joined.columns(&["Foobar.Foo", "Quux.Baz"])
 }
 
-/// The condition that a column is more than a number.
-fn more(alloc: Global, name: &str, number: i32) -> Result<Expr, Error> {
-    Expr::col(alloc, name)?.gt(alloc, Expr::integer(number))
+/// A join of two tables.
+fn joined_tables(alloc: Global) -> Result<Select, Error> {
+    let on = expression(alloc, &SAME_B)?;
+    Select::table(alloc, "A")?.inner_join(Select::table(alloc, "B")?, on)
+}
+
+/// A join whose left side is a join.
+fn joined_side(alloc: Global) -> Result<Select, Error> {
+    let on = expression(alloc, &SAME_C)?;
+    joined_tables(alloc)?.left_join(Select::table(alloc, "C")?, on)
+}
+
+/// A join under a condition.
+fn narrowed_join(alloc: Global) -> Result<Select, Error> {
+    let condition = expression(alloc, &LARGE_N)?;
+    joined_tables(alloc)?.with(condition)
+}
+
+/// Some columns of a table.
+fn projected_table(alloc: Global) -> Result<Select, Error> {
+    Select::table(alloc, "T")?.columns(&["B", "A"])
 }
 
 #[test]
-fn a_side_with_a_condition_stands_in_brackets(rt: HostRuntime) -> Result<(), Fail> {
+fn sides_of_joins_that_are_no_whole_table_stand_in_brackets(rt: HostRuntime) -> Result<(), Fail> {
     let alloc = rt.alloc();
-    let right = Select::table(alloc, "Quux")?.with(more(alloc, "Quay", 42)?)?;
-    let on = same(alloc, "Foobar.Key", "Quux.Quay")?;
-    let joined = Select::table(alloc, "Foobar")?.inner_join(right, on)?;
-    let query = joined.columns(&["Foobar.Foo", "Quux.Baz"])?;
-    assert_prints(
-        &rt,
+    let narrowed = says(
         alloc,
-        &query,
+        narrowed_side(alloc),
         "SELECT Foobar.Foo, Quux.Baz FROM Foobar INNER JOIN (SELECT * FROM Quux WHERE Quay > 42) ON Foobar.Key = Quux.Quay",
     )?;
+    assert!(rt; narrowed);
+    let joined = says(
+        alloc,
+        joined_side(alloc),
+        "SELECT * FROM (SELECT * FROM A INNER JOIN B ON A.k = B.k) LEFT JOIN C ON A.k = C.k",
+    )?;
+    assert!(rt; joined);
+    let narrowed = says(
+        alloc,
+        narrowed_join(alloc),
+        "SELECT * FROM A INNER JOIN B ON A.k = B.k WHERE A.n > 42",
+    )?;
+    assert!(rt; narrowed);
+    let projected = says(alloc, projected_table(alloc), "SELECT B, A FROM T")?;
+    assert!(rt; projected);
     Ok(())
 }
 
-#[test]
-fn a_side_that_is_a_join_stands_in_brackets(rt: HostRuntime) -> Result<(), Fail> {
-    let alloc = rt.alloc();
-    let on = same(alloc, "A.k", "B.k")?;
-    let inner = Select::table(alloc, "A")?.inner_join(Select::table(alloc, "B")?, on)?;
-    let on = same(alloc, "A.k", "C.k")?;
-    let query = inner.left_join(Select::table(alloc, "C")?, on)?;
-    assert_prints(
-        &rt,
-        alloc,
-        &query,
-        "SELECT * FROM (SELECT * FROM A INNER JOIN B ON A.k = B.k) LEFT JOIN C ON A.k = C.k",
-    )?;
-    Ok(())
+/// Rows under a condition and one more.
+pub(crate) fn narrowed_delete(alloc: Global) -> Result<Delete, Error> {
+    let either = expression(alloc, &A_OR_B)?;
+    let narrowed = Delete::from(alloc, "T")?.with(either)?;
+    narrowed.with(expression(alloc, &Col("C"))?)
+}
+
+/// New values under a condition.
+pub(crate) fn two_sets(alloc: Global) -> Result<Update, Error> {
+    let first = Update::table(alloc, "T")?.set("A", Value::Int(-5))?;
+    let both = first.set("B", Value::Null)?;
+    both.with(expression(alloc, &LARGE_C)?)
 }
 
 #[test]
 fn a_second_condition_is_joined_to_the_first(rt: HostRuntime) -> Result<(), Fail> {
-    let alloc = rt.alloc();
-    let either = Expr::col(alloc, "A")?.or(alloc, Expr::col(alloc, "B")?)?;
-    let narrowed = Delete::from(alloc, "T")?.with(either)?;
-    let query = narrowed.with(Expr::col(alloc, "C")?)?;
-    assert_prints(&rt, alloc, &query, "DELETE FROM T WHERE (A OR B) AND C")?;
-    Ok(())
-}
-
-#[test]
-fn an_insert_without_rows_has_no_values(rt: HostRuntime) -> Result<(), Fail> {
-    let alloc = rt.alloc();
-    let query = Insert::into(alloc, "T")?;
-    assert_prints(&rt, alloc, &query, "INSERT INTO T")?;
-    Ok(())
-}
-
-#[test]
-fn an_update_without_sets_has_no_set(rt: HostRuntime) -> Result<(), Fail> {
-    let alloc = rt.alloc();
-    let query = Update::table(alloc, "T")?;
-    assert_prints(&rt, alloc, &query, "UPDATE T")?;
-    Ok(())
-}
-
-#[test]
-fn rows_print_in_order(rt: HostRuntime) -> Result<(), Fail> {
-    let alloc = rt.alloc();
-    let first = vec![in alloc; Value::Int(1), Value::from_text(alloc, "a")?]?;
-    let second = vec![in alloc; Value::Null, Value::from_text(alloc, "b")?]?;
-    let query = Insert::into(alloc, "T")?.row(first)?.row(second)?;
-    assert_prints(
-        &rt,
-        alloc,
-        &query,
-        "INSERT INTO T VALUES (1, \"a\"), (NULL, \"b\")",
-    )?;
-    Ok(())
-}
-
-#[test]
-fn several_rows_are_added_at_once(rt: HostRuntime) -> Result<(), Fail> {
-    let alloc = rt.alloc();
-    let first = vec![in alloc; Value::Int(1), Value::from_text(alloc, "a")?]?;
-    let second = vec![in alloc; Value::Null, Value::from_text(alloc, "b")?]?;
-    let query = Insert::into(alloc, "T")?.rows(vec![in alloc; first, second]?)?;
-    assert_prints(
-        &rt,
-        alloc,
-        &query,
-        "INSERT INTO T VALUES (1, \"a\"), (NULL, \"b\")",
-    )?;
+    let text = "DELETE FROM T WHERE (A OR B) AND C";
+    assert!(rt; says(rt.alloc(), narrowed_delete(rt.alloc()), text)?);
     Ok(())
 }
 
 #[test]
 fn sets_print_in_order_before_the_condition(rt: HostRuntime) -> Result<(), Fail> {
     let alloc = rt.alloc();
-    let first = Update::table(alloc, "T")?.set("A", Value::Int(-5))?;
-    let both = first.set("B", Value::Null)?;
-    let query = both.with(more(alloc, "C", 42)?)?;
-    assert_prints(
-        &rt,
-        alloc,
-        &query,
-        "UPDATE T SET A = -5, B = NULL WHERE C > 42",
-    )?;
+    assert!(rt; says(alloc, Update::table(alloc, "T"), "UPDATE T")?);
+    let text = "UPDATE T SET A = -5, B = NULL WHERE C > 42";
+    assert!(rt; says(alloc, two_sets(alloc), text)?);
+    Ok(())
+}
+
+/// A row of a value and a text.
+fn values(alloc: Global, first: Value, text: &str) -> Result<Vec<Value>, Error> {
+    Ok(vec![in alloc; first, Value::from_text(alloc, text)?]?)
+}
+
+/// Two rows, one after the other.
+pub(crate) fn row_by_row(alloc: Global) -> Result<Insert, Error> {
+    let first = Insert::into(alloc, "T")?.row(values(alloc, Value::Int(1), "a")?)?;
+    first.row(values(alloc, Value::Null, "b")?)
+}
+
+/// The same two rows at once.
+fn rows_at_once(alloc: Global) -> Result<Insert, Error> {
+    let first = values(alloc, Value::Int(1), "a")?;
+    let second = values(alloc, Value::Null, "b")?;
+    Insert::into(alloc, "T")?.rows(vec![in alloc; first, second]?)
+}
+
+#[test]
+fn rows_print_in_order_however_they_were_added(rt: HostRuntime) -> Result<(), Fail> {
+    let alloc = rt.alloc();
+    assert!(rt; says(alloc, Insert::into(alloc, "T"), "INSERT INTO T")?);
+    let text = "INSERT INTO T VALUES (1, \"a\"), (NULL, \"b\")";
+    assert!(rt; says(alloc, row_by_row(alloc), text)?);
+    assert!(rt; says(alloc, rows_at_once(alloc), text)?);
     Ok(())
 }
