@@ -1,11 +1,14 @@
 //! Expressions: worked values of literals, and of columns on a row, and which columns they name.
 
+ghost use Rattle.std.specs.Prelude.{◌≡◌, IfOk, length};
+
 use crate::samples::Given::{self, Bool, Col, Int, Null, One, Str, Two};
 use crate::samples::Operator::{
     Add, And, BitAnd, BitOr, BitXor, Div, Eq, Ge, Gt, Le, Lt, Mul, Ne, Or, Shl, Shr, Sub,
 };
 use crate::samples::Sign::{BitInv, Neg, Not};
-use crate::samples::expression;
+use crate::samples::{both, columns, expression};
+use msi_query::Expr;
 use msi_query::parts::knows_names;
 use msi_table::parts::row;
 use msi_table::{Column, Row, Value};
@@ -15,16 +18,26 @@ use std::alloc::Global;
 use std::rc::Rc;
 use std::test::Fail;
 
-/// A row of two numbers and a text.
-fn sample(alloc: Global) -> Result<Row, Error> {
-    let first = Column::build(alloc, "Int1")?.int32();
-    let second = Column::build(alloc, "Int2")?.int32();
-    let third = Column::build(alloc, "Text")?.string(50);
-    let columns = vec![in alloc; first, second, third]?;
+/// The columns of two numbers and a text.
+fn sample_columns(alloc: Global) -> Result<Rc<Items<Column>>, Error>
+    ensures { IfOk result (λ columns. length columns.value ≡ 3) }
+{
+    let columns = columns(alloc, ["Int1", "Int2", "Text"])?;
+    Ok(Rc::new(alloc, Items::from_vec(columns))?)
+}
+
+/// Their values.
+fn sample_values(alloc: Global) -> Result<Items<Value>, Error>
+    ensures { IfOk result (λ values. length values ≡ 3) }
+{
     let text = Value::from_text(alloc, "Foo")?;
-    let values = vec![in alloc; Value::Int(42), Value::Int(-17), text]?;
-    let columns = Rc::new(alloc, Items::from_vec(columns))?;
-    Ok(row(columns, Items::from_vec(values)))
+    Ok(Items::from_vec(vec![in alloc; Value::Int(42), Value::Int(-17), text]?))
+}
+
+/// The row of these values.
+fn sample(alloc: Global) -> Result<Row, Error> {
+    let columns = sample_columns(alloc)?;
+    Ok(row(columns, sample_values(alloc)?))
 }
 
 /// Whether a value is that of a literal.
@@ -37,15 +50,25 @@ fn is_literal(value: &Value, literal: &Given) -> bool {
     }
 }
 
-/// Whether an expression is worth a literal on the sample.
-fn is_worth(alloc: Global, given: &Given, literal: &Given) -> Result<bool, Error> {
-    let row = sample(alloc)?;
-    let made = expression(alloc, given)?;
-    if !knows_names(&made, row.columns()) {
+/// Whether an expression is worth a literal on a row.
+fn evaluates(alloc: Global, made: &Expr, row: &Row, literal: &Given) -> Result<bool, Error> {
+    if !knows_names(made, row.columns()) {
         return Ok(false);
     }
-    let value = made.eval(alloc, &row)?;
+    let value = made.eval(alloc, row)?;
     Ok(is_literal(&value, literal))
+}
+
+/// Whether the expression that is told is worth a literal on a row.
+fn is_worth_on(alloc: Global, given: &Given, row: &Row, literal: &Given) -> Result<bool, Error> {
+    let made = expression(alloc, given)?;
+    evaluates(alloc, &made, row, literal)
+}
+
+/// Whether it is on the sample.
+fn is_worth(alloc: Global, given: &Given, literal: &Given) -> Result<bool, Error> {
+    let row = sample(alloc)?;
+    is_worth_on(alloc, given, &row, literal)
 }
 
 /// The place of the first of these expressions that isn't worth the literal beside it.
@@ -147,25 +170,29 @@ fn columns_are_read_by_name_under_operators(rt: HostRuntime) -> Result<(), Fail>
 /// Two columns, of which the first stands on both sides.
 const BOTH: Given = Two(&Two(&Col("A"), And, &Col("B")), Eq, &Col("A"));
 
-/// Whether these are the names of the columns in it.
-fn has_names(alloc: Global, first: &str, second: &str) -> Result<bool, Error> {
-    let whole = expression(alloc, &BOTH)?;
-    let names = whole.column_names(alloc)?;
+/// Whether these are the names of the columns in an expression.
+fn names(alloc: Global, made: &Expr, first: &str, second: &str) -> Result<bool, Error> {
+    let names = made.column_names(alloc)?;
     Ok(names.len() == 2 && names.contains(&first) && names.contains(&second))
 }
 
-/// Whether each name in it is that of a column, where there are just two columns.
-fn is_known(alloc: Global, first: &str, second: &str) -> Result<bool, Error> {
-    let first = Column::build(alloc, first)?.int32();
-    let second = Column::build(alloc, second)?.int32();
-    let columns = vec![in alloc; first, second]?;
-    Ok(knows_names(&expression(alloc, &BOTH)?, columns.as_slice()))
+/// Whether these are the names that are found in it.
+fn has_names(alloc: Global, first: &str, second: &str) -> Result<bool, Error> {
+    let made = expression(alloc, &BOTH)?;
+    names(alloc, &made, first, second)
+}
+
+/// Whether each name in it is that of a column, where there are just these.
+fn is_known(alloc: Global, found: [&str; 3]) -> Result<bool, Error> {
+    let (columns, made) = both(columns(alloc, found), expression(alloc, &BOTH))?;
+    Ok(knows_names(&made, columns.as_slice()))
 }
 
 #[test]
 fn names_are_found_on_both_sides(rt: HostRuntime) -> Result<(), Fail> {
-    assert!(rt; has_names(rt.alloc(), "A", "B")?);
-    assert!(rt; is_known(rt.alloc(), "B", "A")?);
-    assert!(rt; !is_known(rt.alloc(), "A", "C")?);
+    let alloc = rt.alloc();
+    assert!(rt; has_names(alloc, "A", "B")?);
+    assert!(rt; is_known(alloc, ["B", "C", "A"])?);
+    assert!(rt; !is_known(alloc, ["A", "C", "D"])?);
     Ok(())
 }

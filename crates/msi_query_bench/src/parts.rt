@@ -1,34 +1,35 @@
 //! What the crates above take of queries: their parts, and conditions on rows of cells.
 
-use crate::queries::{narrowed_delete, narrowed_side, row_by_row, two_sets};
+use crate::queries::{narrowed_delete, narrowed_sets, narrowed_side, row_by_row};
 use crate::samples::Given::{self, Col, Int, Null, One, Str, Two};
 use crate::samples::Operator::{Add, And, Eq, Gt};
 use crate::samples::Sign::Not;
-use crate::samples::{expression, prints};
-use msi_query::Expr;
+use crate::samples::{Expected, both, columns, expression, is_made, prints};
 use msi_query::parts::{
     Assignment, Clauses, DeleteParts, InsertParts, NewRow, RowFilter, SelectTree, UpdateParts,
     delete_parts, insert_parts, select_tree, update_parts,
 };
 use msi_query::query::JoinKind;
+use msi_query::{Expr, Select};
 use msi_table::{Column, Value, ValueRef};
 use msi_text::{CodePage, Error, StringPool};
-use std::alloc::{AllocError, Global};
+use std::alloc::Global;
 use std::test::Fail;
 
 /// Whether there is a condition, which prints as a text.
-fn is_condition(alloc: Global, condition: Option<&Expr>, text: &str) -> Result<bool, AllocError> {
+fn is_condition(alloc: Global, condition: Option<&Expr>, text: &str) -> Result<bool, Error> {
     match condition {
         Some(condition) => prints(alloc, condition, text),
         None => Ok(false),
     }
 }
 
-/// Whether a delete's table and condition are moved out.
-fn gives_delete(alloc: Global) -> Result<bool, Error> {
-    let DeleteParts { table, condition } = delete_parts(narrowed_delete(alloc)?);
-    let found = is_condition(alloc, condition.as_ref(), "(A OR B) AND C")?;
-    Ok(found && table.as_str() == "T")
+/// The parts of `narrowed_delete`.
+impl Expected for DeleteParts {
+    fn is_expected(&self, alloc: Global) -> Result<bool, Error> {
+        let found = is_condition(alloc, self.condition.as_ref(), "(A OR B) AND C")?;
+        Ok(found && self.table.as_str() == "T")
+    }
 }
 
 /// Whether these are the new values of two columns.
@@ -40,15 +41,12 @@ fn are_sets(sets: &[Assignment]) -> bool {
     named && first.value().as_int() == Some(-5) && second.value().is_null()
 }
 
-/// Whether an update's table, new values and condition are moved out.
-fn gives_update(alloc: Global) -> Result<bool, Error> {
-    let UpdateParts {
-        table,
-        sets,
-        condition,
-    } = update_parts(two_sets(alloc)?);
-    let found = is_condition(alloc, condition.as_ref(), "C > 42")?;
-    Ok(found && table.as_str() == "T" && are_sets(sets.as_slice()))
+/// The parts of `narrowed_sets`.
+impl Expected for UpdateParts {
+    fn is_expected(&self, alloc: Global) -> Result<bool, Error> {
+        let found = is_condition(alloc, self.condition.as_ref(), "C > 42")?;
+        Ok(found && self.table.as_str() == "T" && are_sets(self.sets.as_slice()))
+    }
 }
 
 /// Whether these are a number, or null, and a text.
@@ -77,9 +75,10 @@ fn gives_insert(alloc: Global) -> Result<bool, Error> {
 
 #[test]
 fn parts_of_changes_are_moved_out(rt: HostRuntime) -> Result<(), Fail> {
-    assert!(rt; gives_delete(rt.alloc())?);
-    assert!(rt; gives_update(rt.alloc())?);
-    assert!(rt; gives_insert(rt.alloc())?);
+    let alloc = rt.alloc();
+    assert!(rt; is_made(alloc, narrowed_delete(alloc).map(delete_parts))?);
+    assert!(rt; is_made(alloc, narrowed_sets(alloc).map(update_parts))?);
+    assert!(rt; gives_insert(alloc)?);
     Ok(())
 }
 
@@ -99,7 +98,7 @@ fn is_narrowed(
     tree: &SelectTree,
     table: &str,
     condition: &str,
-) -> Result<bool, AllocError> {
+) -> Result<bool, Error> {
     match tree {
         SelectTree::Table { name, clauses } if name.as_str() == table => {
             is_condition(alloc, clauses.condition(), condition)
@@ -117,7 +116,7 @@ fn keeps(clauses: &Clauses, first: &str, second: &str) -> bool {
 }
 
 /// Whether a join's tree has its sides, its condition and its columns.
-fn is_joined(alloc: Global, tree: &SelectTree) -> Result<bool, AllocError> {
+fn is_joined(alloc: Global, tree: &SelectTree) -> Result<bool, Error> {
     match tree {
         SelectTree::Join {
             kind: JoinKind::Inner,
@@ -135,49 +134,57 @@ fn is_joined(alloc: Global, tree: &SelectTree) -> Result<bool, AllocError> {
     }
 }
 
-/// Whether the tree of a join is seen.
-fn shows_join(alloc: Global) -> Result<bool, Error> {
-    let query = narrowed_side(alloc)?;
-    Ok(is_joined(alloc, select_tree(&query))?)
+/// The tree of `narrowed_side`.
+impl Expected for Select {
+    fn is_expected(&self, alloc: Global) -> Result<bool, Error> {
+        is_joined(alloc, select_tree(self))
+    }
 }
 
 #[test]
 fn trees_of_joins_show_sides_and_clauses(rt: HostRuntime) -> Result<(), Fail> {
-    assert!(rt; shows_join(rt.alloc())?);
+    assert!(rt; is_made(rt.alloc(), narrowed_side(rt.alloc()))?);
     Ok(())
 }
 
 /// The columns of two rows, one behind the other: a number and a word, and another number.
-fn columns(alloc: Global) -> Result<Vec<Column>, Error> {
-    let number = Column::build(alloc, "Number")?.int32();
-    let word = Column::build(alloc, "Word")?.string(50);
-    let other = Column::build(alloc, "Other")?.int32();
-    Ok(vec![in alloc; number, word, other]?)
+const NAMES: [&str; 3] = ["Number", "Word", "Other"];
+
+/// The cell of a word.
+fn word(alloc: Global, pool: &mut StringPool) -> Result<ValueRef, Error> {
+    ValueRef::create(Value::from_text(alloc, "Foo")?, pool)
 }
 
 /// Whether a filter lets the first row through alone, and before the other.
 fn lets(alloc: Global, filter: &RowFilter, alone: bool, paired: bool) -> Result<bool, Error> {
     let mut pool = StringPool::new(alloc, CodePage::Utf8);
-    let word = ValueRef::create(Value::from_text(alloc, "Foo")?, &mut pool)?;
-    let row = [ValueRef::Int(42), word];
-    let other = [ValueRef::Int(-17)];
+    let row = [ValueRef::Int(42), word(alloc, &mut pool)?];
     let met = filter.meets(alloc, &pool, &row)?;
-    Ok(met == alone && filter.meets_pair(alloc, &pool, &row, &other)? == paired)
+    Ok(met == alone && filter.meets_pair(alloc, &pool, &row, &[ValueRef::Int(-17)])? == paired)
 }
 
 /// Whether a condition holds of the first row alone, and of it with the other behind.
-fn judges(alloc: Global, given: &Given, alone: bool, paired: bool) -> Result<bool, Error> {
-    let columns = columns(alloc)?;
-    let condition = expression(alloc, given)?;
-    let filter = RowFilter::new(alloc, columns.as_slice(), Some(&condition))?;
+fn holds(
+    alloc: Global,
+    columns: &[Column],
+    condition: Option<&Expr>,
+    alone: bool,
+    paired: bool,
+) -> Result<bool, Error> {
+    let filter = RowFilter::new(alloc, columns, condition)?;
     lets(alloc, &filter, alone, paired)
 }
 
 /// Whether each row gets through where there is no condition.
 fn lets_all(alloc: Global) -> Result<bool, Error> {
-    let columns = columns(alloc)?;
-    let filter = RowFilter::new(alloc, columns.as_slice(), None)?;
-    lets(alloc, &filter, true, true)
+    let columns = columns(alloc, NAMES)?;
+    holds(alloc, columns.as_slice(), None, true, true)
+}
+
+/// Whether the condition that is told holds so.
+fn judges(alloc: Global, given: &Given, alone: bool, paired: bool) -> Result<bool, Error> {
+    let (columns, condition) = both(columns(alloc, NAMES), expression(alloc, given))?;
+    holds(alloc, columns.as_slice(), Some(&condition), alone, paired)
 }
 
 /// Conditions, and whether they hold of the first row alone, where `Other` is Null, and of both.

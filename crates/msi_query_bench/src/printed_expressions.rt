@@ -3,7 +3,7 @@
 use crate::samples::Given::{self, Col, Int, One, Str, Two};
 use crate::samples::Operator::{Add, And, Eq, Mul, Or, Sub};
 use crate::samples::Sign::{Neg, Not};
-use crate::samples::{expression, prints};
+use crate::samples::{expression, says};
 use msi_text::Error;
 use std::alloc::Global;
 use std::test::Fail;
@@ -14,7 +14,7 @@ fn first_unprinted<'a>(
     rows: &'a [(Given, &'static str)],
 ) -> Result<Option<&'a str>, Error> {
     for (given, text) in rows {
-        if !prints(alloc, &expression(alloc, given)?, *text)? {
+        if !says(alloc, expression(alloc, given), *text)? {
             return Ok(Some(*text));
         }
     }

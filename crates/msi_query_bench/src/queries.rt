@@ -2,22 +2,12 @@
 
 use crate::samples::Given::{self, Col, Int, Two};
 use crate::samples::Operator::{Eq, Gt, Or};
-use crate::samples::{expression, prints};
+use crate::samples::{both, expression, says};
 use msi_query::{Delete, Insert, Select, Update};
 use msi_table::Value;
 use msi_text::Error;
 use std::alloc::Global;
-use std::fmt::Display;
 use std::test::Fail;
-
-/// Whether the query that was made prints as a text.
-fn says<Q: Display + Drop>(
-    alloc: Global,
-    made: Result<Q, Error>,
-    text: &str,
-) -> Result<bool, Error> {
-    Ok(prints(alloc, &made?, text)?)
-}
 
 const SAME_KEY: Given = Two(&Col("Foobar.Key"), Eq, &Col("Quux.Quay"));
 
@@ -33,30 +23,47 @@ const A_OR_B: Given = Two(&Col("A"), Or, &Col("B"));
 
 const LARGE_C: Given = Two(&Col("C"), Gt, &Int(42));
 
+/// The rows of a table under a condition.
+fn narrowed_table(alloc: Global) -> Result<Select, Error> {
+    let (query, condition) = both(Select::table(alloc, "Quux"), expression(alloc, &LARGE_QUAY))?;
+    query.with(condition)
+}
+
+/// An inner join.
+fn joined(
+    alloc: Global,
+    left: Result<Select, Error>,
+    right: Result<Select, Error>,
+    on: &Given,
+) -> Result<Select, Error> {
+    let ((left, right), on) = both(both(left, right), expression(alloc, on))?;
+    left.inner_join(right, on)
+}
+
 /// A join with a condition on its right side, of which two columns are kept.
 pub(crate) fn narrowed_side(alloc: Global) -> Result<Select, Error> {
-    let right = Select::table(alloc, "Quux")?.with(expression(alloc, &LARGE_QUAY)?)?;
-    let on = expression(alloc, &SAME_KEY)?;
-    let joined = Select::table(alloc, "Foobar")?.inner_join(right, on)?;
-    joined.columns(&["Foobar.Foo", "Quux.Baz"])
+    let left = Select::table(alloc, "Foobar");
+    let query = joined(alloc, left, narrowed_table(alloc), &SAME_KEY)?;
+    query.columns(&["Foobar.Foo", "Quux.Baz"])
 }
 
 /// A join of two tables.
 fn joined_tables(alloc: Global) -> Result<Select, Error> {
-    let on = expression(alloc, &SAME_B)?;
-    Select::table(alloc, "A")?.inner_join(Select::table(alloc, "B")?, on)
+    let left = Select::table(alloc, "A");
+    joined(alloc, left, Select::table(alloc, "B"), &SAME_B)
 }
 
-/// A join whose left side is a join.
+/// A left join whose left side is a join.
 fn joined_side(alloc: Global) -> Result<Select, Error> {
-    let on = expression(alloc, &SAME_C)?;
-    joined_tables(alloc)?.left_join(Select::table(alloc, "C")?, on)
+    let sides = both(joined_tables(alloc), Select::table(alloc, "C"));
+    let ((left, right), on) = both(sides, expression(alloc, &SAME_C))?;
+    left.left_join(right, on)
 }
 
 /// A join under a condition.
 fn narrowed_join(alloc: Global) -> Result<Select, Error> {
-    let condition = expression(alloc, &LARGE_N)?;
-    joined_tables(alloc)?.with(condition)
+    let (query, condition) = both(joined_tables(alloc), expression(alloc, &LARGE_N))?;
+    query.with(condition)
 }
 
 /// Some columns of a table.
@@ -90,18 +97,28 @@ fn sides_of_joins_that_are_no_whole_table_stand_in_brackets(rt: HostRuntime) -> 
     Ok(())
 }
 
-/// Rows under a condition and one more.
+/// The rows of a query under one more condition.
+fn narrowed(alloc: Global, made: Result<Delete, Error>, given: &Given) -> Result<Delete, Error> {
+    let (query, condition) = both(made, expression(alloc, given))?;
+    query.with(condition)
+}
+
+/// Rows under two conditions.
 pub(crate) fn narrowed_delete(alloc: Global) -> Result<Delete, Error> {
-    let either = expression(alloc, &A_OR_B)?;
-    let narrowed = Delete::from(alloc, "T")?.with(either)?;
-    narrowed.with(expression(alloc, &Col("C"))?)
+    let first = narrowed(alloc, Delete::from(alloc, "T"), &A_OR_B);
+    narrowed(alloc, first, &Col("C"))
+}
+
+/// New values of two columns.
+fn sets(alloc: Global) -> Result<Update, Error> {
+    let first = Update::table(alloc, "T")?.set("A", Value::Int(-5))?;
+    first.set("B", Value::Null)
 }
 
 /// New values under a condition.
-pub(crate) fn two_sets(alloc: Global) -> Result<Update, Error> {
-    let first = Update::table(alloc, "T")?.set("A", Value::Int(-5))?;
-    let both = first.set("B", Value::Null)?;
-    both.with(expression(alloc, &LARGE_C)?)
+pub(crate) fn narrowed_sets(alloc: Global) -> Result<Update, Error> {
+    let (query, condition) = both(sets(alloc), expression(alloc, &LARGE_C))?;
+    query.with(condition)
 }
 
 #[test]
@@ -116,7 +133,7 @@ fn sets_print_in_order_before_the_condition(rt: HostRuntime) -> Result<(), Fail>
     let alloc = rt.alloc();
     assert!(rt; says(alloc, Update::table(alloc, "T"), "UPDATE T")?);
     let text = "UPDATE T SET A = -5, B = NULL WHERE C > 42";
-    assert!(rt; says(alloc, two_sets(alloc), text)?);
+    assert!(rt; says(alloc, narrowed_sets(alloc), text)?);
     Ok(())
 }
 
@@ -125,17 +142,24 @@ fn values(alloc: Global, first: Value, text: &str) -> Result<Vec<Value>, Error> 
     Ok(vec![in alloc; first, Value::from_text(alloc, text)?]?)
 }
 
-/// Two rows, one after the other.
-pub(crate) fn row_by_row(alloc: Global) -> Result<Insert, Error> {
-    let first = Insert::into(alloc, "T")?.row(values(alloc, Value::Int(1), "a")?)?;
-    first.row(values(alloc, Value::Null, "b")?)
+/// Two rows.
+fn two_rows(alloc: Global) -> Result<(Vec<Value>, Vec<Value>), Error> {
+    both(
+        values(alloc, Value::Int(1), "a"),
+        values(alloc, Value::Null, "b"),
+    )
 }
 
-/// The same two rows at once.
+/// These rows, one after the other.
+pub(crate) fn row_by_row(alloc: Global) -> Result<Insert, Error> {
+    let (query, (first, second)) = both(Insert::into(alloc, "T"), two_rows(alloc))?;
+    query.row(first)?.row(second)
+}
+
+/// These rows at once.
 fn rows_at_once(alloc: Global) -> Result<Insert, Error> {
-    let first = values(alloc, Value::Int(1), "a")?;
-    let second = values(alloc, Value::Null, "b")?;
-    Insert::into(alloc, "T")?.rows(vec![in alloc; first, second]?)
+    let (query, (first, second)) = both(Insert::into(alloc, "T"), two_rows(alloc))?;
+    query.rows(vec![in alloc; first, second]?)
 }
 
 #[test]

@@ -1,8 +1,11 @@
-//! Expressions as rows of tests tell them, and what is printed.
+//! Expressions as rows of tests tell them, and what is asked of what was made.
+
+ghost use Rattle.std.specs.Prelude.{◌≡◌, IfOk, length};
 
 use msi_query::Expr;
+use msi_table::Column;
 use msi_text::Error;
-use std::alloc::{AllocError, Global};
+use std::alloc::Global;
 use std::fmt::Display;
 
 /// An operator before its operand.
@@ -95,8 +98,56 @@ pub(crate) fn expression(alloc: Global, given: &Given) -> Result<Expr, Error> {
     }
 }
 
+/// Two values, where both were made.
+pub(crate) fn both<A: Drop, B: Drop>(
+    first: Result<A, Error>,
+    second: Result<B, Error>,
+) -> Result<(A, B), Error> {
+    let first = first?;
+    let second = second?;
+    Ok((first, second))
+}
+
+/// A value of which a test knows what it is to be.
+pub(crate) trait Expected {
+    /// Whether it is that.
+    fn is_expected(&self, alloc: Global) -> Result<bool, Error>;
+}
+
+/// Whether what was made is what it is to be.
+pub(crate) fn is_made<T: Expected + Drop>(
+    alloc: Global,
+    made: Result<T, Error>,
+) -> Result<bool, Error> {
+    made?.is_expected(alloc)
+}
+
 /// Whether something prints as a text.
-pub(crate) fn prints<T: Display>(alloc: Global, it: &T, text: &str) -> Result<bool, AllocError> {
+pub(crate) fn prints<T: Display>(alloc: Global, it: &T, text: &str) -> Result<bool, Error> {
     let printed = format!(in alloc; "{it}")?;
     Ok(printed.as_str() == text)
+}
+
+/// Whether what was made prints as a text.
+pub(crate) fn says<T: Display + Drop>(
+    alloc: Global,
+    made: Result<T, Error>,
+    text: &str,
+) -> Result<bool, Error> {
+    prints(alloc, &made?, text)
+}
+
+/// The column of a name.
+fn column(alloc: Global, name: &str) -> Result<Column, Error> {
+    Ok(Column::build(alloc, name)?.int32())
+}
+
+/// The columns of three names. Their types play no part in what an expression is worth.
+pub(crate) fn columns(alloc: Global, names: [&str; 3]) -> Result<Vec<Column>, Error>
+    ensures { IfOk result (λ columns. length columns.items ≡ 3) }
+{
+    let [first, second, third] = names;
+    let two = both(column(alloc, first), column(alloc, second));
+    let ((first, second), third) = both(two, column(alloc, third))?;
+    Ok(vec![in alloc; first, second, third]?)
 }
