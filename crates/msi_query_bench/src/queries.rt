@@ -77,7 +77,8 @@ fn sides_of_joins_that_are_no_whole_table_stand_in_brackets(rt: HostRuntime) -> 
     let narrowed = says(
         alloc,
         narrowed_side(alloc),
-        "SELECT Foobar.Foo, Quux.Baz FROM Foobar INNER JOIN (SELECT * FROM Quux WHERE Quay > 42) ON Foobar.Key = Quux.Quay",
+        "SELECT Foobar.Foo, Quux.Baz FROM Foobar INNER JOIN \
+         (SELECT * FROM Quux WHERE Quay > 42) ON Foobar.Key = Quux.Quay",
     )?;
     assert!(rt; narrowed);
     let joined = says(
