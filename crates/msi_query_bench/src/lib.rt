@@ -4,6 +4,10 @@
 #[cfg(test)]
 mod expressions;
 #[cfg(test)]
+mod parts;
+#[cfg(test)]
 mod printed_expressions;
 #[cfg(test)]
 mod queries;
+#[cfg(test)]
+mod samples;
