@@ -2,6 +2,7 @@
 pub mod ByteLemmas
 pub mod Utf16Lemmas
 pub mod NamesLemmas
+pub mod StreamsLemmas
 pub mod PlanOnceLemmas
 pub mod TextLemmas
 pub mod PackingLemmas
