@@ -8,6 +8,7 @@ pub mod TextLemmas
 pub mod PackingLemmas
 pub mod UnpackingLemmas
 pub mod AcceptedNamesLemmas
+pub mod SpecialNamesLemmas
 pub mod StreamNameRows
 pub mod CharacterValueLemmas
 pub mod EncodedUnitsLemmas

@@ -1,6 +1,6 @@
 -- Streams by name.
-use Rattle.std.specs.Prelude.{ℕ, List, Option, Some, None}
-use Rattle.std.specs.FinMap.{FinMap, insert, remove}
+use Rattle.std.specs.Prelude.{◌≡◌, ℕ, List, Option, Some, None}
+use Rattle.std.specs.FinMap.{FinMap, get, insert, remove}
 use Rattle.msi_compound.specs.Names.{name_cmp}
 
 -- the bytes of each stream, by the units of its name
@@ -11,3 +11,7 @@ Streams = FinMap name_cmp (List ℕ)
 abbrev pub with_or_without : Streams → List ℕ → Option (List ℕ) → Streams
 with_or_without streams name None = remove streams name
 with_or_without streams name (Some bytes) = insert streams name bytes
+
+-- What was there before a stream was put at its name, put back, leaves the streams as they were.
+abbrev pub PutBackUndoesInsert : Type 0
+PutBackUndoesInsert = (streams : Streams) (name bytes : List ℕ) → with_or_without (insert streams name bytes) name (get streams name) ≡ streams

@@ -38,7 +38,8 @@ impl Bytes {
     pub fn into_vec(self) -> Vec<u8>
         ensures { result.items ≡ self }
     {
-        self.held
+        let Bytes { held } = self;
+        held
     }
 
     /// The bytes.
@@ -120,6 +121,7 @@ impl StreamMap {
     ) -> Result<Option<Bytes>, AllocFailed<(Name, Bytes)>>
         ensures ok { OnOk result (self.new ≡ finite.insert self.old name bytes) }
         ensures held { IfOk result (λ held. held ≡ finite.get self.old name) }
+        ensures there { OnOk result (finite.contains_key self.new name ≡ true) }
         ensures err { OnErr result (self.new ≡ self.old) }
         ensures back { IfErr result (λ refused. refused.value ≡ (name, bytes)) }
         ensures new { OnErr result (finite.contains_key self.old name ≡ false) }
