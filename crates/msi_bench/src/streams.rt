@@ -32,7 +32,7 @@ fn has(streams: &StreamMap, name: &Name, wanted: &[u8]) -> bool {
 fn is_put_back(alloc: Global) -> Result<bool, Error> {
     let (mut streams, name) = one_stream(alloc)?;
     let other = stream(alloc, &[2, 3])?;
-    let held = streams.insert(name.duplicate(), other)?;
+    let held = streams.replace(name.duplicate(), other)?;
     let is_put = has(&streams, &name, &[2, 3]);
     streams.put_back(&name, held);
     Ok(is_put && has(&streams, &name, &[1]))
@@ -42,7 +42,7 @@ fn is_put_back(alloc: Global) -> Result<bool, Error> {
 fn is_gone(alloc: Global) -> Result<bool, Error> {
     let (mut streams, name) = one_stream(alloc)?;
     let other = Name::new("b")?;
-    let held = streams.insert(other.duplicate(), stream(alloc, &[])?)?;
+    let held = streams.replace(other.duplicate(), stream(alloc, &[])?)?;
     let was_none = held.is_none();
     streams.put_back(&other, held);
     Ok(was_none && streams.len() == 1 && has(&streams, &name, &[1]))
@@ -55,7 +55,7 @@ fn is_written(alloc: Global) -> Result<bool, Error> {
         held.as_mut_vec().push(7)?;
     }
     match streams.remove(&name) {
-        Some(held) => Ok(held.into_vec().as_slice() == [1, 7] && streams.is_empty()),
+        Some(held) => Ok(held.into_vec().as_slice() == [1, 7].as_slice() && streams.is_empty()),
         None => Ok(false),
     }
 }

@@ -13,5 +13,6 @@ with_or_without streams name None = remove streams name
 with_or_without streams name (Some bytes) = insert streams name bytes
 
 -- What was there before a stream was put at its name, put back, leaves the streams as they were.
-abbrev pub PutBackUndoesInsert : Type 0
-PutBackUndoesInsert = (streams : Streams) (name bytes : List ℕ) → with_or_without (insert streams name bytes) name (get streams name) ≡ streams
+abbrev pub PutBackUndoesReplace : Type 0
+PutBackUndoesReplace = (streams : Streams) (name bytes : List ℕ)
+    → with_or_without (insert streams name bytes) name (get streams name) ≡ streams

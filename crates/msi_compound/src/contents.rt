@@ -109,12 +109,27 @@ impl StreamMap {
         self.map.contains_key(name)
     }
 
+    /// Puts a stream at a name, in place of the one that was there.
+    ///
+    /// # Errors
+    /// Where memory was refused; then nothing is changed, and the name and the bytes are handed back.
+    pub fn insert(&mut self, name: Name, bytes: Bytes) -> Result<(), AllocFailed<(Name, Bytes)>>
+        ensures ok { OnOk result (self.new ≡ finite.insert self.old name bytes) }
+        ensures there { OnOk result (finite.contains_key self.new name ≡ true) }
+        ensures err { OnErr result (self.new ≡ self.old) }
+        ensures back { IfErr result (λ refused. refused.value ≡ (name, bytes)) }
+        ensures new { OnErr result (finite.contains_key self.old name ≡ false) }
+    {
+        self.replace(name, bytes)?;
+        Ok(())
+    }
+
     /// Puts a stream at a name, and hands back the bytes of the one that was there. To put one in the place of another takes
     /// no memory.
     ///
     /// # Errors
-    /// Where memory was refused; then nothing is changed, and the name and the bytes are handed back.
-    pub fn insert(
+    /// Those of `insert`.
+    pub fn replace(
         &mut self,
         name: Name,
         bytes: Bytes,
@@ -129,8 +144,8 @@ impl StreamMap {
         self.map.insert(name, bytes)
     }
 
-    /// Puts back what `insert` handed back: these bytes, or no stream. A stream of that name has to be there, so it takes
-    /// no memory.
+    /// Puts back what `replace` handed back: these bytes, or no stream. A stream of that name has to be there, so it
+    /// takes no memory.
     pub fn put_back(&mut self, name: &Name, bytes: Option<Bytes>)
         requires { finite.contains_key self.old name.now ≡ true }
         ensures { self.new ≡ with_or_without self.old name.now bytes }

@@ -1,7 +1,7 @@
 //! What holds of the formats themselves: each law is what a function without a body ensures.
 
 ghost use Rattle.msi_compound.specs.Container.{OneContents};
-ghost use Rattle.msi_compound.specs.Streams.{PutBackUndoesInsert};
+ghost use Rattle.msi_compound.specs.Streams.{PutBackUndoesReplace};
 ghost use Rattle.msi_compound.specs.StreamNameLaws.{AcceptedNamesComeBack, EncodedNamesTellNames, SpecialNamesStandAlone, StreamsAreNoTables};
 
 /// Bytes hold at most one contents: the grammar of compound files is unambiguous.
@@ -9,9 +9,9 @@ pub fn one_contents()
     ensures { OneContents }
 {}
 
-/// What `StreamMap::insert` handed back, put back, leaves the streams as they were.
-pub fn put_back_undoes_insert()
-    ensures { PutBackUndoesInsert }
+/// What `StreamMap::replace` handed back, put back, leaves the streams as they were.
+pub fn put_back_undoes_replace()
+    ensures { PutBackUndoesReplace }
 {}
 
 /// An accepted stream name and its mark come back from the encoded name, which has the length of a container's name.

@@ -4,7 +4,7 @@ use Rattle.std.specs.Prelude.{is_some}
 use Rattle.std.proofs.lemmas.Result.{IfOk-weaker, on_err_weaker, on_ok_weaker}
 use Rattle.msi_compound.proofs.NamesLemmas.{from_entries_updated, get_is_lookup}
 use Rattle.msi_compound.proofs.StreamsLemmas.{there_once_put}
-use Rattle.msi_compound.proofs.contents.StreamMap.insert.Goals as goal
+use Rattle.msi_compound.proofs.contents.StreamMap.replace.Goals as goal
 
 pub returns-clause-ok : goal.returns-clause-ok
 returns-clause-ok c = on_ok_weaker c.insert.result
