@@ -118,7 +118,7 @@ impl StreamMap {
         ensures there { OnOk result (finite.contains_key self.new name ≡ true) }
         ensures err { OnErr result (self.new ≡ self.old) }
         ensures back { IfErr result (λ refused. refused.value ≡ (name, bytes)) }
-        ensures new { OnErr result (finite.contains_key self.old name ≡ false) }
+        ensures absent { OnErr result (finite.contains_key self.old name ≡ false) }
     {
         self.replace(name, bytes)?;
         Ok(())
@@ -139,7 +139,7 @@ impl StreamMap {
         ensures there { OnOk result (finite.contains_key self.new name ≡ true) }
         ensures err { OnErr result (self.new ≡ self.old) }
         ensures back { IfErr result (λ refused. refused.value ≡ (name, bytes)) }
-        ensures new { OnErr result (finite.contains_key self.old name ≡ false) }
+        ensures absent { OnErr result (finite.contains_key self.old name ≡ false) }
     {
         self.map.insert(name, bytes)
     }

@@ -22,7 +22,7 @@ returns-clause-held c = IfOk-weaker c.insert.result _ _
     (λ held is. is ∙ sym (get_is_lookup c.self.inside.map.entries c.args.name) ∙ ap (λ m. finite.get m c.args.name) c.self.view_is)
     c.insert.ensures.old
 
-pub returns-clause-new : goal.returns-clause-new
-returns-clause-new c = on_err_weaker c.insert.result
+pub returns-clause-absent : goal.returns-clause-absent
+returns-clause-absent c = on_err_weaker c.insert.result
     (λ absent. ap is_some (sym (ap (λ m. finite.get m c.args.name) c.self.view_is) ∙ get_is_lookup c.self.inside.map.entries c.args.name ∙ absent))
     c.insert.ensures.absent
