@@ -13,3 +13,5 @@ mod names;
 mod readme;
 #[cfg(test)]
 mod samples;
+#[cfg(test)]
+mod streams;

@@ -2,11 +2,13 @@
 pub mod ByteLemmas
 pub mod Utf16Lemmas
 pub mod NamesLemmas
+pub mod StreamsLemmas
 pub mod PlanOnceLemmas
 pub mod TextLemmas
 pub mod PackingLemmas
 pub mod UnpackingLemmas
 pub mod AcceptedNamesLemmas
+pub mod SpecialNamesLemmas
 pub mod StreamNameRows
 pub mod CharacterValueLemmas
 pub mod EncodedUnitsLemmas

@@ -4,6 +4,8 @@ pub mod Bytes
 pub mod Chains
 pub mod Trees
 pub mod Names
+pub mod Streams
+pub mod Lending
 pub mod Container
 pub mod StreamNames
 pub mod StreamNameLaws

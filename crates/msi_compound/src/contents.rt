@@ -1,13 +1,14 @@
 //! What a compound file holds.
 
-ghost use Rattle.std.specs.Prelude.{◌≡◌, ◌==◌, length, ◌<◌, ◌^◌, OnOk, OnErr, IsErr, IsErrOf};
-ghost use Rattle.std.specs.Option.{option_copied};
+ghost use Rattle.std.specs.Prelude.{◌≡◌, ◌==◌, length, ◌<◌, ◌^◌, false, true, IfErr, IfOk, OnErr, OnOk};
+ghost use Rattle.std.specs.Borrow.{sem};
 ghost use Rattle.std.specs.FinMap as finite;
-ghost use Rattle.msi_text.specs.declared.errors.ErrorKind.TheVariants.{OutOfMemory};
+ghost use Rattle.std.specs.Option.{option_copied, option_copied_mut};
+ghost use Rattle.msi_compound.specs.Lending.{LendsBytes, LendsStream};
+ghost use Rattle.msi_compound.specs.Streams.{with_or_without};
 
 use crate::name::Name;
-use msi_text::Error;
-use std::alloc::Global;
+use std::alloc::{AllocFailed, Global};
 use std::collections::{BTreeMap, btree_map};
 use std::marker::Model;
 
@@ -33,11 +34,27 @@ impl Bytes {
         Bytes { held }
     }
 
+    /// The vector that holds the bytes. It takes no memory.
+    pub fn into_vec(self) -> Vec<u8>
+        ensures { result.items ≡ self }
+    {
+        let Bytes { held } = self;
+        held
+    }
+
     /// The bytes.
     pub fn as_slice(&self) -> &[u8]
         ensures { result.now ≡ self.now }
     {
         self.held.as_slice()
+    }
+
+    /// The vector that holds the bytes, lent for changing them in place. What is left in it are the stream's bytes.
+    pub fn as_mut_vec(&mut self) -> &mut Vec<u8>
+        ensures* left { sem 𝓛 (LendsBytes self.entry result) }
+        ensures held { result.now.items ≡ self.old }
+    {
+        &mut self.held
     }
 }
 
@@ -77,6 +94,14 @@ impl StreamMap {
         self.map.get(name)
     }
 
+    /// The stream of a name, if there is one, lent for changing its bytes.
+    pub fn get_mut(&mut self, name: &Name) -> Option<&mut Bytes>
+        ensures* left { sem 𝓛 (LendsStream self.entry name.now result) }
+        ensures held { option_copied_mut result ≡ finite.get self.old name.now }
+    {
+        self.map.get_mut(name)
+    }
+
     /// Whether there is a stream of a name.
     pub fn contains(&self, name: &Name) -> bool
         ensures { result ≡ finite.contains_key self.now name.now }
@@ -87,14 +112,54 @@ impl StreamMap {
     /// Puts a stream at a name, in place of the one that was there.
     ///
     /// # Errors
-    /// `OutOfMemory`; then nothing is changed.
-    pub fn insert(&mut self, name: Name, bytes: Bytes) -> Result<(), Error>
+    /// Where memory was refused; then nothing is changed, and the name and the bytes are handed back.
+    pub fn insert(&mut self, name: Name, bytes: Bytes) -> Result<(), AllocFailed<(Name, Bytes)>>
         ensures ok { OnOk result (self.new ≡ finite.insert self.old name bytes) }
+        ensures there { OnOk result (finite.contains_key self.new name ≡ true) }
         ensures err { OnErr result (self.new ≡ self.old) }
-        ensures memory { IsErr result → IsErrOf result OutOfMemory }
+        ensures back { IfErr result (λ refused. refused.value ≡ (name, bytes)) }
+        ensures absent { OnErr result (finite.contains_key self.old name ≡ false) }
     {
-        self.map.insert(name, bytes)?;
+        self.replace(name, bytes)?;
         Ok(())
+    }
+
+    /// Puts a stream at a name, and hands back the bytes of the one that was there. To put one in the place of another takes
+    /// no memory.
+    ///
+    /// # Errors
+    /// Those of `insert`.
+    pub fn replace(
+        &mut self,
+        name: Name,
+        bytes: Bytes,
+    ) -> Result<Option<Bytes>, AllocFailed<(Name, Bytes)>>
+        ensures ok { OnOk result (self.new ≡ finite.insert self.old name bytes) }
+        ensures held { IfOk result (λ held. held ≡ finite.get self.old name) }
+        ensures there { OnOk result (finite.contains_key self.new name ≡ true) }
+        ensures err { OnErr result (self.new ≡ self.old) }
+        ensures back { IfErr result (λ refused. refused.value ≡ (name, bytes)) }
+        ensures absent { OnErr result (finite.contains_key self.old name ≡ false) }
+    {
+        self.map.insert(name, bytes)
+    }
+
+    /// Puts back what `replace` handed back: these bytes, or no stream. A stream of that name has to be there, so it
+    /// takes no memory.
+    pub fn put_back(&mut self, name: &Name, bytes: Option<Bytes>)
+        requires { finite.contains_key self.old name.now ≡ true }
+        ensures { self.new ≡ with_or_without self.old name.now bytes }
+    {
+        match bytes {
+            Some(bytes) => {
+                if let Some(held) = self.get_mut(name) {
+                    *held = bytes;
+                }
+            }
+            None => {
+                self.remove(name);
+            }
+        }
     }
 
     /// Takes the stream of a name out, if there is one, and hands its bytes back.

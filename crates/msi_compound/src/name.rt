@@ -152,15 +152,18 @@ fn capital_of(unit: u16) -> u16
     }
 }
 
-/// Compares two rows of as many units with small letters as capitals.
+/// Compares two rows of as many units with small letters as capitals. Most units of names beside one another are the same,
+/// and need no capital.
 fn cmp_capitals(a: &[u16], b: &[u16]) -> Ordering
     requires { length a.now ≡ length b.now }
     ensures { result ≡ slice_cmp nat_cmp (capitals a.now) (capitals b.now) }
 {
     for i in 0..a.len() {
-        let order = capital_of(a[i]).cmp(&capital_of(b[i]));
-        if order != Ordering::Equal {
-            return order;
+        if a[i] != b[i] {
+            let order = capital_of(a[i]).cmp(&capital_of(b[i]));
+            if order != Ordering::Equal {
+                return order;
+            }
         }
     }
     Ordering::Equal
@@ -178,10 +181,13 @@ impl Ord for Name {
     fn cmp(&self, other: &Name) -> Ordering {
         let a = self.units();
         let b = other.units();
-        if a.len() == b.len() {
-            cmp_capitals(a, b).then(a.cmp(b))
-        } else {
-            a.len().cmp(&b.len())
+        if a.len() != b.len() {
+            return a.len().cmp(&b.len());
+        }
+        // Few names differ in small letters alone, so the units themselves are hardly ever asked.
+        match cmp_capitals(a, b) {
+            Ordering::Equal => a.cmp(b),
+            order => order,
         }
     }
 }

@@ -7,6 +7,8 @@ pub use Rattle.msi_compound.specs.Bytes
 pub use Rattle.msi_compound.specs.Chains
 pub use Rattle.msi_compound.specs.Trees
 pub use Rattle.msi_compound.specs.Names
+pub use Rattle.msi_compound.specs.Streams
+pub use Rattle.msi_compound.specs.Lending
 pub use Rattle.msi_compound.specs.Container
 pub use Rattle.msi_compound.specs.StreamNames
 pub use Rattle.msi_compound.specs.StreamNameLaws

@@ -12,6 +12,7 @@ mod wrap;
 
 use command::Command;
 use msi_text::Error;
+use std::fs::OpenFile;
 use std::io::{Read, Write};
 use std::process::ExitCode;
 use std::rt::{Env, Files};
@@ -31,7 +32,7 @@ pub fn run<R, I, O, E>(
 ) -> u8
 where
     R: Files + AllocGlobal,
-    R::File: Read + Write + Drop,
+    R::File: OpenFile + Read + Write + Drop,
     I: Read,
     O: Write,
     E: Write,
@@ -52,7 +53,7 @@ where
 fn carry_out<R, I, O>(rt: &R, command: &Command, input: &mut I, output: &mut O) -> Result<(), Error>
 where
     R: Files + AllocGlobal,
-    R::File: Read + Write + Drop,
+    R::File: OpenFile + Read + Write + Drop,
     I: Read,
     O: Write,
 {

@@ -1,10 +1,10 @@
 //! `raw FILE`: each stream of a container, with its kind and its number of bytes.
 
-use msi_container::compound::{self, Contents};
+use msi_container::compound::{self, Name};
 use msi_container::streamname;
 use msi_text::Error;
 use std::alloc::Global;
-use std::fs;
+use std::fs::{self, OpenFile};
 use std::io::{Read, Write};
 use std::rt::Files;
 
@@ -12,26 +12,45 @@ use std::rt::Files;
 pub(crate) fn print_streams<R, O>(rt: &R, file: &str, output: &mut O) -> Result<(), Error>
 where
     R: Files + AllocGlobal,
-    R::File: Read + Drop,
+    R::File: OpenFile + Read + Drop,
     O: Write,
 {
-    let bytes = fs::read(rt, file)?;
-    let contents = compound::read(rt.alloc(), bytes.as_slice())?;
-    let lines = list(rt.alloc(), &contents)?;
+    let bytes = read_whole(rt, file)?;
+    let lines = list(rt.alloc(), bytes.as_slice())?;
     output.write_all(lines.as_slice())?;
     output.flush()?;
     Ok(())
 }
 
-/// A line for each stream: its decoded name, `table` or `stream`, and its number of bytes.
-fn list(alloc: Global, contents: &Contents) -> Result<Vec<u8>, Error> {
+/// The bytes of a file. Its length is asked for first, so that the vector needn't grow while it is read.
+fn read_whole<R>(rt: &R, path: &str) -> Result<Vec<u8>, Error>
+where
+    R: Files + AllocGlobal,
+    R::File: OpenFile + Read + Drop,
+{
+    let mut file = fs::open(rt, path)?;
+    let len = file.metadata()?.len() as usize;
+    // With room for one byte more the end is found before the vector is full.
+    let mut bytes = Vec::with_capacity(rt.alloc(), len.saturating_add(1))?;
+    file.read_to_end(&mut bytes)?;
+    Ok(bytes)
+}
+
+/// A line for each stream of a container.
+fn list(alloc: Global, file: &[u8]) -> Result<Vec<u8>, Error> {
+    let contents = compound::read(alloc, file)?;
     let mut lines = Vec::new(alloc);
     for (name, bytes) in contents.streams.iter() {
-        let encoded = name.to_text(alloc)?;
-        let (name, is_table) = streamname::decode(alloc, encoded.as_str())?;
-        let kind = if is_table { "table" } else { "stream" };
-        let size = bytes.as_slice().len();
-        writeln!(lines, "{name}\t{kind}\t{size}")?;
+        add_line(alloc, &mut lines, name, bytes.as_slice().len() as u64)?;
     }
     Ok(lines)
+}
+
+/// Adds the line of a stream: its decoded name, `table` or `stream`, and its number of bytes.
+fn add_line(alloc: Global, lines: &mut Vec<u8>, name: &Name, size: u64) -> Result<(), Error> {
+    let encoded = name.to_text(alloc)?;
+    let (name, is_table) = streamname::decode(alloc, encoded.as_str())?;
+    let kind = if is_table { "table" } else { "stream" };
+    writeln!(lines, "{name}\t{kind}\t{size}")?;
+    Ok(())
 }
