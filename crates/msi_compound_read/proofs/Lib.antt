@@ -11,3 +11,4 @@ pub mod NamedBytesLemmas
 pub mod ListLemmas
 pub mod PlanPartsLemmas
 pub mod ListingLemmas
+pub mod StepLemmas

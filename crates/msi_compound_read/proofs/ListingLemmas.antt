@@ -1,6 +1,8 @@
 -- What holds of entries holds of the streams among them.
 use Rattle.std.proofs.Common.{◌≡◌, ◌≢◌, refl, ℕ, zero, suc, ◌<◌, Bool, true, false, cond, eqb, List, [], ◌∷◌, length, get_or, filter, arith, Result, Ok, Err, IfOk}
 use Rattle.msi_text.specs.declared.errors.ErrorKind.{ErrorKind}
+use Rattle.msi_text.specs.declared.errors.ErrorKind.TheVariants.{InvalidData, OutOfMemory}
+use Rattle.msi_compound_read.specs.Outcomes.{Gives}
 use Rattle.std.specs.List.{AllZip}
 use Rattle.std.proofs.lemmas.Grind.{div_ceil_times}
 use Rattle.std.specs.Int.{div_ceil}
@@ -95,3 +97,12 @@ covered bytes fat mini_fat mini_stream directory (k ∷ ks) (c ∷ cs) z h b = (
 pub if_ok_map : {X : Type 0} (r : Result X ErrorKind) (P Q : X → Type 0) → ((x : X) → P x → Q x) → IfOk r P → IfOk r Q
 if_ok_map (Ok x) P Q f h = f x h
 if_ok_map (Err e) P Q f h = tt
+
+pub if_ok_map3 : {X : Type 0} (r : Result X ErrorKind) (P Q R S : X → Type 0) → ((x : X) → P x → Q x → R x → S x) → IfOk r P → IfOk r Q → IfOk r R → IfOk r S
+if_ok_map3 (Ok x) P Q R S f p q r = f x p q r
+if_ok_map3 (Err e) P Q R S f p q r = tt
+
+-- what lacks nothing but memory isn't refused for its bytes
+pub gives_not_invalid : {X Y : Type 0} (view : X → Y) (r : Result X ErrorKind) (y : Y) → Gives view r y → ◌≡◌ {A = Result X ErrorKind} r (Err InvalidData) → ⊥
+gives_not_invalid view (Ok x) y g e = absurd cc
+gives_not_invalid view (Err f) y g e = absurd cc

@@ -4,3 +4,4 @@ pub mod Claims
 pub mod Walks
 pub mod Outcomes
 pub mod Reading
+pub mod Steps

@@ -1,10 +1,11 @@
 -- The parts of a compound file in the order in which they are read, each with what it takes into use.
-use Rattle.std.specs.Prelude.{◌≡◌, ℕ, ◌*◌, ◌/◌, ◌≤◌, true, false, List, [], ◌++◌, length, map}
+use Rattle.std.specs.Prelude.{◌≡◌, ℕ, ◌*◌, ◌/◌, ◌≤◌, Bool, true, false, List, [], ◌++◌, length, map}
 use Rattle.std.specs.List.{AllZip}
 use Rattle.std.specs.declared.vec.Vec.{Vec}
 use Rattle.std.specs.declared.alloc.Global.{Global}
 use Rattle.msi_compound.specs.Chains.{AreBelow}
-use Rattle.msi_compound.specs.Container.{IsHeader, IsDifat, fat_of, IsDirectory, IsMiniFat, IsMiniStream, IsMembers, is_mini, all_sectors, all_mini_sectors, sector_size, size}
+use Rattle.msi_compound.specs.Container.{IsHeader, IsDifat, fat_of, IsDirectory, IsMiniFat, IsMiniStream, IsMembers, is_mini, all_sectors, all_mini_sectors, sector_size, size, Plan, clsid, has_storage, stream_entries}
+use Rattle.msi_compound.specs.Trees.{members}
 use Rattle.msi_compound_read.specs.Claims.{CanClaim}
 
 -- the sectors of the DIFAT, the FAT and the directory
@@ -36,6 +37,15 @@ pub record IsCovered (bytes mini_stream directory : List ℕ) (k : ℕ) (c : Lis
   pub large : is_mini (size bytes directory k) ≡ false → size bytes directory k ≤ length c * sector_size bytes
   pub small : is_mini (size bytes directory k) ≡ true → size bytes directory k ≤ 64 * length c
   pub within : is_mini (size bytes directory k) ≡ true → AreBelow (mini_limit bytes mini_stream) c
+
+-- where a plan's streams stand, and what its directory tells beside them
+pub record IsOutline (bytes : List ℕ) (plan : Plan) (root : List ℕ) (storages : Bool) (directory mini_stream streams : List ℕ) (chains : List (List ℕ)) : Type 0 where
+  pub root : root ≡ clsid bytes plan.directory
+  pub storages : storages ≡ has_storage bytes plan.directory (members plan.tree)
+  pub directories : directory ≡ plan.directory
+  pub mini_streams : mini_stream ≡ plan.mini_stream
+  pub entries : streams ≡ stream_entries bytes plan
+  pub chained : chains ≡ plan.chains
 
 -- what vectors hold
 abbrev pub views : List (Vec ℕ Global) → List (List ℕ)

@@ -11,4 +11,5 @@ mod streams;
 mod table;
 mod walks;
 
-pub use reading::read;
+pub use reading::{read, read_counted};
+pub use table::Steps;

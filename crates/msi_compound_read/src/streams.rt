@@ -1,6 +1,6 @@
 //! The streams of a directory: which entries they are, their members, and their bytes.
 
-ghost use Rattle.std.specs.Prelude.{◌≡◌, ℕ, List, ◌+◌, ◌*◌, ◌<◌, ◌≤◌, ◌^◌, ◌++◌, length, vec_len, IfOk, IsErr, IsErrOf, map, slice_index};
+ghost use Rattle.std.specs.Prelude.{◌≡◌, ℕ, List, ◌+◌, ◌*◌, ◌<◌, ◌≤◌, ◌^◌, ◌++◌, length, vec_len, IfOk, IsErr, IsErrOf, map, slice_index, sum_by, ◌-◌};
 ghost use Rattle.std.specs.List.{AllZip, range_with_len};
 ghost use Rattle.std.specs.FinMap.{from_entries};
 ghost use Rattle.msi_text.specs.declared.errors.ErrorKind.TheVariants.{OutOfMemory};
@@ -9,6 +9,7 @@ ghost use Rattle.msi_compound_read.specs.Claims.{CanClaim};
 ghost use Rattle.msi_compound_read.specs.Outcomes.{Gives, FailsByData};
 ghost use Rattle.msi_compound.specs.Container as container;
 ghost use Rattle.msi_compound_read.specs.Reading as spec;
+ghost use Rattle.msi_compound_read.specs.Steps.{links};
 
 use crate::claims::Claims;
 use crate::directory::Directory;
@@ -84,7 +85,7 @@ fn walk_stream(
     requires same { tables.now.fat.bytes.now ≡ directory.now.bytes.now }
     requires same_mini { tables.now.mini_fat.bytes.now ≡ directory.now.bytes.now }
     requires below { entry < container.entry_count directory.now.bytes.now directory.now.sectors.now }
-    requires steps { steps.old.count + vec_len uses.old.sectors.marks + vec_len uses.old.mini_sectors.marks + 1
+    requires steps { steps.old + vec_len uses.old.sectors.marks + vec_len uses.old.mini_sectors.marks + 1
         < 2 ^ 64 + vec_len uses.old.sectors.list + vec_len uses.old.mini_sectors.list }
     ensures limit { vec_len uses.new.sectors.marks ≡ vec_len uses.old.sectors.marks }
     ensures mini_limit { vec_len uses.new.mini_sectors.marks ≡ vec_len uses.old.mini_sectors.marks }
@@ -99,8 +100,10 @@ fn walk_stream(
         → CanClaim (vec_len uses.old.mini_sectors.marks) uses.old.mini_sectors.list.items (container.mini_sectors_in directory.now.bytes.now directory.now.sectors.now (entry, chain))
         → Gives (λ v. v.items) result chain }
     ensures kinds { FailsByData result }
-    ensures bounded { steps.new.count + vec_len uses.old.sectors.list + vec_len uses.old.mini_sectors.list
-        ≤ steps.old.count + vec_len uses.new.sectors.list + vec_len uses.new.mini_sectors.list }
+    ensures grows { steps.old ≤ steps.new }
+    ensures bounded { steps.new + vec_len uses.old.sectors.list + vec_len uses.old.mini_sectors.list
+        ≤ steps.old + vec_len uses.new.sectors.list + vec_len uses.new.mini_sectors.list }
+    ensures exact { IfOk result (λ chain. steps.new ≡ steps.old + links chain.items) }
 {
     let start = directory.start_sector(entry);
     let size = directory.size(entry);
@@ -132,7 +135,7 @@ pub(crate) fn walk_each(
     requires same { tables.now.fat.bytes.now ≡ directory.now.bytes.now }
     requires same_mini { tables.now.mini_fat.bytes.now ≡ directory.now.bytes.now }
     requires below { AreBelow (container.entry_count directory.now.bytes.now directory.now.sectors.now) entries.now }
-    requires steps { steps.old.count + vec_len uses.old.sectors.marks + vec_len uses.old.mini_sectors.marks + 1
+    requires steps { steps.old + vec_len uses.old.sectors.marks + vec_len uses.old.mini_sectors.marks + 1
         < 2 ^ 64 + vec_len uses.old.sectors.list + vec_len uses.old.mini_sectors.list }
     ensures limit { vec_len uses.new.sectors.marks ≡ vec_len uses.old.sectors.marks }
     ensures mini_limit { vec_len uses.new.mini_sectors.marks ≡ vec_len uses.old.mini_sectors.marks }
@@ -148,6 +151,10 @@ pub(crate) fn walk_each(
         → CanClaim (vec_len uses.old.mini_sectors.marks) uses.old.mini_sectors.list.items (container.all_mini_sectors directory.now.bytes.now directory.now.sectors.now entries.now chains)
         → Gives (λ v. spec.views v.items) result chains }
     ensures kinds { FailsByData result }
+    ensures grows { steps.old ≤ steps.new }
+    ensures bounded { steps.new + vec_len uses.old.sectors.list + vec_len uses.old.mini_sectors.list
+        ≤ steps.old + vec_len uses.new.sectors.list + vec_len uses.new.mini_sectors.list }
+    ensures exact { IfOk result (λ chains. steps.new ≡ steps.old + sum_by links (spec.views chains.items)) }
 {
     let mut chains = Vec::new(alloc);
     for entry in entries {

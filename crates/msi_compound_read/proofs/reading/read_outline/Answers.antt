@@ -5,7 +5,7 @@ use Rattle.msi_compound_read.specs.Reading.{IsStart, IsMini, AreChained}
 use Rattle.msi_compound.specs.Trees.{members}
 use Rattle.msi_compound.proofs.PlanOnceLemmas.{held_once}
 use Rattle.msi_compound_read.proofs.PlanPartsLemmas.{Limits, starts, befores, start_of, mini_of, chained_of, all_found, memory_left}
-use Rattle.msi_compound_read.proofs.reading.read.Goals as goal
+use Rattle.msi_compound_read.proofs.reading.read_outline.Goals as goal
 
 pub returns-in_err-start-clause-only : goal.returns-in_err-start-clause-only
 returns-in_err-start-clause-only c = λ contents (plan, h, e).
