@@ -12,3 +12,6 @@ pub mod ListLemmas
 pub mod PlanPartsLemmas
 pub mod ListingLemmas
 pub mod StepLemmas
+pub mod KeptLemmas
+pub mod NamedSizesLemmas
+pub mod StepRows

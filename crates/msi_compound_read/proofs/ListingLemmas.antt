@@ -1,15 +1,16 @@
 -- What holds of entries holds of the streams among them.
-use Rattle.std.proofs.Common.{◌≡◌, ◌≢◌, refl, ℕ, zero, suc, ◌<◌, Bool, true, false, cond, eqb, List, [], ◌∷◌, length, get_or, filter, arith, Result, Ok, Err, IfOk}
+use Rattle.std.proofs.Common.{◌≡◌, ◌≢◌, refl, ℕ, zero, suc, ◌*◌, ◌/◌, ◌<◌, Bool, true, false, cond, eqb, List, [], ◌∷◌, length, get_or, filter, arith, Result, Ok, Err, IfOk}
 use Rattle.msi_text.specs.declared.errors.ErrorKind.{ErrorKind}
 use Rattle.msi_text.specs.declared.errors.ErrorKind.TheVariants.{InvalidData, OutOfMemory}
 use Rattle.msi_compound_read.specs.Outcomes.{Gives}
 use Rattle.std.specs.List.{AllZip}
 use Rattle.std.proofs.lemmas.Grind.{div_ceil_times}
 use Rattle.std.specs.Int.{div_ceil}
-use Rattle.msi_compound.specs.Container.{name, size, sector_size, start_sector, successor, HasName, AreEntries, HaveOwnNames, streams_among, version, is_mini, IsMembers, mini_sectors_in, all_mini_sectors}
+use Rattle.msi_compound.specs.Container.{name, size, sector_size, start_sector, successor, HasName, AreEntries, HaveOwnNames, streams_among, entry_count, version, is_mini, IsMembers, mini_sectors_in, all_mini_sectors, Plan, IsPlan, stream_entries}
+use Rattle.msi_compound.specs.Trees.{members}
 use Rattle.msi_compound.specs.Chains.{AreBelow, IsChain}
 use Rattle.msi_compound_read.specs.Reading.{IsCovered, mini_limit}
-use Rattle.msi_compound_read.proofs.PlanPartsLemmas.{below_front, below_back}
+use Rattle.msi_compound_read.proofs.PlanPartsLemmas.{below_front, below_back, mini_below}
 
 -- a fact of each number of a list
 abbrev Each : (ℕ → Type 0) → List ℕ → Type 0
@@ -65,6 +66,14 @@ some_size bytes = sized (eqb (version bytes) 4)
     sized true = omega arith
     sized false = omega arith
 
+-- a sector of the directory has entries
+pub some_entries : (bytes directory : List ℕ) → 0 < length directory → 0 < entry_count bytes directory
+some_entries bytes directory l = sized (eqb (version bytes) 4)
+  where
+    sized : (b : Bool) → 0 < length directory * (cond b 4096 512 / 128)
+    sized true = omega arith
+    sized false = omega arith
+
 -- a stream's members cover it
 covered_one : (bytes fat mini_fat mini_stream directory : List ℕ) (k : ℕ) (c : List ℕ) (b : Bool) → 0 < sector_size bytes → is_mini (size bytes directory k) ≡ b
     → IsChain (successor bytes (cond b mini_fat fat)) (start_sector bytes directory k) (div_ceil (size bytes directory k) (cond b 64 (sector_size bytes))) c
@@ -92,6 +101,18 @@ covered bytes fat mini_fat mini_stream directory (k ∷ ks) (c ∷ cs) z h b = (
   covered bytes fat mini_fat mini_stream directory ks cs z h.1
       (below_back (mini_limit bytes mini_stream) (mini_sectors_in bytes directory (k, c)) (all_mini_sectors bytes directory ks cs) b),
 )
+
+-- the streams of a plan have names of their own, and their members cover them
+pub plan_named : (bytes : List ℕ) (p : Plan) → IsPlan bytes p → (i : ℕ) → i < length (stream_entries bytes p) → HasName bytes p.directory (get_or (stream_entries bytes p) i 0)
+plan_named bytes p h = streams_named bytes p.directory (members p.tree) h.listing.entries
+
+pub plan_apart : (bytes : List ℕ) (p : Plan) → IsPlan bytes p → HaveOwnNames bytes p.directory (stream_entries bytes p)
+plan_apart bytes p h = streams_apart bytes p.directory (members p.tree) h.listing.names
+
+pub plan_covered : (bytes : List ℕ) (p : Plan) → IsPlan bytes p → AllZip (IsCovered bytes p.mini_stream p.directory) (stream_entries bytes p) p.chains
+plan_covered bytes p h =
+    covered bytes p.fat p.mini_fat p.mini_stream p.directory (stream_entries bytes p) p.chains (some_size bytes) h.streams
+    (λ i l. mini_below bytes p.mini_stream _ (h.mini_sectors i l))
 
 -- what follows from what holds of an answer
 pub if_ok_map : {X : Type 0} (r : Result X ErrorKind) (P Q : X → Type 0) → ((x : X) → P x → Q x) → IfOk r P → IfOk r Q

@@ -5,3 +5,4 @@ pub mod Walks
 pub mod Outcomes
 pub mod Reading
 pub mod Steps
+pub mod Listings

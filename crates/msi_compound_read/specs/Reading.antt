@@ -40,8 +40,8 @@ pub record IsCovered (bytes mini_stream directory : List ℕ) (k : ℕ) (c : Lis
 
 -- where a plan's streams stand, and what its directory tells beside them
 pub record IsOutline (bytes : List ℕ) (plan : Plan) (root : List ℕ) (storages : Bool) (directory mini_stream streams : List ℕ) (chains : List (List ℕ)) : Type 0 where
-  pub root : root ≡ clsid bytes plan.directory
-  pub storages : storages ≡ has_storage bytes plan.directory (members plan.tree)
+  pub rooted : root ≡ clsid bytes plan.directory
+  pub told : storages ≡ has_storage bytes plan.directory (members plan.tree)
   pub directories : directory ≡ plan.directory
   pub mini_streams : mini_stream ≡ plan.mini_stream
   pub entries : streams ≡ stream_entries bytes plan

@@ -5,11 +5,15 @@ mod claims;
 mod directory;
 mod fat;
 mod header;
+mod listing;
 mod reading;
 mod reasons;
+mod sizes;
 mod streams;
 mod table;
 mod walks;
 
+pub use listing::list;
 pub use reading::{read, read_counted};
+pub use sizes::{Listing, Sizes};
 pub use table::Steps;

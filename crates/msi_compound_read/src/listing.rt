@@ -1,0 +1,54 @@
+//! Listing the streams of a compound file.
+
+ghost use Rattle.std.specs.Prelude.{◌≡◌, ℕ, ◌<◌, length, slice_index, IfOk, IsErr, IsErrOf};
+ghost use Rattle.std.specs.FinMap.{from_entries};
+ghost use Rattle.msi_text.specs.declared.errors.ErrorKind.TheVariants.{OutOfMemory};
+ghost use Rattle.msi_compound.specs.declared.contents.Contents as held;
+ghost use Rattle.msi_compound.specs.Chains.{AreBelow};
+ghost use Rattle.msi_compound.specs.Container as container;
+ghost use Rattle.msi_compound_read.specs.Listings.{listing_of, named_sizes};
+ghost use Rattle.msi_compound_read.specs.Outcomes.{Gives, FailsByData};
+
+use crate::directory::Directory;
+use crate::reading::read_outline;
+use crate::sizes::{Listing, Sizes};
+use crate::table::Steps;
+use msi_text::Error;
+use std::alloc::Global;
+
+/// The names and sizes of the streams that `read` would answer, of which no byte is copied, and whether storages lie below the root.
+///
+/// # Errors
+/// `InvalidData` where `read` answers it: where the bytes hold no container. `OutOfMemory`.
+pub fn list(alloc: Global, bytes: &[u8]) -> Result<Listing, Error>
+    ensures found { IfOk result (λ listing. (contents : held.Contents) × container.Holds bytes.now contents × (listing ≡ listing_of contents)) }
+    ensures only { (contents : held.Contents) → container.Holds bytes.now contents → Gives (λ l. l) result (listing_of contents) }
+    ensures kinds { FailsByData result }
+{
+    let mut steps = Steps::new();
+    let outline = read_outline(alloc, bytes, &mut steps)?;
+    let directory = Directory {
+        bytes,
+        sectors: &outline.directory,
+    };
+    let sizes = sizes_of(alloc, &directory, &outline.streams)?;
+    Ok(Listing {
+        sizes,
+        has_storages: outline.has_storages,
+    })
+}
+
+/// The sizes of these entries' streams, by name. Their names have been checked, so the only error is `OutOfMemory`.
+fn sizes_of(alloc: Global, directory: &Directory, entries: &[u32]) -> Result<Sizes, Error>
+    requires below { AreBelow (container.entry_count directory.now.bytes.now directory.now.sectors.now) entries.now }
+    requires named { (i : ℕ) → i < length entries.now → container.HasName directory.now.bytes.now directory.now.sectors.now (slice_index entries.now i) }
+    requires apart { container.HaveOwnNames directory.now.bytes.now directory.now.sectors.now entries.now }
+    ensures ok { IfOk result (λ sizes. sizes ≡ from_entries (named_sizes directory.now.bytes.now directory.now.sectors.now entries.now)) }
+    ensures memory { IsErr result → IsErrOf result OutOfMemory }
+{
+    let mut sizes = Sizes::new(alloc);
+    for entry in entries {
+        sizes.insert(directory.name(*entry)?, directory.size(*entry))?;
+    }
+    Ok(sizes)
+}
