@@ -1,6 +1,6 @@
 -- Why the streams that a file holds have together no more bytes than the file, rounded up to a whole sector.
-use Rattle.std.proofs.Common.{◌≡◌, ◌≢◌, ℕ, zero, suc, ◌+◌, ◌-◌, ◌*◌, ◌/◌, ◌<◌, ◌≤◌, Bool, true, false, cond, eqb, ◌||◌, List, [], ◌∷◌, ◌++◌, length, get_or, map, inl, inr, sym, ◌∙◌, ap, subst, arith, refl}
-use Rattle.std.specs.List.{AllZip, AllByRecursion, IsDistinct, list_any, range_with_len, sum_by, zip}
+use Rattle.std.proofs.Common.{◌≡◌, ◌≢◌, ℕ, suc, ◌+◌, ◌-◌, ◌*◌, ◌/◌, ◌<◌, ◌≤◌, Bool, true, false, cond, eqb, ◌||◌, List, [], ◌∷◌, ◌++◌, length, get_or, inl, inr, sym, ◌∙◌, ap, subst, arith}
+use Rattle.std.specs.List.{AllZip, AllByRecursion, IsDistinct, list_any, sum_by}
 use Rattle.std.specs.Int.{div_ceil}
 use Rattle.std.specs.FinMap.{from_entries, entries, entries-insert, len-entries, len-empty}
 use Rattle.std.specs.FinMap.Entries.{put, by_order}
@@ -23,7 +23,7 @@ use Rattle.msi_compound.proofs.NamesLemmas.{names_total}
 use Rattle.msi_compound_read.specs.Reading.{mini_limit}
 use Rattle.msi_compound_read.specs.Steps.{sectors_inside, bytes_kept, rounded_length}
 use Rattle.msi_compound_read.proofs.ListingLemmas.{some_size}
-use Rattle.msi_compound_read.proofs.PlanPartsLemmas.{mini_below, mini_in_sector}
+use Rattle.msi_compound_read.proofs.PlanPartsLemmas.{mini_below}
 
 -- DISTINCT NUMBERS BELOW A LIMIT
 

@@ -1,7 +1,7 @@
 -- The sizes of streams by their names.
-use Rattle.std.proofs.Common.{◌≡◌, ℕ, ◌+◌, ◌<◌, Bool, true, false, cond, List, [], ◌∷◌, ◌++◌, length, get_or, map, take, Option, Some, None, sym, ◌∙◌, ap, arith, refl}
+use Rattle.std.proofs.Common.{◌≡◌, ℕ, ◌+◌, ◌<◌, true, false, cond, List, [], ◌∷◌, ◌++◌, length, get_or, map, take, Some, sym, ◌∙◌, ap, arith, refl}
 use Rattle.std.specs.List.{AllZip}
-use Rattle.std.specs.FinMap.{entries, from_entries, insert, find, get, get-entries, get-from_entries, same_map}
+use Rattle.std.specs.FinMap.{entries, from_entries, insert, find, get-entries, get-from_entries, same_map}
 use Rattle.std.specs.Option.{option_map}
 use Rattle.std.specs.Ordering.{eq_by_cmp}
 use Rattle.std.proofs.lemmas.List.{get_or-map, get_or-take, length-map, length-take-le, take_more}

@@ -1,5 +1,5 @@
 -- How often a successor is looked up, and what its bounds follow from.
-use Rattle.std.proofs.Common.{◌≡◌, ℕ, ◌+◌, ◌-◌, ◌<◌, ◌≤◌, List, ◌++◌, inl, inr, subst, arith}
+use Rattle.std.proofs.Common.{ℕ, ◌+◌, ◌-◌, ◌≤◌, List, ◌++◌, inl, inr, subst, arith}
 use Rattle.msi_compound.specs.Container.{fat_of}
 use Rattle.msi_compound_read.specs.Claims.{CanClaim}
 use Rattle.msi_compound_read.specs.Reading.{IsStart, IsMini, mini_limit}

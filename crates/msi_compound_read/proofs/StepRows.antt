@@ -1,5 +1,5 @@
 -- Worked examples of how often a successor is looked up, by computation.
-use Rattle.std.specs.Prelude.{◌≡◌, ℕ, List, [], ◌∷◌, refl, replicate}
+use Rattle.std.specs.Prelude.{◌≡◌, [], ◌∷◌, refl, replicate}
 use Rattle.msi_compound.specs.Container.{Plan}
 use Rattle.msi_compound.specs.Trees.{Leaf, Node}
 use Rattle.msi_compound_read.specs.Reading.{mini_limit}

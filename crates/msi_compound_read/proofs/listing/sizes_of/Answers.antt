@@ -2,7 +2,6 @@ use Rattle.std.proofs.Common.{◌≡◌, get_or, arith, ◌∙◌, sym, ap}
 use Rattle.std.specs.FinMap.{from_entries}
 use Rattle.std.proofs.lemmas.List.{take_all}
 use Rattle.msi_compound.specs.Container.{name, size}
-use Rattle.msi_compound_read.specs.Listings.{named_sizes}
 use Rattle.msi_compound_read.proofs.NamedSizesLemmas.{length-named_sizes, from_named_sizes_more}
 use Rattle.msi_compound_read.proofs.listing.sizes_of.Goals as goal
 

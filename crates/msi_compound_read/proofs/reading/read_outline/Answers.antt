@@ -3,7 +3,6 @@ use Rattle.std.proofs.lemmas.Result.{err_from_is_err_and}
 use Rattle.msi_compound.specs.Container.{streams_among, stream_entries, IsListing}
 use Rattle.msi_compound.specs.Trees.{members}
 use Rattle.msi_compound_read.specs.Reading.{IsStart, IsMini, AreChained, views}
-use Rattle.msi_compound_read.specs.Steps.{HasMiniStream}
 use Rattle.msi_compound_read.proofs.ListingLemmas.{some_entries}
 use Rattle.msi_compound_read.proofs.PlanPartsLemmas.{Limits, starts, befores, plan_of, to_plan, start_of, mini_of, chained_of, memory_left, few_claimed}
 use Rattle.msi_compound_read.proofs.StepLemmas.{has_mini_stream, within_sectors, within_both}
