@@ -44,7 +44,12 @@ fn files_of_other_software_are_listed(rt: HostRuntime) -> Result<(), Fail> {
     let alloc = rt.alloc();
     let same = lists(alloc, version_4(alloc)?.as_slice(), &[("s", 4096)], false)?;
     assert!(rt; same);
-    let same = lists(alloc, small_streams(alloc)?.as_slice(), &[("a", 1), ("b", 100)], true)?;
+    let same = lists(
+        alloc,
+        small_streams(alloc)?.as_slice(),
+        &[("a", 1), ("b", 100)],
+        true,
+    )?;
     assert!(rt; same);
     Ok(())
 }

@@ -42,7 +42,11 @@ const FILES: [(Sizes<'static>, u64); 5] = [
 fn each_link_that_is_followed_takes_a_step(rt: HostRuntime) -> Result<(), Fail> {
     for (streams, wanted) in FILES {
         let file = file_of(rt.alloc(), streams)?;
-        assert_eq!(rt; steps_of(rt.alloc(), file.as_slice())?, wanted, "{streams:?}");
+        assert_eq!(rt;
+            steps_of(rt.alloc(), file.as_slice())?,
+            wanted,
+            "{streams:?}"
+        );
     }
     Ok(())
 }
@@ -60,10 +64,11 @@ fn files_of_other_software_take_as_many(rt: HostRuntime) -> Result<(), Fail> {
 /// The steps of a file that is refused, and none where it is read.
 fn refused_after(alloc: Global, file: &[u8]) -> Option<u64> {
     let mut steps = Steps::new();
-    match read_counted(alloc, file, &mut steps) {
-        Ok(_) => None,
-        Err(error) => (error.kind() == ErrorKind::InvalidData).then_some(steps.count()),
-    }
+    let refused = match read_counted(alloc, file, &mut steps) {
+        Ok(_) => false,
+        Err(error) => error.kind() == ErrorKind::InvalidData,
+    };
+    if refused { Some(steps.count()) } else { None }
 }
 
 /// Asserts that a file is refused when it is damaged, after so many steps at most.
