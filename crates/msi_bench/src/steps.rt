@@ -42,11 +42,8 @@ const FILES: [(Sizes<'static>, u64); 5] = [
 fn each_link_that_is_followed_takes_a_step(rt: HostRuntime) -> Result<(), Fail> {
     for (streams, wanted) in FILES {
         let file = file_of(rt.alloc(), streams)?;
-        assert_eq!(rt;
-            steps_of(rt.alloc(), file.as_slice())?,
-            wanted,
-            "{streams:?}"
-        );
+        let taken = steps_of(rt.alloc(), file.as_slice())?;
+        assert_eq!(rt; taken, wanted, "{streams:?}");
     }
     Ok(())
 }
@@ -65,7 +62,7 @@ fn files_of_other_software_take_as_many(rt: HostRuntime) -> Result<(), Fail> {
 fn refused_after(alloc: Global, file: &[u8]) -> Option<u64> {
     let mut steps = Steps::new();
     let refused = match read_counted(alloc, file, &mut steps) {
-        Ok(_) => false,
+        Ok(_contents) => false,
         Err(error) => error.kind() == ErrorKind::InvalidData,
     };
     if refused { Some(steps.count()) } else { None }
