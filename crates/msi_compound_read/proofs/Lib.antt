@@ -15,3 +15,5 @@ pub mod StepLemmas
 pub mod KeptLemmas
 pub mod NamedSizesLemmas
 pub mod StepRows
+pub mod SharedNamesLemmas
+pub mod MapNamesLemmas

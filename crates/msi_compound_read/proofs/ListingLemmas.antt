@@ -13,17 +13,17 @@ use Rattle.msi_compound_read.specs.Reading.{IsCovered, mini_limit}
 use Rattle.msi_compound_read.proofs.PlanPartsLemmas.{below_front, below_back, mini_below}
 
 -- a fact of each number of a list
-abbrev Each : (ℕ → Type 0) → List ℕ → Type 0
+abbrev pub Each : (ℕ → Type 0) → List ℕ → Type 0
 Each P xs = (i : ℕ) → i < length xs → P (get_or xs i 0)
 
-each_rest : (P : ℕ → Type 0) (x : ℕ) (xs : List ℕ) → Each P (x ∷ xs) → Each P xs
+pub each_rest : (P : ℕ → Type 0) (x : ℕ) (xs : List ℕ) → Each P (x ∷ xs) → Each P xs
 each_rest P x xs h i l = h (suc i) (omega arith)
 
-each_more : (P : ℕ → Type 0) (x : ℕ) (xs : List ℕ) → P x → Each P xs → Each P (x ∷ xs)
+pub each_more : (P : ℕ → Type 0) (x : ℕ) (xs : List ℕ) → P x → Each P xs → Each P (x ∷ xs)
 each_more P x xs here h zero l = here
 each_more P x xs here h (suc i) l = h i (omega arith)
 
-filter_each : (P : ℕ → Type 0) (p : ℕ → Bool) (xs : List ℕ) → Each P xs → Each P (filter p xs)
+pub filter_each : (P : ℕ → Type 0) (p : ℕ → Bool) (xs : List ℕ) → Each P xs → Each P (filter p xs)
 filter_each P p [] h = λ i l. absurd (omega arith)
 filter_each P p (x ∷ xs) h =
     let rest = filter_each P p xs (each_rest P x xs h) in
@@ -34,15 +34,15 @@ filter_each P p (x ∷ xs) h =
     kept false rest = rest
 
 -- no two have one name
-abbrev Apart : (ℕ → List ℕ) → List ℕ → Type 0
+abbrev pub Apart : (ℕ → List ℕ) → List ℕ → Type 0
 Apart f xs = (i j : ℕ) → i < j → j < length xs → f (get_or xs i 0) ≢ f (get_or xs j 0)
 
-apart_more : (f : ℕ → List ℕ) (x : ℕ) (xs : List ℕ) → Each (λ y. f x ≢ f y) xs → Apart f xs → Apart f (x ∷ xs)
+pub apart_more : (f : ℕ → List ℕ) (x : ℕ) (xs : List ℕ) → Each (λ y. f x ≢ f y) xs → Apart f xs → Apart f (x ∷ xs)
 apart_more f x xs here h i zero l b = absurd (omega arith)
 apart_more f x xs here h zero (suc j) l b = here j (omega arith)
 apart_more f x xs here h (suc i) (suc j) l b = h i j (omega arith) (omega arith)
 
-filter_apart : (f : ℕ → List ℕ) (p : ℕ → Bool) (xs : List ℕ) → Apart f xs → Apart f (filter p xs)
+pub filter_apart : (f : ℕ → List ℕ) (p : ℕ → Bool) (xs : List ℕ) → Apart f xs → Apart f (filter p xs)
 filter_apart f p [] h = λ i j l b. absurd (omega arith)
 filter_apart f p (x ∷ xs) h =
     let rest = filter_apart f p xs (λ i j l b. h (suc i) (suc j) (omega arith) (omega arith)) in
@@ -52,12 +52,6 @@ filter_apart f p (x ∷ xs) h =
     kept : (b : Bool) → Each (λ y. f x ≢ f y) (filter p xs) → Apart f (filter p xs) → Apart f (cond b (x ∷ filter p xs) (filter p xs))
     kept true here rest = apart_more f x (filter p xs) here rest
     kept false here rest = rest
-
-pub streams_named : (bytes directory ks : List ℕ) → AreEntries bytes directory ks → (i : ℕ) → i < length (streams_among bytes directory ks) → HasName bytes directory (get_or (streams_among bytes directory ks) i 0)
-streams_named bytes directory ks h = filter_each (HasName bytes directory) _ ks (λ i l. (h i l).named)
-
-pub streams_apart : (bytes directory ks : List ℕ) → HaveOwnNames bytes directory ks → HaveOwnNames bytes directory (streams_among bytes directory ks)
-streams_apart bytes directory ks h = filter_apart (name bytes directory) _ ks h
 
 pub some_size : (bytes : List ℕ) → 0 < sector_size bytes
 some_size bytes = sized (eqb (version bytes) 4)
@@ -101,18 +95,6 @@ covered bytes fat mini_fat mini_stream directory (k ∷ ks) (c ∷ cs) z h b = (
   covered bytes fat mini_fat mini_stream directory ks cs z h.1
       (below_back (mini_limit bytes mini_stream) (mini_sectors_in bytes directory (k, c)) (all_mini_sectors bytes directory ks cs) b),
 )
-
--- the streams of a plan have names of their own, and their members cover them
-pub plan_named : (bytes : List ℕ) (p : Plan) → IsPlan bytes p → (i : ℕ) → i < length (stream_entries bytes p) → HasName bytes p.directory (get_or (stream_entries bytes p) i 0)
-plan_named bytes p h = streams_named bytes p.directory (members p.tree) h.listing.entries
-
-pub plan_apart : (bytes : List ℕ) (p : Plan) → IsPlan bytes p → HaveOwnNames bytes p.directory (stream_entries bytes p)
-plan_apart bytes p h = streams_apart bytes p.directory (members p.tree) h.listing.names
-
-pub plan_covered : (bytes : List ℕ) (p : Plan) → IsPlan bytes p → AllZip (IsCovered bytes p.mini_stream p.directory) (stream_entries bytes p) p.chains
-plan_covered bytes p h =
-    covered bytes p.fat p.mini_fat p.mini_stream p.directory (stream_entries bytes p) p.chains (some_size bytes) h.streams
-    (λ i l. mini_below bytes p.mini_stream _ (h.mini_sectors i l))
 
 -- what follows from what holds of an answer
 pub if_ok_map : {X : Type 0} (r : Result X ErrorKind) (P Q : X → Type 0) → ((x : X) → P x → Q x) → IfOk r P → IfOk r Q

@@ -7,8 +7,9 @@ use Rattle.std.specs.Ordering.{eq_by_cmp}
 use Rattle.std.proofs.lemmas.List.{get_or-map, get_or-take, length-map, length-take-le, take_more}
 use Rattle.std.proofs.lemmas.List.FromFn.{length-map-range_with_len}
 use Rattle.msi_compound.specs.Names.{name_cmp}
-use Rattle.msi_compound.specs.Container.{name, size, HaveOwnNames, IsMembers, stream_bytes, named_bytes, stream_entries, Plan, IsPlan, contents_of}
+use Rattle.msi_compound.specs.Container.{name, size, IsMembers, stream_bytes, named_bytes, stream_entries, Plan, IsPlan, contents_of}
 use Rattle.msi_compound.proofs.NamesLemmas.{names_total, exact_names, from_entries_push_new}
+use Rattle.msi_compound_read.proofs.OwnNameLemmas.{AreOwn}
 use Rattle.msi_compound_read.specs.Listings.{named_sizes, sizes_of}
 
 pub length-named_sizes : (bytes directory ks : List ℕ) → length (named_sizes bytes directory ks) ≡ length ks
@@ -21,7 +22,7 @@ named_sizes_at bytes directory ks i d l = get_or-map (λ k. (name bytes director
 
 -- the next size is inserted at a name that none before it has
 pub from_named_sizes_more : (bytes directory ks : List ℕ) (i : ℕ)
-    → HaveOwnNames bytes directory ks
+    → AreOwn (name bytes directory) ks (i + 1)
     → i < length ks
     → from_entries {R = name_cmp} (take (i + 1) (named_sizes bytes directory ks))
     ≡ insert (from_entries (take i (named_sizes bytes directory ks))) (name bytes directory (get_or ks i 0)) (size bytes directory (get_or ks i 0))
@@ -34,7 +35,7 @@ from_named_sizes_more bytes directory ks i apart l =
     let next : take (i + 1) named ≡ take i named ++ (k, v) ∷ [] =
     take_more named i (k, v) long ∙ ap (λ e. take i named ++ e ∷ []) (named_sizes_at bytes directory ks i (k, v) l) in
     ap (λ es. from_entries {R = name_cmp} es) next
-    ∙ from_entries_push_new (take i named) k v (λ j d b same. apart j i (omega arith) l
+    ∙ from_entries_push_new (take i named) k v (λ j d b same. apart j i (omega arith) (omega arith)
     (ap (λ (e : List ℕ × ℕ). e.0) (sym (get_or-take i named j d (omega arith) ∙ named_sizes_at bytes directory ks j d (omega arith))) ∙ same))
 
 -- a stream's size in the place of its bytes

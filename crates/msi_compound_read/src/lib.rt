@@ -6,6 +6,7 @@ mod directory;
 mod fat;
 mod header;
 mod listing;
+mod names;
 mod reading;
 mod reasons;
 mod sizes;

@@ -1,15 +1,17 @@
 //! Listing the streams of a compound file.
 
-ghost use Rattle.std.specs.Prelude.{◌≡◌, ℕ, ◌<◌, length, slice_index, IfOk, IsErr, IsErrOf};
+ghost use Rattle.std.specs.Prelude.{◌≡◌, IfOk, OnOk, IsErrOf};
 ghost use Rattle.std.specs.FinMap.{from_entries};
-ghost use Rattle.msi_text.specs.declared.errors.ErrorKind.TheVariants.{OutOfMemory};
+ghost use Rattle.msi_text.specs.declared.errors.ErrorKind.TheVariants.{InvalidData};
 ghost use Rattle.msi_compound.specs.declared.contents.Contents as held;
 ghost use Rattle.msi_compound.specs.Chains.{AreBelow};
 ghost use Rattle.msi_compound.specs.Container as container;
 ghost use Rattle.msi_compound_read.specs.Listings.{listing_of, named_sizes};
 ghost use Rattle.msi_compound_read.specs.Outcomes.{Gives, FailsByData};
+ghost use Rattle.msi_compound_read.specs.Reading.{HaveNamesApart};
 
 use crate::directory::Directory;
+use crate::names::{insert_size, names_of, own_name};
 use crate::reading::read_outline;
 use crate::sizes::{Listing, Sizes};
 use crate::table::Steps;
@@ -31,24 +33,33 @@ pub fn list(alloc: Global, bytes: &[u8]) -> Result<Listing, Error>
         bytes,
         sectors: &outline.directory,
     };
-    let sizes = sizes_of(alloc, &directory, &outline.streams)?;
+    let sizes = sizes_of(alloc, &directory, &outline.storages, &outline.streams)?;
     Ok(Listing {
         sizes,
         has_storages: outline.has_storages,
     })
 }
 
-/// The sizes of these entries' streams, by name. Their names have been checked, so the only error is `OutOfMemory`.
-fn sizes_of(alloc: Global, directory: &Directory, entries: &[u32]) -> Result<Sizes, Error>
+/// The sizes of these entries' streams, by name. `InvalidData` where a name isn't well formed, or two storages or streams have
+/// one; `OutOfMemory`.
+fn sizes_of(
+    alloc: Global,
+    directory: &Directory,
+    storages: &[u32],
+    entries: &[u32],
+) -> Result<Sizes, Error>
+    requires storages { AreBelow (container.entry_count directory.now.bytes.now directory.now.sectors.now) storages.now }
     requires below { AreBelow (container.entry_count directory.now.bytes.now directory.now.sectors.now) entries.now }
-    requires named { (i : ℕ) → i < length entries.now → container.HasName directory.now.bytes.now directory.now.sectors.now (slice_index entries.now i) }
-    requires apart { container.HaveOwnNames directory.now.bytes.now directory.now.sectors.now entries.now }
     ensures ok { IfOk result (λ sizes. sizes ≡ from_entries (named_sizes directory.now.bytes.now directory.now.sectors.now entries.now)) }
-    ensures memory { IsErr result → IsErrOf result OutOfMemory }
+    ensures names { OnOk result (HaveNamesApart directory.now.bytes.now directory.now.sectors.now storages.now entries.now) }
+    ensures invalid { IsErrOf result InvalidData → HaveNamesApart directory.now.bytes.now directory.now.sectors.now storages.now entries.now → ⊥ }
+    ensures kinds { FailsByData result }
 {
+    let taken = names_of(alloc, directory, storages)?;
     let mut sizes = Sizes::new(alloc);
     for entry in entries {
-        sizes.insert(directory.name(*entry)?, directory.size(*entry))?;
+        let name = own_name(directory, *entry, &taken)?;
+        insert_size(&mut sizes, name, directory.size(*entry))?;
     }
     Ok(sizes)
 }

@@ -2,30 +2,31 @@
 
 ghost use Rattle.std.specs.Prelude.{◌≡◌, ℕ, List, [], ◌+◌, ◌-◌, ◌<◌, ◌≤◌, ◌^◌, ◌++◌, length, sum_by, vec_len, IfOk, OnOk, OnErr, IsErrOf};
 ghost use Rattle.msi_text.specs.declared.errors.ErrorKind.TheVariants.{InvalidData};
-ghost use Rattle.msi_text.specs.Results.{OnlyMemory};
+ghost use Rattle.std.specs.List.{AllZip};
 ghost use Rattle.msi_compound.specs.declared.contents.Contents as held;
 ghost use Rattle.msi_compound.specs.Chains.{AreBelow};
 ghost use Rattle.msi_compound_read.specs.Claims.{CanClaim};
 ghost use Rattle.msi_compound_read.specs.Outcomes.{Gives, FailsByData};
 ghost use Rattle.msi_compound.specs.Container as container;
 ghost use Rattle.msi_compound.specs.Format as marks;
-ghost use Rattle.msi_compound.specs.Container.{IsListing, IsMiniFat};
-ghost use Rattle.msi_compound_read.specs.Reading.{IsStart, IsMini, AreChained, IsOutline, mini_limit, views};
+ghost use Rattle.msi_compound.specs.Container.{IsMiniFat};
+ghost use Rattle.msi_compound_read.specs.Reading.{IsStart, IsNamelessListing, IsMini, AreChained, IsCovered, IsOutline, HaveNamesApart, storages_among, mini_limit, views};
 ghost use Rattle.msi_compound_read.specs.Steps as counted;
 ghost use Rattle.msi_compound_read.specs.Steps.{links};
 ghost use Rattle.msi_compound.specs.Trees.{Tree, members};
 
 use crate::claims::{Claimed, Claims};
-use crate::directory::{Directory, check_entries, reach};
+use crate::directory::{Directory, check_kinds, reach};
 use crate::fat::{read_difat, read_fat};
 use crate::header::{check_header, sector_count, sector_size};
 use crate::reasons;
-use crate::streams::{Tables, Uses, collect, has_storage, streams_among, walk_each};
+use crate::streams::{Tables, Uses, collect, has_storage, of_kind, walk_each};
 use crate::table::{AllocationTable, Steps};
 use crate::walks::{walk, walk_to_end};
 use msi_compound::contents::Contents;
 use msi_compound::format::{
-    DIRECTORY_START_AT, MAX_REGULAR_SECTOR, MINI_FAT_START_AT, MINI_SECTOR_SIZE, ROOT,
+    DIRECTORY_START_AT, MAX_REGULAR_SECTOR, MINI_FAT_START_AT, MINI_SECTOR_SIZE, ROOT, STORAGE,
+    STREAM,
 };
 use msi_compound::parts::number32;
 use msi_text::{Error, ErrorKind};
@@ -75,6 +76,7 @@ pub fn read_counted(alloc: Global, bytes: &[u8], steps: &mut Steps) -> Result<Co
         alloc,
         &directory,
         &outline.mini_stream,
+        &outline.storages,
         &outline.streams,
         &outline.chains,
     )?;
@@ -93,20 +95,28 @@ pub(crate) struct Outline {
     /// The sectors of the directory, and those of the mini stream.
     pub(crate) directory: Vec<u32>,
     pub(crate) mini_stream: Vec<u32>,
-    /// The entries of streams in the tree's order, and the members of each.
+    /// The entries of storages, and those of streams, in the tree's order, and the members of each stream.
+    pub(crate) storages: Vec<u32>,
     pub(crate) streams: Vec<u32>,
     pub(crate) chains: Vec<Vec<u32>>,
     ghost few: { vec_len directory ≤ 2 ^ 32 },
 }
 
-/// Where the streams of the container stand that the bytes hold. Errors and steps as those of `read_counted`.
+/// Where the streams of the container stand that the bytes hold. The names of entries aren't looked at yet. Errors and steps
+/// are else those of `read_counted`.
 pub(crate) fn read_outline(alloc: Global, bytes: &[u8], steps: &mut Steps) -> Result<Outline, Error>
     requires { steps.old ≤ 2 ^ 63 }
-    ensures found { IfOk result (λ o. (plan : container.Plan) × container.IsPlan bytes.now plan × (steps.new ≡ steps.old + counted.steps_of plan)
-        × IsOutline bytes.now plan o.clsid o.has_storages o.directory.items o.mini_stream.items o.streams.items (views o.chains.items)) }
-    ensures only { (plan : container.Plan) → container.IsPlan bytes.now plan → OnlyMemory result }
+    ensures found { IfOk result (λ o. (plan : container.Plan)
+        × (HaveNamesApart bytes.now plan.directory (storages_among bytes.now plan.directory (members plan.tree)) (container.stream_entries bytes.now plan) → container.IsPlan bytes.now plan)
+        × (steps.new ≡ steps.old + counted.steps_of plan)
+        × IsOutline bytes.now plan o.clsid o.has_storages o.directory.items o.mini_stream.items o.storages.items o.streams.items (views o.chains.items)) }
+    ensures only { (plan : container.Plan) → container.IsPlan bytes.now plan
+        → Gives {Y = List ℕ × List ℕ × List ℕ} (λ o. (o.directory.items, o.storages.items, o.streams.items)) result
+        (plan.directory, storages_among bytes.now plan.directory (members plan.tree), container.stream_entries bytes.now plan) }
     ensures kinds { FailsByData result }
+    ensures storages { IfOk result (λ o. AreBelow (container.entry_count bytes.now o.directory.items) o.storages.items) }
     ensures below { IfOk result (λ o. AreBelow (container.entry_count bytes.now o.directory.items) o.streams.items) }
+    ensures covered { IfOk result (λ o. AllZip (IsCovered bytes.now o.mini_stream.items o.directory.items) o.streams.items (views o.chains.items)) }
     ensures grows { steps.old ≤ steps.new }
     ensures bounded { counted.IsWithinSectors bytes.now (steps.new - steps.old) }
 {
@@ -119,7 +129,8 @@ pub(crate) fn read_outline(alloc: Global, bytes: &[u8], steps: &mut Steps) -> Re
     };
     let entries = read_listing(alloc, &directory)?;
     let mini = read_mini(alloc, &fat, &directory, &mut claims, steps)?;
-    let streams = streams_among(alloc, &directory, &entries)?;
+    let storages = of_kind(alloc, &directory, &entries, STORAGE)?;
+    let streams = of_kind(alloc, &directory, &entries, STREAM)?;
     let chains = read_chains(alloc, &fat, &directory, &mini, &streams, claims, steps)?;
     let clsid = directory.clsid();
     let has_storages = has_storage(&directory, &entries);
@@ -128,6 +139,7 @@ pub(crate) fn read_outline(alloc: Global, bytes: &[u8], steps: &mut Steps) -> Re
         has_storages,
         directory: start.directory,
         mini_stream: mini.stream,
+        storages,
         streams,
         chains,
     })
@@ -185,8 +197,8 @@ fn read_start(
 /// Checks the root, and lists the entries below it in the tree's order.
 fn read_listing(alloc: Global, directory: &Directory) -> Result<Vec<u32>, Error>
     requires { 0 < container.entry_count directory.now.bytes.now directory.now.sectors.now }
-    ensures found { IfOk result (λ entries. (tree : Tree) × IsListing directory.now.bytes.now directory.now.sectors.now tree × (members tree ≡ entries.items)) }
-    ensures only { (tree : Tree) → IsListing directory.now.bytes.now directory.now.sectors.now tree → Gives (λ v. v.items) result (members tree) }
+    ensures found { IfOk result (λ entries. (tree : Tree) × IsNamelessListing directory.now.bytes.now directory.now.sectors.now tree × (members tree ≡ entries.items)) }
+    ensures only { (tree : Tree) → IsNamelessListing directory.now.bytes.now directory.now.sectors.now tree → Gives (λ v. v.items) result (members tree) }
     ensures below { IfOk result (λ entries. AreBelow (container.entry_count directory.now.bytes.now directory.now.sectors.now) entries.items) }
     ensures kinds { FailsByData result }
 {
@@ -194,7 +206,7 @@ fn read_listing(alloc: Global, directory: &Directory) -> Result<Vec<u32>, Error>
         return Err(Error::new(ErrorKind::InvalidData, reasons::NO_ROOT));
     }
     let entries = reach(alloc, directory, directory.child(0))?;
-    check_entries(alloc, directory, &entries)?;
+    check_kinds(directory, &entries)?;
     Ok(entries)
 }
 
