@@ -18,13 +18,16 @@ use crate::table::Steps;
 use msi_text::Error;
 use std::alloc::Global;
 
-/// The names and sizes of the streams that `read` would answer, of which no byte is copied, and whether storages lie below the root.
+/// The names and sizes of the streams that `read` would answer, and whether storages lie below the root. No byte of a
+/// stream is copied.
 ///
 /// # Errors
 /// `InvalidData` where `read` answers it: where the bytes hold no container. `OutOfMemory`.
 pub fn list(alloc: Global, bytes: &[u8]) -> Result<Listing, Error>
-    ensures found { IfOk result (λ listing. (contents : held.Contents) × container.Holds bytes.now contents × (listing ≡ listing_of contents)) }
-    ensures only { (contents : held.Contents) → container.Holds bytes.now contents → Gives (λ l. l) result (listing_of contents) }
+    ensures found { IfOk result (λ listing. (contents : held.Contents) × container.Holds bytes.now contents
+        × (listing ≡ listing_of contents)) }
+    ensures only { (contents : held.Contents) → container.Holds bytes.now contents
+        → Gives (λ l. l) result (listing_of contents) }
     ensures kinds { FailsByData result }
 {
     let mut steps = Steps::new();
@@ -40,8 +43,8 @@ pub fn list(alloc: Global, bytes: &[u8]) -> Result<Listing, Error>
     })
 }
 
-/// The sizes of these entries' streams, by name. `InvalidData` where a name isn't well formed, or two storages or streams have
-/// one; `OutOfMemory`.
+/// The sizes of these entries' streams, by name. `InvalidData` where a name isn't well formed, or two storages or streams
+/// have one; `OutOfMemory`.
 fn sizes_of(
     alloc: Global,
     directory: &Directory,

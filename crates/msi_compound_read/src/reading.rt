@@ -51,9 +51,10 @@ pub fn read(alloc: Global, bytes: &[u8]) -> Result<Contents, Error>
     read_counted(alloc, bytes, &mut steps)
 }
 
-/// The contents that the bytes hold, as `read` answers them. Each successor that is looked up takes a step, on refusals too: at most
-/// one for each sector that starts inside the file, and one for each mini sector in the mini stream's sectors. The streams have
-/// together no more bytes than the file, rounded up to a whole sector.
+/// The contents that the bytes hold, as `read` answers them. Each successor that is looked up takes a step, on refusals too:
+/// at most one for each sector that starts inside the file, and one for each mini sector in the mini stream's sectors.
+/// The count that is handed in is at most 2^63. The streams have together no more bytes than the file, rounded up to a
+/// whole sector.
 ///
 /// # Errors
 /// Those of `read`.
@@ -64,7 +65,8 @@ pub fn read_counted(alloc: Global, bytes: &[u8], steps: &mut Steps) -> Result<Co
     ensures kinds { FailsByData result }
     ensures grows { steps.old ≤ steps.new }
     ensures bounded { counted.IsWithinSectors bytes.now (steps.new - steps.old) }
-    ensures exact { OnOk result ((plan : container.Plan) → container.IsPlan bytes.now plan → steps.new ≡ steps.old + counted.steps_of plan) }
+    ensures exact { OnOk result ((plan : container.Plan) → container.IsPlan bytes.now plan
+        → steps.new ≡ steps.old + counted.steps_of plan) }
     ensures kept { IfOk result (λ contents. counted.bytes_kept contents ≤ counted.rounded_length bytes.now) }
 {
     let outline = read_outline(alloc, bytes, steps)?;
@@ -102,14 +104,16 @@ pub(crate) struct Outline {
     ghost few: { vec_len directory ≤ 2 ^ 32 },
 }
 
-/// Where the streams of the container stand that the bytes hold. The names of entries aren't looked at yet. Errors and steps
-/// are else those of `read_counted`.
+/// Where the streams of the container stand that the bytes hold. The names of entries aren't looked at yet. Errors and
+/// steps are else those of `read_counted`.
 pub(crate) fn read_outline(alloc: Global, bytes: &[u8], steps: &mut Steps) -> Result<Outline, Error>
     requires { steps.old ≤ 2 ^ 63 }
     ensures found { IfOk result (λ o. (plan : container.Plan)
-        × (HaveNamesApart bytes.now plan.directory (storages_among bytes.now plan.directory (members plan.tree)) (container.stream_entries bytes.now plan) → container.IsPlan bytes.now plan)
+        × (HaveNamesApart bytes.now plan.directory (storages_among bytes.now plan.directory (members plan.tree)) (container.stream_entries bytes.now plan)
+        → container.IsPlan bytes.now plan)
         × (steps.new ≡ steps.old + counted.steps_of plan)
-        × IsOutline bytes.now plan o.clsid o.has_storages o.directory.items o.mini_stream.items o.storages.items o.streams.items (views o.chains.items)) }
+        × IsOutline bytes.now plan o.clsid o.has_storages
+        o.directory.items o.mini_stream.items o.storages.items o.streams.items (views o.chains.items)) }
     ensures only { (plan : container.Plan) → container.IsPlan bytes.now plan
         → Gives {Y = List ℕ × List ℕ × List ℕ} (λ o. (o.directory.items, o.storages.items, o.streams.items)) result
         (plan.directory, storages_among bytes.now plan.directory (members plan.tree), container.stream_entries bytes.now plan) }

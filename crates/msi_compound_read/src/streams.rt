@@ -230,8 +230,8 @@ fn stream_bytes(
     }
 }
 
-/// The streams of these entries, by name. `InvalidData` where a name isn't well formed, or two storages or streams have one;
-/// `OutOfMemory`.
+/// The streams of these entries, by name. `InvalidData` where a name isn't well formed, or two storages or streams have
+/// one; `OutOfMemory`.
 pub(crate) fn collect(
     alloc: Global,
     directory: &Directory,
