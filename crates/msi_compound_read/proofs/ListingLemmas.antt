@@ -6,11 +6,10 @@ use Rattle.msi_compound_read.specs.Outcomes.{Gives}
 use Rattle.std.specs.List.{AllZip}
 use Rattle.std.proofs.lemmas.Grind.{div_ceil_times}
 use Rattle.std.specs.Int.{div_ceil}
-use Rattle.msi_compound.specs.Container.{name, size, sector_size, start_sector, successor, HasName, AreEntries, HaveOwnNames, streams_among, entry_count, version, is_mini, IsMembers, mini_sectors_in, all_mini_sectors, Plan, IsPlan, stream_entries}
-use Rattle.msi_compound.specs.Trees.{members}
+use Rattle.msi_compound.specs.Container.{size, sector_size, start_sector, successor, entry_count, version, is_mini, IsMembers, mini_sectors_in, all_mini_sectors}
 use Rattle.msi_compound.specs.Chains.{AreBelow, IsChain}
 use Rattle.msi_compound_read.specs.Reading.{IsCovered, mini_limit}
-use Rattle.msi_compound_read.proofs.PlanPartsLemmas.{below_front, below_back, mini_below}
+use Rattle.msi_compound_read.proofs.PlanPartsLemmas.{below_front, below_back}
 
 -- a fact of each number of a list
 abbrev pub Each : (ℕ → Type 0) → List ℕ → Type 0

@@ -1,5 +1,5 @@
 -- Maps under names, as they grow name by name: each new name is none of the storages', and none of those before it.
-use Rattle.std.proofs.Common.{◌≡◌, ◌≢◌, ℕ, ◌+◌, ◌<◌, ◌≤◌, Bool, true, false, cond, List, length, slice_index, take, is_some, Option, Some, None, sym, ◌∙◌, ap, arith, refl, below_more}
+use Rattle.std.proofs.Common.{◌≡◌, ◌≢◌, ℕ, ◌+◌, ◌<◌, ◌≤◌, Bool, true, false, cond, List, length, slice_index, is_some, Option, Some, sym, ◌∙◌, ap, arith, refl, below_more}
 use Rattle.std.specs.BTreeMap.{is_at}
 use Rattle.std.specs.FinMap.{FinMap, empty, contains_key, insert, get, get-empty, get-insert, len, len-insert}
 use Rattle.std.specs.Ordering.{eq_by_cmp}

@@ -1,5 +1,4 @@
-use Rattle.std.proofs.Common.{◌≡◌, ◌≢◌, sym, ◌∙◌}
-use Rattle.std.specs.FinMap.{len}
+use Rattle.std.proofs.Common.{sym, ◌∙◌}
 use Rattle.msi_compound_read.proofs.MapNamesLemmas.{was_there, was_absent}
 use Rattle.msi_compound_read.proofs.names.insert_size.Goals as goal
 

@@ -1,4 +1,4 @@
-use Rattle.std.proofs.Common.{◌≡◌, ◌+◌, ◌<◌, slice_index, sym, ◌∙◌, arith, below_more}
+use Rattle.std.proofs.Common.{sym, ◌∙◌, arith, below_more}
 use Rattle.std.proofs.lemmas.Bool.{not-true, not-false}
 use Rattle.msi_compound.specs.Container.{name}
 use Rattle.msi_compound_read.proofs.OwnNameLemmas.{known_more, known_has_place, own_more, known_all}

@@ -1,6 +1,6 @@
 use Rattle.std.proofs.Common.{◌≡◌, ℕ, ◌<◌, Bool, false, refl, List, [], length, get_or, arith, ◌∙◌, sym, ap, Vec, Global}
 use Rattle.std.specs.BTreeSet.{contains}
-use Rattle.std.specs.FinMap.{from_entries, contains_key, insert}
+use Rattle.std.specs.FinMap.{from_entries, contains_key}
 use Rattle.std.specs.Slice.Iter.{iter_rest}
 use Rattle.std.specs.Iterator.Adapters.{zip_first, zip_second}
 use Rattle.std.proofs.lemmas.List.{length-map, length_push, get_or-map, take_all}
@@ -10,7 +10,7 @@ use Rattle.msi_compound.specs.Names.{name_cmp}
 use Rattle.msi_compound.specs.Container.{name, stream_bytes, HasName}
 use Rattle.msi_compound_read.specs.Reading.{views}
 use Rattle.msi_compound_read.proofs.ListLemmas.{paired_at}
-use Rattle.msi_compound_read.proofs.MapNamesLemmas.{Begun, begun_none, begun_more, begun_all, taken_clash, held_clash}
+use Rattle.msi_compound_read.proofs.MapNamesLemmas.{begun_none, begun_more, begun_all, taken_clash, held_clash}
 use Rattle.msi_compound_read.proofs.SharedNamesLemmas.{refused}
 use Rattle.msi_compound_read.proofs.NamedBytesLemmas.{length-named_bytes, from_named_bytes_more}
 use Rattle.msi_compound_read.proofs.streams.collect.Goals as goal
