@@ -1,5 +1,6 @@
 -- The words of the crates below.
 pub use Rattle.msi_compound.specs.declared.contents.Contents
+pub use Rattle.msi_compound_read.specs.declared.sizes.Listing
 pub use Rattle.msi_device.specs.Held
 pub use Rattle.msi_device.specs.HeldLaws
 pub use Rattle.msi_compound.specs.Format
