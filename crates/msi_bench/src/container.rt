@@ -57,10 +57,10 @@ fn assert_invalid(rt: &impl Abort, alloc: Global, bytes: &[u8], what: &str) {
 }
 
 /// A place, what is put there, and what that is.
-type Damage<'a> = (usize, &'a [u8], &'a str);
+pub(crate) type Damage<'a> = (usize, &'a [u8], &'a str);
 
 /// Damage to a file of one stream of 4096 bytes: its FAT stands at 5120, and the stream's entry at 640.
-const DAMAGE: [Damage<'static>; 11] = [
+pub(crate) const DAMAGE: [Damage<'static>; 11] = [
     (
         5120,
         &[0, 0, 0, 0],
@@ -87,7 +87,7 @@ const DAMAGE: [Damage<'static>; 11] = [
 ];
 
 /// Damage to a file with a mini stream: its FAT stands at 512, the entries from 1024 on, and the mini FAT at 1536.
-const MINI_DAMAGE: [Damage<'static>; 6] = [
+pub(crate) const MINI_DAMAGE: [Damage<'static>; 8] = [
     (
         1536 + 8,
         &[2, 0, 0, 0],
@@ -102,6 +102,8 @@ const MINI_DAMAGE: [Damage<'static>; 6] = [
     (1152 + 116, &[8, 0, 0, 0], "a start past the mini stream"),
     (512 + 8, &[2, 0, 0, 0], "a mini FAT that leads to itself"),
     (1024 + 116, &[4, 0, 0, 0], "a mini stream past the file"),
+    (1280, &[b'b'], "two streams of one name"),
+    (1408, &[b'a'], "a storage and a stream of one name"),
 ];
 
 /// Asserts that a file holds nothing when it is damaged.

@@ -8,10 +8,14 @@ mod foreign;
 #[cfg(test)]
 mod layouts;
 #[cfg(test)]
+mod listings;
+#[cfg(test)]
 mod names;
 #[cfg(test)]
 mod readme;
 #[cfg(test)]
 mod samples;
+#[cfg(test)]
+mod steps;
 #[cfg(test)]
 mod streams;

@@ -11,3 +11,9 @@ pub mod NamedBytesLemmas
 pub mod ListLemmas
 pub mod PlanPartsLemmas
 pub mod ListingLemmas
+pub mod StepLemmas
+pub mod KeptLemmas
+pub mod NamedSizesLemmas
+pub mod StepRows
+pub mod SharedNamesLemmas
+pub mod MapNamesLemmas

@@ -1,26 +1,28 @@
 -- What holds of entries holds of the streams among them.
-use Rattle.std.proofs.Common.{◌≡◌, ◌≢◌, refl, ℕ, zero, suc, ◌<◌, Bool, true, false, cond, eqb, List, [], ◌∷◌, length, get_or, filter, arith, Result, Ok, Err, IfOk}
+use Rattle.std.proofs.Common.{◌≡◌, ◌≢◌, refl, ℕ, zero, suc, ◌*◌, ◌/◌, ◌<◌, Bool, true, false, cond, eqb, List, [], ◌∷◌, length, get_or, filter, arith, Result, Ok, Err, IfOk}
 use Rattle.msi_text.specs.declared.errors.ErrorKind.{ErrorKind}
+use Rattle.msi_text.specs.declared.errors.ErrorKind.TheVariants.{InvalidData}
+use Rattle.msi_compound_read.specs.Outcomes.{ViewIsUnlessMemory}
 use Rattle.std.specs.List.{AllZip}
 use Rattle.std.proofs.lemmas.Grind.{div_ceil_times}
 use Rattle.std.specs.Int.{div_ceil}
-use Rattle.msi_compound.specs.Container.{name, size, sector_size, start_sector, successor, HasName, AreEntries, HaveOwnNames, streams_among, version, is_mini, IsMembers, mini_sectors_in, all_mini_sectors}
+use Rattle.msi_compound.specs.Container.{size, sector_size, start_sector, successor, entry_count, version, is_mini, IsMembers, mini_sectors_in, all_mini_sectors}
 use Rattle.msi_compound.specs.Chains.{AreBelow, IsChain}
 use Rattle.msi_compound_read.specs.Reading.{IsCovered, mini_limit}
 use Rattle.msi_compound_read.proofs.PlanPartsLemmas.{below_front, below_back}
 
 -- a fact of each number of a list
-abbrev Each : (ℕ → Type 0) → List ℕ → Type 0
+abbrev pub Each : (ℕ → Type 0) → List ℕ → Type 0
 Each P xs = (i : ℕ) → i < length xs → P (get_or xs i 0)
 
-each_rest : (P : ℕ → Type 0) (x : ℕ) (xs : List ℕ) → Each P (x ∷ xs) → Each P xs
+pub each_rest : (P : ℕ → Type 0) (x : ℕ) (xs : List ℕ) → Each P (x ∷ xs) → Each P xs
 each_rest P x xs h i l = h (suc i) (omega arith)
 
-each_more : (P : ℕ → Type 0) (x : ℕ) (xs : List ℕ) → P x → Each P xs → Each P (x ∷ xs)
+pub each_more : (P : ℕ → Type 0) (x : ℕ) (xs : List ℕ) → P x → Each P xs → Each P (x ∷ xs)
 each_more P x xs here h zero l = here
 each_more P x xs here h (suc i) l = h i (omega arith)
 
-filter_each : (P : ℕ → Type 0) (p : ℕ → Bool) (xs : List ℕ) → Each P xs → Each P (filter p xs)
+pub filter_each : (P : ℕ → Type 0) (p : ℕ → Bool) (xs : List ℕ) → Each P xs → Each P (filter p xs)
 filter_each P p [] h = λ i l. absurd (omega arith)
 filter_each P p (x ∷ xs) h =
     let rest = filter_each P p xs (each_rest P x xs h) in
@@ -31,15 +33,15 @@ filter_each P p (x ∷ xs) h =
     kept false rest = rest
 
 -- no two have one name
-abbrev Apart : (ℕ → List ℕ) → List ℕ → Type 0
+abbrev pub Apart : (ℕ → List ℕ) → List ℕ → Type 0
 Apart f xs = (i j : ℕ) → i < j → j < length xs → f (get_or xs i 0) ≢ f (get_or xs j 0)
 
-apart_more : (f : ℕ → List ℕ) (x : ℕ) (xs : List ℕ) → Each (λ y. f x ≢ f y) xs → Apart f xs → Apart f (x ∷ xs)
+pub apart_more : (f : ℕ → List ℕ) (x : ℕ) (xs : List ℕ) → Each (λ y. f x ≢ f y) xs → Apart f xs → Apart f (x ∷ xs)
 apart_more f x xs here h i zero l b = absurd (omega arith)
 apart_more f x xs here h zero (suc j) l b = here j (omega arith)
 apart_more f x xs here h (suc i) (suc j) l b = h i j (omega arith) (omega arith)
 
-filter_apart : (f : ℕ → List ℕ) (p : ℕ → Bool) (xs : List ℕ) → Apart f xs → Apart f (filter p xs)
+pub filter_apart : (f : ℕ → List ℕ) (p : ℕ → Bool) (xs : List ℕ) → Apart f xs → Apart f (filter p xs)
 filter_apart f p [] h = λ i j l b. absurd (omega arith)
 filter_apart f p (x ∷ xs) h =
     let rest = filter_apart f p xs (λ i j l b. h (suc i) (suc j) (omega arith) (omega arith)) in
@@ -50,16 +52,18 @@ filter_apart f p (x ∷ xs) h =
     kept true here rest = apart_more f x (filter p xs) here rest
     kept false here rest = rest
 
-pub streams_named : (bytes directory ks : List ℕ) → AreEntries bytes directory ks → (i : ℕ) → i < length (streams_among bytes directory ks) → HasName bytes directory (get_or (streams_among bytes directory ks) i 0)
-streams_named bytes directory ks h = filter_each (HasName bytes directory) _ ks (λ i l. (h i l).named)
-
-pub streams_apart : (bytes directory ks : List ℕ) → HaveOwnNames bytes directory ks → HaveOwnNames bytes directory (streams_among bytes directory ks)
-streams_apart bytes directory ks h = filter_apart (name bytes directory) _ ks h
-
 pub some_size : (bytes : List ℕ) → 0 < sector_size bytes
 some_size bytes = sized (eqb (version bytes) 4)
   where
     sized : (b : Bool) → 0 < cond b 4096 512
+    sized true = omega arith
+    sized false = omega arith
+
+-- a sector of the directory has entries
+pub some_entries : (bytes directory : List ℕ) → 0 < length directory → 0 < entry_count bytes directory
+some_entries bytes directory l = sized (eqb (version bytes) 4)
+  where
+    sized : (b : Bool) → 0 < length directory * (cond b 4096 512 / 128)
     sized true = omega arith
     sized false = omega arith
 
@@ -95,3 +99,12 @@ covered bytes fat mini_fat mini_stream directory (k ∷ ks) (c ∷ cs) z h b = (
 pub if_ok_map : {X : Type 0} (r : Result X ErrorKind) (P Q : X → Type 0) → ((x : X) → P x → Q x) → IfOk r P → IfOk r Q
 if_ok_map (Ok x) P Q f h = f x h
 if_ok_map (Err e) P Q f h = tt
+
+pub if_ok_map3 : {X : Type 0} (r : Result X ErrorKind) (P Q R S : X → Type 0) → ((x : X) → P x → Q x → R x → S x) → IfOk r P → IfOk r Q → IfOk r R → IfOk r S
+if_ok_map3 (Ok x) P Q R S f p q r = f x p q r
+if_ok_map3 (Err e) P Q R S f p q r = tt
+
+-- what lacks nothing but memory isn't refused for its bytes
+pub gives_not_invalid : {X Y : Type 0} (view : X → Y) (r : Result X ErrorKind) (y : Y) → ViewIsUnlessMemory view r y → ◌≡◌ {A = Result X ErrorKind} r (Err InvalidData) → ⊥
+gives_not_invalid view (Ok x) y g e = absurd cc
+gives_not_invalid view (Err f) y g e = absurd cc

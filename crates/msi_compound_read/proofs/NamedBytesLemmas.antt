@@ -5,8 +5,9 @@ use Rattle.std.specs.FinMap.{from_entries, insert}
 use Rattle.std.proofs.lemmas.List.{get_or-map, get_or-take, length-map, length-take-le, take_more}
 use Rattle.std.proofs.lemmas.Slice.Zip.{length-zip, get_or-zip}
 use Rattle.msi_compound.specs.Names.{name_cmp}
-use Rattle.msi_compound.specs.Container.{name, HaveOwnNames, stream_bytes, named_bytes}
+use Rattle.msi_compound.specs.Container.{name, stream_bytes, named_bytes}
 use Rattle.msi_compound.proofs.NamesLemmas.{from_entries_push_new}
+use Rattle.msi_compound_read.proofs.OwnNameLemmas.{AreOwn}
 
 pub length-named_bytes : (bytes mini_stream directory ks : List ℕ) (chains : List (List ℕ)) → length (named_bytes bytes mini_stream directory ks chains) ≡ min (length ks) (length chains)
 length-named_bytes bytes mini_stream directory ks chains =
@@ -23,7 +24,7 @@ named_bytes_at bytes mini_stream directory ks chains i d l h =
 
 -- the next stream is inserted at a name that none before it has
 pub from_named_bytes_more : (bytes mini_stream directory ks : List ℕ) (chains : List (List ℕ)) (i : ℕ)
-    → HaveOwnNames bytes directory ks
+    → AreOwn (name bytes directory) ks (i + 1)
     → i < length ks
     → i < length chains
     → from_entries {R = name_cmp} (take (i + 1) (named_bytes bytes mini_stream directory ks chains))
@@ -37,5 +38,5 @@ from_named_bytes_more bytes mini_stream directory ks chains i apart l h =
     let next : take (i + 1) named ≡ take i named ++ (k, v) ∷ [] =
     take_more named i (k, v) long ∙ ap (λ e. take i named ++ e ∷ []) (named_bytes_at bytes mini_stream directory ks chains i (k, v) l h) in
     ap (λ es. from_entries {R = name_cmp} es) next
-    ∙ from_entries_push_new (take i named) k v (λ j d b same. apart j i (omega arith) l
+    ∙ from_entries_push_new (take i named) k v (λ j d b same. apart j i (omega arith) (omega arith)
     (ap (λ (e : List ℕ × List ℕ). e.0) (sym (get_or-take i named j d (omega arith) ∙ named_bytes_at bytes mini_stream directory ks chains j d (omega arith) (omega arith))) ∙ same))

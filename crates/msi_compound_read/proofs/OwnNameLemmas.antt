@@ -5,7 +5,7 @@ use Rattle.std.specs.BTreeMap.{is_at}
 use Rattle.std.specs.Ordering.{is_eq}
 use Rattle.std.proofs.lemmas.Bool.{false≢true, cases_lt}
 use Rattle.std.proofs.lemmas.Cmp.{eq_by_cmp_equiv, tied_itself}
-use Rattle.std.proofs.lemmas.List.{map_more, get_or-map, get_or-take, length-map, length-take-le}
+use Rattle.std.proofs.lemmas.List.{map_more, get_or-map, get_or-take, length-map, length-take-le, take_all}
 use Rattle.std.proofs.lemmas.List.Folds.{list_any-append, list_any_at, Any-from_list_any}
 use Rattle.std.proofs.lemmas.Map.Views.{tells_apart}
 use Rattle.msi_compound.specs.Names.{name_cmp}
@@ -56,7 +56,7 @@ module _ (name : ℕ → List ℕ) (ks : List ℕ) where
       (a.0, within, sym (named_at i a.0 a.1 within w) ∙ a.3 ∙ sym (tells_apart exact_names q a.1 a.4))
 
   -- and each member's name is known
-  known_at : (i k : ℕ) → k < i → i ≤ length ks → is_known i (name (slice_index ks k)) ≡ true
+  pub known_at : (i k : ℕ) → k < i → i ≤ length ks → is_known i (name (slice_index ks k)) ≡ true
   known_at i k l w =
       let q = name (slice_index ks k) in
       let names = map name (take i ks) in
@@ -79,3 +79,7 @@ module _ (name : ℕ → List ℕ) (ks : List ℕ) where
             let same : name (slice_index ks a) ≡ key = e ∙ ap (λ k. name (slice_index ks k)) last ∙ sym named in
             false≢true (sym new ∙ ap (is_known i) (sym same) ∙ known_at i a (omega arith) (omega arith))
       ]
+
+  -- with all members, whether one of them has a name
+  pub known_all : (i : ℕ) (q : List ℕ) → length ks ≤ i → is_known i q ≡ list_any (is_at (name_cmp q)) (map name ks)
+  known_all i q l = ap (λ xs. list_any (is_at (name_cmp q)) (map name xs)) (take_all i ks l)

@@ -4,3 +4,5 @@ pub mod Claims
 pub mod Walks
 pub mod Outcomes
 pub mod Reading
+pub mod Steps
+pub mod Listings

@@ -7,6 +7,7 @@ ghost use Rattle.msi_compound.specs.Bytes as spelled;
 ghost use Rattle.msi_compound.specs.Chains.{AreBelow, AreDistinct};
 ghost use Rattle.msi_compound_read.specs.Outcomes.{ViewIsUnlessMemory, FailsByData};
 ghost use Rattle.msi_compound.specs.Container as container;
+ghost use Rattle.msi_compound_read.specs.Reading as spec;
 ghost use Rattle.msi_compound.specs.Trees.{Tree, members};
 
 use crate::claims::{Claimed, Claims};
@@ -20,7 +21,6 @@ use msi_compound::name::Name;
 use msi_compound::parts::{byte, number16, number32, number64, place};
 use msi_text::{Error, ErrorKind};
 use std::alloc::Global;
-use std::collections::BTreeSet;
 
 /// The directory that stands in these sectors, 128 bytes for each entry.
 #[derive(Clone, Copy)]
@@ -175,27 +175,17 @@ pub(crate) fn reach(alloc: Global, directory: &Directory, child: u32) -> Result<
     Ok(claims.into_list())
 }
 
-/// Checks that entries are storages and streams whose names are their own.
-pub(crate) fn check_entries(
-    alloc: Global,
-    directory: &Directory,
-    entries: &[u32],
-) -> Result<(), Error>
+/// Checks that entries are storages and streams. The only error is `InvalidData`.
+pub(crate) fn check_kinds(directory: &Directory, entries: &[u32]) -> Result<(), Error>
     requires { AreBelow (container.entry_count directory.now.bytes.now directory.now.sectors.now) entries.now }
-    ensures entries { OnOk result (container.AreEntries directory.now.bytes.now directory.now.sectors.now entries.now) }
-    ensures names { OnOk result (container.HaveOwnNames directory.now.bytes.now directory.now.sectors.now entries.now) }
-    ensures invalid { IsErrOf result InvalidData → container.AreEntries directory.now.bytes.now directory.now.sectors.now entries.now
-        → container.HaveOwnNames directory.now.bytes.now directory.now.sectors.now entries.now → ⊥ }
-    ensures kinds { FailsByData result }
+    ensures ok { OnOk result (spec.AreOfKinds directory.now.bytes.now directory.now.sectors.now entries.now) }
+    ensures invalid { OnErr result (spec.AreOfKinds directory.now.bytes.now directory.now.sectors.now entries.now → ⊥) }
+    ensures kinds { OnErr result (IsErrOf result InvalidData) }
 {
-    let mut names = BTreeSet::new(alloc);
     for entry in entries {
         let kind = directory.kind(*entry);
         if kind != STORAGE && kind != STREAM {
             return Err(Error::new(ErrorKind::InvalidData, reasons::ENTRY_KIND));
-        }
-        if !names.insert(directory.name(*entry)?)? {
-            return Err(Error::new(ErrorKind::InvalidData, reasons::NAME_TWICE));
         }
     }
     Ok(())

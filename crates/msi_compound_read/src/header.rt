@@ -5,6 +5,7 @@ ghost use Rattle.msi_text.specs.declared.errors.ErrorKind.TheVariants.{InvalidDa
 ghost use Rattle.msi_compound.specs.Bytes as spelled;
 ghost use Rattle.msi_compound.specs.Container as container;
 ghost use Rattle.msi_compound.specs.Format as marks;
+ghost use Rattle.msi_compound_read.specs.Steps as counted;
 
 use crate::reasons;
 use msi_compound::format::{
@@ -92,6 +93,7 @@ pub(crate) fn sector_count(bytes: &[u8]) -> usize
     ensures within { (n : ℕ) → n < result → container.IsSector bytes.now n }
     ensures all { (n : ℕ) → container.IsSector bytes.now n → n < result }
     ensures regular { result ≤ marks.MAX_REGULAR_SECTOR + 1 }
+    ensures inside { result ≤ counted.sectors_inside bytes.now }
 {
     let started = bytes.len().saturating_sub(1) / sector_size(bytes);
     started.min(MAX_REGULAR_SECTOR as usize + 1)

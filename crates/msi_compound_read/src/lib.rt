@@ -5,10 +5,16 @@ mod claims;
 mod directory;
 mod fat;
 mod header;
+mod listing;
+mod names;
 mod reading;
 mod reasons;
+mod sizes;
 mod streams;
 mod table;
 mod walks;
 
-pub use reading::read;
+pub use listing::list;
+pub use reading::{read, read_counted};
+pub use sizes::{Listing, Sizes};
+pub use table::Steps;

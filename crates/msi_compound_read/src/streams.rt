@@ -1,22 +1,24 @@
 //! The streams of a directory: which entries they are, their members, and their bytes.
 
-ghost use Rattle.std.specs.Prelude.{◌≡◌, ℕ, List, ◌+◌, ◌*◌, ◌<◌, ◌≤◌, ◌^◌, ◌++◌, length, vec_len, IfOk, IsErr, IsErrOf, map, slice_index};
+ghost use Rattle.std.specs.Prelude.{◌≡◌, ℕ, List, ◌+◌, ◌*◌, ◌<◌, ◌≤◌, ◌^◌, ◌++◌, length, vec_len, IfOk, IsErr, IsErrOf, OnOk, filter, ◌==◌, map, sum_by};
 ghost use Rattle.std.specs.List.{AllZip, range_with_len};
 ghost use Rattle.std.specs.FinMap.{from_entries};
-ghost use Rattle.msi_text.specs.declared.errors.ErrorKind.TheVariants.{OutOfMemory};
+ghost use Rattle.msi_text.specs.declared.errors.ErrorKind.TheVariants.{InvalidData, OutOfMemory};
 ghost use Rattle.msi_compound.specs.Chains.{AreBelow};
 ghost use Rattle.msi_compound_read.specs.Claims.{CanClaim};
 ghost use Rattle.msi_compound_read.specs.Outcomes.{ViewIsUnlessMemory, FailsByData};
 ghost use Rattle.msi_compound.specs.Container as container;
 ghost use Rattle.msi_compound_read.specs.Reading as spec;
+ghost use Rattle.msi_compound_read.specs.Steps.{links};
 
 use crate::claims::Claims;
 use crate::directory::Directory;
 use crate::header::sector_size;
+use crate::names::{insert_stream, names_of, own_name};
 use crate::table::{AllocationTable, Steps};
 use crate::walks::walk;
 use msi_compound::contents::{Bytes, StreamMap};
-use msi_compound::format::{MINI_SECTOR_SIZE, MINI_STREAM_CUTOFF, STORAGE, STREAM};
+use msi_compound::format::{MINI_SECTOR_SIZE, MINI_STREAM_CUTOFF, STORAGE};
 use msi_compound::parts::{place, push_bytes};
 use msi_text::Error;
 use std::alloc::Global;
@@ -38,24 +40,25 @@ pub(crate) struct Uses {
     pub(crate) mini_sectors: Claims,
 }
 
-/// Those entries that are streams, in their order. The only error is `OutOfMemory`.
-pub(crate) fn streams_among(
+/// Those entries that are of this kind, in their order. The only error is `OutOfMemory`.
+pub(crate) fn of_kind(
     alloc: Global,
     directory: &Directory,
     entries: &[u32],
+    kind: u8,
 ) -> Result<Vec<u32>, Error>
     requires { AreBelow (container.entry_count directory.now.bytes.now directory.now.sectors.now) entries.now }
-    ensures ok { IfOk result (λ streams. streams.items ≡ container.streams_among directory.now.bytes.now directory.now.sectors.now entries.now) }
-    ensures below { IfOk result (λ streams. AreBelow (container.entry_count directory.now.bytes.now directory.now.sectors.now) streams.items) }
+    ensures ok { IfOk result (λ found. found.items ≡ filter (λ k. container.kind directory.now.bytes.now directory.now.sectors.now k == kind) entries.now) }
+    ensures below { IfOk result (λ found. AreBelow (container.entry_count directory.now.bytes.now directory.now.sectors.now) found.items) }
     ensures memory { IsErr result → IsErrOf result OutOfMemory }
 {
-    let mut streams = Vec::new(alloc);
+    let mut found = Vec::new(alloc);
     for entry in entries {
-        if directory.kind(*entry) == STREAM {
-            streams.push(*entry)?;
+        if directory.kind(*entry) == kind {
+            found.push(*entry)?;
         }
     }
-    Ok(streams)
+    Ok(found)
 }
 
 /// Whether a storage is among these entries.
@@ -84,7 +87,7 @@ fn walk_stream(
     requires same { tables.now.fat.bytes.now ≡ directory.now.bytes.now }
     requires same_mini { tables.now.mini_fat.bytes.now ≡ directory.now.bytes.now }
     requires below { entry < container.entry_count directory.now.bytes.now directory.now.sectors.now }
-    requires steps { steps.old.count + vec_len uses.old.sectors.marks + vec_len uses.old.mini_sectors.marks + 1
+    requires steps { steps.old + vec_len uses.old.sectors.marks + vec_len uses.old.mini_sectors.marks + 1
         < 2 ^ 64 + vec_len uses.old.sectors.list + vec_len uses.old.mini_sectors.list }
     ensures limit { vec_len uses.new.sectors.marks ≡ vec_len uses.old.sectors.marks }
     ensures mini_limit { vec_len uses.new.mini_sectors.marks ≡ vec_len uses.old.mini_sectors.marks }
@@ -99,8 +102,10 @@ fn walk_stream(
         → CanClaim (vec_len uses.old.mini_sectors.marks) uses.old.mini_sectors.list.items (container.mini_sectors_in directory.now.bytes.now directory.now.sectors.now (entry, chain))
         → ViewIsUnlessMemory (λ v. v.items) result chain }
     ensures kinds { FailsByData result }
-    ensures bounded { steps.new.count + vec_len uses.old.sectors.list + vec_len uses.old.mini_sectors.list
-        ≤ steps.old.count + vec_len uses.new.sectors.list + vec_len uses.new.mini_sectors.list }
+    ensures grows { steps.old ≤ steps.new }
+    ensures bounded { steps.new + vec_len uses.old.sectors.list + vec_len uses.old.mini_sectors.list
+        ≤ steps.old + vec_len uses.new.sectors.list + vec_len uses.new.mini_sectors.list }
+    ensures exact { IfOk result (λ chain. steps.new ≡ steps.old + links chain.items) }
 {
     let start = directory.start_sector(entry);
     let size = directory.size(entry);
@@ -132,7 +137,7 @@ pub(crate) fn walk_each(
     requires same { tables.now.fat.bytes.now ≡ directory.now.bytes.now }
     requires same_mini { tables.now.mini_fat.bytes.now ≡ directory.now.bytes.now }
     requires below { AreBelow (container.entry_count directory.now.bytes.now directory.now.sectors.now) entries.now }
-    requires steps { steps.old.count + vec_len uses.old.sectors.marks + vec_len uses.old.mini_sectors.marks + 1
+    requires steps { steps.old + vec_len uses.old.sectors.marks + vec_len uses.old.mini_sectors.marks + 1
         < 2 ^ 64 + vec_len uses.old.sectors.list + vec_len uses.old.mini_sectors.list }
     ensures limit { vec_len uses.new.sectors.marks ≡ vec_len uses.old.sectors.marks }
     ensures mini_limit { vec_len uses.new.mini_sectors.marks ≡ vec_len uses.old.mini_sectors.marks }
@@ -148,6 +153,10 @@ pub(crate) fn walk_each(
         → CanClaim (vec_len uses.old.mini_sectors.marks) uses.old.mini_sectors.list.items (container.all_mini_sectors directory.now.bytes.now directory.now.sectors.now entries.now chains)
         → ViewIsUnlessMemory (λ v. spec.views v.items) result chains }
     ensures kinds { FailsByData result }
+    ensures grows { steps.old ≤ steps.new }
+    ensures bounded { steps.new + vec_len uses.old.sectors.list + vec_len uses.old.mini_sectors.list
+        ≤ steps.old + vec_len uses.new.sectors.list + vec_len uses.new.mini_sectors.list }
+    ensures exact { IfOk result (λ chains. steps.new ≡ steps.old + sum_by links (spec.views chains.items)) }
 {
     let mut chains = Vec::new(alloc);
     for entry in entries {
@@ -221,26 +230,30 @@ fn stream_bytes(
     }
 }
 
-/// The streams of these entries, by name. Their names have been checked, so the only error is `OutOfMemory`.
+/// The streams of these entries, by name. `InvalidData` where a name isn't well formed, or two storages or streams have
+/// one; `OutOfMemory`.
 pub(crate) fn collect(
     alloc: Global,
     directory: &Directory,
     mini_stream: &[u32],
+    storages: &[u32],
     entries: &[u32],
     chains: &[Vec<u32>],
 ) -> Result<StreamMap, Error>
+    requires storages { AreBelow (container.entry_count directory.now.bytes.now directory.now.sectors.now) storages.now }
     requires below { AreBelow (container.entry_count directory.now.bytes.now directory.now.sectors.now) entries.now }
-    requires named { (i : ℕ) → i < length entries.now → container.HasName directory.now.bytes.now directory.now.sectors.now (slice_index entries.now i) }
-    requires apart { container.HaveOwnNames directory.now.bytes.now directory.now.sectors.now entries.now }
     requires covered { AllZip (spec.IsCovered directory.now.bytes.now mini_stream.now directory.now.sectors.now) entries.now (spec.views chains.now) }
     ensures ok { IfOk result (λ streams. streams ≡ from_entries (container.named_bytes directory.now.bytes.now mini_stream.now directory.now.sectors.now entries.now (spec.views chains.now))) }
-    ensures memory { IsErr result → IsErrOf result OutOfMemory }
+    ensures names { OnOk result (spec.HaveNamesApart directory.now.bytes.now directory.now.sectors.now storages.now entries.now) }
+    ensures invalid { IsErrOf result InvalidData → spec.HaveNamesApart directory.now.bytes.now directory.now.sectors.now storages.now entries.now → ⊥ }
+    ensures kinds { FailsByData result }
 {
+    let taken = names_of(alloc, directory, storages)?;
     let mut streams = StreamMap::new(alloc);
     for (entry, chain) in entries.iter().zip(chains) {
-        let name = directory.name(*entry)?;
+        let name = own_name(directory, *entry, &taken)?;
         let held = stream_bytes(alloc, directory, mini_stream, *entry, chain.as_slice())?;
-        streams.insert(name, Bytes::from_vec(held))?;
+        insert_stream(&mut streams, name, Bytes::from_vec(held))?;
     }
     Ok(streams)
 }

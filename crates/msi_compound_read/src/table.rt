@@ -6,29 +6,71 @@ ghost use Rattle.msi_compound.specs.Container as container;
 use crate::header::sector_size;
 use msi_compound::format::LINK_SIZE;
 use msi_compound::parts::{number32, place};
+use std::marker::Model;
 
-/// How many successors were looked up.
+/// How many successors were looked up, in the FAT and in the mini FAT. It never falls.
 #[derive(Debug, Drop)]
-pub(crate) struct Steps {
-    pub(crate) count: u64,
+pub struct Steps {
+    count: u64,
+}
+
+impl Model for Steps {
+    ghost use Rattle.std.specs.Prelude.{ℕ};
+
+    ghost Value = { ℕ };
+
+    ghost view = { λ s. s.count };
+}
+
+impl Steps {
+    /// No successor was looked up yet.
+    pub fn new() -> Steps
+        ensures { result ≡ 0 }
+    {
+        Steps { count: 0 }
+    }
+
+    /// How many successors were looked up.
+    pub fn count(&self) -> u64
+        ensures { result ≡ self.now }
+    {
+        self.count
+    }
+
+    /// One more was looked up.
+    fn take(&mut self)
+        requires { self.old + 1 < 2 ^ 64 }
+        ensures { self.new ≡ self.old + 1 }
+    {
+        self.count += 1;
+    }
 }
 
 /// The allocation table that stands in these sectors, four bytes for each entry: the FAT, or the mini FAT.
 #[derive(Clone, Copy)]
 pub(crate) struct AllocationTable<'a> {
-    pub(crate) bytes: &'a [u8],
-    pub(crate) sectors: &'a [u32],
+    bytes: &'a [u8],
+    sectors: &'a [u32],
     ghost few: { length sectors.now ≤ 2 ^ 32 },
 }
 
 impl<'a> AllocationTable<'a> {
-    /// The successor of a sector, where the table has one.
-    pub(crate) fn successor(&self, sector: u32, steps: &mut Steps) -> Option<u32>
-        requires { steps.old.count + 1 < 2 ^ 64 }
-        ensures value { result ≡ container.successor self.now.bytes.now self.now.sectors.now sector }
-        ensures step { steps.new.count ≡ steps.old.count + 1 }
+    /// The table in these sectors of a file.
+    pub(crate) fn new(bytes: &'a [u8], sectors: &'a [u32]) -> AllocationTable<'a>
+        requires { length sectors.now ≤ 2 ^ 32 }
+        ensures bytes { result.bytes.now ≡ bytes.now }
+        ensures sectors { result.sectors.now ≡ sectors.now }
     {
-        steps.count += 1;
+        AllocationTable { bytes, sectors }
+    }
+
+    /// The successor of a sector, where the table has one. It is the only way to an entry, and takes a step.
+    pub(crate) fn successor(&self, sector: u32, steps: &mut Steps) -> Option<u32>
+        requires { steps.old + 1 < 2 ^ 64 }
+        ensures value { result ≡ container.successor self.now.bytes.now self.now.sectors.now sector }
+        ensures step { steps.new ≡ steps.old + 1 }
+    {
+        steps.take();
         let size = sector_size(self.bytes);
         let at = LINK_SIZE * sector as usize;
         if at < self.sectors.len() * size {

@@ -4,6 +4,7 @@ ghost use Rattle.std.specs.Prelude.{min, ◌≡◌, ℕ, List, ◌+◌, ◌-◌,
 ghost use Rattle.msi_compound.specs.Chains.{IsChain};
 ghost use Rattle.msi_compound_read.specs.Claims.{CanClaim};
 ghost use Rattle.msi_compound_read.specs.Outcomes.{IsFrom, ViewIsUnlessMemory, FailsByData};
+ghost use Rattle.msi_compound_read.specs.Steps.{links};
 ghost use Rattle.msi_compound_read.specs.Walks.{follower};
 ghost use Rattle.msi_compound.specs.Container as container;
 ghost use Rattle.msi_compound.specs.Format as marks;
@@ -22,9 +23,9 @@ fn next_member(
     so_far: &[u32],
     steps: &mut Steps,
 ) -> Result<u32, Error>
-    requires { steps.old.count + 1 < 2 ^ 64 }
+    requires { steps.old + 1 < 2 ^ 64 }
     ensures value { IsFrom result (follower (container.successor table.now.bytes.now table.now.sectors.now) start so_far.now) }
-    ensures step { steps.new.count ≡ steps.old.count + min 1 (length so_far.now) }
+    ensures step { steps.new ≡ steps.old + min 1 (length so_far.now) }
 {
     match so_far.last() {
         None => Ok(start),
@@ -44,15 +45,16 @@ pub(crate) fn walk(
     claims: &mut Claims,
     steps: &mut Steps,
 ) -> Result<Vec<u32>, Error>
-    requires { steps.old.count + vec_len claims.old.marks + 1 < 2 ^ 64 + vec_len claims.old.list }
+    requires { steps.old + vec_len claims.old.marks + 1 < 2 ^ 64 + vec_len claims.old.list }
     ensures limit { vec_len claims.new.marks ≡ vec_len claims.old.marks }
     ensures found { IfOk result (λ chain. IsChain (container.successor table.now.bytes.now table.now.sectors.now) start count chain.items
         × (claims.new.list.items ≡ claims.old.list.items ++ chain.items)) }
     ensures only { (chain : List ℕ) → IsChain (container.successor table.now.bytes.now table.now.sectors.now) start count chain
         → CanClaim (vec_len claims.old.marks) claims.old.list.items chain → ViewIsUnlessMemory (λ v. v.items) result chain }
     ensures kinds { FailsByData result }
-    ensures bounded { steps.new.count + vec_len claims.old.list ≤ steps.old.count + vec_len claims.new.list }
-    ensures exact { OnOk result (steps.new.count ≡ steps.old.count + (count - 1)) }
+    ensures grows { steps.old ≤ steps.new }
+    ensures bounded { steps.new + vec_len claims.old.list ≤ steps.old + vec_len claims.new.list }
+    ensures exact { IfOk result (λ chain. steps.new ≡ steps.old + links chain.items) }
 {
     let mut chain = Vec::new(alloc);
     for _ in 0..count {
@@ -72,15 +74,16 @@ pub(crate) fn walk_to_end(
     steps: &mut Steps,
 ) -> Result<Vec<u32>, Error>
     requires regular { vec_len claims.old.marks ≤ marks.MAX_REGULAR_SECTOR + 1 }
-    requires steps { steps.old.count + vec_len claims.old.marks + 1 < 2 ^ 64 }
+    requires steps { steps.old + vec_len claims.old.marks + 1 < 2 ^ 64 }
     ensures limit { vec_len claims.new.marks ≡ vec_len claims.old.marks }
     ensures found { IfOk result (λ chain. container.IsWholeChain (container.successor table.now.bytes.now table.now.sectors.now) start chain.items
         × (claims.new.list.items ≡ claims.old.list.items ++ chain.items)) }
     ensures only { (chain : List ℕ) → container.IsWholeChain (container.successor table.now.bytes.now table.now.sectors.now) start chain
         → CanClaim (vec_len claims.old.marks) claims.old.list.items chain → ViewIsUnlessMemory (λ v. v.items) result chain }
     ensures kinds { FailsByData result }
-    ensures steps { steps.new.count + vec_len claims.old.list ≤ steps.old.count + vec_len claims.new.list }
-    ensures exact { IfOk result (λ chain. steps.new.count ≡ steps.old.count + vec_len chain) }
+    ensures grows { steps.old ≤ steps.new }
+    ensures steps { steps.new + vec_len claims.old.list ≤ steps.old + vec_len claims.new.list }
+    ensures exact { IfOk result (λ chain. steps.new ≡ steps.old + vec_len chain) }
 {
     if start == END_OF_CHAIN {
         return Err(Error::new(ErrorKind::InvalidData, reasons::EMPTY_CHAIN));

@@ -1,5 +1,6 @@
 -- The words of the crates below.
 pub use Rattle.msi_compound.specs.declared.contents.Contents
+pub use Rattle.msi_compound_read.specs.declared.sizes.Listing
 pub use Rattle.msi_device.specs.Held
 pub use Rattle.msi_device.specs.HeldLaws
 pub use Rattle.msi_compound.specs.Format
@@ -16,6 +17,8 @@ pub use Rattle.msi_compound_read.specs.Claims
 pub use Rattle.msi_compound_read.specs.Walks
 pub use Rattle.msi_compound_read.specs.Outcomes
 pub use Rattle.msi_compound_read.specs.Reading
+pub use Rattle.msi_compound_read.specs.Steps
+pub use Rattle.msi_compound_read.specs.Listings
 pub use Rattle.msi_compound_write.specs.Views
 pub use Rattle.msi_compound_write.specs.Extents
 pub use Rattle.msi_compound_write.specs.Image

@@ -33,11 +33,11 @@ returns-in_err-fat-clause-only c = λ difat fat directory s.
     rw (c.in_ok-difat.ensures.limit, used, fats) (fat_room bytes _ difat fat directory s) in
     rw (p.1, p.2) (c.in_err-fat.ensures.only can)
 
-pub invariant_of-table : goal.invariant_of-table
-invariant_of-table c =
+pub new-table-requires : goal.new-table-requires
+new-table-requires c =
     let after = c.read_fat.new.claims in
     let long = ap (λ (xs : List ℕ). length xs) c.in_ok-fat.ensures.found.1 ∙ length-append c.read_difat.new.claims.list.items c.in_ok-fat.fat.items in
-    record { few = omega (arith, long, few_claimed after.marks after.list after.counted, c.in_ok-fat.ensures.limit, c.in_ok-difat.ensures.limit, c.requires.regular, c.deref-2.ensures.len, after.list.ok, c.in_ok-fat.fat.ok) }
+    omega (arith, long, few_claimed after.marks after.list after.counted, c.in_ok-fat.ensures.limit, c.in_ok-difat.ensures.limit, c.requires.regular, c.deref-2.ensures.len, after.list.ok, c.in_ok-fat.fat.ok)
 
 pub returns-in_err-directory-clause-only : goal.returns-in_err-directory-clause-only
 returns-in_err-directory-clause-only c = λ difat fat directory s.
@@ -47,8 +47,8 @@ returns-in_err-directory-clause-only c = λ difat fat directory s.
     let used : c.read_difat.new.claims.list.items ≡ difat = c.in_ok-difat.ensures.found.1 ∙ ap (λ xs. xs ++ c.in_ok-difat.difat.items) c.requires.empty ∙ same in
     let fats : c.in_ok-fat.fat.items ≡ fat = c.in_ok-fat.ensures.found.0 ∙ ap (fat_of bytes) (c.deref.ensures.value ∙ same) ∙ sym s.fats in
     let both : c.read_fat.new.claims.list.items ≡ difat ++ fat = c.in_ok-fat.ensures.found.1 ∙ ap (λ xs. xs ++ c.in_ok-fat.fat.items) used ∙ ap (λ xs. difat ++ xs) fats in
-    let table : c.deref-2.result.now ≡ fat = c.deref-2.ensures.value ∙ fats in
-    let chain : IsWholeChain (successor bytes c.deref-2.result.now) c.number32-first.result directory = rw (table, c.number32-first.ensures) s.chain in
+    let table : c.new-table.result.sectors.now ≡ fat = c.new-table.ensures.sectors ∙ c.deref-2.ensures.value ∙ fats in
+    let chain : IsWholeChain (successor c.new-table.result.bytes.now c.new-table.result.sectors.now) c.number32-first.result directory = rw (c.new-table.ensures.bytes, table, c.number32-first.ensures) s.chain in
     let can : CanClaim (vec_len c.read_fat.new.claims.marks) c.read_fat.new.claims.list.items directory =
     rw (c.in_ok-fat.ensures.limit, c.in_ok-difat.ensures.limit, both) (directory_room bytes _ difat fat directory s) in
     rw (p.1, p.2) (c.in_err-directory.ensures.only directory chain can)
@@ -68,7 +68,7 @@ returns-clause-found c =
         header = c.in_ok-check_header.ensures.ok;
         difats = difats.0;
         fats = fats.0 ∙ ap (fat_of bytes) c.deref.ensures.value;
-        chain = rw (c.deref-2.ensures.value, c.number32-first.ensures) at directories.0;
+        chain = rw (c.new-table.ensures.bytes, c.new-table.ensures.sectors, c.deref-2.ensures.value, c.number32-first.ensures) at directories.0;
         room = claimed_room after.marks _ after.list.items [] (c.in_ok-difat.difat.items ++ c.in_ok-fat.fat.items ++ c.in_ok-directory.directory.items) limit after.marked after.distinct whole;
       },
       whole,
@@ -81,8 +81,8 @@ returns-clause-only c = λ difat fat directory s.
     let used : c.read_difat.new.claims.list.items ≡ difat = c.in_ok-difat.ensures.found.1 ∙ ap (λ xs. xs ++ c.in_ok-difat.difat.items) c.requires.empty ∙ same in
     let fats : c.in_ok-fat.fat.items ≡ fat = c.in_ok-fat.ensures.found.0 ∙ ap (fat_of bytes) (c.deref.ensures.value ∙ same) ∙ sym s.fats in
     let both : c.read_fat.new.claims.list.items ≡ difat ++ fat = c.in_ok-fat.ensures.found.1 ∙ ap (λ xs. xs ++ c.in_ok-fat.fat.items) used ∙ ap (λ xs. difat ++ xs) fats in
-    let table : c.deref-2.result.now ≡ fat = c.deref-2.ensures.value ∙ fats in
-    let chain : IsWholeChain (successor bytes c.deref-2.result.now) c.number32-first.result directory = rw (table, c.number32-first.ensures) s.chain in
+    let table : c.new-table.result.sectors.now ≡ fat = c.new-table.ensures.sectors ∙ c.deref-2.ensures.value ∙ fats in
+    let chain : IsWholeChain (successor c.new-table.result.bytes.now c.new-table.result.sectors.now) c.number32-first.result directory = rw (c.new-table.ensures.bytes, table, c.number32-first.ensures) s.chain in
     let can : CanClaim (vec_len c.read_fat.new.claims.marks) c.read_fat.new.claims.list.items directory =
     rw (c.in_ok-fat.ensures.limit, c.in_ok-difat.ensures.limit, both) (directory_room bytes _ difat fat directory s) in
     let directories : c.in_ok-directory.directory.items ≡ directory = c.in_ok-directory.ensures.only directory chain can in

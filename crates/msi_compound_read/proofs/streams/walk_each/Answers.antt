@@ -1,10 +1,12 @@
 use Rattle.std.proofs.Common.{arith, rules, ◌≡◌, ◌<◌, ℕ, [], ◌∷◌, ◌++◌, length, get_or, vec_len, ◌∙◌, ap, Vec, Global}
 use Rattle.std.proofs.lemmas.Result.{err_from_is_err_and}
 use Rattle.std.proofs.lemmas.List.{append_assoc, length-take-le, take_more, take_all, map_push}
+use Rattle.std.proofs.lemmas.List.Sums.{sum_by_push}
 use Rattle.std.proofs.lemmas.Slice.Zip.{all_zipped_more, AllZip-long}
 use Rattle.msi_compound_read.specs.Claims.{CanClaim}
 use Rattle.msi_compound.specs.Container.{sectors_in, mini_sectors_in, all_sectors, all_mini_sectors}
 use Rattle.msi_compound_read.specs.Reading.{views}
+use Rattle.msi_compound_read.specs.Steps.{links}
 use Rattle.msi_compound_read.proofs.ListLemmas.{paired_at}
 use Rattle.msi_compound_read.proofs.StreamChainLemmas.{flat_map_zip_none, flat_map_zip_push, can_claim_next}
 use Rattle.msi_compound_read.proofs.streams.walk_each.Goals as goal
@@ -22,6 +24,7 @@ loop-entry-init c =
       mini_limit = search rules;
       only = search rules;
       bounded = omega arith;
+      exact = rw none (omega arith);
     }
 
 pub returns-in_err-chain-clause-only : goal.returns-in_err-chain-clause-only
@@ -77,6 +80,7 @@ loop-entry-preserved c =
           let same = found.only next (paired_at _ _ chains i 0 [] are here) room mini_room in
           rw (pushed, take_more chains i [] there, front, same);
       bounded = omega (arith, so_far.bounded, found.bounded);
+      exact = rw pushed (omega (arith, so_far.exact, found.exact, sum_by_push links done chain));
     }
 
 pub returns-clause-only : goal.returns-clause-only

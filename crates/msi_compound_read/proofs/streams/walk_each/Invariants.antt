@@ -1,8 +1,9 @@
-use Rattle.std.proofs.Common.{◌≡◌, ℕ, List, ◌+◌, ◌≤◌, ◌++◌, take, vec_len}
+use Rattle.std.proofs.Common.{◌≡◌, ℕ, List, ◌+◌, ◌≤◌, ◌++◌, take, vec_len, sum_by}
 use Rattle.std.specs.List.{AllZip}
 use Rattle.msi_compound_read.specs.Claims.{CanClaim}
 use Rattle.msi_compound.specs.Container.{IsMembers, all_sectors, all_mini_sectors}
 use Rattle.msi_compound_read.specs.Reading.{views}
+use Rattle.msi_compound_read.specs.Steps.{links}
 use Rattle.msi_compound_read.proofs.streams.walk_each.Given as goal
 
 abbrev pub invariant-loop-entry : goal.invariant-loop-entry
@@ -22,6 +23,7 @@ invariant-loop-entry l =
           → CanClaim (vec_len l.fn.uses.sectors.marks) l.fn.uses.sectors.list.items (all_sectors bytes directory l.entries chains)
           → CanClaim (vec_len l.fn.uses.mini_sectors.marks) l.fn.uses.mini_sectors.list.items (all_mini_sectors bytes directory l.entries chains)
           → done ≡ take l.entry-index chains;
-      bounded : l.steps.count + vec_len l.fn.uses.sectors.list + vec_len l.fn.uses.mini_sectors.list
-          ≤ l.fn.steps.count + vec_len l.uses.sectors.list + vec_len l.uses.mini_sectors.list;
+      bounded : l.steps + vec_len l.fn.uses.sectors.list + vec_len l.fn.uses.mini_sectors.list
+          ≤ l.fn.steps + vec_len l.uses.sectors.list + vec_len l.uses.mini_sectors.list;
+      exact : l.steps ≡ l.fn.steps + sum_by links done;
     }

@@ -15,5 +15,5 @@ invariant-loop l =
           → IsChain next l.start l.count chain
           → CanClaim (vec_len l.fn.claims.marks) l.fn.claims.list.items chain
           → l.chain.items ≡ take l.counter chain;
-      steps : l.steps.count ≡ l.fn.steps.count + (l.counter - 1);
+      steps : l.steps ≡ l.fn.steps + (l.counter - 1);
     }

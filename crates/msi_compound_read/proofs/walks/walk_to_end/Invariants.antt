@@ -20,7 +20,7 @@ invariant-loop-link l =
           → IsWholeChain next l.start c
           → CanClaim (vec_len l.fn.claims.marks) l.fn.claims.list.items c
           → IsFront c l.chain.items;
-      counted : l.steps.count ≡ l.fn.steps.count + vec_len l.chain;
+      counted : l.steps ≡ l.fn.steps + vec_len l.chain;
     }
 
 -- each iteration claims a sector
