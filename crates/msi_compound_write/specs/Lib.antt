@@ -7,3 +7,4 @@ pub mod Balance
 pub mod SpelledParts
 pub mod Layout
 pub mod LayoutLaw
+pub mod Sectors

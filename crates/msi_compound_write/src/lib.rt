@@ -2,14 +2,18 @@
 #![tactic(auto)]
 
 mod balance;
+mod content;
 mod entries;
 mod extents;
+mod index;
 pub mod laws;
+mod layout;
 mod mini;
 mod numbers;
 mod reasons;
 mod sectors;
+mod tables;
 mod totals;
 mod writing;
 
-pub use writing::write;
+pub use writing::{write, write_to};

@@ -1,0 +1,107 @@
+//! The sectors of the file that is written, each from its number (MS-CFB 2.2): the header, the directory, the mini FAT, the
+//! mini stream, the large streams, the FAT, the DIFAT, and free sectors.
+
+ghost use Rattle.std.specs.Prelude.{◌≡◌, ◌+◌, ◌*◌, ◌<◌, ◌≤◌, length, map};
+ghost use Rattle.std.specs.List.{range_with_len};
+ghost use Rattle.msi_compound_write.specs.Extents.{laid_byte};
+ghost use Rattle.msi_compound_write.specs.Index.{streams_of};
+ghost use Rattle.msi_compound_write.specs.Layout as spec;
+ghost use Rattle.msi_compound_write.specs.Sectors.{IsLaidOut, file_sector};
+
+use crate::content::{fill_large, fill_mini_stream};
+use crate::entries::{directory_sectors, fill_directory, mini_fat_sectors, mini_stream_sectors};
+use crate::index::{Place, Sector};
+use crate::sectors::{Run, difat_run, fat_run};
+use crate::tables::{fill_difat, fill_fat, fill_header, fill_mini_fat};
+use crate::totals::{difat_sectors, fat_sectors};
+use msi_compound::format::SECTOR_SIZE_3;
+
+/// How much is laid out: the mini sectors, the sectors of the directory, the mini FAT, the mini stream and the large streams
+/// together, and all sectors of the file.
+#[derive(Clone, Copy)]
+pub(crate) struct Extent {
+    pub(crate) mini_sectors: usize,
+    pub(crate) taken: usize,
+    pub(crate) total: usize,
+}
+
+/// Streams below a root with this CLSID, and how much they take.
+#[derive(Clone, Copy)]
+pub(crate) struct Layout<'a> {
+    pub(crate) clsid: [u8; 16],
+    pub(crate) places: &'a [Place<'a>],
+    pub(crate) extent: Extent,
+}
+
+/// Fills a sector with sector `n` of the file, whose header is sector 0.
+pub(crate) fn fill(sector: &mut Sector, layout: &Layout, n: usize)
+    requires laid_out { IsLaidOut layout.now.clsid layout.now.places.now layout.now.extent.mini_sectors layout.now.extent.taken layout.now.extent.total }
+    requires within { n ≤ layout.now.extent.total }
+    ensures { sector.new ≡ file_sector layout.now.clsid (streams_of layout.now.places.now) layout.now.extent.total n }
+{
+    let extent = layout.extent;
+    if n == 0 {
+        let mini_fat = mini_fat_run(layout.places, extent.mini_sectors);
+        let fat = fat_run(extent.taken, extent.total);
+        fill_header(sector, mini_fat, fat, difat_run(extent.taken, extent.total));
+    } else if n <= extent.taken {
+        fill_part(sector, layout, n - 1);
+    } else {
+        fill_table(sector, layout, n - 1 - extent.taken);
+    }
+}
+
+/// The sectors of the mini FAT, behind the directory.
+fn mini_fat_run(places: &[Place], mini_sectors: usize) -> Run
+    requires counted { mini_sectors ≡ spec.mini_sectors (streams_of places.now) }
+    requires few { spec.taken_by (streams_of places.now) < 2 ^ 22 }
+    ensures { result ≡ spec.mini_fat_run (streams_of places.now) }
+{
+    Run {
+        first: directory_sectors(places.len()) as u32,
+        count: mini_fat_sectors(mini_sectors) as u32,
+    }
+}
+
+/// Fills a sector with sector `m` of the directory, the mini FAT, the mini stream and the large streams.
+fn fill_part(sector: &mut Sector, layout: &Layout, m: usize)
+    requires laid_out { IsLaidOut layout.now.clsid layout.now.places.now layout.now.extent.mini_sectors layout.now.extent.taken layout.now.extent.total }
+    requires within { m < layout.now.extent.taken }
+    ensures { sector.new ≡ map (laid_byte 512 (spec.parts_of layout.now.clsid (streams_of layout.now.places.now))) (range_with_len (512 * m) 512) }
+{
+    let places = layout.places;
+    let mini_sectors = layout.extent.mini_sectors;
+    let mini_fat = directory_sectors(places.len());
+    let mini_stream = mini_fat + mini_fat_sectors(mini_sectors);
+    let large = mini_stream + mini_stream_sectors(mini_sectors);
+    if m < mini_fat {
+        fill_directory(sector, layout.clsid, places, mini_sectors, m);
+    } else if m < mini_stream {
+        fill_mini_fat(sector, places, mini_sectors, m - mini_fat);
+    } else if m < large {
+        fill_mini_stream(sector, places, m - mini_stream);
+    } else {
+        fill_large(sector, places, m - large);
+    }
+}
+
+/// Fills a sector with sector `m` of the FAT, the DIFAT, and the free sectors.
+fn fill_table(sector: &mut Sector, layout: &Layout, m: usize)
+    requires laid_out { IsLaidOut layout.now.clsid layout.now.places.now layout.now.extent.mini_sectors layout.now.extent.taken layout.now.extent.total }
+    ensures { sector.new ≡ file_sector layout.now.clsid (streams_of layout.now.places.now) layout.now.extent.total (layout.now.extent.taken + 1 + m) }
+{
+    let Extent {
+        mini_sectors,
+        taken,
+        total,
+    } = layout.extent;
+    let difat = fat_sectors(total);
+    let free = difat + difat_sectors(total);
+    if m < difat {
+        fill_fat(sector, layout.places, mini_sectors, total, m);
+    } else if m < free {
+        fill_difat(sector, taken, total, m - difat);
+    } else {
+        *sector = [0; SECTOR_SIZE_3];
+    }
+}
