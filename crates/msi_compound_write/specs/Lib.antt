@@ -7,3 +7,5 @@ pub mod Balance
 pub mod SpelledParts
 pub mod Layout
 pub mod LayoutLaw
+pub mod Index
+pub mod Regions

@@ -2,13 +2,17 @@
 #![tactic(auto)]
 
 mod balance;
+mod content;
 mod entries;
 mod extents;
+mod index;
 pub mod laws;
 mod mini;
 mod numbers;
 mod reasons;
+mod regions;
 mod sectors;
+mod tables;
 mod totals;
 mod writing;
 
