@@ -7,4 +7,6 @@ pub mod Balance
 pub mod SpelledParts
 pub mod Layout
 pub mod LayoutLaw
+pub mod Index
+pub mod Regions
 pub mod Sectors

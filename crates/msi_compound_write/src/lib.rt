@@ -11,6 +11,7 @@ mod layout;
 mod mini;
 mod numbers;
 mod reasons;
+mod regions;
 mod sectors;
 mod tables;
 mod totals;
