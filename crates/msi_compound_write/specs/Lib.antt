@@ -6,4 +6,5 @@ pub mod Image
 pub mod Balance
 pub mod SpelledParts
 pub mod Layout
+pub mod Index
 pub mod LayoutLaw

@@ -2,8 +2,10 @@
 #![tactic(auto)]
 
 mod balance;
+mod directory;
 mod entries;
 mod extents;
+mod index;
 pub mod laws;
 mod mini;
 mod numbers;
