@@ -23,22 +23,22 @@ use std::alloc::{AllocError, Global};
 use std::marker::Model;
 
 /// `Root Entry` in UTF-16.
-const ROOT_NAME: [u16; 10] = [82, 111, 111, 116, 32, 69, 110, 116, 114, 121];
+pub(crate) const ROOT_NAME: [u16; 10] = [82, 111, 111, 116, 32, 69, 110, 116, 114, 121];
 
 /// The CLSID of a stream.
-const NO_CLSID: [u8; 16] = [0; 16];
+pub(crate) const NO_CLSID: [u8; 16] = [0; 16];
 
 /// An entry that is in use.
 #[derive(Drop)]
-struct Entry<'a> {
-    name: &'a [u16],
-    kind: u8,
-    left: u32,
-    right: u32,
-    child: u32,
-    clsid: [u8; 16],
-    start: u32,
-    size: u64,
+pub(crate) struct Entry<'a> {
+    pub(crate) name: &'a [u16],
+    pub(crate) kind: u8,
+    pub(crate) left: u32,
+    pub(crate) right: u32,
+    pub(crate) child: u32,
+    pub(crate) clsid: [u8; 16],
+    pub(crate) start: u32,
+    pub(crate) size: u64,
 }
 
 impl<'a> Model for Entry<'a> {
@@ -181,7 +181,7 @@ fn push_streams(held: &mut Vec<u8>, streams: &StreamMap, first: u32) -> Result<(
 }
 
 /// Where a stream of `size` bytes starts: at the next sector or the next mini sector, unless it is empty.
-fn stream_start(size: usize, next: u32, next_mini: u32) -> u32
+pub(crate) fn stream_start(size: usize, next: u32, next_mini: u32) -> u32
     ensures { result ≡ spec.stream_start next next_mini size }
 {
     if size == 0 {

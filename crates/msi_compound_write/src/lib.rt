@@ -3,6 +3,7 @@
 
 mod balance;
 mod content;
+mod directory;
 mod entries;
 mod extents;
 mod index;

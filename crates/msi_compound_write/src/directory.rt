@@ -1,0 +1,162 @@
+//! The directory's sectors, four entries each: the root, the streams in the order of their names, and unused entries
+//! (MS-CFB 2.6).
+
+ghost use Rattle.std.specs.Prelude.{◌≡◌, ◌+◌, ◌*◌, ◌<◌, ◌≤◌, ◌^◌, ◌++◌, length, map, slice_index, take, drop};
+ghost use Rattle.std.specs.List.{range_with_len};
+ghost use Rattle.msi_compound.specs.Format as marks;
+ghost use Rattle.msi_compound_write.specs.Index.{IsIndex, streams_of};
+ghost use Rattle.msi_compound_write.specs.Layout as spec;
+ghost use Rattle.msi_compound_write.specs.LayoutLaw.{HaveNames};
+
+use crate::balance::{links, middle};
+use crate::entries::{
+    Entry, NO_CLSID, ROOT_NAME, directory_sectors, mini_fat_sectors, mini_stream_sectors,
+    stream_start,
+};
+use crate::extents::start_of;
+use crate::index::Place;
+use msi_compound::format::{
+    BLACK, CHILD_AT, CLSID_AT, ENTRY_SIZE, KIND_AT, LEFT_AT, MINI_SECTOR_SIZE, NAME_SIZE_AT,
+    NO_ENTRY, RIGHT_AT, ROOT, SECTOR_SIZE_3, SIZE_AT, START_AT, STREAM,
+};
+
+/// How many entries a sector has.
+const ENTRIES: usize = SECTOR_SIZE_3 / ENTRY_SIZE;
+
+/// Fills sector `m` of the directory of these streams, below a root with this CLSID. The small streams take
+/// `mini_sectors`.
+pub(crate) fn fill_directory(
+    sector: &mut [u8; SECTOR_SIZE_3],
+    clsid: [u8; 16],
+    places: &[Place],
+    mini_sectors: usize,
+    m: usize,
+)
+    requires indexed { IsIndex places.now }
+    requires names { HaveNames (streams_of places.now) }
+    requires counted { mini_sectors ≡ spec.mini_sectors (streams_of places.now) }
+    requires few { spec.taken_by (streams_of places.now) < 2 ^ 22 }
+    requires within { m < spec.directory_sectors (length places.now) }
+    ensures { sector.new ≡ map (slice_index (spec.directory_of clsid (streams_of places.now))) (range_with_len (512 * m) 512) }
+{
+    for slot in 0..ENTRIES {
+        let entry = entry(clsid, places, mini_sectors, ENTRIES * m + slot);
+        put(sector, ENTRY_SIZE * slot, &entry);
+    }
+}
+
+/// Entry `k` of the directory.
+fn entry(clsid: [u8; 16], places: &[Place], mini_sectors: usize, k: usize) -> [u8; ENTRY_SIZE]
+    requires indexed { IsIndex places.now }
+    requires names { HaveNames (streams_of places.now) }
+    requires counted { mini_sectors ≡ spec.mini_sectors (streams_of places.now) }
+    requires few { spec.taken_by (streams_of places.now) < 2 ^ 22 }
+    requires within { k < 4 * spec.directory_sectors (length places.now) }
+    ensures { result ≡ map (slice_index (spec.directory_of clsid (streams_of places.now))) (range_with_len (128 * k) 128) }
+{
+    let count = places.len();
+    let mini_stream = directory_sectors(count) + mini_fat_sectors(mini_sectors);
+    let large = mini_stream + mini_stream_sectors(mini_sectors);
+    if k == 0 {
+        root_entry(clsid, places, mini_stream as u32, mini_sectors)
+    } else if k <= count {
+        stream_entry(&places[k - 1], k as u32, count as u32, large as u32)
+    } else {
+        unused_entry()
+    }
+}
+
+/// The root above these streams, whose chain is the mini stream, from sector `first` on.
+fn root_entry(
+    clsid: [u8; 16],
+    places: &[Place],
+    first: u32,
+    mini_sectors: usize,
+) -> [u8; ENTRY_SIZE]
+    requires first { first ≡ spec.mini_stream_first (streams_of places.now) }
+    requires counted { mini_sectors ≡ spec.mini_sectors (streams_of places.now) }
+    requires few { length places.now + 1 < marks.NO_ENTRY }
+    requires fits { mini_sectors < 2 ^ 31 }
+    ensures { result ≡ spec.entry_bytes (spec.root_entry clsid (streams_of places.now)) }
+{
+    entry_bytes(&Entry {
+        name: &ROOT_NAME,
+        kind: ROOT,
+        left: NO_ENTRY,
+        right: NO_ENTRY,
+        child: middle(1, places.len() as u32),
+        clsid,
+        start: start_of(first, mini_sectors as u32),
+        size: (MINI_SECTOR_SIZE * mini_sectors) as u64,
+    })
+}
+
+/// Entry `k` of `count` streams, the large ones of which lie from sector `large` on.
+fn stream_entry(place: &Place, k: u32, count: u32, large: u32) -> [u8; ENTRY_SIZE]
+    requires few { count + 1 < marks.NO_ENTRY }
+    requires some { 1 ≤ k }
+    requires most { k ≤ count }
+    requires fits { large + place.now.first < 2 ^ 32 }
+    requires name { length place.now.stream.0 ≤ 31 }
+    ensures { result ≡ spec.entry_bytes (spec.stream_entry count k (large + place.now.first) place.now.first_mini place.now.stream) }
+{
+    let (left, right) = links(count, k);
+    entry_bytes(&Entry {
+        name: place.name,
+        kind: STREAM,
+        left,
+        right,
+        child: NO_ENTRY,
+        clsid: NO_CLSID,
+        start: stream_start(place.bytes.len(), large + place.first, place.first_mini),
+        size: place.bytes.len() as u64,
+    })
+}
+
+/// The bytes of an entry that is in use. Its state bits and times are zero.
+fn entry_bytes(entry: &Entry) -> [u8; ENTRY_SIZE]
+    requires { length entry.now.name ≤ 31 }
+    ensures { result ≡ spec.entry_bytes entry.now }
+{
+    let name_size = 2 * (entry.name.len() as u16 + 1);
+    let mut bytes = [0; ENTRY_SIZE];
+    put(&mut bytes, 0, &name_field(entry.name));
+    put(&mut bytes, NAME_SIZE_AT, &name_size.to_le_bytes());
+    put(&mut bytes, KIND_AT, &[entry.kind, BLACK]);
+    put(&mut bytes, LEFT_AT, &entry.left.to_le_bytes());
+    put(&mut bytes, RIGHT_AT, &entry.right.to_le_bytes());
+    put(&mut bytes, CHILD_AT, &entry.child.to_le_bytes());
+    put(&mut bytes, CLSID_AT, &entry.clsid);
+    put(&mut bytes, START_AT, &entry.start.to_le_bytes());
+    put(&mut bytes, SIZE_AT, &entry.size.to_le_bytes());
+    bytes
+}
+
+/// A name, and zeros behind it.
+fn name_field(name: &[u16]) -> [u8; NAME_SIZE_AT]
+    requires { length name.now ≤ 31 }
+    ensures { result ≡ spec.name_field name.now }
+{
+    let mut field = [0; NAME_SIZE_AT];
+    for (i, unit) in name.iter().enumerate() {
+        put(&mut field, 2 * i, &unit.to_le_bytes());
+    }
+    field
+}
+
+/// An entry that isn't in use: it has no links, and is zero elsewhere.
+fn unused_entry() -> [u8; ENTRY_SIZE]
+    ensures { result ≡ spec.unused_entry }
+{
+    let mut bytes = [0; ENTRY_SIZE];
+    put(&mut bytes, LEFT_AT, &[0xFF; CLSID_AT - LEFT_AT]);
+    bytes
+}
+
+/// Writes a piece over the bytes from a position on.
+fn put(bytes: &mut [u8], at: usize, piece: &[u8])
+    requires { at + length piece.now ≤ length bytes.old }
+    ensures { bytes.new ≡ take at bytes.old ++ piece.now ++ drop (at + length piece.now) bytes.old }
+{
+    bytes[at..at + piece.len()].copy_from_slice(piece);
+}
