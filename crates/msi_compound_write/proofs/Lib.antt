@@ -23,3 +23,6 @@ pub mod ApartLemmas
 pub mod CollectedLemmas
 pub mod PlanWrittenLemmas
 pub mod SpelledPartsLemmas
+pub mod SectorLemmas
+pub mod SectorsHeldLemmas
+pub mod FileSectorLemmas

@@ -3,7 +3,8 @@ use Rattle.std.specs.Prelude.{◌≡◌, ℕ, ◌+◌, ◌*◌, ◌^◌, ◌<◌
 use Rattle.std.specs.List.{range_with_len}
 use Rattle.msi_compound_write.specs.Image.{Run, fat_sectors, difat_sectors, image_byte, image}
 use Rattle.msi_compound_write.specs.Index.{Placed, streams_of, IsIndex}
-use Rattle.msi_compound_write.specs.Layout.{mini_sectors, mini_fat_run, parts_of, taken_by}
+use Rattle.msi_compound_write.specs.Layout
+use Rattle.msi_compound_write.specs.Layout.{mini_fat_run, parts_of, taken_by}
 use Rattle.msi_compound_write.specs.LayoutLaw.{HaveNames}
 
 -- sector n, the header being sector 0
@@ -19,11 +20,11 @@ abbrev pub file : List ℕ → List (List ℕ × List ℕ) → ℕ → List ℕ
 file clsid streams total = image (parts_of clsid streams) (mini_fat_run streams) total
 
 -- streams with their places below a root, and how many mini sectors and sectors they take, in a file that has room for them
-pub record IsLaidOut (clsid : List ℕ) (places : List Placed) (minis taken total : ℕ) : Type 0 where
-  pub clsid : length clsid ≡ 16
+pub record IsLaidOut (root : List ℕ) (places : List Placed) (minis sectors all : ℕ) : Type 0 where
+  pub clsid : length root ≡ 16
   pub indexed : IsIndex places
   pub names : HaveNames (streams_of places)
-  pub minis : minis ≡ mini_sectors (streams_of places)
-  pub taken : taken ≡ taken_by (streams_of places)
-  pub room : taken + fat_sectors total + difat_sectors total ≤ total
-  pub few : total < 2 ^ 22
+  pub mini_sectors : minis ≡ Layout.mini_sectors (streams_of places)
+  pub taken : sectors ≡ taken_by (streams_of places)
+  pub room : sectors + fat_sectors all + difat_sectors all ≤ all
+  pub few : all < 2 ^ 22

@@ -1,16 +1,20 @@
 //! The sectors of the file that is written, each from its number (MS-CFB 2.2): the header, the directory, the mini FAT, the
 //! mini stream, the large streams, the FAT, the DIFAT, and free sectors.
 
-ghost use Rattle.std.specs.Prelude.{◌≡◌, ◌+◌, ◌*◌, ◌<◌, ◌≤◌, length, map};
+ghost use Rattle.std.specs.Prelude.{◌≡◌, ◌+◌, ◌*◌, ◌<◌, ◌≤◌, ◌^◌, map};
 ghost use Rattle.std.specs.List.{range_with_len};
 ghost use Rattle.msi_compound_write.specs.Extents.{laid_byte};
-ghost use Rattle.msi_compound_write.specs.Index.{streams_of};
+ghost use Rattle.msi_compound_write.specs.Image as image;
+ghost use Rattle.msi_compound_write.specs.Index.{IsIndex, streams_of};
 ghost use Rattle.msi_compound_write.specs.Layout as spec;
+ghost use Rattle.msi_compound_write.specs.LayoutLaw.{HaveNames};
 ghost use Rattle.msi_compound_write.specs.Sectors.{IsLaidOut, file_sector};
 
 use crate::content::{fill_large, fill_mini_stream};
-use crate::entries::{directory_sectors, fill_directory, mini_fat_sectors, mini_stream_sectors};
-use crate::index::{Place, Sector};
+use crate::directory::fill_directory;
+use crate::entries::{directory_sectors, mini_fat_sectors};
+use crate::index::Place;
+use crate::regions::regions_of;
 use crate::sectors::{Run, difat_run, fat_run};
 use crate::tables::{fill_difat, fill_fat, fill_header, fill_mini_fat};
 use crate::totals::{difat_sectors, fat_sectors};
@@ -33,8 +37,32 @@ pub(crate) struct Layout<'a> {
     pub(crate) extent: Extent,
 }
 
-/// Fills a sector with sector `n` of the file, whose header is sector 0.
-pub(crate) fn fill(sector: &mut Sector, layout: &Layout, n: usize)
+/// Streams below a root, which take so much.
+pub(crate) fn layout_of<'a>(
+    clsid: [u8; 16],
+    places: &'a [Place<'a>],
+    extent: Extent,
+) -> Layout<'a>
+    requires indexed { IsIndex places.now }
+    requires names { HaveNames (streams_of places.now) }
+    requires mini_sectors { extent.mini_sectors ≡ spec.mini_sectors (streams_of places.now) }
+    requires taken { extent.taken ≡ spec.taken_by (streams_of places.now) }
+    requires room { extent.taken + image.fat_sectors extent.total + image.difat_sectors extent.total ≤ extent.total }
+    requires few { extent.total < 2 ^ 22 }
+    ensures laid_out { IsLaidOut result.clsid result.places.now result.extent.mini_sectors result.extent.taken result.extent.total }
+    ensures clsid { result.clsid ≡ clsid }
+    ensures places { result.places.now ≡ places.now }
+    ensures extent { result.extent ≡ extent }
+{
+    Layout {
+        clsid,
+        places,
+        extent,
+    }
+}
+
+/// Fills sector `n` of the file, whose header is sector 0.
+pub(crate) fn fill(sector: &mut [u8; SECTOR_SIZE_3], layout: &Layout, n: usize)
     requires laid_out { IsLaidOut layout.now.clsid layout.now.places.now layout.now.extent.mini_sectors layout.now.extent.taken layout.now.extent.total }
     requires within { n ≤ layout.now.extent.total }
     ensures { sector.new ≡ file_sector layout.now.clsid (streams_of layout.now.places.now) layout.now.extent.total n }
@@ -43,11 +71,12 @@ pub(crate) fn fill(sector: &mut Sector, layout: &Layout, n: usize)
     if n == 0 {
         let mini_fat = mini_fat_run(layout.places, extent.mini_sectors);
         let fat = fat_run(extent.taken, extent.total);
-        fill_header(sector, mini_fat, fat, difat_run(extent.taken, extent.total));
+        let difat = difat_run(extent.taken, extent.total);
+        fill_header(sector, mini_fat, fat, difat);
     } else if n <= extent.taken {
         fill_part(sector, layout, n - 1);
     } else {
-        fill_table(sector, layout, n - 1 - extent.taken);
+        fill_behind(sector, layout, n - 1 - extent.taken);
     }
 }
 
@@ -63,44 +92,40 @@ fn mini_fat_run(places: &[Place], mini_sectors: usize) -> Run
     }
 }
 
-/// Fills a sector with sector `m` of the directory, the mini FAT, the mini stream and the large streams.
-fn fill_part(sector: &mut Sector, layout: &Layout, m: usize)
+/// Fills sector `m` of the directory, the mini FAT, the mini stream and the large streams.
+fn fill_part(sector: &mut [u8; SECTOR_SIZE_3], layout: &Layout, m: usize)
     requires laid_out { IsLaidOut layout.now.clsid layout.now.places.now layout.now.extent.mini_sectors layout.now.extent.taken layout.now.extent.total }
     requires within { m < layout.now.extent.taken }
     ensures { sector.new ≡ map (laid_byte 512 (spec.parts_of layout.now.clsid (streams_of layout.now.places.now))) (range_with_len (512 * m) 512) }
 {
     let places = layout.places;
     let mini_sectors = layout.extent.mini_sectors;
-    let mini_fat = directory_sectors(places.len());
-    let mini_stream = mini_fat + mini_fat_sectors(mini_sectors);
-    let large = mini_stream + mini_stream_sectors(mini_sectors);
-    if m < mini_fat {
+    let regions = regions_of(places, mini_sectors, layout.extent.taken);
+    if m < regions.mini_fat {
         fill_directory(sector, layout.clsid, places, mini_sectors, m);
-    } else if m < mini_stream {
-        fill_mini_fat(sector, places, mini_sectors, m - mini_fat);
-    } else if m < large {
-        fill_mini_stream(sector, places, m - mini_stream);
+    } else if m < regions.mini_stream {
+        fill_mini_fat(sector, places, m - regions.mini_fat);
+    } else if m < regions.large {
+        fill_mini_stream(sector, places, m - regions.mini_stream);
     } else {
-        fill_large(sector, places, m - large);
+        fill_large(sector, places, m - regions.large);
     }
 }
 
-/// Fills a sector with sector `m` of the FAT, the DIFAT, and the free sectors.
-fn fill_table(sector: &mut Sector, layout: &Layout, m: usize)
-    requires laid_out { IsLaidOut layout.now.clsid layout.now.places.now layout.now.extent.mini_sectors layout.now.extent.taken layout.now.extent.total }
+/// Fills sector `m` of what stands behind the streams: the FAT, the DIFAT, and free sectors.
+fn fill_behind(sector: &mut [u8; SECTOR_SIZE_3], layout: &Layout, m: usize)
+    requires { IsLaidOut layout.now.clsid layout.now.places.now layout.now.extent.mini_sectors layout.now.extent.taken layout.now.extent.total }
     ensures { sector.new ≡ file_sector layout.now.clsid (streams_of layout.now.places.now) layout.now.extent.total (layout.now.extent.taken + 1 + m) }
 {
-    let Extent {
-        mini_sectors,
-        taken,
-        total,
-    } = layout.extent;
-    let difat = fat_sectors(total);
-    let free = difat + difat_sectors(total);
-    if m < difat {
-        fill_fat(sector, layout.places, mini_sectors, total, m);
-    } else if m < free {
-        fill_difat(sector, taken, total, m - difat);
+    let extent = layout.extent;
+    let fat = fat_run(extent.taken, extent.total);
+    let difat = difat_run(extent.taken, extent.total);
+    let count = fat_sectors(extent.total);
+    if m < count {
+        let regions = regions_of(layout.places, extent.mini_sectors, extent.taken);
+        fill_fat(sector, layout.places, regions, extent.total, m);
+    } else if m < count + difat_sectors(extent.total) {
+        fill_difat(sector, fat, difat, m - count);
     } else {
         *sector = [0; SECTOR_SIZE_3];
     }

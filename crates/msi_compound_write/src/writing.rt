@@ -16,7 +16,7 @@ use crate::entries::{
 };
 use crate::extents::units;
 use crate::index::index;
-use crate::layout::{Extent, Layout, fill};
+use crate::layout::{Extent, Layout, fill, layout_of};
 use crate::reasons;
 use crate::totals::{MAX_SECTORS, least_total};
 use msi_compound::contents::{Contents, StreamMap};
@@ -50,11 +50,7 @@ pub fn write(alloc: Global, contents: &Contents, earlier_len: u64) -> Result<Vec
 {
     let extent = check(contents, earlier_len)?;
     let places = index(alloc, &contents.streams)?;
-    let layout = Layout {
-        clsid: contents.clsid,
-        places: &places,
-        extent,
-    };
+    let layout = layout_of(contents.clsid, places.as_slice(), extent);
     Ok(image(alloc, &layout)?)
 }
 
@@ -81,11 +77,7 @@ pub fn write_to<W: Device>(
     device.clear_failed();
     let extent = check(contents, earlier_len)?;
     let places = index(alloc, &contents.streams)?;
-    let layout = Layout {
-        clsid: contents.clsid,
-        places: &places,
-        extent,
-    };
+    let layout = layout_of(contents.clsid, places.as_slice(), extent);
     write_sectors(&layout, device)
 }
 
