@@ -26,3 +26,4 @@ pub mod SpelledPartsLemmas
 pub mod SectorLemmas
 pub mod SectorsHeldLemmas
 pub mod FileSectorLemmas
+pub mod IndexedLemmas

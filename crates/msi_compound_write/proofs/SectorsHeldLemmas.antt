@@ -1,5 +1,5 @@
 -- What a device holds while the file is written to it sector by sector.
-use Rattle.std.specs.Prelude.{Option}
+use Rattle.std.specs.Prelude.{Option, Result, Ok, Err, OnErr}
 use Rattle.std.proofs.Common.{◌≡◌, ℕ, ◌+◌, ◌-◌, ◌*◌, ◌<◌, List, [], ◌++◌, map, Some, None, option_map, sym, ◌∙◌, ap, subst, arith, refl}
 use Rattle.std.specs.List.{range_with_len}
 use Rattle.std.proofs.lemmas.List.{append-nil}
@@ -55,3 +55,18 @@ sector_in_part f n count sector old mid new l was is part =
     subst (λ bs. StandsInPart bs old new) whole
     (part_in_front (front ++ sector) rest old new
     (part_behind front sector old new (subst (λ m. StandsInPart sector m new) was part)))
+
+-- a device that took a file, or a beginning of it, by other names of the file and of what it held
+pub put_as : (file layout : List ℕ) (old mid new : Option Held) → file ≡ layout → mid ≡ old
+    → new ≡ option_map (with_piece file) mid → new ≡ option_map (with_piece layout) old
+put_as file layout old mid new same held put = put ∙ ap (λ bs. option_map (with_piece bs) mid) same ∙ ap (option_map (with_piece layout)) held
+
+pub part_as : (file layout : List ℕ) (old mid new : Option Held) → file ≡ layout → mid ≡ old
+    → StandsInPart file mid new → StandsInPart layout old new
+part_as file layout old mid new same held part =
+    subst (λ bs. StandsInPart bs old new) same (subst (λ m. StandsInPart file m new) held part)
+
+-- what holds anyway holds on an error
+pub on_err_from : {T E Q : Type 0} (r : Result T E) → Q → OnErr r Q
+on_err_from (Ok x) q = tt
+on_err_from (Err e) q = q

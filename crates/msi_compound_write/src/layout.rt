@@ -52,7 +52,7 @@ pub(crate) fn layout_of<'a>(
     ensures laid_out { IsLaidOut result.clsid result.places.now result.extent.mini_sectors result.extent.taken result.extent.total }
     ensures clsid { result.clsid ≡ clsid }
     ensures places { result.places.now ≡ places.now }
-    ensures extent { result.extent ≡ extent }
+    ensures total { result.extent.total ≡ extent.total }
 {
     Layout {
         clsid,
