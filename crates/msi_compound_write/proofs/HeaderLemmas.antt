@@ -31,7 +31,7 @@ pub five_pieces : (sector a b c d e : List ℕ) (p q r s j k m n : ℕ)
     → j ≡ length b
     → k ≡ length c
     → m ≡ length d
-    → n ≡ length e
+    → (length (put_mid r m (put_mid q k (put_mid p j (a ++ drop p sector) b) c) d) ≡ length sector → n ≡ length e)
     → put_mid s n (put_mid r m (put_mid q k (put_mid p j (a ++ drop p sector) b) c) d) e ≡ a ++ b ++ c ++ d ++ e
 five_pieces sector a b c d e p q r s j k m n p_is q_is r_is s_is long j_is k_is m_is n_is =
     let one : List ℕ = a ++ drop p sector in
@@ -43,7 +43,8 @@ five_pieces sector a b c d e p q r s j k m n p_is q_is r_is s_is long j_is k_is 
     let two_long : length two ≡ length one = put_long one b p j j_is (omega arith) in
     let three_long : length three ≡ length two = put_long two c q k k_is (omega arith) in
     let four_long : length four ≡ length three = put_long three d r m m_is (omega arith) in
-    let five_long : length five ≡ length four = put_long four e s n n_is (omega arith) in
+    let last : n ≡ length e = n_is (omega arith) in
+    let five_long : length five ≡ length four = put_long four e s n last (omega arith) in
     let first : take p one ≡ a = take_at a (drop p sector) p (sym p_is) in
     let second : take q two ≡ a ++ b = piece_put a one b p j q first (sym p_is) q_is in
     let third : take r three ≡ a ++ b ++ c = piece_put (a ++ b) two c q k r second (omega (arith, length-append a b)) r_is in
@@ -66,3 +67,7 @@ header_is parts mini_fat total n now size is =
     ∙ ap (λ bs. header ++ bs) (sym (list_bytes parts mini_fat total n size))
     ∙ sym (piece (image_byte parts mini_fat total) (λ k. image_byte parts mini_fat total (76 + k)) 76 (4 * n) header (front_bytes parts mini_fat total) (λ k. refl))
     ∙ ap (λ (m : ℕ). map (image_byte parts mini_fat total) (range_with_len 0 m)) size
+
+-- pieces that are the same
+pub same_pieces : (a b c d e v w x y z : List ℕ) → a ≡ v → b ≡ w → c ≡ x → d ≡ y → e ≡ z → a ++ b ++ c ++ d ++ e ≡ v ++ w ++ x ++ y ++ z
+same_pieces a b c d e v w x y z p q r s t = rw (p, q, r, s, t) refl

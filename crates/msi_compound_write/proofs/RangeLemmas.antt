@@ -5,6 +5,8 @@ use Rattle.std.specs.Int.{to_le_bytes, w32}
 use Rattle.std.proofs.lemmas.Bool.{cases_lt}
 use Rattle.std.proofs.lemmas.List.{append_assoc, length-append, length-replicate, get_or_append_left, get_or-append_right, get_or-replicate}
 use Rattle.std.proofs.lemmas.List.Concat.{flat_map-append}
+use Rattle.std.proofs.lemmas.List.Edits.{fill_by_more}
+use Rattle.std.proofs.Math.ListN.{set}
 use Rattle.std.proofs.lemmas.List.FromFn.{fill_by_all, get_or-map-range_with_len, length-map-range_with_len, map-range_with_len_more}
 use Rattle.msi_compound_write.specs.Extents.{number_byte, table_byte}
 
@@ -106,3 +108,14 @@ table_filled e m n size entries bytes size_is long is bytes_is =
     let r : (4 * (n * m) + k) % 4 ≡ k % 4 = omega arith in
     rw (place, q, r) refl)
     ∙ sym (shifted (table_byte e) (size * m) size)
+
+-- one entry more, by its position
+pub entry_more : (f : ℕ → ℕ) (entries : List ℕ) (k x : ℕ) → k < length entries → x ≡ f k
+    → ((j : ℕ) → j < k → get_or entries j 0 ≡ f j)
+    → (j : ℕ) → j < k + 1 → get_or (set entries k x) j 0 ≡ f j
+entry_more f entries k x within is before =
+    subst (λ (y : ℕ). (j : ℕ) → j < k + 1 → get_or (set entries k y) j 0 ≡ f j) (sym is) (fill_by_more f entries k 0 within before)
+
+-- how long numbers are in bytes
+pub numbers_long : (e : ℕ → ℕ) (n : ℕ) → length (flat_map (to_le_bytes w32) (map e (range_with_len 0 n))) ≡ 4 * n
+numbers_long e n = ap length (bytes_of_numbers e n) ∙ length-map-range_with_len (table_byte e) 0 (4 * n)
