@@ -105,7 +105,7 @@ difat_entry_is taken total k n fat difat first count run next listed =
 -- THE PIECES
 
 -- a piece, and what stands behind it
-piece : (f g : ℕ → ℕ) (m n : ℕ) (bytes : List ℕ) → map f (range_with_len 0 m) ≡ bytes → ((k : ℕ) → f (m + k) ≡ g k)
+pub piece : (f g : ℕ → ℕ) (m n : ℕ) (bytes : List ℕ) → map f (range_with_len 0 m) ≡ bytes → ((k : ℕ) → f (m + k) ≡ g k)
     → map f (range_with_len 0 (m + n)) ≡ bytes ++ map g (range_with_len 0 n)
 piece f g m n bytes is next =
     map_range_append f f g m n (λ k l. refl) (λ k l. next k) ∙ ap (λ bs. bs ++ map g (range_with_len 0 n)) is

@@ -27,3 +27,9 @@ pub mod SectorLemmas
 pub mod SectorsHeldLemmas
 pub mod FileSectorLemmas
 pub mod IndexedLemmas
+pub mod RestLemmas
+pub mod IndexLemmas
+pub mod UnitLemmas
+pub mod TableLemmas
+pub mod HeaderLemmas
+pub mod RegionLemmas
