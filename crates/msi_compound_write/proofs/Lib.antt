@@ -6,6 +6,7 @@ pub mod ImageLemmas
 pub mod TotalsLemmas
 pub mod MiniFatLemmas
 pub mod EntriesLemmas
+pub mod PutLemmas
 pub mod LayoutHeldLemmas
 pub mod LayoutLemmas
 pub mod LayoutRows
