@@ -16,6 +16,7 @@ pub mod DirectoryLengthLemmas
 pub mod EntryReadLemmas
 pub mod DirectoryBoundsLemmas
 pub mod DirectoryReadLemmas
+pub mod DirectorySectorLemmas
 pub mod LaidPartsLemmas
 pub mod MiniReadLemmas
 pub mod StreamsReadLemmas
