@@ -1,5 +1,5 @@
--- Where each stream lies: how many sectors and mini sectors the streams before it take.
-use Rattle.std.specs.Prelude.{◌≡◌, ℕ, ◌+◌, List, [], ◌∷◌, map}
+-- Where each stream of a file lies: an index of its streams, and what stands from a unit on.
+use Rattle.std.specs.Prelude.{◌≡◌, ℕ, ◌+◌, ◌-◌, ◌*◌, if◌then◌else◌, nat_lt, List, [], ◌∷◌, map, drop}
 use Rattle.msi_compound_write.specs.Extents.{units}
 use Rattle.msi_compound_write.specs.Layout.{mini_part, large_part}
 
@@ -9,7 +9,7 @@ pub record Placed : Type 0 where
   pub first : ℕ
   pub first_mini : ℕ
 
--- streams in order, from the sector and the mini sector on that are to be taken next
+-- streams in order, where so many sectors and mini sectors are taken before them
 abbrev pub placed : ℕ → ℕ → List (List ℕ × List ℕ) → List Placed
 placed first first_mini [] = []
 placed first first_mini (stream ∷ streams) =
@@ -19,6 +19,10 @@ placed first first_mini (stream ∷ streams) =
 abbrev pub streams_of : List Placed → List (List ℕ × List ℕ)
 streams_of places = map (λ place. place.stream) places
 
--- these are the places of their streams
 abbrev pub IsIndex : List Placed → Type 0
 IsIndex places = places ≡ placed 0 0 (streams_of places)
+
+-- of parts laid in order, what stands from unit n on to the end of the part that has it: nothing past the last part
+abbrev pub rest_from : ℕ → List (List ℕ) → ℕ → List ℕ
+rest_from size [] n = []
+rest_from size (part ∷ parts) n = if nat_lt n (units size part) then drop (size * n) part else rest_from size parts (n - units size part)

@@ -6,5 +6,6 @@ pub mod Image
 pub mod Balance
 pub mod SpelledParts
 pub mod Layout
-pub mod Index
 pub mod LayoutLaw
+pub mod Index
+pub mod Regions

@@ -101,15 +101,16 @@ fn stream_entry(place: &Place, k: u32, count: u32, large: u32) -> [u8; ENTRY_SIZ
     ensures { result ≡ spec.entry_bytes (spec.stream_entry count k (large + place.now.first) place.now.first_mini place.now.stream) }
 {
     let (left, right) = links(count, k);
+    let size = place.bytes().len();
     entry_bytes(&Entry {
-        name: place.name,
+        name: place.name(),
         kind: STREAM,
         left,
         right,
         child: NO_ENTRY,
         clsid: NO_CLSID,
-        start: stream_start(place.bytes.len(), large + place.first, place.first_mini),
-        size: place.bytes.len() as u64,
+        start: stream_start(size, large + place.first(), place.first_mini()),
+        size: size as u64,
     })
 }
 

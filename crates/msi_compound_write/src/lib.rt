@@ -2,6 +2,7 @@
 #![tactic(auto)]
 
 mod balance;
+mod content;
 mod directory;
 mod entries;
 mod extents;
@@ -10,7 +11,9 @@ pub mod laws;
 mod mini;
 mod numbers;
 mod reasons;
+mod regions;
 mod sectors;
+mod tables;
 mod totals;
 mod writing;
 

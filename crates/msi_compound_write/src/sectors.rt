@@ -21,7 +21,7 @@ use std::marker::Model;
 
 /// The header's fields from the minor version on: versions 62 and 3, the byte order, sectors of 512 bytes, mini sectors
 /// of 64, and six bytes that are reserved.
-const VERSIONS: [u8; 16] = [0x3E, 0, 3, 0, 0xFE, 0xFF, 9, 0, 6, 0, 0, 0, 0, 0, 0, 0];
+pub(crate) const VERSIONS: [u8; 16] = [0x3E, 0, 3, 0, 0xFE, 0xFF, 9, 0, 6, 0, 0, 0, 0, 0, 0, 0];
 
 /// Sectors in a row.
 #[derive(Clone, Copy)]
@@ -104,7 +104,7 @@ fn push_header(image: &mut Vec<u8>, mini_fat: Run, fat: Run, difat: Run) -> Resu
 
 /// The header's numbers of 32 bits: no directory sector count, the number of FAT sectors, the directory in sector 0, no
 /// transaction, the least size of a stream outside the mini stream, the mini FAT, and the DIFAT.
-fn front_numbers(fat: Run, mini_fat: Run, difat: Run) -> [u32; 9]
+pub(crate) fn front_numbers(fat: Run, mini_fat: Run, difat: Run) -> [u32; 9]
     ensures { result ≡ spec.front_numbers fat.count mini_fat difat }
 {
     [
@@ -134,7 +134,7 @@ fn push_list(image: &mut Vec<u8>, fat: Run) -> Result<(), AllocError>
 }
 
 /// Entry `k` of the list of FAT sectors.
-fn listed_entry(fat: Run, k: u32) -> u32
+pub(crate) fn listed_entry(fat: Run, k: u32) -> u32
     requires { fat.first + fat.count < 2 ^ 31 }
     ensures { result ≡ spec.listed_entry fat.first fat.count k }
 {
@@ -181,7 +181,7 @@ fn push_difat(image: &mut Vec<u8>, taken: usize, total: usize) -> Result<(), All
 
 /// Entry `k` of the DIFAT: each of its sectors has entries of the list of FAT sectors, from where the header's part ends,
 /// and then the number of its next sector.
-fn difat_entry(fat: Run, difat: Run, k: u32) -> u32
+pub(crate) fn difat_entry(fat: Run, difat: Run, k: u32) -> u32
     requires fat { fat.first + fat.count < 2 ^ 31 }
     requires difat { difat.first + difat.count < 2 ^ 22 }
     requires within { k < 128 * difat.count }
