@@ -56,17 +56,17 @@ entries_at n k next next_mini (stream ∷ streams) (suc i) o l h =
 -- for a CLSID of 16 bytes
 module _ (clsid : List ℕ) (streams : NamedStreams) (fits : length clsid ≡ 16) where
   -- the directory's pieces: the root, the streams, and what isn't used
-  abbrev pub root : List ℕ
+  abbrev root : List ℕ
   root = entry_bytes (root_entry clsid streams)
 
-  abbrev pub others : List ℕ
+  abbrev others : List ℕ
   others = stream_entries_bytes (length streams) 1 (large_first streams) 0 streams
 
-  abbrev pub unused : List ℕ
+  abbrev unused : List ℕ
   unused = concat (replicate (4 * directory_sectors (length streams) - (length streams + 1)) unused_entry)
 
   -- the root takes 128 bytes
-  pub root_long : length root ≡ 128
+  root_long : length root ≡ 128
   root_long = length-entry_bytes (root_entry clsid streams) fits
 
   -- the root's bytes come first

@@ -2,7 +2,7 @@
 use Rattle.std.proofs.Common.{◌≡◌, ℕ, zero, suc, ◌+◌, ◌-◌, ◌*◌, ◌^◌, ◌<◌, ◌≤◌, List, [], ◌∷◌, ◌++◌, length, get_or, map, take, drop, replicate, inl, inr, sym, ◌∙◌, ap, arith, refl}
 use Rattle.std.specs.List.{concat, range_with_len}
 use Rattle.std.proofs.lemmas.Bool.{cases_lt}
-use Rattle.std.proofs.lemmas.List.{ext_get_or, length-append, length-drop, length-map, length-take-le, take_all, take_at, get_or-map, get_or_append_left, get_or-append_right, get_or_default}
+use Rattle.std.proofs.lemmas.List.{ext_get_or, length-append, length-drop, length-map, length-take-le, take_all, take_at, get_or_append_left, get_or-append_right}
 use Rattle.std.proofs.lemmas.List.FromFn.{get_or-map-range_with_len, length-map-range_with_len}
 use Rattle.msi_compound_write.specs.Extents.{units, all_units}
 use Rattle.msi_compound_write.specs.Index.{Placed, placed, streams_of, IsIndex}
@@ -10,7 +10,7 @@ use Rattle.msi_compound_write.specs.Layout.{entry_bytes, unused_entry, mini_part
 use Rattle.msi_compound_write.specs.LayoutLaw.{IsName, HaveNames}
 use Rattle.msi_compound_write.proofs.LaidLemmas.{units_within}
 use Rattle.msi_compound_write.proofs.PlacedLemmas.{NamedStreams, stream_at, sector_at, mini_sector_at, entry_at}
-use Rattle.msi_compound_write.proofs.DirectoryLengthLemmas.{length-entry_bytes, length-stream_entries_bytes, length-unused}
+use Rattle.msi_compound_write.proofs.DirectoryLengthLemmas.{length-entry_bytes, length-stream_entries_bytes}
 use Rattle.msi_compound_write.proofs.DirectoryReadLemmas.{all_at, root_at, stream_entry_at}
 use Rattle.msi_compound_write.proofs.PutLemmas.{Puts}
 

@@ -1,4 +1,4 @@
-use Rattle.std.proofs.Common.{◌≡◌, ℕ, ◌+◌, ◌-◌, ◌*◌, ◌<◌, length, map, slice_index, ◌∙◌, sym, ap, arith, refl, rules}
+use Rattle.std.proofs.Common.{◌≡◌, ◌+◌, ◌-◌, ◌*◌, ◌<◌, length, map, slice_index, ◌∙◌, sym, ap, arith, refl, rules}
 use Rattle.std.specs.List.{range_with_len}
 use Rattle.msi_compound_write.specs.Index.{streams_of}
 use Rattle.msi_compound_write.specs.Layout.{large_first, directory_of}

@@ -1,4 +1,4 @@
-use Rattle.std.proofs.Common.{◌≡◌, slice_index, arith}
+use Rattle.std.proofs.Common.{slice_index, arith}
 use Rattle.msi_compound_write.specs.Index.{streams_of}
 use Rattle.msi_compound_write.specs.Layout.{directory_of}
 use Rattle.msi_compound_write.proofs.DirectorySectorLemmas.{entry_put, sector_put}

@@ -1,4 +1,4 @@
-use Rattle.std.proofs.Common.{◌≡◌, ◌+◌, ◌-◌, ◌*◌, ◌++◌, take, replicate}
+use Rattle.std.proofs.Common.{◌≡◌, ◌-◌, ◌*◌, ◌++◌, take, replicate}
 use Rattle.std.specs.List.{flat_map}
 use Rattle.std.specs.Int.{to_le_bytes, w16}
 use Rattle.msi_compound_write.proofs.directory.name_field.Given as goal
