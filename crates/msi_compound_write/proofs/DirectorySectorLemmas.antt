@@ -160,15 +160,14 @@ entry_put f sector entry now m slot l long was is put =
     let there : 512 * m + at ≡ 128 * (4 * m + slot) = omega arith in
     let more : at + 128 ≡ 128 * (slot + 1) = omega arith in
     let all : length now ≡ 512 = ap length put ∙ length-append (take at sector ++ entry) behind ∙ omega (arith, length-drop (at + length entry) sector) in
-    (
-      all,
-      ap (take (128 * (slot + 1))) put
-      ∙ take_at (take at sector ++ entry) behind (128 * (slot + 1)) front
-      ∙ ap (λ bs. bs ++ entry) was
-      ∙ ap (λ bs. map f (range_with_len (512 * m) at) ++ bs) is
-      ∙ piece_more f (512 * m) at 128 (128 * (4 * m + slot)) there
-      ∙ ap (λ n. map f (range_with_len (512 * m) n)) more,
-    )
+    let filled : take (128 * (slot + 1)) now ≡ map f (range_with_len (512 * m) (128 * (slot + 1))) =
+    ap (take (128 * (slot + 1))) put
+    ∙ take_at (take at sector ++ entry) behind (128 * (slot + 1)) front
+    ∙ ap (λ bs. bs ++ entry) was
+    ∙ ap (λ bs. map f (range_with_len (512 * m) at) ++ bs) is
+    ∙ piece_more f (512 * m) at 128 (128 * (4 * m + slot)) there
+    ∙ ap (λ n. map f (range_with_len (512 * m) n)) more in
+    (all, filled)
 
 -- the whole sector
 pub sector_put : (f : ℕ → ℕ) (sector : List ℕ) (m slot : ℕ)
