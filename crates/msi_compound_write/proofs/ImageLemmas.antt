@@ -105,7 +105,7 @@ difat_entry_is taken total k n fat difat first count run next listed =
 -- THE PIECES
 
 -- a piece, and what stands behind it
-piece : (f g : ℕ → ℕ) (m n : ℕ) (bytes : List ℕ) → map f (range_with_len 0 m) ≡ bytes → ((k : ℕ) → f (m + k) ≡ g k)
+pub piece : (f g : ℕ → ℕ) (m n : ℕ) (bytes : List ℕ) → map f (range_with_len 0 m) ≡ bytes → ((k : ℕ) → f (m + k) ≡ g k)
     → map f (range_with_len 0 (m + n)) ≡ bytes ++ map g (range_with_len 0 n)
 piece f g m n bytes is next =
     map_range_append f f g m n (λ k l. refl) (λ k l. next k) ∙ ap (λ bs. bs ++ map g (range_with_len 0 n)) is
@@ -116,7 +116,7 @@ table_bytes : (f entry : ℕ → ℕ) (size n : ℕ) → size ≡ 4 * n → ((k 
 table_bytes f entry size n long same =
     map_range_same f (table_byte entry) size (4 * n) long (λ k l. same k (omega arith)) ∙ sym (bytes_of_numbers entry n)
 
-front_bytes : (parts : List (List ℕ)) (mini_fat : Run) (total : ℕ)
+pub front_bytes : (parts : List (List ℕ)) (mini_fat : Run) (total : ℕ)
     → map (image_byte parts mini_fat total) (range_with_len 0 76) ≡ front (fat_sectors total) mini_fat (difat_run (all_units 512 parts) total)
 front_bytes parts mini_fat total =
     let header = front (fat_sectors total) mini_fat (difat_run (all_units 512 parts) total) in
@@ -124,7 +124,7 @@ front_bytes parts mini_fat total =
     ∙ sym (fill_by_all (λ p. get_or header p 0) header 76 0 refl (λ k l. refl))
 
 -- the header's list of FAT sectors
-list_bytes : (parts : List (List ℕ)) (mini_fat : Run) (total n : ℕ) → 76 + 4 * n ≡ 512
+pub list_bytes : (parts : List (List ℕ)) (mini_fat : Run) (total n : ℕ) → 76 + 4 * n ≡ 512
     → map (λ k. image_byte parts mini_fat total (76 + k)) (range_with_len 0 (4 * n))
     ≡ flat_map (to_le_bytes w32) (map (listed_entry (all_units 512 parts) (fat_sectors total)) (range_with_len 0 n))
 list_bytes parts mini_fat total n size =

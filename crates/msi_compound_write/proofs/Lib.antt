@@ -25,3 +25,9 @@ pub mod ApartLemmas
 pub mod CollectedLemmas
 pub mod PlanWrittenLemmas
 pub mod SpelledPartsLemmas
+pub mod RestLemmas
+pub mod IndexLemmas
+pub mod UnitLemmas
+pub mod TableLemmas
+pub mod HeaderLemmas
+pub mod RegionLemmas

@@ -65,7 +65,7 @@ pub(crate) fn image(
 }
 
 /// The sectors of the FAT, behind those that are taken.
-fn fat_run(taken: usize, total: usize) -> Run
+pub(crate) fn fat_run(taken: usize, total: usize) -> Run
     requires room { taken + spec.fat_sectors total ≤ total }
     requires most { total < 2 ^ 22 }
     ensures first { result.first ≡ taken }
@@ -78,7 +78,7 @@ fn fat_run(taken: usize, total: usize) -> Run
 }
 
 /// The sectors of the DIFAT, behind the FAT.
-fn difat_run(taken: usize, total: usize) -> Run
+pub(crate) fn difat_run(taken: usize, total: usize) -> Run
     requires room { taken + spec.fat_sectors total + spec.difat_sectors total ≤ total }
     requires most { total < 2 ^ 22 }
     ensures { result ≡ spec.difat_run taken total }

@@ -1,6 +1,6 @@
 //! The sectors of the FAT, of the mini FAT and of the DIFAT, and the header (MS-CFB 2.2 to 2.5).
 
-ghost use Rattle.std.specs.Prelude.{◌≡◌, ℕ, List, ◌+◌, ◌*◌, ◌<◌, ◌^◌, ◌++◌, ◌||◌, ◌==◌, if◌then◌else◌, nat_le, length, map};
+ghost use Rattle.std.specs.Prelude.{◌≡◌, ℕ, List, ◌+◌, ◌*◌, ◌<◌, ◌≤◌, ◌^◌, ◌++◌, ◌||◌, ◌==◌, if◌then◌else◌, nat_le, length, map};
 ghost use Rattle.msi_compound.specs.Format.{END_OF_CHAIN};
 ghost use Rattle.std.specs.List.{range_with_len, flat_map};
 ghost use Rattle.std.specs.Int.{to_le_bytes, w32};
@@ -8,12 +8,11 @@ ghost use Rattle.msi_compound_write.specs.Extents as extents;
 ghost use Rattle.msi_compound_write.specs.Image as spec;
 ghost use Rattle.msi_compound_write.specs.Index.{IsIndex, streams_of};
 ghost use Rattle.msi_compound_write.specs.Layout as layout;
-ghost use Rattle.msi_compound_write.specs.Regions.{AreRegions};
+ghost use Rattle.msi_compound_write.specs.Regions.{StandIn};
 
-use crate::extents::chain_entry;
 use crate::index::{Place, from_mini_sector, from_sector};
 use crate::regions::Regions;
-use crate::sectors::{Run, VERSIONS, difat_entry, front_numbers, listed_entry};
+use crate::sectors::{Run, VERSIONS, difat_entry, difat_run, fat_run, front_numbers, listed_entry};
 use crate::totals::{difat_sectors, fat_sectors};
 use byteorder::{ByteOrder, LittleEndian};
 use msi_compound::format::{
@@ -30,12 +29,11 @@ pub(crate) fn fill_fat(
     m: usize,
 )
     requires indexed { IsIndex places.now }
-    requires regions { AreRegions (streams_of places.now) regions }
-    requires few { layout.taken_by (streams_of places.now) < 2 ^ 22 }
+    requires few { regions.fat < 2 ^ 22 }
     requires most { total < 2 ^ 22 }
     requires within { m < 2 ^ 22 }
-    ensures { (clsid : List ℕ) → length clsid ≡ 16
-        → sector.new ≡ map (extents.table_byte (spec.fat_entry (layout.parts_of clsid (streams_of places.now)) total)) (range_with_len (512 * m) 512) }
+    ensures { (parts : List (List ℕ)) → StandIn regions (streams_of places.now) parts
+        → sector.new ≡ map (extents.table_byte (spec.fat_entry parts total)) (range_with_len (512 * m) 512) }
 {
     let mut entries = [0; FAT_ENTRIES];
     for k in 0..FAT_ENTRIES {
@@ -57,14 +55,15 @@ pub(crate) fn fill_mini_fat(sector: &mut [u8; SECTOR_SIZE_3], places: &[Place], 
     LittleEndian::write_u32_into(&entries, sector);
 }
 
-/// Fills sector `m` of the DIFAT.
-pub(crate) fn fill_difat(sector: &mut [u8; SECTOR_SIZE_3], fat: Run, difat: Run, m: usize)
-    requires fat { fat.first + fat.count < 2 ^ 31 }
-    requires difat { difat.first + difat.count < 2 ^ 22 }
-    requires within { m < difat.count }
-    ensures { (taken total : ℕ) → fat.first ≡ taken → fat.count ≡ spec.fat_sectors total → difat ≡ spec.difat_run taken total
-        → sector.new ≡ map (extents.table_byte (spec.difat_entry taken total)) (range_with_len (512 * m) 512) }
+/// Fills sector `m` of the DIFAT of a file of `total` sectors, the FAT of which stands behind those that are `taken`.
+pub(crate) fn fill_difat(sector: &mut [u8; SECTOR_SIZE_3], taken: usize, total: usize, m: usize)
+    requires room { taken + spec.fat_sectors total + spec.difat_sectors total ≤ total }
+    requires most { total < 2 ^ 22 }
+    requires within { m < spec.difat_sectors total }
+    ensures { sector.new ≡ map (extents.table_byte (spec.difat_entry taken total)) (range_with_len (512 * m) 512) }
 {
+    let fat = fat_run(taken, total);
+    let difat = difat_run(taken, total);
     let mut entries = [0; FAT_ENTRIES];
     for k in 0..FAT_ENTRIES {
         entries[k] = difat_entry(fat, difat, (FAT_ENTRIES * m + k) as u32);
@@ -102,12 +101,10 @@ fn fill_list(list: &mut [u8], fat: Run)
 /// free entries behind them.
 fn fat_entry(places: &[Place], regions: Regions, total: usize, n: usize) -> u32
     requires indexed { IsIndex places.now }
-    requires regions { AreRegions (streams_of places.now) regions }
-    requires few { layout.taken_by (streams_of places.now) < 2 ^ 22 }
+    requires few { regions.fat < 2 ^ 22 }
     requires most { total < 2 ^ 22 }
     requires within { n < 2 ^ 31 }
-    ensures { (clsid : List ℕ) → length clsid ≡ 16
-        → result ≡ spec.fat_entry (layout.parts_of clsid (streams_of places.now)) total n }
+    ensures { (parts : List (List ℕ)) → StandIn regions (streams_of places.now) parts → result ≡ spec.fat_entry parts total n }
 {
     let difat = regions.fat + fat_sectors(total);
     if n < regions.large {
