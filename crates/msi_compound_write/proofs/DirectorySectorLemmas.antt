@@ -1,39 +1,21 @@
 -- The entries of a directory by their number, and its sectors, which have four each.
-use Rattle.std.proofs.Common.{◌≡◌, ℕ, zero, suc, ◌+◌, ◌-◌, ◌*◌, ◌^◌, ◌<◌, ◌≤◌, List, [], ◌∷◌, ◌++◌, length, get_or, map, take, drop, replicate, inl, inr, sym, ◌∙◌, ap, arith, refl}
+use Rattle.std.proofs.Common.{◌≡◌, ℕ, zero, suc, ◌+◌, ◌-◌, ◌*◌, ◌^◌, ◌<◌, ◌≤◌, List, [], ◌++◌, length, get_or, map, take, drop, replicate, sym, ◌∙◌, ap, arith, refl}
 use Rattle.std.specs.List.{concat, range_with_len}
-use Rattle.std.proofs.lemmas.Bool.{cases_lt}
-use Rattle.std.proofs.lemmas.List.{ext_get_or, length-append, length-drop, length-map, length-take-le, take_all, take_at, get_or_append_left, get_or-append_right}
+use Rattle.std.proofs.lemmas.List.{ext_get_or, length-append, length-drop, length-map, length-take-le, take_all, take_at, get_or-map, get_or_append_left, get_or-append_right}
 use Rattle.std.proofs.lemmas.List.FromFn.{get_or-map-range_with_len, length-map-range_with_len}
-use Rattle.msi_compound_write.specs.Extents.{units, all_units}
-use Rattle.msi_compound_write.specs.Index.{Placed, placed, streams_of, IsIndex}
-use Rattle.msi_compound_write.specs.Layout.{entry_bytes, unused_entry, mini_part, large_part, mini_parts, large_parts, root_entry, stream_entry, stream_entries_bytes, directory_sectors, large_first, directory_of, taken_by}
+use Rattle.msi_compound_write.specs.Extents.{all_units}
+use Rattle.msi_compound_write.specs.Index.{Placed, streams_of, IsIndex}
+use Rattle.msi_compound_write.specs.Layout.{entry_bytes, unused_entry, large_part, large_parts, root_entry, stream_entry, stream_entries_bytes, directory_sectors, large_first, directory_of, taken_by}
 use Rattle.msi_compound_write.specs.LayoutLaw.{IsName, HaveNames}
+use Rattle.msi_compound_write.proofs.IndexLemmas.{first_at, first_mini_at}
 use Rattle.msi_compound_write.proofs.LaidLemmas.{units_within}
 use Rattle.msi_compound_write.proofs.PlacedLemmas.{NamedStreams, stream_at, sector_at, mini_sector_at, entry_at}
 use Rattle.msi_compound_write.proofs.DirectoryLengthLemmas.{length-entry_bytes, length-stream_entries_bytes}
 use Rattle.msi_compound_write.proofs.DirectoryReadLemmas.{all_at, root_at, stream_entry_at}
 use Rattle.msi_compound_write.proofs.PutLemmas.{Puts}
+use Rattle.msi_compound_write.proofs.RangeLemmas.{range_more}
 
 -- PLACES
-
--- what is placed first where
-placed_at : (next next_mini : ℕ) (streams : NamedStreams) (i : ℕ) (d : Placed) → i < length streams
-    → get_or (placed next next_mini streams) i d
-    ≡ record { stream = stream_at streams i; first = next + all_units 512 (take i (large_parts streams)); first_mini = next_mini + all_units 64 (take i (mini_parts streams)) }
-placed_at next next_mini [] i d l = absurd (omega arith)
-placed_at next next_mini (stream ∷ streams) zero d l =
-    let p : next ≡ next + 0 = omega arith in
-    let q : next_mini ≡ next_mini + 0 = omega arith in
-    λ j. record { stream = stream; first = p j; first_mini = q j }
-placed_at next next_mini (stream ∷ streams) (suc i) d l =
-    let large = units 512 (large_part stream) in
-    let mini = units 64 (mini_part stream) in
-    let before = all_units 512 (take i (large_parts streams)) in
-    let before_mini = all_units 64 (take i (mini_parts streams)) in
-    let p : next + large + before ≡ next + (large + before) = omega arith in
-    let q : next_mini + mini + before_mini ≡ next_mini + (mini + before_mini) = omega arith in
-    placed_at (next + large) (next_mini + mini) streams i d (omega arith)
-    ∙ (λ j. record { stream = stream_at streams i; first = p j; first_mini = q j })
 
 -- there are as many places as streams
 pub length-streams_of : (places : List Placed) → length (streams_of places) ≡ length places
@@ -41,27 +23,30 @@ length-streams_of places = length-map places (λ place. place.stream)
 
 -- place i of an index
 module _ (places : List Placed) (i : ℕ) (place : Placed) (indexed : IsIndex places) (within : i < length places) (is : place ≡ get_or places i place) where
-  -- as the streams before it say
-  abbrev told : Placed
-  told = record { stream = stream_at (streams_of places) i; first = 0 + all_units 512 (take i (large_parts (streams_of places))); first_mini = 0 + all_units 64 (take i (mini_parts (streams_of places))) }
-
+  -- it is among the streams
   pub among : i < length (streams_of places)
   among = omega (arith, length-streams_of places)
 
-  place_told : place ≡ told
-  place_told = is ∙ ap (λ ps. get_or ps i place) indexed ∙ placed_at 0 0 (streams_of places) i place among
+  stream_told : place.stream ≡ stream_at (streams_of places) i
+  stream_told = ap (λ (p : Placed). p.stream) is ∙ sym (get_or-map (λ (p : Placed). p.stream) places i place ([], []) within)
+
+  first_told : place.first ≡ all_units 512 (take i (large_parts (streams_of places)))
+  first_told = ap (λ (p : Placed). p.first) is ∙ first_at places indexed i place within
+
+  first_mini_told : place.first_mini ≡ mini_sector_at (streams_of places) i
+  first_mini_told = ap (λ (p : Placed). p.first_mini) is ∙ first_mini_at places indexed i place within
 
   -- it has a name
   pub name_fits : HaveNames (streams_of places) → length place.stream.0 ≤ 31
   name_fits names =
       let name = all_at (λ stream. IsName stream.0) (streams_of places) i ([], []) names among in
-      omega (arith, ap (λ (p : Placed). length p.stream.0) place_told, name.most)
+      omega (arith, ap (λ (stream : List ℕ × List ℕ). length stream.0) stream_told, name.most)
 
   -- its first sector lies within those that are taken
   pub first_fits : taken_by (streams_of places) < 2 ^ 22 → large_first (streams_of places) + place.first < 2 ^ 32
   first_fits few =
       let inside = units_within 512 (large_parts (streams_of places)) i (omega (arith, length-map (streams_of places) large_part, among)) in
-      omega (arith, ap (λ (p : Placed). p.first) place_told, inside)
+      omega (arith, first_told, inside)
 
   -- its entry in the directory
   pub place_entry : (n k large : ℕ) → n ≡ length places → k ≡ i + 1 → large ≡ large_first (streams_of places)
@@ -69,10 +54,8 @@ module _ (places : List Placed) (i : ℕ) (place : Placed) (indexed : IsIndex pl
   place_entry n k large n_is k_is large_is =
       let streams = streams_of places in
       let p : n ≡ length streams = n_is ∙ sym (length-streams_of places) in
-      let q : large + place.first ≡ sector_at streams i = omega (arith, large_is, ap (λ (p : Placed). p.first) place_told) in
-      let r : place.first_mini ≡ mini_sector_at streams i = omega (arith, ap (λ (p : Placed). p.first_mini) place_told) in
-      let s : place.stream ≡ stream_at streams i = ap (λ (p : Placed). p.stream) place_told in
-      λ j. entry_bytes (stream_entry (p j) (k_is j) (q j) (r j) (s j))
+      let q : large + place.first ≡ sector_at streams i = omega (arith, large_is, first_told) in
+      λ j. entry_bytes (stream_entry (p j) (k_is j) (q j) (first_mini_told j) (stream_told j))
 
 -- PIECES
 
@@ -82,19 +65,6 @@ piece_is f piece a n long same =
     ext_get_or 0 piece (map f (range_with_len a n)) (long ∙ sym (length-map-range_with_len f a n)) (λ o l.
     let inside : o < n = omega arith in
     sym (get_or-map-range_with_len f a n o (a + o) 0 inside refl ∙ same o inside))
-
--- a piece more
-piece_more : (f : ℕ → ℕ) (a m n b : ℕ) → a + m ≡ b → map f (range_with_len a m) ++ map f (range_with_len b n) ≡ map f (range_with_len a (m + n))
-piece_more f a m n b next =
-    let xs = map f (range_with_len a m) in
-    let ys = map f (range_with_len b n) in
-    let few : length xs ≡ m = length-map-range_with_len f a m in
-    let more : length ys ≡ n = length-map-range_with_len f b n in
-    piece_is f (xs ++ ys) a (m + n) (omega (arith, length-append xs ys)) (λ o l. elim (cases_lt o m) [
-      | inl before ↦ sym (get_or_append_left xs ys 0 o (omega arith) ∙ get_or-map-range_with_len f a m o (a + o) 0 before refl)
-      | inr past ↦
-          sym (get_or-append_right xs ys m o 0 few past ∙ get_or-map-range_with_len f b n (o - m) (a + o) 0 (omega arith) (omega arith))
-    ])
 
 -- a byte of pieces of 128 bytes that are the same
 repeated_at : (n : ℕ) (piece : List ℕ) (j o : ℕ) → length piece ≡ 128 → j < n → o < 128 → get_or (concat (replicate n piece)) (128 * j + o) 0 ≡ get_or piece o 0
@@ -157,7 +127,7 @@ entry_put f sector entry now m slot l long was is put =
     let before : length (take at sector) ≡ at = length-take-le at sector (omega arith) in
     let behind = drop (at + length entry) sector in
     let front : length (take at sector ++ entry) ≡ 128 * (slot + 1) = length-append (take at sector) entry ∙ omega arith in
-    let there : 512 * m + at ≡ 128 * (4 * m + slot) = omega arith in
+    let there : 128 * (4 * m + slot) ≡ 512 * m + at = omega arith in
     let more : at + 128 ≡ 128 * (slot + 1) = omega arith in
     let all : length now ≡ 512 = ap length put ∙ length-append (take at sector ++ entry) behind ∙ omega (arith, length-drop (at + length entry) sector) in
     let filled : take (128 * (slot + 1)) now ≡ map f (range_with_len (512 * m) (128 * (slot + 1))) =
@@ -165,7 +135,7 @@ entry_put f sector entry now m slot l long was is put =
     ∙ take_at (take at sector ++ entry) behind (128 * (slot + 1)) front
     ∙ ap (λ bs. bs ++ entry) was
     ∙ ap (λ bs. map f (range_with_len (512 * m) at) ++ bs) is
-    ∙ piece_more f (512 * m) at 128 (128 * (4 * m + slot)) there
+    ∙ sym (range_more f (512 * m) (128 * (4 * m + slot)) at 128 there)
     ∙ ap (λ n. map f (range_with_len (512 * m) n)) more in
     (all, filled)
 

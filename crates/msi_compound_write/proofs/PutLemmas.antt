@@ -1,13 +1,12 @@
 -- Pieces that are written one behind another over zeros.
-use Rattle.std.proofs.Common.{◌≡◌, ℕ, ◌+◌, ◌-◌, ◌*◌, ◌<◌, ◌≤◌, List, [], ◌∷◌, ◌++◌, length, get_or, take, drop, replicate, inl, inr, sym, ◌∙◌, ap, arith, refl}
+use Rattle.std.proofs.Common.{◌≡◌, ℕ, ◌+◌, ◌-◌, ◌*◌, ◌<◌, ◌≤◌, List, [], ◌∷◌, ◌++◌, length, get_or, take, drop, replicate, sym, ◌∙◌, ap, arith, refl}
 use Rattle.std.specs.List.{flat_map}
 use Rattle.std.specs.Int.{to_le_bytes, w16, w32, w64}
-use Rattle.std.proofs.lemmas.Bool.{cases_lt}
-use Rattle.std.proofs.lemmas.List.{append-nil, append_assoc, length-append, length-replicate, length-take-le, take_at, take_more, take_all, drop_at, drop-drop, drop-replicate, flat_map_more, get_or_append_left, get_or-append_right, get_or-replicate, get_or_past}
-use Rattle.std.proofs.lemmas.List.FromFn.{fill_by_all}
+use Rattle.std.proofs.lemmas.List.{append-nil, append_assoc, length-append, length-take-le, take_at, take_more, take_all, drop_at, drop-drop, drop-replicate, flat_map_more}
 use Rattle.msi_compound.specs.Bytes.{bytes_at}
 use Rattle.msi_compound_write.specs.Layout.{Entry, name_field, entry_bytes}
 use Rattle.msi_compound_write.proofs.EntriesLemmas.{length-units}
+use Rattle.msi_compound_write.proofs.UnitLemmas.{filled_up}
 
 -- a piece over the bytes from a position on
 abbrev pub Puts : ℕ → List ℕ → List ℕ → List ℕ → Type 0
@@ -28,21 +27,6 @@ put_behind front piece old now at count rest long room was put =
     let behind : drop (at + n) old ≡ replicate rest 0 =
     sym (drop-drop n at old) ∙ ap (λ bs. drop n (drop at bs)) was ∙ ap (drop n) (drop_at front zeros at long) ∙ drop-replicate n count 0 ∙ ap (λ m. replicate m 0) left in
     put ∙ ap (λ bs. bs ++ piece ++ drop (at + n) old) before ∙ ap (λ bs. front ++ piece ++ bs) behind
-
--- bytes filled up with zeros to n
-pub filled_up : (n : ℕ) (xs : List ℕ) (rest : ℕ) → length xs + rest ≡ n → xs ++ replicate rest 0 ≡ bytes_at xs 0 n
-filled_up n xs rest all =
-    let zeros : List ℕ = replicate rest 0 in
-    let more : length zeros ≡ rest = length-replicate rest 0 in
-    fill_by_all (λ i. get_or xs (0 + i) 0) (xs ++ zeros) n 0 (omega (arith, length-append xs zeros)) (λ i l.
-    let same : i ≡ 0 + i = omega arith in
-    elim (cases_lt i (length xs)) [
-      | inl b ↦ get_or_append_left xs zeros 0 i b ∙ ap (λ j. get_or xs j 0) same
-      | inr b ↦
-          get_or-append_right xs zeros (length xs) i 0 refl b
-          ∙ get_or-replicate rest (i - length xs) 0 0 (omega arith)
-          ∙ sym (get_or_past xs (0 + i) 0 (omega arith))
-    ])
 
 -- one unit more of a name
 pub unit_put : (name unit old now : List ℕ) (i n at : ℕ)
@@ -72,9 +56,12 @@ pub name_put : (name field : List ℕ) (i : ℕ)
     → field ≡ flat_map (to_le_bytes w16) (take i name) ++ replicate (64 - 2 * i) 0
     → field ≡ bytes_at (flat_map (to_le_bytes w16) name) 0 64
 name_put name field i past within few was =
+    let units = flat_map (to_le_bytes w16) name in
+    let long : length units ≡ 2 * i = length-units name ∙ omega arith in
     was
     ∙ ap (λ us. flat_map (to_le_bytes w16) us ++ replicate (64 - 2 * i) 0) (take_all i name past)
-    ∙ filled_up 64 (flat_map (to_le_bytes w16) name) (64 - 2 * i) (omega (arith, length-units name))
+    ∙ ap (λ bs. bs ++ replicate (64 - 2 * i) 0) (sym (take_all (2 * i) units (omega arith)))
+    ∙ filled_up 64 (2 * i) units (omega arith)
 
 -- the nine fields of an entry, with 20 zeros before the last two
 pub fields_put : (f w k l r c i s z b0 b1 b2 b3 b4 b5 b6 b7 b8 b9 : List ℕ)
