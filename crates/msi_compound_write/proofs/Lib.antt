@@ -6,6 +6,7 @@ pub mod ImageLemmas
 pub mod TotalsLemmas
 pub mod MiniFatLemmas
 pub mod EntriesLemmas
+pub mod PutLemmas
 pub mod LayoutHeldLemmas
 pub mod LayoutLemmas
 pub mod LayoutRows
@@ -15,6 +16,7 @@ pub mod DirectoryLengthLemmas
 pub mod EntryReadLemmas
 pub mod DirectoryBoundsLemmas
 pub mod DirectoryReadLemmas
+pub mod DirectorySectorLemmas
 pub mod LaidPartsLemmas
 pub mod MiniReadLemmas
 pub mod StreamsReadLemmas

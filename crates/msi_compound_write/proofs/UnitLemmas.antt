@@ -7,7 +7,7 @@ use Rattle.std.proofs.lemmas.List.FromFn.{fill_by_all}
 use Rattle.msi_compound.specs.Bytes.{bytes_at}
 
 -- bytes cut or filled up
-filled_up : (n c : ℕ) (bytes : List ℕ) → c ≡ min n (length bytes) → take c bytes ++ replicate (n - c) 0 ≡ bytes_at bytes 0 n
+pub filled_up : (n c : ℕ) (bytes : List ℕ) → c ≡ min n (length bytes) → take c bytes ++ replicate (n - c) 0 ≡ bytes_at bytes 0 n
 filled_up n c bytes least =
     let front : List ℕ = take c bytes in
     let zeros : List ℕ = replicate (n - c) 0 in

@@ -36,8 +36,9 @@ pub(crate) fn fill_directory(
     requires names { HaveNames (streams_of places.now) }
     requires counted { mini_sectors ≡ spec.mini_sectors (streams_of places.now) }
     requires few { spec.taken_by (streams_of places.now) < 2 ^ 22 }
-    requires within { m < spec.directory_sectors (length places.now) }
-    ensures { sector.new ≡ map (slice_index (spec.directory_of clsid (streams_of places.now))) (range_with_len (512 * m) 512) }
+    requires within { m < spec.directory_sectors (length (streams_of places.now)) }
+    ensures { sector.new
+        ≡ map (slice_index (spec.directory_of clsid (streams_of places.now))) (range_with_len (512 * m) 512) }
 {
     for slot in 0..ENTRIES {
         let entry = entry(clsid, places, mini_sectors, ENTRIES * m + slot);
@@ -45,14 +46,15 @@ pub(crate) fn fill_directory(
     }
 }
 
-/// Entry `k` of the directory.
+/// Entry `k` of the directory: the root, the streams in order, and entries that aren't in use.
 fn entry(clsid: [u8; 16], places: &[Place], mini_sectors: usize, k: usize) -> [u8; ENTRY_SIZE]
     requires indexed { IsIndex places.now }
     requires names { HaveNames (streams_of places.now) }
     requires counted { mini_sectors ≡ spec.mini_sectors (streams_of places.now) }
     requires few { spec.taken_by (streams_of places.now) < 2 ^ 22 }
-    requires within { k < 4 * spec.directory_sectors (length places.now) }
-    ensures { result ≡ map (slice_index (spec.directory_of clsid (streams_of places.now))) (range_with_len (128 * k) 128) }
+    requires within { k < 4 * spec.directory_sectors (length (streams_of places.now)) }
+    ensures { result
+        ≡ map (slice_index (spec.directory_of clsid (streams_of places.now))) (range_with_len (128 * k) 128) }
 {
     let count = places.len();
     let mini_stream = directory_sectors(count) + mini_fat_sectors(mini_sectors);
@@ -98,18 +100,20 @@ fn stream_entry(place: &Place, k: u32, count: u32, large: u32) -> [u8; ENTRY_SIZ
     requires most { k ≤ count }
     requires fits { large + place.now.first < 2 ^ 32 }
     requires name { length place.now.stream.0 ≤ 31 }
-    ensures { result ≡ spec.entry_bytes (spec.stream_entry count k (large + place.now.first) place.now.first_mini place.now.stream) }
+    ensures { result
+        ≡ spec.entry_bytes (spec.stream_entry count k (large + place.now.first) place.now.first_mini place.now.stream) }
 {
     let (left, right) = links(count, k);
+    let size = place.bytes().len();
     entry_bytes(&Entry {
-        name: place.name,
+        name: place.name(),
         kind: STREAM,
         left,
         right,
         child: NO_ENTRY,
         clsid: NO_CLSID,
-        start: stream_start(place.bytes.len(), large + place.first, place.first_mini),
-        size: place.bytes.len() as u64,
+        start: stream_start(size, large + place.first(), place.first_mini()),
+        size: size as u64,
     })
 }
 

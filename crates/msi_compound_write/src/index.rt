@@ -17,10 +17,10 @@ use std::marker::Model;
 /// A stream, with how many sectors the large streams before it take, and how many mini sectors the small ones.
 #[derive(Drop)]
 pub(crate) struct Place<'a> {
-    pub(crate) name: &'a [u16],
-    pub(crate) bytes: &'a [u8],
-    pub(crate) first: u32,
-    pub(crate) first_mini: u32,
+    name: &'a [u16],
+    bytes: &'a [u8],
+    first: u32,
+    first_mini: u32,
 }
 
 impl<'a> Model for Place<'a> {
