@@ -53,21 +53,6 @@ five_pieces sector a b c d e p q r s j k m n p_is q_is r_is s_is long j_is k_is 
     sym (take_all (s + length e) five (omega arith))
     ∙ piece_put (a ++ b ++ c ++ d) four e s n (s + length e) fourth (omega (arith, length-append a b, length-append (a ++ b) c, length-append (a ++ b ++ c) d)) refl
 
--- BYTES
-
--- the header by position
-pub header_is : (parts : List (List ℕ)) (mini_fat : Run) (total n : ℕ) (now : List ℕ)
-    → 76 + 4 * n ≡ 512
-    → now ≡ front (fat_sectors total) mini_fat (difat_run (all_units 512 parts) total)
-    ++ flat_map (to_le_bytes w32) (map (listed_entry (all_units 512 parts) (fat_sectors total)) (range_with_len 0 n))
-    → now ≡ map (image_byte parts mini_fat total) (range_with_len 0 512)
-header_is parts mini_fat total n now size is =
-    let header = front (fat_sectors total) mini_fat (difat_run (all_units 512 parts) total) in
-    is
-    ∙ ap (λ bs. header ++ bs) (sym (list_bytes parts mini_fat total n size))
-    ∙ sym (piece (image_byte parts mini_fat total) (λ k. image_byte parts mini_fat total (76 + k)) 76 (4 * n) header (front_bytes parts mini_fat total) (λ k. refl))
-    ∙ ap (λ (m : ℕ). map (image_byte parts mini_fat total) (range_with_len 0 m)) size
-
 -- pieces that are the same
 pub same_pieces : (a b c d e v w x y z : List ℕ) → a ≡ v → b ≡ w → c ≡ x → d ≡ y → e ≡ z → a ++ b ++ c ++ d ++ e ≡ v ++ w ++ x ++ y ++ z
 same_pieces a b c d e v w x y z p q r s t = rw (p, q, r, s, t) refl

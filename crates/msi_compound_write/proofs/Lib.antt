@@ -1,10 +1,8 @@
 -- The lemmas of this crate.
 pub mod BalanceLemmas
 pub mod RangeLemmas
-pub mod ExtentsLemmas
 pub mod ImageLemmas
 pub mod TotalsLemmas
-pub mod MiniFatLemmas
 pub mod EntriesLemmas
 pub mod PutLemmas
 pub mod LayoutHeldLemmas

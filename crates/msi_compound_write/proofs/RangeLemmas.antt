@@ -43,21 +43,6 @@ numbers_more e n =
     ap (flat_map (to_le_bytes w32)) (map-range_with_len_more e 0 n n (omega arith))
     ∙ flat_map-append (to_le_bytes w32) (map e (range_with_len 0 n)) (e n ∷ [])
 
--- the same behind a list, after a push
-pub numbers_pushed : (start before now bytes : List ℕ) (e : ℕ → ℕ) (n x : ℕ)
-    → before ≡ start ++ flat_map (to_le_bytes w32) (map e (range_with_len 0 n))
-    → x ≡ e n
-    → bytes ≡ to_le_bytes w32 x
-    → now ≡ before ++ bytes
-    → now ≡ start ++ flat_map (to_le_bytes w32) (map e (range_with_len 0 (n + 1)))
-numbers_pushed start before now bytes e n x was is spelled pushed =
-    let whole = flat_map (to_le_bytes w32) (map e (range_with_len 0 n)) in
-    pushed
-    ∙ ap (λ bs. before ++ bs) spelled
-    ∙ ap (λ bs. bs ++ to_le_bytes w32 x) was
-    ∙ append_assoc start whole (to_le_bytes w32 x)
-    ∙ ap (λ bs. start ++ bs) (ap (λ y. whole ++ to_le_bytes w32 y) is ∙ sym (numbers_more e n))
-
 -- the bytes of numbers in a row, by position
 pub bytes_of_numbers : (e : ℕ → ℕ) (n : ℕ)
     → flat_map (to_le_bytes w32) (map e (range_with_len 0 n)) ≡ map (table_byte e) (range_with_len 0 (4 * n))

@@ -7,11 +7,6 @@ use Rattle.msi_device.specs.Held.{Held, with_piece, StandsInPart}
 use Rattle.msi_device.proofs.HeldLemmas.{pieces_join, part_behind, part_in_front}
 use Rattle.msi_compound_write.proofs.SectorLemmas.{ranges_join}
 
--- nothing is put there before the first sector
-pub nothing_written : (held : Option Held) → held ≡ option_map (with_piece []) held
-nothing_written None = refl
-nothing_written (Some h) = ap (λ b. Some (record h { before = b })) (sym (append-nil h.before))
-
 -- n sectors, and one more behind them
 one_more : (f : ℕ → ℕ) (n : ℕ) (sector : List ℕ) → sector ≡ map f (range_with_len (512 * n) 512)
     → map f (range_with_len 0 (512 * n)) ++ sector ≡ map f (range_with_len 0 (512 * (n + 1)))

@@ -9,16 +9,20 @@ ghost use Rattle.msi_compound_write.specs.Layout as spec;
 ghost use Rattle.msi_compound_write.specs.LayoutLaw.{HaveNames};
 
 use crate::balance::{links, middle};
-use crate::entries::{
-    Entry, NO_CLSID, ROOT_NAME, directory_sectors, mini_fat_sectors, mini_stream_sectors,
-    stream_start,
-};
+use crate::entries::{Entry, entry_bytes, put, unused_entry};
 use crate::extents::start_of;
 use crate::index::Place;
+use crate::totals::{directory_sectors, mini_fat_sectors, mini_stream_sectors};
 use msi_compound::format::{
-    BLACK, CHILD_AT, CLSID_AT, ENTRY_SIZE, KIND_AT, LEFT_AT, MINI_SECTOR_SIZE, NAME_SIZE_AT,
-    NO_ENTRY, RIGHT_AT, ROOT, SECTOR_SIZE_3, SIZE_AT, START_AT, STREAM,
+    END_OF_CHAIN, ENTRY_SIZE, MINI_SECTOR_SIZE, MINI_STREAM_CUTOFF, NO_ENTRY, ROOT, SECTOR_SIZE_3,
+    STREAM,
 };
+
+/// `Root Entry` in UTF-16.
+const ROOT_NAME: [u16; 10] = [82, 111, 111, 116, 32, 69, 110, 116, 114, 121];
+
+/// The CLSID of a stream.
+const NO_CLSID: [u8; 16] = [0; 16];
 
 /// How many entries a sector has.
 const ENTRIES: usize = SECTOR_SIZE_3 / ENTRY_SIZE;
@@ -117,50 +121,15 @@ fn stream_entry(place: &Place, k: u32, count: u32, large: u32) -> [u8; ENTRY_SIZ
     })
 }
 
-/// The bytes of an entry that is in use. Its state bits and times are zero.
-fn entry_bytes(entry: &Entry) -> [u8; ENTRY_SIZE]
-    requires { length entry.now.name ≤ 31 }
-    ensures { result ≡ spec.entry_bytes entry.now }
+/// Where a stream of `size` bytes starts: at the next sector or the next mini sector, unless it is empty.
+fn stream_start(size: usize, next: u32, next_mini: u32) -> u32
+    ensures { result ≡ spec.stream_start next next_mini size }
 {
-    let name_size = 2 * (entry.name.len() as u16 + 1);
-    let mut bytes = [0; ENTRY_SIZE];
-    put(&mut bytes, 0, &name_field(entry.name));
-    put(&mut bytes, NAME_SIZE_AT, &name_size.to_le_bytes());
-    put(&mut bytes, KIND_AT, &[entry.kind, BLACK]);
-    put(&mut bytes, LEFT_AT, &entry.left.to_le_bytes());
-    put(&mut bytes, RIGHT_AT, &entry.right.to_le_bytes());
-    put(&mut bytes, CHILD_AT, &entry.child.to_le_bytes());
-    put(&mut bytes, CLSID_AT, &entry.clsid);
-    put(&mut bytes, START_AT, &entry.start.to_le_bytes());
-    put(&mut bytes, SIZE_AT, &entry.size.to_le_bytes());
-    bytes
-}
-
-/// A name, and zeros behind it.
-fn name_field(name: &[u16]) -> [u8; NAME_SIZE_AT]
-    requires { length name.now ≤ 31 }
-    ensures { result ≡ spec.name_field name.now }
-{
-    let mut field = [0; NAME_SIZE_AT];
-    for (i, unit) in name.iter().enumerate() {
-        put(&mut field, 2 * i, &unit.to_le_bytes());
+    if size == 0 {
+        END_OF_CHAIN
+    } else if size < MINI_STREAM_CUTOFF as usize {
+        next_mini
+    } else {
+        next
     }
-    field
-}
-
-/// An entry that isn't in use: it has no links, and is zero elsewhere.
-fn unused_entry() -> [u8; ENTRY_SIZE]
-    ensures { result ≡ spec.unused_entry }
-{
-    let mut bytes = [0; ENTRY_SIZE];
-    put(&mut bytes, LEFT_AT, &[0xFF; CLSID_AT - LEFT_AT]);
-    bytes
-}
-
-/// Writes a piece over the bytes from a position on.
-fn put(bytes: &mut [u8], at: usize, piece: &[u8])
-    requires { at + length piece.now ≤ length bytes.old }
-    ensures { bytes.new ≡ take at bytes.old ++ piece.now ++ drop (at + length piece.now) bytes.old }
-{
-    bytes[at..at + piece.len()].copy_from_slice(piece);
 }

@@ -7,8 +7,7 @@ ghost use Rattle.msi_compound_write.specs.Index.{IsIndex, placed, rest_from, str
 ghost use Rattle.msi_compound_write.specs.Layout as spec;
 ghost use Rattle.msi_compound_write.specs.LayoutLaw.{HaveNames};
 
-use crate::entries::{large_part, mini_part};
-use crate::extents::units;
+use crate::extents::{large_part, mini_part, units};
 use msi_compound::contents::StreamMap;
 use msi_compound::format::{MINI_SECTOR_SIZE, SECTOR_SIZE_3};
 use std::alloc::{AllocError, Global};

@@ -12,10 +12,8 @@ ghost use Rattle.msi_compound_write.specs.Sectors.{IsLaidOut, file_sector};
 
 use crate::content::{fill_large, fill_mini_stream};
 use crate::directory::fill_directory;
-use crate::entries::{directory_sectors, mini_fat_sectors};
 use crate::index::Place;
-use crate::regions::regions_of;
-use crate::sectors::{Run, difat_run, fat_run};
+use crate::regions::{difat_run, fat_run, mini_fat_run, regions_of};
 use crate::tables::{fill_difat, fill_fat, fill_header, fill_mini_fat};
 use crate::totals::{difat_sectors, fat_sectors};
 use msi_compound::format::SECTOR_SIZE_3;
@@ -38,11 +36,7 @@ pub(crate) struct Layout<'a> {
 }
 
 /// Streams below a root, which take so much.
-pub(crate) fn layout_of<'a>(
-    clsid: [u8; 16],
-    places: &'a [Place<'a>],
-    extent: Extent,
-) -> Layout<'a>
+pub(crate) fn layout_of<'a>(clsid: [u8; 16], places: &'a [Place<'a>], extent: Extent) -> Layout<'a>
     requires indexed { IsIndex places.now }
     requires names { HaveNames (streams_of places.now) }
     requires mini_sectors { extent.mini_sectors ≡ spec.mini_sectors (streams_of places.now) }
@@ -80,18 +74,6 @@ pub(crate) fn fill(sector: &mut [u8; SECTOR_SIZE_3], layout: &Layout, n: usize)
     }
 }
 
-/// The sectors of the mini FAT, behind the directory.
-fn mini_fat_run(places: &[Place], mini_sectors: usize) -> Run
-    requires counted { mini_sectors ≡ spec.mini_sectors (streams_of places.now) }
-    requires few { spec.taken_by (streams_of places.now) < 2 ^ 22 }
-    ensures { result ≡ spec.mini_fat_run (streams_of places.now) }
-{
-    Run {
-        first: directory_sectors(places.len()) as u32,
-        count: mini_fat_sectors(mini_sectors) as u32,
-    }
-}
-
 /// Fills sector `m` of the directory, the mini FAT, the mini stream and the large streams.
 fn fill_part(sector: &mut [u8; SECTOR_SIZE_3], layout: &Layout, m: usize)
     requires laid_out { IsLaidOut layout.now.clsid layout.now.places.now layout.now.extent.mini_sectors layout.now.extent.taken layout.now.extent.total }
@@ -118,14 +100,12 @@ fn fill_behind(sector: &mut [u8; SECTOR_SIZE_3], layout: &Layout, m: usize)
     ensures { sector.new ≡ file_sector layout.now.clsid (streams_of layout.now.places.now) layout.now.extent.total (layout.now.extent.taken + 1 + m) }
 {
     let extent = layout.extent;
-    let fat = fat_run(extent.taken, extent.total);
-    let difat = difat_run(extent.taken, extent.total);
     let count = fat_sectors(extent.total);
     if m < count {
         let regions = regions_of(layout.places, extent.mini_sectors, extent.taken);
         fill_fat(sector, layout.places, regions, extent.total, m);
     } else if m < count + difat_sectors(extent.total) {
-        fill_difat(sector, fat, difat, m - count);
+        fill_difat(sector, extent.taken, extent.total, m - count);
     } else {
         *sector = [0; SECTOR_SIZE_3];
     }

@@ -10,15 +10,19 @@ ghost use Rattle.msi_compound_write.specs.Index.{IsIndex, streams_of};
 ghost use Rattle.msi_compound_write.specs.Layout as layout;
 ghost use Rattle.msi_compound_write.specs.Regions.{StandIn};
 
+use crate::extents::{chain_entry, start_of};
 use crate::index::{Place, from_mini_sector, from_sector};
-use crate::regions::Regions;
-use crate::sectors::{Run, VERSIONS, difat_entry, difat_run, fat_run, front_numbers, listed_entry};
+use crate::regions::{Regions, Run, difat_run, fat_run};
 use crate::totals::{difat_sectors, fat_sectors};
 use byteorder::{ByteOrder, LittleEndian};
 use msi_compound::format::{
     DIFAT_SECTOR, END_OF_CHAIN, FAT_ENTRIES, FAT_SECTOR, FREE_SECTOR, HEADER_FAT_SECTORS,
     MINI_SECTOR_SIZE, SECTOR_SIZE_3, SIGNATURE,
 };
+
+/// The header's fields from the minor version on: versions 62 and 3, the byte order, sectors of 512 bytes, mini sectors
+/// of 64, and six bytes that are reserved.
+const VERSIONS: [u8; 16] = [0x3E, 0, 3, 0, 0xFE, 0xFF, 9, 0, 6, 0, 0, 0, 0, 0, 0, 0];
 
 /// Fills sector `m` of the FAT of a file of `total` sectors.
 pub(crate) fn fill_fat(
@@ -84,6 +88,24 @@ pub(crate) fn fill_header(sector: &mut [u8; SECTOR_SIZE_3], mini_fat: Run, fat: 
     fill_list(&mut sector[76..], fat);
 }
 
+/// The header's numbers of 32 bits: no directory sector count, the number of FAT sectors, the directory in sector 0, no
+/// transaction, the least size of a stream outside the mini stream, the mini FAT, and the DIFAT.
+fn front_numbers(fat: Run, mini_fat: Run, difat: Run) -> [u32; 9]
+    ensures { result ≡ spec.front_numbers fat.count mini_fat difat }
+{
+    [
+        0,
+        fat.count,
+        0,
+        0,
+        MINI_STREAM_CUTOFF,
+        start_of(mini_fat.first, mini_fat.count),
+        mini_fat.count,
+        start_of(difat.first, difat.count),
+        difat.count,
+    ]
+}
+
 /// Fills a list of FAT sectors.
 fn fill_list(list: &mut [u8], fat: Run)
     requires long { length list.old ≡ 436 }
@@ -95,6 +117,39 @@ fn fill_list(list: &mut [u8], fat: Run)
         entries[k as usize] = listed_entry(fat, k);
     }
     LittleEndian::write_u32_into(&entries, list);
+}
+
+/// Entry `k` of the list of FAT sectors.
+fn listed_entry(fat: Run, k: u32) -> u32
+    requires { fat.first + fat.count < 2 ^ 31 }
+    ensures { result ≡ spec.listed_entry fat.first fat.count k }
+{
+    if k < fat.count {
+        fat.first + k
+    } else {
+        FREE_SECTOR
+    }
+}
+
+/// Entry `k` of the DIFAT: each of its sectors has entries of the list of FAT sectors, from where the header's part ends,
+/// and then the number of its next sector.
+fn difat_entry(fat: Run, difat: Run, k: u32) -> u32
+    requires fat { fat.first + fat.count < 2 ^ 31 }
+    requires difat { difat.first + difat.count < 2 ^ 22 }
+    requires within { k < 128 * difat.count }
+    ensures next { k % 128 ≡ 127 → result ≡ extents.chain_entry difat.first difat.count (k / 128) }
+    ensures listed { k % 128 < 127 → result ≡ spec.listed_entry fat.first fat.count (109 + 127 * (k / 128) + k % 128) }
+{
+    let sector = k / FAT_ENTRIES as u32;
+    let place = k % FAT_ENTRIES as u32;
+    if place == DIFAT_ENTRIES as u32 {
+        chain_entry(difat.first, difat.count, sector)
+    } else {
+        listed_entry(
+            fat,
+            HEADER_FAT_SECTORS + DIFAT_ENTRIES as u32 * sector + place,
+        )
+    }
 }
 
 /// Entry `n` of the FAT: the chain of the part that has sector `n`, marks for the sectors of the FAT and of the DIFAT, and

@@ -11,14 +11,13 @@ ghost use Rattle.msi_compound_write.specs.Index.{streams_of};
 ghost use Rattle.msi_compound_write.specs.Layout as spec;
 ghost use Rattle.msi_compound_write.specs.Sectors.{IsLaidOut, file};
 
-use crate::entries::{
-    directory_sectors, large_part, mini_fat_sectors, mini_part, mini_stream_sectors,
-};
-use crate::extents::units;
+use crate::extents::{large_part, mini_part, units};
 use crate::index::index;
 use crate::layout::{Extent, Layout, fill, layout_of};
 use crate::reasons;
-use crate::totals::{MAX_SECTORS, least_total};
+use crate::totals::{
+    MAX_SECTORS, directory_sectors, least_total, mini_fat_sectors, mini_stream_sectors,
+};
 use msi_compound::contents::{Contents, StreamMap};
 use msi_compound::format::{MINI_SECTOR_SIZE, SECTOR_SIZE_3};
 use msi_device::Device;

@@ -11,10 +11,10 @@ loop-k-preserved c =
     record {
       long = length-set c.loop-k.entries c.loop-k.k c.difat_entry.result ∙ c.loop-k.invariant.long;
       filled = entry_more (λ j. difat_entry c.args.taken c.args.total (128 * c.args.m + j)) c.loop-k.entries c.loop-k.k c.difat_entry.result within
-      (difat_entry_is c.args.taken c.args.total (128 * c.args.m + c.loop-k.k) c.difat_entry.result c.fat_run-fat.result c.difat_run-difat.result
-      c.fat_run-fat.ensures.first c.fat_run-fat.ensures.count c.difat_run-difat.ensures
-      c.difat_entry.ensures.next c.difat_entry.ensures.listed)
-      c.loop-k.invariant.filled;
+          (difat_entry_is c.args.taken c.args.total (128 * c.args.m + c.loop-k.k) c.difat_entry.result c.fat_run-fat.result c.difat_run-difat.result
+          c.fat_run-fat.ensures.first c.fat_run-fat.ensures.count c.difat_run-difat.ensures
+          c.difat_entry.ensures.next c.difat_entry.ensures.listed)
+          c.loop-k.invariant.filled;
     }
 
 pub returns : goal.returns

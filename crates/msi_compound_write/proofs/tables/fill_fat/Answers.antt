@@ -10,8 +10,8 @@ loop-k-preserved c =
     record {
       long = length-set c.loop-k.entries c.loop-k.k c.fat_entry.result ∙ c.loop-k.invariant.long;
       filled = λ parts stand.
-      entry_more (λ j. fat_entry parts c.args.total (128 * c.args.m + j)) c.loop-k.entries c.loop-k.k c.fat_entry.result within
-      (c.fat_entry.ensures parts stand) (c.loop-k.invariant.filled parts stand);
+          entry_more (λ j. fat_entry parts c.args.total (128 * c.args.m + j)) c.loop-k.entries c.loop-k.k c.fat_entry.result within
+          (c.fat_entry.ensures parts stand) (c.loop-k.invariant.filled parts stand);
     }
 
 pub returns : goal.returns

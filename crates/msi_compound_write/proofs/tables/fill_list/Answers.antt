@@ -13,7 +13,7 @@ loop-k-preserved c =
     record {
       long = length-set c.loop-k.entries c.loop-k.k c.listed_entry.result ∙ c.loop-k.invariant.long;
       filled = entry_more (listed_entry c.args.fat.first c.args.fat.count) c.loop-k.entries c.loop-k.k c.listed_entry.result within
-      c.listed_entry.ensures c.loop-k.invariant.filled;
+          c.listed_entry.ensures c.loop-k.invariant.filled;
     }
 
 pub returns : goal.returns

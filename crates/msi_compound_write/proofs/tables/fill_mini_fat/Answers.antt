@@ -11,7 +11,7 @@ loop-k-preserved c =
     record {
       long = length-set c.loop-k.entries c.loop-k.k c.mini_fat_entry.result ∙ c.loop-k.invariant.long;
       filled = entry_more (λ j. mini_fat_entry (mini_parts (streams_of c.args.places.now)) (128 * c.args.m + j)) c.loop-k.entries c.loop-k.k c.mini_fat_entry.result within
-      c.mini_fat_entry.ensures c.loop-k.invariant.filled;
+          c.mini_fat_entry.ensures c.loop-k.invariant.filled;
     }
 
 pub returns : goal.returns

@@ -1,6 +1,6 @@
 use Rattle.std.proofs.Common.{◌*◌, arith, refl}
 use Rattle.msi_compound_write.proofs.PutLemmas.{unit_put, name_put}
-use Rattle.msi_compound_write.proofs.directory.name_field.Goals as goal
+use Rattle.msi_compound_write.proofs.entries.name_field.Goals as goal
 
 pub loop-i-preserved : goal.loop-i-preserved
 loop-i-preserved c =

@@ -1,7 +1,7 @@
 use Rattle.std.proofs.Common.{◌∙◌, ap, refl, rules}
 use Rattle.msi_compound_write.specs.Layout.{Entry, entry_bytes}
 use Rattle.msi_compound_write.proofs.PutLemmas.{entry_put}
-use Rattle.msi_compound_write.proofs.directory.entry_bytes.Goals as goal
+use Rattle.msi_compound_write.proofs.entries.entry_bytes.Goals as goal
 
 pub returns : goal.returns
 returns c =
