@@ -21,8 +21,12 @@ pub put_long : (now ys : List ℕ) (at count : ℕ) → count ≡ length ys → 
 put_long now ys at count count_is within =
     same_len_mid at count now ys (sym (length-take-le count (drop at now) (omega (arith, length-drop at now)) ∙ count_is))
 
+-- pieces that are the same
+same_pieces : (a b c d e v w x y z : List ℕ) → a ≡ v → b ≡ w → c ≡ x → d ≡ y → e ≡ z → a ++ b ++ c ++ d ++ e ≡ v ++ w ++ x ++ y ++ z
+same_pieces a b c d e v w x y z p q r s t = rw (p, q, r, s, t) refl
+
 -- five pieces that fill a sector
-pub five_pieces : (sector a b c d e : List ℕ) (p q r s j k m n : ℕ)
+five_pieces : (sector a b c d e : List ℕ) (p q r s j k m n : ℕ)
     → p ≡ length a
     → q ≡ p + length b
     → r ≡ q + length c
@@ -53,6 +57,26 @@ five_pieces sector a b c d e p q r s j k m n p_is q_is r_is s_is long j_is k_is 
     sym (take_all (s + length e) five (omega arith))
     ∙ piece_put (a ++ b ++ c ++ d) four e s n (s + length e) fourth (omega (arith, length-append a b, length-append (a ++ b) c, length-append (a ++ b ++ c) d)) refl
 
+-- the same by what each piece is
+pub five_written : (sector a b c d e v w x y z : List ℕ) (p q r s j k m n : ℕ)
+    → a ≡ v
+    → b ≡ w
+    → c ≡ x
+    → d ≡ y
+    → e ≡ z
+    → p ≡ length a
+    → q ≡ p + length b
+    → r ≡ q + length c
+    → s ≡ r + length d
+    → length sector ≡ s + length e
+    → j ≡ length b
+    → k ≡ length c
+    → m ≡ length d
+    → (length (put_mid r m (put_mid q k (put_mid p j (a ++ drop p sector) b) c) d) ≡ length sector → n ≡ length e)
+    → put_mid s n (put_mid r m (put_mid q k (put_mid p j (a ++ drop p sector) b) c) d) e ≡ v ++ w ++ x ++ y ++ z
+five_written sector a b c d e v w x y z p q r s j k m n a_is b_is c_is d_is e_is p_is q_is r_is s_is long j_is k_is m_is n_is =
+    five_pieces sector a b c d e p q r s j k m n p_is q_is r_is s_is long j_is k_is m_is n_is ∙ same_pieces a b c d e v w x y z a_is b_is c_is d_is e_is
+
 -- BYTES
 
 -- the header by position
@@ -67,7 +91,3 @@ header_is parts mini_fat total n now size is =
     ∙ ap (λ bs. header ++ bs) (sym (list_bytes parts mini_fat total n size))
     ∙ sym (piece (image_byte parts mini_fat total) (λ k. image_byte parts mini_fat total (76 + k)) 76 (4 * n) header (front_bytes parts mini_fat total) (λ k. refl))
     ∙ ap (λ (m : ℕ). map (image_byte parts mini_fat total) (range_with_len 0 m)) size
-
--- pieces that are the same
-pub same_pieces : (a b c d e v w x y z : List ℕ) → a ≡ v → b ≡ w → c ≡ x → d ≡ y → e ≡ z → a ++ b ++ c ++ d ++ e ≡ v ++ w ++ x ++ y ++ z
-same_pieces a b c d e v w x y z p q r s t = rw (p, q, r, s, t) refl
