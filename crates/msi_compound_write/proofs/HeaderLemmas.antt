@@ -1,13 +1,8 @@
 -- The header as it is written, piece by piece.
 use Rattle.std.proofs.Common.{◌≡◌, ℕ, ◌+◌, ◌*◌, ◌≤◌, List, ◌++◌, length, take, drop, map, sym, ◌∙◌, ap, arith, refl}
 use borrow.Rule.Slice.PartMut.{mid_of, put_mid, same_len_mid}
-use Rattle.std.specs.List.{range_with_len, flat_map}
-use Rattle.std.specs.Int.{to_le_bytes, w32}
 use Rattle.std.proofs.lemmas.List.{length-append, length-take, length-take-le, length-drop, take_at, take_all}
 use Rattle.std.proofs.lemmas.Slice.{take-put_mid}
-use Rattle.msi_compound_write.specs.Extents.{all_units}
-use Rattle.msi_compound_write.specs.Image.{Run, fat_sectors, listed_entry, difat_run, front, image_byte}
-use Rattle.msi_compound_write.proofs.ImageLemmas.{piece, front_bytes, list_bytes}
 
 -- PIECES
 
@@ -21,8 +16,12 @@ pub put_long : (now ys : List ℕ) (at count : ℕ) → count ≡ length ys → 
 put_long now ys at count count_is within =
     same_len_mid at count now ys (sym (length-take-le count (drop at now) (omega (arith, length-drop at now)) ∙ count_is))
 
+-- pieces that are the same
+same_pieces : (a b c d e v w x y z : List ℕ) → a ≡ v → b ≡ w → c ≡ x → d ≡ y → e ≡ z → a ++ b ++ c ++ d ++ e ≡ v ++ w ++ x ++ y ++ z
+same_pieces a b c d e v w x y z p q r s t = rw (p, q, r, s, t) refl
+
 -- five pieces that fill a sector
-pub five_pieces : (sector a b c d e : List ℕ) (p q r s j k m n : ℕ)
+five_pieces : (sector a b c d e : List ℕ) (p q r s j k m n : ℕ)
     → p ≡ length a
     → q ≡ p + length b
     → r ≡ q + length c
@@ -53,6 +52,22 @@ five_pieces sector a b c d e p q r s j k m n p_is q_is r_is s_is long j_is k_is 
     sym (take_all (s + length e) five (omega arith))
     ∙ piece_put (a ++ b ++ c ++ d) four e s n (s + length e) fourth (omega (arith, length-append a b, length-append (a ++ b) c, length-append (a ++ b ++ c) d)) refl
 
--- pieces that are the same
-pub same_pieces : (a b c d e v w x y z : List ℕ) → a ≡ v → b ≡ w → c ≡ x → d ≡ y → e ≡ z → a ++ b ++ c ++ d ++ e ≡ v ++ w ++ x ++ y ++ z
-same_pieces a b c d e v w x y z p q r s t = rw (p, q, r, s, t) refl
+-- the same by what each piece is
+pub five_written : (sector a b c d e v w x y z : List ℕ) (p q r s j k m n : ℕ)
+    → a ≡ v
+    → b ≡ w
+    → c ≡ x
+    → d ≡ y
+    → e ≡ z
+    → p ≡ length a
+    → q ≡ p + length b
+    → r ≡ q + length c
+    → s ≡ r + length d
+    → length sector ≡ s + length e
+    → j ≡ length b
+    → k ≡ length c
+    → m ≡ length d
+    → (length (put_mid r m (put_mid q k (put_mid p j (a ++ drop p sector) b) c) d) ≡ length sector → n ≡ length e)
+    → put_mid s n (put_mid r m (put_mid q k (put_mid p j (a ++ drop p sector) b) c) d) e ≡ v ++ w ++ x ++ y ++ z
+five_written sector a b c d e v w x y z p q r s j k m n a_is b_is c_is d_is e_is p_is q_is r_is s_is long j_is k_is m_is n_is =
+    five_pieces sector a b c d e p q r s j k m n p_is q_is r_is s_is long j_is k_is m_is n_is ∙ same_pieces a b c d e v w x y z a_is b_is c_is d_is e_is
