@@ -5,6 +5,19 @@ use Rattle.msi_compound_write.specs.Extents.{units, all_units}
 use Rattle.msi_compound_write.specs.Index.{Placed, placed, streams_of, IsIndex, rest_from}
 use Rattle.msi_compound_write.specs.Layout.{mini_part, large_part, mini_parts, large_parts}
 
+-- the streams of places
+streams_placed : (first first_mini : ℕ) (streams : List (List ℕ × List ℕ)) → streams_of (placed first first_mini streams) ≡ streams
+streams_placed first first_mini [] = refl
+streams_placed first first_mini (stream ∷ streams) =
+    ap (λ ss. stream ∷ ss) (streams_placed (first + units 512 (large_part stream)) (first_mini + units 64 (mini_part stream)) streams)
+
+-- the streams of an index
+pub streams_indexed : (places : List Placed) (streams : List (List ℕ × List ℕ)) → places ≡ placed 0 0 streams → streams_of places ≡ streams
+streams_indexed places streams is = ap streams_of is ∙ streams_placed 0 0 streams
+
+pub is_index : (places : List Placed) (streams : List (List ℕ × List ℕ)) → places ≡ placed 0 0 streams → IsIndex places
+is_index places streams is = is ∙ ap (placed 0 0) (sym (streams_indexed places streams is))
+
 -- of streams in order, each has how many sectors those before it take
 first_of_placed : (a b : ℕ) (streams : List (List ℕ × List ℕ)) (i : ℕ) (d : Placed) → i < length (placed a b streams)
     → (get_or (placed a b streams) i d).first ≡ a + all_units 512 (take i (large_parts streams))

@@ -7,6 +7,7 @@ use Rattle.msi_compound.specs.declared.contents.Contents.{Contents}
 use Rattle.msi_compound_write.specs.Extents.{all_units}
 use Rattle.msi_compound_write.specs.Image.{Run, fat_sectors, difat_sectors, least_total, image}
 use Rattle.msi_compound_write.specs.Layout.{mini_parts, large_parts, mini_sectors, mini_fat_sectors, mini_fat, mini_fat_run, mini_stream, directory_sectors, large_first, directory_of, taken_by, parts, total, layout, refuses}
+use Rattle.msi_compound_write.specs.Sectors.{file}
 use Rattle.msi_compound_write.proofs.DirectoryLengthLemmas.{length-directory_of}
 use Rattle.msi_compound_write.proofs.EntriesLemmas.{large_place}
 use Rattle.msi_compound_write.proofs.LaidPartsLemmas.{taken}
@@ -70,6 +71,20 @@ pub taken_few : (contents : Contents) (earlier n : ℕ) → n ≡ total contents
 taken_few contents earlier n n_is few =
     let taken = taken_by (entries contents.streams) in
     below taken n (2 ^ 22) (subst (λ m. taken ≤ m) (sym n_is) (taken_most taken earlier)) few
+
+-- there is room for the FAT and the DIFAT
+pub room_for : (X n taken earlier : ℕ) → X ≡ taken → n ≡ least_total taken earlier → X + fat_sectors n + difat_sectors n ≤ n
+room_for X n taken earlier x n_is =
+    subst (λ a. a + fat_sectors n + difat_sectors n ≤ n) (sym x)
+    (subst (λ m. taken + fat_sectors m + difat_sectors m ≤ m) (sym n_is) (total_room taken earlier))
+
+-- the file, by what it is made of
+pub same_file : (contents : Contents) (earlier n : ℕ) (clsid : List ℕ) (streams : List (List ℕ × List ℕ))
+    → clsid ≡ contents.clsid
+    → streams ≡ entries contents.streams
+    → n ≡ total contents earlier
+    → file clsid streams n ≡ layout contents earlier
+same_file contents earlier n clsid streams clsid_is streams_is n_is = λ i. file (clsid_is i) (streams_is i) (n_is i)
 
 pub not_true : (b : Bool) → (IsTrue b → ⊥) → b ≡ false
 not_true true h = absurd (h refl)

@@ -26,7 +26,6 @@ pub mod SpelledPartsLemmas
 pub mod SectorLemmas
 pub mod SectorsHeldLemmas
 pub mod FileSectorLemmas
-pub mod IndexedLemmas
 pub mod RestLemmas
 pub mod IndexLemmas
 pub mod UnitLemmas

@@ -65,6 +65,10 @@ bytes_of_numbers e (suc n) =
 pub shifted : (f : ℕ → ℕ) (a n : ℕ) → map f (range_with_len a n) ≡ map (λ k. f (a + k)) (range_with_len 0 n)
 shifted f a n = fill_by_all (λ k. f (a + k)) (map f (range_with_len a n)) n 0 (length-map-range_with_len f a n) (λ k l. get_or-map-range_with_len f a n k (a + k) 0 l refl)
 
+-- the same list by two functions, at two places
+pub map_ranges_same : (f g : ℕ → ℕ) (a b n : ℕ) → ((k : ℕ) → k < n → f (a + k) ≡ g (b + k)) → map f (range_with_len a n) ≡ map g (range_with_len b n)
+map_ranges_same f g a b n same = shifted f a n ∙ map_range_same (λ k. f (a + k)) (λ k. g (b + k)) n n refl same ∙ sym (shifted g b n)
+
 -- one list behind another
 pub range_more : (f : ℕ → ℕ) (a b m n : ℕ) → b ≡ a + m → map f (range_with_len a (m + n)) ≡ map f (range_with_len a m) ++ map f (range_with_len b n)
 range_more f a b m n e =

@@ -4,32 +4,18 @@ use Rattle.std.specs.List.{range_with_len, flat_map}
 use Rattle.std.specs.Int.{div_ceil, to_le_bytes, w32}
 use Rattle.std.proofs.lemmas.Bool.{cases_lt, lt-ltb, le-ltb}
 use Rattle.std.proofs.lemmas.List.{get_or_past}
-use Rattle.std.proofs.lemmas.List.FromFn.{fill_by_all, get_or-map-range_with_len, length-map-range_with_len}
+use Rattle.std.proofs.lemmas.List.FromFn.{get_or-map-range_with_len, length-map-range_with_len}
 use Rattle.msi_compound_write.specs.Extents.{units, all_units, laid_byte, laid_bytes, table_byte}
 use Rattle.msi_compound_write.specs.Image.{Run, fat_sectors, difat_sectors, fat_entry, listed_entry, difat_entry, difat_run, front, image_byte, image}
 use Rattle.msi_compound_write.specs.Sectors.{image_sector}
 use Rattle.msi_compound_write.proofs.ImageLemmas.{front_bytes, list_bytes}
-use Rattle.msi_compound_write.proofs.RangeLemmas.{map_range_append, replicate_is_map}
+use Rattle.msi_compound_write.proofs.RangeLemmas.{map_range_append, map_ranges_same, range_more, replicate_is_map}
 
 -- RANGES
 
--- the same list by two functions, at two places
-pub map_ranges_same : (f g : ℕ → ℕ) (a b n : ℕ) → ((k : ℕ) → k < n → f (a + k) ≡ g (b + k)) → map f (range_with_len a n) ≡ map g (range_with_len b n)
-map_ranges_same f g a b n same =
-    let shifted : map g (range_with_len b n) ≡ map (λ k. g (b + k)) (range_with_len 0 n) =
-    fill_by_all (λ k. g (b + k)) (map g (range_with_len b n)) n 0 (length-map-range_with_len g b n) (λ k l. get_or-map-range_with_len g b n k (b + k) 0 l refl) in
-    fill_by_all (λ k. g (b + k)) (map f (range_with_len a n)) n 0 (length-map-range_with_len f a n) (λ k l.
-    get_or-map-range_with_len f a n k (a + k) 0 l refl ∙ same k l) ∙ sym shifted
-
 -- one piece behind another
 pub ranges_join : (f : ℕ → ℕ) (a b n : ℕ) → n ≡ a + b → map f (range_with_len 0 n) ≡ map f (range_with_len 0 a) ++ map f (range_with_len a b)
-ranges_join f a b n long =
-    ap (λ m. map f (range_with_len 0 m)) long
-    ∙ map_range_append f f (λ k. f (a + k)) a b (λ k l. refl) (λ k l. refl)
-    ∙ ap (λ bs. map f (range_with_len 0 a) ++ bs) (
-    map_ranges_same (λ k. f (a + k)) f 0 a b (λ k l.
-    let e : 0 + k ≡ k = omega arith in
-    ap (λ j. f (a + j)) e))
+ranges_join f a b n long = ap (λ m. map f (range_with_len 0 m)) long ∙ range_more f 0 a a b (omega arith)
 
 -- REGIONS OF AN IMAGE
 

@@ -84,8 +84,8 @@ pub(crate) fn index<'a>(alloc: Global, streams: &'a StreamMap) -> Result<Vec<Pla
     Ok(places)
 }
 
-/// What stands from sector `m` of the large streams on, to the end of the stream that has it. Past the last stream there
-/// is nothing.
+/// What stands from sector `m` of the large streams on, to the end of the stream that has it. Past the last stream
+/// there is nothing.
 pub(crate) fn from_sector<'a>(places: &[Place<'a>], m: usize) -> &'a [u8]
     requires indexed { IsIndex places.now }
     requires few { m < 2 ^ 32 }

@@ -1,5 +1,5 @@
-//! The sectors of the file that is written, each from its number (MS-CFB 2.2): the header, the directory, the mini FAT, the
-//! mini stream, the large streams, the FAT, the DIFAT, and free sectors.
+//! The sectors of the file that is written, each from its number (MS-CFB 2.2): the header, the directory, the mini FAT,
+//! the mini stream, the large streams, the FAT, the DIFAT, and free sectors.
 
 ghost use Rattle.std.specs.Prelude.{◌≡◌, ◌+◌, ◌*◌, ◌<◌, ◌≤◌, ◌^◌, map};
 ghost use Rattle.std.specs.List.{range_with_len};
@@ -8,7 +8,7 @@ ghost use Rattle.msi_compound_write.specs.Image as image;
 ghost use Rattle.msi_compound_write.specs.Index.{IsIndex, streams_of};
 ghost use Rattle.msi_compound_write.specs.Layout as spec;
 ghost use Rattle.msi_compound_write.specs.LayoutLaw.{HaveNames};
-ghost use Rattle.msi_compound_write.specs.Sectors.{IsLaidOut, file_sector};
+ghost use Rattle.msi_compound_write.specs.Sectors.{IsLaidOut, sector_of, streams_in};
 
 use crate::content::{fill_large, fill_mini_stream};
 use crate::directory::fill_directory;
@@ -18,8 +18,8 @@ use crate::tables::{fill_difat, fill_fat, fill_header, fill_mini_fat};
 use crate::totals::{difat_sectors, fat_sectors};
 use msi_compound::format::SECTOR_SIZE_3;
 
-/// How much is laid out: the mini sectors, the sectors of the directory, the mini FAT, the mini stream and the large streams
-/// together, and all sectors of the file.
+/// How much is laid out: the mini sectors, the sectors of the directory, the mini FAT, the mini stream and the large
+/// streams together, and all sectors of the file.
 #[derive(Clone, Copy)]
 pub(crate) struct Extent {
     pub(crate) mini_sectors: usize,
@@ -43,7 +43,7 @@ pub(crate) fn layout_of<'a>(clsid: [u8; 16], places: &'a [Place<'a>], extent: Ex
     requires taken { extent.taken ≡ spec.taken_by (streams_of places.now) }
     requires room { extent.taken + image.fat_sectors extent.total + image.difat_sectors extent.total ≤ extent.total }
     requires few { extent.total < 2 ^ 22 }
-    ensures laid_out { IsLaidOut result.clsid result.places.now result.extent.mini_sectors result.extent.taken result.extent.total }
+    ensures laid_out { IsLaidOut result }
     ensures clsid { result.clsid ≡ clsid }
     ensures places { result.places.now ≡ places.now }
     ensures total { result.extent.total ≡ extent.total }
@@ -57,9 +57,9 @@ pub(crate) fn layout_of<'a>(clsid: [u8; 16], places: &'a [Place<'a>], extent: Ex
 
 /// Fills sector `n` of the file, whose header is sector 0.
 pub(crate) fn fill(sector: &mut [u8; SECTOR_SIZE_3], layout: &Layout, n: usize)
-    requires laid_out { IsLaidOut layout.now.clsid layout.now.places.now layout.now.extent.mini_sectors layout.now.extent.taken layout.now.extent.total }
+    requires laid_out { IsLaidOut layout.now }
     requires within { n ≤ layout.now.extent.total }
-    ensures { sector.new ≡ file_sector layout.now.clsid (streams_of layout.now.places.now) layout.now.extent.total n }
+    ensures { sector.new ≡ sector_of layout.now n }
 {
     let extent = layout.extent;
     if n == 0 {
@@ -76,9 +76,9 @@ pub(crate) fn fill(sector: &mut [u8; SECTOR_SIZE_3], layout: &Layout, n: usize)
 
 /// Fills sector `m` of the directory, the mini FAT, the mini stream and the large streams.
 fn fill_part(sector: &mut [u8; SECTOR_SIZE_3], layout: &Layout, m: usize)
-    requires laid_out { IsLaidOut layout.now.clsid layout.now.places.now layout.now.extent.mini_sectors layout.now.extent.taken layout.now.extent.total }
+    requires laid_out { IsLaidOut layout.now }
     requires within { m < layout.now.extent.taken }
-    ensures { sector.new ≡ map (laid_byte 512 (spec.parts_of layout.now.clsid (streams_of layout.now.places.now))) (range_with_len (512 * m) 512) }
+    ensures { sector.new ≡ map (laid_byte 512 (spec.parts_of layout.now.clsid (streams_in layout.now))) (range_with_len (512 * m) 512) }
 {
     let places = layout.places;
     let mini_sectors = layout.extent.mini_sectors;
@@ -96,8 +96,8 @@ fn fill_part(sector: &mut [u8; SECTOR_SIZE_3], layout: &Layout, m: usize)
 
 /// Fills sector `m` of what stands behind the streams: the FAT, the DIFAT, and free sectors.
 fn fill_behind(sector: &mut [u8; SECTOR_SIZE_3], layout: &Layout, m: usize)
-    requires { IsLaidOut layout.now.clsid layout.now.places.now layout.now.extent.mini_sectors layout.now.extent.taken layout.now.extent.total }
-    ensures { sector.new ≡ file_sector layout.now.clsid (streams_of layout.now.places.now) layout.now.extent.total (layout.now.extent.taken + 1 + m) }
+    requires { IsLaidOut layout.now }
+    ensures { sector.new ≡ sector_of layout.now (layout.now.extent.taken + 1 + m) }
 {
     let extent = layout.extent;
     let count = fat_sectors(extent.total);

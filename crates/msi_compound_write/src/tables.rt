@@ -131,8 +131,8 @@ fn listed_entry(fat: Run, k: u32) -> u32
     }
 }
 
-/// Entry `k` of the DIFAT: each of its sectors has entries of the list of FAT sectors, from where the header's part ends,
-/// and then the number of its next sector.
+/// Entry `k` of the DIFAT: each of its sectors has entries of the list of FAT sectors, from where the header's part
+/// ends, and then the number of its next sector.
 fn difat_entry(fat: Run, difat: Run, k: u32) -> u32
     requires fat { fat.first + fat.count < 2 ^ 31 }
     requires difat { difat.first + difat.count < 2 ^ 22 }
@@ -152,8 +152,8 @@ fn difat_entry(fat: Run, difat: Run, k: u32) -> u32
     }
 }
 
-/// Entry `n` of the FAT: the chain of the part that has sector `n`, marks for the sectors of the FAT and of the DIFAT, and
-/// free entries behind them.
+/// Entry `n` of the FAT: the chain of the part that has sector `n`, marks for the sectors of the FAT and of the DIFAT,
+/// and free entries behind them.
 fn fat_entry(places: &[Place], regions: Regions, total: usize, n: usize) -> u32
     requires indexed { IsIndex places.now }
     requires few { regions.fat < 2 ^ 22 }

@@ -1,5 +1,5 @@
-//! How many sectors a file has: those of the directory, the mini FAT and the mini stream, and those of the FAT and of the
-//! DIFAT, which grow with the file (MS-CFB 2.3 to 2.6).
+//! How many sectors a file has: those of the directory, the mini FAT and the mini stream, and those of the FAT and of
+//! the DIFAT, which grow with the file (MS-CFB 2.3 to 2.6).
 
 ghost use Rattle.std.specs.Prelude.{◌≡◌, ◌<◌, ◌≤◌, ◌^◌, IfSome, IsNone};
 ghost use Rattle.std.specs.Int.{div_ceil};

@@ -7,9 +7,8 @@ ghost use Rattle.msi_device.specs.Held.{StandsInPart, with_piece};
 ghost use Rattle.msi_compound.specs.Container.{Holds};
 ghost use Rattle.msi_compound_write.specs.Extents as extents;
 ghost use Rattle.msi_compound_write.specs.Image as image;
-ghost use Rattle.msi_compound_write.specs.Index.{streams_of};
 ghost use Rattle.msi_compound_write.specs.Layout as spec;
-ghost use Rattle.msi_compound_write.specs.Sectors.{IsLaidOut, file};
+ghost use Rattle.msi_compound_write.specs.Sectors.{IsLaidOut, file_of};
 
 use crate::extents::{large_part, mini_part, units};
 use crate::index::index;
@@ -35,9 +34,9 @@ struct Counts {
     large_sectors: usize,
 }
 
-/// The bytes of a compound file that holds these contents (MS-CFB 2), of version 3: the directory, the mini FAT, the mini
-/// stream, the streams of 4096 bytes and more in the container's order of names, the FAT and the DIFAT. They take the place
-/// of a file of `earlier_len` bytes, and are no shorter: free sectors stand behind the rest.
+/// The bytes of a compound file that holds these contents (MS-CFB 2), of version 3: the directory, the mini FAT, the
+/// mini stream, the streams of 4096 bytes and more in the container's order of names, the FAT and the DIFAT. They take
+/// the place of a file of `earlier_len` bytes, and are no shorter: free sectors stand behind the rest.
 ///
 /// # Errors
 /// `InvalidInput` where storages lie below the root, or the file would pass 2^31 bytes. `OutOfMemory`.
@@ -57,8 +56,8 @@ pub fn write(alloc: Global, contents: &Contents, earlier_len: u64) -> Result<Vec
 /// sector of them at a time. It clears the device's flag first. After `Io` a beginning of the bytes may stand there.
 ///
 /// # Errors
-/// `InvalidInput` as `write`, and `OutOfMemory`, both before the first byte is written. `Io` where a call of the device fails,
-/// or takes no byte of what is left: exactly where its flag is set in the end.
+/// `InvalidInput` as `write`, and `OutOfMemory`, both before the first byte is written. `Io` where a call of the device
+/// fails, or takes no byte of what is left: exactly where its flag is set in the end.
 pub fn write_to<W: Device>(
     alloc: Global,
     contents: &Contents,
@@ -82,8 +81,8 @@ pub fn write_to<W: Device>(
 
 /// The file in one vector.
 fn image(alloc: Global, layout: &Layout) -> Result<Vec<u8>, AllocError>
-    requires { IsLaidOut layout.now.clsid layout.now.places.now layout.now.extent.mini_sectors layout.now.extent.taken layout.now.extent.total }
-    ensures { IfOk result (λ image. image.items ≡ file layout.now.clsid (streams_of layout.now.places.now) layout.now.extent.total) }
+    requires { IsLaidOut layout.now }
+    ensures { IfOk result (λ image. image.items ≡ file_of layout.now) }
 {
     let count = layout.extent.total + 1;
     let mut image = Vec::with_capacity(alloc, SECTOR_SIZE_3 * count)?;
@@ -97,9 +96,9 @@ fn image(alloc: Global, layout: &Layout) -> Result<Vec<u8>, AllocError>
 
 /// Writes the file to a device.
 fn write_sectors<W: Device>(layout: &Layout, device: &mut W) -> Result<(), Error>
-    requires { IsLaidOut layout.now.clsid layout.now.places.now layout.now.extent.mini_sectors layout.now.extent.taken layout.now.extent.total }
-    ensures ok { OnOk result (W.held device.new ≡ option_map (with_piece (file layout.now.clsid (streams_of layout.now.places.now) layout.now.extent.total)) (W.held device.old)) }
-    ensures part { OnErr result (StandsInPart (file layout.now.clsid (streams_of layout.now.places.now) layout.now.extent.total) (W.held device.old) (W.held device.new)) }
+    requires { IsLaidOut layout.now }
+    ensures ok { OnOk result (W.held device.new ≡ option_map (with_piece (file_of layout.now)) (W.held device.old)) }
+    ensures part { OnErr result (StandsInPart (file_of layout.now) (W.held device.old) (W.held device.new)) }
     ensures failed { W.failed device.new ≡ (W.failed device.old || is_err result) }
     ensures kind { IfErr result (λ kind. kind ≡ Io) }
 {

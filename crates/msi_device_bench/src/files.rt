@@ -37,8 +37,8 @@ fn takes_what_is_written(alloc: Global, all: Sizes, over: u64) -> Result<bool, E
     Ok(held.as_slice() == write(alloc, &contents, over)?.as_slice())
 }
 
-/// Streams, and the length of the file that theirs is written over: small and large ones, longer files, and FATs of as many
-/// sectors as the header lists, and of one more.
+/// Streams, and the length of the file that theirs is written over: small and large ones, longer files, and FATs of as
+/// many sectors as the header lists, and of one more.
 const FILES: [(Sizes<'static>, u64); 9] = [
     (&[], 0),
     (&[(APP_EXE, 0)], 0),
@@ -111,8 +111,8 @@ fn is_refused(alloc: Global, contents: &Contents, device: &mut Faulty) -> bool {
     }
 }
 
-/// Whether a device that fails after so many calls holds so many bytes of the file then, and takes the whole once it is well
-/// again and rewound.
+/// Whether a device that fails after so many calls holds so many bytes of the file then, and takes the whole once it is
+/// well again and rewound.
 fn fails_and_recovers(alloc: Global, most: usize, calls: usize) -> Result<bool, Fail> {
     let contents = eleven_sectors(alloc)?;
     let image = write(alloc, &contents, 0)?;

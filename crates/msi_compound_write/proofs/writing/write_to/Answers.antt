@@ -6,9 +6,9 @@ use Rattle.msi_compound_write.specs.Index.{streams_of}
 use Rattle.msi_compound_write.specs.Layout.{layout, mini_sectors, taken_by}
 use Rattle.msi_compound_write.specs.LayoutLaw.{HaveNames}
 use Rattle.msi_compound_write.specs.Sectors.{file}
-use Rattle.msi_compound_write.proofs.IndexedLemmas.{is_index, room_for, same_file, streams_indexed}
+use Rattle.msi_compound_write.proofs.IndexLemmas.{is_index, streams_indexed}
 use Rattle.msi_compound_write.proofs.LayoutHeldLemmas.{layout_holds}
-use Rattle.msi_compound_write.proofs.LayoutLemmas.{not_true, taken_few}
+use Rattle.msi_compound_write.proofs.LayoutLemmas.{not_true, room_for, same_file, taken_few}
 use Rattle.msi_compound_write.proofs.SectorsHeldLemmas.{part_as, put_as}
 use Rattle.msi_compound_write.proofs.writing.write_to.Goals as goal
 
