@@ -1,17 +1,8 @@
 -- The bytes of the directory's entries.
-use Rattle.std.proofs.Common.{◌≡◌, ℕ, ◌+◌, ◌-◌, ◌*◌, ◌≤◌, List, [], ◌∷◌, ◌++◌, length, get_or, take, drop, replicate, codes, inl, inr, sym, subst, ◌∙◌, ap, arith, refl}
-use Rattle.std.specs.List.{flat_map, concat}
+use Rattle.std.proofs.Common.{◌≡◌, ℕ, ◌+◌, ◌-◌, ◌*◌, List, [], ◌∷◌, length, sym, subst, ◌∙◌, ap, arith, refl}
+use Rattle.std.specs.List.{flat_map}
 use Rattle.std.specs.Int.{div_ceil, to_le_bytes, w16}
-use Rattle.std.proofs.lemmas.Bool.{cases_lt}
-use Rattle.std.proofs.lemmas.List.{append-nil, append_assoc, length-append, length-replicate, length-take-le, length-drop, get_or_append_left, get_or-append_right, get_or-replicate, get_or-take, get_or-drop, get_or_past}
-use Rattle.std.proofs.lemmas.List.Folds.{concat-append}
-use Rattle.std.proofs.lemmas.List.FromFn.{fill_by_all}
-use Rattle.std.proofs.lemmas.Grind.{replicate_next}
-use Rattle.msi_compound.specs.Bytes.{bytes_at}
-use Rattle.msi_compound.specs.Format.{NO_ENTRY}
-use Rattle.msi_compound_write.specs.Extents.{units, start_of}
-use Rattle.msi_compound_write.specs.Balance.{middle, left_link, right_link}
-use Rattle.msi_compound_write.specs.Layout.{Entry, entry_bytes, unused_entry, mini_sectors, mini_stream_first, large_part, mini_part, stream_start, root_entry, stream_entry, stream_entries_bytes, directory_sectors, large_first, directory_of}
+use Rattle.msi_compound_write.specs.Layout.{mini_sectors, mini_stream_first, directory_sectors, large_first}
 use Rattle.msi_compound_write.specs.LayoutLaw.{IsName, HaveNames}
 
 -- two bytes for each unit

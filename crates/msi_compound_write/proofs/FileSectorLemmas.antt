@@ -1,11 +1,11 @@
 -- Which region of the file of some streams a sector is in.
-use Rattle.std.proofs.Common.{◌≡◌, ℕ, ◌+◌, ◌-◌, ◌*◌, ◌<◌, ◌≤◌, List, ◌∷◌, ◌++◌, get_or, length, map, replicate, sym, ◌∙◌, ap, subst, arith, refl}
+use Rattle.std.proofs.Common.{◌≡◌, ℕ, ◌+◌, ◌-◌, ◌*◌, ◌<◌, ◌≤◌, List, ◌∷◌, ◌++◌, get_or, length, map, replicate, sym, ◌∙◌, ap, subst, arith}
 use Rattle.std.specs.List.{range_with_len, flat_map}
 use Rattle.std.specs.Int.{to_le_bytes, w32}
 use Rattle.msi_compound_write.specs.Extents.{units, all_units, laid_byte, table_byte}
 use Rattle.msi_compound_write.specs.Image.{Run, fat_sectors, difat_sectors, fat_entry, listed_entry, difat_entry, difat_run, front}
 use Rattle.msi_compound_write.specs.Layout.{mini_parts, large_parts, mini_fat, mini_fat_entry, mini_fat_run, mini_fat_sectors, mini_stream, mini_stream_first, mini_stream_sectors, large_first, directory_of, directory_sectors, parts_of, taken_by}
-use Rattle.msi_compound_write.specs.Sectors.{image_sector, file_sector}
+use Rattle.msi_compound_write.specs.Sectors.{file_sector}
 use Rattle.msi_compound_write.proofs.DirectoryLengthLemmas.{length-directory_of}
 use Rattle.msi_compound_write.proofs.LaidPartsLemmas.{filled, mini_fat_units, mini_stream_units, taken}
 use Rattle.msi_compound_write.proofs.PlacedLemmas.{NamedStreams}

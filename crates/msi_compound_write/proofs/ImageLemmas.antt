@@ -1,17 +1,12 @@
 -- The header of an image, and the entries of its DIFAT.
-use Rattle.std.proofs.Common.{◌≡◌, ℕ, ◌+◌, ◌-◌, ◌*◌, ◌/◌, ◌%◌, ◌<◌, ◌≤◌, List, [], ◌++◌, get_or, map, replicate, inl, inr, sym, ◌∙◌, ap, arith, refl}
+use Rattle.std.proofs.Common.{◌≡◌, ℕ, ◌+◌, ◌-◌, ◌*◌, ◌/◌, ◌%◌, ◌<◌, List, get_or, map, inl, inr, sym, ◌∙◌, ap, arith, refl}
 use Rattle.std.specs.List.{range_with_len, flat_map}
 use Rattle.std.specs.Int.{to_le_bytes, w32}
 use Rattle.std.proofs.lemmas.Bool.{cases_lt, lt-ltb, le-ltb, eq-eqb, ne_eqb}
-use Rattle.std.proofs.lemmas.Grind.{div_ceil_times}
-use Rattle.std.proofs.lemmas.List.{append_assoc}
-use Rattle.std.proofs.lemmas.List.Concat.{flat_map-append}
 use Rattle.std.proofs.lemmas.List.FromFn.{fill_by_all}
-use Rattle.msi_compound.specs.Bytes.{bytes_at}
-use Rattle.msi_compound_write.specs.Extents.{all_units, laid_byte, laid_bytes, link, chain_entry, table_byte}
-use Rattle.msi_compound.specs.Format.{FAT_SECTOR, DIFAT_SECTOR, FREE_SECTOR}
-use Rattle.msi_compound_write.specs.Image.{Run, fat_sectors, difat_sectors, fat_entry, listed_entry, difat_entry, difat_run, front, image_byte, image}
-use Rattle.msi_compound_write.proofs.RangeLemmas.{map_range_append, map_range_same, replicate_is_map, bytes_of_numbers}
+use Rattle.msi_compound_write.specs.Extents.{all_units, chain_entry, table_byte}
+use Rattle.msi_compound_write.specs.Image.{Run, fat_sectors, listed_entry, difat_entry, difat_run, front, image_byte}
+use Rattle.msi_compound_write.proofs.RangeLemmas.{map_range_same, bytes_of_numbers}
 
 -- THE DIFAT
 

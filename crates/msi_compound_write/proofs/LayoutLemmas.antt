@@ -1,14 +1,13 @@
 -- How many sectors are taken, which contents are refused, and what is written.
-use Rattle.std.proofs.Common.{◌≡◌, ℕ, ◌+◌, ◌*◌, ◌^◌, ◌<◌, ◌≤◌, Bool, true, false, ◌||◌, nat_lt, IsTrue, List, ◌∷◌, length, ◌∙◌, ap, sym, subst, arith, refl}
+use Rattle.std.proofs.Common.{◌≡◌, ℕ, ◌+◌, ◌*◌, ◌^◌, ◌<◌, ◌≤◌, Bool, true, false, ◌||◌, nat_lt, IsTrue, List, length, ◌∙◌, ap, sym, subst, arith, refl}
 use Rattle.std.specs.Int.{div_ceil}
 use Rattle.std.specs.FinMap.{entries}
 use Rattle.std.proofs.lemmas.Bool.{lt-ltb, le-ltb}
 use Rattle.msi_compound.specs.declared.contents.Contents.{Contents}
 use Rattle.msi_compound_write.specs.Extents.{all_units}
-use Rattle.msi_compound_write.specs.Image.{Run, fat_sectors, difat_sectors, least_total, image}
-use Rattle.msi_compound_write.specs.Layout.{mini_parts, large_parts, mini_sectors, mini_fat_sectors, mini_fat, mini_fat_run, mini_stream, directory_sectors, large_first, directory_of, taken_by, parts, total, layout, refuses}
+use Rattle.msi_compound_write.specs.Image.{fat_sectors, difat_sectors, least_total}
+use Rattle.msi_compound_write.specs.Layout.{large_parts, mini_sectors, directory_sectors, large_first, taken_by, total, layout, refuses}
 use Rattle.msi_compound_write.specs.Sectors.{file}
-use Rattle.msi_compound_write.proofs.DirectoryLengthLemmas.{length-directory_of}
 use Rattle.msi_compound_write.proofs.EntriesLemmas.{large_place}
 use Rattle.msi_compound_write.proofs.LaidPartsLemmas.{taken}
 use Rattle.msi_compound_write.proofs.TotalsLemmas.{total_room}

@@ -1,12 +1,12 @@
 -- The file sector by sector: which of its regions a sector is in.
-use Rattle.std.proofs.Common.{◌≡◌, ℕ, ◌+◌, ◌-◌, ◌*◌, ◌<◌, ◌≤◌, List, [], ◌∷◌, ◌++◌, get_or, length, map, replicate, inl, inr, sym, ◌∙◌, ap, arith, refl}
+use Rattle.std.proofs.Common.{◌≡◌, ℕ, ◌+◌, ◌-◌, ◌*◌, ◌<◌, ◌≤◌, List, [], ◌∷◌, ◌++◌, get_or, map, replicate, inl, inr, sym, ◌∙◌, ap, arith, refl}
 use Rattle.std.specs.List.{range_with_len, flat_map}
-use Rattle.std.specs.Int.{div_ceil, to_le_bytes, w32}
+use Rattle.std.specs.Int.{to_le_bytes, w32}
 use Rattle.std.proofs.lemmas.Bool.{cases_lt, lt-ltb, le-ltb}
 use Rattle.std.proofs.lemmas.List.{get_or_past}
 use Rattle.std.proofs.lemmas.List.FromFn.{get_or-map-range_with_len, length-map-range_with_len}
 use Rattle.msi_compound_write.specs.Extents.{units, all_units, laid_byte, laid_bytes, table_byte}
-use Rattle.msi_compound_write.specs.Image.{Run, fat_sectors, difat_sectors, fat_entry, listed_entry, difat_entry, difat_run, front, image_byte, image}
+use Rattle.msi_compound_write.specs.Image.{Run, fat_sectors, difat_sectors, fat_entry, listed_entry, difat_entry, difat_run, front, image_byte}
 use Rattle.msi_compound_write.specs.Sectors.{image_sector}
 use Rattle.msi_compound_write.proofs.ImageLemmas.{front_bytes, list_bytes}
 use Rattle.msi_compound_write.proofs.RangeLemmas.{map_range_append, map_ranges_same, range_more, replicate_is_map}

@@ -1,8 +1,7 @@
 -- What a device holds while the file is written to it sector by sector.
 use Rattle.std.specs.Prelude.{Option, Result, Ok, Err, OnErr}
-use Rattle.std.proofs.Common.{◌≡◌, ℕ, ◌+◌, ◌-◌, ◌*◌, ◌<◌, List, [], ◌++◌, map, Some, None, option_map, sym, ◌∙◌, ap, subst, arith, refl}
+use Rattle.std.proofs.Common.{◌≡◌, ℕ, ◌+◌, ◌-◌, ◌*◌, ◌<◌, List, ◌++◌, map, option_map, sym, ◌∙◌, ap, subst, arith}
 use Rattle.std.specs.List.{range_with_len}
-use Rattle.std.proofs.lemmas.List.{append-nil}
 use Rattle.msi_device.specs.Held.{Held, with_piece, StandsInPart}
 use Rattle.msi_device.proofs.HeldLemmas.{pieces_join, part_behind, part_in_front}
 use Rattle.msi_compound_write.proofs.SectorLemmas.{ranges_join}

@@ -1,9 +1,9 @@
 -- The entries of the FAT and of the mini FAT, one by one.
-use Rattle.std.proofs.Common.{◌≡◌, ◌≢◌, ℕ, ◌+◌, ◌-◌, ◌*◌, ◌<◌, ◌≤◌, ◌⊎◌, Bool, true, false, ◌||◌, cond, eqb, leb, List, [], ◌∷◌, length, inl, inr, sym, ◌∙◌, ap, arith, refl}
+use Rattle.std.proofs.Common.{◌≡◌, ◌≢◌, ℕ, ◌+◌, ◌-◌, ◌<◌, ◌≤◌, ◌⊎◌, Bool, true, false, ◌||◌, cond, eqb, leb, List, ◌∷◌, length, inl, inr, sym, ◌∙◌, ap, arith, refl}
 use Rattle.std.proofs.lemmas.Bool.{cases_lt, cases_eq, lt-ltb, le-ltb, eq-eqb, ne_eqb}
 use Rattle.msi_compound.specs.Format.{END_OF_CHAIN, FAT_SECTOR, DIFAT_SECTOR, FREE_SECTOR}
 use Rattle.msi_compound_write.specs.declared.regions.Regions.{Regions}
-use Rattle.msi_compound_write.specs.Extents.{units, all_units, is_last, link}
+use Rattle.msi_compound_write.specs.Extents.{units, all_units, is_last}
 use Rattle.msi_compound_write.specs.Image.{fat_sectors, difat_sectors, fat_entry}
 use Rattle.msi_compound_write.specs.Index.{rest_from}
 use Rattle.msi_compound_write.specs.Layout.{mini_fat_entry, large_parts}

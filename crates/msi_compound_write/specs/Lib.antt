@@ -1,6 +1,5 @@
 -- The words of this crate.
 pub use Rattle.msi_compound.specs.Container
-pub mod Views
 pub mod Extents
 pub mod Image
 pub mod Balance

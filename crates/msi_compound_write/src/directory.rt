@@ -1,7 +1,7 @@
 //! The directory's sectors, four entries each: the root, the streams in the order of their names, and unused entries
 //! (MS-CFB 2.6).
 
-ghost use Rattle.std.specs.Prelude.{◌≡◌, ◌+◌, ◌*◌, ◌<◌, ◌≤◌, ◌^◌, ◌++◌, length, map, slice_index, take, drop};
+ghost use Rattle.std.specs.Prelude.{◌≡◌, ◌+◌, ◌*◌, ◌<◌, ◌≤◌, ◌^◌, length, map, slice_index};
 ghost use Rattle.std.specs.List.{range_with_len};
 ghost use Rattle.msi_compound.specs.Format as marks;
 ghost use Rattle.msi_compound_write.specs.Index.{IsIndex, streams_of};

@@ -1,8 +1,7 @@
 //! Where each stream of a file lies: the only memory that writing takes.
 
-ghost use Rattle.std.specs.Prelude.{◌≡◌, ◌<◌, ◌≤◌, ◌^◌, ◌*◌, drop, length, nat_le, IfOk, OnOk};
+ghost use Rattle.std.specs.Prelude.{◌≡◌, ◌<◌, ◌≤◌, ◌^◌, ◌*◌, drop, nat_le, IfOk};
 ghost use Rattle.std.specs.FinMap as finite;
-ghost use Rattle.msi_compound_write.specs.Extents as extents;
 ghost use Rattle.msi_compound_write.specs.Index.{IsIndex, placed, rest_from, streams_of};
 ghost use Rattle.msi_compound_write.specs.Layout as spec;
 ghost use Rattle.msi_compound_write.specs.LayoutLaw.{HaveNames};

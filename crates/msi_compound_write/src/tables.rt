@@ -16,8 +16,8 @@ use crate::regions::{Regions, Run, difat_run, fat_run};
 use crate::totals::{difat_sectors, fat_sectors};
 use byteorder::{ByteOrder, LittleEndian};
 use msi_compound::format::{
-    DIFAT_SECTOR, END_OF_CHAIN, FAT_ENTRIES, FAT_SECTOR, FREE_SECTOR, HEADER_FAT_SECTORS,
-    MINI_SECTOR_SIZE, SECTOR_SIZE_3, SIGNATURE,
+    DIFAT_ENTRIES, DIFAT_SECTOR, END_OF_CHAIN, FAT_ENTRIES, FAT_SECTOR, FREE_SECTOR,
+    HEADER_FAT_SECTORS, MINI_SECTOR_SIZE, MINI_STREAM_CUTOFF, SECTOR_SIZE_3, SIGNATURE,
 };
 
 /// The header's fields from the minor version on: versions 62 and 3, the byte order, sectors of 512 bytes, mini sectors

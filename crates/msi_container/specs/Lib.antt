@@ -14,7 +14,6 @@ pub use Rattle.msi_compound_read.specs.Claims
 pub use Rattle.msi_compound_read.specs.Walks
 pub use Rattle.msi_compound_read.specs.Outcomes
 pub use Rattle.msi_compound_read.specs.Reading
-pub use Rattle.msi_compound_write.specs.Views
 pub use Rattle.msi_compound_write.specs.Extents
 pub use Rattle.msi_compound_write.specs.Image
 pub use Rattle.msi_compound_write.specs.Balance

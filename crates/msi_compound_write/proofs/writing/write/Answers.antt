@@ -1,4 +1,4 @@
-use Rattle.std.proofs.Common.{◌≡◌, List, ℕ, length, ◌∙◌, ap, sym, subst}
+use Rattle.std.proofs.Common.{List, ℕ, length, ◌∙◌, ap, sym, subst}
 use Rattle.std.proofs.lemmas.Bool.{false≢true}
 use Rattle.std.specs.FinMap.{entries}
 use Rattle.msi_compound.specs.Container.{Holds}
