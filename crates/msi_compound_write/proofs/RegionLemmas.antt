@@ -1,5 +1,5 @@
 -- The parts of a layout stand in its regions.
-use Rattle.std.proofs.Common.{◌≡◌, ℕ, List, length, sym, ◌∙◌, ap, arith, refl}
+use Rattle.std.proofs.Common.{◌≡◌, ℕ, List, length, sym, ◌∙◌, arith, refl}
 use Rattle.msi_compound_write.specs.declared.regions.Regions.{Regions}
 use Rattle.msi_compound_write.specs.Layout.{mini_fat, mini_stream, directory_of, parts_of}
 use Rattle.msi_compound_write.specs.Regions.{AreRegions, StandIn}

@@ -1,5 +1,5 @@
 -- A unit that is filled with bytes, and with zeros behind them.
-use Rattle.std.proofs.Common.{◌≡◌, ℕ, ◌+◌, ◌-◌, ◌≤◌, min, List, [], ◌++◌, length, get_or, take, drop, replicate, inl, inr, sym, ◌∙◌, ap, arith, refl}
+use Rattle.std.proofs.Common.{◌≡◌, ℕ, ◌+◌, ◌-◌, min, List, [], ◌++◌, length, get_or, take, drop, replicate, inl, inr, sym, ◌∙◌, ap, arith}
 use borrow.Rule.Slice.PartMut.{put_mid}
 use Rattle.std.proofs.lemmas.Bool.{cases_lt}
 use Rattle.std.proofs.lemmas.List.{append-nil, length-append, length-replicate, length-take-le, length-drop, get_or_append_left, get_or-append_right, get_or-replicate, get_or-take, get_or_past, take_at, drop_all, drop-drop}

@@ -1,9 +1,7 @@
 use Rattle.std.proofs.Common.{◌≡◌, ◌∷◌, List, ℕ, if◌then◌else◌, [], length, ◌∙◌, ap, subst, arith, rules}
-use Rattle.std.specs.FinMap.{entries, len-entries}
 use Rattle.msi_compound.specs.Chains.{AreBelow}
 use Rattle.msi_compound.specs.Container.{is_mini}
 use Rattle.msi_compound_write.specs.Extents.{units, all_units}
-use Rattle.msi_compound_write.specs.Index.{Placed}
 use Rattle.msi_compound_write.specs.Layout.{large_part, mini_part, large_parts, mini_sectors}
 use Rattle.msi_compound_write.specs.LayoutLaw.{IsName}
 use Rattle.msi_compound_write.proofs.EntriesLemmas.{name_known}

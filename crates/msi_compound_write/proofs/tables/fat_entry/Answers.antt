@@ -1,4 +1,4 @@
-use Rattle.std.proofs.Common.{◌≡◌, ◌+◌, ℕ, List, cond, leb, length, ◌∙◌, ap}
+use Rattle.std.proofs.Common.{◌+◌, ℕ, List, cond, leb, length, ◌∙◌, ap}
 use Rattle.msi_compound.specs.Format.{END_OF_CHAIN}
 use Rattle.msi_compound_write.specs.Index.{streams_of}
 use Rattle.msi_compound_write.proofs.TableLemmas.{large_entry_is}

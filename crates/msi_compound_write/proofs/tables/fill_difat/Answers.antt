@@ -1,4 +1,4 @@
-use Rattle.std.proofs.Common.{◌≡◌, ◌∙◌, ◌*◌, ◌+◌, ◌<◌, ℕ, length, arith, refl}
+use Rattle.std.proofs.Common.{◌∙◌, ◌*◌, ◌+◌, ◌<◌, length, arith, refl}
 use Rattle.std.proofs.lemmas.List.{length-set}
 use Rattle.msi_compound_write.specs.Image.{difat_entry}
 use Rattle.msi_compound_write.proofs.ImageLemmas.{difat_entry_is}

@@ -1,4 +1,4 @@
-use Rattle.std.proofs.Common.{◌≡◌, ◌∙◌, ◌*◌, ◌+◌, ◌<◌, ℕ, length, arith, refl}
+use Rattle.std.proofs.Common.{◌∙◌, ◌*◌, ◌+◌, ◌<◌, length, arith, refl}
 use Rattle.std.proofs.lemmas.List.{length-set}
 use Rattle.msi_compound_write.specs.Image.{fat_entry}
 use Rattle.msi_compound_write.proofs.RangeLemmas.{table_filled, entry_more}
