@@ -1,16 +1,14 @@
--- The entries of the FAT and of the mini FAT, one by one.
-use Rattle.std.proofs.Common.{◌≡◌, ◌≢◌, ℕ, ◌+◌, ◌-◌, ◌<◌, ◌≤◌, ◌⊎◌, Bool, true, false, ◌||◌, cond, eqb, leb, List, ◌∷◌, length, inl, inr, sym, ◌∙◌, ap, arith, refl}
+-- The entries of the FAT and of the mini FAT, one by one, by what stands from their units on.
+use Rattle.std.proofs.Common.{◌≡◌, ◌≢◌, ℕ, ◌+◌, ◌-◌, ◌*◌, ◌<◌, ◌≤◌, ◌⊎◌, Bool, true, false, ◌||◌, cond, eqb, leb, List, [], ◌∷◌, length, inl, inr, sym, ◌∙◌, ap, arith, refl}
 use Rattle.std.proofs.lemmas.Bool.{cases_lt, cases_eq, lt-ltb, le-ltb, eq-eqb, ne_eqb}
 use Rattle.msi_compound.specs.Format.{END_OF_CHAIN, FAT_SECTOR, DIFAT_SECTOR, FREE_SECTOR}
 use Rattle.msi_compound_write.specs.declared.regions.Regions.{Regions}
-use Rattle.msi_compound_write.specs.Extents.{units, all_units, is_last}
+use Rattle.msi_compound_write.specs.Extents.{units, all_units, is_last, link}
 use Rattle.msi_compound_write.specs.Image.{fat_sectors, difat_sectors, fat_entry}
 use Rattle.msi_compound_write.specs.Index.{rest_from}
 use Rattle.msi_compound_write.specs.Layout.{mini_fat_entry, large_parts}
 use Rattle.msi_compound_write.specs.Regions.{StandIn}
 use Rattle.msi_compound_write.proofs.RestLemmas.{last_rest, rest_some, rest_none}
-
--- ENTRIES
 
 -- the entry of a unit of some part
 chained : (parts : List (List ℕ)) (total n : ℕ) (last : Bool) (entry : ℕ)
@@ -21,77 +19,13 @@ chained : (parts : List (List ℕ)) (total n : ℕ) (last : Bool) (entry : ℕ)
 chained parts total n last entry l is entry_is =
     rw (lt-ltb n (all_units 512 parts) l, is) entry_is
 
--- marks, and free entries
-fat_mark : (parts : List (List ℕ)) (total n entry : ℕ) → all_units 512 parts ≤ n → n < all_units 512 parts + fat_sectors total → entry ≡ FAT_SECTOR → entry ≡ fat_entry parts total n
-fat_mark parts total n entry low high is =
-    let X = all_units 512 parts in
-    let F = fat_sectors total in
-    rw (le-ltb n X low, lt-ltb n (X + F) high) is
-
-difat_mark : (parts : List (List ℕ)) (total n entry : ℕ)
-    → all_units 512 parts + fat_sectors total ≤ n
-    → n < all_units 512 parts + fat_sectors total + difat_sectors total
-    → entry ≡ DIFAT_SECTOR
-    → entry ≡ fat_entry parts total n
-difat_mark parts total n entry low high is =
-    let X = all_units 512 parts in
-    let F = fat_sectors total in
-    let D = difat_sectors total in
-    rw (le-ltb n X (omega arith), le-ltb n (X + F) low, lt-ltb n (X + F + D) high) is
-
-free_mark : (parts : List (List ℕ)) (total n entry : ℕ) → all_units 512 parts + fat_sectors total + difat_sectors total ≤ n → entry ≡ FREE_SECTOR → entry ≡ fat_entry parts total n
-free_mark parts total n entry low is =
-    let X = all_units 512 parts in
-    let F = fat_sectors total in
-    let D = difat_sectors total in
-    rw (le-ltb n X (omega arith), le-ltb n (X + F) (omega arith), le-ltb n (X + F + D) low) is
-
 -- THREE PARTS BEFORE OTHERS
 
 -- what they take together, by where each ends
 taken_in_order : (a b c d x y z w : ℕ) → x ≡ a → y ≡ x + b → z ≡ y + c → w ≡ z + d → a + (b + (c + d)) ≡ w
 taken_in_order a b c d x y z w p q r s = omega arith
 
--- a test of two numbers, and tests of another with the ends of three parts
-same_end : (a b n x y z : ℕ) → (a ≡ b → (n ≡ x) ⊎ ((n ≡ y) ⊎ (n ≡ z))) → (a ≢ b → (n ≢ x) × (n ≢ y) × (n ≢ z)) → eqb a b ≡ (eqb n x || eqb n y || eqb n z)
-same_end a b n x y z some none =
-    elim (cases_eq a b) [
-      | inl e ↦ rw (eq-eqb a b e) (elim (some e) [
-        | inl p ↦ rw (eq-eqb n x p) refl
-        | inr rest ↦ elim rest [
-          | inl q ↦ elim (eqb n x) as (λ t. true ≡ (t || eqb n y || eqb n z)) [ true ↦ refl | false ↦ rw (eq-eqb n y q) refl ]
-          | inr r ↦ elim (eqb n x) as (λ t. true ≡ (t || eqb n y || eqb n z)) [
-            | true ↦ refl
-            | false ↦ elim (eqb n y) as (λ t. true ≡ (t || eqb n z)) [ true ↦ refl | false ↦ sym (eq-eqb n z r) ]
-          ]
-        ]
-      ])
-      | inr ne ↦ let h = none ne in rw (ne_eqb a b ne, ne_eqb n x h.0, ne_eqb n y h.1, ne_eqb n z h.2) refl
-    ]
-
--- which units of three parts are the last of theirs
-last_of_three : (a b c : List ℕ) (parts : List (List ℕ)) (n x y z : ℕ)
-    → x ≡ units 512 a
-    → y ≡ x + units 512 b
-    → z ≡ y + units 512 c
-    → n < z
-    → is_last 512 (a ∷ b ∷ c ∷ parts) n ≡ (eqb (n + 1) x || eqb (n + 1) y || eqb (n + 1) z)
-last_of_three a b c parts n x y z x_is y_is z_is within =
-    let U = units 512 a in
-    let V = units 512 b in
-    let W = units 512 c in
-    elim (cases_lt n U) [
-      | inl here ↦ rw (lt-ltb n U here) (same_end (n + 1) U (n + 1) x y z (λ e. inl (omega arith)) (λ ne. ((λ e. ne (omega arith)), (λ e. ne (omega arith)), (λ e. ne (omega arith)))))
-      | inr past ↦ rw (le-ltb n U past) (elim (cases_lt (n - U) V) [
-        | inl here ↦ rw (lt-ltb (n - U) V here) (same_end (n - U + 1) V (n + 1) x y z (λ e. inr (inl (omega arith))) (λ ne. ((λ e. ne (omega arith)), (λ e. ne (omega arith)), (λ e. ne (omega arith)))))
-        | inr later ↦
-            let here : n - U - V < W = omega arith in
-            rw (le-ltb (n - U) V later, lt-ltb (n - U - V) W here)
-            (same_end (n - U - V + 1) W (n + 1) x y z (λ e. inr (inr (omega arith))) (λ ne. ((λ e. ne (omega arith)), (λ e. ne (omega arith)), (λ e. ne (omega arith)))))
-      ])
-    ]
-
--- and of those behind them
+-- whether a unit behind three parts is the last of its own
 last_behind_three : (a b c : List ℕ) (parts : List (List ℕ)) (n z : ℕ)
     → z ≡ units 512 a + units 512 b + units 512 c
     → z ≤ n
@@ -112,53 +46,21 @@ all_taken regions streams parts stand =
     ∙ taken_in_order (units 512 stand.directory) (units 512 stand.mini_fat) (units 512 stand.mini_stream) (all_units 512 (large_parts streams)) _ _ _ _
     stand.mini_fat_first stand.mini_stream_first stand.large_first stand.fat_first
 
-module _ (regions : Regions) (streams : List (List ℕ × List ℕ)) (parts : List (List ℕ)) (total n entry : ℕ) where
-  -- where the directory, the mini FAT and the mini stream stand
-  pub front_entry_is : StandIn regions streams parts
-      → n < regions.large
-      → entry ≡ cond (eqb (n + 1) regions.mini_fat || eqb (n + 1) regions.mini_stream || eqb (n + 1) regions.large) END_OF_CHAIN (n + 1)
-      → entry ≡ fat_entry parts total n
-  front_entry_is stand low is =
-      chained parts total n _ entry (omega (arith, all_taken regions streams parts stand, stand.fat_first))
-      (ap (λ (ps : List (List ℕ)). is_last 512 ps n) stand.are
-      ∙ last_of_three stand.directory stand.mini_fat stand.mini_stream (large_parts streams) n regions.mini_fat regions.mini_stream regions.large
-      stand.mini_fat_first stand.mini_stream_first stand.large_first low)
-      is
-
-  -- where the large streams stand
-  pub large_entry_is : StandIn regions streams parts
-      → regions.large ≤ n
-      → n < regions.fat
-      → entry ≡ cond (leb (length (rest_from 512 (large_parts streams) (n - regions.large))) 512) END_OF_CHAIN (n + 1)
-      → entry ≡ fat_entry parts total n
-  large_entry_is stand low high is =
-      let long : regions.large ≡ units 512 stand.directory + units 512 stand.mini_fat + units 512 stand.mini_stream =
-      stand.large_first ∙ ap (λ (k : ℕ). k + units 512 stand.mini_stream) (stand.mini_stream_first ∙ ap (λ (k : ℕ). k + units 512 stand.mini_fat) stand.mini_fat_first) in
-      chained parts total n _ entry (omega (arith, all_taken regions streams parts stand))
-      (ap (λ (ps : List (List ℕ)). is_last 512 ps n) stand.are
-      ∙ last_behind_three stand.directory stand.mini_fat stand.mini_stream (large_parts streams) n regions.large long low
-      ∙ last_rest 512 (large_parts streams) (n - regions.large) (omega arith))
-      is
-
-  -- the FAT, the DIFAT, and free sectors
-  pub fat_entry_is : StandIn regions streams parts → regions.fat ≤ n → n < regions.fat + fat_sectors total → entry ≡ FAT_SECTOR → entry ≡ fat_entry parts total n
-  fat_entry_is stand low high is =
-      let all = all_taken regions streams parts stand in
-      fat_mark parts total n entry (omega (arith, all)) (omega (arith, all)) is
-
-  pub difat_entry_is : StandIn regions streams parts
-      → regions.fat + fat_sectors total ≤ n
-      → n < regions.fat + fat_sectors total + difat_sectors total
-      → entry ≡ DIFAT_SECTOR
-      → entry ≡ fat_entry parts total n
-  difat_entry_is stand low high is =
-      let all = all_taken regions streams parts stand in
-      difat_mark parts total n entry (omega (arith, all)) (omega (arith, all)) is
-
-  pub free_entry_is : StandIn regions streams parts → regions.fat + fat_sectors total + difat_sectors total ≤ n → entry ≡ FREE_SECTOR → entry ≡ fat_entry parts total n
-  free_entry_is stand low is =
-      let all = all_taken regions streams parts stand in
-      free_mark parts total n entry (omega (arith, all)) is
+-- the entries of the large streams
+pub large_entry_is : (regions : Regions) (streams : List (List ℕ × List ℕ)) (parts : List (List ℕ)) (total n entry : ℕ)
+    → StandIn regions streams parts
+    → regions.large ≤ n
+    → n < regions.fat
+    → entry ≡ cond (leb (length (rest_from 512 (large_parts streams) (n - regions.large))) 512) END_OF_CHAIN (n + 1)
+    → entry ≡ fat_entry parts total n
+large_entry_is regions streams parts total n entry stand low high is =
+    let long : regions.large ≡ units 512 stand.directory + units 512 stand.mini_fat + units 512 stand.mini_stream =
+    stand.large_first ∙ ap (λ (k : ℕ). k + units 512 stand.mini_stream) (stand.mini_stream_first ∙ ap (λ (k : ℕ). k + units 512 stand.mini_fat) stand.mini_fat_first) in
+    chained parts total n _ entry (omega (arith, all_taken regions streams parts stand))
+    (ap (λ (ps : List (List ℕ)). is_last 512 ps n) stand.are
+    ∙ last_behind_three stand.directory stand.mini_fat stand.mini_stream (large_parts streams) n regions.large long low
+    ∙ last_rest 512 (large_parts streams) (n - regions.large) (omega arith))
+    is
 
 -- THE MINI FAT
 

@@ -19,7 +19,7 @@ returns c =
     let d_is : c.write_u32_into.new.dst ≡ flat_map (to_le_bytes w32) (spec.front_numbers c.args.fat.count c.args.mini_fat c.args.difat) =
     c.write_u32_into.ensures ∙ ap (flat_map (to_le_bytes w32)) c.front_numbers.ensures in
     let e_long : length c.fill_list.new.list ≡ 436 = ap length c.fill_list.ensures ∙ numbers_long (spec.listed_entry c.args.fat.first c.args.fat.count) 109 in
-    five_written c.args.sector.now c.copy_from_slice.new.self c.fill.new.self c.copy_from_slice-2.new.self c.write_u32_into.new.dst c.fill_list.new.list _ _ _ _ _ 8 24 40 76 _ _ _ _
+    five_written c.args.sector.now c.copy_from_slice.new.self c.fill.new.self c.copy_from_slice-2.new.self c.write_u32_into.new.dst c.fill_list.new.list _ _ _ _ _ 8 24 40 76 16 16 36 436
     a_is b_is c_is d_is c.fill_list.ensures
     (omega (arith, ap length a_is))
     (omega (arith, ap length b_is))
@@ -29,4 +29,4 @@ returns c =
     (omega (arith, ap length b_is))
     (omega (arith, ap length c_is))
     (omega (arith, ap length d_is))
-    (λ four_long. omega arith)
+    (λ four_long. omega (arith, e_long))
