@@ -1,5 +1,5 @@
 -- What an index says of its streams.
-use Rattle.std.proofs.Common.{◌≡◌, ℕ, zero, suc, ◌+◌, ◌-◌, ◌*◌, ◌<◌, List, [], ◌∷◌, ◌++◌, length, get_or, take, drop, map, sym, ◌∙◌, ap, arith}
+use Rattle.std.proofs.Common.{◌≡◌, ℕ, zero, suc, ◌+◌, ◌-◌, ◌*◌, ◌<◌, List, [], ◌∷◌, ◌++◌, length, get_or, take, drop, map, sym, ◌∙◌, ap, arith, refl}
 use Rattle.std.proofs.lemmas.List.{append_assoc, length-map, get_or-map}
 use Rattle.msi_compound_write.specs.Extents.{units, all_units}
 use Rattle.msi_compound_write.specs.Index.{Placed, placed, streams_of, IsIndex, rest_from}
