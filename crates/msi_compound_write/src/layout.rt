@@ -78,7 +78,8 @@ pub(crate) fn fill(sector: &mut [u8; SECTOR_SIZE_3], layout: &Layout, n: usize)
 fn fill_part(sector: &mut [u8; SECTOR_SIZE_3], layout: &Layout, m: usize)
     requires laid_out { IsLaidOut layout.now }
     requires within { m < layout.now.extent.taken }
-    ensures { sector.new ≡ map (laid_byte 512 (spec.parts_of layout.now.clsid (streams_in layout.now))) (range_with_len (512 * m) 512) }
+    ensures { sector.new
+        ≡ map (laid_byte 512 (spec.parts_of layout.now.clsid (streams_in layout.now))) (range_with_len (512 * m) 512) }
 {
     let places = layout.places;
     let mini_sectors = layout.extent.mini_sectors;

@@ -64,9 +64,11 @@ pub fn write_to<W: Device>(
     earlier_len: u64,
     device: &mut W,
 ) -> Result<(), Error>
-    ensures ok { OnOk result (W.held device.new ≡ option_map (with_piece (spec.layout contents.now earlier_len)) (W.held device.old)) }
+    ensures ok { OnOk result
+        (W.held device.new ≡ option_map (with_piece (spec.layout contents.now earlier_len)) (W.held device.old)) }
     ensures holds { OnOk result (Holds (spec.layout contents.now earlier_len) contents.now) }
-    ensures part { OnErr result (StandsInPart (spec.layout contents.now earlier_len) (W.held device.old) (W.held device.new)) }
+    ensures part { OnErr result
+        (StandsInPart (spec.layout contents.now earlier_len) (W.held device.old) (W.held device.new)) }
     ensures untouched { IfErr result (λ kind. (kind ≡ Io) ⊎ (W.held device.new ≡ W.held device.old)) }
     ensures refused { IsErrOf result InvalidInput ↔ IsTrue (spec.refuses contents.now earlier_len) }
     ensures failed { IsErrOf result Io ↔ IsTrue (W.failed device.new) }
