@@ -14,7 +14,7 @@ use Rattle.msi_compound_write.proofs.EntryReadLemmas.{first_of, second_of}
 use Rattle.msi_compound_write.proofs.EntryReadLemmas as entry
 
 -- what holds of each stream holds of the stream at an index
-all_at : {X : Type 0} (P : X → Type 0) (xs : List X) (i : ℕ) (d : X) → AllByRecursion P xs → i < length xs → P (get_or xs i d)
+pub all_at : {X : Type 0} (P : X → Type 0) (xs : List X) (i : ℕ) (d : X) → AllByRecursion P xs → i < length xs → P (get_or xs i d)
 all_at P [] i d h l = absurd (omega arith)
 all_at P (x ∷ xs) zero d h l = h.0
 all_at P (x ∷ xs) (suc i) d h l = all_at P xs i d h.1 (omega arith)
@@ -70,13 +70,13 @@ module _ (clsid : List ℕ) (streams : NamedStreams) (fits : length clsid ≡ 16
   root_long = length-entry_bytes (root_entry clsid streams) fits
 
   -- the root's bytes come first
-  root_at : (o : ℕ) → o < 128 → get_or (directory_of clsid streams) (128 * 0 + o) 0 ≡ get_or root o 0
+  pub root_at : (o : ℕ) → o < 128 → get_or (directory_of clsid streams) (128 * 0 + o) 0 ≡ get_or root o 0
   root_at o l =
       let start : 128 * 0 + o ≡ o = omega arith in
       ap (λ p. get_or (root ++ others ++ unused) p 0) start ∙ first_of root others unused o (rw root_long l)
 
   -- then those of each stream
-  stream_entry_at : (i o : ℕ) → i < length streams → o < 128 → get_or (directory_of clsid streams) (128 * (i + 1) + o) 0 ≡ get_or (entry_bytes (entry_at streams i)) o 0
+  pub stream_entry_at : (i o : ℕ) → i < length streams → o < 128 → get_or (directory_of clsid streams) (128 * (i + 1) + o) 0 ≡ get_or (entry_bytes (entry_at streams i)) o 0
   stream_entry_at i o l h =
       let later : 128 * (i + 1) + o ≡ 128 + (128 * i + o) = omega arith in
       let inside : 128 * i + o < length others = rw (length-stream_entries_bytes (length streams) 1 (large_first streams) 0 streams) (omega arith) in

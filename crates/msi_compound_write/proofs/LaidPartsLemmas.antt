@@ -11,7 +11,7 @@ use Rattle.msi_compound_write.proofs.PlacedLemmas.{NamedStreams, stream_at, sect
 -- LENGTHS
 
 -- what fills n sectors takes n
-filled : (long n : ℕ) → long ≡ 512 * n → div_ceil long 512 ≡ n
+pub filled : (long n : ℕ) → long ≡ 512 * n → div_ceil long 512 ≡ n
 filled long n h = omega arith
 
 -- eight mini sectors to a sector
@@ -19,7 +19,7 @@ eight_to_one : (long n : ℕ) → long ≡ 64 * n → div_ceil long 512 ≡ div_
 eight_to_one long n h = omega arith
 
 -- the mini FAT fills its sectors
-mini_fat_units : (streams : NamedStreams) → units 512 (mini_fat streams) ≡ mini_fat_sectors streams
+pub mini_fat_units : (streams : NamedStreams) → units 512 (mini_fat streams) ≡ mini_fat_sectors streams
 mini_fat_units streams =
     let n = mini_fat_sectors streams in
     filled _ n (length-map-range_with_len (table_byte (mini_fat_entry (mini_parts streams))) 0 (512 * n))
@@ -29,7 +29,7 @@ pub length-mini_stream : (streams : NamedStreams) → length (mini_stream stream
 length-mini_stream streams = length-map-range_with_len (laid_byte 64 (mini_parts streams)) 0 (64 * mini_sectors streams)
 
 -- so it takes its sectors
-mini_stream_units : (streams : NamedStreams) → units 512 (mini_stream streams) ≡ mini_stream_sectors streams
+pub mini_stream_units : (streams : NamedStreams) → units 512 (mini_stream streams) ≡ mini_stream_sectors streams
 mini_stream_units streams = eight_to_one _ (mini_sectors streams) (length-mini_stream streams)
 
 -- three parts and others, by their counts

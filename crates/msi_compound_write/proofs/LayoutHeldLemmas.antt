@@ -14,7 +14,7 @@ use Rattle.msi_compound.specs.Chains.{IsChain, AreDistinct, AreBelow}
 use Rattle.msi_compound.specs.Trees.{Tree, members}
 use Rattle.msi_compound.specs.Container as container
 use Rattle.msi_compound.specs.Format.{END_OF_CHAIN}
-use Rattle.msi_compound.specs.Container.{Plan, IsPlan, IsWholeChain, IsSector, IsDirectoryTree, HaveOwnNames, Holds, contents_of, sectors_used, mini_sectors_of_streams}
+use Rattle.msi_compound.specs.Container.{Plan, IsPlan, IsWholeChain, IsSector, IsDirectoryTree, HaveOwnNames, contents_of, sectors_used, mini_sectors_of_streams}
 use Rattle.msi_compound_write.specs.Extents.{units, all_units, start_of}
 use Rattle.msi_compound_write.specs.Image.{fat_sectors, difat_sectors}
 use Rattle.msi_compound_write.specs.SpelledParts.{IsSpelledImage, fat_behind}

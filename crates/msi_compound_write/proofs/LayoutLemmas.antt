@@ -1,22 +1,18 @@
 -- How many sectors are taken, which contents are refused, and what is written.
-use Rattle.std.proofs.Common.{◌≡◌, ℕ, ◌+◌, ◌*◌, ◌^◌, ◌<◌, ◌≤◌, Bool, true, false, ◌||◌, nat_lt, IsTrue, List, ◌∷◌, length, ◌∙◌, ap, sym, subst, arith, refl}
+use Rattle.std.proofs.Common.{◌≡◌, ℕ, ◌+◌, ◌*◌, ◌^◌, ◌<◌, ◌≤◌, Bool, true, false, ◌||◌, nat_lt, IsTrue, List, length, ◌∙◌, ap, sym, subst, arith, refl}
 use Rattle.std.specs.Int.{div_ceil}
 use Rattle.std.specs.FinMap.{entries}
 use Rattle.std.proofs.lemmas.Bool.{lt-ltb, le-ltb}
 use Rattle.msi_compound.specs.declared.contents.Contents.{Contents}
 use Rattle.msi_compound_write.specs.Extents.{all_units}
-use Rattle.msi_compound_write.specs.Image.{Run, fat_sectors, difat_sectors, least_total, image}
-use Rattle.msi_compound_write.specs.Layout.{mini_parts, large_parts, mini_sectors, mini_fat_sectors, mini_fat, mini_fat_run, mini_stream, directory_sectors, large_first, directory_of, taken_by, parts, total, layout, refuses}
-use Rattle.msi_compound_write.proofs.DirectoryLengthLemmas.{length-directory_of}
+use Rattle.msi_compound_write.specs.Image.{fat_sectors, difat_sectors, least_total}
+use Rattle.msi_compound_write.specs.Layout.{large_parts, mini_sectors, directory_sectors, large_first, taken_by, total, layout, refuses}
+use Rattle.msi_compound_write.specs.Sectors.{file}
 use Rattle.msi_compound_write.proofs.EntriesLemmas.{large_place}
 use Rattle.msi_compound_write.proofs.LaidPartsLemmas.{taken}
 use Rattle.msi_compound_write.proofs.TotalsLemmas.{total_room}
 
 -- HOW MANY SECTORS
-
--- the sectors of all parts, by their counts
-pub taken_is : (contents : Contents) → length contents.clsid ≡ 16 → all_units 512 (parts contents) ≡ taken_by (entries contents.streams)
-taken_is contents fits = taken contents.clsid (entries contents.streams) (length-directory_of contents.clsid (entries contents.streams) fits)
 
 first_of_three : (a b c d : ℕ) → a + b + c ≤ d → a ≤ d
 first_of_three a b c d h = omega arith
@@ -25,16 +21,6 @@ first_of_three a b c d h = omega arith
 pub taken_most : (taken earlier : ℕ) → taken ≤ least_total taken earlier
 taken_most taken earlier =
     first_of_three taken (fat_sectors (least_total taken earlier)) (difat_sectors (least_total taken earlier)) (least_total taken earlier) (total_room taken earlier)
-
--- what is taken holds the directory, the mini FAT and the mini sectors
-pub directory_most : (streams : List (List ℕ × List ℕ)) → directory_sectors (length streams) ≤ taken_by streams
-directory_most streams = omega arith
-
-pub mini_fat_most : (streams : List (List ℕ × List ℕ)) → mini_fat_sectors streams ≤ taken_by streams
-mini_fat_most streams = omega arith
-
-pub mini_most : (streams : List (List ℕ × List ℕ)) → mini_sectors streams ≤ 8 * taken_by streams
-mini_most streams = omega arith
 
 -- WHAT IS REFUSED
 
@@ -85,49 +71,19 @@ taken_few contents earlier n n_is few =
     let taken = taken_by (entries contents.streams) in
     below taken n (2 ^ 22) (subst (λ m. taken ≤ m) (sym n_is) (taken_most taken earlier)) few
 
--- the small streams' parts take few mini sectors
-pub mini_few : (streams : List (List ℕ × List ℕ)) (small : List (List ℕ)) → taken_by streams < 2 ^ 22 → small ≡ mini_parts streams → all_units 64 small < 2 ^ 31
-mini_few streams small few is =
-    let most : mini_sectors streams < 2 ^ 31 = omega (arith, mini_most streams) in
-    subst (λ ps. all_units 64 ps < 2 ^ 31) (sym is) most
-
--- there is room for the parts, the FAT and the DIFAT
-pub parts_room : (contents : Contents) (earlier n : ℕ) (all : List (List ℕ))
-    → length contents.clsid ≡ 16
-    → all ≡ parts contents
-    → n ≡ total contents earlier
-    → all_units 512 all + fat_sectors n + difat_sectors n ≤ n
-parts_room contents earlier n all fits is n_is =
-    let taken = taken_by (entries contents.streams) in
-    let room : taken + fat_sectors n + difat_sectors n ≤ n = subst (λ m. taken + fat_sectors m + difat_sectors m ≤ m) (sym n_is) (total_room taken earlier) in
-    subst (λ m. m + fat_sectors n + difat_sectors n ≤ n) (sym (ap (all_units 512) is ∙ taken_is contents fits)) room
-
--- the parts, by what they are
-pub parts_listed : (contents : Contents) (directory fat held : List ℕ)
-    → directory ≡ directory_of contents.clsid (entries contents.streams)
-    → fat ≡ mini_fat (entries contents.streams)
-    → held ≡ mini_stream (entries contents.streams)
-    → directory ∷ fat ∷ held ∷ large_parts (entries contents.streams) ≡ parts contents
-parts_listed contents directory fat held directory_is fat_is held_is = λ i. directory_is i ∷ fat_is i ∷ held_is i ∷ large_parts (entries contents.streams)
-
-pub same_run : (streams : List (List ℕ × List ℕ)) (n mini first count : ℕ)
-    → n ≡ length streams
-    → mini ≡ mini_sectors streams
-    → first ≡ directory_sectors n
-    → count ≡ div_ceil mini 128
-    → ◌≡◌ {A = Run} (record { first = first; count = count }) (mini_fat_run streams)
-same_run streams n mini first count n_is mini_is first_is count_is =
-    let first_path : first ≡ directory_sectors (length streams) = first_is ∙ ap directory_sectors n_is in
-    let count_path : count ≡ mini_fat_sectors streams = count_is ∙ ap (λ m. div_ceil m 128) mini_is in
-    λ i. record { first = first_path i; count = count_path i }
+-- there is room for the FAT and the DIFAT
+pub room_for : (X n taken earlier : ℕ) → X ≡ taken → n ≡ least_total taken earlier → X + fat_sectors n + difat_sectors n ≤ n
+room_for X n taken earlier x n_is =
+    subst (λ a. a + fat_sectors n + difat_sectors n ≤ n) (sym x)
+    (subst (λ m. taken + fat_sectors m + difat_sectors m ≤ m) (sym n_is) (total_room taken earlier))
 
 -- the file, by what it is made of
-pub same_image : (contents : Contents) (earlier n : ℕ) (all : List (List ℕ)) (run : Run)
-    → all ≡ parts contents
-    → run ≡ mini_fat_run (entries contents.streams)
+pub same_file : (contents : Contents) (earlier n : ℕ) (clsid : List ℕ) (streams : List (List ℕ × List ℕ))
+    → clsid ≡ contents.clsid
+    → streams ≡ entries contents.streams
     → n ≡ total contents earlier
-    → image all run n ≡ layout contents earlier
-same_image contents earlier n all run all_is run_is n_is = λ i. image (all_is i) (run_is i) (n_is i)
+    → file clsid streams n ≡ layout contents earlier
+same_file contents earlier n clsid streams clsid_is streams_is n_is = λ i. file (clsid_is i) (streams_is i) (n_is i)
 
 pub not_true : (b : Bool) → (IsTrue b → ⊥) → b ≡ false
 not_true true h = absurd (h refl)

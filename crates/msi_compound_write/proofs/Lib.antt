@@ -1,11 +1,10 @@
 -- The lemmas of this crate.
 pub mod BalanceLemmas
 pub mod RangeLemmas
-pub mod ExtentsLemmas
 pub mod ImageLemmas
 pub mod TotalsLemmas
-pub mod MiniFatLemmas
 pub mod EntriesLemmas
+pub mod PutLemmas
 pub mod LayoutHeldLemmas
 pub mod LayoutLemmas
 pub mod LayoutRows
@@ -15,6 +14,7 @@ pub mod DirectoryLengthLemmas
 pub mod EntryReadLemmas
 pub mod DirectoryBoundsLemmas
 pub mod DirectoryReadLemmas
+pub mod DirectorySectorLemmas
 pub mod LaidPartsLemmas
 pub mod MiniReadLemmas
 pub mod StreamsReadLemmas
@@ -23,3 +23,12 @@ pub mod ApartLemmas
 pub mod CollectedLemmas
 pub mod PlanWrittenLemmas
 pub mod SpelledPartsLemmas
+pub mod SectorLemmas
+pub mod SectorsHeldLemmas
+pub mod FileSectorLemmas
+pub mod RestLemmas
+pub mod IndexLemmas
+pub mod UnitLemmas
+pub mod TableLemmas
+pub mod HeaderLemmas
+pub mod RegionLemmas

@@ -1,9 +1,11 @@
 -- The words of this crate.
 pub use Rattle.msi_compound.specs.Container
-pub mod Views
 pub mod Extents
 pub mod Image
 pub mod Balance
 pub mod SpelledParts
 pub mod Layout
 pub mod LayoutLaw
+pub mod Index
+pub mod Regions
+pub mod Sectors

@@ -2,14 +2,17 @@
 #![tactic(auto)]
 
 mod balance;
+mod content;
+mod directory;
 mod entries;
 mod extents;
+mod index;
 pub mod laws;
-mod mini;
-mod numbers;
+mod layout;
 mod reasons;
-mod sectors;
+mod regions;
+mod tables;
 mod totals;
 mod writing;
 
-pub use writing::write;
+pub use writing::{write, write_to};

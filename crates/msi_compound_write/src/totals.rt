@@ -1,13 +1,38 @@
-//! How many sectors a file has: those that are taken, and those of the FAT and of the DIFAT, which grow with the file
-//! (MS-CFB 2.3 and 2.5).
+//! How many sectors a file has: those of the directory, the mini FAT and the mini stream, and those of the FAT and of
+//! the DIFAT, which grow with the file (MS-CFB 2.3 to 2.6).
 
 ghost use Rattle.std.specs.Prelude.{◌≡◌, ◌<◌, ◌≤◌, ◌^◌, IfSome, IsNone};
+ghost use Rattle.std.specs.Int.{div_ceil};
 ghost use Rattle.msi_compound_write.specs.Image as spec;
+ghost use Rattle.msi_compound_write.specs.Layout as layout;
 
-use msi_compound::format::{DIFAT_ENTRIES, FAT_ENTRIES, HEADER_FAT_SECTORS, SECTOR_SIZE_3};
+use msi_compound::format::{
+    DIFAT_ENTRIES, FAT_ENTRIES, HEADER_FAT_SECTORS, MINI_SECTOR_SIZE, SECTOR_SIZE_3,
+};
 
 /// A file that is written has fewer sectors than this: with the header they take 2^31 bytes at most.
 pub(crate) const MAX_SECTORS: usize = 1 << 22;
+
+/// How many sectors the root and `count` streams take, four entries each.
+pub(crate) fn directory_sectors(count: usize) -> usize
+    ensures { result ≡ layout.directory_sectors count }
+{
+    count / 4 + 1
+}
+
+/// How many sectors the mini FAT of so many mini sectors takes, 128 entries each (MS-CFB 2.4).
+pub(crate) fn mini_fat_sectors(mini_sectors: usize) -> usize
+    ensures { result ≡ div_ceil mini_sectors 128 }
+{
+    mini_sectors.div_ceil(FAT_ENTRIES)
+}
+
+/// How many sectors the mini stream of so many mini sectors takes, eight to a sector.
+pub(crate) fn mini_stream_sectors(mini_sectors: usize) -> usize
+    ensures { result ≡ div_ceil mini_sectors 8 }
+{
+    mini_sectors.div_ceil(SECTOR_SIZE_3 / MINI_SECTOR_SIZE)
+}
 
 /// How many sectors the FAT takes, which has an entry for each of `total` sectors.
 pub(crate) fn fat_sectors(total: usize) -> usize

@@ -1,24 +1,26 @@
-//! Writing a compound file.
+//! Writing a compound file, to memory or to a device.
 
-ghost use Rattle.std.specs.Prelude.{◌≡◌, ◌↔◌, ◌<◌, ◌≤◌, ◌^◌, ◌⊎◌, ◌∷◌, [], ◌++◌, IfOk, IfErr, IsErr, IsErrOf, IsTrue, OnErr, IfSome, IsNone};
+ghost use Rattle.std.specs.Prelude.{◌≡◌, ◌↔◌, ◌<◌, ◌≤◌, ◌^◌, ◌⊎◌, ◌||◌, is_err, option_map, IfOk, IfErr, IsErr, IsErrOf, IsTrue, OnErr, OnOk, IfSome, IsNone};
 ghost use Rattle.std.specs.FinMap as finite;
-ghost use Rattle.msi_text.specs.declared.errors.ErrorKind.TheVariants.{InvalidInput, OutOfMemory};
+ghost use Rattle.msi_text.specs.declared.errors.ErrorKind.TheVariants.{InvalidInput, Io, OutOfMemory};
+ghost use Rattle.msi_device.specs.Held.{StandsInPart, with_piece};
 ghost use Rattle.msi_compound.specs.Container.{Holds};
 ghost use Rattle.msi_compound_write.specs.Extents as extents;
 ghost use Rattle.msi_compound_write.specs.Image as image;
 ghost use Rattle.msi_compound_write.specs.Layout as spec;
-ghost use Rattle.msi_compound_write.specs.Views.{seen};
+ghost use Rattle.msi_compound_write.specs.Sectors.{IsLaidOut, file_of};
 
-use crate::entries::{
-    directory, directory_sectors, large_part, mini_fat_sectors, mini_part, mini_stream_sectors,
-};
-use crate::extents::units;
-use crate::mini::{mini_fat, mini_stream};
+use crate::extents::{large_part, mini_part, units};
+use crate::index::index;
+use crate::layout::{Extent, Layout, fill, layout_of};
 use crate::reasons;
-use crate::sectors::{Run, image};
-use crate::totals::{MAX_SECTORS, least_total};
+use crate::totals::{
+    MAX_SECTORS, directory_sectors, least_total, mini_fat_sectors, mini_stream_sectors,
+};
 use msi_compound::contents::{Contents, StreamMap};
 use msi_compound::format::{MINI_SECTOR_SIZE, SECTOR_SIZE_3};
+use msi_device::Device;
+use msi_device::parts::write_all;
 use msi_text::{Error, ErrorKind};
 use std::alloc::{AllocError, Global};
 
@@ -32,16 +34,9 @@ struct Counts {
     large_sectors: usize,
 }
 
-/// How much is laid out: the mini sectors, and all sectors of the file.
-#[derive(Clone, Copy)]
-struct Extent {
-    mini_sectors: usize,
-    total: usize,
-}
-
-/// The bytes of a compound file that holds these contents (MS-CFB 2), of version 3: the directory, the mini FAT, the mini
-/// stream, the streams of 4096 bytes and more in the container's order of names, the FAT and the DIFAT. They take the place
-/// of a file of `earlier_len` bytes, and are no shorter: free sectors stand behind the rest.
+/// The bytes of a compound file that holds these contents (MS-CFB 2), of version 3: the directory, the mini FAT, the
+/// mini stream, the streams of 4096 bytes and more in the container's order of names, the FAT and the DIFAT. They take
+/// the place of a file of `earlier_len` bytes, and are no shorter: free sectors stand behind the rest.
 ///
 /// # Errors
 /// `InvalidInput` where storages lie below the root, or the file would pass 2^31 bytes. `OutOfMemory`.
@@ -52,27 +47,75 @@ pub fn write(alloc: Global, contents: &Contents, earlier_len: u64) -> Result<Vec
     ensures kinds { IfErr result (λ kind. (kind ≡ InvalidInput) ⊎ (kind ≡ OutOfMemory)) }
 {
     let extent = check(contents, earlier_len)?;
-    let directory = directory(
-        alloc,
-        contents.clsid,
-        &contents.streams,
-        extent.mini_sectors,
-    )?;
-    let small = small_parts(alloc, &contents.streams)?;
-    let mini_fat = mini_fat(alloc, &small)?;
-    let mini_stream = mini_stream(alloc, &small)?;
-    let front = [&directory[..], &mini_fat[..], &mini_stream[..]];
-    let parts = parts(alloc, &front, &contents.streams)?;
-    let run = Run {
-        first: directory_sectors(contents.streams.len()) as u32,
-        count: mini_fat_sectors(extent.mini_sectors) as u32,
-    };
-    Ok(image(alloc, &parts, run, extent.total)?)
+    let places = index(alloc, &contents.streams)?;
+    let layout = layout_of(contents.clsid, places.as_slice(), extent);
+    Ok(image(alloc, &layout)?)
+}
+
+/// Writes the same bytes to a device, over those from its place on and past the end, and goes behind them. It holds one
+/// sector of them at a time. It clears the device's flag first. After `Io` a beginning of the bytes may stand there.
+///
+/// # Errors
+/// `InvalidInput` as `write`, and `OutOfMemory`, both before the first byte is written. `Io` where a call of the device
+/// fails, or takes no byte of what is left: exactly where its flag is set in the end.
+pub fn write_to<W: Device>(
+    alloc: Global,
+    contents: &Contents,
+    earlier_len: u64,
+    device: &mut W,
+) -> Result<(), Error>
+    ensures ok { OnOk result
+        (W.held device.new ≡ option_map (with_piece (spec.layout contents.now earlier_len)) (W.held device.old)) }
+    ensures holds { OnOk result (Holds (spec.layout contents.now earlier_len) contents.now) }
+    ensures part { OnErr result
+        (StandsInPart (spec.layout contents.now earlier_len) (W.held device.old) (W.held device.new)) }
+    ensures untouched { IfErr result (λ kind. (kind ≡ Io) ⊎ (W.held device.new ≡ W.held device.old)) }
+    ensures refused { IsErrOf result InvalidInput ↔ IsTrue (spec.refuses contents.now earlier_len) }
+    ensures failed { IsErrOf result Io ↔ IsTrue (W.failed device.new) }
+    ensures kinds { IfErr result (λ kind. (kind ≡ InvalidInput) ⊎ (kind ≡ OutOfMemory) ⊎ (kind ≡ Io)) }
+{
+    device.clear_failed();
+    let extent = check(contents, earlier_len)?;
+    let places = index(alloc, &contents.streams)?;
+    let layout = layout_of(contents.clsid, places.as_slice(), extent);
+    write_sectors(&layout, device)
+}
+
+/// The file in one vector.
+fn image(alloc: Global, layout: &Layout) -> Result<Vec<u8>, AllocError>
+    requires { IsLaidOut layout.now }
+    ensures { IfOk result (λ image. image.items ≡ file_of layout.now) }
+{
+    let count = layout.extent.total + 1;
+    let mut image = Vec::with_capacity(alloc, SECTOR_SIZE_3 * count)?;
+    let mut sector = [0; SECTOR_SIZE_3];
+    for n in 0..count {
+        fill(&mut sector, layout, n);
+        image.extend_from_slice(&sector)?;
+    }
+    Ok(image)
+}
+
+/// Writes the file to a device.
+fn write_sectors<W: Device>(layout: &Layout, device: &mut W) -> Result<(), Error>
+    requires { IsLaidOut layout.now }
+    ensures ok { OnOk result (W.held device.new ≡ option_map (with_piece (file_of layout.now)) (W.held device.old)) }
+    ensures part { OnErr result (StandsInPart (file_of layout.now) (W.held device.old) (W.held device.new)) }
+    ensures failed { W.failed device.new ≡ (W.failed device.old || is_err result) }
+    ensures kind { IfErr result (λ kind. kind ≡ Io) }
+{
+    let mut sector = [0; SECTOR_SIZE_3];
+    for n in 0..layout.extent.total + 1 {
+        fill(&mut sector, layout, n);
+        write_all(device, &sector)?;
+    }
+    Ok(())
 }
 
 /// Checks that the contents can be written, and tells how much they take.
 fn check(contents: &Contents, earlier_len: u64) -> Result<Extent, Error>
     ensures mini_sectors { IfOk result (λ extent. extent.mini_sectors ≡ spec.mini_sectors (finite.entries contents.now.streams)) }
+    ensures taken { IfOk result (λ extent. extent.taken ≡ spec.taken_by (finite.entries contents.now.streams)) }
     ensures total { IfOk result (λ extent. extent.total ≡ spec.total contents.now earlier_len) }
     ensures few { IfOk result (λ extent. extent.total < 2 ^ 22) }
     ensures refused { IsErr result ↔ IsTrue (spec.refuses contents.now earlier_len) }
@@ -90,6 +133,7 @@ fn check(contents: &Contents, earlier_len: u64) -> Result<Extent, Error>
 /// How much the streams take, unless the file would pass 2^31 bytes.
 fn measure(streams: &StreamMap, earlier_len: u64) -> Option<Extent>
     ensures mini_sectors { IfSome result (λ extent. extent.mini_sectors ≡ spec.mini_sectors (finite.entries streams.now)) }
+    ensures taken { IfSome result (λ extent. extent.taken ≡ spec.taken_by (finite.entries streams.now)) }
     ensures total { IfSome result (λ extent. extent.total ≡ image.least_total (spec.taken_by (finite.entries streams.now)) earlier_len) }
     ensures few { IfSome result (λ extent. extent.total < 2 ^ 22) }
     ensures none { IsNone result → 2 ^ 22 ≤ image.least_total (spec.taken_by (finite.entries streams.now)) earlier_len }
@@ -105,6 +149,7 @@ fn measure(streams: &StreamMap, earlier_len: u64) -> Option<Extent>
     let total = least_total(taken, earlier_len)?;
     Some(Extent {
         mini_sectors: counts.mini_sectors,
+        taken,
         total,
     })
 }
@@ -131,31 +176,4 @@ fn count(streams: &StreamMap) -> Option<Counts>
         mini_sectors,
         large_sectors,
     })
-}
-
-/// What lies in mini sectors, stream by stream.
-fn small_parts<'a>(alloc: Global, streams: &'a StreamMap) -> Result<Vec<&'a [u8]>, AllocError>
-    ensures { IfOk result (λ parts. seen parts.items ≡ spec.mini_parts (finite.entries streams.now)) }
-{
-    let mut parts = Vec::new(alloc);
-    for (_, stream) in streams.iter() {
-        parts.push(mini_part(stream.as_slice()))?;
-    }
-    Ok(parts)
-}
-
-/// What lies in sectors: these parts, and behind them stream by stream.
-fn parts<'a>(
-    alloc: Global,
-    front: &[&'a [u8]],
-    streams: &'a StreamMap,
-) -> Result<Vec<&'a [u8]>, AllocError>
-    ensures { IfOk result (λ parts. seen parts.items ≡ seen front.now ++ spec.large_parts (finite.entries streams.now)) }
-{
-    let mut parts = Vec::new(alloc);
-    parts.extend_from_slice(front)?;
-    for (_, stream) in streams.iter() {
-        parts.push(large_part(stream.as_slice()))?;
-    }
-    Ok(parts)
 }

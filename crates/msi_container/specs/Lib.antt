@@ -19,7 +19,6 @@ pub use Rattle.msi_compound_read.specs.Outcomes
 pub use Rattle.msi_compound_read.specs.Reading
 pub use Rattle.msi_compound_read.specs.Steps
 pub use Rattle.msi_compound_read.specs.Listings
-pub use Rattle.msi_compound_write.specs.Views
 pub use Rattle.msi_compound_write.specs.Extents
 pub use Rattle.msi_compound_write.specs.Image
 pub use Rattle.msi_compound_write.specs.Balance

@@ -4,6 +4,8 @@
 #[cfg(test)]
 mod faulty;
 #[cfg(test)]
+mod files;
+#[cfg(test)]
 mod memory;
 #[cfg(test)]
 mod metered;

@@ -30,3 +30,6 @@ returns-in_err-total-clause-none c =
 
 pub returns-clause-total : goal.returns-clause-total
 returns-clause-total c = c.in_ok-total.ensures.some ∙ ap (λ n. least_total n c.args.earlier_len) (taken (goal.at.returns-clause-total c).After-mini_stream_sectors)
+
+pub returns-clause-taken : goal.returns-clause-taken
+returns-clause-taken c = taken (goal.at.returns-clause-taken c).After-mini_stream_sectors
