@@ -85,7 +85,7 @@ pub(crate) fn fill_header(sector: &mut [u8; SECTOR_SIZE_3], mini_fat: Run, fat: 
     sector[8..24].fill(0);
     sector[24..40].copy_from_slice(&VERSIONS);
     LittleEndian::write_u32_into(&front_numbers(fat, mini_fat, difat), &mut sector[40..76]);
-    fill_list(&mut sector[76..SECTOR_SIZE_3], fat);
+    fill_list(&mut sector[76..], fat);
 }
 
 /// The header's numbers of 32 bits: no directory sector count, the number of FAT sectors, the directory in sector 0, no

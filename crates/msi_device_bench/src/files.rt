@@ -119,7 +119,7 @@ fn fails_and_recovers(alloc: Global, most: usize, calls: usize) -> Result<bool, 
     let mut device = device(alloc, most, calls);
     let refused = is_refused(alloc, &contents, &mut device);
     let beginning = read_all(alloc, &mut device)?;
-    let stands = image.as_slice().get(..most * calls) == Some(beginning.as_slice());
+    let stands = image.as_slice().get(..most.saturating_mul(calls)) == Some(beginning.as_slice());
     device.rewind()?;
     write_to(alloc, &contents, 0, &mut device)?;
     let whole = read_all(alloc, &mut device)?;
@@ -129,10 +129,16 @@ fn fails_and_recovers(alloc: Global, most: usize, calls: usize) -> Result<bool, 
 #[test]
 fn a_beginning_stands_after_each_fault(rt: HostRuntime) -> Result<(), Fail> {
     for calls in 0..11 {
-        assert!(rt; fails_and_recovers(rt.alloc(), 512, calls)?, "after {calls}");
+        assert!(rt;
+            fails_and_recovers(rt.alloc(), 512, calls)?,
+            "after {calls}"
+        );
     }
     for calls in [1, 511, 700, 5631] {
-        assert!(rt; fails_and_recovers(rt.alloc(), 1, calls)?, "after {calls} bytes");
+        assert!(rt;
+            fails_and_recovers(rt.alloc(), 1, calls)?,
+            "after {calls} bytes"
+        );
     }
     Ok(())
 }
