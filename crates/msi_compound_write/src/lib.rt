@@ -15,4 +15,4 @@ mod tables;
 mod totals;
 mod writing;
 
-pub use writing::{write, write_to};
+pub use writing::{is_writable, write, write_to};

@@ -1,6 +1,6 @@
 //! Writing a compound file, to memory or to a device.
 
-ghost use Rattle.std.specs.Prelude.{◌≡◌, ◌↔◌, ◌<◌, ◌≤◌, ◌^◌, ◌⊎◌, ◌||◌, is_err, option_map, IfOk, IfErr, IsErr, IsErrOf, IsTrue, OnErr, OnOk, IfSome, IsNone};
+ghost use Rattle.std.specs.Prelude.{◌≡◌, ◌↔◌, ◌<◌, ◌≤◌, ◌^◌, ◌⊎◌, ◌||◌, is_err, option_map, IfOk, IfErr, IsErr, IsErrOf, IsTrue, OnErr, OnOk, IfSome, IsNone, not};
 ghost use Rattle.std.specs.FinMap as finite;
 ghost use Rattle.msi_text.specs.declared.errors.ErrorKind.TheVariants.{InvalidInput, Io, OutOfMemory};
 ghost use Rattle.msi_device.specs.Held.{StandsInPart, with_piece};
@@ -79,6 +79,14 @@ pub fn write_to<W: Device>(
     let places = index(alloc, &contents.streams)?;
     let layout = layout_of(contents.clsid, places.as_slice(), extent);
     write_sectors(&layout, device)
+}
+
+/// Whether these contents can be written over a file of this length: where not, `write` and `write_to` answer
+/// `InvalidInput`. It takes no memory.
+pub fn is_writable(contents: &Contents, earlier_len: u64) -> bool
+    ensures { result ≡ not (spec.refuses contents.now earlier_len) }
+{
+    check(contents, earlier_len).is_ok()
 }
 
 /// The file in one vector.

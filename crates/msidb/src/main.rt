@@ -4,6 +4,7 @@
 ghost use Rattle.std.specs.Prelude.{◌≡◌, ◌≤◌, ◌↔◌, false};
 ghost use Rattle.msidb.specs.Commands.{fits_command};
 
+mod buffered;
 mod command;
 mod raw;
 #[cfg(test)]
@@ -13,7 +14,7 @@ mod wrap;
 use command::Command;
 use msi_text::Error;
 use std::fs::OpenFile;
-use std::io::{Read, Write};
+use std::io::{Read, Seek, Write};
 use std::process::ExitCode;
 use std::rt::{Env, Files};
 use std::{env, io};
@@ -32,7 +33,7 @@ pub fn run<R, I, O, E>(
 ) -> u8
 where
     R: Files + AllocGlobal,
-    R::File: OpenFile + Read + Write + Drop,
+    R::File: OpenFile + Read + Write + Seek + Drop,
     I: Read,
     O: Write,
     E: Write,
@@ -53,7 +54,7 @@ where
 fn carry_out<R, I, O>(rt: &R, command: &Command, input: &mut I, output: &mut O) -> Result<(), Error>
 where
     R: Files + AllocGlobal,
-    R::File: OpenFile + Read + Write + Drop,
+    R::File: OpenFile + Read + Write + Seek + Drop,
     I: Read,
     O: Write,
 {

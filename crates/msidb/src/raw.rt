@@ -38,10 +38,10 @@ where
 
 /// A line for each stream of a container.
 fn list(alloc: Global, file: &[u8]) -> Result<Vec<u8>, Error> {
-    let contents = compound::read(alloc, file)?;
+    let listing = compound::list(alloc, file)?;
     let mut lines = Vec::new(alloc);
-    for (name, bytes) in contents.streams.iter() {
-        add_line(alloc, &mut lines, name, bytes.as_slice().len() as u64)?;
+    for (name, size) in listing.sizes.iter() {
+        add_line(alloc, &mut lines, name, *size)?;
     }
     Ok(lines)
 }

@@ -1,44 +1,50 @@
 //! `wrap OUT NAME`: a container with standard input as its one stream.
 
-ghost use Rattle.std.specs.Prelude.{◌≡◌, ◌↔◌, ◌⊎◌, false, chars, IfOk, IfErr, IsErrOf, IsTrue};
-ghost use Rattle.msi_text.specs.declared.errors.ErrorKind.TheVariants.{InvalidInput, OutOfMemory};
+ghost use Rattle.std.specs.Prelude.{◌≡◌, ◌↔◌, ◌⊎◌, false, chars, option_map, IfOk, IfErr, IsErr, IsErrOf, IsTrue, OnOk};
+ghost use Rattle.msi_text.specs.declared.errors.ErrorKind.TheVariants.{InvalidInput, Io, OutOfMemory};
 ghost use Rattle.msi_container.specs.Container.{Holds};
+ghost use Rattle.msi_container.specs.Held.{with_piece};
 ghost use Rattle.msi_container.specs.Layout.{layout, refuses};
 ghost use Rattle.msi_container.specs.Names.{utf16_units};
 ghost use Rattle.msi_container.specs.StreamNames.{encoded_name, is_valid_name};
 ghost use Rattle.msidb.specs.Wrapped.{wrapped};
 
-use msi_container::compound::{self, Bytes, Contents, Name, StreamMap};
+use crate::buffered::Buffered;
+use msi_container::compound::{self, Bytes, Contents, Device, Metered, Name, StreamMap};
 use msi_container::streamname;
+use msi_device::parts::fault;
 use msi_text::{Error, ErrorKind, Reason};
 use std::alloc::Global;
 use std::fs;
-use std::io::{Read, Write};
+use std::io::{Read, Seek, Write};
 use std::rt::Files;
 
 const NAME_REFUSED: Reason = Reason("the name can't name a stream");
+
+const INPUT_TOO_LARGE: Reason = Reason("the file would pass 2^31 bytes");
 
 /// The CLSID of an installer package, as the root stores it: 000C1084-0000-0000-C000-000000000046.
 const INSTALLER_CLSID: [u8; 16] = [
     0x84, 0x10, 0x0C, 0, 0, 0, 0, 0, 0xC0, 0, 0, 0, 0, 0, 0, 0x46,
 ];
 
-/// Writes the container. The whole image is made before `out` is touched.
+/// Writes the container. What can't be written is refused before `out` is touched.
 pub(crate) fn wrap_input<R, I>(rt: &R, out: &str, name: &str, input: &mut I) -> Result<(), Error>
 where
     R: Files + AllocGlobal,
-    R::File: Write + Drop,
+    R::File: Read + Write + Seek + Drop,
     I: Read,
     ensures { is_valid_name false (chars name.now) ≡ false → IsErrOf result InvalidInput }
 {
     let name = container_name(rt.alloc(), name)?;
     let mut bytes = Vec::new(rt.alloc());
     input.read_to_end(&mut bytes)?;
-    let image = image_of(rt.alloc(), name, bytes)?;
-    let mut file = fs::create(rt, out)?;
-    file.write_all(image.as_slice())?;
-    file.flush()?;
-    Ok(())
+    let contents = contents_of(rt.alloc(), name, bytes)?;
+    if !compound::is_writable(&contents, 0) {
+        return Err(Error::new(ErrorKind::InvalidInput, INPUT_TOO_LARGE));
+    }
+    let file = Buffered::new(rt.alloc(), fs::create(rt, out)?)?;
+    write_whole(rt.alloc(), &contents, &mut Metered::new(file))
 }
 
 /// The container's name of an accepted stream name.
@@ -54,19 +60,28 @@ fn container_name(alloc: Global, name: &str) -> Result<Name, Error>
     Name::new(encoded.as_str())
 }
 
-/// The bytes of a container with one stream.
-fn image_of(alloc: Global, name: Name, bytes: Vec<u8>) -> Result<Vec<u8>, Error>
-    ensures ok { IfOk result (λ image. image.items ≡ layout (wrapped name bytes.items) 0) }
-    ensures holds { IfOk result (λ image. Holds image.items (wrapped name bytes.items)) }
-    ensures refused { IsErrOf result InvalidInput → IsTrue (refuses (wrapped name bytes.items) 0) }
-    ensures kinds { IfErr result (λ kind. (kind ≡ InvalidInput) ⊎ (kind ≡ OutOfMemory)) }
+/// The contents of a container with one stream.
+fn contents_of(alloc: Global, name: Name, bytes: Vec<u8>) -> Result<Contents, Error>
+    ensures ok { IfOk result (λ contents. contents ≡ wrapped name bytes.items) }
+    ensures memory { IsErr result → IsErrOf result OutOfMemory }
 {
     let mut streams = StreamMap::new(alloc);
     streams.insert(name, Bytes::from_vec(bytes))?;
-    let contents = Contents {
+    Ok(Contents {
         clsid: INSTALLER_CLSID,
         streams,
         has_storages: false,
-    };
-    compound::write(alloc, &contents, 0)
+    })
+}
+
+/// Writes a container over an empty device, and hands on what the device kept back.
+fn write_whole<W: Device>(alloc: Global, contents: &Contents, device: &mut W) -> Result<(), Error>
+    ensures ok { OnOk result (W.held device.new ≡ option_map (with_piece (layout contents.now 0)) (W.held device.old)) }
+    ensures holds { OnOk result (Holds (layout contents.now 0) contents.now) }
+    ensures refused { IsErrOf result InvalidInput ↔ IsTrue (refuses contents.now 0) }
+    ensures kinds { IfErr result (λ kind. (kind ≡ InvalidInput) ⊎ (kind ≡ OutOfMemory) ⊎ (kind ≡ Io)) }
+{
+    compound::write_to(alloc, contents, 0, device)?;
+    device.flush().map_err(fault)?;
+    Ok(())
 }
