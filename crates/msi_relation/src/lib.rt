@@ -1,0 +1,12 @@
+//! Selected rows: what a query for rows gives of tables.
+#![tactic(auto)]
+
+mod columns;
+mod joining;
+mod narrowing;
+mod reasons;
+pub mod relation;
+pub mod selection;
+
+pub use relation::Relation;
+pub use selection::{Tables, select};
