@@ -12,13 +12,15 @@ use Rattle.msi_table.specs.declared.value.ValueRef.TheVariants as cell
 use Rattle.msi_table.specs.declared.value.Value.{Value}
 use Rattle.msi_table.specs.declared.value.Value.TheVariants as value
 use Rattle.msi_table.specs.Cells.{value_of_cell}
-use Rattle.msi_table.specs.Columns.{ColumnDef, column_index}
+use Rattle.msi_table.specs.Columns.{ColumnDef, column_index, column_named}
 use Rattle.msi_table.specs.StoredOrder.{row_values}
 use Rattle.msi_query.specs.declared.query.JoinKind.{JoinKind}
 use Rattle.msi_query.specs.declared.query.JoinKind.TheVariants.{Inner, Left}
 use Rattle.msi_query.specs.Expressions.{Expression}
-use Rattle.msi_relation.specs.Selection.{meets, or_nulls, projected_row, selected, value_in}
-use Rattle.msi_relation.specs.Rows.{RelationCells, cell_at, cells_at, column_at, is_left, projected_cells, relation_values, rows_values}
+use Rattle.msi_query.specs.Conditions.{meets, value_in}
+use Rattle.msi_query.specs.Queries.{Clauses}
+use Rattle.msi_relation.specs.Selection.{is_left, or_nulls, projected_row, selected}
+use Rattle.msi_relation.specs.Rows.{RelationCells, cell_at, cells_at, column_at, projected_cells, relation_values, rows_values}
 
 -- a column that is kept
 pub column_kept : (columns kept new : List ColumnDef) (places : List (Option ℕ)) (i : ℕ) (d : Option ℕ) (c : ColumnDef) → i < length places → column_at columns (get_or places i d) ≡ Some c
@@ -37,7 +39,7 @@ value_of_present places None = refl
 value_of_present places (Some c) = refl
 
 value_of_place : (places : List Place) (row : List ValueRef) (o : Option ℕ)
-    → value_of_cell places (cell_at row o) ≡ unwrap_or (option_and_then (λ i. slice_get (row_values places row) i) o) value.Null
+    → value_of_cell places (cell_at row o) ≡ unwrap_or (option_and_then (slice_get (row_values places row)) o) value.Null
 value_of_place places row None = refl
 value_of_place places row (Some i) = value_of_present places (slice_get row i) ∙ ap (λ v. unwrap_or v value.Null) (sym (slice_get-map (value_of_cell places) row i))
 
@@ -56,26 +58,29 @@ rows_projected places columns names (row ∷ rows) =
     ∙ ap (λ rs. projected_row columns names (row_values places row) ∷ rs) (rows_projected places columns names rows)
 
 columns_projected : (columns : List ColumnDef) (names : List (List ℕ))
-    → filter_map (column_at columns) (map (λ n. column_index n columns) names) ≡ filter_map (λ n. option_and_then (λ i. slice_get columns i) (column_index n columns)) names
+    → filter_map (column_at columns) (map (λ n. column_index n columns) names) ≡ filter_map (λ n. column_named n columns) names
 columns_projected columns [] = refl
 columns_projected columns (n ∷ ns) = ap (λ cs. cons_option (column_at columns (column_index n columns)) cs) (columns_projected columns ns)
 
 -- a relation of which some columns are kept
-pub projected_is : (places : List Place) (names : List (List ℕ)) (condition : Option Expression) (r new : RelationCells) (kept : List (List ValueRef)) → (length names == 0) ≡ false
-    → rows_values places kept ≡ filter (meets r.columns condition) (rows_values places r.rows) → new ≡ projected_cells names r.columns kept
-    → relation_values places new ≡ selected (record { columns = names; condition = condition }) (relation_values places r)
-projected_is places names condition r new kept some k e =
+projected_is : (places : List Place) (c : Clauses) (r new : RelationCells) (kept : List (List ValueRef)) → (length c.columns == 0) ≡ false
+    → rows_values places kept ≡ filter (meets r.columns c.condition) (rows_values places r.rows) → new ≡ projected_cells c.columns r.columns kept
+    → relation_values places new ≡ selected c (relation_values places r)
+projected_is places c r new kept some k e =
     ap (relation_values places) e
-    ∙ rw (some, columns_projected r.columns names, rows_projected places r.columns names kept, k) refl
+    ∙ rw (some, columns_projected r.columns c.columns, rows_projected places r.columns c.columns kept, k) refl
 
-pub projected_answer : (places : List Place) (names : List (List ℕ)) (condition : Option Expression) (r : RelationCells) (first second : List ColumnDef) (rows kept slice : List (List ValueRef)) (answer : Result RelationCells ErrorKind)
-    → (length names == 0) ≡ false → first ≡ r.columns → second ≡ r.columns → rows ≡ r.rows → slice ≡ kept
+pub projected_answer : (places : List Place) (c : Clauses) (r : RelationCells) (first second : List ColumnDef) (names : List (List ℕ)) (condition : Option Expression)
+    (rows kept slice : List (List ValueRef)) (answer : Result RelationCells ErrorKind)
+    → (length names == 0) ≡ false → names ≡ c.columns → condition ≡ c.condition → first ≡ r.columns → second ≡ r.columns → rows ≡ r.rows → slice ≡ kept
     → rows_values places kept ≡ filter (meets first condition) (rows_values places rows) → IfOk answer (λ new. new ≡ projected_cells names second slice)
-    → IfOk answer (λ new. relation_values places new ≡ selected (record { columns = names; condition = condition }) (relation_values places r))
-projected_answer places names condition r first second rows kept slice (Ok new) some f s w t k e =
-    projected_is places names condition r new kept some (k ∙ ap (λ cs. filter (meets cs condition) (rows_values places rows)) f ∙ ap (λ rs. filter (meets r.columns condition) (rows_values places rs)) w)
-    (e ∙ ap (λ cs. projected_cells names cs slice) s ∙ ap (λ ks. projected_cells names r.columns ks) t)
-projected_answer places names condition r first second rows kept slice (Err kind) some f s w t k e = e
+    → IfOk answer (λ new. relation_values places new ≡ selected c (relation_values places r))
+projected_answer places c r first second names condition rows kept slice (Ok new) some n m f s w t k e =
+    projected_is places c r new kept (ap (λ (ns : List (List ℕ)). length ns == 0) (sym n) ∙ some)
+    (k ∙ ap (λ cs. filter (meets cs condition) (rows_values places rows)) f ∙ ap (λ o. filter (meets r.columns o) (rows_values places rows)) m
+    ∙ ap (λ rs. filter (meets r.columns c.condition) (rows_values places rs)) w)
+    (e ∙ ap (λ cs. projected_cells names cs slice) s ∙ ap (λ ks. projected_cells names r.columns ks) t ∙ ap (λ ns. projected_cells ns r.columns kept) n)
+projected_answer places c r first second names condition rows kept slice (Err kind) some n m f s w t k e = e
 
 nulls_values : (places : List Place) (n : ℕ) → row_values places (replicate n cell.Null) ≡ replicate n value.Null
 nulls_values places zero = refl
