@@ -15,7 +15,7 @@ use msi_query::query::JoinKind;
 use msi_table::column::Column;
 use msi_table::parts::{column_index, has_column, nullable, renamed};
 use msi_text::errors::Error;
-use msi_text::text::{IntoText, Items, Text};
+use msi_text::text::{Items, Text};
 use std::alloc::Global;
 
 /// Whether each of the names is that of a column.
@@ -89,18 +89,18 @@ pub(crate) fn columns_of(
 ///
 /// # Errors
 /// `OutOfMemory`.
-fn prefixed(alloc: Global, side: &str, name: &str) -> Result<Text, Error>
-    ensures ok { IfOk result (λ whole. whole
+fn prefixed(alloc: Global, side: &str, name: &str) -> Result<String, Error>
+    ensures ok { IfOk result (λ whole. whole.bytes
         ≡ (if length side.now == 0 then name.now else side.now ++ 46 ∷ name.now)) }
     ensures kind { OnlyMemory result }
 {
     if side.is_empty() {
-        return name.into_text(alloc);
+        return Ok(String::from_str(alloc, name)?);
     }
     let mut whole = String::from_str(alloc, side)?;
     whole.push('.')?;
     whole.push_str(name)?;
-    Ok(Text::from_string(whole))
+    Ok(whole)
 }
 
 /// A side's column as a join has it; it takes null where it did, or where that is asked.
