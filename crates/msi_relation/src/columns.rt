@@ -1,6 +1,6 @@
 //! The columns of relations.
 
-ghost use Rattle.std.specs.Prelude.{◌≡◌, ◌++◌, ◌∷◌, ◌==◌, map, IfOk, OnOk, if◌then◌else◌, length, List, option_copied};
+ghost use Rattle.std.specs.Prelude.{◌≡◌, ◌++◌, ◌∷◌, ◌==◌, map, IfOk, OnOk, if◌then◌else◌, length, List, option_copied, string_bytes};
 ghost use Rattle.std.specs.List.{filter_map};
 ghost use Rattle.msi_text.specs.Pool.{Place};
 ghost use Rattle.msi_text.specs.Results.{OnlyMemory};
@@ -90,7 +90,7 @@ pub(crate) fn columns_of(
 /// # Errors
 /// `OutOfMemory`.
 fn prefixed(alloc: Global, side: &str, name: &str) -> Result<String, Error>
-    ensures ok { IfOk result (λ whole. whole.bytes
+    ensures ok { IfOk result (λ whole. string_bytes whole
         ≡ (if length side.now == 0 then name.now else side.now ++ 46 ∷ name.now)) }
     ensures kind { OnlyMemory result }
 {

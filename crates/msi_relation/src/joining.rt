@@ -1,9 +1,8 @@
 //! Joins.
 
-ghost use Rattle.std.specs.Prelude.{◌≡◌, ◌++◌, IfOk, OnOk, Some, length, replicate};
+ghost use Rattle.std.specs.Prelude.{◌≡◌, ◌++◌, IfOk, OnOk, Some, length};
 ghost use Rattle.std.specs.List.{flat_map};
 ghost use Rattle.msi_text.specs.Results.{OnlyMemory};
-ghost use Rattle.msi_table.specs.declared.value.ValueRef.TheVariants as cell;
 ghost use Rattle.msi_table.specs.StoredOrder.{row_values};
 ghost use Rattle.msi_query.specs.Conditions.{meets};
 ghost use Rattle.msi_relation.specs.Rows.{rows_values};
@@ -11,6 +10,7 @@ ghost use Rattle.msi_relation.specs.Selection.{pairs_of, rows_of_row};
 
 use crate::columns::is_left;
 use crate::relation::Relation;
+use crate::rows::{pair, with_nulls};
 use msi_query::expr::Expr;
 use msi_query::parts::RowFilter;
 use msi_query::query::JoinKind;
@@ -27,36 +27,6 @@ struct Join<'a> {
     kind: JoinKind,
     filter: RowFilter<'a>,
     width: usize,
-}
-
-/// One row behind another.
-///
-/// # Errors
-/// `OutOfMemory`.
-fn pair(alloc: Global, row: &[ValueRef], other: &[ValueRef]) -> Result<Items<ValueRef>, Error>
-    ensures ok { IfOk result (λ pair. pair ≡ row.now ++ other.now) }
-    ensures kind { OnlyMemory result }
-{
-    let mut cells = Vec::with_capacity(alloc, row.len().saturating_add(other.len()))?;
-    cells.extend_from_slice(row)?;
-    cells.extend_from_slice(other)?;
-    Ok(Items::from_vec(cells))
-}
-
-/// A row with so many nulls behind it.
-///
-/// # Errors
-/// `OutOfMemory`.
-fn with_nulls(alloc: Global, row: &[ValueRef], count: usize) -> Result<Items<ValueRef>, Error>
-    ensures ok { IfOk result (λ cells. cells ≡ row.now ++ replicate count cell.Null) }
-    ensures kind { OnlyMemory result }
-{
-    let mut cells = Vec::with_capacity(alloc, row.len().saturating_add(count))?;
-    cells.extend_from_slice(row)?;
-    for _ in 0..count {
-        cells.push(ValueRef::Null)?;
-    }
-    Ok(Items::from_vec(cells))
 }
 
 /// Adds the pairs of a left row with right rows that a filter lets through. No row is made for a pair that is only

@@ -6,6 +6,7 @@ mod joining;
 mod narrowing;
 mod reasons;
 pub mod relation;
+mod rows;
 pub mod selection;
 
 pub use relation::Relation;

@@ -4,12 +4,13 @@ ghost use Rattle.std.specs.Prelude.{◌≡◌, map, filter, IfOk, IfErr, Ok, opt
 ghost use Rattle.msi_text.specs.Results.{OnlyMemory};
 ghost use Rattle.msi_query.specs.Conditions.{meets};
 ghost use Rattle.msi_relation.specs.Refusals.{IsRefusal, unless_refused};
-ghost use Rattle.msi_relation.specs.Rows.{cell_at, cells_at, projected_cells, relation_values, rows_values};
+ghost use Rattle.msi_relation.specs.Rows.{cells_at, projected_cells, relation_values, rows_values};
 ghost use Rattle.msi_relation.specs.Selection.{clause_refusals, narrowed as narrowed_by, selected as selected_by};
 
 use crate::columns::{columns_of, has_columns, knows_condition, places_of};
 use crate::reasons;
 use crate::relation::Relation;
+use crate::rows::projected_row;
 use msi_query::expr::Expr;
 use msi_query::parts::{Clauses, RowFilter};
 use msi_table::column::Column;
@@ -59,35 +60,6 @@ fn kept_rows(
 {
     let filter = RowFilter::new(alloc, columns, condition)?;
     filtered(alloc, pool, &filter, rows)
-}
-
-/// The cell at a place of a row, or null.
-fn cell_of(row: &[ValueRef], place: Option<usize>) -> ValueRef
-    ensures { result ≡ cell_at row.now place }
-{
-    match place {
-        Some(place) if place < row.len() => row[place],
-        _ => ValueRef::Null,
-    }
-}
-
-/// The cells at the places of a row, in the places' order.
-///
-/// # Errors
-/// `OutOfMemory`.
-fn projected_row(
-    alloc: Global,
-    places: &[Option<usize>],
-    row: &[ValueRef],
-) -> Result<Items<ValueRef>, Error>
-    ensures ok { IfOk result (λ cells. cells ≡ cells_at places.now row.now) }
-    ensures kind { OnlyMemory result }
-{
-    let mut cells = Vec::new(alloc);
-    for place in places {
-        cells.push(cell_of(row, *place))?;
-    }
-    Ok(Items::from_vec(cells))
 }
 
 /// The cells at the places of each row.

@@ -3,7 +3,13 @@
 use crate::samples::Asked::{self, Columns, Inner, Left, Table, With};
 use crate::samples::Given::Int;
 use crate::samples::On::{Below, Both, Is, Same};
-use crate::samples::gives;
+use crate::samples::{both, columns, gives, query};
+use crate::tables::{Kept, Listed};
+use msi_query::Select;
+use msi_relation::select;
+use msi_table::ValueRef;
+use msi_text::{CodePage, Error, IntoText, Items, StringPool};
+use std::alloc::Global;
 use std::test::Fail;
 
 const LINES: [(Asked, &str); 11] = [
@@ -83,5 +89,48 @@ fn joins_give_pairs_in_the_order_of_their_sides(rt: HostRuntime) -> Result<(), F
     for (row, (asked, line)) in LINES.iter().enumerate() {
         assert!(rt; gives(rt.alloc(), asked, line)?, "row {row}");
     }
+    Ok(())
+}
+
+/// The rows of the numbers below a count.
+fn numbers(alloc: Global, count: i32) -> Result<Vec<Items<ValueRef>>, Error> {
+    let mut rows = Vec::new(alloc);
+    for number in 0..count {
+        rows.push(Items::from_vec(vec![in alloc; ValueRef::Int(number)]?))?;
+    }
+    Ok(rows)
+}
+
+/// A table of the numbers below a count.
+fn numbered(alloc: Global, count: i32) -> Result<Listed, Error> {
+    let (name, columns) = both("N".into_text(alloc), columns(alloc, &["k"]))?;
+    let kept = Kept {
+        name,
+        columns,
+        rows: Some(numbers(alloc, count)?),
+    };
+    Ok(Listed {
+        tables: vec![in alloc; kept]?,
+    })
+}
+
+/// How many rows a query gives of that table.
+fn count_of(alloc: Global, query: &Select, count: i32) -> Result<usize, Error> {
+    let pool = StringPool::new(alloc, CodePage::Utf8);
+    let relation = select(alloc, &pool, &numbered(alloc, count)?, query)?;
+    Ok(relation.rows().len())
+}
+
+/// The table joined with itself on equal numbers. Its right side has no name, so that the columns have two.
+const SAME_NUMBERS: Asked = Inner(
+    &Table("N"),
+    &Columns(&Table("N"), &["k"]),
+    Same("N.k", "k"),
+);
+
+#[test]
+fn two_thousand_rows_are_joined_on_equal_keys(rt: HostRuntime) -> Result<(), Fail> {
+    let query = query(rt.alloc(), &SAME_NUMBERS)?;
+    assert!(rt; count_of(rt.alloc(), &query, 2000)? == 2000);
     Ok(())
 }
