@@ -22,10 +22,10 @@ use msi_text::text::Items;
 use std::alloc::Global;
 
 /// A join: its kind, its condition on pairs, and how many columns its right side has.
-#[derive(Drop)]
-struct Join<'a> {
+#[derive(Clone, Copy, Drop)]
+struct Join<'a, 'b> {
     kind: JoinKind,
-    filter: RowFilter<'a>,
+    filter: &'a RowFilter<'b>,
     width: usize,
 }
 
@@ -70,13 +70,13 @@ fn add_row(
     rows: &mut Vec<Items<ValueRef>>,
 ) -> Result<(), Error>
     ensures ok { let values = rows_values pool.now.places in
-        let test = meets join.now.filter.columns join.now.filter.condition in
+        let test = meets join.now.filter.now.columns join.now.filter.now.condition in
         OnOk result (values rows.new.items ≡ values rows.old.items
         ++ rows_of_row join.now.kind test join.now.width (values right.now) (row_values pool.now.places row.now)) }
     ensures kind { OnlyMemory result }
 {
     let before = rows.len();
-    add_pairs(alloc, pool, &join.filter, right, row, rows)?;
+    add_pairs(alloc, pool, join.filter, right, row, rows)?;
     if is_left(join.kind) && rows.len() == before {
         rows.push(with_nulls(alloc, row, join.width)?)?;
     }
@@ -95,7 +95,7 @@ fn rows_by_scan(
     right: &[Items<ValueRef>],
 ) -> Result<Vec<Items<ValueRef>>, Error>
     ensures ok { let values = rows_values pool.now.places in
-        let test = meets join.now.filter.columns join.now.filter.condition in
+        let test = meets join.now.filter.now.columns join.now.filter.now.condition in
         IfOk result (λ rows. values rows.items
         ≡ flat_map (rows_of_row join.now.kind test join.now.width (values right.now)) (values left.now)) }
     ensures kind { OnlyMemory result }
@@ -118,20 +118,19 @@ pub(crate) fn joined_rows(
     columns: &[Column],
     on: &Expr,
     left: &Relation,
-    right: &Relation,
+    right: Relation,
 ) -> Result<Vec<Items<ValueRef>>, Error>
     ensures ok { let values = rows_values pool.now.places in
         let test = meets columns.now (Some on.now) in
         IfOk result (λ rows. values rows.items
-        ≡ flat_map (rows_of_row kind test (length right.now.columns) (values right.now.rows)) (values left.now.rows)) }
+        ≡ flat_map (rows_of_row kind test (length right.columns) (values right.rows)) (values left.now.rows)) }
     ensures kind { OnlyMemory result }
 {
     let filter = RowFilter::new(alloc, columns, Some(on))?;
-    let width = right.columns().len();
     let join = Join {
         kind,
-        filter,
-        width,
+        filter: &filter,
+        width: right.columns().len(),
     };
     rows_by_scan(alloc, pool, &join, left.rows(), right.rows())
 }

@@ -27,16 +27,16 @@ use std::alloc::Global;
 fn filtered(
     alloc: Global,
     pool: &StringPool,
-    filter: &RowFilter,
+    test: &RowFilter,
     rows: Vec<Items<ValueRef>>,
 ) -> Result<Vec<Items<ValueRef>>, Error>
     ensures ok { IfOk result (λ kept. rows_values pool.now.places kept.items
-        ≡ filter (meets filter.now.columns filter.now.condition) (rows_values pool.now.places rows.items)) }
+        ≡ filter (meets test.now.columns test.now.condition) (rows_values pool.now.places rows.items)) }
     ensures kind { OnlyMemory result }
 {
     let mut kept = Vec::new(alloc);
     for row in rows {
-        if filter.meets(alloc, pool, row.as_slice())? {
+        if test.meets(alloc, pool, row.as_slice())? {
             kept.push(row)?;
         }
     }
@@ -58,8 +58,8 @@ fn kept_rows(
         ≡ filter (meets columns.now (option_copied condition.entry)) (rows_values pool.now.places rows.items)) }
     ensures kind { OnlyMemory result }
 {
-    let filter = RowFilter::new(alloc, columns, condition)?;
-    filtered(alloc, pool, &filter, rows)
+    let test = RowFilter::new(alloc, columns, condition)?;
+    filtered(alloc, pool, &test, rows)
 }
 
 /// The cells at the places of each row.

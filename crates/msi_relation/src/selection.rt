@@ -62,7 +62,7 @@ fn joined(
         return Err(Error::new(ErrorKind::InvalidInput, reasons::JOIN_COLUMN));
     }
     refuse_unknown(columns.as_slice(), clauses)?;
-    let rows = joined_rows(alloc, pool, kind, columns.as_slice(), on, &left, &right)?;
+    let rows = joined_rows(alloc, pool, kind, columns.as_slice(), on, &left, right)?;
     let name = Text::from_string(String::new(alloc));
     let whole = Relation::new(name, columns, rows);
     selected(alloc, pool, clauses, whole)

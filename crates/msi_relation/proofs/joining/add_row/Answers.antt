@@ -12,7 +12,7 @@ pub returns-clause-ok : goal.returns-clause-ok
 returns-clause-ok c =
     let places = c.args.pool.now.places in
     let join = c.args.join.now in
-    let pairs = pairs_of (meets join.filter.columns join.filter.condition) (rows_values places c.args.right.now) (row_values places c.args.row.now) in
+    let pairs = pairs_of (meets join.filter.now.columns join.filter.now.condition) (rows_values places c.args.right.now) (row_values places c.args.row.now) in
     elim c.if-is_left.branch [
       | then-is_left+then-len-before+in_ok-with_nulls+in_ok-push w ↦
           nulls_added join.kind places c.args.rows.now.items c.add_pairs.new.rows.items c.if-is_left.rows.items c.args.row.now w.in_ok-with_nulls.field-0 join.width pairs

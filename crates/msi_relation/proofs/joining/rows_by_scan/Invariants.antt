@@ -8,6 +8,6 @@ use Rattle.msi_relation.proofs.joining.rows_by_scan.Given as goal
 abbrev pub invariant-loop-row : goal.invariant-loop-row
 invariant-loop-row l = record {
   rows : rows_values l.pool.places l.rows.items
-      ≡ flat_map (rows_of_row l.join.kind (meets l.join.filter.columns l.join.filter.condition) l.join.width (rows_values l.pool.places l.right))
+      ≡ flat_map (rows_of_row l.join.kind (meets l.join.filter.now.columns l.join.filter.now.condition) l.join.width (rows_values l.pool.places l.right))
       (rows_values l.pool.places (take l.row-index l.left));
 }

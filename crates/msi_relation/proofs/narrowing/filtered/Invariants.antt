@@ -6,5 +6,5 @@ use Rattle.msi_relation.proofs.narrowing.filtered.Given as goal
 abbrev pub invariant-loop-row : goal.invariant-loop-row
 invariant-loop-row l = record {
   kept : rows_values l.pool.places l.kept.items
-      ≡ filter (meets l.filter.columns l.filter.condition) (rows_values l.pool.places l.yielded);
+      ≡ filter (meets l.test.columns l.test.condition) (rows_values l.pool.places l.yielded);
 }
