@@ -79,30 +79,35 @@ fn condition(alloc: Global, on: &On) -> Result<Expr, Error> {
     }
 }
 
-/// Two queries, and a condition on their pairs.
-fn sides(
-    alloc: Global,
-    left: &Asked,
-    right: &Asked,
-    on: &On,
-) -> Result<((Select, Select), Expr), Error> {
-    both(
-        both(query(alloc, left), query(alloc, right)),
-        condition(alloc, on),
-    )
+/// The inner join of two queries.
+fn inner(
+    sides: Result<(Select, Select), Error>,
+    on: Result<Expr, Error>,
+) -> Result<Select, Error> {
+    let ((left, right), on) = both(sides, on)?;
+    left.inner_join(right, on)
+}
+
+/// Their left join.
+fn left(
+    sides: Result<(Select, Select), Error>,
+    on: Result<Expr, Error>,
+) -> Result<Select, Error> {
+    let ((left, right), on) = both(sides, on)?;
+    left.left_join(right, on)
 }
 
 /// The query that is told.
 pub(crate) fn query(alloc: Global, asked: &Asked) -> Result<Select, Error> {
     match asked {
         Asked::Table(name) => Select::table(alloc, *name),
-        Asked::Inner(left, right, on) => {
-            let ((left, right), on) = sides(alloc, *left, *right, on)?;
-            left.inner_join(right, on)
+        Asked::Inner(one, other, on) => {
+            let sides = both(query(alloc, *one), query(alloc, *other));
+            inner(sides, condition(alloc, on))
         }
-        Asked::Left(left, right, on) => {
-            let ((left, right), on) = sides(alloc, *left, *right, on)?;
-            left.left_join(right, on)
+        Asked::Left(one, other, on) => {
+            let sides = both(query(alloc, *one), query(alloc, *other));
+            left(sides, condition(alloc, on))
         }
         Asked::Columns(of, names) => query(alloc, *of)?.columns(*names),
         Asked::With(of, on) => {
@@ -304,11 +309,18 @@ pub(crate) fn gives(alloc: Global, asked: &Asked, line: &str) -> Result<bool, Er
     Ok(given.as_str() == line)
 }
 
+/// Whether an error is of a kind; another is passed on, as refused memory is.
+fn is_kind(error: Error, kind: ErrorKind) -> Result<bool, Error> {
+    if error.kind() == kind {
+        return Ok(true);
+    }
+    Err(error)
+}
+
 /// Whether a query is refused so, unless memory was.
 pub(crate) fn is_refused(alloc: Global, asked: &Asked, kind: ErrorKind) -> Result<bool, Error> {
     match given_by(alloc, asked) {
-        Ok(_) => Ok(false),
-        Err(error) if error.kind() == kind => Ok(true),
-        Err(error) => Err(error),
+        Ok(_line) => Ok(false),
+        Err(error) => is_kind(error, kind),
     }
 }

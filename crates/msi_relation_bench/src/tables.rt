@@ -1,9 +1,10 @@
 //! Tables in a list.
 
-ghost use Rattle.std.specs.Prelude.{◌≡◌, IfOk, IfErr, Ok, option_map, option_and_then, slice_get, position, bytes_eq};
+ghost use Rattle.std.specs.Prelude.{◌≡◌, IfOk, IfErr, Ok, Some, option_map, option_and_then, slice_get, position, bytes_eq};
 ghost use Rattle.msi_text.specs.Results.{OnlyMemory};
-ghost use Rattle.msi_text.specs.declared.errors.ErrorKind.TheVariants.{InvalidData};
-ghost use Rattle.msi_relation.specs.Refusals.{IsRefusal, or_refused, ◌>>=◌};
+ghost use Rattle.msi_relation.specs.Refusals.{IsRefusal};
+ghost use Rattle.msi_relation.specs.Rows.{whole_table};
+ghost use Rattle.msi_relation_bench.specs.Tables.{cells_of};
 
 use msi_relation::{Relation, Tables};
 use msi_table::parts::copied_columns;
@@ -65,10 +66,8 @@ fn copied(
 
 /// The relation of a table under the name that was asked for.
 fn found(alloc: Global, name: &str, kept: &Kept) -> Result<Relation, Error>
-    ensures ok { IfOk result (λ relation. (or_refused InvalidData (option_map (λ rows. rows.items) kept.now.rows)
-        >>= λ rows. Ok (record { name = name.now; columns = kept.now.columns; rows = rows })) ≡ Ok relation) }
-    ensures kind { IfErr result (IsRefusal (or_refused InvalidData (option_map (λ rows. rows.items) kept.now.rows)
-        >>= λ rows. Ok (record { name = name.now; columns = kept.now.columns; rows = rows }))) }
+    ensures ok { IfOk result (λ relation. whole_table (λ _. Some (cells_of kept.now)) name.now ≡ Ok relation) }
+    ensures kind { IfErr result (IsRefusal (whole_table (λ _. Some (cells_of kept.now)) name.now)) }
 {
     match &kept.rows {
         Some(rows) => copied(alloc, name, kept.columns.as_slice(), rows.as_slice()),
@@ -87,9 +86,7 @@ fn place_of(tables: &[Kept], name: &str) -> Option<usize>
 }
 
 impl Tables for Listed {
-    ghost table = { λ listed name. option_map
-        (λ kept. record { columns = kept.columns; rows = option_map (λ rows. rows.items) kept.rows })
-        (option_and_then (slice_get listed.tables.items)
+    ghost table = { λ listed name. option_map cells_of (option_and_then (slice_get listed.tables.items)
         (position (λ kept. bytes_eq kept.name name) listed.tables.items)) };
 
     fn find(&self, alloc: Global, name: &str) -> Result<Relation, Error> {
