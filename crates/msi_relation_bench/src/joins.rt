@@ -131,6 +131,6 @@ const SAME_NUMBERS: Asked = Inner(
 #[test]
 fn two_thousand_rows_are_joined_on_equal_keys(rt: HostRuntime) -> Result<(), Fail> {
     let query = query(rt.alloc(), &SAME_NUMBERS)?;
-    assert!(rt; count_of(rt.alloc(), &query, 20)? == 20);
+    assert!(rt; count_of(rt.alloc(), &query, 2000)? == 2000);
     Ok(())
 }

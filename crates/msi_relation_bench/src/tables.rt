@@ -1,6 +1,6 @@
 //! Tables in a list.
 
-ghost use Rattle.std.specs.Prelude.{◌≡◌, IfOk, IfErr, Ok, Some, option_map, option_and_then, slice_get, position, bytes_eq};
+ghost use Rattle.std.specs.Prelude.{◌≡◌, IfOk, IfErr, Ok, Some, option_map, option_and_then, option_copied, slice_get, position, bytes_eq};
 ghost use Rattle.msi_text.specs.Results.{OnlyMemory};
 ghost use Rattle.msi_relation.specs.Refusals.{IsRefusal};
 ghost use Rattle.msi_relation.specs.Rows.{whole_table};
@@ -85,14 +85,25 @@ fn place_of(tables: &[Kept], name: &str) -> Option<usize>
     tables.iter().position(|kept| kept.name.as_str() == name)
 }
 
+/// The table of a name.
+fn kept_named<'a>(tables: &'a [Kept], name: &str) -> Option<&'a Kept>
+    ensures { option_copied result
+        ≡ option_and_then (slice_get tables.now) (position (λ kept. bytes_eq kept.name name.now) tables.now) }
+{
+    match place_of(tables, name) {
+        Some(place) => tables.get(place),
+        None => None,
+    }
+}
+
 impl Tables for Listed {
     ghost table = { λ listed name. option_map cells_of (option_and_then (slice_get listed.tables.items)
         (position (λ kept. bytes_eq kept.name name) listed.tables.items)) };
 
     fn find(&self, alloc: Global, name: &str) -> Result<Relation, Error> {
-        match place_of(self.tables.as_slice(), name) {
-            Some(place) if place < self.tables.len() => found(alloc, name, &self.tables[place]),
-            _ => Err(Error::new(
+        match kept_named(self.tables.as_slice(), name) {
+            Some(kept) => found(alloc, name, kept),
+            None => Err(Error::new(
                 ErrorKind::NotFound,
                 Reason("there is no such table"),
             )),
