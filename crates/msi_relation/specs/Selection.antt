@@ -86,10 +86,10 @@ rows_of_row kind test n right row = or_nulls kind row n (pairs_of test right row
 
 abbrev pub joined : JoinKind → Expression → Relation → Relation → Relation
 joined kind on l r = let columns = joined_columns kind l r in record {
-      name = [];
-      columns = columns;
-      rows = flat_map (rows_of_row kind (meets columns (Some on)) (length r.columns) r.rows) l.rows;
-    }
+  name = [];
+  columns = columns;
+  rows = flat_map (rows_of_row kind (meets columns (Some on)) (length r.columns) r.rows) l.rows;
+}
 
 -- what the clauses keep of a join, or the refusal of its condition or theirs
 abbrev pub joined_narrowed : JoinKind → Expression → Clauses → Relation → Relation → Result Relation ErrorKind

@@ -139,10 +139,7 @@ pub(crate) fn refuse_unknown(columns: &[Column], clauses: &Clauses) -> Result<()
         return Err(Error::new(ErrorKind::InvalidInput, reasons::KEPT_COLUMN));
     }
     if !knows_condition(columns, clauses.condition()) {
-        return Err(Error::new(
-            ErrorKind::InvalidInput,
-            reasons::CONDITION_COLUMN,
-        ));
+        return Err(Error::new(ErrorKind::InvalidInput, reasons::CONDITION_COLUMN));
     }
     Ok(())
 }

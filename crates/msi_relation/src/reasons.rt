@@ -2,8 +2,9 @@
 
 use msi_text::Reason;
 
-pub(crate) const JOIN_COLUMN: Reason =
-    Reason("the condition of a join names a column that isn't there");
+pub(crate) const JOIN_COLUMN: Reason = Reason(
+    "the condition of a join names a column that isn't there",
+);
 
 pub(crate) const KEPT_COLUMN: Reason = Reason("a column that is to be kept isn't there");
 

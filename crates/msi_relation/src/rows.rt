@@ -43,7 +43,11 @@ pub(crate) fn projected_row(
 ///
 /// # Errors
 /// `OutOfMemory`.
-pub(crate) fn pair(alloc: Global, row: &[ValueRef], other: &[ValueRef]) -> Result<Items<ValueRef>, Error>
+pub(crate) fn pair(
+    alloc: Global,
+    row: &[ValueRef],
+    other: &[ValueRef],
+) -> Result<Items<ValueRef>, Error>
     ensures ok { IfOk result (λ pair. pair ≡ row.now ++ other.now) }
     ensures kind { OnlyMemory result }
 {
@@ -57,7 +61,11 @@ pub(crate) fn pair(alloc: Global, row: &[ValueRef], other: &[ValueRef]) -> Resul
 ///
 /// # Errors
 /// `OutOfMemory`.
-pub(crate) fn with_nulls(alloc: Global, row: &[ValueRef], count: usize) -> Result<Items<ValueRef>, Error>
+pub(crate) fn with_nulls(
+    alloc: Global,
+    row: &[ValueRef],
+    count: usize,
+) -> Result<Items<ValueRef>, Error>
     ensures ok { IfOk result (λ cells. cells ≡ row.now ++ replicate count cell.Null) }
     ensures kind { OnlyMemory result }
 {

@@ -38,11 +38,7 @@ const LINES: [(Asked, &str); 11] = [
     ),
     // A side of which columns are kept has none either.
     (
-        Left(
-            &Table("A"),
-            &Columns(&Table("B"), &["f"]),
-            Same("A.k", "f"),
-        ),
+        Left(&Table("A"), &Columns(&Table("B"), &["f"]), Same("A.k", "f")),
         "| A.k f? | 1 1 | 2 NULL",
     ),
     // Pairs come left row by left row, and each left row's in the right side's order.
@@ -122,11 +118,7 @@ fn count_of(alloc: Global, query: &Select, count: i32) -> Result<usize, Error> {
 }
 
 /// The table joined with itself on equal numbers. Its right side has no name, so that the columns have two.
-const SAME_NUMBERS: Asked = Inner(
-    &Table("N"),
-    &Columns(&Table("N"), &["k"]),
-    Same("N.k", "k"),
-);
+const SAME_NUMBERS: Asked = Inner(&Table("N"), &Columns(&Table("N"), &["k"]), Same("N.k", "k"));
 
 #[test]
 fn two_thousand_rows_are_joined_on_equal_keys(rt: HostRuntime) -> Result<(), Fail> {

@@ -80,19 +80,13 @@ fn condition(alloc: Global, on: &On) -> Result<Expr, Error> {
 }
 
 /// The inner join of two queries.
-fn inner(
-    sides: Result<(Select, Select), Error>,
-    on: Result<Expr, Error>,
-) -> Result<Select, Error> {
+fn inner(sides: Result<(Select, Select), Error>, on: Result<Expr, Error>) -> Result<Select, Error> {
     let ((left, right), on) = both(sides, on)?;
     left.inner_join(right, on)
 }
 
 /// Their left join.
-fn left(
-    sides: Result<(Select, Select), Error>,
-    on: Result<Expr, Error>,
-) -> Result<Select, Error> {
+fn left(sides: Result<(Select, Select), Error>, on: Result<Expr, Error>) -> Result<Select, Error> {
     let ((left, right), on) = both(sides, on)?;
     left.left_join(right, on)
 }
@@ -165,11 +159,7 @@ fn cell(alloc: Global, pool: &mut StringPool, given: Given) -> Result<ValueRef, 
 }
 
 /// The cells of a row.
-fn cells(
-    alloc: Global,
-    pool: &mut StringPool,
-    given: &[Given],
-) -> Result<Items<ValueRef>, Error> {
+fn cells(alloc: Global, pool: &mut StringPool, given: &[Given]) -> Result<Items<ValueRef>, Error> {
     let mut cells = Vec::new(alloc);
     for given in given {
         cells.push(cell(alloc, pool, *given)?)?;

@@ -63,7 +63,11 @@ const REFUSED: [(Asked, ErrorKind); 10] = [
     ),
     // A condition's columns have to be there, also where there are no rows.
     (
-        Inner(&Table("E"), &Table("E"), Both(&Same("E.k", "E.k"), &Same("E.k", "k"))),
+        Inner(
+            &Table("E"),
+            &Table("E"),
+            Both(&Same("E.k", "E.k"), &Same("E.k", "k")),
+        ),
         ErrorKind::InvalidInput,
     ),
     // Columns of a join are named after their sides.

@@ -71,10 +71,7 @@ fn found(alloc: Global, name: &str, kept: &Kept) -> Result<Relation, Error>
 {
     match &kept.rows {
         Some(rows) => copied(alloc, name, kept.columns.as_slice(), rows.as_slice()),
-        None => Err(Error::new(
-            ErrorKind::InvalidData,
-            Reason("the table can't be read"),
-        )),
+        None => Err(Error::new(ErrorKind::InvalidData, Reason("the table can't be read"))),
     }
 }
 
@@ -103,10 +100,7 @@ impl Tables for Listed {
     fn find(&self, alloc: Global, name: &str) -> Result<Relation, Error> {
         match kept_named(self.tables.as_slice(), name) {
             Some(kept) => found(alloc, name, kept),
-            None => Err(Error::new(
-                ErrorKind::NotFound,
-                Reason("there is no such table"),
-            )),
+            None => Err(Error::new(ErrorKind::NotFound, Reason("there is no such table"))),
         }
     }
 }
