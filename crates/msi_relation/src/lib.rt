@@ -1,0 +1,13 @@
+//! Selected rows: what a query for rows gives of tables.
+#![tactic(auto)]
+
+mod columns;
+mod joining;
+mod narrowing;
+mod reasons;
+pub mod relation;
+mod rows;
+pub mod selection;
+
+pub use relation::Relation;
+pub use selection::{Tables, select};

@@ -1,0 +1,11 @@
+//! Why a query for rows is refused: a sentence for each rule.
+
+use msi_text::Reason;
+
+pub(crate) const JOIN_COLUMN: Reason = Reason(
+    "the condition of a join names a column that isn't there",
+);
+
+pub(crate) const KEPT_COLUMN: Reason = Reason("a column that is to be kept isn't there");
+
+pub(crate) const CONDITION_COLUMN: Reason = Reason("a condition names a column that isn't there");

@@ -1,0 +1,11 @@
+//! Tests of the crate `msi_relation`.
+#![tactic(auto)]
+
+#[cfg(test)]
+mod joins;
+#[cfg(test)]
+mod samples;
+#[cfg(test)]
+mod selection;
+#[cfg(test)]
+mod tables;
