@@ -7,5 +7,4 @@ mod joins;
 mod samples;
 #[cfg(test)]
 mod selection;
-#[cfg(test)]
-mod tables;
+pub mod tables;

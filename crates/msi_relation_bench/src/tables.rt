@@ -1,4 +1,4 @@
-//! Tables in a list.
+//! Tables in a list, which tests select from.
 
 ghost use Rattle.std.specs.Prelude.{◌≡◌, IfOk, IfErr, Ok, Some, option_map, option_and_then, option_copied, slice_get, position, bytes_eq};
 ghost use Rattle.msi_text.specs.Results.{OnlyMemory};
@@ -14,16 +14,16 @@ use std::alloc::Global;
 
 /// A table; there are no rows where it can't be read.
 #[derive(Drop)]
-pub(crate) struct Kept {
-    pub(crate) name: Text,
-    pub(crate) columns: Items<Column>,
-    pub(crate) rows: Option<Vec<Items<ValueRef>>>,
+pub struct Kept {
+    pub name: Text,
+    pub columns: Items<Column>,
+    pub rows: Option<Vec<Items<ValueRef>>>,
 }
 
 /// Tables in a list.
 #[derive(Drop)]
-pub(crate) struct Listed {
-    pub(crate) tables: Vec<Kept>,
+pub struct Listed {
+    pub tables: Vec<Kept>,
 }
 
 /// A row once more.
