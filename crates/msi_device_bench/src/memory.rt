@@ -6,7 +6,7 @@ use std::process::Abort;
 use std::test::Fail;
 
 /// A device that holds ten digits, at the fifth.
-pub fn digits(alloc: Global) -> Result<Memory, Fail> {
+pub(crate) fn digits(alloc: Global) -> Result<Memory, Fail> {
     let mut memory = Memory::from_vec(Vec::from_slice(alloc, b"0123456789".as_slice())?);
     let mut front = [0; 4];
     memory.read(&mut front)?;
