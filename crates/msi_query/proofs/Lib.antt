@@ -2,6 +2,7 @@ pub mod FoldingLemmas
 pub mod BuiltLemmas
 pub mod TreeLemmas
 pub mod NamesLemmas
+pub mod EquatedLemmas
 pub mod EvaluationRows
 pub mod ReaderLemmas
 pub mod TokenLemmas

@@ -3,6 +3,7 @@ pub mod Expressions
 pub mod ExpressionCode
 pub mod Evaluation
 pub mod Conditions
+pub mod Equated
 pub mod Folding
 pub mod Names
 pub mod Views

@@ -5,10 +5,12 @@ ghost use Rattle.msi_text.specs.declared.errors.ErrorKind.TheVariants.{OutOfMemo
 ghost use Rattle.msi_table.specs.declared.value.Value.TheVariants.{Null, Int, Str};
 ghost use Rattle.msi_query.specs.Expressions.{literal, column, both, either, names_in};
 ghost use Rattle.msi_query.specs.Conditions.{has_sum, is_text};
+ghost use Rattle.msi_query.specs.Equated.{equated as equated_in};
 ghost use Rattle.msi_query.specs.Evaluation.{knows_names as knows_each, truth, value_of, value_at, HasColumnsOf};
 ghost use Rattle.msi_query.specs.Folding.{folded_unary, folded_binary};
 ghost use Rattle.msi_query.specs.Names.{has_name};
 
+mod equated;
 mod evaluation;
 pub(crate) mod filter;
 mod folding;
@@ -18,6 +20,7 @@ mod operators;
 mod printing;
 mod views;
 
+use equated::equated_places;
 use evaluation::operand_of;
 use folding::{fold_binary, fold_unary};
 use msi_table::column::Column;
@@ -459,6 +462,13 @@ impl Expr {
         collect_names(&self.tree, &mut names)?;
         Ok(names)
     }
+    /// The places of the first equality of one column of each side in it.
+    pub(crate) fn equated_places(&self, columns: &[Column], width: usize) -> Option<(usize, usize)>
+        ensures { result ≡ equated_in columns.now width self.now }
+    {
+        equated_places(&self.tree, columns, width)
+    }
+
     /// Whether each name in it is that of a column.
     pub(crate) fn knows_names(&self, columns: &[Column]) -> bool
         ensures { result ≡ knows_each columns.now self.now }

@@ -2,6 +2,7 @@
 #![tactic(auto)]
 
 mod columns;
+mod index;
 mod joining;
 mod narrowing;
 mod reasons;

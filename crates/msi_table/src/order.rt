@@ -53,7 +53,7 @@ pub(crate) fn sort_rows(
 }
 
 /// How the values of two cells stand to one another. No text is copied.
-fn compare_values(pool: &StringPool, cell: ValueRef, other: ValueRef) -> Ordering
+pub fn compare_values(pool: &StringPool, cell: ValueRef, other: ValueRef) -> Ordering
     ensures { result ≡ value_cmp (value_of_cell pool.now.places cell) (value_of_cell pool.now.places other) }
 {
     match cell {

@@ -11,7 +11,7 @@ ghost use Rattle.msi_table.specs.Columns.{HasShortLength, table_of, has_column a
 
 use crate::column::{Column, ColumnBuilder, ColumnType};
 pub use crate::columns::{column_index, copied_columns, has_column};
-pub use crate::order::{compare_keys, sort_by_keys};
+pub use crate::order::{compare_keys, compare_values, sort_by_keys};
 use crate::row::{Row, Rows, values_of};
 use crate::table::Table;
 pub use crate::texts::{copied_list, copied_texts};
