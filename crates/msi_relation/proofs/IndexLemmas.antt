@@ -1,14 +1,14 @@
 -- What is found among rows in the order of their values at a place, and that a join finds the same pairs so.
-use Rattle.std.proofs.Common.{◌≡◌, ℕ, zero, suc, ◌+◌, ◌-◌, ◌<◌, ◌≤◌, Bool, true, false, List, [], ◌∷◌, ◌++◌, length, map, take, drop, get_or, filter, refl, sym, ap, subst, ◌∙◌, arith, Ordering, ltb-true, ltb-false}
-use Rattle.std.specs.Prelude.{IsTrue, slice_index_or, nat_lt, Option, Some, slice_get, unwrap_or}
+use Rattle.std.proofs.Common.{◌≡◌, ℕ, zero, suc, ◌+◌, ◌-◌, ◌<◌, ◌≤◌, Bool, true, false, List, [], ◌∷◌, ◌++◌, length, map, take, drop, get_or, filter, refl, sym, ap, subst, ◌∙◌, arith, Ordering, eqb-true}
+use Rattle.std.specs.Prelude.{IsTrue, IfSome, Option, Some, None, ◌==◌, ◌&&◌}
 use Rattle.std.specs.List.{AllByRecursion, flat_map}
-use Rattle.std.specs.List.Sorted.{IsSorted, IsSortedByKey, IsNonDecreasingBy}
+use Rattle.std.specs.List.Sorted.{IsNonDecreasingBy, IsPartitionPoint, IsPartitionedBy}
 use Rattle.std.specs.declared.cmp.Ordering.TheVariants.{Less, Equal, Greater}
 use Rattle.std.specs.Ordering.{is_lt, is_le, is_eq, ordering_index}
-use Rattle.std.specs.Cmp.{IsStrictWeakOrder}
-use Rattle.std.proofs.lemmas.List.{append-nil, map-append, take_more}
+use Rattle.std.specs.Cmp.{IsStrictWeakOrder, tied_itself}
+use Rattle.std.proofs.lemmas.List.{append-nil, length-map, map-append, take_more}
 use Rattle.std.proofs.lemmas.List.Concat.{flat_map-append}
-use Rattle.std.proofs.lemmas.List.Sorted.{ranks_by, searchable_from_sorted}
+use Rattle.std.proofs.lemmas.List.Sorted.{IsNonDecreasingBy-drop, ranks_by, searchable_from_sorted}
 use Rattle.msi_text.specs.Lists.{placed, stable_sort}
 use Rattle.msi_text.specs.Pool.{Place}
 use Rattle.msi_table.specs.declared.value.ValueRef.{ValueRef}
@@ -20,7 +20,7 @@ use Rattle.msi_table.proofs.StableSortLemmas.{only_stable_sort}
 use Rattle.msi_query.specs.declared.query.JoinKind.{JoinKind}
 use Rattle.msi_query.specs.Conditions.{value_at_place}
 use Rattle.msi_query.specs.Equated.{PassesWithEqual}
-use Rattle.msi_relation.specs.Index.{has_value, in_place_order, place_cmp, value_there}
+use Rattle.msi_relation.specs.Index.{PassWithEqual, has_value, has_width, in_place_order, place_cmp, value_there}
 use Rattle.msi_relation.specs.Rows.{rows_values}
 use Rattle.msi_relation.specs.Selection.{or_nulls, pairs_of, rows_of_row}
 use Rattle.msi_relation.proofs.SelectionLemmas.{value_of_place}
@@ -109,3 +109,115 @@ module _ {X : Type 0} (o : X → Ordering) where
   between (x ∷ xs) (suc i) j b f g m n =
       between xs i j b (λ k d l h. f (suc k) d (omega arith) (omega arith)) (λ k d l h. g (suc k) d (omega arith) (omega arith)) m n
       ∙ sym (filter_no (λ x. is_eq (o x)) x xs (below_out x (f 0 x (omega arith) (omega arith))))
+
+lt_down : (u v : Ordering) → ordering_index u ≤ ordering_index v → is_lt v ≡ true → is_lt u ≡ true
+lt_down Less v h e = refl
+lt_down Equal Less h e = absurd (omega arith)
+lt_down Equal Equal h e = cc
+lt_down Equal Greater h e = cc
+lt_down Greater Less h e = absurd (omega arith)
+lt_down Greater Equal h e = cc
+lt_down Greater Greater h e = cc
+
+le_down : (u v : Ordering) → ordering_index u ≤ ordering_index v → is_le v ≡ true → is_le u ≡ true
+le_down Less v h e = refl
+le_down Equal v h e = refl
+le_down Greater Less h e = absurd (omega arith)
+le_down Greater Equal h e = absurd (omega arith)
+le_down Greater Greater h e = cc
+
+-- Rows by their values at a place
+module _ (places : List Place) (place : ℕ) where
+  place_cmp-weak : IsStrictWeakOrder (λ x y. is_lt (place_cmp places place x y))
+  place_cmp-weak = ranks_by value_cmp-total (value_there places place)
+
+  rises : (rows before : List (List ValueRef)) (v : Value) → rows ≡ in_place_order places place before
+      → IsNonDecreasingBy (λ row. ordering_index (value_cmp (value_there places place row) v)) rows
+  rises rows before v e = searchable_from_sorted value_cmp-total (value_there places place) rows v
+      ((only_stable_sort (place_cmp places place) place_cmp-weak before rows).0 e).ascends
+
+  pub parted_below : (rows before : List (List ValueRef)) (v : Value) → rows ≡ in_place_order places place before
+      → IsPartitionedBy (λ row. is_lt (value_cmp (value_there places place row) v)) rows
+  parted_below rows before v e i j d h l t = lt_down _ (value_cmp (value_there places place (get_or rows j d)) v) (rises rows before v e i j d h l) t
+
+  pub parted_above : (rows before : List (List ValueRef)) (v : Value) (i : ℕ) → rows ≡ in_place_order places place before
+      → IsPartitionedBy (λ row. is_le (value_cmp (value_there places place row) v)) (drop i rows)
+  parted_above rows before v n e i j d h l t = le_down _ (value_cmp (value_there places place (get_or (drop n rows) j d)) v)
+      (IsNonDecreasingBy-drop (λ row. ordering_index (value_cmp (value_there places place row) v)) n rows (rises rows before v e) i j d h l) t
+
+  alike : (v : Value) (x y : List ValueRef) → has_value places place v x ≡ true → has_value places place v y ≡ true → is_lt (place_cmp places place y x) ≡ false
+  alike v x y t u =
+      let e : value_there places place x ≡ v = (value_eq-Decides (value_there places place x) v).0 t in
+      let f : value_there places place y ≡ v = (value_eq-Decides (value_there places place y) v).0 u in
+      ap is_lt (ap (λ w. value_cmp w (value_there places place x)) f ∙ ap (value_cmp v) e ∙ tied_itself value_cmp-total v)
+
+  pub found_rows : (rows before : List (List ValueRef)) (v : Value) (i j : ℕ) → rows ≡ in_place_order places place before → j ≤ length (drop i rows)
+      → IsPartitionPoint (λ row. is_lt (value_cmp (value_there places place row) v) ≡ true) (λ row. is_lt (value_cmp (value_there places place row) v) ≡ false) rows i
+      → IsPartitionPoint (λ row. is_le (value_cmp (value_there places place row) v) ≡ true) (λ row. is_le (value_cmp (value_there places place row) v) ≡ false) (drop i rows) j
+      → take j (drop i rows) ≡ filter (has_value places place v) before
+  found_rows rows before v i j e b f g =
+      between (λ row. value_cmp (value_there places place row) v) rows i j b
+      (λ k d h l. f.0 k d (omega arith) h) (λ k d h l. f.1 k d h l) (λ k d h. g.0 k d (omega arith) h) (λ k d h l. g.1 k d h l)
+      ∙ ap (filter (has_value places place v)) e
+      ∙ filter_sorted (place_cmp places place) (has_value places place v) (alike v) before
+
+-- Pairs that a join tries
+module _ (places : List Place) (test : List Value → Bool) where
+  same_pairs : (p : List ValueRef → Bool) (row : List Value) (right : List (List ValueRef)) → ((other : List ValueRef) → test (row ++ row_values places other) ≡ true → p other ≡ true)
+      → pairs_of test (rows_values places (filter p right)) row ≡ pairs_of test (rows_values places right) row
+  same_pairs p row [] h = refl
+  same_pairs p row (other ∷ right) h = by_test (p other)
+      (λ t. ap (λ (rs : List (List ValueRef)). pairs_of test (rows_values places rs) row) (filter_yes p other right t)
+      ∙ filter_behind test (row ++ row_values places other) _ _ (same_pairs p row right h))
+      (λ t. ap (λ (rs : List (List ValueRef)). pairs_of test (rows_values places rs) row) (filter_no p other right t)
+      ∙ same_pairs p row right h
+      ∙ sym (filter_no test (row ++ row_values places other) (map (λ o. row ++ o) (rows_values places right))
+      (by_test (test (row ++ row_values places other)) (λ u. let f : p other ≡ true = h other u in cc) (λ u. u))))
+
+  asked_value : (left : List (List ValueRef)) (at : ℕ × ℕ) (i : ℕ) (d other : List ValueRef) → PassWithEqual places test left at → i < length left
+      → test (row_values places (get_or left i d) ++ row_values places other) ≡ true → has_value places at.1 (value_there places at.0 (get_or left i d)) other ≡ true
+  asked_value [] at i d other w l t = absurd (omega arith)
+  asked_value (row ∷ left) at (suc i) d other w l t = asked_value left at i d other w.1 (omega arith) t
+  asked_value (row ∷ left) at zero d other w l t =
+      let e : value_at_place (row_values places row) at.0 ≡ value_at_place (row_values places other) at.1 = (value_eq-Decides _ _).0 (w.0 (row_values places other) t) in
+      (value_eq-Decides (value_there places at.1 other) (value_there places at.0 row)).1
+      (value_of_place places other (Some at.1) ∙ sym e ∙ sym (value_of_place places row (Some at.0)))
+
+  -- one more left row, beside the right rows that were found for it
+  pub row_joined : (kind : JoinKind) (n : ℕ) (old new : List (List Value)) (left right found : List (List ValueRef)) (at : ℕ × ℕ) (i : ℕ) (d : List ValueRef)
+      → PassWithEqual places test left at → i < length left
+      → found ≡ filter (has_value places at.1 (value_there places at.0 (get_or left i d))) right
+      → new ≡ old ++ rows_of_row kind test n (rows_values places found) (row_values places (get_or left i d))
+      → old ≡ flat_map (rows_of_row kind test n (rows_values places right)) (rows_values places (take i left))
+      → new ≡ flat_map (rows_of_row kind test n (rows_values places right)) (rows_values places (take (i + 1) left))
+  row_joined kind n old new left right found at i d w l f e s =
+      let row : List ValueRef = get_or left i d in
+      let give : List Value → List (List Value) = rows_of_row kind test n (rows_values places right) in
+      e ∙ ap (λ (rs : List (List ValueRef)). old ++ rows_of_row kind test n (rows_values places rs) (row_values places row)) f
+      ∙ ap (λ ps. old ++ or_nulls kind (row_values places row) n ps)
+      (same_pairs (has_value places at.1 (value_there places at.0 row)) (row_values places row) right (λ other t. asked_value left at i d other w l t))
+      ∙ ap (λ rs. rs ++ give (row_values places row)) s
+      ∙ ap (λ rs. flat_map give (rows_values places (take i left)) ++ rs) (sym (append-nil (give (row_values places row))))
+      ∙ sym (flat_map-append give (rows_values places (take i left)) (row_values places row ∷ []))
+      ∙ sym (ap (flat_map give) (map-append (row_values places) (take i left) (row ∷ [])))
+      ∙ ap (λ rs. flat_map give (rows_values places rs)) (sym (take_more left i d l))
+
+-- Left rows of the width of their columns
+both_true : (a b : Bool) → (a && b) ≡ true → (a ≡ true) × (b ≡ true)
+both_true true true e = (refl, refl)
+both_true true false e = cc
+both_true false b e = cc
+
+wide_at : (n : ℕ) (rows : List (List ValueRef)) → has_width n rows ≡ true → AllByRecursion (λ row. length row ≡ n) rows
+wide_at n [] e = tt
+wide_at n (row ∷ rows) e = let b = both_true (length row == n) (has_width n rows) e in (eqb-true (length row) n b.0, wide_at n rows b.1)
+
+all_pass : (places : List Place) (test : List Value → Bool) (n : ℕ) (left : List (List ValueRef)) (at : ℕ × ℕ) → AllByRecursion (λ row. length row ≡ n) left
+    → PassesWithEqual test n at → PassWithEqual places test left at
+all_pass places test n [] at w p = tt
+all_pass places test n (row ∷ left) at w p = (λ other t. p (row_values places row) other (length-map row _ ∙ w.0) t, all_pass places test n left at w.1 p)
+
+pub asked_pass : (places : List Place) (test : List Value → Bool) (n : ℕ) (left : List (List ValueRef)) (answer : Option (ℕ × ℕ)) → has_width n left ≡ true
+    → IfSome answer (PassesWithEqual test n) → IfSome answer (PassWithEqual places test left)
+asked_pass places test n left None w p = tt
+asked_pass places test n left (Some at) w p = all_pass places test n left at (wide_at n left w) p

@@ -38,7 +38,7 @@ value_of_present : (places : List Place) (o : Option ValueRef) → value_of_cell
 value_of_present places None = refl
 value_of_present places (Some c) = refl
 
-value_of_place : (places : List Place) (row : List ValueRef) (o : Option ℕ)
+pub value_of_place : (places : List Place) (row : List ValueRef) (o : Option ℕ)
     → value_of_cell places (cell_at row o) ≡ unwrap_or (option_and_then (slice_get (row_values places row)) o) value.Null
 value_of_place places row None = refl
 value_of_place places row (Some i) = value_of_present places (slice_get row i) ∙ ap (λ v. unwrap_or v value.Null) (sym (slice_get-map (value_of_cell places) row i))

@@ -1,6 +1,6 @@
 -- Rows in the order of their values at a place.
-use Rattle.std.specs.Prelude.{ℕ, Bool, List, Option, Some, None, length, ◌==◌, if◌then◌else◌}
-use Rattle.std.specs.List.{list_all}
+use Rattle.std.specs.Prelude.{ℕ, Bool, List, Option, Some, None, length, ◌++◌, ◌==◌, if◌then◌else◌, IsTrue}
+use Rattle.std.specs.List.{AllByRecursion, list_all}
 use Rattle.std.specs.Ordering.{is_eq}
 use Rattle.std.specs.declared.cmp.Ordering.{Ordering}
 use Rattle.msi_text.specs.Lists.{stable_sort}
@@ -9,7 +9,9 @@ use Rattle.msi_table.specs.declared.value.ValueRef.{ValueRef}
 use Rattle.msi_table.specs.declared.value.Value.{Value}
 use Rattle.msi_table.specs.Cells.{value_of_cell}
 use Rattle.msi_table.specs.Columns.{ColumnDef}
+use Rattle.msi_table.specs.StoredOrder.{row_values}
 use Rattle.msi_table.specs.Values.{value_cmp}
+use Rattle.msi_query.specs.Conditions.{value_at_place}
 use Rattle.msi_query.specs.Equated.{equated}
 use Rattle.msi_query.specs.Expressions.{Expression}
 use Rattle.msi_relation.specs.Rows.{cell_at}
@@ -34,3 +36,9 @@ has_width n rows = list_all (λ row. length row == n) rows
 -- the places by which pairs are looked up, where each left row has a cell for each of its columns
 abbrev pub places_asked : List ColumnDef → ℕ → Expression → List (List ValueRef) → Option (ℕ × ℕ)
 places_asked columns width on left = if has_width width left then equated columns width on else None
+
+-- these rows and others that pass a test as a pair have equal values at two places
+abbrev pub PassWithEqual : List Place → (List Value → Bool) → List (List ValueRef) → ℕ × ℕ → Type 0
+PassWithEqual places test left at = AllByRecursion (λ row. (other : List Value)
+    → IsTrue (test (row_values places row ++ other))
+    → IsTrue (is_eq (value_cmp (value_at_place (row_values places row) at.0) (value_at_place other at.1)))) left

@@ -1,11 +1,13 @@
 //! Rows in the order of their values in a column, so that those with a value are found by halving.
 
-ghost use Rattle.std.specs.Prelude.{◌≡◌, List, OnOk, filter};
+ghost use Rattle.std.specs.Prelude.{◌≡◌, List, Some, IfSome, OnOk, filter};
+ghost use Rattle.msi_text.specs.Pool.{Place};
 ghost use Rattle.msi_text.specs.Results.{OnlyMemory};
 ghost use Rattle.msi_table.specs.Cells.{value_of_cell};
 ghost use Rattle.msi_table.specs.declared.value.ValueRef.{ValueRef as Cell};
 ghost use Rattle.msi_table.specs.Values.{value_cmp};
-ghost use Rattle.msi_relation.specs.Index.{has_value, has_width as have_width, in_place_order, place_cmp, places_asked as asked, value_there};
+ghost use Rattle.msi_query.specs.Conditions.{meets};
+ghost use Rattle.msi_relation.specs.Index.{PassWithEqual, has_value, has_width as have_width, in_place_order, place_cmp, places_asked as asked, value_there};
 
 use crate::rows::cell_of;
 use msi_query::expr::Expr;
@@ -33,7 +35,9 @@ pub(crate) fn places_asked(
     on: &Expr,
     left: &[Items<ValueRef>],
 ) -> Option<(usize, usize)>
-    ensures { result ≡ asked columns.now width on.now left.now }
+    ensures places { result ≡ asked columns.now width on.now left.now }
+    ensures equal { (places : List Place)
+        → IfSome result (PassWithEqual places (meets columns.now (Some on.now)) left.now) }
 {
     if !has_width(width, left) {
         return None;

@@ -5,12 +5,14 @@ ghost use Rattle.std.specs.List.{flat_map};
 ghost use Rattle.msi_text.specs.Results.{OnlyMemory};
 ghost use Rattle.msi_table.specs.StoredOrder.{row_values};
 ghost use Rattle.msi_query.specs.Conditions.{meets};
+ghost use Rattle.msi_relation.specs.Index.{PassWithEqual};
 ghost use Rattle.msi_relation.specs.Rows.{rows_values};
 ghost use Rattle.msi_relation.specs.Selection.{pairs_of, rows_of_row};
 
 use crate::columns::is_left;
+use crate::index::{places_asked, rows_with, sort_by_place};
 use crate::relation::Relation;
-use crate::rows::{pair, with_nulls};
+use crate::rows::{cell_of, pair, with_nulls};
 use msi_query::expr::Expr;
 use msi_query::parts::RowFilter;
 use msi_query::query::JoinKind;
@@ -107,7 +109,41 @@ fn rows_by_scan(
     Ok(rows)
 }
 
-/// The rows of a join of two sides under a condition on the columns of both.
+/// The rows of a join, each left row beside those right ones that have its value: pairs that meet the condition have
+/// equal ones at these places of the two.
+///
+/// # Errors
+/// `OutOfMemory`.
+fn rows_by_index(
+    alloc: Global,
+    pool: &StringPool,
+    join: &Join,
+    at: (usize, usize),
+    left: &[Items<ValueRef>],
+    right: Vec<Items<ValueRef>>,
+) -> Result<Vec<Items<ValueRef>>, Error>
+    requires { let test = meets join.now.filter.now.columns join.now.filter.now.condition in
+        PassWithEqual pool.now.places test left.now at }
+    ensures ok { let values = rows_values pool.now.places in
+        let test = meets join.now.filter.now.columns join.now.filter.now.condition in
+        IfOk result (λ rows. values rows.items
+        ≡ flat_map (rows_of_row join.now.kind test join.now.width (values right.items)) (values left.now)) }
+    ensures kind { OnlyMemory result }
+{
+    let (place, other) = at;
+    let mut sorted = right;
+    sort_by_place(pool, other, &mut sorted)?;
+    let mut rows = Vec::new(alloc);
+    for row in left {
+        let row = row.as_slice();
+        let found = rows_with(pool, other, sorted.as_slice(), cell_of(row, Some(place)));
+        add_row(alloc, pool, join, found, row, &mut rows)?;
+    }
+    Ok(rows)
+}
+
+/// The rows of a join of two sides under a condition on the columns of both. Where it wants columns to be equal, one of
+/// each side, the right side is sorted by its column and looked up.
 ///
 /// # Errors
 /// `OutOfMemory`.
@@ -127,10 +163,18 @@ pub(crate) fn joined_rows(
     ensures kind { OnlyMemory result }
 {
     let filter = RowFilter::new(alloc, columns, Some(on))?;
+    let Relation {
+        name: _name,
+        columns: right_columns,
+        rows: right,
+    } = right;
     let join = Join {
         kind,
         filter: &filter,
-        width: right.columns().len(),
+        width: right_columns.as_slice().len(),
     };
-    rows_by_scan(alloc, pool, &join, left.rows(), right.rows())
+    match places_asked(columns, left.columns().len(), on, left.rows()) {
+        Some(at) => rows_by_index(alloc, pool, &join, at, left.rows(), right),
+        None => rows_by_scan(alloc, pool, &join, left.rows(), right.as_slice()),
+    }
 }
