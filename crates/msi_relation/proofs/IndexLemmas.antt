@@ -6,22 +6,25 @@ use Rattle.std.specs.List.Sorted.{IsNonDecreasingBy, IsPartitionPoint, IsPartiti
 use Rattle.std.specs.declared.cmp.Ordering.TheVariants.{Less, Equal, Greater}
 use Rattle.std.specs.Ordering.{is_lt, is_le, is_eq, ordering_index}
 use Rattle.std.specs.Cmp.{IsStrictWeakOrder, tied_itself}
-use Rattle.std.proofs.lemmas.List.{append-nil, length-map, map-append, take_more}
+use Rattle.std.proofs.lemmas.List.{append-nil, length-drop, length-map, map-append, take_all, take_more}
 use Rattle.std.proofs.lemmas.List.Concat.{flat_map-append}
 use Rattle.std.proofs.lemmas.List.Sorted.{IsNonDecreasingBy-drop, ranks_by, searchable_from_sorted}
 use Rattle.msi_text.specs.Lists.{placed, stable_sort}
 use Rattle.msi_text.specs.Pool.{Place}
 use Rattle.msi_table.specs.declared.value.ValueRef.{ValueRef}
 use Rattle.msi_table.specs.declared.value.Value.{Value}
+use Rattle.msi_table.specs.Cells.{value_of_cell}
+use Rattle.msi_table.specs.Columns.{ColumnDef}
 use Rattle.msi_table.specs.Values.{value_cmp}
 use Rattle.msi_table.specs.OrderLaws.{value_cmp-total, value_eq-Decides}
 use Rattle.msi_table.specs.StoredOrder.{row_values}
 use Rattle.msi_table.proofs.StableSortLemmas.{only_stable_sort}
 use Rattle.msi_query.specs.declared.query.JoinKind.{JoinKind}
-use Rattle.msi_query.specs.Conditions.{value_at_place}
+use Rattle.msi_query.specs.Conditions.{RowFilterDef, meets, value_at_place}
 use Rattle.msi_query.specs.Equated.{PassesWithEqual}
+use Rattle.msi_query.specs.Expressions.{Expression}
 use Rattle.msi_relation.specs.Index.{PassWithEqual, has_value, has_width, in_place_order, place_cmp, value_there}
-use Rattle.msi_relation.specs.Rows.{rows_values}
+use Rattle.msi_relation.specs.Rows.{cell_at, rows_values}
 use Rattle.msi_relation.specs.Selection.{or_nulls, pairs_of, rows_of_row}
 use Rattle.msi_relation.proofs.SelectionLemmas.{value_of_place}
 
@@ -128,7 +131,7 @@ le_down Greater Greater h e = cc
 
 -- Rows by their values at a place
 module _ (places : List Place) (place : ℕ) where
-  place_cmp-weak : IsStrictWeakOrder (λ x y. is_lt (place_cmp places place x y))
+  pub place_cmp-weak : IsStrictWeakOrder (λ x y. is_lt (place_cmp places place x y))
   place_cmp-weak = ranks_by value_cmp-total (value_there places place)
 
   rises : (rows before : List (List ValueRef)) (v : Value) → rows ≡ in_place_order places place before
@@ -140,10 +143,11 @@ module _ (places : List Place) (place : ℕ) where
       → IsPartitionedBy (λ row. is_lt (value_cmp (value_there places place row) v)) rows
   parted_below rows before v e i j d h l t = lt_down _ (value_cmp (value_there places place (get_or rows j d)) v) (rises rows before v e i j d h l) t
 
-  pub parted_above : (rows before : List (List ValueRef)) (v : Value) (i : ℕ) → rows ≡ in_place_order places place before
-      → IsPartitionedBy (λ row. is_le (value_cmp (value_there places place row) v)) (drop i rows)
-  parted_above rows before v n e i j d h l t = le_down _ (value_cmp (value_there places place (get_or (drop n rows) j d)) v)
-      (IsNonDecreasingBy-drop (λ row. ordering_index (value_cmp (value_there places place row) v)) n rows (rises rows before v e) i j d h l) t
+  pub parted_above : (rows before tail : List (List ValueRef)) (v : Value) (i : ℕ) → rows ≡ in_place_order places place before → tail ≡ drop i rows
+      → IsPartitionedBy (λ row. is_le (value_cmp (value_there places place row) v)) tail
+  parted_above rows before tail v n e q = subst (λ (rs : List (List ValueRef)). IsPartitionedBy (λ row. is_le (value_cmp (value_there places place row) v)) rs) (sym q)
+      (λ i j d h l t. le_down _ (value_cmp (value_there places place (get_or (drop n rows) j d)) v)
+      (IsNonDecreasingBy-drop (λ row. ordering_index (value_cmp (value_there places place row) v)) n rows (rises rows before v e) i j d h l) t)
 
   alike : (v : Value) (x y : List ValueRef) → has_value places place v x ≡ true → has_value places place v y ≡ true → is_lt (place_cmp places place y x) ≡ false
   alike v x y t u =
@@ -151,15 +155,27 @@ module _ (places : List Place) (place : ℕ) where
       let f : value_there places place y ≡ v = (value_eq-Decides (value_there places place y) v).0 u in
       ap is_lt (ap (λ w. value_cmp w (value_there places place x)) f ∙ ap (value_cmp v) e ∙ tied_itself value_cmp-total v)
 
-  pub found_rows : (rows before : List (List ValueRef)) (v : Value) (i j : ℕ) → rows ≡ in_place_order places place before → j ≤ length (drop i rows)
+  found_behind : (rows before : List (List ValueRef)) (v : Value) (i j : ℕ) → rows ≡ in_place_order places place before → j ≤ length (drop i rows)
       → IsPartitionPoint (λ row. is_lt (value_cmp (value_there places place row) v) ≡ true) (λ row. is_lt (value_cmp (value_there places place row) v) ≡ false) rows i
       → IsPartitionPoint (λ row. is_le (value_cmp (value_there places place row) v) ≡ true) (λ row. is_le (value_cmp (value_there places place row) v) ≡ false) (drop i rows) j
       → take j (drop i rows) ≡ filter (has_value places place v) before
-  found_rows rows before v i j e b f g =
+  found_behind rows before v i j e b f g =
       between (λ row. value_cmp (value_there places place row) v) rows i j b
       (λ k d h l. f.0 k d (omega arith) h) (λ k d h l. f.1 k d h l) (λ k d h. g.0 k d (omega arith) h) (λ k d h l. g.1 k d h l)
       ∙ ap (filter (has_value places place v)) e
       ∙ filter_sorted (place_cmp places place) (has_value places place v) (alike v) before
+
+  pub found_rows : (rows before tail : List (List ValueRef)) (v : Value) (i j : ℕ) → rows ≡ in_place_order places place before → tail ≡ drop i rows → j ≤ length tail
+      → IsPartitionPoint (λ row. is_lt (value_cmp (value_there places place row) v) ≡ true) (λ row. is_lt (value_cmp (value_there places place row) v) ≡ false) rows i
+      → IsPartitionPoint (λ row. is_le (value_cmp (value_there places place row) v) ≡ true) (λ row. is_le (value_cmp (value_there places place row) v) ≡ false) tail j
+      → take j tail ≡ filter (has_value places place v) before
+  found_rows rows before tail v i j e q b f = subst (λ (rs : List (List ValueRef)). j ≤ length rs
+      → IsPartitionPoint (λ row. is_le (value_cmp (value_there places place row) v) ≡ true) (λ row. is_le (value_cmp (value_there places place row) v) ≡ false) rs j
+      → take j rs ≡ filter (has_value places place v) before) (sym q) (λ b g. found_behind rows before v i j e b f g) b
+
+-- the rest of a list
+pub rest_is : {X : Type 0} (i : ℕ) (xs : List X) → take (length xs - i) (drop i xs) ≡ drop i xs
+rest_is i xs = take_all (length xs - i) (drop i xs) (omega (arith, length-drop i xs))
 
 -- Pairs that a join tries
 module _ (places : List Place) (test : List Value → Bool) where
@@ -183,14 +199,13 @@ module _ (places : List Place) (test : List Value → Bool) where
       (value_eq-Decides (value_there places at.1 other) (value_there places at.0 row)).1
       (value_of_place places other (Some at.1) ∙ sym e ∙ sym (value_of_place places row (Some at.0)))
 
-  -- one more left row, beside the right rows that were found for it
-  pub row_joined : (kind : JoinKind) (n : ℕ) (old new : List (List Value)) (left right found : List (List ValueRef)) (at : ℕ × ℕ) (i : ℕ) (d : List ValueRef)
+  one_joined : (kind : JoinKind) (n : ℕ) (old new : List (List Value)) (left right found : List (List ValueRef)) (at : ℕ × ℕ) (i : ℕ) (d : List ValueRef)
       → PassWithEqual places test left at → i < length left
       → found ≡ filter (has_value places at.1 (value_there places at.0 (get_or left i d))) right
       → new ≡ old ++ rows_of_row kind test n (rows_values places found) (row_values places (get_or left i d))
       → old ≡ flat_map (rows_of_row kind test n (rows_values places right)) (rows_values places (take i left))
       → new ≡ flat_map (rows_of_row kind test n (rows_values places right)) (rows_values places (take (i + 1) left))
-  row_joined kind n old new left right found at i d w l f e s =
+  one_joined kind n old new left right found at i d w l f e s =
       let row : List ValueRef = get_or left i d in
       let give : List Value → List (List Value) = rows_of_row kind test n (rows_values places right) in
       e ∙ ap (λ (rs : List (List ValueRef)). old ++ rows_of_row kind test n (rows_values places rs) (row_values places row)) f
@@ -201,6 +216,18 @@ module _ (places : List Place) (test : List Value → Bool) where
       ∙ sym (flat_map-append give (rows_values places (take i left)) (row_values places row ∷ []))
       ∙ sym (ap (flat_map give) (map-append (row_values places) (take i left) (row ∷ [])))
       ∙ ap (λ rs. flat_map give (rows_values places rs)) (sym (take_more left i d l))
+
+  -- one more left row, beside the right rows that were found for it
+  pub row_joined : (kind : JoinKind) (n : ℕ) (old new : List (List Value)) (left right found : List (List ValueRef)) (at : ℕ × ℕ) (i : ℕ) (row : List ValueRef) (c : ValueRef)
+      → PassWithEqual places test left at → i < length left → row ≡ get_or left i row → c ≡ cell_at row (Some at.0)
+      → found ≡ filter (has_value places at.1 (value_of_cell places c)) right
+      → new ≡ old ++ rows_of_row kind test n (rows_values places found) (row_values places row)
+      → old ≡ flat_map (rows_of_row kind test n (rows_values places right)) (rows_values places (take i left))
+      → new ≡ flat_map (rows_of_row kind test n (rows_values places right)) (rows_values places (take (i + 1) left))
+  row_joined kind n old new left right found at i row c w l g k f e s =
+      one_joined kind n old new left right found at i row w l
+      (f ∙ ap (λ (x : ValueRef). filter (has_value places at.1 (value_of_cell places x)) right) (k ∙ ap (λ (r : List ValueRef). cell_at r (Some at.0)) g))
+      (e ∙ ap (λ (r : List ValueRef). old ++ rows_of_row kind test n (rows_values places found) (row_values places r)) g) s
 
 -- Left rows of the width of their columns
 both_true : (a b : Bool) → (a && b) ≡ true → (a ≡ true) × (b ≡ true)
@@ -221,3 +248,11 @@ pub asked_pass : (places : List Place) (test : List Value → Bool) (n : ℕ) (l
     → IfSome answer (PassesWithEqual test n) → IfSome answer (PassWithEqual places test left)
 asked_pass places test n left None w p = tt
 asked_pass places test n left (Some at) w p = all_pass places test n left at (wide_at n left w) p
+
+-- by what a call of a join was given
+pub filter_passes : (places : List Place) (f : RowFilterDef) (columns : List ColumnDef) (on : Expression) (rows left others : List (List ValueRef)) (at : ℕ × ℕ)
+    → f ≡ record { columns = columns; condition = Some on } → left ≡ rows → others ≡ rows
+    → PassWithEqual places (meets columns (Some on)) left at → PassWithEqual places (meets f.columns f.condition) others at
+filter_passes places f columns on rows left others at e l o w =
+    subst (λ (g : RowFilterDef). PassWithEqual places (meets g.columns g.condition) others at) (sym e)
+    (subst (λ (rs : List (List ValueRef)). PassWithEqual places (meets columns (Some on)) rs at) (l ∙ sym o) w)
