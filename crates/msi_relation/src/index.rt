@@ -46,12 +46,7 @@ pub(crate) fn places_asked(
 }
 
 /// How the values of two rows at a place stand to one another.
-fn compare_rows(
-    pool: &StringPool,
-    place: usize,
-    row: &[ValueRef],
-    other: &[ValueRef],
-) -> Ordering
+fn compare_rows(pool: &StringPool, place: usize, row: &[ValueRef], other: &[ValueRef]) -> Ordering
     ensures { result ≡ place_cmp pool.now.places place row.now other.now }
 {
     compare_values(pool, cell_of(row, Some(place)), cell_of(other, Some(place)))

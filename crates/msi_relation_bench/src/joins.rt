@@ -88,6 +88,77 @@ fn joins_give_pairs_in_the_order_of_their_sides(rt: HostRuntime) -> Result<(), F
     Ok(())
 }
 
+/// A copy of `D` without a name, so that its columns keep theirs.
+const OTHER: Asked = Columns(&Table("D"), &["k", "n"]);
+
+/// A copy of `M`, likewise.
+const MIXED: Asked = Columns(&Table("M"), &["m", "i"]);
+
+const LOOKED_UP: [(Asked, &str); 8] = [
+    // Values that are repeated on both sides give all their pairs, in the right side's order.
+    (
+        Inner(&Table("D"), &OTHER, Same("D.k", "k")),
+        "| D.k D.n k n | 1 5 1 5 | 1 5 1 3 | 2 4 2 4 | 1 3 1 5 | 1 3 1 3",
+    ),
+    // The equality may be turned, and stand on either side of an `and`; the other condition is asked too.
+    (
+        Inner(
+            &Table("D"),
+            &OTHER,
+            Both(&Same("k", "D.k"), &Below("D.n", "n")),
+        ),
+        "| D.k D.n k n | 1 3 1 5",
+    ),
+    (
+        Left(
+            &Table("D"),
+            &OTHER,
+            Both(&Below("D.n", "n"), &Same("D.k", "k")),
+        ),
+        "| D.k D.n k? n? | 1 5 NULL NULL | 2 4 NULL NULL | 1 3 1 5",
+    ),
+    // Of two equalities both hold.
+    (
+        Inner(
+            &Table("D"),
+            &OTHER,
+            Both(&Same("D.k", "k"), &Same("D.n", "n")),
+        ),
+        "| D.k D.n k n | 1 5 1 5 | 2 4 2 4 | 1 3 1 3",
+    ),
+    // A number is no text, whatever it looks like; null, numbers and texts are each found among the others.
+    (
+        Left(&Table("A"), &Table("M"), Same("A.k", "M.m")),
+        "| A.k M.m? M.i? | 1 NULL NULL | 2 2 20 | 2 2 50",
+    ),
+    (
+        Left(&Table("C"), &Table("M"), Same("C.t", "M.m")),
+        "| C.k C.t M.m? M.i? | 1 \"x\\\" OR 1 = 1\" NULL NULL | 2 \"x\" \"x\" 10 | 2 \"x\" \"x\" 60 \
+         | 3 NULL NULL 30 | 3 NULL NULL 70",
+    ),
+    (
+        Inner(
+            &Table("M"),
+            &MIXED,
+            Both(&Same("m", "M.m"), &Below("M.i", "i")),
+        ),
+        "| M.m M.i m i | \"x\" 10 \"x\" 60 | 2 20 2 50 | NULL 30 NULL 70",
+    ),
+    // A side without rows has no pairs.
+    (
+        Left(&Table("A"), &Table("E"), Same("A.k", "E.k")),
+        "| A.k E.k? | 1 NULL | 2 NULL",
+    ),
+];
+
+#[test]
+fn equal_columns_are_looked_up(rt: HostRuntime) -> Result<(), Fail> {
+    for (row, (asked, line)) in LOOKED_UP.iter().enumerate() {
+        assert!(rt; gives(rt.alloc(), asked, line)?, "row {row}");
+    }
+    Ok(())
+}
+
 /// The rows of the numbers below a count.
 fn numbers(alloc: Global, count: i32) -> Result<Vec<Items<ValueRef>>, Error> {
     let mut rows = Vec::new(alloc);

@@ -118,7 +118,7 @@ type Told = (
     Option<&'static [&'static [Given]]>,
 );
 
-const TABLES: [Told; 8] = [
+const TABLES: [Told; 9] = [
     ("A", &["k"], Some(&[&[Given::Int(1)], &[Given::Int(2)]])),
     ("B", &["k", "f"], Some(&[&[Given::Int(7), Given::Int(1)]])),
     (
@@ -141,6 +141,19 @@ const TABLES: [Told; 8] = [
     ),
     ("E", &["k"], Some(&[])),
     ("F", &["k"], None),
+    (
+        "M",
+        &["m", "i"],
+        Some(&[
+            &[Given::Str("x"), Given::Int(10)],
+            &[Given::Int(2), Given::Int(20)],
+            &[Given::Null, Given::Int(30)],
+            &[Given::Str("2"), Given::Int(40)],
+            &[Given::Int(2), Given::Int(50)],
+            &[Given::Str("x"), Given::Int(60)],
+            &[Given::Null, Given::Int(70)],
+        ]),
+    ),
     (
         "N",
         &["n"],
