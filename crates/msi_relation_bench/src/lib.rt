@@ -2,6 +2,8 @@
 #![tactic(auto)]
 
 #[cfg(test)]
+mod handed_out;
+#[cfg(test)]
 mod joins;
 #[cfg(test)]
 mod samples;
