@@ -1,5 +1,5 @@
 -- What callers need of code pages.
-use Rattle.std.proofs.Common.{◌≡◌, ℕ, zero, suc, ◌+◌, ◌-◌, true, cond, ◌&&◌, List, [], ◌∷◌, map, Option, Some, None, is_some, option_map, position, slice_get, chars, encode_utf8_all, eqb, refl, sym, ap, ◌∙◌, arith, rules, nat_lt}
+use Rattle.std.proofs.Common.{◌≡◌, ℕ, zero, suc, ◌+◌, ◌-◌, ◌^◌, ◌<◌, true, cond, ◌&&◌, List, [], ◌∷◌, map, Option, Some, None, is_some, option_map, position, slice_get, chars, encode_utf8_all, eqb, refl, sym, ap, ◌∙◌, arith, rules, nat_lt}
 use Rattle.std.specs.Prelude.{unwrap_or, option_and_then}
 use Rattle.std.specs.List.{list_all}
 use Rattle.std.specs.Str.{IsAscii}
@@ -7,11 +7,12 @@ use Rattle.std.proofs.Math.Utf8.{scalars}
 use Rattle.std.proofs.lemmas.Bool.{and_parts, ltb-true}
 use Rattle.std.proofs.lemmas.Str.{IsUtf8-from_ascii, encodes-IsAscii, chars-IsAscii, encodes-chars, chars-encodes}
 use Rattle.std.proofs.lemmas.Option.{same_Some}
+use Rattle.bstr.specs.Utf8.{pieces_from}
 use Rattle.bstr.proofs.lemmas.EncodeLemmas.{lossy_chars-utf8}
 use Rattle.msi_base.specs.declared.codepage.CodePage.{CodePage}
 use Rattle.msi_base.specs.declared.codepage.CodePage.TheVariants as page
 use Rattle.msi_base.specs.PageTables.{upper_characters, character_read, byte_written, character_of, byte_of}
-use Rattle.msi_base.specs.Pages.{is_ascii, single_byte_text, single_byte_spelling, text_in, bytes_in, PageTextsComeBack, PageBytesComeBack, Utf8TextsComeBack, AsciiStandsForItself}
+use Rattle.msi_base.specs.Pages.{is_ascii, single_byte_text, single_byte_spelling, text_in, bytes_in, page_id, page_with_id, PageTextsComeBack, PageBytesComeBack, Utf8TextsComeBack, AsciiStandsForItself}
 use Rattle.msi_base.proofs.PageTablesLemmas.{is_table, page_has_table, byte_again, character_again, character_scalar}
 
 pub IsAscii-from_test : (bytes : List ℕ) → is_ascii bytes ≡ true → IsAscii bytes
@@ -98,3 +99,18 @@ bytes_come_back page upper bytes text has known reads =
     table_spelling page upper text has
     ∙ ap (λ ds. Some (map (byte_written upper) ds)) characters
     ∙ ap Some (bytes_again upper bytes table known)
+
+-- each page has an id, which names it
+pub page_named : (page : CodePage) → page_with_id (page_id page) ≡ Some page
+page_named page.Utf8 = refl
+page_named page = refl
+
+pub page_small : (page : CodePage) → page_id page < 2 ^ 31
+page_small page.Utf8 = omega arith
+page_small page = omega arith
+
+-- no bytes read as no text
+pub empty_reads : (page : CodePage) → text_in page [] ≡ Some []
+unfolding pieces_from
+empty_reads page.Utf8 = refl
+empty_reads page = refl

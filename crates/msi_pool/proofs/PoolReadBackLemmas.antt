@@ -6,28 +6,12 @@ use Rattle.std.proofs.lemmas.Bool.{cases_eq, cases_Bool, or_parts, or_from, or_l
 use Rattle.std.proofs.lemmas.List.{length-map}
 use Rattle.std.proofs.lemmas.Option.{same_Some}
 use Rattle.msi_base.specs.declared.codepage.CodePage.{CodePage}
-use Rattle.msi_base.specs.declared.codepage.CodePage.TheVariants as page
-use Rattle.bstr.specs.Utf8.{pieces_from}
 use Rattle.msi_base.specs.Pages.{IsWritable, text_in, bytes_in, page_id, page_with_id}
 use Rattle.msi_pool.specs.Pool.{Place, Entry, short_entry, long_entry, plain_entry, entry_of, place_bytes, SpellsEntry, SpellsEntries, SpellsTexts, CountsFit, forgotten}
 use Rattle.msi_pool.specs.PoolWriting.{has_refused_text, is_refused_spelling, piece_of, entry_in}
 use Rattle.msi_pool.specs.PoolLaws.{PoolsReadBack}
+use Rattle.msi_base.proofs.PagesLemmas.{page_named, page_small, empty_reads}
 use Rattle.msi_pool.proofs.PoolWritingLemmas.{told_few, free_piece, pool_stream_told, data_stream_told}
-
--- each page has an id, which names it
-page_named : (page : CodePage) → page_with_id (page_id page) ≡ Some page
-page_named page.Utf8 = refl
-page_named page = refl
-
-page_small : (page : CodePage) → page_id page < 2 ^ 31
-page_small page.Utf8 = omega arith
-page_small page = omega arith
-
--- no bytes read as no text
-empty_reads : (page : CodePage) → text_in page [] ≡ Some []
-unfolding pieces_from
-empty_reads page.Utf8 = refl
-empty_reads page = refl
 
 -- what is written of an entry spells it
 entry_spelled : (e : Entry) → e.count < 2 ^ 16 → (e.count ≡ 0 → e.len ≡ 0) → e.len < 2 ^ 32 → SpellsEntry (plain_entry e) e
