@@ -1,4 +1,4 @@
-use Rattle.std.proofs.Common.{◌≤◌, arith, length, length-drop}
+use Rattle.std.proofs.Common.{arith, length-drop}
 use Rattle.std.proofs.KnownBytes.{Appends-kept}
 use Rattle.msi_base.proofs.WriteLemmas.{appended-more}
 use Rattle.msi_base.proofs.faults.write_fully.Goals as goal
