@@ -1,2 +1,4 @@
 -- Lemmas.
 mod TextIndexLemmas
+mod PlaceIndexLemmas
+mod IndexedFitLemmas

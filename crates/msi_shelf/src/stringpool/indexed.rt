@@ -1,12 +1,12 @@
 //! The places with their indexes: taking a text and giving a place back.
 
-ghost use Rattle.std.specs.Prelude.{◌≡◌, ◌≢◌, ℕ, ◌+◌, ◌-◌, ◌<◌, ◌≤◌, ◌^◌, List, [], true, false, length, set, slice_get, Some, None, is_some, IfOk, IfErr, OnOk, OnErr, if◌then◌else◌, string_bytes, nat_lt};
+ghost use Rattle.std.specs.Prelude.{◌≡◌, ◌≢◌, ℕ, ◌+◌, ◌-◌, ◌<◌, ◌≤◌, ◌^◌, List, [], true, false, length, set, slice_get, Some, None, is_some, IfOk, IfErr, OnOk, OnErr, if◌then◌else◌, string_bytes, nat_lt, not, ◌==◌, ◌&&◌, ◌||◌};
 ghost use Rattle.msi_text.specs.Pool as pools;
 ghost use Rattle.msi_text.specs.FirstFit.{taken, given_back, with_text_at, count_of, lowered, most_places as most_of};
 ghost use Rattle.msi_text.specs.Results.{OnlyMemory};
 ghost use Rattle.msi_text.specs.declared.errors.ErrorKind.TheVariants.{InvalidData, InvalidInput, OutOfMemory};
-ghost use Rattle.msi_shelf.specs.PoolIndexes.{AreFree, has_room_for, is_free, lesser as lesser_of};
-ghost use Rattle.msi_shelf.specs.TextIndexes.{AreOpen};
+ghost use Rattle.msi_shelf.specs.PoolIndexes.{AreFree, is_among, has_room_for, is_free, lesser as lesser_of};
+ghost use Rattle.msi_shelf.specs.TextIndexes.{AreOpen, is_entered, is_same};
 ghost use Rattle.msi_shelf.specs.Indexing.{IsIndexed};
 
 use crate::stringpool::free::FreePlaces;
@@ -140,20 +140,20 @@ impl IndexedPlaces {
             None => self.append(text, long),
             Some(at) => {
                 if held == Some(at) {
-                    self.raise(at, text)?;
+                    self.raise(at, text)
                 } else {
-                    self.fill(at, text)?;
+                    self.fill(at, text)
                 }
-                Ok(at)
             }
         }
     }
 
-    /// One cell more names a place that has the text.
-    fn raise(&mut self, at: u32, text: SharedText) -> Result<(), Error>
+    /// One cell more names a place that has the text. Answers that place.
+    fn raise(&mut self, at: u32, text: SharedText) -> Result<u32, Error>
         requires indexed { IsIndexed self.old }
         requires room { has_room_for text (slice_get self.old.places at) ≡ true }
         requires operations { self.old.operations ≤ 2 }
+        ensures at { IfOk result (λ i. i ≡ at) }
         ensures ok { OnOk result (self.new.places ≡ with_text_at self.old.places at text) }
         ensures err { OnErr result (self.new.places ≡ self.old.places) }
         ensures indexed { IsIndexed self.new }
@@ -163,18 +163,18 @@ impl IndexedPlaces {
     {
         let place = self.places.get(at as usize, &mut self.operations);
         let raised = Place::new(place.shared_text()?, place.count() + 1);
-        if raised.count() == MOST_CELLS {
-            self.texts.remove(&Entry::new(text, at), &mut self.operations);
-        }
+        let entry = Entry::new(text, at);
+        close(&mut self.texts, &entry, raised.count(), &mut self.operations);
         self.places.set(at as usize, raised, &mut self.operations);
-        Ok(())
+        Ok(at)
     }
 
-    /// Puts a text at a free place.
-    fn fill(&mut self, at: u32, text: SharedText) -> Result<(), Error>
+    /// Puts a text at a free place. Answers that place.
+    fn fill(&mut self, at: u32, text: SharedText) -> Result<u32, Error>
         requires indexed { IsIndexed self.old }
         requires free { is_free (slice_get self.old.places at) ≡ true }
         requires operations { self.old.operations ≤ 2 }
+        ensures at { IfOk result (λ i. i ≡ at) }
         ensures ok { OnOk result (self.new.places ≡ with_text_at self.old.places at text) }
         ensures err { OnErr result (self.new.places ≡ self.old.places) }
         ensures indexed { IsIndexed self.new }
@@ -187,7 +187,7 @@ impl IndexedPlaces {
         self.texts.insert(entry, &mut self.operations)?;
         self.free.remove(at, &mut self.operations);
         self.places.set(at as usize, place, &mut self.operations);
-        Ok(())
+        Ok(at)
     }
 
     /// Puts a text at a new place behind the last, and answers that place.
@@ -209,10 +209,12 @@ impl IndexedPlaces {
             return Err(Error::new(ErrorKind::InvalidInput, Reason("full")));
         }
         let at = self.many as u32;
-        let place = Place::new(text.into_shared()?, 1);
+        let text = text.into_shared()?;
+        let place = Place::new(text.clone()?, 1);
         let entry = Entry::new(place.shared_text()?, at);
-        self.texts.insert(entry.clone()?, &mut self.operations)?;
+        self.texts.insert(entry, &mut self.operations)?;
         if let Err(error) = self.places.push(place, &mut self.operations) {
+            let entry = Entry::new(text, at);
             self.texts.remove(&entry, &mut self.operations);
             return Err(error);
         }
@@ -287,10 +289,7 @@ impl IndexedPlaces {
         ensures most { self.new.operations ≤ self.old.operations + 3 }
         ensures least { self.old.operations ≤ self.new.operations }
     {
-        if place.count() + 1 == MOST_CELLS {
-            let entry = Entry::new(place.shared_text()?, at);
-            self.texts.insert(entry, &mut self.operations)?;
-        }
+        reopen(&mut self.texts, at, &place, &mut self.operations)?;
         self.places.set(at as usize, place, &mut self.operations);
         Ok(())
     }
@@ -320,7 +319,41 @@ fn lesser(a: Option<u32>, b: Option<u32>) -> Option<u32>
     }
 }
 
-/// The indexes of places. What this counts is told to nobody.
+/// Takes a place out of the index of texts where its count has come to the most.
+fn close(texts: &mut TextIndex, entry: &Entry, count: u16, operations: &mut Operations)
+    requires { operations.old + 1 < 2 ^ 32 }
+    ensures removed { (text : List ℕ) (i : ℕ) → is_entered texts.new text i
+        ≡ (not ((count == 65535) && is_same text i entry.now.text entry.now.at) && is_entered texts.old text i) }
+    ensures most { operations.new ≤ operations.old + 1 }
+    ensures least { operations.old ≤ operations.new }
+{
+    if count == MOST_CELLS {
+        texts.remove(entry, operations);
+    }
+}
+
+/// Enters a place in the index of texts where its count was the most and is one less now. The only error is `OutOfMemory`.
+fn reopen(
+    texts: &mut TextIndex,
+    at: u32,
+    place: &Place,
+    operations: &mut Operations,
+) -> Result<(), Error>
+    requires { operations.old + 1 < 2 ^ 32 }
+    ensures ok { OnOk result ((text : List ℕ) (i : ℕ) → is_entered texts.new text i
+        ≡ (((place.now.count == 65534) && is_same text i place.now.text at) || is_entered texts.old text i)) }
+    ensures err { OnErr result (texts.new ≡ texts.old) }
+    ensures kind { OnlyMemory result }
+    ensures most { operations.new ≤ operations.old + 1 }
+    ensures least { operations.old ≤ operations.new }
+{
+    if place.count() == MOST_CELLS - 1 {
+        texts.insert(Entry::new(place.shared_text()?, at), operations)?;
+    }
+    Ok(())
+}
+
+/// The indexes of places, made in one pass. What this counts is told to nobody.
 fn indexes_of(alloc: Global, places: &[Place]) -> Result<(FreePlaces, TextIndex), Error>
     requires { length places.now ≤ 16777215 }
     ensures free { IfOk result (λ indexes. AreFree indexes.0 places.now) }
@@ -331,12 +364,32 @@ fn indexes_of(alloc: Global, places: &[Place]) -> Result<(FreePlaces, TextIndex)
     let mut free = FreePlaces::new(alloc);
     let mut texts = TextIndex::new(alloc);
     for (at, place) in places.iter().enumerate() {
-        if place.count() == 0 {
-            free.insert(at as u32, &mut operations)?;
-        } else if place.count() < MOST_CELLS {
-            let entry = Entry::new(place.shared_text()?, at as u32);
-            texts.insert(entry, &mut operations)?;
-        }
+        enter(&mut free, &mut texts, at as u32, place, &mut operations)?;
     }
     Ok((free, texts))
+}
+
+/// Enters a place in the index where it belongs. The only error is `OutOfMemory`.
+fn enter(
+    free: &mut FreePlaces,
+    texts: &mut TextIndex,
+    at: u32,
+    place: &Place,
+    operations: &mut Operations,
+) -> Result<(), Error>
+    requires { operations.old + 1 < 2 ^ 32 }
+    ensures free { OnOk result ((i : ℕ) → is_among free.new i
+        ≡ (((i == at) && is_free (Some place.now)) || is_among free.old i)) }
+    ensures texts { OnOk result ((text : List ℕ) (i : ℕ) → is_entered texts.new text i
+        ≡ (((i == at) && has_room_for text (Some place.now)) || is_entered texts.old text i)) }
+    ensures kind { OnlyMemory result }
+    ensures most { operations.new ≤ operations.old + 1 }
+{
+    if place.count() == 0 {
+        return free.insert(at, operations);
+    }
+    if place.count() < MOST_CELLS {
+        return texts.insert(Entry::new(place.shared_text()?, at), operations);
+    }
+    Ok(())
 }
