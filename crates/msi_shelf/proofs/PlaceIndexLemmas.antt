@@ -1,10 +1,10 @@
 -- The indexes follow the places, one change after the other.
-use Rattle.std.proofs.Common.{◌≡◌, ℕ, zero, suc, ◌+◌, ◌<◌, ◌≤◌, Bool, true, false, not, ◌&&◌, ◌||◌, ◌==◌, List, [], ◌∷◌, ◌++◌, Option, Some, None, inl, inr, refl, sym, ap, ap₂, subst, ◌∙◌, length, set, slice_get, bytes_eq, nat_lt, if◌then◌else◌, arith, rules, true≢false, length-append}
+use Rattle.std.proofs.Common.{◌≡◌, ℕ, zero, suc, ◌+◌, ◌<◌, ◌≤◌, Bool, true, false, not, ◌&&◌, ◌||◌, ◌==◌, List, [], ◌∷◌, ◌++◌, Option, Some, None, inl, inr, refl, sym, ap, ap₂, subst, ◌∙◌, take, take-suc, length-take-le, add-one, get_or, length, set, slice_get, bytes_eq, nat_lt, if◌then◌else◌, arith, rules, true≢false, length-append}
 use Rattle.std.proofs.lemmas.Bool.{cases_Bool, eqb-true, ltb-true, lt-ltb, eq-eqb, ne_eqb, and_parts}
 use Rattle.std.proofs.lemmas.Bool.{cases_lt}
 use Rattle.std.proofs.lemmas.Bool.Decides.{nat_tests}
 use Rattle.std.proofs.lemmas.Slice.Eq.{bytes_eq-Decides}
-use Rattle.std.proofs.lemmas.Option.{slice_get_past, slice_get_within}
+use Rattle.std.proofs.lemmas.Option.{slice_get_past, slice_get_within, none-some}
 use Rattle.msi_text.specs.Pool.{Place}
 use Rattle.msi_text.specs.FirstFit.{with_text_at, count_of}
 use Rattle.msi_shelf.specs.declared.stringpool.texts.Entry.{Entry}
@@ -282,3 +282,24 @@ pub raised_is : (places after : List Place) (at : ℕ) (text : List ℕ) (p q : 
 raised_is places after at text p q held room more same is =
     let r = room_parts text p (ap (has_room_for text) (sym held) ∙ room) in
     rw (lt-ltb at (length places) (slice_get_within places at p held), held) (is ∙ ap (set places at) (place_is q text (p.count + 1) (same ∙ r.same) more))
+
+take_length : (places : List Place) (n : ℕ) → n < length places → length (take n places) ≡ n
+take_length places n inside = length-take-le n places (omega (arith, inside))
+
+take_changes : (places : List Place) (n : ℕ) (p : Place) → n < length places → p ≡ get_or places n p → ChangesAt n p (take n places) (take (n + 1) places)
+take_changes places n p inside is =
+    let more : take (n + 1) places ≡ take n places ++ p ∷ [] = ap (λ m. take m places) (add-one n) ∙ take-suc places n p inside ∙ ap (λ (x : Place). take n places ++ x ∷ []) (sym is) in
+    subst (ChangesAt n p (take n places)) (sym more) (subst (λ m. ChangesAt m p (take n places) (take n places ++ p ∷ [])) (take_length places n inside) (push_changes (take n places) p))
+
+past_take : (places : List Place) (n : ℕ) → n < length places → slice_get (take n places) n ≡ None
+past_take places n inside = slice_get_past (take n places) n (omega (arith, take_length places n inside))
+
+-- the indexes of one place more
+pub take_follows : (places : List Place) (n : ℕ) (p : Place) (free more : List ℕ) (old new : List Entry) → n < length places → p ≡ get_or places n p
+    → AreFree free (take n places) → AreOpen old (take n places)
+    → ((i : ℕ) → is_among more i ≡ (((i == n) && is_free (Some p)) || is_among free i))
+    → ((t : List ℕ) (i : ℕ) → is_entered new t i ≡ (((i == n) && has_room_for t (Some p)) || is_entered old t i)) → Follows more new (take (n + 1) places)
+take_follows places n p free more old new inside is are_free are_open freed opened = record {
+  are_free = free_pushed n p (take n places) (take (n + 1) places) free more (take_changes places n p inside is) (past_take places n inside) are_free freed;
+  are_open = open_pushed n p (take n places) (take (n + 1) places) old new (take_changes places n p inside is) (past_take places n inside) are_open opened;
+}
