@@ -5,7 +5,7 @@
 
 ghost use Rattle.std.specs.Prelude.{◌≡◌, ◌++◌, ◌<◌, IfOk, OnOk, encode_utf8_all, IfSome, IsErr, IsErrOf, IsTrue, chars, length, string_bytes};
 ghost use Rattle.std.specs.List.{flat_map, list_any};
-ghost use Rattle.msi_text.specs.declared.errors.ErrorKind.TheVariants.{OutOfMemory};
+ghost use Rattle.msi_text.specs.ErrorKind.TheVariants.{OutOfMemory};
 ghost use Rattle.msi_compound.specs.Names.{is_name_length, utf16_units};
 ghost use Rattle.msi_compound.specs.StreamNames.{character_with, decoded_name, encoded_name, encoded_units, is_forbidden, is_marked, is_valid_name, packed_pair, packed_single, unpacked, value_of};
 

@@ -4,8 +4,8 @@ use Rattle.std.specs.List.{count_by}
 use Rattle.std.proofs.lemmas.List.{get_or-set_same, get_or-set_other, get_or_push, get_or_append_left, length_push, get_or_past}
 use Rattle.std.proofs.lemmas.List.Sums.{sum_by-set}
 use Rattle.std.proofs.lemmas.Bool.{cases_eq, cases_lt}
-use Rattle.msi_text.specs.declared.errors.ErrorKind.{ErrorKind}
-use Rattle.msi_text.specs.declared.errors.ErrorKind.TheVariants.{InvalidData, OutOfMemory}
+use Rattle.msi_text.specs.ErrorKind.{ErrorKind}
+use Rattle.msi_text.specs.ErrorKind.TheVariants.{InvalidData, OutOfMemory}
 use Rattle.msi_compound.specs.Chains.{AreDistinct, AreBelow}
 use Rattle.msi_compound_read.specs.Claims.{IsFree, MarkedAre, OthersAreUnmarked}
 use Rattle.msi_compound_read.specs.Outcomes.{FailsByData}

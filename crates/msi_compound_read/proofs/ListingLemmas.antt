@@ -1,7 +1,7 @@
 -- What holds of entries holds of the streams among them.
 use Rattle.std.proofs.Common.{◌≡◌, ◌≢◌, refl, ℕ, zero, suc, ◌*◌, ◌/◌, ◌<◌, Bool, true, false, cond, eqb, List, [], ◌∷◌, length, get_or, filter, arith, Result, Ok, Err, IfOk}
-use Rattle.msi_text.specs.declared.errors.ErrorKind.{ErrorKind}
-use Rattle.msi_text.specs.declared.errors.ErrorKind.TheVariants.{InvalidData}
+use Rattle.msi_text.specs.ErrorKind.{ErrorKind}
+use Rattle.msi_text.specs.ErrorKind.TheVariants.{InvalidData}
 use Rattle.msi_compound_read.specs.Outcomes.{ViewIsUnlessMemory}
 use Rattle.std.specs.List.{AllZip}
 use Rattle.std.proofs.lemmas.Grind.{div_ceil_times}

@@ -5,8 +5,8 @@ use Rattle.std.proofs.lemmas.List.Sums.{count_by-le-length}
 use Rattle.std.specs.FinMap.{FinMap, from_entries}
 use Rattle.std.proofs.lemmas.Bool.{cases_lt}
 use Rattle.std.proofs.lemmas.List.{append_assoc, length-append, get_or_append_left, get_or-append_right, get_or-append-add}
-use Rattle.msi_text.specs.declared.errors.ErrorKind.{ErrorKind}
-use Rattle.msi_text.specs.declared.errors.ErrorKind.TheVariants.{InvalidData, OutOfMemory}
+use Rattle.msi_text.specs.ErrorKind.{ErrorKind}
+use Rattle.msi_text.specs.ErrorKind.TheVariants.{InvalidData, OutOfMemory}
 use Rattle.msi_compound.specs.Chains.{AreDistinct, AreBelow}
 use Rattle.msi_compound_read.specs.Claims.{CanClaim, MarkedAre}
 use Rattle.msi_compound_read.specs.Outcomes.{FailsByData}

@@ -1,7 +1,7 @@
 -- What a function that only reads hands back.
 use Rattle.std.specs.Prelude.{◌≡◌, Option, Some, None, Result, Ok, Err, ◌⊎◌}
-use Rattle.msi_text.specs.declared.errors.ErrorKind.{ErrorKind}
-use Rattle.msi_text.specs.declared.errors.ErrorKind.TheVariants.{InvalidData, OutOfMemory}
+use Rattle.msi_text.specs.ErrorKind.{ErrorKind}
+use Rattle.msi_text.specs.ErrorKind.TheVariants.{InvalidData, OutOfMemory}
 
 -- it is what there is: InvalidData where there is none
 abbrev pub IsFrom : {X : Type 0} → Result X ErrorKind → Option X → Type 0

@@ -1,7 +1,7 @@
 //! Which sectors, or which entries, are in use.
 
 ghost use Rattle.std.specs.Prelude.{◌≡◌, ◌+◌, ◌<◌, ◌≤◌, ◌≢◌, ◌∷◌, ◌++◌, [], Some, true, vec_len, OnOk, OnErr, IsErrOf, IfOk, count_by, ◌↔◌};
-ghost use Rattle.msi_text.specs.declared.errors.ErrorKind.TheVariants.{InvalidData};
+ghost use Rattle.msi_text.specs.ErrorKind.TheVariants.{InvalidData};
 ghost use Rattle.msi_compound.specs.Chains.{AreDistinct, AreBelow};
 ghost use Rattle.msi_compound_read.specs.Claims.{IsFree, MarkedAre, OthersAreUnmarked};
 ghost use Rattle.msi_compound_read.specs.Outcomes.{FailsByData};

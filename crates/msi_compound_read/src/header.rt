@@ -1,7 +1,7 @@
 //! The header, the size of a sector, and how many sectors can be used (MS-CFB 2.1 and 2.2).
 
 ghost use Rattle.std.specs.Prelude.{◌≡◌, ℕ, ◌+◌, ◌<◌, ◌≤◌, OnOk, OnErr, IsErrOf, MatchOption, IsTrue, ◌↔◌, ◌⊎◌, ◌==◌, if◌then◌else◌};
-ghost use Rattle.msi_text.specs.declared.errors.ErrorKind.TheVariants.{InvalidData};
+ghost use Rattle.msi_text.specs.ErrorKind.TheVariants.{InvalidData};
 ghost use Rattle.msi_compound.specs.Bytes as spelled;
 ghost use Rattle.msi_compound.specs.Container as container;
 ghost use Rattle.msi_compound.specs.Format as marks;

@@ -3,7 +3,7 @@
 ghost use Rattle.std.specs.Prelude.{◌≡◌, IfOk, OnOk, IsErrOf};
 ghost use Rattle.std.specs.FinMap.{from_entries};
 ghost use Rattle.msi_text.specs.Results.{IsUnlessMemory};
-ghost use Rattle.msi_text.specs.declared.errors.ErrorKind.TheVariants.{InvalidData};
+ghost use Rattle.msi_text.specs.ErrorKind.TheVariants.{InvalidData};
 ghost use Rattle.msi_compound.specs.declared.contents.Contents as held;
 ghost use Rattle.msi_compound.specs.Chains.{AreBelow};
 ghost use Rattle.msi_compound.specs.Container as container;

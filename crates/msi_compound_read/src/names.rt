@@ -3,7 +3,7 @@
 ghost use Rattle.std.specs.Prelude.{◌≡◌, ℕ, List, ◌<◌, true, false, IfOk, OnOk, OnErr, IsErrOf};
 ghost use Rattle.std.specs.BTreeSet.{contains};
 ghost use Rattle.std.specs.FinMap as finite;
-ghost use Rattle.msi_text.specs.declared.errors.ErrorKind.TheVariants.{InvalidData};
+ghost use Rattle.msi_text.specs.ErrorKind.TheVariants.{InvalidData};
 ghost use Rattle.msi_compound.specs.Chains.{AreBelow};
 ghost use Rattle.msi_compound.specs.Container as container;
 ghost use Rattle.msi_compound.specs.Names.{name_cmp};

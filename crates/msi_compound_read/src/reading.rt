@@ -2,7 +2,7 @@
 
 ghost use Rattle.std.specs.Prelude.{◌≡◌, ℕ, List, [], ◌+◌, ◌-◌, ◌<◌, ◌≤◌, ◌^◌, ◌++◌, length, sum_by, vec_len, IfOk, OnOk, OnErr, IsErrOf};
 ghost use Rattle.msi_text.specs.Results.{IsUnlessMemory};
-ghost use Rattle.msi_text.specs.declared.errors.ErrorKind.TheVariants.{InvalidData};
+ghost use Rattle.msi_text.specs.ErrorKind.TheVariants.{InvalidData};
 ghost use Rattle.std.specs.List.{AllZip};
 ghost use Rattle.msi_compound.specs.declared.contents.Contents as held;
 ghost use Rattle.msi_compound.specs.Chains.{AreBelow};

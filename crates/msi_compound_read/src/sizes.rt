@@ -2,7 +2,7 @@
 
 ghost use Rattle.std.specs.Prelude.{◌≡◌, ◌<◌, ◌^◌, length, OnOk, IsErr, IsErrOf};
 ghost use Rattle.std.specs.FinMap as finite;
-ghost use Rattle.msi_text.specs.declared.errors.ErrorKind.TheVariants.{OutOfMemory};
+ghost use Rattle.msi_text.specs.ErrorKind.TheVariants.{OutOfMemory};
 
 use msi_compound::name::Name;
 use msi_text::Error;

@@ -3,7 +3,7 @@
 ghost use Rattle.std.specs.Prelude.{◌≡◌, ℕ, List, ◌+◌, ◌*◌, ◌<◌, ◌≤◌, ◌^◌, ◌++◌, length, vec_len, IfOk, IsErr, IsErrOf, OnOk, filter, ◌==◌, map, sum_by};
 ghost use Rattle.std.specs.List.{AllZip, range_with_len};
 ghost use Rattle.std.specs.FinMap.{from_entries};
-ghost use Rattle.msi_text.specs.declared.errors.ErrorKind.TheVariants.{InvalidData, OutOfMemory};
+ghost use Rattle.msi_text.specs.ErrorKind.TheVariants.{InvalidData, OutOfMemory};
 ghost use Rattle.msi_compound.specs.Chains.{AreBelow};
 ghost use Rattle.msi_compound_read.specs.Claims.{CanClaim};
 ghost use Rattle.msi_compound_read.specs.Outcomes.{ViewIsUnlessMemory, FailsByData};

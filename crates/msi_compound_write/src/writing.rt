@@ -2,7 +2,7 @@
 
 ghost use Rattle.std.specs.Prelude.{◌≡◌, ◌↔◌, ◌<◌, ◌≤◌, ◌^◌, ◌⊎◌, ◌||◌, is_err, option_map, IfOk, IfErr, IsErr, IsErrOf, IsTrue, OnErr, OnOk, IfSome, IsNone, not};
 ghost use Rattle.std.specs.FinMap as finite;
-ghost use Rattle.msi_text.specs.declared.errors.ErrorKind.TheVariants.{InvalidInput, Io, OutOfMemory};
+ghost use Rattle.msi_text.specs.ErrorKind.TheVariants.{InvalidInput, Io, OutOfMemory};
 ghost use Rattle.msi_device.specs.Held.{StandsInPart, with_piece};
 ghost use Rattle.msi_compound.specs.Container.{Holds};
 ghost use Rattle.msi_compound_write.specs.Extents as extents;

@@ -1,7 +1,7 @@
 //! Faults of a source or a device as errors.
 
 ghost use Rattle.std.specs.Prelude.{◌≡◌};
-ghost use Rattle.msi_text.specs.declared.errors.ErrorKind.TheVariants.{Io};
+ghost use Rattle.msi_text.specs.ErrorKind.TheVariants.{Io};
 
 use crate::reasons;
 use msi_text::{Error, ErrorKind};

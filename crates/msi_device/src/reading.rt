@@ -3,7 +3,7 @@
 ghost use Rattle.std.specs.Prelude.{◌≡◌, ◌⊎◌, ◌||◌, option_map, IfErr, IfOk, IfSome, OnOk};
 ghost use Rattle.msi_device.specs.Faults.{is_io};
 ghost use Rattle.msi_device.specs.Held.{all_bytes, at_end, bytes_told};
-ghost use Rattle.msi_text.specs.declared.errors.ErrorKind.TheVariants.{Io, OutOfMemory};
+ghost use Rattle.msi_text.specs.ErrorKind.TheVariants.{Io, OutOfMemory};
 
 use crate::faults::fault;
 use crate::source::Source;

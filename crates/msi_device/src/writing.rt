@@ -2,7 +2,7 @@
 
 ghost use Rattle.std.specs.Prelude.{◌≡◌, ◌||◌, is_err, option_map, IfErr, OnErr, OnOk};
 ghost use Rattle.msi_device.specs.Held.{StandsInPart, with_piece};
-ghost use Rattle.msi_text.specs.declared.errors.ErrorKind.TheVariants.{Io};
+ghost use Rattle.msi_text.specs.ErrorKind.TheVariants.{Io};
 
 use crate::device::Device;
 use crate::faults::fault;

@@ -1,7 +1,7 @@
 //! Expressions on rows: how they are built, what they are worth, and which columns they name.
 
 ghost use Rattle.std.specs.Prelude.{◌≡◌, ◌||◌, IfOk, IfErr, IsErr, IsTrue, ◌↔◌, Contains, ℕ, List};
-ghost use Rattle.msi_text.specs.declared.errors.ErrorKind.TheVariants.{OutOfMemory};
+ghost use Rattle.msi_text.specs.ErrorKind.TheVariants.{OutOfMemory};
 ghost use Rattle.msi_table.specs.declared.value.Value.TheVariants.{Null, Int, Str};
 ghost use Rattle.msi_query.specs.Expressions.{literal, column, both, either, names_in};
 ghost use Rattle.msi_query.specs.Conditions.{has_sum, is_text};

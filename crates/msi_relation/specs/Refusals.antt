@@ -1,7 +1,7 @@
 -- Refusals in order: each is a condition and the kind of error that answers where it holds.
 use Rattle.std.specs.Prelude.{◌≡◌, ◌⊎◌, Bool, List, [], ◌∷◌, Option, Some, None, Result, Ok, Err, if◌then◌else◌}
-use Rattle.msi_text.specs.declared.errors.ErrorKind.{ErrorKind}
-use Rattle.msi_text.specs.declared.errors.ErrorKind.TheVariants.{OutOfMemory}
+use Rattle.msi_text.specs.ErrorKind.{ErrorKind}
+use Rattle.msi_text.specs.ErrorKind.TheVariants.{OutOfMemory}
 
 abbrev pub Refusals : Type 0
 Refusals = List (Bool × ErrorKind)

@@ -1,8 +1,8 @@
 -- Rows of cells, and what they stand for.
 use Rattle.std.specs.Prelude.{ℕ, List, [], map, Option, option_map, option_and_then, unwrap_or, slice_get, Result, Ok}
 use Rattle.std.specs.List.{filter_map}
-use Rattle.msi_text.specs.declared.errors.ErrorKind.{ErrorKind}
-use Rattle.msi_text.specs.declared.errors.ErrorKind.TheVariants.{InvalidData, NotFound}
+use Rattle.msi_text.specs.ErrorKind.{ErrorKind}
+use Rattle.msi_text.specs.ErrorKind.TheVariants.{InvalidData, NotFound}
 use Rattle.msi_text.specs.Pool.{Place}
 use Rattle.msi_table.specs.declared.value.ValueRef.{ValueRef}
 use Rattle.msi_table.specs.declared.value.ValueRef.TheVariants as cell

@@ -1,8 +1,8 @@
 -- The rows that a query gives: the relational algebra's product, selection and projection.
 use Rattle.std.specs.Prelude.{ℕ, Bool, true, false, not, List, [], ◌∷◌, ◌++◌, map, length, filter, replicate, Option, Some, None, ◌==◌, if◌then◌else◌, Result}
 use Rattle.std.specs.List.{flat_map, list_all, filter_map}
-use Rattle.msi_text.specs.declared.errors.ErrorKind.{ErrorKind}
-use Rattle.msi_text.specs.declared.errors.ErrorKind.TheVariants.{InvalidData, InvalidInput, NotFound}
+use Rattle.msi_text.specs.ErrorKind.{ErrorKind}
+use Rattle.msi_text.specs.ErrorKind.TheVariants.{InvalidData, InvalidInput, NotFound}
 use Rattle.msi_table.specs.declared.value.Value.{Value}
 use Rattle.msi_table.specs.declared.value.Value.TheVariants.{Null}
 use Rattle.msi_table.specs.Columns.{ColumnDef, column_named, has_column}

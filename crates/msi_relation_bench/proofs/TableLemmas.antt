@@ -1,8 +1,8 @@
 -- Tables of tests as queries see them.
 use Rattle.std.proofs.Common.{◌≡◌, ℕ, List, Option, None, Err, inr, ap, sym, ◌∙◌}
 use Rattle.std.specs.Prelude.{option_map}
-use Rattle.msi_text.specs.declared.errors.ErrorKind.{ErrorKind}
-use Rattle.msi_text.specs.declared.errors.ErrorKind.TheVariants.{NotFound}
+use Rattle.msi_text.specs.ErrorKind.{ErrorKind}
+use Rattle.msi_text.specs.ErrorKind.TheVariants.{NotFound}
 use Rattle.msi_relation.specs.Refusals.{IsRefusal}
 use Rattle.msi_relation.specs.Rows.{whole_table}
 use Rattle.msi_relation_bench.specs.declared.tables.Kept.{Kept}

@@ -6,9 +6,9 @@ use Rattle.std.specs.Int.{w32, to_le_bytes}
 use Rattle.std.proofs.lemmas.Bool.{and_parts, not-false, ltb-true, ltb-false, lt-ltb, le-ltb}
 use Rattle.std.proofs.lemmas.List.{length-append, length-map, length-replicate}
 use Rattle.std.proofs.lemmas.List.Folds.{flat_map-map}
-use Rattle.msi_text.specs.declared.codepage.CodePage.{CodePage}
-use Rattle.msi_text.specs.declared.errors.ErrorKind.{ErrorKind}
-use Rattle.msi_text.specs.declared.errors.ErrorKind.TheVariants.{InvalidInput, OutOfMemory}
+use Rattle.msi_text.specs.CodePage.{CodePage}
+use Rattle.msi_text.specs.ErrorKind.{ErrorKind}
+use Rattle.msi_text.specs.ErrorKind.TheVariants.{InvalidInput, OutOfMemory}
 use Rattle.msi_text.specs.Lists.{all_present}
 use Rattle.msi_text.specs.PoolWriting.{is_refused_spelling}
 use Rattle.msi_summary.specs.declared.propset.PropertyValue.{PropertyValue}

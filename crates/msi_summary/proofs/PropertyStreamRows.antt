@@ -1,6 +1,6 @@
 -- Worked streams, by computation.
 use Rattle.std.specs.Prelude.{◌≡◌, [], ◌∷◌, Some, refl, codes, length, negsuc, option_map, drop, take}
-use Rattle.msi_text.specs.declared.codepage.CodePage.TheVariants as page
+use Rattle.msi_text.specs.CodePage.TheVariants as page
 use Rattle.msi_summary.specs.declared.propset.PropertyValue.TheVariants.{I2}
 use Rattle.msi_summary.specs.Properties.{Properties}
 use Rattle.msi_summary.specs.PropertyStream.{property_stream, value_bytes}

@@ -9,7 +9,7 @@ use Rattle.std.specs.Cmp.{nat_cmp_is}
 use Rattle.std.proofs.lemmas.Bool.{eqb-true, cases_lt, or_parts}
 use Rattle.std.proofs.lemmas.Bool.Decides.{nat_tests}
 use Rattle.std.proofs.lemmas.List.{append-nil}
-use Rattle.msi_text.specs.declared.codepage.CodePage.{CodePage}
+use Rattle.msi_text.specs.CodePage.{CodePage}
 use Rattle.msi_text.specs.Lists.{has_pair, entry_where}
 use Rattle.msi_summary.specs.declared.propset.PropertyValue.{PropertyValue}
 use Rattle.msi_summary.specs.Properties.{Properties}

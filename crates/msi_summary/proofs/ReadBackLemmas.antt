@@ -5,7 +5,7 @@ use Rattle.std.specs.List.{list_any, AllByRecursion, AllZip}
 use Rattle.std.specs.Int.{w16, w32, to_le_bytes}
 use Rattle.std.proofs.lemmas.Bool.{or_left, or_right, or_from, ne_eqb}
 use Rattle.std.proofs.lemmas.List.{length-append}
-use Rattle.msi_text.specs.declared.codepage.CodePage.{CodePage}
+use Rattle.msi_text.specs.CodePage.{CodePage}
 use Rattle.msi_text.specs.Lists.{has_pair}
 use Rattle.msi_text.specs.Pages.{bytes_in, text_in}
 use Rattle.msi_summary.specs.declared.propset.PropertyValue.{PropertyValue}

@@ -1,8 +1,8 @@
 -- The set from its parts, as the code makes it.
 use Rattle.std.proofs.Common.{◌≡◌, ℕ, ◌+◌, List, [], drop, Option, Some, refl, sym, ap, ◌∙◌, arith, eqb}
-use Rattle.msi_text.specs.declared.codepage.CodePage.{CodePage}
-use Rattle.msi_text.specs.declared.errors.ErrorKind.{ErrorKind}
-use Rattle.msi_text.specs.declared.errors.ErrorKind.TheVariants as kind
+use Rattle.msi_text.specs.CodePage.{CodePage}
+use Rattle.msi_text.specs.ErrorKind.{ErrorKind}
+use Rattle.msi_text.specs.ErrorKind.TheVariants as kind
 use Rattle.msi_text.specs.Lists.{entry_where}
 use Rattle.msi_summary.specs.declared.propset.PropertyValue.{PropertyValue}
 use Rattle.msi_text.specs.Results.{◌>>=◌, FailsAs}

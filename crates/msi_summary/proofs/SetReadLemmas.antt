@@ -1,8 +1,8 @@
 -- The laws of reading, from what the code gives.
 use Rattle.std.proofs.Common.{◌≡◌, ℕ, List, Option, Some, Result, Ok, Err, refl, sym, ap, subst, ◌∙◌, inl, inr}
 use Rattle.std.specs.Prelude.{◌⊎◌, ◌≢◌, IfOk, IfErr, OnErr}
-use Rattle.msi_text.specs.declared.errors.ErrorKind.{ErrorKind}
-use Rattle.msi_text.specs.declared.errors.ErrorKind.TheVariants as kind
+use Rattle.msi_text.specs.ErrorKind.{ErrorKind}
+use Rattle.msi_text.specs.ErrorKind.TheVariants as kind
 use Rattle.msi_summary.specs.Properties.{Properties}
 use Rattle.msi_summary.specs.PropertyLaws.{IsKept}
 use Rattle.msi_summary.specs.PropertyStream.{Spells}

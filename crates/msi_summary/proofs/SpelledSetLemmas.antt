@@ -5,8 +5,8 @@ use Rattle.std.specs.List.{AllZip}
 use Rattle.std.specs.Ordering.{nat_cmp, is_lt}
 use Rattle.std.proofs.lemmas.Bool.{eqb-true, le-ltb, cases_lt}
 use Rattle.std.proofs.lemmas.List.{drop_at, take-append-drop, length-append, length-take, length-drop}
-use Rattle.msi_text.specs.declared.codepage.CodePage.{CodePage}
-use Rattle.msi_text.specs.declared.codepage.CodePage.TheVariants as page
+use Rattle.msi_text.specs.CodePage.{CodePage}
+use Rattle.msi_text.specs.CodePage.TheVariants as page
 use Rattle.msi_text.specs.Lists.{placed, entry_where, has_pair}
 use Rattle.msi_summary.specs.declared.propset.PropertyValue.{PropertyValue}
 use Rattle.msi_summary.specs.declared.propset.PropertyValue.TheVariants.{Empty, Null, I1, I2, I4, LpStr, FileTime}

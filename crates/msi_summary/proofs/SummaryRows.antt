@@ -1,6 +1,6 @@
 -- Worked examples of sets and summaries, by computation.
 use Rattle.std.specs.Prelude.{◌≡◌, true, false, [], ◌∷◌, refl, codes, map, pos, negsuc}
-use Rattle.msi_text.specs.declared.codepage.CodePage.TheVariants as page
+use Rattle.msi_text.specs.CodePage.TheVariants as page
 use Rattle.msi_summary.specs.declared.propset.PropertyValue.TheVariants.{I2, I4}
 use Rattle.msi_summary.specs.Properties.{Properties, can_set, with_value, without_value, with_page, page_of}
 use Rattle.msi_summary.specs.Summary.{new_summary, with_arch, with_languages, with_text, template_of, languages_of, keywords_of, with_keywords, keywords_in, template_id, without_braces}

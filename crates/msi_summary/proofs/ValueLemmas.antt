@@ -10,7 +10,7 @@ use Rattle.std.proofs.Math.Seq.{drop-cons}
 use Rattle.std.proofs.Math.Facts.{Fits-of_z}
 use mir.Val.{bits}
 use borrow.Author.Gap.{read_sfits}
-use Rattle.msi_text.specs.declared.codepage.CodePage.{CodePage}
+use Rattle.msi_text.specs.CodePage.{CodePage}
 use Rattle.msi_text.specs.Pages.{text_in, Reads}
 use Rattle.msi_summary.specs.declared.propset.PropertyValue.{PropertyValue}
 use Rattle.msi_summary.specs.declared.propset.PropertyValue.TheVariants.{Empty, Null, I1, I2, I4, LpStr, FileTime}

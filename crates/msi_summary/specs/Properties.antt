@@ -4,8 +4,8 @@ use Rattle.std.specs.Prelude.{is_some, ◌==◌, if◌then◌else◌}
 use Rattle.std.specs.Ordering.{nat_cmp}
 use Rattle.std.specs.BTreeMap.{insert_entry}
 use Rattle.std.specs.Int.{w16, cast_unsigned, cast_signed}
-use Rattle.msi_text.specs.declared.codepage.CodePage.{CodePage}
-use Rattle.msi_text.specs.declared.codepage.CodePage.TheVariants as page
+use Rattle.msi_text.specs.CodePage.{CodePage}
+use Rattle.msi_text.specs.CodePage.TheVariants as page
 use Rattle.msi_text.specs.Pages.{page_id, page_with_id}
 use Rattle.msi_text.specs.Lists.{entry_where}
 use Rattle.msi_summary.specs.declared.propset.PropertyValue.{PropertyValue}

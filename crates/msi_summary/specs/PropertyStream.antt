@@ -5,7 +5,7 @@ use Rattle.std.specs.List.{flat_map, list_any, AllByRecursion, AllZip}
 use Rattle.std.specs.Ordering.{nat_cmp}
 use Rattle.std.specs.Int.RustNames.{FitsSigned}
 use Rattle.std.specs.Int.{w8, w16, w32, w64, to_le_bytes, cast_unsigned}
-use Rattle.msi_text.specs.declared.codepage.CodePage.{CodePage}
+use Rattle.msi_text.specs.CodePage.{CodePage}
 use Rattle.msi_text.specs.Pages.{Reads, bytes_in, IsWritable}
 use Rattle.msi_text.specs.Lists.{all_present, stable_sort, has_pair}
 use Rattle.msi_summary.specs.declared.propset.PropertyValue.{PropertyValue}

@@ -2,7 +2,7 @@
 use Rattle.std.specs.Prelude.{◌≡◌, ◌++◌, Option, ℕ, ◌+◌, ◌*◌, ◌^◌, Bool, List, [], map, length, unwrap_or, is_some, zip, nat_lt, ◌&&◌}
 use Rattle.std.specs.List.{list_all, flat_map}
 use Rattle.std.specs.Io.KnownBytes.{Appends}
-use Rattle.msi_text.specs.declared.codepage.CodePage.{CodePage}
+use Rattle.msi_text.specs.CodePage.{CodePage}
 use Rattle.msi_text.specs.PoolWriting.{is_refused_spelling}
 use Rattle.msi_summary.specs.declared.propset.PropertyValue.{PropertyValue}
 use Rattle.msi_summary.specs.Properties.{Properties, page_of}

@@ -5,8 +5,8 @@ use Rattle.std.specs.Ordering.{nat_cmp}
 use Rattle.std.specs.Map.{lookup}
 use Rattle.std.specs.BTreeMap.{is_at, insert_entry}
 use Rattle.std.specs.Int.{w8, w16, w32, w64, cast_signed}
-use Rattle.msi_text.specs.declared.codepage.CodePage.{CodePage}
-use Rattle.msi_text.specs.declared.codepage.CodePage.TheVariants as page
+use Rattle.msi_text.specs.CodePage.{CodePage}
+use Rattle.msi_text.specs.CodePage.TheVariants as page
 use Rattle.msi_text.specs.Pages.{text_in}
 use Rattle.msi_text.specs.Lists.{has_pair, entry_where}
 use Rattle.msi_text.specs.Numbers.{bytes_at, number_at}

@@ -6,7 +6,7 @@ use Rattle.std.specs.List.{slice_split, before_first, after_first, join_by, filt
 use Rattle.std.specs.List.{prefix_len, suffix_len}
 use Rattle.std.specs.Str.{trim_end}
 use Rattle.uuid.specs.Text.{parsed}
-use Rattle.msi_text.specs.declared.codepage.CodePage.TheVariants as page
+use Rattle.msi_text.specs.CodePage.TheVariants as page
 use Rattle.msi_text.specs.Numerals.{u16_in}
 use Rattle.msi_text.specs.Spellings.{language_list_text, braced_uuid_text}
 use Rattle.msi_summary.specs.declared.propset.PropertyValue.{PropertyValue}

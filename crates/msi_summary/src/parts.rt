@@ -2,7 +2,7 @@
 
 ghost use Rattle.std.specs.Prelude.{◌≡◌, ◌≢◌, ◌⊎◌, ◌↔◌, Some, IsTrue, IfOk, IfErr, OnOk, OnErr, IsErrOf};
 ghost use Rattle.msi_text.specs.Results.{Gives, OnlyMemory};
-ghost use Rattle.msi_text.specs.declared.errors.ErrorKind.TheVariants.{InvalidData, InvalidInput, OutOfMemory};
+ghost use Rattle.msi_text.specs.ErrorKind.TheVariants.{InvalidData, InvalidInput, OutOfMemory};
 ghost use Rattle.msi_summary.specs.Properties.{Properties};
 ghost use Rattle.msi_summary.specs.PropertyLaws.{IsKept};
 ghost use Rattle.msi_summary.specs.PropertyStream.{property_stream, AreWritable};

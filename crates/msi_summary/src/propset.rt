@@ -4,7 +4,7 @@
 ghost use Rattle.std.specs.Prelude.{◌≡◌, IfErr, OnOk, OnErr, true, if◌then◌else◌};
 ghost use Rattle.std.specs.Option.{option_copied};
 ghost use Rattle.msi_text.specs.Results.{OnlyMemory};
-ghost use Rattle.msi_text.specs.declared.errors.ErrorKind.TheVariants.{InvalidInput, OutOfMemory};
+ghost use Rattle.msi_text.specs.ErrorKind.TheVariants.{InvalidInput, OutOfMemory};
 ghost use Rattle.msi_summary.specs.Properties.{can_set, new_set, page_in, page_of, page_value, set_of, value_with_id};
 ghost use Rattle.msi_summary.specs.Properties.{with_page, with_value, without_value};
 ghost use Rattle.msi_summary.specs.PropertyStream.{FitsValue};

@@ -1,7 +1,7 @@
 //! A set read from its bytes.
 
 ghost use Rattle.std.specs.Prelude.{◌≡◌, ◌+◌, ◌==◌, ◌⊎◌, [], drop, Some, IfOk, IfErr};
-ghost use Rattle.msi_text.specs.declared.errors.ErrorKind.TheVariants.{InvalidData, OutOfMemory};
+ghost use Rattle.msi_text.specs.ErrorKind.TheVariants.{InvalidData, OutOfMemory};
 ghost use Rattle.msi_summary.specs.PropertyStream.{Spells};
 ghost use Rattle.msi_text.specs.Lists.{entry_where};
 ghost use Rattle.msi_summary.specs.Properties.{Properties, page_in};

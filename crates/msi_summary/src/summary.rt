@@ -4,7 +4,7 @@
 ghost use Rattle.std.specs.Prelude.{◌≡◌, ◌≢◌, IfOk, IfErr, OnOk, OnErr};
 ghost use Rattle.std.specs.Option.{option_copied};
 ghost use Rattle.msi_text.specs.Results.{OnlyMemory};
-ghost use Rattle.msi_text.specs.declared.errors.ErrorKind.TheVariants.{InvalidData};
+ghost use Rattle.msi_text.specs.ErrorKind.TheVariants.{InvalidData};
 ghost use Rattle.msi_summary.specs.Properties.{page_of, with_page, with_value, without_value};
 ghost use Rattle.msi_summary.specs.Summary.{new_summary, summary_format, number_with_id, text_with_id, time_with_id};
 ghost use Rattle.msi_summary.specs.Summary.{with_number, with_text, with_time};

@@ -8,7 +8,7 @@ ghost use Rattle.std.specs.List.{flat_map};
 ghost use Rattle.std.specs.Io.KnownBytes.{Appends};
 ghost use Rattle.msi_text.specs.PoolWriting.{is_refused_spelling};
 ghost use Rattle.msi_text.specs.Results.{OnlyMemory};
-ghost use Rattle.msi_text.specs.declared.errors.ErrorKind.TheVariants.{InvalidInput, Io, OutOfMemory};
+ghost use Rattle.msi_text.specs.ErrorKind.TheVariants.{InvalidInput, Io, OutOfMemory};
 ghost use Rattle.msi_summary.specs.Properties.{page_of};
 ghost use Rattle.msi_summary.specs.PropertyStream.{os_number, header_bytes, version_of, least_version as version_in};
 ghost use Rattle.msi_summary.specs.PropertyStream.{needs_version_1 as is_of_version_1, value_bytes, piece_of};

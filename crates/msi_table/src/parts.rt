@@ -2,7 +2,7 @@
 
 ghost use Rattle.std.specs.Prelude.{◌≡◌, ◌<◌, ◌≤◌, ◌↔◌, IfOk, IfErr, IsErr, IsTrue, Some, None, is_some, true, length, option_copied};
 ghost use Rattle.msi_text.specs.Results.{OnlyMemory};
-ghost use Rattle.msi_text.specs.declared.errors.ErrorKind.TheVariants.{InvalidData};
+ghost use Rattle.msi_text.specs.ErrorKind.TheVariants.{InvalidData};
 ghost use Rattle.msi_table.specs.Refusals.{FailsWith};
 ghost use Rattle.msi_table.specs.Tables.{CanStore, rows_spelled, stored_bytes};
 ghost use Rattle.msi_table.specs.Rows.{AreAsWide, value_named as value_in_row};

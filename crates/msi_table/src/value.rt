@@ -6,7 +6,7 @@ ghost use Rattle.std.specs.Hash.{same_Alike};
 ghost use Rattle.std.specs.Ordering.{as_partial_cmp, eq_by_cmp};
 ghost use Rattle.std.proofs.Common.{refl};
 ghost use Rattle.msi_text.specs.Results.{OnlyMemory};
-ghost use Rattle.msi_text.specs.declared.errors.ErrorKind.TheVariants.{InvalidData, InvalidInput};
+ghost use Rattle.msi_text.specs.ErrorKind.TheVariants.{InvalidData, InvalidInput};
 ghost use Rattle.msi_table.specs.Values.{value_cmp, is_null, int_of, text_of, value_hash_input};
 ghost use Rattle.msi_table.specs.StoredOrder.{cell_cmp};
 ghost use Rattle.msi_table.specs.Cells.{value_of_cell};

@@ -3,10 +3,10 @@
 ghost use Rattle.std.specs.Prelude.{◌≡◌, Some, None, IfOk, IfErr, bytes_eq, ◌||◌};
 ghost use Rattle.std.specs.Fmt.{padded};
 ghost use Rattle.msi_text.specs.Categories.{all_categories, category_name, category_in, other_name};
-ghost use Rattle.msi_text.specs.declared.errors.ErrorKind.TheVariants.{InvalidData};
+ghost use Rattle.msi_base.specs.declared.errors.ErrorKind.TheVariants.{InvalidData};
 
-use crate::errors::{Error, ErrorKind};
 use crate::reasons;
+use msi_base::errors::{Error, ErrorKind};
 use std::fmt;
 use std::str::FromStr;
 

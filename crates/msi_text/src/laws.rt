@@ -1,49 +1,19 @@
-//! What holds of the formats themselves: each law is what a function ensures, mostly one without a body.
+//! What holds of the formats themselves: each law is what a function without a body ensures.
 
 ghost use Rattle.msi_text.specs.Categories.{CategoryNamesComeBack};
-ghost use Rattle.msi_text.specs.FirstFitLaws.{TakenPlacesHoldTheirText, TakenPlacesStayInRange, GivenBackTakesOne, GivenBackStaysInRange};
 ghost use Rattle.msi_text.specs.Languages.{LanguageIdsTellTags, LanguagePartsComeBack, LanguageRowsAscend, LanguageTagsTellIds};
-ghost use Rattle.msi_text.specs.PageTables.{PageTablesAgree};
-ghost use Rattle.msi_text.specs.Pages.{AsciiStandsForItself, PageBytesComeBack, PageIdsTellPages, PageTextsComeBack, Utf8TextsComeBack};
-ghost use Rattle.msi_text.specs.PoolLaws.{EmptyPlacesAreWritten, IsPoolInSteps, MarksStandForTests, OnePool, PoolsReadBack};
-ghost use Rattle.msi_text.specs.References.{ReferencesComeBack};
 ghost use Rattle.msi_text.specs.Times.{MomentsComeBackFromUnix, StoredMomentsComeBack};
-ghost use Rattle.std.specs.Ordering.{nat_cmp};
-ghost use Rattle.std.specs.Prelude.{◌≡◌, ◌↔◌, IsTrue};
-ghost use Rattle.std.specs.declared.cmp.Ordering.TheVariants.{Equal};
 
-use crate::stringpool::StringRef;
-use std::cmp::Ordering;
-
-/// The id of a code page is read as that page.
-pub fn page_ids_tell_pages()
-    ensures { PageIdsTellPages }
-{}
-
-/// In a page with a table a byte stands for a character exactly where that character is written as the byte.
-pub fn page_tables_agree()
-    ensures { PageTablesAgree }
-{}
-
-/// A text whose characters all have a place in its page's table is read as it was written.
-pub fn page_texts_come_back()
-    ensures { PageTextsComeBack }
-{}
-
-/// In UTF-8 every text is read as it was written.
-pub fn utf8_texts_come_back()
-    ensures { Utf8TextsComeBack }
-{}
-
-/// In each page ASCII is written as its own bytes, which are read as it.
-pub fn ascii_stands_for_itself()
-    ensures { AsciiStandsForItself }
-{}
-
-/// Bytes that all stand for characters are written for the text that they read as.
-pub fn page_bytes_come_back()
-    ensures { PageBytesComeBack }
-{}
+pub use msi_base::laws::{
+    ascii_stands_for_itself, page_bytes_come_back, page_ids_tell_pages, page_tables_agree,
+    page_texts_come_back, utf8_texts_come_back,
+};
+pub use msi_pool::laws::{
+    empty_places_are_written, given_back_stays_in_range, given_back_takes_one,
+    marks_stand_for_tests, one_pool, pool_in_steps, pools_read_back, references_are_equal,
+    references_are_ordered, references_come_back, taken_places_hold_their_text,
+    taken_places_stay_in_range,
+};
 
 /// The name of a category is read as that category.
 pub fn category_names_come_back()
@@ -68,73 +38,6 @@ pub fn language_ids_tell_tags()
 /// The tag of a row tells the row's id, so a tag has one row at most.
 pub fn language_tags_tell_ids()
     ensures { LanguageTagsTellIds }
-{}
-
-/// What is written of a reference has the width of one, and is read as that reference.
-pub fn references_come_back()
-    ensures { ReferencesComeBack }
-{}
-
-/// References are ordered as their numbers, and compare as equal exactly where they are equal.
-pub fn references_are_ordered(a: StringRef, b: StringRef) -> Ordering
-    ensures order { result ≡ nat_cmp a b }
-    ensures equal { (result ≡ Equal) ↔ (a ≡ b) }
-{
-    a.cmp(&b)
-}
-
-/// References are equal exactly where their numbers are.
-pub fn references_are_equal(a: StringRef, b: StringRef) -> bool
-    ensures { IsTrue result ↔ (a ≡ b) }
-{
-    a == b
-}
-
-/// A text that is taken stands at the number that is answered, which one cell more names; no other place changes.
-pub fn taken_places_hold_their_text()
-    ensures { TakenPlacesHoldTheirText }
-{}
-
-/// A text takes a place that there is, or one whose number the width of references can name; counts keep to 16 bits.
-pub fn taken_places_stay_in_range()
-    ensures { TakenPlacesStayInRange }
-{}
-
-/// Giving a place back takes one cell from it, and its text with the last; no other place changes.
-pub fn given_back_takes_one()
-    ensures { GivenBackTakesOne }
-{}
-
-/// Giving a place back keeps counts to 16 bits.
-pub fn given_back_stays_in_range()
-    ensures { GivenBackStaysInRange }
-{}
-
-/// Two streams hold at most one pool.
-pub fn one_pool()
-    ensures { OnePool }
-{}
-
-/// A pool is held by two streams exactly where the one says its page, its references and its entries, and the other spells
-/// its texts.
-pub fn pool_in_steps()
-    ensures { IsPoolInSteps }
-{}
-
-/// What is written of a pool is read as the pool, but for the texts of its free places, where the page carries each text in
-/// use there and back.
-pub fn pools_read_back()
-    ensures { PoolsReadBack }
-{}
-
-/// A pool whose free places have the empty text is written as it is.
-pub fn empty_places_are_written()
-    ensures { EmptyPlacesAreWritten }
-{}
-
-/// Marks that tell of each place whether its number passes a test stand for the test, when texts are forgotten.
-pub fn marks_stand_for_tests()
-    ensures { MarksStandForTests }
 {}
 
 /// A moment comes back from its seconds and nanoseconds since 1970.

@@ -3,23 +3,19 @@
 
 pub mod category;
 mod category_rules;
-pub mod codepage;
-pub mod errors;
-mod faults;
-pub mod fields;
 pub mod language;
 pub mod laws;
 pub mod parts;
 pub mod reasons;
 mod spellings;
-pub mod stringpool;
-pub mod text;
 pub mod timestamp;
 
 pub use category::Category;
-pub use codepage::CodePage;
-pub use errors::{Error, ErrorKind, Reason};
 pub use language::LanguageId;
-pub use stringpool::{StringPool, StringPoolBuilder, StringRef};
-pub use text::{IntoText, Items, Text};
+pub use msi_base::codepage::CodePage;
+pub use msi_base::errors::{Error, ErrorKind, Reason};
+pub use msi_base::text::{IntoText, Items, Text};
+pub use msi_base::{codepage, errors, fields, text};
+pub use msi_pool::stringpool;
+pub use msi_pool::stringpool::{StringPool, StringPoolBuilder, StringRef};
 pub use timestamp::Timestamp;

@@ -1,36 +1,11 @@
-//! Why texts, pages, places and references are refused: a sentence for each rule.
+//! Why texts, categories and moments are refused: a sentence for each rule.
 
-use crate::errors::Reason;
-
-pub const MEMORY: Reason = Reason("memory was refused");
-
-pub const DEVICE: Reason = Reason("a file, reader or writer failed");
-
-pub const POOL_PAGE: Reason = Reason("the code page of the string pool is not known");
-
-pub const POOL_CUT: Reason = Reason("the string pool ends in the middle of an entry");
-
-pub const POOL_PLACES: Reason = Reason("the string pool has too many places");
-
-pub const POOL_DATA: Reason = Reason("the data of the string pool ends before its last text");
-
-pub const POOL_FULL: Reason = Reason("the string pool is full");
-
-pub const PLACE_UNKNOWN: Reason = Reason("a reference leads past the end of the string pool");
-
-pub const PLACE_FREE: Reason = Reason(
-    "a place of the string pool that nothing names is given back",
-);
-
-pub const REFERENCE_CUT: Reason = Reason("a reference to the string pool is cut");
-
-pub const REFERENCE_WIDE: Reason = Reason("a reference does not fit two bytes");
-
-pub const TEXT_LONG: Reason = Reason("a text is too long to be written");
-
-pub const PAGE_BYTE: Reason = Reason("a byte stands for no character in the code page");
-
-pub const PAGE_CHARACTER: Reason = Reason("a character has no byte in the code page");
+use msi_base::errors::Reason;
+pub use msi_base::reasons::{DEVICE, MEMORY, PAGE_BYTE, PAGE_CHARACTER};
+pub use msi_pool::reasons::{
+    PLACE_FREE, PLACE_UNKNOWN, POOL_CUT, POOL_DATA, POOL_FULL, POOL_PAGE, POOL_PLACES,
+    REFERENCE_CUT, REFERENCE_WIDE, TEXT_LONG,
+};
 
 pub const CATEGORY_NAME: Reason = Reason("the text names no category");
 

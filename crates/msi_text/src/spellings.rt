@@ -3,12 +3,12 @@
 ghost use Rattle.std.specs.Prelude.{◌≡◌, IfOk, IfErr};
 ghost use Rattle.std.specs.Fmt.{decimal};
 ghost use Rattle.msi_text.specs.Spellings.{language_list_text, braced_uuid_text};
-ghost use Rattle.msi_text.specs.Results.{OnlyMemory};
-ghost use Rattle.msi_text.specs.declared.errors.ErrorKind.TheVariants.{OutOfMemory};
+ghost use Rattle.msi_base.specs.Results.{OnlyMemory};
+ghost use Rattle.msi_base.specs.declared.errors.ErrorKind.TheVariants.{OutOfMemory};
 
-use crate::errors::Error;
 use crate::language::LanguageId;
-use crate::text::Text;
+use msi_base::errors::Error;
+use msi_base::text::Text;
 use std::alloc::Global;
 use uuid::Uuid;
 

@@ -3,13 +3,13 @@
 ghost use Rattle.std.specs.Prelude.{◌≡◌, ◌⊎◌, ◌<◌, pos, ◌+ℤ◌, ◌*ℤ◌, int_div, length, IfSome, IfOk, IfErr, OnErr, OnOk};
 ghost use Rattle.std.specs.Int.{w64, saturate_unsigned};
 ghost use Rattle.std.specs.Io.KnownBytes.{Appends};
-ghost use Rattle.msi_text.specs.Faults.{AppendsPart, HasFewer};
+ghost use Rattle.msi_base.specs.Faults.{AppendsPart, HasFewer};
 ghost use Rattle.msi_text.specs.Times.{epoch, ticks_of_unix, unix_of_ticks, stored_moment, ReadsMoment};
-ghost use Rattle.msi_text.specs.declared.errors.ErrorKind.TheVariants.{InvalidData, Io, OutOfMemory};
+ghost use Rattle.msi_base.specs.declared.errors.ErrorKind.TheVariants.{InvalidData, Io, OutOfMemory};
 
-use crate::errors::Error;
-use crate::faults::{read_exactly, write_fully};
 use crate::reasons;
+use msi_base::errors::Error;
+use msi_base::parts::{read_exactly, write_fully};
 use std::io::{Read, Write};
 use std::marker::Model;
 

@@ -1,7 +1,7 @@
 //! `wrap OUT NAME`: a container with standard input as its one stream.
 
 ghost use Rattle.std.specs.Prelude.{◌≡◌, ◌↔◌, ◌⊎◌, false, chars, option_map, IfOk, IfErr, IsErr, IsErrOf, IsTrue, OnOk};
-ghost use Rattle.msi_text.specs.declared.errors.ErrorKind.TheVariants.{InvalidInput, Io, OutOfMemory};
+ghost use Rattle.msi_text.specs.ErrorKind.TheVariants.{InvalidInput, Io, OutOfMemory};
 ghost use Rattle.msi_container.specs.Container.{Holds};
 ghost use Rattle.msi_container.specs.Held.{with_piece};
 ghost use Rattle.msi_container.specs.Layout.{layout, refuses};

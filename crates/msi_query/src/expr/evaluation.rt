@@ -1,7 +1,7 @@
 //! What a tree is worth on a row.
 
 ghost use Rattle.std.specs.Prelude.{◌≡◌, IfOk, IfErr, IsErr, IsTrue};
-ghost use Rattle.msi_text.specs.declared.errors.ErrorKind.TheVariants.{OutOfMemory};
+ghost use Rattle.msi_text.specs.ErrorKind.TheVariants.{OutOfMemory};
 ghost use Rattle.msi_query.specs.Operands.{operand_value};
 ghost use Rattle.msi_query.specs.Trees.{tree_has_sum, tree_value};
 

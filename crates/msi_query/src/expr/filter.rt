@@ -2,7 +2,7 @@
 
 ghost use Rattle.std.specs.Prelude.{◌≡◌, ◌++◌, List, IfOk, IfErr, IsErr, IsTrue, false, unwrap_or, slice_get, option_copied};
 ghost use Rattle.std.specs.Option.{option_map_or};
-ghost use Rattle.msi_text.specs.declared.errors.ErrorKind.TheVariants.{OutOfMemory};
+ghost use Rattle.msi_text.specs.ErrorKind.TheVariants.{OutOfMemory};
 ghost use Rattle.msi_table.specs.declared.value.Value.{Value as ValueOf};
 ghost use Rattle.msi_table.specs.declared.value.ValueRef.TheVariants as cell;
 ghost use Rattle.msi_table.specs.Cells.{value_of_cell};

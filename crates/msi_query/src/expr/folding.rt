@@ -1,7 +1,7 @@
 //! Trees as they are built: operators over literals alone fold to a literal.
 
 ghost use Rattle.std.specs.Prelude.{◌≡◌, IfOk, IfErr};
-ghost use Rattle.msi_text.specs.declared.errors.ErrorKind.TheVariants.{OutOfMemory};
+ghost use Rattle.msi_text.specs.ErrorKind.TheVariants.{OutOfMemory};
 ghost use Rattle.msi_query.specs.Folding.{folded_unary, folded_binary};
 ghost use Rattle.msi_query.specs.Trees.{expression_of};
 

@@ -2,7 +2,7 @@
 
 ghost use Rattle.std.specs.Prelude.{◌≡◌, ◌||◌, IfErr, OnOk, ℕ, List, bytes_eq};
 ghost use Rattle.std.specs.List.{list_any};
-ghost use Rattle.msi_text.specs.declared.errors.ErrorKind.TheVariants.{OutOfMemory};
+ghost use Rattle.msi_text.specs.ErrorKind.TheVariants.{OutOfMemory};
 ghost use Rattle.msi_query.specs.Evaluation.{knows_names as knows_each};
 ghost use Rattle.msi_query.specs.Expressions.{names_in};
 ghost use Rattle.msi_query.specs.Names.{has_name};

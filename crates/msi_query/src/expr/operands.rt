@@ -1,7 +1,7 @@
 //! Operands: values that stand in a tree or a row, or that were computed.
 
 ghost use Rattle.std.specs.Prelude.{◌≡◌, IfOk, IfErr, IsErr, IsTrue};
-ghost use Rattle.msi_text.specs.declared.errors.ErrorKind.TheVariants.{OutOfMemory};
+ghost use Rattle.msi_text.specs.ErrorKind.TheVariants.{OutOfMemory};
 ghost use Rattle.msi_query.specs.Conditions.{is_text};
 ghost use Rattle.msi_query.specs.Operands.{operand_value};
 ghost use Rattle.msi_query.specs.Views.{seen_value};

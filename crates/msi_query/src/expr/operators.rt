@@ -1,7 +1,7 @@
 //! What operators give of values.
 
 ghost use Rattle.std.specs.Prelude.{◌≡◌, ◌++◌, IfOk, IfErr, IsErr, IsTrue, None};
-ghost use Rattle.msi_text.specs.declared.errors.ErrorKind.TheVariants.{OutOfMemory};
+ghost use Rattle.msi_text.specs.ErrorKind.TheVariants.{OutOfMemory};
 ghost use Rattle.msi_table.specs.Values.{int_of};
 ghost use Rattle.msi_query.specs.declared.expr.BinaryOp.TheVariants.{Add, Shl, Shr};
 ghost use Rattle.msi_query.specs.Conditions.{is_sum};

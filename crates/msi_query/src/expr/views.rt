@@ -1,7 +1,7 @@
 //! Values as they are seen where they lie, and what gives the values of columns.
 
 ghost use Rattle.std.specs.Prelude.{◌≡◌, IfOk, IfErr, IsErr, IsTrue};
-ghost use Rattle.msi_text.specs.declared.errors.ErrorKind.TheVariants.{OutOfMemory};
+ghost use Rattle.msi_text.specs.ErrorKind.TheVariants.{OutOfMemory};
 ghost use Rattle.msi_table.specs.declared.value.Value.{Value as ValueOf};
 ghost use Rattle.msi_table.specs.Values.{value_cmp, is_true as counts};
 ghost use Rattle.msi_query.specs.Conditions.{is_text};

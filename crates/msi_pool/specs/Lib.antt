@@ -1,0 +1,8 @@
+-- The words of this crate.
+pub mod Pool
+pub mod FirstFit
+pub mod FirstFitLaws
+pub mod PoolWriting
+pub mod PoolLaws
+pub mod PoolReading
+pub mod References

@@ -1,5 +1,0 @@
-use Rattle.msi_text.proofs.TakenLemmas.{taken_takes}
-use Rattle.msi_text.proofs.laws.taken_places_hold_their_text.Goals as goal
-
-pub returns : goal.returns
-returns c = taken_takes
