@@ -1,4 +1,0 @@
--- Lemmas.
-mod TextIndexLemmas
-mod PlaceIndexLemmas
-mod IndexedFitLemmas
