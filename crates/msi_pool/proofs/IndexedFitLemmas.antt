@@ -56,8 +56,8 @@ first_fit_is : (text : List ℕ) (places : List Place) (i : ℕ) → i ≤ lengt
     → (i < length places → fits text places i ≡ true) → first_fit text places ≡ i
 first_fit_is text places i within below at =
     let is = position_or_len_is (is_fit text) places i no_place within
-        (λ k less. fits_at text places k (omega (arith, less, within)) ∙ below k less)
-        (λ less. fits_at text places i less ∙ at less) in
+    (λ k less. fits_at text places k (omega (arith, less, within)) ∙ below k less)
+    (λ less. fits_at text places i less ∙ at less) in
     rw is (elim (cases_lt i (length places)) [
       | inl less ↦ rw (lt-ltb i (length places) less) refl
       | inr more ↦ rw (le-ltb i (length places) more) (omega (arith, within, more))
@@ -94,8 +94,8 @@ both_least : (text start : List ℕ) (places : List Place) (free : List ℕ) (en
     → IsLeast (is_among free) a → IsLeast (is_entered entries start) b → Least text places (lesser a b)
 both_least text start places free entries a b are_free are_open same h k =
     lesser_least (λ i. is_free (slice_get places i)) (λ i. has_room_for text (slice_get places i)) a b
-      (least_same (is_among free) _ a are_free h)
-      (least_same (is_entered entries start) _ b (λ i. ap (λ t. is_entered entries t i) same ∙ are_open text i) k)
+    (least_same (is_among free) _ a are_free h)
+    (least_same (is_entered entries start) _ b (λ i. ap (λ t. is_entered entries t i) same ∙ are_open text i) k)
 
 pub fit_some : (text start : List ℕ) (places : List Place) (free : List ℕ) (entries : List Entry) (a b o : Option ℕ) (i : ℕ) → AreFree free places → AreOpen entries places → start ≡ text
     → IsLeast (is_among free) a → IsLeast (is_entered entries start) b → o ≡ lesser a b → o ≡ Some i → Found text places i

@@ -136,6 +136,7 @@ open_undone at text places old mid new are past entered left t i = left t i ∙ 
     both : (b x : Bool) → x ≡ false → (not b && (b || x)) ≡ x
     both true x h = sym h
     both false x h = refl
+
     at_it : i ≡ at → (not (is_same t i text at) && (is_same t i text at || is_entered old t i)) ≡ has_room_for t (slice_get places i)
     at_it same = both (is_same t i text at) (is_entered old t i) (are t i ∙ ap (has_room_for t) (ap (slice_get places) same ∙ past)) ∙ are t i
 

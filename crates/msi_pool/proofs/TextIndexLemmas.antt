@@ -66,11 +66,13 @@ behind t u i j same less = rw (same, tied_itself nat_list_cmp_total u) (grind (a
 pub least_found : (s k : Entry) (seen : List Entry) → s.at ≡ 0 → bytes_eq k.text s.text ≡ true → list_any (is_at (entry_cmp k)) seen ≡ true → BeginsWith s k seen
     → IsLeast (is_entered seen s.text) (Some k.at)
 least_found s k seen zero_at same found begins =
-    let is : k.text ≡ s.text = (bytes_eq-Decides k.text s.text).0 same in
-    (ap (λ t. is_entered seen t k.at) (sym is) ∙ found, λ j less. elim (cases_Bool (is_entered seen s.text j)) [
-      | inl held ↦ absurd (true≢false (sym (behind k.text s.text k.at j is less) ∙ begins (entry s.text j) (in_front s j zero_at) held))
-      | inr missing ↦ missing
-    ])
+    let is : k.text ≡ s.text = (bytes_eq-Decides k.text s.text).0 same in (
+      ap (λ t. is_entered seen t k.at) (sym is) ∙ found,
+      λ j less. elim (cases_Bool (is_entered seen s.text j)) [
+        | inl held ↦ absurd (true≢false (sym (behind k.text s.text k.at j is less) ∙ begins (entry s.text j) (in_front s j zero_at) held))
+        | inr missing ↦ missing
+      ],
+    )
 
 apart : (o p r : Ordering) → is_eq o ≡ false → is_gt (ordering_then o p) ≡ false → is_gt (ordering_then (ordering_reverse o) r) ≡ false → ⊥
 apart Less p r e f g = true≢false g

@@ -21,7 +21,10 @@ fn assert_takes(
     number: i32,
 ) -> Result<(), Error> {
     let (place, operations) = take(alloc, pool, text)?;
-    assert!(rt; place == number && 1 <= operations && operations <= 8, "{text}: {place} in {operations}");
+    assert!(rt;
+        place == number && 1 <= operations && operations <= 8,
+        "{text}: {place} in {operations}"
+    );
     Ok(())
 }
 
@@ -33,12 +36,21 @@ fn a_free_place_before_the_text_is_taken(rt: HostRuntime) -> Result<(), Fail> {
     assert_takes(&rt, alloc, &mut pool, "a", 1)?;
     assert_takes(&rt, alloc, &mut pool, "b", 2)?;
     pool.decref(string_ref(1))?;
-    assert!(rt; 1 <= pool.operations() && pool.operations() <= 8, "given back");
+    assert!(rt;
+        1 <= pool.operations() && pool.operations() <= 8,
+        "given back"
+    );
     assert_takes(&rt, alloc, &mut pool, "b", 1)?;
     let both = pool.refcount(string_ref(1)) == 1 && pool.refcount(string_ref(2)) == 1;
-    assert!(rt; both && pool.get(string_ref(2)) == "b", "both places hold it");
+    assert!(rt;
+        both && pool.get(string_ref(2)) == "b",
+        "both places hold it"
+    );
     let copy = pool.clone()?;
-    assert!(rt; copy.operations() == 0 && copy.get(string_ref(1)) == "b", "a clone");
+    assert!(rt;
+        copy.operations() == 0 && copy.get(string_ref(1)) == "b",
+        "a clone"
+    );
     Ok(())
 }
 
@@ -81,10 +93,16 @@ fn new_texts_take_the_places_given_back_in_order(rt: HostRuntime) -> Result<(), 
     for number in 1..=65535_u16 {
         if number % 3 == 1 {
             pool.decref(string_ref(u32::from(number)))?;
-            assert!(rt; 1 <= pool.operations() && pool.operations() <= 8, "{number}");
+            assert!(rt;
+                1 <= pool.operations() && pool.operations() <= 8,
+                "{number}"
+            );
         }
     }
     take_many(&rt, alloc, &mut pool, "b", 3)?;
-    assert!(rt; take(alloc, &mut pool, "c").is_err() && pool.operations() <= 8, "a full pool");
+    assert!(rt;
+        take(alloc, &mut pool, "c").is_err() && pool.operations() <= 8,
+        "a full pool"
+    );
     Ok(())
 }

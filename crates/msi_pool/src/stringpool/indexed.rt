@@ -176,7 +176,12 @@ impl IndexedPlaces {
         let place = self.places.get(at as usize, &mut self.operations);
         let raised = Place::new(place.shared_text()?, place.count() + 1);
         let entry = Entry::new(text, at);
-        close(&mut self.texts, &entry, raised.count(), &mut self.operations);
+        close(
+            &mut self.texts,
+            &entry,
+            raised.count(),
+            &mut self.operations,
+        );
         self.places.set(at as usize, raised, &mut self.operations);
         Ok(at)
     }
@@ -281,7 +286,8 @@ impl IndexedPlaces {
     {
         let alloc = self.places.allocator();
         self.free.insert(at, &mut self.operations)?;
-        self.texts.remove(&Entry::new(text, at), &mut self.operations);
+        self.texts
+            .remove(&Entry::new(text, at), &mut self.operations);
         let place = Place::new(SharedText::empty(alloc), 0);
         self.places.set(at as usize, place, &mut self.operations);
         Ok(())
@@ -311,11 +317,7 @@ impl IndexedPlaces {
 fn most_places(long: bool) -> usize
     ensures { result ≡ most_of long }
 {
-    if long {
-        MOST_PLACES
-    } else {
-        MOST_SHORT_PLACES
-    }
+    if long { MOST_PLACES } else { MOST_SHORT_PLACES }
 }
 
 /// The lesser of two places, where there is one.

@@ -13,8 +13,8 @@ returns-clause-indexed c =
     let p = c.get-place.result.now in
     let q = c.new-raised.result in
     let closed : (t : List ℕ) (i : ℕ) → is_entered c.close.new.texts t i ≡ (not ((q.count == 65535) && is_same t i c.args.text c.args.at) && is_entered old.texts t i) =
-        λ t i. c.close.ensures.removed t i ∙ ap (λ (e : Entry). not ((c.count-2.result == 65535) && is_same t i e.text e.at) && is_entered old.texts t i) c.new-entry.ensures
-          ∙ ap (λ (n : ℕ). not ((n == 65535) && is_same t i c.args.text c.args.at) && is_entered old.texts t i) c.count-2.ensures in
+    λ t i. c.close.ensures.removed t i ∙ ap (λ (e : Entry). not ((c.count-2.result == 65535) && is_same t i e.text e.at) && is_entered old.texts t i) c.new-entry.ensures
+    ∙ ap (λ (n : ℕ). not ((n == 65535) && is_same t i c.args.text c.args.at) && is_entered old.texts t i) c.count-2.ensures in
     let is = after_raise old.places c.set.new.self c.args.at c.args.text p q old.free old.texts c.close.new.texts c.get-place.ensures.place c.requires.room (ap (λ x. x.count) c.new-raised.ensures ∙ ap (λ n. n + 1) c.count.ensures) (ap (λ x. x.text) c.new-raised.ensures ∙ c.in_ok-shared_text.ensures.ok) c.set.ensures.places c.requires.indexed.are_free c.requires.indexed.are_open closed in
     record {
       many_is = c.requires.indexed.many_is ∙ sym (ap length c.set.ensures.places ∙ length-set old.places c.args.at q);
