@@ -1,11 +1,10 @@
 -- Counts keep to 16 bits.
-use Rattle.std.proofs.Common.{◌≡◌, ℕ, zero, suc, ◌+◌, ◌-◌, ◌^◌, ◌<◌, ◌≤◌, ◌⊎◌, Bool, true, false, ltb, ◌||◌, List, [], ◌∷◌, ◌++◌, length, set, max, Option, Some, None, inl, inr, refl, sym, ap, subst, ◌∙◌, arith, rules}
-use Rattle.std.specs.Prelude.{◌==◌, if◌then◌else◌, map, nat_lt, option_and_then, position, slice_get, slice_index_or, unwrap_or}
-use Rattle.std.specs.List.{zip}
-use Rattle.std.proofs.lemmas.Bool.{cases_Bool, ltb-true, ltb-false}
+use Rattle.std.proofs.Common.{◌≡◌, ℕ, zero, suc, ◌+◌, ◌-◌, ◌^◌, ◌<◌, ◌≤◌, Bool, true, ltb, ◌||◌, List, [], ◌∷◌, ◌++◌, length, set, max, Option, Some, None, inl, inr, refl, ap, subst, arith, rules}
+use Rattle.std.specs.Prelude.{◌==◌, if◌then◌else◌, nat_lt, option_and_then, position, slice_get}
+use Rattle.std.proofs.lemmas.Bool.{cases_Bool, ltb-true}
 use Rattle.std.proofs.lemmas.Option.{cond_some, same_Some, some_pair_parts}
-use Rattle.msi_pool.specs.Pool.{Place, CountsFit, forgotten, without_unnamed_texts}
-use Rattle.msi_pool.specs.FirstFit.{is_fit, count_of, first_fit, with_text_at, lowered, most_places, taken, given_back}
+use Rattle.msi_pool.specs.Pool.{Place, CountsFit, without_unnamed_texts}
+use Rattle.msi_pool.specs.FirstFit.{is_fit, count_of, first_fit, with_text_at, lowered, most_places}
 use Rattle.msi_pool.specs.FirstFitLaws.{TakenPlacesStayInRange, GivenBackStaysInRange}
 use Rattle.msi_pool.proofs.FirstFitLemmas.{first_fit-room}
 use Rattle.msi_base.proofs.ReadFieldLemmas.{guard_passed}

@@ -1,6 +1,6 @@
 -- The lesser of the least free place and the least place of the text is the first fit.
-use Rattle.std.proofs.Common.{◌≡◌, ◌⊎◌, ℕ, ◌<◌, ◌≤◌, Bool, true, false, ◌&&◌, ◌||◌, ◌==◌, List, [], Option, Some, None, inl, inr, refl, sym, ap, ◌∙◌, ◌+◌, subst, length, is_some, Result, Ok, Err, IfOk, IfErr, OnOk, slice_get, bytes_eq, nat_lt, if◌then◌else◌, position, arith, rules, true≢false}
-use Rattle.std.specs.Prelude.{unwrap_or, slice_index_or}
+use Rattle.std.proofs.Common.{◌≡◌, ℕ, ◌<◌, ◌≤◌, Bool, true, false, ◌||◌, List, [], Option, Some, None, inl, inr, refl, sym, ap, ◌∙◌, ◌+◌, subst, length, is_some, Result, Ok, Err, IfOk, IfErr, OnOk, slice_get, nat_lt, if◌then◌else◌, arith, true≢false}
+use Rattle.std.specs.Prelude.{slice_index_or}
 use Rattle.std.proofs.lemmas.Bool.{cases_Bool, cases_lt, lt-ltb, le-ltb}
 use Rattle.std.proofs.lemmas.Bool.Decides.{nat_tests}
 use Rattle.std.proofs.lemmas.Grind.{common_steps}

@@ -1,12 +1,12 @@
 -- The indexes follow the places, one change after the other.
-use Rattle.std.proofs.Common.{◌≡◌, ℕ, zero, suc, ◌+◌, ◌<◌, ◌≤◌, Bool, true, false, not, ◌&&◌, ◌||◌, ◌==◌, List, [], ◌∷◌, ◌++◌, Option, Some, None, inl, inr, refl, sym, ap, ap₂, subst, ◌∙◌, take, take-suc, length-take-le, add-one, get_or, length, set, slice_get, bytes_eq, nat_lt, if◌then◌else◌, arith, rules, true≢false, length-append}
+use Rattle.std.proofs.Common.{◌≡◌, ℕ, zero, suc, ◌+◌, ◌<◌, Bool, true, false, not, ◌&&◌, ◌||◌, ◌==◌, List, [], ◌∷◌, ◌++◌, Option, Some, None, inl, inr, refl, sym, ap, ap₂, subst, ◌∙◌, take, take-suc, length-take-le, add-one, get_or, length, set, slice_get, bytes_eq, nat_lt, if◌then◌else◌, arith, true≢false}
 use Rattle.std.proofs.lemmas.Bool.{cases_Bool, eqb-true, ltb-true, lt-ltb, eq-eqb, ne_eqb, and_parts}
 use Rattle.std.proofs.lemmas.Bool.{cases_lt}
 use Rattle.std.proofs.lemmas.Bool.Decides.{nat_tests}
 use Rattle.std.proofs.lemmas.Slice.Eq.{bytes_eq-Decides}
-use Rattle.std.proofs.lemmas.Option.{slice_get_past, slice_get_within, none-some}
+use Rattle.std.proofs.lemmas.Option.{slice_get_past, slice_get_within}
 use Rattle.msi_pool.specs.Pool.{Place, forgotten, without_unnamed_texts}
-use Rattle.msi_pool.specs.FirstFit.{with_text_at, count_of}
+use Rattle.msi_pool.specs.FirstFit.{with_text_at}
 use Rattle.msi_pool.specs.declared.stringpool.texts.Entry.{Entry}
 use Rattle.msi_pool.specs.PoolIndexes.{is_free, has_room_for, is_among, AreFree}
 use Rattle.msi_pool.specs.TextIndexes.{is_entered, is_same, AreOpen}

@@ -6,7 +6,7 @@ use Rattle.std.proofs.lemmas.Bool.{cases_eq, cases_Bool, or_parts, or_from, or_l
 use Rattle.std.proofs.lemmas.List.{length-map}
 use Rattle.std.proofs.lemmas.Option.{same_Some}
 use Rattle.msi_base.specs.declared.codepage.CodePage.{CodePage}
-use Rattle.msi_base.specs.Pages.{IsWritable, text_in, bytes_in, page_id, page_with_id}
+use Rattle.msi_base.specs.Pages.{IsWritable, text_in, bytes_in, page_id}
 use Rattle.msi_pool.specs.Pool.{Place, Entry, short_entry, long_entry, plain_entry, entry_of, place_bytes, SpellsEntry, SpellsEntries, SpellsTexts, CountsFit, forgotten}
 use Rattle.msi_pool.specs.PoolWriting.{has_refused_text, is_refused_spelling, piece_of, entry_in}
 use Rattle.msi_pool.specs.PoolLaws.{PoolsReadBack}

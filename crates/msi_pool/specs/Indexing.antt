@@ -1,5 +1,5 @@
 -- Places with their indexes.
-use Rattle.std.specs.Prelude.{◌≡◌, ◌≤◌, ℕ, length}
+use Rattle.std.specs.Prelude.{◌≡◌, ◌≤◌, length}
 use Rattle.msi_pool.specs.Pool.{CountsFit}
 use Rattle.msi_pool.specs.PoolIndexes.{AreFree}
 use Rattle.msi_pool.specs.TextIndexes.{AreOpen}

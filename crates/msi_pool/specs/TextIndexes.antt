@@ -1,12 +1,12 @@
 -- What the index of texts has.
-use Rattle.std.specs.Prelude.{◌≡◌, ℕ, ◌+◌, ◌<◌, Bool, true, false, not, ◌&&◌, ◌||◌, ◌==◌, List, length, Option, Some, None, nat_lt, bytes_eq, slice_get}
+use Rattle.std.specs.Prelude.{◌≡◌, ℕ, Bool, ◌&&◌, ◌==◌, List, bytes_eq, slice_get}
 use Rattle.std.specs.List.{list_any}
 use Rattle.std.specs.BTreeMap.{is_at}
 use Rattle.std.specs.Ordering.{nat_cmp, ordering_then}
 use Rattle.std.specs.declared.cmp.Ordering.{Ordering}
 use Rattle.std.specs.Cmp.Lexicographic.{slice_cmp}
 use Rattle.msi_pool.specs.Pool.{Place}
-use Rattle.msi_pool.specs.PoolIndexes.{AreFree, has_room_for}
+use Rattle.msi_pool.specs.PoolIndexes.{has_room_for}
 use Rattle.msi_pool.specs.declared.stringpool.texts.Entry.{Entry}
 
 -- by the text's bytes, and then by the place

@@ -1,4 +1,4 @@
-use Rattle.std.proofs.Common.{◌≡◌, ◌≤◌, ap, sym, ◌∙◌, arith}
+use Rattle.std.proofs.Common.{arith}
 use Rattle.msi_pool.proofs.PlaceIndexLemmas.{take_follows}
 use Rattle.msi_pool.proofs.stringpool.indexed.indexes_of.Goals as goal
 

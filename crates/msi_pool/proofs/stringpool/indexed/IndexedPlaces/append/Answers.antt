@@ -1,6 +1,6 @@
 use Rattle.std.proofs.Common.{◌≡◌, ℕ, ◌+◌, ◌∷◌, [], List, not, ◌&&◌, ◌||◌, ap, sym, ◌∙◌, length, length-append, arith}
 use Rattle.std.proofs.lemmas.Option.{slice_get_past}
-use Rattle.msi_pool.specs.TextIndexes.{is_entered, is_same, AreOpen}
+use Rattle.msi_pool.specs.TextIndexes.{is_entered, is_same}
 use Rattle.msi_pool.specs.declared.stringpool.texts.Entry.{Entry}
 use Rattle.msi_pool.proofs.PlaceIndexLemmas.{after_append, open_undone}
 use Rattle.msi_pool.proofs.stringpool.indexed.IndexedPlaces.append.Goals as goal

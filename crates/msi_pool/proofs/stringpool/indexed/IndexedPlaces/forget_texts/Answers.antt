@@ -1,4 +1,4 @@
-use Rattle.std.proofs.Common.{◌≡◌, ap, sym, ◌∙◌, length}
+use Rattle.std.proofs.Common.{ap, sym, ◌∙◌, length}
 use Rattle.msi_pool.proofs.PlaceIndexLemmas.{after_forget, length-forgotten}
 use Rattle.msi_pool.proofs.stringpool.indexed.IndexedPlaces.forget_texts.Goals as goal
 

@@ -1,4 +1,4 @@
-use Rattle.std.proofs.Common.{◌≡◌, ap, sym, ◌∙◌, length-set, length}
+use Rattle.std.proofs.Common.{ap, sym, ◌∙◌, length-set, length}
 use Rattle.msi_pool.proofs.PlaceIndexLemmas.{after_lower}
 use Rattle.msi_pool.proofs.stringpool.indexed.IndexedPlaces.lower.Goals as goal
 

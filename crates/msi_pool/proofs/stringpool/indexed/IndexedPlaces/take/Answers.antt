@@ -1,4 +1,4 @@
-use Rattle.std.proofs.Common.{◌≡◌, ap, sym, ◌∙◌, string_bytes}
+use Rattle.std.proofs.Common.{ap, ◌∙◌, string_bytes}
 use Rattle.msi_pool.proofs.IndexedFitLemmas.{fit_some, fit_none, taken_found, found_room, taken_last, last_room}
 use Rattle.msi_pool.proofs.stringpool.indexed.IndexedPlaces.take.Goals as goal
 

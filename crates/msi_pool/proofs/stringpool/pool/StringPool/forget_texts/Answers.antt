@@ -1,4 +1,4 @@
-use Rattle.std.proofs.Common.{◌≡◌, ◌≤◌, ap, sym, ◌∙◌, subst, length, arith}
+use Rattle.std.proofs.Common.{◌≡◌, ap, sym, ◌∙◌, subst, length, arith}
 use Rattle.msi_pool.specs.Pool.{CountsFit}
 use Rattle.msi_pool.proofs.CountLemmas.{CountsFit-without}
 use Rattle.msi_pool.proofs.PlaceIndexLemmas.{length-forgotten}

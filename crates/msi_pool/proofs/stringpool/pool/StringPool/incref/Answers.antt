@@ -1,5 +1,4 @@
-use Rattle.std.proofs.Common.{◌≡◌, ◌+◌, ap, ◌∙◌, option_map, string_bytes}
-use Rattle.msi_pool.specs.FirstFitLaws.{Holds}
+use Rattle.std.proofs.Common.{◌+◌, ap, option_map, string_bytes}
 use Rattle.msi_pool.proofs.CountLemmas.{taken_in_range}
 use Rattle.msi_pool.proofs.IndexedFitLemmas.{taken_most}
 use Rattle.msi_pool.proofs.TakenLemmas.{taken_takes}

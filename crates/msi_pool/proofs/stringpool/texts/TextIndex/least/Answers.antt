@@ -1,7 +1,5 @@
-use Rattle.std.proofs.Common.{◌≡◌, ℕ, true, false, List, Some, None, subst, sym, ◌∙◌, is_gt}
+use Rattle.std.proofs.Common.{◌≡◌, false, List, Some, None, subst, sym, ◌∙◌, is_gt}
 use Rattle.std.proofs.lemmas.Option.{MatchOption-at_none}
-use Rattle.std.specs.List.{list_any}
-use Rattle.std.specs.BTreeMap.{is_at}
 use Rattle.msi_pool.specs.declared.stringpool.texts.Entry.{Entry}
 use Rattle.msi_pool.specs.PoolIndexes.{IsLeast}
 use Rattle.msi_pool.specs.TextIndexes.{entry_cmp, is_entered}
