@@ -10,3 +10,6 @@ pub mod ReadEntriesLemmas
 pub mod ReadTextsLemmas
 pub mod ReadStreamLemmas
 pub mod ReadFaultLemmas
+mod TextIndexLemmas
+mod PlaceIndexLemmas
+mod IndexedFitLemmas

@@ -6,3 +6,7 @@ pub mod PoolWriting
 pub mod PoolLaws
 pub mod PoolReading
 pub mod References
+pub mod PoolIndexes
+pub mod SharedTexts
+pub mod TextIndexes
+pub mod Indexing

@@ -224,11 +224,10 @@ impl ValueRef {
     /// Gives back the place of the cell's text, where it has one. When refused, the pool is as before.
     ///
     /// # Errors
-    /// `InvalidData` where that place is free or past the end.
+    /// `InvalidData` where that place is free or past the end, and else `OutOfMemory`.
     pub fn remove(self, pool: &mut StringPool) -> Result<(), Error>
         ensures ok { OnOk result (places_without pool.old.places self ≡ Some pool.new.places) }
-        ensures refused { IsErr result ↔ (places_without pool.old.places self ≡ None) }
-        ensures kind { IfErr result (λ kind. kind ≡ InvalidData) }
+        ensures kind { FailsWith InvalidData result (places_without pool.old.places self) }
         ensures err { OnErr result (pool.new ≡ pool.old) }
         ensures page { pool.new.page ≡ pool.old.page }
         ensures long { pool.new.long ≡ pool.old.long }

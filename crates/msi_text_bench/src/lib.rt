@@ -6,6 +6,8 @@ mod categories;
 #[cfg(test)]
 mod errors;
 #[cfg(test)]
+mod indexed_pool;
+#[cfg(test)]
 mod languages;
 #[cfg(test)]
 mod pages;

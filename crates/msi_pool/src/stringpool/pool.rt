@@ -1,50 +1,41 @@
 //! The pool.
 
-ghost use Rattle.std.specs.Prelude.{◌≡◌, IfOk, IfErr, OnOk, OnErr, Some, is_some, is_ok, if◌then◌else◌, [], false, length, string_bytes, ◌≤◌, vec_len};
+ghost use Rattle.std.specs.Prelude.{◌≡◌, IfOk, IfErr, OnOk, OnErr, Some, is_some, if◌then◌else◌, [], false, length, string_bytes, ◌≤◌, vec_len};
 ghost use Rattle.std.specs.Option.{option_copied};
 ghost use Rattle.msi_pool.specs.Pool.{CountsFit, without_unnamed_texts};
-ghost use Rattle.msi_pool.specs.FirstFit.{taken, given_back, most_places as most_of};
+ghost use Rattle.msi_pool.specs.FirstFit.{taken, given_back};
 ghost use Rattle.msi_pool.specs.FirstFitLaws.{Holds, place_at, text_at, count_at};
 ghost use Rattle.msi_base.specs.Results.{OnlyMemory};
 ghost use Rattle.msi_base.specs.declared.errors.ErrorKind.TheVariants.{InvalidData, InvalidInput, OutOfMemory};
 
-use crate::reasons;
-use crate::stringpool::places::{
-    Place, clone_places, first_place_for, forget_texts, lower_at, put_at,
-};
+use crate::stringpool::indexed::IndexedPlaces;
+use crate::stringpool::places::Place;
 use crate::stringpool::reference::StringRef;
 use msi_base::codepage::CodePage;
-use msi_base::errors::{Error, ErrorKind};
-use msi_base::text::Text;
+use msi_base::errors::Error;
 use std::alloc::Global;
 use std::marker::Model;
 
 /// The bit above the page's id that says that references are long.
 pub(crate) const LONG: u32 = 1 << 31;
 
-/// How many places a pool may have: as many as long references can name.
-pub(crate) const MOST_PLACES: usize = 16_777_215;
-
-/// Up to how many places one is added where references are short.
-const MOST_SHORT_PLACES: usize = 65_535;
-
 /// The pool. Contracts see its page, whether references are long, and its places.
 #[derive(Drop)]
 pub struct StringPool {
     codepage: CodePage,
     long: bool,
-    places: Vec<Place>,
+    indexed: IndexedPlaces,
 }
 
 impl Model for StringPool {
     ghost use Rattle.msi_pool.specs.Pool.{Pool, CountsFit};
-    ghost use Rattle.std.specs.Prelude.{◌≤◌, vec_len};
+    ghost use Rattle.msi_pool.specs.Indexing.{IsKept};
 
     ghost Value = { Pool };
 
-    ghost view = { λ p. record { page = p.codepage; long = p.long; places = p.places.items } };
+    ghost view = { λ p. record { page = p.codepage; long = p.long; places = p.indexed.places } };
 
-    ghost invariant = { λ p. (vec_len p.places ≤ 16777215) × CountsFit p.places.items };
+    ghost invariant = { λ p. IsKept p.indexed };
 }
 
 impl StringPool {
@@ -55,21 +46,26 @@ impl StringPool {
         StringPool {
             codepage: page,
             long: false,
-            places: Vec::new(alloc),
+            indexed: IndexedPlaces::new(alloc),
         }
     }
 
-    /// A pool of its parts.
-    pub(crate) fn from_parts(codepage: CodePage, long: bool, places: Vec<Place>) -> StringPool
+    /// A pool of its parts, with indexes made of its places. The only error is `OutOfMemory`.
+    pub(crate) fn from_parts(
+        codepage: CodePage,
+        long: bool,
+        places: Vec<Place>,
+    ) -> Result<StringPool, Error>
         requires most { vec_len places ≤ 16777215 }
         requires counts { CountsFit places.items }
-        ensures { result ≡ record { page = codepage; long = long; places = places.items } }
+        ensures ok { IfOk result (λ pool. pool ≡ record { page = codepage; long = long; places = places.items }) }
+        ensures kind { OnlyMemory result }
     {
-        StringPool {
+        Ok(StringPool {
             codepage,
             long,
-            places,
-        }
+            indexed: IndexedPlaces::from_places(places)?,
+        })
     }
 
     /// The page in which the texts are written.
@@ -99,14 +95,14 @@ impl StringPool {
         ensures most { result ≤ 16777215 }
         ensures counts { CountsFit self.now.places }
     {
-        self.places.len() as u32
+        self.indexed.len() as u32
     }
 
     /// The place of a reference, unless that leads past the end.
     fn place_of(&self, reference: StringRef) -> Option<&Place>
         ensures { option_copied result ≡ place_at self.now.places reference }
     {
-        self.places.get(reference.to_number() as usize - 1)
+        self.places().get(reference.to_number() as usize - 1)
     }
 
     /// The text of a place; empty past the end.
@@ -140,7 +136,7 @@ impl StringPool {
         Ok(StringPool {
             codepage: self.codepage,
             long: self.long,
-            places: clone_places(&self.places)?,
+            indexed: self.indexed.clone()?,
         })
     }
 
@@ -150,23 +146,20 @@ impl StringPool {
         ensures most { length self.now.places ≤ 16777215 }
         ensures counts { CountsFit self.now.places }
     {
-        self.places.as_slice()
+        self.indexed.as_slice()
     }
 
     /// The allocator that the pool keeps.
     pub(crate) fn allocator(&self) -> Global {
-        *self.places.allocator()
+        self.indexed.allocator()
     }
 
-    /// Up to how many places one is added.
-    fn most_places(&self) -> usize
-        ensures { result ≡ most_of self.now.long }
+    /// How many operations the last `incref` or `decref` made on the places and their indexes, refused ones too: at most 8.
+    /// It is 0 before the first, and in a clone. Equal pools may differ in it.
+    pub fn operations(&self) -> u32
+        ensures { result ≤ 8 }
     {
-        if self.long {
-            MOST_PLACES
-        } else {
-            MOST_SHORT_PLACES
-        }
+        self.indexed.operations()
     }
 
     /// Takes a text, and answers its place: the first that is free or has the text and fewer than 65535 cells, or else a
@@ -184,38 +177,24 @@ impl StringPool {
         ensures page { self.new.page ≡ self.old.page }
         ensures long { self.new.long ≡ self.old.long }
     {
-        let text = Text::from_string(text);
-        let most = self.most_places();
-        let at = first_place_for(self.places.as_slice(), &text);
-        if at >= self.places.len() && at >= most {
-            return Err(Error::new(ErrorKind::InvalidInput, reasons::POOL_FULL));
-        }
-        put_at(&mut self.places, at, text)?;
-        Ok(StringRef::from_number((at + 1) as u32))
+        let at = self.indexed.take(text, self.long)?;
+        Ok(StringRef::from_number(at + 1))
     }
 
-    /// Gives a place back: one cell less names it, and its text goes with the last. It takes no memory.
+    /// Gives a place back: one cell less names it, and its text goes with the last.
     ///
     /// # Errors
-    /// `InvalidData` past the end and for a free place. Then the pool is as it was.
+    /// `InvalidData` past the end and for a free place, and else `OutOfMemory`. Then the pool is as it was.
     pub fn decref(&mut self, reference: StringRef) -> Result<(), Error>
         ensures ok { OnOk result (given_back self.old.places reference ≡ Some self.new.places) }
-        ensures accepted { is_ok result ≡ is_some (given_back self.old.places reference) }
         ensures err { OnErr result (self.new ≡ self.old) }
-        ensures kind { IfErr result (λ kind. kind ≡ InvalidData) }
+        ensures kind { let used = is_some (given_back self.old.places reference) in
+            IfErr result (λ kind. kind ≡ (if used then OutOfMemory else InvalidData)) }
         ensures page { self.new.page ≡ self.old.page }
         ensures long { self.new.long ≡ self.old.long }
         ensures many { length self.new.places ≡ length self.old.places }
     {
-        let at = reference.to_number() as usize - 1;
-        if at >= self.places.len() {
-            return Err(Error::new(ErrorKind::InvalidData, reasons::PLACE_UNKNOWN));
-        }
-        if self.places[at].count() == 0 {
-            return Err(Error::new(ErrorKind::InvalidData, reasons::PLACE_FREE));
-        }
-        lower_at(&mut self.places, at);
-        Ok(())
+        self.indexed.give_back(reference.to_number())
     }
 
     /// Empties the text of each place that is free and isn't named: `is_named` tells it of each place, from number 1 on.
@@ -224,6 +203,6 @@ impl StringPool {
         requires { length is_named.now ≡ length self.old.places }
         ensures { self.new ≡ record self.old { places = without_unnamed_texts is_named.now self.old.places } }
     {
-        forget_texts(&mut self.places, is_named);
+        self.indexed.forget_texts(is_named);
     }
 }

@@ -9,12 +9,13 @@ ghost use Rattle.msi_pool.specs.PoolReading.{entry_at, place_in_front, header_in
 ghost use Rattle.msi_base.specs.Results.{Gives, IsStreamFault, IsUnlessFault, IsUnlessMemory};
 
 use crate::reasons;
+use crate::stringpool::indexed::MOST_PLACES;
 use crate::stringpool::places::Place;
-use crate::stringpool::pool::{LONG, MOST_PLACES, StringPool};
+use crate::stringpool::pool::{LONG, StringPool};
+use crate::stringpool::shared::SharedText;
 use msi_base::codepage::CodePage;
 use msi_base::errors::{Error, ErrorKind};
 use msi_base::fields::{u16_at, u32_at};
-use msi_base::text::Text;
 use std::alloc::Global;
 use std::io::Read;
 use std::marker::Model;
@@ -105,7 +106,7 @@ impl StringPoolBuilder {
         ensures kinds { IfErr result (λ kind. (kind ≡ InvalidData) ⊎ (kind ≡ OutOfMemory)) }
     {
         let places = places_of(alloc, self.codepage, self.entries.as_slice(), bytes)?;
-        Ok(StringPool::from_parts(self.codepage, self.long, places))
+        StringPool::from_parts(self.codepage, self.long, places)
     }
 }
 
@@ -249,9 +250,9 @@ fn place_of<'a>(
 }
 
 /// The text that the bytes read as.
-fn text_of(alloc: Global, codepage: CodePage, bytes: &[u8]) -> Result<Text, Error>
+fn text_of(alloc: Global, codepage: CodePage, bytes: &[u8]) -> Result<SharedText, Error>
     ensures { Gives (λ text. text) result (text_in codepage bytes.now) }
 {
     let text = codepage.decode(alloc, bytes)?;
-    Ok(Text::from_string(text))
+    SharedText::from_string(text).into_shared()
 }

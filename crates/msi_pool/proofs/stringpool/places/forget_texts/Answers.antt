@@ -1,6 +1,4 @@
-use Rattle.std.proofs.Common.{◌≡◌, length, arith, sym, subst, ◌∙◌}
-use Rattle.msi_pool.specs.Pool.{CountsFit}
-use Rattle.msi_pool.proofs.CountLemmas.{CountsFit-without}
+use Rattle.std.proofs.Common.{◌≡◌, length, arith, ◌∙◌}
 use Rattle.msi_pool.proofs.ForgottenLemmas.{gone_through-all, gone_through-more}
 use Rattle.msi_pool.proofs.stringpool.places.forget_texts.Goals as goal
 
@@ -14,9 +12,3 @@ pub returns-clause-items : goal.returns-clause-items
 returns-clause-items c =
     let same : length c.args.is_named.now ≡ length c.args.places.now.items = omega (arith, c.requires, c.args.places.now.ok.0) in
     c.loop-i.invariant ∙ gone_through-all c.args.is_named.now c.args.places.now.items c.loop-i.i same c.loop-i-test.false
-
-pub returns-clause-counts : goal.returns-clause-counts
-returns-clause-counts c = λ fit.
-    let same : length c.args.is_named.now ≡ length c.args.places.now.items = omega (arith, c.requires, c.args.places.now.ok.0) in
-    let items = c.loop-i.invariant ∙ gone_through-all c.args.is_named.now c.args.places.now.items c.loop-i.i same c.loop-i-test.false in
-    subst CountsFit (sym items) (CountsFit-without c.args.is_named.now c.args.places.now.items fit)
