@@ -1,0 +1,2 @@
+//! Changes of tables.
+#![tactic(auto)]

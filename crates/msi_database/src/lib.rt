@@ -1,0 +1,2 @@
+//! The database of a package: its tables, kept in the streams of a container.
+#![tactic(auto)]

@@ -1,0 +1,32 @@
+-- The rows that describe a table: in `_Columns`, in `_Tables` and in `_Validation` (MSI SDK, "System tables").
+use Rattle.std.specs.Prelude.{ℕ, List, [], ◌∷◌, map, Option, Some, None, option_map, codes, ℤ, pos}
+use Rattle.std.specs.List.{enumerate_from, join_with_byte}
+use Rattle.msi_text.specs.Categories.{category_name}
+use Rattle.msi_table.specs.declared.value.Value.{Value}
+use Rattle.msi_table.specs.declared.value.Value.TheVariants.{Null, Int, Str}
+use Rattle.msi_table.specs.Columns.{ColumnDef, type_bits}
+
+-- The rows that describe a table: in `_Columns`, in `_Tables` and in `_Validation`
+abbrev pub column_rows : List ℕ → List ColumnDef → List (List Value)
+column_rows name columns = map (λ e. Str name ∷ Int (pos e.0) ∷ Str e.1.name ∷ Int (pos (type_bits e.1)) ∷ []) (enumerate_from 1 columns)
+
+abbrev pub int_or_null : Option ℤ → Value
+int_or_null None = Null
+int_or_null (Some n) = Int n
+
+abbrev pub text_or_null : Option (List ℕ) → Value
+text_or_null None = Null
+text_or_null (Some text) = Str text
+
+abbrev pub joined_values : List (List ℕ) → Option (List ℕ)
+joined_values [] = None
+joined_values (v ∷ vs) = Some (join_with_byte 59 (v ∷ vs))
+
+abbrev pub validation_row : List ℕ → ColumnDef → List Value
+validation_row table c = Str table ∷ Str c.name ∷ Str (if c.is_nullable then codes "Y" else codes "N")
+    ∷ int_or_null (option_map (λ r. r.0) c.value_range) ∷ int_or_null (option_map (λ r. r.1) c.value_range)
+    ∷ text_or_null (option_map (λ k. k.0) c.foreign_key) ∷ int_or_null (option_map (λ k. k.1) c.foreign_key)
+    ∷ text_or_null (option_map category_name c.category) ∷ text_or_null (joined_values c.enum_values) ∷ Null ∷ []
+
+abbrev pub validation_rows : List ℕ → List ColumnDef → List (List Value)
+validation_rows name columns = map (validation_row name) columns

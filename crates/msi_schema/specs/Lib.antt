@@ -1,0 +1,5 @@
+-- The words of this crate.
+pub mod Keys
+pub mod System
+pub mod Schema
+pub mod Description

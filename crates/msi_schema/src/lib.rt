@@ -1,0 +1,2 @@
+//! What the system tables describe.
+#![tactic(auto)]
