@@ -2,4 +2,5 @@
 pub mod Keys
 pub mod System
 pub mod Schema
+pub mod RowOrders
 pub mod Description
