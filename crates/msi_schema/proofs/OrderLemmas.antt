@@ -19,7 +19,7 @@ first_of : {X : Type 0} (p : X → Bool) (xs : List X) → find p xs ≡ slice_g
 first_of p [] = refl
 first_of p (x ∷ xs) = by_test (p x) (λ t. rw t refl) (λ t. rw t (first_of p xs))
 
-filter_alike : {X : Type 0} (p q : X → Bool) (xs : List X) → ((x : X) → p x ≡ q x) → filter p xs ≡ filter q xs
+pub filter_alike : {X : Type 0} (p q : X → Bool) (xs : List X) → ((x : X) → p x ≡ q x) → filter p xs ≡ filter q xs
 filter_alike p q xs h = λ i. filter (λ x. h x i) xs
 
 -- a test that passes what ties with one that passes finds the same in a list whose ties stand alike

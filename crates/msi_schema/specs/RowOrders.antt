@@ -1,11 +1,11 @@
 -- The orders in which rows of the system tables are looked up: each by two parts of a row.
-use Rattle.std.specs.Prelude.{◌≡◌, ℕ, ℤ, List, Bool, true}
+use Rattle.std.specs.Prelude.{ℕ, ℤ, List, []}
 use Rattle.std.specs.Ordering.{int_cmp, ordering_then}
 use Rattle.std.specs.declared.cmp.Ordering.{Ordering}
 use Rattle.msi_text.specs.Lists.{list_cmp}
 use Rattle.msi_table.specs.declared.value.Value.{Value}
 use Rattle.msi_table.specs.Values.{value_cmp}
-use Rattle.msi_schema.specs.Schema.{SchemaRows, is_about, number_of, text_at, value_at}
+use Rattle.msi_schema.specs.Schema.{SchemaRows, number_of, text_at, value_at}
 
 -- the first part that differs decides
 abbrev pub pair_cmp : {A B : Type 0} → (A → A → Ordering) → (B → B → Ordering) → A × B → A × B → Ordering
@@ -38,3 +38,10 @@ by_numbers row other = numbers_cmp (number_in row) (number_in other)
 
 abbrev pub by_values : ℕ → List Value → List Value → Ordering
 by_values place row other = values_cmp (values_at place row) (values_at place other)
+
+-- the three tables' rows, where no row of `_Tables`, or of `_Columns`, matters
+abbrev pub describing : List (List Value) → List (List Value) → SchemaRows
+describing columns validation = record { tables = []; columns = columns; validation = validation }
+
+abbrev pub listing : List (List Value) → List (List Value) → SchemaRows
+listing tables columns = record { tables = tables; columns = columns; validation = [] }
