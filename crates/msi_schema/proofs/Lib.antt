@@ -2,7 +2,9 @@ pub mod AccountLemmas
 pub mod AddedLemmas
 pub mod AddedRowsLemmas
 pub mod ColumnBackLemmas
+pub mod DescriptionLemmas
 pub mod ListLemmas
+pub mod NamesLemmas
 pub mod OrderLemmas
 pub mod OrderlessLemmas
 pub mod RowOrderLemmas
