@@ -3,6 +3,7 @@ pub mod AddedLemmas
 pub mod AddedRowsLemmas
 pub mod ColumnBackLemmas
 pub mod DescriptionLemmas
+pub mod FaultLemmas
 pub mod ListLemmas
 pub mod NamesLemmas
 pub mod OrderLemmas

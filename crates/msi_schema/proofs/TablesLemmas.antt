@@ -9,6 +9,7 @@ use Rattle.std.specs.FinMap.Entries.{by_order}
 use Rattle.std.specs.Ordering.{eq_by_cmp, int_cmp, is_eq, is_lt, ordering_reverse}
 use Rattle.std.specs.declared.cmp.Ordering.TheVariants.{Less, Equal, Greater}
 use Rattle.std.proofs.lemmas.List.Sorted.{IsPermutation-refl, IsPermutation-sym, sum_by-IsPermutation}
+use Rattle.std.proofs.lemmas.Bool.{eqb-true}
 use Rattle.std.proofs.lemmas.Map.Text.{is_eq-slice_cmp}
 use Rattle.std.proofs.lemmas.Slice.Eq.{bytes_eq-Decides}
 use Rattle.msi_text.specs.Lists.{all_present, has_pair, list_cmp, numbers_from, placed, stable_sort, tabulated}
@@ -18,7 +19,7 @@ use Rattle.msi_table.specs.Columns.{ColumnDef, TableDef}
 use Rattle.msi_table.specs.OrderLaws.{value_eq-Decides}
 use Rattle.msi_table.proofs.PlacesLemmas.{tabulated_more}
 use Rattle.msi_table.proofs.StableSortLemmas.{all_sorted}
-use Rattle.msi_schema.specs.ListedTables.{by_names, listed_table, listed_tables, system_tables}
+use Rattle.msi_schema.specs.ListedTables.{by_names, listed_table, listed_tables, with_system}
 use Rattle.msi_schema.specs.RowOrders.{by_numbers, by_texts, describing, number_in, numbers_cmp, texts_at, texts_cmp}
 use Rattle.msi_schema.specs.Schema.{SchemaRows, by_name, column_rows, column_of_row, columns_of, counted, has_long_number, has_number, has_odd_name, is_about, is_faulty, is_of_16_bits, is_text, listed_names, number_of, numbered_row, schema_of, share_key, table_with, tables_of, text_at, text_of, validation_row, value_at}
 use Rattle.msi_schema.specs.System.{columns_columns, columns_name, is_schema_table, tables_columns, tables_name}
@@ -89,16 +90,14 @@ columns_sorted s table plain = columns_same s (sorted_rows s) table
 
 -- ---- what is present in each place
 
+more_behind : {X : Type 0} (y x : X) (r q : Option (List X)) (xs : List X) → ((ys : List X) → r ≡ Some ys → q ≡ Some (ys ++ x ∷ [])) → option_map (λ ys. y ∷ ys) r ≡ Some xs → option_map (λ ys. y ∷ ys) q ≡ Some (xs ++ x ∷ [])
+more_behind y x None q xs h e = cc
+more_behind y x (Some ys) q xs h e = let s : xs ≡ y ∷ ys = cc in rw (s, h ys refl) refl
+
 pub present_more : {X : Type 0} (os : List (Option X)) (xs : List X) (x : X) → all_present os ≡ Some xs → all_present (os ++ Some x ∷ []) ≡ Some (xs ++ x ∷ [])
 present_more [] xs x e = let s : xs ≡ [] = cc in rw s refl
 present_more (None ∷ os) xs x e = cc
-present_more (Some y ∷ os) xs x e = go (all_present os) refl e
-  where
-    go : (r : Option (List _)) → all_present os ≡ r → option_map (λ ys. y ∷ ys) r ≡ Some xs → option_map (λ ys. y ∷ ys) (all_present (os ++ Some x ∷ [])) ≡ Some (xs ++ x ∷ [])
-    go None u f = cc
-    go (Some ys) u f =
-        let s : xs ≡ y ∷ ys = cc in
-        rw (s, present_more os ys x u) refl
+present_more (Some y ∷ os) xs x e = more_behind y x (all_present os) (all_present (os ++ Some x ∷ [])) xs (λ ys f. present_more os ys x f) e
 
 pub absent_at : {X : Type 0} (os : List (Option X)) (i : ℕ) → slice_get os i ≡ Some None → all_present os ≡ None
 absent_at [] i e = cc
@@ -153,11 +152,7 @@ abbrev pub numbered : SchemaRows → List ℕ → ℕ → Option ColumnDef
 numbered s table i = option_and_then (column_of_row s table) (numbered_row s table (i + 1))
 
 pub columns_made : (s : SchemaRows) (table : List ℕ) (n : ℕ) (cols : List ColumnDef) → length (column_rows s table) ≡ n → 0 < n → all_present (tabulated n (numbered s table)) ≡ Some cols → columns_of s table ≡ Some cols
-columns_made s table n cols e some h = rw e (go n some h)
-  where
-    go : (n : ℕ) → 0 < n → all_present (tabulated n (numbered s table)) ≡ Some cols → (if nat_eq n 0 then None else all_present (tabulated n (numbered s table))) ≡ Some cols
-    go zero h e = absurd (omega arith)
-    go (suc n) h e = e
+columns_made s table n cols e some h = rw e (by_test (nat_eq n 0) (λ t. let z : n ≡ 0 = eqb-true n 0 t in absurd (omega arith)) (λ t. rw t h))
 
 pub columns_unmade : (s : SchemaRows) (table : List ℕ) → all_present (tabulated (length (column_rows s table)) (numbered s table)) ≡ None → columns_of s table ≡ None
 columns_unmade s table h = by_test (nat_eq (length (column_rows s table)) 0) (λ t. rw t refl) (λ t. rw t h)
@@ -279,9 +274,6 @@ all_apart s cols n odd =
     (or_both (list_any (entry_tie (columns_name, columns_columns)) (zip listed cols)) (has_pair entry_tie (zip listed cols)) (zip_none columns_name listed cols (unlisted columns_name s.tables refl)) (zip_apart listed cols (names_once s n odd)))
 
 -- ---- what is read is what the rows describe
-
-abbrev pub with_system : Bool → List TableDef → List TableDef
-with_system long listed = system_tables long ++ listed
 
 chosen : {X Y : Type 0} (a b c : Bool) (m : X → Y) (r : Option X) → a ≡ false → b ≡ false → c ≡ false → (if a || b then None else option_map m (if c then None else r)) ≡ option_map m r
 chosen a b c m r e f g = rw (e, f, g) refl

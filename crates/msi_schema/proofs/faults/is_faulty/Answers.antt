@@ -1,0 +1,16 @@
+use Rattle.std.proofs.Common.{◌≡◌, ◌∙◌, sym, refl, subst, Bool, IfOk}
+use Rattle.msi_schema.specs.RowOrders.{rows_of}
+use Rattle.msi_schema.proofs.FaultLemmas.{fault_in_keys, fault_in_row}
+use Rattle.msi_schema.proofs.faults.is_faulty.Goals as goal
+
+pub returns-then-has_fault_in_row-clause-ok : goal.returns-then-has_fault_in_row-clause-ok
+returns-then-has_fault_in_row-clause-ok c = fault_in_row (rows_of c.args.tables.items c.args.columns.items c.args.validation.items) c.as_slice.result.now c.as_slice-2.result.now c.as_slice-3.result.now
+    (c.as_slice.ensures.value ∙ c.in_ok-sort_by_texts.ensures.ok) (c.as_slice-2.ensures.value ∙ c.in_ok-sort_by_texts-2.ensures.ok) c.as_slice-3.ensures.value
+    (sym c.has_fault_in_row.ensures ∙ c.if-has_fault_in_row.true)
+
+pub returns-clause-ok : goal.returns-clause-ok
+returns-clause-ok c =
+    let s = rows_of c.args.tables.items c.args.columns.items c.args.validation.items in
+    subst (λ (faulty : Bool). IfOk c.has_shared_key.result (λ found. found ≡ faulty))
+    (fault_in_keys s c.sort_by_texts.new.rows.items c.sort_by_texts-2.new.rows.items c.args.validation.items c.in_ok-sort_by_texts.ensures.ok c.in_ok-sort_by_texts-2.ensures.ok refl
+    (?)) c.has_shared_key.ensures.ok
