@@ -115,9 +115,12 @@ parts false false false false false false false true = refl
 parts false false false false false false false false = refl
 
 pub faulty_parts : (s : SchemaRows) → is_faulty s ≡ (has_faulty_row s || shares_key s)
-faulty_parts s = parts (has_null s.tables) (has_null s.columns) (list_any (lacks_value s) s.validation) (list_any is_pool_name (listed_names s))
+faulty_parts s =
+    parts (has_null s.tables) (has_null s.columns) (list_any (lacks_value s) s.validation) (list_any is_pool_name (listed_names s))
     (has_pair (share_key 1) (counted s.tables)) (has_pair (share_key 2) (counted s.columns)) (has_pair (share_key 2) s.validation)
     (list_any (λ row. not (list_any (bytes_eq (text_at 0 row)) (listed_names s))) (counted s.columns))
+    ∙ λ i. (has_null s.tables || has_null s.columns || list_any (lacks_value s) s.validation || listed_is s is_pool_name i
+    || list_any-filter (λ row. not (list_any (bytes_eq (text_at 0 row)) (listed_names s))) is_counted s.columns i) || shares_key s
 
 -- sorted rows tell whether the rows are faulty
 module _ (s : SchemaRows) (tables columns validation : List (List Value)) (et : tables ≡ stable_sort (by_texts 0) s.tables) (ec : columns ≡ stable_sort (by_texts 2) s.columns) (ev : validation ≡ s.validation) where

@@ -8,6 +8,7 @@ pub mod ListLemmas
 pub mod NamesLemmas
 pub mod OrderLemmas
 pub mod OrderlessLemmas
+pub mod ReadColumnLemmas
 pub mod RowOrderLemmas
 pub mod SchemaLemmas
 pub mod SortLemmas

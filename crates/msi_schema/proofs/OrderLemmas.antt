@@ -129,6 +129,9 @@ module _ {X K : Type 0} (key : X → K) (R : K → K → Ordering) (total : IsTo
   pub sorted_is : (xs : List X) → IsStableSort order xs (stable_sort order xs)
   sorted_is xs = (only_stable_sort order order-weak xs (stable_sort order xs)).0 refl
 
+  pub ascending : (xs ys : List X) → xs ≡ stable_sort order ys → IsSorted order xs
+  ascending xs ys e = subst (IsSorted order) (sym e) ((sorted_is ys).ascends)
+
   -- a look-up by a key finds the same in the sorted list
   pub find_sorted : (q : K) (xs : List X) → find (λ x. is_eq (R (key x) q)) (stable_sort order xs) ≡ find (λ x. is_eq (R (key x) q)) xs
   find_sorted q xs = find_alike (ties (λ a b. is_lt (order a b))) (λ x. is_eq (R (key x) q)) (at_ties q) xs (stable_sort order xs) (sorted_is xs).moved (sorted_is xs).stable

@@ -41,7 +41,7 @@ absorbed_one true b h = refl
 absorbed_one false true h = let e = h refl in cc
 absorbed_one false false h = refl
 
-about_counts : (table : List ℕ) (row : List Value) → is_schema_table table ≡ false → is_about table row ≡ true → is_counted row ≡ true
+pub about_counts : (table : List ℕ) (row : List Value) → is_schema_table table ≡ false → is_about table row ≡ true → is_counted row ≡ true
 about_counts table row plain t = ap not (ap is_schema_table (texts_same (text_at 0 row) table t) ∙ plain)
 
 pub numbered_plain : (s : SchemaRows) (table : List ℕ) (number : ℕ) → is_schema_table table ≡ false

@@ -1,5 +1,5 @@
 -- The orders in which rows of the system tables are looked up: each by two parts of a row.
-use Rattle.std.specs.Prelude.{ℕ, ℤ, Bool, not, ◌||◌, List, [], bytes_eq}
+use Rattle.std.specs.Prelude.{ℕ, ℤ, Bool, not, ◌&&◌, ◌||◌, List, [], bytes_eq}
 use Rattle.std.specs.List.{list_any}
 use Rattle.std.specs.Ordering.{int_cmp, is_eq, ordering_then}
 use Rattle.std.specs.declared.cmp.Ordering.{Ordering}
@@ -7,6 +7,7 @@ use Rattle.msi_text.specs.Lists.{has_pair, list_cmp}
 use Rattle.msi_table.specs.declared.value.Value.{Value}
 use Rattle.msi_table.specs.Values.{value_cmp}
 use Rattle.msi_schema.specs.Keys.{is_pool_name}
+use Rattle.msi_schema.specs.System.{is_schema_table}
 use Rattle.msi_schema.specs.Schema.{SchemaRows, counted, has_null, lacks_value, listed_names, number_of, share_key, text_at, value_at}
 
 -- the first part that differs decides
@@ -57,8 +58,8 @@ listing tables columns = rows_of tables columns []
 -- what breaks a rule, in two parts: single rows, and rows that share a key
 abbrev pub has_faulty_row : SchemaRows → Bool
 has_faulty_row s = has_null s.tables || has_null s.columns || list_any (lacks_value s) s.validation
-    || list_any is_pool_name (listed_names s)
-    || list_any (λ row. not (list_any (bytes_eq (text_at 0 row)) (listed_names s))) (counted s.columns)
+    || list_any (λ row. not (is_schema_table (text_at 0 row)) && is_pool_name (text_at 0 row)) s.tables
+    || list_any (λ row. not (is_schema_table (text_at 0 row)) && not (list_any (bytes_eq (text_at 0 row)) (listed_names s))) s.columns
 
 abbrev pub shares_key : SchemaRows → Bool
 shares_key s = has_pair (share_key 1) (counted s.tables) || has_pair (share_key 2) (counted s.columns) || has_pair (share_key 2) s.validation

@@ -4,12 +4,11 @@ ghost use Rattle.std.specs.Prelude.{◌≡◌, ◌≤◌, ◌==◌, [], IfOk, So
 ghost use Rattle.std.specs.List.{slice_split};
 ghost use Rattle.std.specs.Option.{option_map_or};
 ghost use Rattle.std.specs.List.Sorted.{IsSorted};
-ghost use Rattle.msi_text.specs.Results.{OnlyMemory};
+ghost use Rattle.msi_text.specs.Results.{Gives, OnlyMemory};
 ghost use Rattle.msi_text.specs.declared.errors.ErrorKind.TheVariants.{InvalidData};
 ghost use Rattle.msi_table.specs.Columns.{begun_column, most_columns};
-ghost use Rattle.msi_table.specs.Refusals.{FailsWith};
 ghost use Rattle.msi_schema.specs.RowOrders.{by_numbers, by_texts, describing};
-ghost use Rattle.msi_schema.specs.Schema.{bits_in as bits_of_row, both_set, category_named, column_of_row as column_described, columns_of, described, has_long_number, is_of_16_bits, number_of, numbered_row, text_at as text_in, text_of, value_at, values_in};
+ghost use Rattle.msi_schema.specs.Schema.{bits_in as bits_of_row, both_set, category_named, column_of_row as column_described, columns_of, described, has_long_number, is_of_16_bits, number_of, numbered_row, text_at as text_in, text_of, validation_row, value_at, values_in};
 ghost use Rattle.msi_schema.specs.System.{is_schema_table};
 
 use crate::orders::{count_about, find_by_number, find_by_texts};
@@ -21,7 +20,7 @@ use msi_table::value::Value;
 use msi_text::category::Category;
 use msi_text::errors::{Error, ErrorKind};
 use msi_text::text::Items;
-use std::alloc::Global;
+use std::alloc::{AllocError, Global};
 
 /// The most columns of a table: their numbers are stored in 16 bits.
 const MOST_COLUMNS: usize = 32767;
@@ -78,12 +77,11 @@ fn with_category(builder: ColumnBuilder, row: &Items<Value>) -> ColumnBuilder
 /// The pieces of a text between each two semicolons.
 ///
 /// # Errors
-/// `OutOfMemory`.
-fn pieces<'a>(alloc: Global, text: &'a str) -> Result<Vec<&'a str>, Error>
-    ensures ok { IfOk result (λ pieces. map (λ piece. piece.now) pieces.items ≡ slice_split (λ c. c == 59) text.now) }
-    ensures kind { OnlyMemory result }
+/// Where memory is refused.
+fn pieces<'a>(alloc: Global, text: &'a str) -> Result<Vec<&'a str>, AllocError>
+    ensures { IfOk result (λ pieces. map (λ piece. piece.now) pieces.items ≡ slice_split (λ c. c == 59) text.now) }
 {
-    Ok(text.split(';').collect(alloc)?)
+    text.split(';').collect(alloc)
 }
 
 /// Sets the texts that a column takes where a row of `_Validation` lists some.
@@ -130,6 +128,34 @@ fn bits_in(row: &Items<Value>) -> u16
     (number_at(row, 3) as i16).cast_unsigned()
 }
 
+/// Begins a column of a name with what `_Validation` says of it, whose rows stand in the order of their tables and columns.
+///
+/// # Errors
+/// `OutOfMemory`.
+fn begun_column_of(
+    alloc: Global,
+    validation: &[Items<Value>],
+    table: &str,
+    name: &str,
+) -> Result<ColumnBuilder, Error>
+    requires { IsSorted (by_texts 1) validation.now }
+    ensures ok { let about = validation_row (describing [] validation.now) table.now name.now in
+        IfOk result (λ builder. builder ≡ described about (begun_column name.now)) }
+    ensures kind { OnlyMemory result }
+{
+    match find_by_texts(validation, 1, table, name) {
+        Some(about) => described_column(alloc, name, about),
+        None => Column::build(alloc, name),
+    }
+}
+
+/// The error of columns whose numbers aren't 1 to n.
+fn misnumbered() -> Error
+    ensures { result ≡ InvalidData }
+{
+    Error::new(ErrorKind::InvalidData, reasons::COLUMN_NUMBERS)
+}
+
 /// The column that a row of `_Columns` describes, with the row of `_Validation` about it where there is one; the rows of
 /// `_Validation` stand in the order of their tables and columns.
 ///
@@ -143,14 +169,9 @@ fn column_of_row(
 ) -> Result<Column, Error>
     requires by_name { IsSorted (by_texts 1) validation.now }
     requires short { is_of_16_bits (number_of (value_at 3 row.now)) ≡ true }
-    ensures ok { IfOk result (λ column. column_described (describing [] validation.now) table.now row.now ≡ Some column) }
-    ensures kind { FailsWith InvalidData result (column_described (describing [] validation.now) table.now row.now) }
+    ensures { let s = describing [] validation.now in Gives (λ column. column) result (column_described s table.now row.now) }
 {
-    let name = text_at(row, 2);
-    let builder = match find_by_texts(validation, 1, table, name) {
-        Some(about) => described_column(alloc, name, about)?,
-        None => Column::build(alloc, name)?,
-    };
+    let builder = begun_column_of(alloc, validation, table, text_at(row, 2))?;
     column_of_bits(builder, bits_in(row))
 }
 
@@ -170,17 +191,12 @@ fn numbered_column(
     requires by_name { IsSorted (by_texts 1) validation.now }
     requires short { has_long_number columns.now ≡ false }
     requires plain { is_schema_table table.now ≡ false }
-    ensures ok { let s = describing columns.now validation.now in IfOk result (λ column.
-        option_and_then (column_described s table.now) (numbered_row s table.now number) ≡ Some column) }
-    ensures kind { let s = describing columns.now validation.now in
-        FailsWith InvalidData result (option_and_then (column_described s table.now) (numbered_row s table.now number)) }
+    ensures { let s = describing columns.now validation.now in Gives (λ column. column) result
+        (option_and_then (column_described s table.now) (numbered_row s table.now number)) }
 {
     match find_by_number(columns, table, i32::from(number)) {
         Some(row) => column_of_row(alloc, validation, table, row),
-        None => Err(Error::new(
-            ErrorKind::InvalidData,
-            reasons::COLUMN_NUMBERS,
-        )),
+        None => Err(misnumbered()),
     }
 }
 
@@ -199,16 +215,15 @@ pub(crate) fn columns_of_table(
     requires by_name { IsSorted (by_texts 1) validation.now }
     requires short { has_long_number columns.now ≡ false }
     requires plain { is_schema_table table.now ≡ false }
-    ensures ok { IfOk result (λ read. columns_of (describing columns.now validation.now) table.now ≡ Some read) }
+    ensures gives { Gives (λ read. read) result (columns_of (describing columns.now validation.now) table.now) }
     ensures few { IfOk result (λ read. length read ≤ most_columns) }
-    ensures kind { FailsWith InvalidData result (columns_of (describing columns.now validation.now) table.now) }
 {
     let count = count_about(columns, table);
-    if count == 0 || count > MOST_COLUMNS {
-        return Err(Error::new(
-            ErrorKind::InvalidData,
-            reasons::COLUMN_NUMBERS,
-        ));
+    if count == 0 {
+        return Err(misnumbered());
+    }
+    if count > MOST_COLUMNS {
+        return Err(misnumbered());
     }
     let mut read = Vec::new(alloc);
     for i in 0..count {

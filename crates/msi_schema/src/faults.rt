@@ -83,7 +83,7 @@ fn is_of_pool(row: &Items<Value>) -> bool
 
 /// Whether `_Tables` lists a stream of the string pool.
 fn lists_pool(tables: &[Items<Value>]) -> bool
-    ensures { result ≡ list_any is_of_pool_name (listed_names (listing tables.now [])) }
+    ensures { result ≡ list_any (λ row. not (is_of_schema (text_in 0 row)) && is_of_pool_name (text_in 0 row)) tables.now }
 {
     tables.iter().any(is_of_pool)
 }
@@ -101,8 +101,8 @@ fn is_unlisted(tables: &[Items<Value>], row: &Items<Value>) -> bool
 /// Whether a row of `_Columns` is about a table that isn't listed; the rows of `_Tables` stand in the order of their names.
 fn has_unlisted(tables: &[Items<Value>], columns: &[Items<Value>]) -> bool
     requires { IsSorted (by_texts 0) tables.now }
-    ensures { result ≡ list_any (λ row. not (list_any (bytes_eq (text_in 0 row)) (listed_names (listing tables.now []))))
-        (counted columns.now) }
+    ensures { result ≡ list_any (λ row. not (is_of_schema (text_in 0 row))
+        && not (list_any (bytes_eq (text_in 0 row)) (listed_names (listing tables.now [])))) columns.now }
 {
     columns.iter().any(|row| is_unlisted(tables, row))
 }

@@ -1,12 +1,10 @@
 //! Which tables the rows of `_Tables`, `_Columns` and `_Validation` describe (MSI SDK, "System tables").
 
-ghost use Rattle.std.specs.Prelude.{◌≡◌, ◌≤◌, false, IfOk, OnOk, Some, length, option_map};
+ghost use Rattle.std.specs.Prelude.{◌≡◌, ◌≤◌, false, IfOk, OnOk, length, option_map};
 ghost use Rattle.std.specs.List.Sorted.{IsSorted};
 ghost use Rattle.msi_text.specs.Lists.{stable_sort};
-ghost use Rattle.msi_text.specs.Results.{OnlyMemory};
-ghost use Rattle.msi_text.specs.declared.errors.ErrorKind.TheVariants.{InvalidData};
+ghost use Rattle.msi_text.specs.Results.{Gives, OnlyMemory};
 ghost use Rattle.msi_table.specs.Columns.{most_columns};
-ghost use Rattle.msi_table.specs.Refusals.{FailsWith};
 ghost use Rattle.msi_schema.specs.ListedTables.{by_names, listed_table as table_listed, listed_tables as tables_listed, system_tables as tables_of_system, with_system};
 ghost use Rattle.msi_schema.specs.RowOrders.{by_numbers, by_texts, describing, rows_of};
 ghost use Rattle.msi_schema.specs.Schema.{has_long_number as has_long, table_with, tables_of};
@@ -106,8 +104,7 @@ fn listed_table(
     requires by_name { IsSorted (by_texts 1) validation.now }
     requires short { has_long columns.now ≡ false }
     requires plain { is_schema_table name.now ≡ false }
-    ensures ok { let s = describing columns.now validation.now in IfOk result (λ read. table_listed long s name.now ≡ Some read) }
-    ensures kind { let s = describing columns.now validation.now in FailsWith InvalidData result (table_listed long s name.now) }
+    ensures { let s = describing columns.now validation.now in Gives (λ read. read) result (table_listed long s name.now) }
 {
     let columns = columns_of_table(alloc, columns, validation, name)?;
     named_table(alloc, name, columns, long)
@@ -129,10 +126,8 @@ fn listed_tables(
     requires by_number { IsSorted by_numbers columns.now }
     requires by_name { IsSorted (by_texts 1) validation.now }
     requires short { has_long columns.now ≡ false }
-    ensures ok { let s = rows_of tables.now columns.now validation.now in
-        IfOk result (λ read. option_map (with_system long) (tables_listed long s) ≡ Some read.items) }
-    ensures kind { let s = rows_of tables.now columns.now validation.now in
-        FailsWith InvalidData result (option_map (with_system long) (tables_listed long s)) }
+    ensures { let s = rows_of tables.now columns.now validation.now in
+        Gives (λ read. read.items) result (option_map (with_system long) (tables_listed long s)) }
 {
     let mut read = system_tables(alloc, long)?;
     for row in tables {
@@ -165,8 +160,7 @@ fn sort_by_names(tables: &mut Vec<Table>) -> Result<(), Error>
 /// key, a column is of no listed table, the columns of a listed table aren't numbered from 1 on, or their bits name no
 /// type; and for rows that no cells give: a name that is no text, a number of more than 16 bits. `OutOfMemory`.
 pub fn tables_described(alloc: Global, rows: SchemaRows, long: bool) -> Result<Items<Table>, Error>
-    ensures ok { IfOk result (λ tables. tables_of long rows ≡ Some tables) }
-    ensures kind { FailsWith InvalidData result (tables_of long rows) }
+    ensures { Gives (λ tables. tables) result (tables_of long rows) }
 {
     let SchemaRows {
         tables,
