@@ -29,6 +29,12 @@ pub copied_none : {X : Type 0} (o : Option (Bor X)) → is_none o ≡ is_none (o
 copied_none None = refl
 copied_none (Some x) = refl
 
+pub none_from : {X : Type 0} (b : Bool) (o : Option X) → not b ≡ is_some o → b ≡ is_none o
+none_from true None e = refl
+none_from false None e = cc
+none_from true (Some x) e = cc
+none_from false (Some x) e = refl
+
 pub copied_some : {X : Type 0} (o : Option (Bor X)) → is_some o ≡ is_some (option_copied o)
 copied_some None = refl
 copied_some (Some x) = refl

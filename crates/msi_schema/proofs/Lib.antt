@@ -5,6 +5,7 @@ pub mod ColumnBackLemmas
 pub mod DescriptionLemmas
 pub mod FaultLemmas
 pub mod ListLemmas
+pub mod ListingLemmas
 pub mod NamesLemmas
 pub mod OrderLemmas
 pub mod OrderlessLemmas

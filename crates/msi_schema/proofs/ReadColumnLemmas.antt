@@ -15,7 +15,7 @@ use Rattle.msi_table.specs.declared.value.Value.{Value}
 use Rattle.msi_table.specs.declared.column.ColumnType.{ColumnType}
 use Rattle.msi_table.specs.Columns.{ColumnDef, begun_column, column_of_bits, has_bit, type_of_bits, with_bits}
 use Rattle.msi_schema.specs.Schema.{SchemaRows, both_set, category_named, described, has_long_number, is_of_16_bits, number_of, text_at, text_of, value_at, values_in}
-use Rattle.msi_schema.proofs.ListLemmas.{by_test, find_same, or_false}
+use Rattle.msi_schema.proofs.ListLemmas.{by_test, find_same, or_false, yes_is_no}
 
 -- the parts that a row of `_Validation` gives, one after the other
 abbrev pub with_nullable : Bool → ColumnDef → ColumnDef
@@ -109,7 +109,7 @@ or_no true c e = refl
 or_no false c e = e
 
 flips : (s t : List ℕ) → bytes_eq s t ≡ false → bytes_eq t s ≡ false
-flips s t e = by_test (bytes_eq t s) (λ u. let f : s ≡ t = sym ((bytes_eq-Decides t s).0 u) in sym (sym e ∙ (bytes_eq-Decides s t).1 f) ∙ u ∙ sym ((bytes_eq-Decides s t).1 f) ∙ e) (λ u. u)
+flips s t e = by_test (bytes_eq t s) (λ u. yes_is_no (bytes_eq s t) ((bytes_eq-Decides s t).1 (sym ((bytes_eq-Decides t s).0 u))) e) (λ u. u)
 
 one_name : (text : List ℕ) → bytes_eq text (codes "FormattedSddlText") ≡ false → bytes_eq text (codes "Guid") ≡ false → (c : Category) → (bytes_eq (category_name c) text || bytes_eq (other_name c) text) ≡ bytes_eq (category_name c) text
 one_name text s g category.Text = same_twice (bytes_eq (codes "Text") text)
@@ -165,6 +165,9 @@ short_row p (r ∷ rows) row short e =
 pub bits_give : (r : Result ColumnDef ErrorKind) (o : Option ColumnDef) → IfOk r (λ c. o ≡ Some c) → (IsErr r ↔ (o ≡ None)) → IfErr r (λ e. e ≡ InvalidData) → Gives (λ c. c) r o
 bits_give (Ok c) o given refused kind = given
 bits_give (Err e) o given refused kind = rw kind (refused.0 refl)
+
+pub fails_plainly : (e : ErrorKind) {X : Type 0} (o : Option X) → e ≡ InvalidData → o ≡ None → FailsAs e o
+fails_plainly e o k n = rw k n
 
 -- an error tells of what is read of it
 pub fails_on : (e : ErrorKind) {X Y : Type 0} (o : Option X) (p : Option Y) → (o ≡ None → p ≡ None) → FailsAs e o → FailsAs e p

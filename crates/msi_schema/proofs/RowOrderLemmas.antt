@@ -11,8 +11,8 @@ use Rattle.msi_text.specs.Lists.{list_cmp}
 use Rattle.msi_table.specs.declared.value.Value.{Value}
 use Rattle.msi_table.specs.OrderLaws.{value_cmp-total}
 use Rattle.msi_table.specs.Values.{value_cmp}
-use Rattle.msi_schema.specs.RowOrders.{by_numbers, by_texts, by_values, is_numbered, number_in, numbers_cmp, pair_cmp, texts_at, texts_cmp, values_at, values_cmp}
-use Rattle.msi_schema.specs.Schema.{is_about, number_of, share_key, text_at, value_at}
+use Rattle.msi_schema.specs.RowOrders.{by_numbers, by_texts, by_values, number_in, numbers_cmp, pair_cmp, texts_at, texts_cmp, values_at, values_cmp}
+use Rattle.msi_schema.specs.Schema.{has_number, is_about, number_of, share_key, text_at, value_at}
 use Rattle.msi_schema.proofs.ListLemmas.{find_same}
 use Rattle.msi_schema.proofs.OrderLemmas.{Ascends}
 
@@ -44,9 +44,9 @@ pub at_texts : (place : ℕ) (table text : List ℕ) (row : List Value) → is_e
 at_texts place table text row = both_tie (list_cmp (text_at 0 row) table) (list_cmp (text_at place row) text)
     ∙ λ i. is_eq-slice_cmp (text_at 0 row) table i && is_eq-slice_cmp (text_at place row) text i
 
-pub at_number : (table : List ℕ) (number : ℤ) (row : List Value) → is_eq (numbers_cmp (number_in row) (table, number)) ≡ (is_about table row && is_numbered number row)
-at_number table number row = both_tie (list_cmp (text_at 0 row) table) (int_cmp (number_of (value_at 1 row)) number)
-    ∙ λ i. is_eq-slice_cmp (text_at 0 row) table i && is_numbered number row
+pub at_number : (table : List ℕ) (number : ℕ) (row : List Value) → is_eq (numbers_cmp (number_in row) (table, pos number)) ≡ (is_about table row && has_number number row)
+at_number table number row = both_tie (list_cmp (text_at 0 row) table) (int_cmp (number_of (value_at 1 row)) (pos number))
+    ∙ λ i. is_eq-slice_cmp (text_at 0 row) table i && has_number number row
 
 -- rows in the order of two parts are in the order of the first
 first_not_less : (o p : Ordering) → is_lt (ordering_then o p) ≡ false → is_lt o ≡ false

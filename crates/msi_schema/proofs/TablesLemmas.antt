@@ -66,7 +66,7 @@ validation_sorted s u e table column =
 
 pub numbered_sorted : (s : SchemaRows) (u : SchemaRows) → u.columns ≡ stable_sort by_numbers s.columns → (table : List ℕ) (number : ℕ) → is_schema_table table ≡ false → numbered_row u table number ≡ numbered_row s table number
 numbered_sorted s u e table number plain =
-    let stands : (row : List Value) → is_eq (numbers_cmp (number_in row) (table, pos number)) ≡ (is_about table row && has_number number row) = at_number table (pos number) in
+    let stands : (row : List Value) → is_eq (numbers_cmp (number_in row) (table, pos number)) ≡ (is_about table row && has_number number row) = at_number table number in
     numbered_plain u table number plain
     ∙ ap (find (λ row. is_about table row && has_number number row)) e
     ∙ sym (find_same (λ row. is_eq (numbers_cmp (number_in row) (table, pos number))) (λ row. is_about table row && has_number number row) (stable_sort by_numbers s.columns) stands)

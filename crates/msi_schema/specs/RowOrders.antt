@@ -1,7 +1,7 @@
 -- The orders in which rows of the system tables are looked up: each by two parts of a row.
 use Rattle.std.specs.Prelude.{ℕ, ℤ, Bool, not, ◌&&◌, ◌||◌, List, [], bytes_eq}
 use Rattle.std.specs.List.{list_any}
-use Rattle.std.specs.Ordering.{int_cmp, is_eq, ordering_then}
+use Rattle.std.specs.Ordering.{int_cmp, ordering_then}
 use Rattle.std.specs.declared.cmp.Ordering.{Ordering}
 use Rattle.msi_text.specs.Lists.{has_pair, list_cmp}
 use Rattle.msi_table.specs.declared.value.Value.{Value}
@@ -20,9 +20,6 @@ texts_at place row = (text_at 0 row, text_at place row)
 
 abbrev pub number_in : List Value → List ℕ × ℤ
 number_in row = (text_at 0 row, number_of (value_at 1 row))
-
-abbrev pub is_numbered : ℤ → List Value → Bool
-is_numbered number row = is_eq (int_cmp (number_of (value_at 1 row)) number)
 
 abbrev pub values_at : ℕ → List Value → Value × Value
 values_at place row = (value_at 0 row, value_at place row)

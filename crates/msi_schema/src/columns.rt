@@ -194,7 +194,7 @@ fn numbered_column(
     ensures { let s = describing columns.now validation.now in Gives (λ column. column) result
         (option_and_then (column_described s table.now) (numbered_row s table.now number)) }
 {
-    match find_by_number(columns, table, i32::from(number)) {
+    match find_by_number(columns, table, number) {
         Some(row) => column_of_row(alloc, validation, table, row),
         None => Err(misnumbered()),
     }

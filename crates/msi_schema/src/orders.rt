@@ -1,13 +1,13 @@
 //! Rows in order, and looking them up there: a system table can have 65536 rows.
 
-ghost use Rattle.std.specs.Prelude.{◌≡◌, ◌≤◌, ◌+◌, ◌&&◌, ℕ, IfOk, OnOk, bytes_eq, filter, find, length, option_copied, slice_get};
+ghost use Rattle.std.specs.Prelude.{◌≡◌, ◌≤◌, ◌+◌, ◌&&◌, ℕ, IfOk, OnOk, bytes_eq, filter, find, length, option_copied, pos, slice_get};
 ghost use Rattle.std.specs.List.{IsAllAdjacentAnswer};
 ghost use Rattle.std.specs.List.Sorted.{IsSorted};
 ghost use Rattle.std.specs.Ordering.{is_lt};
 ghost use Rattle.msi_text.specs.Lists.{has_pair, list_cmp, stable_sort};
 ghost use Rattle.msi_text.specs.Results.{OnlyMemory};
-ghost use Rattle.msi_schema.specs.RowOrders.{by_numbers, by_texts, by_values, is_numbered, number_in, numbers_cmp, texts_at, texts_cmp};
-ghost use Rattle.msi_schema.specs.Schema.{is_about as is_of_table, share_key, text_at as text_in};
+ghost use Rattle.msi_schema.specs.RowOrders.{by_numbers, by_texts, by_values, number_in, numbers_cmp, texts_at, texts_cmp};
+ghost use Rattle.msi_schema.specs.Schema.{has_number, is_about as is_of_table, share_key, text_at as text_in};
 
 use crate::rows::{compare_at, number_at, text_at};
 use msi_table::value::Value;
@@ -31,6 +31,15 @@ fn number_order(row: &Items<Value>, table: &str, number: i32) -> Ordering
     text_at(row, 0)
         .cmp(table)
         .then(number_at(row, 1).cmp(&number))
+}
+
+/// How a row's table and its number stand to a text and a column's number.
+fn numbered_order(row: &Items<Value>, table: &str, number: u16) -> Ordering
+    ensures { result ≡ numbers_cmp (number_in row.now) (table.now, pos number) }
+{
+    text_at(row, 0)
+        .cmp(table)
+        .then(number_at(row, 1).cmp(&i32::from(number)))
 }
 
 /// How the first values of two rows, and those at a place, stand to one another.
@@ -106,15 +115,15 @@ pub(crate) fn find_by_texts<'a>(
 pub(crate) fn find_by_number<'a>(
     rows: &'a [Items<Value>],
     table: &str,
-    number: i32,
+    number: u16,
 ) -> Option<&'a Items<Value>>
     requires { IsSorted by_numbers rows.now }
-    ensures { option_copied result ≡ find (λ row. is_of_table table.now row && is_numbered number row) rows.now }
+    ensures { option_copied result ≡ find (λ row. is_of_table table.now row && has_number number row) rows.now }
 {
-    let at = rows.partition_point(|row| number_order(row, table, number).is_lt());
+    let at = rows.partition_point(|row| numbered_order(row, table, number).is_lt());
     match row_at(rows, at) {
         Some(row) => {
-            if number_order(row, table, number).is_eq() {
+            if numbered_order(row, table, number).is_eq() {
                 Some(row)
             } else {
                 None

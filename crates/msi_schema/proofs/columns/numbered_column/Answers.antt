@@ -1,9 +1,9 @@
-use Rattle.std.proofs.Common.{◌≡◌, ◌&&◌, ◌∙◌, ℤ, List, Option, ap, find, option_and_then, subst, sym}
+use Rattle.std.proofs.Common.{◌≡◌, ◌∙◌, List, Option, ap, option_and_then, subst, sym}
 use Rattle.msi_text.specs.Results.{Gives}
 use Rattle.msi_table.specs.declared.value.Value.{Value}
-use Rattle.msi_schema.specs.RowOrders.{describing, is_numbered}
-use Rattle.msi_schema.specs.Schema.{column_of_row, is_about, numbered_row}
-use Rattle.msi_schema.proofs.ReadColumnLemmas.{short_row}
+use Rattle.msi_schema.specs.RowOrders.{describing}
+use Rattle.msi_schema.specs.Schema.{column_of_row}
+use Rattle.msi_schema.proofs.ReadColumnLemmas.{fails_plainly, short_row}
 use Rattle.msi_schema.proofs.TablesLemmas.{numbered_plain}
 use Rattle.msi_schema.proofs.columns.numbered_column.Goals as goal
 
@@ -14,8 +14,10 @@ pub returns-in-Some : goal.returns-in-Some
 returns-in-Some c =
     let s = describing c.args.columns.now c.args.validation.now in
     subst (λ (o : Option (List Value)). Gives (λ column. column) c.column_of_row.result (option_and_then (column_of_row s c.args.table.now) o))
-    (c.in-Some.ensures ∙ ap (λ (number : ℤ). find (λ row. is_about c.args.table.now row && is_numbered number row) c.args.columns.now) c.from.ensures
-    ∙ sym (numbered_plain s c.args.table.now c.args.number c.requires.plain)) c.column_of_row.ensures
+    (c.in-Some.ensures ∙ sym (numbered_plain s c.args.table.now c.args.number c.requires.plain)) c.column_of_row.ensures
 
 pub returns-in-None : goal.returns-in-None
-returns-in-None c = ?
+returns-in-None c =
+    let s = describing c.args.columns.now c.args.validation.now in
+    fails_plainly c.misnumbered.result _ c.misnumbered.ensures
+    (ap (option_and_then (column_of_row s c.args.table.now)) (numbered_plain s c.args.table.now c.args.number c.requires.plain ∙ sym c.in-None.ensures))
