@@ -95,18 +95,18 @@ some_under : {X Y Z : Type 0} (f : X → Y) (g : Y → Z) (o : Option X) (y : Y)
 some_under f g None y e = cc
 some_under f g (Some x) y e = let s : y ≡ f x = cc in rw s refl
 
-module _ (long : Bool) (s : SchemaRows) (columns validation : List (List Value)) (ec : columns ≡ stable_sort by_numbers s.columns) (ev : validation ≡ stable_sort (by_texts 1) s.validation)
-  (fits : (has_odd_name s.tables || has_long_number s.columns) ≡ false) where
-  same_listed : listed_tables long (rows_of s.tables columns validation) ≡ listed_tables long s
-  same_listed = (λ i. listed_tables long (rows_of s.tables (ec i) (ev i))) ∙ listed_sorted long s
+module _ (long : Bool) (s : SchemaRows) (tables columns validation : List (List Value)) (et : tables ≡ s.tables) (ec : columns ≡ stable_sort by_numbers s.columns) (ev : validation ≡ stable_sort (by_texts 1) s.validation)
+    (fits : (has_odd_name s.tables || has_long_number s.columns) ≡ false) where
+  same_listed : listed_tables long (rows_of tables columns validation) ≡ listed_tables long s
+  same_listed = (λ i. listed_tables long (rows_of (et i) (ec i) (ev i))) ∙ listed_sorted long s
 
-  pub nothing_described : option_map (with_system long) (listed_tables long (rows_of s.tables columns validation)) ≡ None → tables_of long s ≡ None
+  pub nothing_described : option_map (with_system long) (listed_tables long (rows_of tables columns validation)) ≡ None → tables_of long s ≡ None
   nothing_described e =
       let f = or_false (has_odd_name s.tables) (has_long_number s.columns) fits in
-      tables_unread long s f.0 f.1 (sym same_listed ∙ none_under (with_system long) (listed_tables long (rows_of s.tables columns validation)) e)
+      tables_unread long s f.0 f.1 (sym same_listed ∙ none_under (with_system long) (listed_tables long (rows_of tables columns validation)) e)
 
-  pub tables_given : (read : List TableDef) → option_map (with_system long) (listed_tables long (rows_of s.tables columns validation)) ≡ Some read → is_faulty s ≡ false → tables_of long s ≡ Some (stable_sort by_names read)
+  pub tables_given : (read : List TableDef) → option_map (with_system long) (listed_tables long (rows_of tables columns validation)) ≡ Some read → is_faulty s ≡ false → tables_of long s ≡ Some (stable_sort by_names read)
   tables_given read e sound =
       let f = or_false (has_odd_name s.tables) (has_long_number s.columns) fits in
       tables_are long s f.0 f.1 sound ∙ ap (option_map (λ listed. stable_sort by_names (with_system long listed))) (sym same_listed)
-      ∙ some_under (with_system long) (stable_sort by_names) (listed_tables long (rows_of s.tables columns validation)) read e
+      ∙ some_under (with_system long) (stable_sort by_names) (listed_tables long (rows_of tables columns validation)) read e
