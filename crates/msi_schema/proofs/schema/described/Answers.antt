@@ -6,7 +6,7 @@ use Rattle.msi_schema.specs.ListedTables.{listed_tables, with_system}
 use Rattle.msi_schema.specs.RowOrders.{number_in, numbers_cmp, rows_of, texts_at, texts_cmp}
 use Rattle.msi_schema.specs.Schema.{has_long_number, has_odd_name, tables_of}
 use Rattle.msi_schema.proofs.ListLemmas.{or_false}
-use Rattle.msi_schema.proofs.ListingLemmas.{nothing_described, short_sorted, tables_given}
+use Rattle.msi_schema.proofs.ListingLemmas.{faults_kept, nothing_described, short_sorted, tables_given}
 use Rattle.msi_schema.proofs.OrderLemmas.{ascending}
 use Rattle.msi_schema.proofs.ReadColumnLemmas.{fails_on, fails_plainly}
 use Rattle.msi_schema.proofs.RowOrderLemmas.{numbers_total, texts_total}
@@ -38,11 +38,11 @@ returns-in_err-read c =
 pub returns-then-faulty : goal.returns-then-faulty
 returns-then-faulty c =
     let s = rows_of c.args.tables.items c.args.columns.items c.args.validation.items in
-    fails_plainly c.new-then-faulty.result (tables_of c.args.long s) c.new-then-faulty.ensures (tables_faulty c.args.long s (sym c.in_ok-faulty.ensures.ok ∙ c.if-faulty.true))
+    fails_plainly c.new-then-faulty.result (tables_of c.args.long s) c.new-then-faulty.ensures (tables_faulty c.args.long s (sym (faults_kept s c.sort_by_numbers.new.rows.items c.sort_by_texts.new.rows.items c.in_ok-sort_by_numbers.ensures.ok c.in_ok-sort_by_texts.ensures.ok) ∙ sym c.in_ok-faulty.ensures.ok ∙ c.if-faulty.true))
 
 pub returns : goal.returns
 returns c =
     let s = rows_of c.args.tables.items c.args.columns.items c.args.validation.items in
     tables_given c.args.long s c.as_slice-3.result.now c.as_slice-4.result.now c.as_slice-5.result.now c.as_slice-3.ensures.value (c.as_slice-4.ensures.value ∙ c.in_ok-sort_by_numbers.ensures.ok)
-    (c.as_slice-5.ensures.value ∙ c.in_ok-sort_by_texts.ensures.ok) (fits c.has_odd_value.result c.args.tables.items c.args.columns.items c.as_slice.result.now c.as_slice-2.result.now c.has_odd_value.ensures c.as_slice.ensures.value c.as_slice-2.ensures.value c.if-has_odd_value.false) c.in_ok-read.read.items c.in_ok-read.ensures (sym c.in_ok-faulty.ensures.ok ∙ c.if-faulty.false)
+    (c.as_slice-5.ensures.value ∙ c.in_ok-sort_by_texts.ensures.ok) (fits c.has_odd_value.result c.args.tables.items c.args.columns.items c.as_slice.result.now c.as_slice-2.result.now c.has_odd_value.ensures c.as_slice.ensures.value c.as_slice-2.ensures.value c.if-has_odd_value.false) c.in_ok-read.read.items c.in_ok-read.ensures (sym (faults_kept s c.sort_by_numbers.new.rows.items c.sort_by_texts.new.rows.items c.in_ok-sort_by_numbers.ensures.ok c.in_ok-sort_by_texts.ensures.ok) ∙ sym c.in_ok-faulty.ensures.ok ∙ c.if-faulty.false)
     ∙ ap Some (sym (c.from_vec.ensures ∙ c.in_ok-sort_by_names.ensures.ok))
