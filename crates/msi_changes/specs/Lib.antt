@@ -9,3 +9,5 @@ pub mod Delete
 pub mod Create
 pub mod Drop
 pub mod Laws
+pub mod Views
+pub mod KeySets

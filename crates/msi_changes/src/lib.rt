@@ -1,2 +1,6 @@
 //! Changes of tables.
 #![tactic(auto)]
+
+mod keys;
+mod reasons;
+mod views;
