@@ -19,6 +19,7 @@ pub mod FitTestLemmas
 pub mod InsertLemmas
 pub mod InsertedLemmas
 pub mod KeyPairLemmas
+pub mod KeySetLemmas
 pub mod KeysKeptLemmas
 pub mod KeysLemmas
 pub mod KindsKeptLemmas
@@ -44,3 +45,4 @@ pub mod UnlistedLemmas
 pub mod UpdateLemmas
 pub mod UpdatedLemmas
 pub mod ValuesLemmas
+pub mod ViewLemmas
