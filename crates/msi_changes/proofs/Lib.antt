@@ -16,6 +16,7 @@ pub mod DropRowsLemmas
 pub mod DropTracksLemmas
 pub mod DroppedLemmas
 pub mod FitTestLemmas
+pub mod InTurnLemmas
 pub mod InsertLemmas
 pub mod InsertedLemmas
 pub mod KeyPairLemmas

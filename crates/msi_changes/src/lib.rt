@@ -3,4 +3,5 @@
 
 mod keys;
 mod reasons;
+pub mod texts;
 mod views;
