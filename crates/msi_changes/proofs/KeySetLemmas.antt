@@ -1,20 +1,20 @@
 -- Sets of keys: two keys of a list are the same where a key is in the set of those before it.
-use Rattle.std.proofs.Common.{◌≡◌, ℕ, ◌+◌, ◌<◌, ◌≤◌, Bool, true, false, cond, ◌||◌, List, [], ◌∷◌, ◌++◌, length, map, take, drop, reverse, get_or, Option, Some, None, refl, sym, ap, ◌∙◌, ⊎_elim}
+use Rattle.std.proofs.Common.{◌≡◌, ℕ, ◌+◌, ◌<◌, ◌≤◌, Bool, true, false, cond, ◌||◌, List, [], ◌∷◌, ◌++◌, length, map, take, drop, reverse, get_or, Option, Some, None, refl, sym, ap, ◌∙◌, subst, inr}
 use Rattle.std.specs.List.{list_any}
 use Rattle.std.specs.BTreeSet.{BTreeSet, contains, Updates}
 use Rattle.std.specs.Cmp.Lexicographic.{slice_cmp}
-use Rattle.std.proofs.lemmas.Bool.{cases_Bool}
-use Rattle.std.proofs.lemmas.List.{drop_all, drop_more, reverse-append, take_more}
+use Rattle.std.proofs.lemmas.List.{drop_all, drop_more, get_or-map, reverse-append, take_more}
 use Rattle.std.proofs.lemmas.List.Folds.{list_any-append}
 use Rattle.std.proofs.lemmas.List.Sorted.{IsPermutation-reverse, list_any-IsPermutation}
 use Rattle.msi_text.specs.declared.errors.ErrorKind.{ErrorKind}
 use Rattle.msi_text.specs.declared.errors.ErrorKind.TheVariants.{AlreadyExists, InvalidInput}
 use Rattle.msi_text.specs.Lists.{has_pair}
-use Rattle.msi_relation.specs.Refusals.{first_refusal}
+use Rattle.msi_relation.specs.Refusals.{IsRefusal, Refusals, first_refusal, unless, unless_refused}
 use Rattle.msi_table.specs.declared.value.Value.{Value}
+use Rattle.msi_table.specs.Columns.{ColumnDef}
 use Rattle.msi_table.specs.Values.{value_cmp}
 use Rattle.msi_changes.specs.Insert.{key_refusals}
-use Rattle.msi_changes.specs.Keyed.{same_key}
+use Rattle.msi_changes.specs.Keyed.{key_of, same_key}
 use Rattle.msi_changes.specs.KeySets.{HasKeys}
 use Rattle.msi_changes.proofs.KeyPairLemmas.{same_key_turned}
 
@@ -94,3 +94,15 @@ module _ (held keys : List (List Value)) (i : ℕ) (key : List Value) (inside : 
 
 pub none_refused : (held keys : List (List Value)) (i : ℕ) → length keys ≤ i → refusal_from held keys i ≡ None
 none_refused held keys i h = rw (drop_all i keys h) refl
+
+-- the key of a row at its place
+pub key_at : (columns : List ColumnDef) (rows : List (List Value)) (i : ℕ) (row key : List Value) → i < length rows → row ≡ get_or rows i row → key ≡ key_of columns row
+    → get_or (map (key_of columns) rows) i key ≡ key
+key_at columns rows i row key h at is = get_or-map (key_of columns) rows i row key h ∙ ap (key_of columns) (sym at) ∙ sym is
+
+pub keys_to : (set : BTreeSet (List Value)) (keys : List (List Value)) (i : ℕ) (key : List Value) → i < length keys → get_or keys i key ≡ key → HasKeys set (take i keys ++ key ∷ []) → HasKeys set (take (i + 1) keys)
+keys_to set keys i key h at has = subst (HasKeys set) (sym (take_more keys i key h ∙ ap (λ (k : List Value). take i keys ++ k ∷ []) at)) has
+
+-- a refusal as an answer
+pub refused : (rs : Refusals) (kind : ErrorKind) → first_refusal rs ≡ Some kind → IsRefusal {A = Unit {0}} (unless_refused rs tt) kind
+refused rs kind e = inr (ap (λ (o : Option ErrorKind). unless {A = Unit {0}} o tt) e)

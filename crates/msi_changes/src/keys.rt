@@ -125,6 +125,22 @@ impl Eq for Key<'_> {
     ghost laws = { eq_by_cmp_equiv (lists_total value_cmp-total) };
 }
 
+/// The key of a row of values.
+///
+/// # Errors
+/// `OutOfMemory`.
+fn key_of_values<'a>(
+    alloc: Global,
+    columns: &[Column],
+    row: &'a [Value],
+) -> Result<Key<'a>, Error>
+    ensures ok { IfOk result (λ key. key ≡ key_of columns.now row.now) }
+    ensures kind { OnlyMemory result }
+{
+    let views = views_of_values(alloc, row)?;
+    Key::of_row(alloc, columns, views.as_slice())
+}
+
 /// The keys of rows of cells, in the rows' order.
 ///
 /// # Errors
@@ -155,8 +171,8 @@ pub(crate) fn distinct_keys<'a>(
     alloc: Global,
     keys: Vec<Key<'a>>,
 ) -> Result<Option<BTreeSet<Key<'a>>>, Error>
-    ensures distinct { IfOk result (λ set. is_some set ≡ not (has_pair same_key keys.items)) }
-    ensures keys { IfOk result (λ set. IfSome set (λ set. HasKeys set keys.items)) }
+    ensures distinct { IfOk result (λ set. is_some set ≡ not (has_pair same_key keys.entry.items)) }
+    ensures keys { IfOk result (λ set. IfSome set (λ set. HasKeys set keys.entry.items)) }
     ensures kind { OnlyMemory result }
 {
     let mut set = BTreeSet::new(alloc);
@@ -183,12 +199,11 @@ fn refuse_held<'a>(
     ensures ok { OnOk result ((keys : List (List ValueOf)) → HasKeys held.now keys
         → first_refusal (key_refusals keys [] (map (key_of columns.now) new_rows.now)) ≡ None) }
     ensures kind { IfErr result (λ kind. (keys : List (List ValueOf)) → HasKeys held.now keys
-        → IsRefusal (unless_refused (key_refusals keys [] (map (key_of columns.now) new_rows.now)) tt) kind) }
+        → IsRefusal {A = Unit {0}} (unless_refused (key_refusals keys [] (map (key_of columns.now) new_rows.now)) tt) kind) }
 {
     let mut earlier = BTreeSet::new(alloc);
     for row in new_rows {
-        let views = views_of_values(alloc, row.as_slice())?;
-        let key = Key::of_row(alloc, columns, views.as_slice())?;
+        let key = key_of_values(alloc, columns, row.as_slice())?;
         if held.contains(&key) {
             return Err(Error::new(ErrorKind::AlreadyExists, reasons::KEY_HELD));
         }
@@ -216,7 +231,7 @@ pub(crate) fn refuse_clashes(
     ensures ok { let held = map (λ row. key_of columns.now (row_values pool.now.places row)) rows.now in
         OnOk result (first_refusal (clash_refusals held (map (key_of columns.now) new_rows.now)) ≡ None) }
     ensures kind { let held = map (λ row. key_of columns.now (row_values pool.now.places row)) rows.now in
-        IfErr result (IsRefusal (unless_refused (clash_refusals held (map (key_of columns.now) new_rows.now)) tt)) }
+        IfErr result (IsRefusal {A = Unit {0}} (unless_refused (clash_refusals held (map (key_of columns.now) new_rows.now)) tt)) }
 {
     let keys = keys_of_cells(alloc, pool, columns, rows)?;
     match distinct_keys(alloc, keys)? {
