@@ -19,6 +19,7 @@ pub mod FitTestLemmas
 pub mod InTurnLemmas
 pub mod InsertLemmas
 pub mod InsertedLemmas
+pub mod InsertingLemmas
 pub mod KeyPairLemmas
 pub mod KeySetLemmas
 pub mod KeysKeptLemmas
@@ -31,6 +32,7 @@ pub mod PutFitsLemmas
 pub mod RefusedLemmas
 pub mod RegularLemmas
 pub mod RemovedLemmas
+pub mod RowFitLemmas
 pub mod RowsLemmas
 pub mod SetLemmas
 pub mod ShownChangesLemmas
@@ -38,6 +40,7 @@ pub mod ShownLemmas
 pub mod SoundLemmas
 pub mod StaysLemmas
 pub mod StoredLemmas
+pub mod TableKeysLemmas
 pub mod TablesLemmas
 pub mod TextCountLemmas
 pub mod TracksLemmas
