@@ -31,6 +31,7 @@ pub mod PutFitsLemmas
 pub mod RefusedLemmas
 pub mod RegularLemmas
 pub mod RemovedLemmas
+pub mod RowUpdateLemmas
 pub mod RowsLemmas
 pub mod SetLemmas
 pub mod ShownChangesLemmas
