@@ -2,6 +2,8 @@
 #![tactic(auto)]
 
 mod conditions;
+pub mod create;
+pub mod insert;
 mod keys;
 mod reasons;
 pub mod texts;
