@@ -33,6 +33,7 @@ pub mod RefusedLemmas
 pub mod RegularLemmas
 pub mod RemovedLemmas
 pub mod RowFitLemmas
+pub mod RowUpdateLemmas
 pub mod RowsLemmas
 pub mod SetLemmas
 pub mod ShownChangesLemmas

@@ -11,3 +11,4 @@ pub mod Drop
 pub mod Laws
 pub mod Views
 pub mod KeySets
+pub mod RowUpdates

@@ -1,9 +1,11 @@
 //! Changes of tables.
 #![tactic(auto)]
 
+mod conditions;
 pub mod create;
 pub mod insert;
 mod keys;
 mod reasons;
 pub mod texts;
+pub mod update;
 mod views;

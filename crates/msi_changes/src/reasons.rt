@@ -8,6 +8,14 @@ pub(crate) const KEY_HELD: Reason = Reason("the table has a row with this key al
 
 pub(crate) const KEY_TWICE: Reason = Reason("two of the new rows share a key");
 
+pub(crate) const NEW_VALUE: Reason = Reason(
+    "a column that is to be set isn't there, or doesn't take its new value",
+);
+
+pub(crate) const CONDITION_COLUMN: Reason = Reason("a condition names a column that isn't there");
+
+pub(crate) const KEY_COLLIDES: Reason = Reason("two rows would share a key");
+
 pub(crate) const ROW_MISFITS: Reason = Reason("a new row does not fit the table's columns");
 
 pub(crate) const TOO_MANY_ROWS: Reason = Reason("a table has at most 65536 rows");
