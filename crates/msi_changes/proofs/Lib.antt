@@ -27,6 +27,7 @@ pub mod KeysLemmas
 pub mod KindsKeptLemmas
 pub mod KindsLemmas
 pub mod LawLemmas
+pub mod LeadingLemmas
 pub mod PoolStepLemmas
 pub mod PutFitsLemmas
 pub mod RefusedLemmas
@@ -35,6 +36,7 @@ pub mod RemovedLemmas
 pub mod RowFitLemmas
 pub mod RowUpdateLemmas
 pub mod RowsLemmas
+pub mod SchemaKeptLemmas
 pub mod SetLemmas
 pub mod ShownChangesLemmas
 pub mod ShownLemmas

@@ -5,6 +5,7 @@ mod conditions;
 pub mod create;
 pub mod insert;
 mod keys;
+pub mod laws;
 mod reasons;
 pub mod texts;
 pub mod update;
