@@ -32,7 +32,6 @@ pub mod RefusedLemmas
 pub mod RegularLemmas
 pub mod RemovedLemmas
 pub mod RowUpdateLemmas
-pub mod ReleasedLemmas
 pub mod RowsLemmas
 pub mod SetLemmas
 pub mod ShownChangesLemmas

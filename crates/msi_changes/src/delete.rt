@@ -1,13 +1,10 @@
 //! Rows that are taken out of a table.
 
-ghost use Rattle.std.specs.Prelude.{◌≡◌, ◌∷◌, [], not, filter, true, false, IfOk, OnOk};
+ghost use Rattle.std.specs.Prelude.{◌≡◌, ◌∷◌, [], not, true, false, IfOk, OnOk};
 ghost use Rattle.msi_text.specs.Results.{OnlyMemory};
 ghost use Rattle.msi_text.specs.declared.errors.ErrorKind.TheVariants.{InvalidInput};
 ghost use Rattle.msi_relation.specs.Refusals.{unless_refused};
 ghost use Rattle.msi_relation.specs.Selection.{condition_names, has_columns};
-ghost use Rattle.msi_table.specs.StoredOrder.{row_values};
-ghost use Rattle.msi_query.specs.Conditions.{meets};
-ghost use Rattle.msi_changes.specs.Database.{same_bool};
 ghost use Rattle.msi_changes.specs.Delete.{rows_meeting};
 ghost use Rattle.msi_changes.specs.RowUpdates.{table_of};
 ghost use Rattle.msi_changes.specs.Texts.{in_use, rows_released};
@@ -48,11 +45,10 @@ fn rows_failing(
     test: &RowFilter,
     rows: Vec<Items<ValueRef>>,
 ) -> Result<Vec<Items<ValueRef>>, Error>
-    ensures ok { let passes = λ row. meets test.now.columns test.now.condition (row_values old.now.places row) in
-        IfOk result (λ kept. kept.items ≡ filter (λ row. same_bool (passes row) false) rows.items) }
-    ensures released { let passes = λ row. meets test.now.columns test.now.condition (row_values old.now.places row) in
-        let gone = filter (λ row. same_bool (passes row) true) rows.items in
-        OnOk result (in_use pool.new ≡ rows_released (in_use pool.old) gone) }
+    ensures ok { let rows_of = rows_meeting old.now.places (table_of test.now.columns rows.items) test.now.condition in
+        IfOk result (λ kept. kept.items ≡ rows_of false) }
+    ensures released { let rows_of = rows_meeting old.now.places (table_of test.now.columns rows.items) test.now.condition in
+        OnOk result (in_use pool.new ≡ rows_released (in_use pool.old) (rows_of true)) }
     ensures kind { OnlyMemory result }
     ensures page { pool.new.pool.page ≡ pool.old.pool.page }
     ensures long { pool.new.pool.long ≡ pool.old.pool.long }
@@ -83,8 +79,7 @@ pub fn remaining_rows(
 ) -> Result<Vec<Items<ValueRef>>, Error>
     ensures ok { let rows_of = rows_meeting old.now.places (table_of columns.now rows.items) delete.now.condition in
         IfOk result (λ kept. kept.items ≡ rows_of false) }
-    ensures released {
-        let rows_of = rows_meeting old.now.places (table_of columns.now rows.items) delete.now.condition in
+    ensures released { let rows_of = rows_meeting old.now.places (table_of columns.now rows.items) delete.now.condition in
         OnOk result (in_use pool.new ≡ rows_released (in_use pool.old) (rows_of true)) }
     ensures kind { OnlyMemory result }
     ensures page { pool.new.pool.page ≡ pool.old.pool.page }

@@ -241,7 +241,11 @@ impl<'a> RowUpdate<'a> {
     {
         let mut views = views_of_cells(alloc, pool, row)?;
         if self.filter.meets(alloc, pool, row)? {
-            set_views(&mut views, self.places.as_slice(), self.update.sets.as_slice());
+            set_views(
+                &mut views,
+                self.places.as_slice(),
+                self.update.sets.as_slice(),
+            );
         }
         Key::of_row(alloc, self.columns, views.as_slice())
     }
