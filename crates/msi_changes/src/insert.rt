@@ -24,11 +24,15 @@ const MOST_ROWS: usize = 65_536;
 fn row_fits(columns: &[Column], row: &[Value]) -> bool
     ensures { result ≡ fits_columns columns.now row.now }
 {
-    row.len() == columns.len()
-        && columns
-            .iter()
-            .zip(row)
-            .all(|(column, value)| column.is_valid_value(value))
+    if row.len() != columns.len() {
+        return false;
+    }
+    for i in 0..columns.len() {
+        if !columns[i].is_valid_value(&row[i]) {
+            return false;
+        }
+    }
+    true
 }
 
 /// Refuses rows that don't fit the columns.

@@ -7,6 +7,7 @@ pub mod delete;
 pub mod drop;
 pub mod insert;
 mod keys;
+pub mod laws;
 mod reasons;
 pub mod texts;
 pub mod update;
