@@ -1,19 +1,23 @@
 -- An update of rows: its new values, and why it is refused.
-use Rattle.std.proofs.Common.{◌≡◌, ℕ, ◌+◌, ◌<◌, ◌≤◌, Bool, true, false, not, ◌&&◌, List, [], ◌∷◌, ◌++◌, length, map, take, drop, set, get_or, Option, Some, None, option_map, option_and_then, fold, Result, Ok, Err, refl, sym, ap, ◌∙◌, subst, inl, inr}
+use Rattle.std.proofs.Common.{◌≡◌, ℕ, ◌+◌, ◌<◌, Bool, true, false, not, ◌&&◌, List, [], ◌∷◌, ◌++◌, length, map, take, set, get_or, Some, None, fold, refl, sym, ap, ◌∙◌, ⊎_elim}
 use Rattle.std.specs.List.{list_all}
-use Rattle.std.proofs.lemmas.List.{drop_all, drop_more, get_or-map, take_more}
-use Rattle.std.proofs.lemmas.Option.{none-some, same_Some}
+use Rattle.std.proofs.lemmas.Bool.{and_parts, cases_Bool}
+use Rattle.std.proofs.lemmas.List.{get_or-map, take_more}
 use Rattle.msi_text.specs.declared.errors.ErrorKind.{ErrorKind}
-use Rattle.msi_text.specs.declared.errors.ErrorKind.TheVariants.{InvalidInput, OutOfMemory}
-use Rattle.msi_relation.specs.Refusals.{IsRefusal, Refusals, first_refusal, or_refused}
+use Rattle.msi_text.specs.declared.errors.ErrorKind.TheVariants.{AlreadyExists, InvalidInput}
+use Rattle.msi_text.specs.Lists.{has_pair}
+use Rattle.msi_text.specs.Pool.{Place}
+use Rattle.msi_relation.specs.Refusals.{IsRefusal, Refusals, first_refusal, unless_refused}
+use Rattle.msi_relation.specs.Selection.{condition_names, has_columns}
 use Rattle.msi_table.specs.declared.value.Value.{Value}
 use Rattle.msi_table.specs.declared.value.ValueRef.{ValueRef}
-use Rattle.msi_table.specs.Cells.{cell_of}
 use Rattle.msi_table.specs.Columns.{ColumnDef}
-use Rattle.msi_changes.specs.Changes.{PoolInUse}
-use Rattle.msi_changes.specs.RowUpdates.{cell_exchanged}
-use Rattle.msi_changes.specs.Texts.{cell_put, cell_released}
-use Rattle.msi_changes.specs.Update.{cells_set, index_of, values_set}
+use Rattle.msi_table.specs.StoredOrder.{row_values}
+use Rattle.msi_query.specs.Queries.{UpdateQuery}
+use Rattle.msi_changes.specs.Keyed.{key_of, same_key}
+use Rattle.msi_changes.specs.RowUpdates.{RowUpdateDef, row_set, table_of}
+use Rattle.msi_changes.specs.Update.{index_of, set_is_valid, sets_key, update_refusals, values_after, values_set}
+use Rattle.msi_changes.proofs.KeySetLemmas.{refused}
 
 fold_pushed : {A B : Type 0} (f : B → A → B) (b : B) (xs : List A) (x : A) → fold f b (xs ++ x ∷ []) ≡ f (fold f b xs) x
 fold_pushed f b [] x = refl
@@ -31,55 +35,62 @@ values_set_more columns sets row i s h at =
     ap (λ (ss : List (List ℕ × Value)). values_set columns ss row) (take_more sets i s h ∙ ap (λ (x : List ℕ × Value). take i sets ++ x ∷ []) (sym at))
     ∙ fold_pushed (λ (row : List Value) (s : List ℕ × Value). set row (index_of columns s) s.1) row (take i sets) s
 
--- what goes on from a cell that was exchanged
-goes_on : {A : Type 0} (F : PoolInUse → List ValueRef → Option A) (row : List ValueRef) (place : ℕ) (o : Option (ValueRef × PoolInUse)) (x : List ValueRef × PoolInUse)
-    → option_map (λ (r : ValueRef × PoolInUse). (set row place r.0, r.1)) o ≡ Some x → option_and_then (λ r. F r.1 (set row place r.0)) o ≡ F x.1 x.0
-goes_on F row place None x e = absurd (none-some x e)
-goes_on F row place (Some r) x e = ap (λ (y : List ValueRef × PoolInUse). F y.1 y.0) (same_Some (set row place r.0, r.1) x e)
-
-stops : {A : Type 0} (F : PoolInUse → List ValueRef → Option A) (row : List ValueRef) (place : ℕ) (o : Option (ValueRef × PoolInUse)) (kind : ErrorKind)
-    → IsRefusal (or_refused InvalidInput (option_map (λ (r : ValueRef × PoolInUse). (set row place r.0, r.1)) o)) kind → IsRefusal (or_refused InvalidInput (option_and_then (λ r. F r.1 (set row place r.0)) o)) kind
-stops F row place o kind (inl memory) = inl memory
-stops F row place None kind (inr e) = inr (ap_kind e) where
-  ap_kind : ◌≡◌ {A = Result (List ValueRef × PoolInUse) ErrorKind} (Err InvalidInput) (Err kind) → ◌≡◌ {A = Result A ErrorKind} (Err InvalidInput) (Err kind)
-  ap_kind e = cc
-stops F row place (Some r) kind (inr e) = cc
-
-module _ (long : Bool) (columns : List ColumnDef) (sets : List (List ℕ × Value)) (pool : PoolInUse) (row : List ValueRef) (i : ℕ) (s : List ℕ × Value) (place : ℕ)
-    (inside : i < length sets) (at : s ≡ get_or sets i s) (place_is : place ≡ index_of columns s) where
-  abbrev rest : PoolInUse → List ValueRef → Option (List ValueRef × PoolInUse)
-  rest p r = cells_set long columns p r (drop (i + 1) sets)
-
-  unrolled : cells_set long columns pool row (drop i sets) ≡ option_and_then (λ r. rest r.1 (set row place r.0)) (cell_put long (cell_released pool (cell_of row place)) s.1)
-  unrolled = ap (cells_set long columns pool row) (drop_more sets i s inside ∙ ap (λ (x : List ℕ × Value). x ∷ drop (i + 1) sets) (sym at))
-      ∙ ap (λ j. option_and_then (λ r. rest r.1 (set row j r.0)) (cell_put long (cell_released pool (cell_of row j)) s.1)) (sym place_is)
-
-  pub set_goes_on : (new : List ValueRef × PoolInUse) → cell_exchanged long pool row place s.1 ≡ Some new → cells_set long columns pool row (drop i sets) ≡ cells_set long columns new.1 new.0 (drop (i + 1) sets)
-  set_goes_on new e = unrolled ∙ goes_on rest row place (cell_put long (cell_released pool (cell_of row place)) s.1) new e
-
-  pub set_stops : (kind : ErrorKind) → IsRefusal (or_refused InvalidInput (cell_exchanged long pool row place s.1)) kind → IsRefusal (or_refused InvalidInput (cells_set long columns pool row (drop i sets))) kind
-  set_stops kind e = subst (λ (o : Option (List ValueRef × PoolInUse)). IsRefusal (or_refused InvalidInput o) kind) (sym unrolled)
-      (stops rest row place (cell_put long (cell_released pool (cell_of row place)) s.1) kind e)
-
-pub all_set : (long : Bool) (columns : List ColumnDef) (sets : List (List ℕ × Value)) (pool : PoolInUse) (row : List ValueRef) (i : ℕ) → length sets ≤ i → cells_set long columns pool row (drop i sets) ≡ Some (row, pool)
-all_set long columns sets pool row i h = rw (drop_all i sets h) refl
-
 -- the first item that fails a test refuses
-pub one_fails : {X : Type 0} (p : X → Bool) (kind : ErrorKind) (xs : List X) (rest : Refusals) → list_all p xs ≡ false → first_refusal (map (λ x. (not (p x), kind)) xs ++ rest) ≡ Some kind
-one_fails p kind [] rest e = cc
-one_fails p kind (x ∷ xs) rest e = by_test (p x) refl e where
-  by_test : (b : Bool) → p x ≡ b → (b && list_all p xs) ≡ false → first_refusal (map (λ x. (not (p x), kind)) (x ∷ xs) ++ rest) ≡ Some kind
-  by_test true is e = rw is (one_fails p kind xs rest e)
-  by_test false is e = rw is refl
+module _ {X : Type 0} (p : X → Bool) (kind : ErrorKind) where
+  abbrev faults : List X → Refusals
+  faults xs = map (λ x. (not (p x), kind)) xs
 
-pub all_pass : {X : Type 0} (p : X → Bool) (kind : ErrorKind) (xs : List X) (rest : Refusals) → list_all p xs ≡ true → first_refusal (map (λ x. (not (p x), kind)) xs ++ rest) ≡ first_refusal rest
-all_pass p kind [] rest e = refl
-all_pass p kind (x ∷ xs) rest e = by_test (p x) refl e where
-  by_test : (b : Bool) → p x ≡ b → (b && list_all p xs) ≡ true → first_refusal (map (λ x. (not (p x), kind)) (x ∷ xs) ++ rest) ≡ first_refusal rest
-  by_test true is e = rw is (all_pass p kind xs rest e)
-  by_test false is e = cc
+  one_fails : (xs : List X) (others : Refusals) → list_all p xs ≡ false → first_refusal (faults xs ++ others) ≡ Some kind
+  one_fails [] others e = cc
+  one_fails (x ∷ xs) others e = ⊎_elim
+      (λ (t : p x ≡ true). let later : list_all p xs ≡ false = ap (λ b. b && list_all p xs) (sym t) ∙ e in rw t (one_fails xs others later))
+      (λ (t : p x ≡ false). rw t refl)
+      (cases_Bool (p x))
 
--- two maps in one
-pub map_map : {X Y Z : Type 0} (f : Y → Z) (g : X → Y) (xs : List X) → map (λ x. f (g x)) xs ≡ map f (map g xs)
-map_map f g [] = refl
-map_map {Z = Z} f g (x ∷ xs) = ap (λ (l : List Z). f (g x) ∷ l) (map_map f g xs)
+  all_pass : (xs : List X) (others : Refusals) → list_all p xs ≡ true → first_refusal (faults xs ++ others) ≡ first_refusal others
+  all_pass [] others e = refl
+  all_pass (x ∷ xs) others e = let parts = and_parts (p x) (list_all p xs) e in rw parts.0 (all_pass xs others parts.1)
+
+-- why an update is refused
+module _ (places : List Place) (columns : List ColumnDef) (rows : List (List ValueRef)) (q : UpdateQuery) where
+  abbrev pub refusals : Refusals
+  refusals = update_refusals places (table_of columns rows) q
+
+  abbrev pub sets_valid : Bool
+  sets_valid = list_all (set_is_valid columns) q.sets
+
+  abbrev pub names_known : Bool
+  names_known = has_columns columns (condition_names q.condition)
+
+  abbrev pub keys_collide : Bool
+  keys_collide = has_pair same_key (map (key_of columns) (values_after (table_of columns rows) q (map (row_values places) rows)))
+
+  abbrev late : Refusals
+  late = (not names_known, InvalidInput) ∷ (sets_key columns q.sets && keys_collide, AlreadyExists) ∷ []
+
+  pub set_refused : sets_valid ≡ false → IsRefusal {A = Unit {0}} (unless_refused refusals tt) InvalidInput
+  set_refused e = refused refusals InvalidInput (one_fails (set_is_valid columns) InvalidInput q.sets late e)
+
+  pub condition_refused : sets_valid ≡ true → names_known ≡ false → IsRefusal {A = Unit {0}} (unless_refused refusals tt) InvalidInput
+  condition_refused e k = refused refusals InvalidInput (all_pass (set_is_valid columns) InvalidInput q.sets late e ∙ rw k refl)
+
+  pub collision_refused : sets_valid ≡ true → names_known ≡ true → sets_key columns q.sets ≡ true → keys_collide ≡ true → IsRefusal {A = Unit {0}} (unless_refused refusals tt) AlreadyExists
+  collision_refused e k s h = refused refusals AlreadyExists (all_pass (set_is_valid columns) InvalidInput q.sets late e ∙ rw (k, s, h) refl)
+
+  pub no_key_set : sets_valid ≡ true → names_known ≡ true → sets_key columns q.sets ≡ false → first_refusal refusals ≡ None
+  no_key_set e k s = all_pass (set_is_valid columns) InvalidInput q.sets late e ∙ rw (k, s) refl
+
+  pub no_collision : sets_valid ≡ true → names_known ≡ true → sets_key columns q.sets ≡ true → keys_collide ≡ false → first_refusal refusals ≡ None
+  no_collision e k s h = all_pass (set_is_valid columns) InvalidInput q.sets late e ∙ rw (k, s, h) refl
+
+-- the keys after an update, row by row
+pub keys_are : (u : RowUpdateDef) (places : List Place) (rows : List (List ValueRef))
+    → map (λ row. key_of u.columns (row_set u (row_values places row))) rows ≡ map (key_of u.columns) (map (row_set u) (map (row_values places) rows))
+keys_are u places [] = refl
+keys_are u places (row ∷ rows) = ap (λ (keys : List (List Value)). key_of u.columns (row_set u (row_values places row)) ∷ keys) (keys_are u places rows)
+
+pub same_under_not : (a b : Bool) → not a ≡ not b → a ≡ b
+same_under_not true true e = refl
+same_under_not true false e = sym e
+same_under_not false true e = sym e
+same_under_not false false e = refl

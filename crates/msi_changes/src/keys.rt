@@ -129,11 +129,7 @@ impl Eq for Key<'_> {
 ///
 /// # Errors
 /// `OutOfMemory`.
-fn key_of_values<'a>(
-    alloc: Global,
-    columns: &[Column],
-    row: &'a [Value],
-) -> Result<Key<'a>, Error>
+fn key_of_values<'a>(alloc: Global, columns: &[Column], row: &'a [Value]) -> Result<Key<'a>, Error>
     ensures ok { IfOk result (λ key. key ≡ key_of columns.now row.now) }
     ensures kind { OnlyMemory result }
 {

@@ -3,6 +3,8 @@
 
 mod conditions;
 pub mod create;
+pub mod delete;
+pub mod drop;
 pub mod insert;
 mod keys;
 pub mod laws;

@@ -24,13 +24,16 @@ pub(crate) const COLUMN_COUNT: Reason = Reason("a new table has 1 to 32 columns"
 
 pub(crate) const NO_KEY: Reason = Reason("a new table has a key column");
 
-pub(crate) const COLUMN_NAMES: Reason =
-    Reason("the columns of a new table are named by identifiers, no two alike");
+pub(crate) const COLUMN_NAMES: Reason = Reason(
+    "the columns of a new table are named by identifiers, no two alike",
+);
 
-pub(crate) const COLUMN_LENGTH: Reason =
-    Reason("a new column limits its texts to at most 255 characters");
+pub(crate) const COLUMN_LENGTH: Reason = Reason(
+    "a new column limits its texts to at most 255 characters",
+);
 
-pub(crate) const BINARY_MARKED: Reason =
-    Reason("a new column of streams is neither a key nor localizable");
+pub(crate) const BINARY_MARKED: Reason = Reason(
+    "a new column of streams is neither a key nor localizable",
+);
 
 pub(crate) const SEMICOLON: Reason = Reason("a listed text of a new column has no semicolon");

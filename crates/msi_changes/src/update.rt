@@ -241,7 +241,11 @@ impl<'a> RowUpdate<'a> {
     {
         let mut views = views_of_cells(alloc, pool, row)?;
         if self.filter.meets(alloc, pool, row)? {
-            set_views(&mut views, self.places.as_slice(), self.update.sets.as_slice());
+            set_views(
+                &mut views,
+                self.places.as_slice(),
+                self.update.sets.as_slice(),
+            );
         }
         Key::of_row(alloc, self.columns, views.as_slice())
     }
@@ -293,6 +297,25 @@ impl<'a> RowUpdate<'a> {
         Ok(keys)
     }
 
+    /// Whether two rows share a key after the update. It takes the rows times a logarithm.
+    ///
+    /// # Errors
+    /// `OutOfMemory`.
+    fn keys_collide(
+        &self,
+        alloc: Global,
+        pool: &'a StringPool,
+        rows: &[Items<ValueRef>],
+    ) -> Result<bool, Error>
+        ensures ok { let values = values_after (table_of self.now.columns rows.now) self.now.query in
+            IfOk result (λ collide. collide
+            ≡ has_pair same_key (map (key_of self.now.columns) (values (map (row_values pool.now.places) rows.now)))) }
+        ensures kind { OnlyMemory result }
+    {
+        let keys = self.keys_after(alloc, pool, rows)?;
+        Ok(distinct_keys(alloc, keys)?.is_none())
+    }
+
     /// The rows after the update, in their order.
     ///
     /// # Errors
@@ -319,11 +342,11 @@ impl<'a> RowUpdate<'a> {
     }
 }
 
-/// Whether two rows share a key after an update. It takes the rows times a logarithm.
+/// Whether two rows of a table share a key after an update.
 ///
 /// # Errors
 /// `OutOfMemory`.
-fn keys_collide(
+fn shares_key(
     alloc: Global,
     pool: &StringPool,
     columns: &[Column],
@@ -331,13 +354,12 @@ fn keys_collide(
     update: &UpdateParts,
 ) -> Result<bool, Error>
     ensures ok { let values = values_after (table_of columns.now rows.now) (update_of update.now) in
-        IfOk result (λ collide. collide
+        IfOk result (λ shares. shares
         ≡ has_pair same_key (map (key_of columns.now) (values (map (row_values pool.now.places) rows.now)))) }
     ensures kind { OnlyMemory result }
 {
     let update = RowUpdate::new(alloc, columns, update)?;
-    let keys = update.keys_after(alloc, pool, rows)?;
-    Ok(distinct_keys(alloc, keys)?.is_none())
+    update.keys_collide(alloc, pool, rows)
 }
 
 /// Refuses an update of a table's rows, whose texts stand in the pool.
@@ -365,7 +387,10 @@ pub fn refuse_update(
     if !knows_condition(columns, update.condition.as_ref()) {
         return Err(Error::new(ErrorKind::InvalidInput, reasons::CONDITION_COLUMN));
     }
-    if sets_key(columns, sets) && keys_collide(alloc, pool, columns, rows, update)? {
+    if !sets_key(columns, sets) {
+        return Ok(());
+    }
+    if shares_key(alloc, pool, columns, rows, update)? {
         return Err(Error::new(ErrorKind::AlreadyExists, reasons::KEY_COLLIDES));
     }
     Ok(())

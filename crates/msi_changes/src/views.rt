@@ -25,7 +25,7 @@ pub(crate) enum ValueView<'a> {
 
 impl<'a> ValueView<'a> {
     /// The value that a cell stands for, its text where it lies in the pool.
-    fn of_cell(pool: &'a StringPool, cell: ValueRef) -> ValueView<'a>
+    pub(crate) fn of_cell(pool: &'a StringPool, cell: ValueRef) -> ValueView<'a>
         ensures { seen_value result ≡ value_of_cell pool.now.places cell }
     {
         match cell {
@@ -49,7 +49,7 @@ impl<'a> ValueView<'a> {
     }
 
     /// How it stands to another in the order of values.
-    fn compare(self, other: ValueView) -> Ordering
+    pub(crate) fn compare(self, other: ValueView) -> Ordering
         ensures { result ≡ value_cmp (seen_value self.entry) (seen_value other.entry) }
     {
         match self {

@@ -15,7 +15,7 @@ returns-then-contains-clause-kind c = λ keys has.
     let all : List (List Value) = map (key_of c.args.columns.now) c.args.new_rows.now in
     let inside : i < length all = rw length-map (omega arith) in
     let at : get_or all i key ≡ key = key_at c.args.columns.now c.args.new_rows.now i c.row-item.result key (omega arith) c.row-item.is
-        (c.in_ok-key.ensures.ok ∙ ap (key_of c.args.columns.now) c.as_slice.ensures) in
+    (c.in_ok-key.ensures.ok ∙ ap (key_of c.args.columns.now) c.as_slice.ensures) in
     rw c.new.ensures (refused (key_refusals keys [] all) AlreadyExists
     (c.loop-row.invariant.passed keys has ∙ held_refused keys all i key inside at (sym (has key) ∙ sym c.contains.ensures ∙ c.if-contains.true)))
 
@@ -26,7 +26,7 @@ returns-then-not-branch-clause-kind c = λ keys has.
     let all : List (List Value) = map (key_of c.args.columns.now) c.args.new_rows.now in
     let inside : i < length all = rw length-map (omega arith) in
     let at : get_or all i key ≡ key = key_at c.args.columns.now c.args.new_rows.now i c.row-item.result key (omega arith) c.row-item.is
-        (c.in_ok-key.ensures.ok ∙ ap (key_of c.args.columns.now) c.as_slice.ensures) in
+    (c.in_ok-key.ensures.ok ∙ ap (key_of c.args.columns.now) c.as_slice.ensures) in
     let there = not-false _ (sym c.in_ok-insert.ensures.added ∙ c.if-not-branch.true) in
     rw c.new-then-not-branch.ensures (refused (key_refusals keys [] all) InvalidInput
     (c.loop-row.invariant.passed keys has ∙ again_refused keys all i key inside at
@@ -39,7 +39,7 @@ loop-row-preserved c =
     let all : List (List Value) = map (key_of c.args.columns.now) c.args.new_rows.now in
     let inside : i < length all = rw length-map (omega arith) in
     let at : get_or all i key ≡ key = key_at c.args.columns.now c.args.new_rows.now i c.row-item.result key (omega arith) c.row-item.is
-        (c.in_ok-key.ensures.ok ∙ ap (key_of c.args.columns.now) c.as_slice.ensures) in
+    (c.in_ok-key.ensures.ok ∙ ap (key_of c.args.columns.now) c.as_slice.ensures) in
     let absent = not-true _ (sym c.in_ok-insert.ensures.added ∙ c.if-not-branch.false) in
     record {
       known = keys_to c.insert.new.self all i key inside at (keys_more c.loop-row.earlier c.insert.new.self _ key c.loop-row.invariant.known c.in_ok-insert.ensures.updates);
