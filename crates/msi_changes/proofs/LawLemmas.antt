@@ -17,7 +17,7 @@ use Rattle.msi_changes.specs.Update.{update_rows, values_after}
 use Rattle.msi_changes.specs.Delete.{delete_rows}
 use Rattle.msi_changes.specs.Create.{create_table}
 use Rattle.msi_changes.specs.Drop.{drop_table}
-use Rattle.msi_changes.specs.Laws.{rows_at, OthersStay, KeysAreDistinct, IsChange, inserted, updated, deleted, IsTableChange, created, dropped, Keeps, InsertAddsItsRows, UpdateSetsItsRows, DeleteRemovesItsRows, ChangesKeep, TableChangesKeep, CountsTellTexts}
+use Rattle.msi_changes.specs.Laws.{rows_at, OthersStay, KeysAreDistinct, IsChange, inserted, updated, deleted, IsTableChange, created, dropped, Keeps, InsertAddsItsRows, UpdateSetsItsRows, DeleteRemovesItsRows, ChangesKeep, TableChangesKeep, CountsTellTexts, RowsFit}
 use Rattle.msi_table.specs.Columns.{ColumnDef}
 use Rattle.msi_changes.proofs.KeysLemmas.{inserted_distinct}
 use Rattle.msi_changes.proofs.KeysKeptLemmas.{delete_distinct, update_distinct}
@@ -26,6 +26,7 @@ use Rattle.msi_changes.proofs.DropLemmas.{drop_keeps}
 use Rattle.msi_changes.proofs.DropLemmas as steps
 use Rattle.msi_changes.proofs.TableKeysLemmas.{create_distinct, drop_distinct}
 use Rattle.msi_changes.proofs.TextCountLemmas.{counts_of_text}
+use Rattle.msi_changes.proofs.FitsKeptLemmas.{change_fits, create_fits, drop_fits}
 use Rattle.msi_changes.proofs.SoundLemmas.{names_are_numbers}
 use Rattle.msi_changes.proofs.StoredLemmas.{WellFormed, table_is_full}
 use Rattle.msi_changes.proofs.InsertLemmas.{insert_parts, insert_sound, insert_well, insert_exact, insert_adds}
@@ -123,18 +124,19 @@ module _ (takes : TakenPlacesHoldTheirText) (gives : GivenBackTakesOne) where
       let well = well_formed_from d formed in record {
         formed = well_formed_to c.database (changes_keep_form d c change well);
         sound = changes_keep_soundness d c change well sound;
+        fits = change_fits takes gives d c change sound;
         counts = changes_keep_counts d c change well sound;
         keys = changes_keep_keys d c change well;
       }
 
-  keeps_by : (d : Database) (c : Change) → steps.Keeps d c.database → (KeysAreDistinct d → KeysAreDistinct c.database) → Keeps d c.database
-  keeps_by d c kept keys = record { formed = well_formed_to c.database kept.well; sound = kept.sound; counts = kept.exact; keys = keys }
+  keeps_by : (d : Database) (c : Change) → steps.Keeps d c.database → (RowsFit d → RowsFit c.database) → (KeysAreDistinct d → KeysAreDistinct c.database) → Keeps d c.database
+  keeps_by d c kept fits keys = record { formed = well_formed_to c.database kept.well; sound = kept.sound; fits = fits; counts = kept.exact; keys = keys }
 
   pub table_changes_keep : TableChangesKeep
   table_changes_keep d c (created name columns e) formed sound =
-      let well = well_formed_from d formed in keeps_by d c (create_table_keeps d name columns c well e) (create_distinct takes gives d name columns c well e)
+      let well = well_formed_from d formed in keeps_by d c (create_table_keeps d name columns c well e) (create_fits takes gives d name columns c well e) (create_distinct takes gives d name columns c well e)
   table_changes_keep d c (dropped name e) formed sound =
-      let well = well_formed_from d formed in keeps_by d c (drop_table_keeps d name c well e) (drop_distinct takes gives d name c well e)
+      let well = well_formed_from d formed in keeps_by d c (drop_table_keeps d name c well e) (drop_fits takes gives d name c well e) (drop_distinct takes gives d name c well e)
 
 pub counts_tell : CountsTellTexts
 counts_tell d text formed sound exact = counts_of_text d text sound (well_formed_from d formed) exact

@@ -29,7 +29,9 @@ use Rattle.msi_changes.specs.Changes.{Change, PoolInUse, no_change, pool_of, wit
 use Rattle.msi_changes.specs.Delete.{rows_meeting}
 use Rattle.msi_changes.specs.Keyed.{in_key_order}
 use Rattle.msi_changes.specs.Texts.{rows_released}
-use Rattle.msi_changes.specs.Laws.{rows_at, LeadingNumbersAscend, LeadingNumbersAscendIn, inserted, updated, deleted}
+use Rattle.msi_changes.specs.Laws.{rows_at, RowsFit, LeadingNumbersAscend, LeadingNumbersAscendIn, IsChange, inserted, updated, deleted}
+use Rattle.msi_changes.proofs.FitsKeptLemmas.{change_fits}
+use Rattle.msi_text.specs.FirstFitLaws.{TakenPlacesHoldTheirText, GivenBackTakesOne}
 use Rattle.msi_changes.proofs.DescribingLemmas.{rows_at_is}
 use Rattle.msi_changes.proofs.KindsKeptLemmas.{all_permuted}
 use Rattle.msi_changes.proofs.InsertLemmas.{insert_parts}
@@ -67,8 +69,8 @@ fits_now long t u same h = subst (λ (t : TableCells). IsSomeAnd t.rows (FitsTab
 
 module _ (ascend : sorted.LeadingNumbersAscend) where
   -- a table that was stored anew
-  leading_stored : (d : Database) (name : List ℕ) (columns : List ColumnDef) (rows : List (List ValueRef)) (pool : PoolInUse) → LeadingNumbersAscendIn (with_stored name columns rows pool (no_change d))
-  leading_stored d name columns rows pool n t first others is at fit has numbers plain =
+  leading_stored : (d : Database) (name : List ℕ) (columns : List ColumnDef) (rows : List (List ValueRef)) (pool : PoolInUse) → RowsFit (with_stored name columns rows pool (no_change d)).database → LeadingNumbersAscendIn (with_stored name columns rows pool (no_change d))
+  leading_stored d name columns rows pool fit n t first others is at has numbers plain =
       let c = with_stored name columns rows pool (no_change d) in
       let new : TableCells = record { columns = columns; rows = Some (in_stored_order columns rows) } in
       let same : name ≡ n = cc in
@@ -80,14 +82,21 @@ module _ (ascend : sorted.LeadingNumbersAscend) where
       (sym (rows_are ∙ ap (λ (columns : List ColumnDef). map (row_values c.database.pool.places) (in_stored_order columns rows)) leads))
       (ascending ascend d.pool.long first others c.database.pool.places rows numbers plain
       (subst (λ (columns : List ColumnDef). AllByRecursion (FitsRow d.pool.long (types_of columns)) (in_stored_order columns rows)) leads
-      (fits_now d.pool.long t new table fit).each_row))
+      (fits_now d.pool.long t new table (fit.tables n t at)).each_row))
+
+module _ (takes : TakenPlacesHoldTheirText) (gives : GivenBackTakesOne) (ascend : sorted.LeadingNumbersAscend) where
+  leading_in : (d : Database) (c : Change) → IsChange d c → RowsFit c.database → LeadingNumbersAscendIn c
+  leading_in d c (inserted q e) =
+      let s = (insert_parts d q c e).1 in
+      subst (λ (c : Change). RowsFit c.database → LeadingNumbersAscendIn c) s.stored
+      (leading_stored ascend d q.table s.table.columns (in_key_order s.table.columns s.put.1.places (rows_of s.table ++ s.put.0)) s.put.1)
+  leading_in d c (updated q e) =
+      let s = update_parts d q c e in
+      subst (λ (c : Change). RowsFit c.database → LeadingNumbersAscendIn c) s.stored (leading_stored ascend d q.table s.table.columns s.rows.0 s.rows.1)
+  leading_in d c (deleted q e) =
+      let s = delete_parts d q c e in
+      subst (λ (c : Change). RowsFit c.database → LeadingNumbersAscendIn c) s.stored
+      (leading_stored ascend d q.table s.table.columns (rows_meeting d.pool.places s.table q.condition false) (rows_released (pool_of (no_change d)) (rows_meeting d.pool.places s.table q.condition true)))
 
   pub leading_ascend : LeadingNumbersAscend
-  leading_ascend d c (inserted q e) =
-      let s = (insert_parts d q c e).1 in subst LeadingNumbersAscendIn s.stored 
-      (leading_stored d q.table s.table.columns (in_key_order s.table.columns s.put.1.places (rows_of s.table ++ s.put.0)) s.put.1)
-  leading_ascend d c (updated q e) =
-      let s = update_parts d q c e in subst LeadingNumbersAscendIn s.stored (leading_stored d q.table s.table.columns s.rows.0 s.rows.1)
-  leading_ascend d c (deleted q e) =
-      let s = delete_parts d q c e in subst LeadingNumbersAscendIn s.stored 
-      (leading_stored d q.table s.table.columns (rows_meeting d.pool.places s.table q.condition false) (rows_released (pool_of (no_change d)) (rows_meeting d.pool.places s.table q.condition true)))
+  leading_ascend d c change formed sound fit = leading_in d c change (change_fits takes gives d c change sound fit)

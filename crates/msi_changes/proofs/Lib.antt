@@ -16,6 +16,7 @@ pub mod DropRowsLemmas
 pub mod DropTracksLemmas
 pub mod DroppedLemmas
 pub mod FitTestLemmas
+pub mod FitsKeptLemmas
 pub mod InTurnLemmas
 pub mod InsertLemmas
 pub mod InsertedLemmas
@@ -49,6 +50,7 @@ pub mod TextCountLemmas
 pub mod TracksLemmas
 pub mod TurnLemmas
 pub mod UnlistedLemmas
+pub mod UpdateFitsLemmas
 pub mod UpdateLemmas
 pub mod UpdatedLemmas
 pub mod ValuesLemmas

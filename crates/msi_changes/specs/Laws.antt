@@ -54,6 +54,15 @@ DeleteRemovesItsRows = (d : Database) (q : DeleteQuery) (c : Change) (t : TableC
 abbrev pub KeysAreDistinct : Database → Type 0
 KeysAreDistinct d = (name : List ℕ) (t : TableCells) → table_at name d ≡ Some t → has_pair same_key (map (key_of t.columns) (rows_at name d)) ≡ false
 
+-- the rows of a table fit its columns
+abbrev pub TableFits : Database → TableCells → Type 0
+TableFits d t = IsSomeAnd t.rows (FitsTable d.pool.long (types_of t.columns))
+
+-- the rows of each table fit its columns, and those of a `_Validation` that is no table the standard ones
+pub record RowsFit (d : Database) : Type 0 where
+  pub tables : (name : List ℕ) (t : TableCells) → table_at name d ≡ Some t → TableFits d t
+  pub unlisted : AllByRecursion (FitsRow d.pool.long (types_of validation_columns)) d.unlisted_validation
+
 -- What an accepted change of rows makes of a database, and what one of tables does
 pub data IsChange (d : Database) (c : Change) : Type 0 where
   inserted : (q : InsertQuery) → insert_rows d q ≡ Ok c → IsChange d c
@@ -64,10 +73,11 @@ pub data IsTableChange (d : Database) (c : Change) : Type 0 where
   created : (name : List ℕ) (columns : List ColumnDef) → create_table d name columns ≡ Ok c → IsTableChange d c
   dropped : (name : List ℕ) → drop_table d name ≡ Ok c → IsTableChange d c
 
--- a database stays well formed and sound; exact counts stay exact, and distinct keys distinct
+-- a database stays well formed and sound; rows that fit still do, exact counts stay exact, and distinct keys distinct
 pub record Keeps (old new : Database) : Type 0 where
   pub formed : is_well_formed new ≡ true
   pub sound : is_sound new ≡ true
+  pub fits : RowsFit old → RowsFit new
   pub counts : CountsAreExact old → CountsAreExact new
   pub keys : KeysAreDistinct old → KeysAreDistinct new
 
@@ -85,19 +95,16 @@ CountsOfText d text = sum_by (λ place. if bytes_eq place.text text then place.c
 abbrev pub CountsTellTexts : Type 0
 CountsTellTexts = (d : Database) (text : List ℕ) → is_well_formed d ≡ true → is_sound d ≡ true → CountsAreExact d → CountsOfText d text
 
--- the rows of a table fit its columns
-abbrev pub TableFits : Database → TableCells → Type 0
-TableFits d t = IsSomeAnd t.rows (FitsTable d.pool.long (types_of t.columns))
-
--- after a change of rows the table's first values ascend, where they are numbers and their column isn't of category Binary
+-- the first values of the table that a change stores ascend, where they are numbers and their column isn't of category Binary
 abbrev pub LeadingNumbersAscendIn : Change → Type 0
 LeadingNumbersAscendIn c = (name : List ℕ) (t : TableCells) (first : ColumnDef) (others : List ColumnDef) → c.stored ≡ name ∷ []
-    → table_at name c.database ≡ Some t → TableFits c.database t → t.columns ≡ first ∷ others
+    → table_at name c.database ≡ Some t → t.columns ≡ first ∷ others
     → HoldsNumbers first.coltype → is_of_category_binary first.category ≡ false
     → IsSortedByKey (λ row. unwrap_or (slice_get row 0) Null) value_cmp (rows_at name c.database)
 
 abbrev pub LeadingNumbersAscend : Type 0
-LeadingNumbersAscend = (d : Database) (c : Change) → IsChange d c → LeadingNumbersAscendIn c
+LeadingNumbersAscend = (d : Database) (c : Change) → IsChange d c → is_well_formed d ≡ true → is_sound d ≡ true → RowsFit d
+    → LeadingNumbersAscendIn c
 
 -- the rows that describe tables; those of a `_Validation` that is no table are in its stream
 abbrev pub describing : Database → SchemaRows
@@ -111,11 +118,6 @@ describing d = record {
 -- the columns of tables by name
 abbrev pub columns_by_name : Database → List (List ℕ × List ColumnDef)
 columns_by_name d = map (λ t. (t.0, t.1.columns)) d.tables
-
--- the rows of each table fit its columns, and those of a `_Validation` that is no table the standard ones
-pub record RowsFit (d : Database) : Type 0 where
-  pub tables : (name : List ℕ) (t : TableCells) → table_at name d ≡ Some t → TableFits d t
-  pub unlisted : AllByRecursion (FitsRow d.pool.long (types_of validation_columns)) d.unlisted_validation
 
 -- the rows describe the tables that there are
 abbrev pub TablesAreDescribed : Database → Type 0

@@ -30,8 +30,8 @@ pub fn deletes_remove_their_rows()
     given_back_takes_one();
 }
 
-/// An accepted change of rows leaves a sound database well formed and sound, counts that equal the cells equal, and keys
-/// that are distinct distinct.
+/// An accepted change of rows leaves a sound database well formed and sound, rows that fit their columns fitting, counts
+/// that equal the cells equal, and keys that are distinct distinct.
 pub fn changes_keep_databases_sound()
     ensures { ChangesKeep }
 {
@@ -39,8 +39,8 @@ pub fn changes_keep_databases_sound()
     given_back_takes_one();
 }
 
-/// A table that is created or dropped leaves a sound database well formed and sound, counts that equal the cells equal,
-/// and keys that are distinct distinct.
+/// A table that is created or dropped leaves a sound database well formed and sound, rows that fit their columns fitting,
+/// counts that equal the cells equal, and keys that are distinct distinct.
 pub fn table_changes_keep_databases_sound()
     ensures { TableChangesKeep }
 {
@@ -59,6 +59,8 @@ pub fn counts_tell_texts()
 pub fn leading_numbers_ascend()
     ensures { LeadingNumbersAscend }
 {
+    taken_places_hold_their_text();
+    given_back_takes_one();
     msi_table::laws::leading_numbers_ascend();
 }
 
