@@ -19,7 +19,9 @@ use Rattle.msi_table.specs.StoredOrder.{in_stored_order, row_values}
 use Rattle.msi_table.proofs.SortedFitsLemmas.{sorted_fits}
 use Rattle.msi_query.specs.Queries.{UpdateQuery}
 use Rattle.msi_relation.specs.Rows.{TableCells}
-use Rattle.msi_schema.specs.System.{validation_columns}
+use Rattle.msi_schema.specs.Keys.{is_table_name}
+use Rattle.msi_schema.specs.System.{columns_name, tables_name, validation_columns, validation_name}
+use Rattle.std.specs.Str.{chars}
 use Rattle.msi_changes.specs.Database.{Database, table_at, rows_of, same_bool, is_sound}
 use Rattle.msi_query.specs.Conditions.{meets}
 use Rattle.msi_changes.specs.Changes.{Change, PoolInUse, no_change, pool_of, with_stored}
@@ -81,6 +83,19 @@ each_row columns long (Some rows) f = f.each_row
 width_of : (d : Database) → is_sound d ≡ true → length d.pool.places ≤ most_places d.pool.long
 width_of d sound = let w = (sound_parts d sound).width in grind (arith, nat_tests, w)
 
+-- the names of the system tables are names of tables
+tables_named : is_table_name tables_name ≡ true
+unfolding Rattle.std.specs.Str.chars
+tables_named = refl
+
+columns_named : is_table_name columns_name ≡ true
+unfolding Rattle.std.specs.Str.chars
+columns_named = refl
+
+validation_named : is_table_name validation_name ≡ true
+unfolding Rattle.std.specs.Str.chars
+validation_named = refl
+
 module _ (takes : TakenPlacesHoldTheirText) (gives : GivenBackTakesOne) where
   pub change_fits : (d : Database) (c : Change) → IsChange d c → is_sound d ≡ true → RowsFit d → RowsFit c.database
   change_fits d c (inserted q e) sound fit =
@@ -117,9 +132,9 @@ module _ (takes : TakenPlacesHoldTheirText) (gives : GivenBackTakesOne) where
   pub create_fits : (d : Database) (name : List ℕ) (columns : List ColumnDef) (c : Change) → WellFormed d → create_table d name columns ≡ Ok c → RowsFit d → RowsFit c.database
   create_fits d name columns c well e =
       let p = created d name columns c e in
-      tracked_fits d c (create_tracks takes gives d name columns c well p refl refl refl) (create_unlisted takes gives d name columns c well p)
+      tracked_fits d c (create_tracks takes gives d name columns c well p columns_named tables_named validation_named) (create_unlisted takes gives d name columns c well p)
 
   pub drop_fits : (d : Database) (name : List ℕ) (c : Change) → WellFormed d → drop_table d name ≡ Ok c → RowsFit d → RowsFit c.database
   drop_fits d name c well e =
       let p = dropped_parts d name c e in
-      tracked_fits d c (drop_tracks takes gives d name c well p refl refl refl) (drop_rows takes gives d name c well p).unlisted
+      tracked_fits d c (drop_tracks takes gives d name c well p validation_named columns_named tables_named) (drop_rows takes gives d name c well p).unlisted
