@@ -49,13 +49,13 @@ column_refusals columns = (not (nat_le 1 (length columns) && nat_le (length colu
     ∷ (list_any (λ c. is_binary c.coltype && (c.is_primary_key || c.is_localizable)) columns, InvalidInput)
     ∷ (list_any (λ c. list_any (list_any (λ b. b == 59)) c.enum_values) columns, InvalidInput) ∷ []
 
--- why a table of a name and columns isn't made, where a table of the name is there or isn't, and `_Validation` is or isn't
-abbrev pub new_table_refusals : List ℕ → List ColumnDef → Bool → Bool → Refusals
-new_table_refusals name columns is_there is_validation_there = (not (is_table_name name), InvalidInput)
-    ∷ column_refusals columns ++ (is_there, AlreadyExists) ∷ (not is_validation_there, NotFound) ∷ []
+-- why no table is made of a name and columns
+abbrev pub new_table_refusals : List ℕ → List ColumnDef → Refusals
+new_table_refusals name columns = (not (is_table_name name), InvalidInput) ∷ column_refusals columns
 
 abbrev pub table_refusals : Database → List ℕ → List ColumnDef → Refusals
-table_refusals d name columns = new_table_refusals name columns (has_table name d) (has_table validation_name d)
+table_refusals d name columns = new_table_refusals name columns
+    ++ (has_table name d, AlreadyExists) ∷ (not (has_table validation_name d), NotFound) ∷ []
 
 abbrev pub create_table : Database → List ℕ → List ColumnDef → Result Change ErrorKind
 create_table d name columns = unless_refused (sound_refusal d ++ table_refusals d name columns) (no_change d) >>=

@@ -130,7 +130,7 @@ fn refused(reason: Reason) -> Result<(), Error>
 /// `InvalidInput` where there are none or more than 32, where none is a key, where a name is no identifier or repeats,
 /// where a column limits its texts to more than 255 characters, where a column of streams is a key or localizable, or
 /// where a listed text has a semicolon.
-pub(crate) fn refuse_columns(columns: &[Column]) -> Result<(), Error>
+pub fn refuse_columns(columns: &[Column]) -> Result<(), Error>
     ensures { result ≡ unless_refused (column_refusals columns.now) tt }
 {
     if columns.is_empty() || columns.len() > MOST_COLUMNS {

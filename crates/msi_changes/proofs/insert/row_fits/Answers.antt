@@ -10,7 +10,7 @@ loop-i-preserved c =
     let i = c.loop-i.i in
     let valid : is_valid_value c.index-columns-i.result c.index-row-i.result ≡ true = sym c.is_valid_value.ensures ∙ c.if-not-is_valid_value.false in
     let next = fits_next columns row i c.index-columns-i.result c.index-row-i.result c.loop-i-test.true (omega (arith, c.loop-i-test.true, c.loop-i.invariant.wide))
-        c.index-columns-i.is c.index-row-i.is in
+    c.index-columns-i.is c.index-row-i.is in
     record {
       passed = sym (next ∙ ap (λ b. b && fits_from columns row (i + 1)) valid) ∙ c.loop-i.invariant.passed;
       wide = c.loop-i.invariant.wide;
