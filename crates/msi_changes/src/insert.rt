@@ -50,14 +50,14 @@ fn refuse_misfits(columns: &[Column], rows: &[Items<Value>]) -> Result<(), Error
     Ok(())
 }
 
-/// Refuses new rows of a table that has these columns and rows, whose texts stand in the pool. It takes the rows times a
-/// logarithm.
+/// Refuses new rows of a table that has these columns and rows, whose texts stand in the pool. It takes the rows
+/// times a logarithm.
 ///
 /// # Errors
-/// The first that holds: `InvalidInput` where a new row has a value too few or too many, or one that its column doesn't
-/// take; `InvalidData` where two of the table's rows share a key; then, row by row, `AlreadyExists` where a row's key is
-/// that of one of the table's, and `InvalidInput` where it is that of an earlier new one; `InvalidInput` where the table
-/// would have more than 65536 rows. At any time `OutOfMemory`.
+/// The first that holds: `InvalidInput` where a new row has a value too few or too many, or one that its column
+/// doesn't take; `InvalidData` where two of the table's rows share a key; then, row by row, `AlreadyExists` where a
+/// row's key is that of one of the table's, and `InvalidInput` where it is that of an earlier new one; `InvalidInput`
+/// where the table would have more than 65536 rows. At any time `OutOfMemory`.
 pub fn refuse_rows(
     alloc: Global,
     pool: &StringPool,
@@ -90,7 +90,8 @@ pub fn add_rows(
     rows: Vec<Items<ValueRef>>,
     new_rows: Vec<Items<Value>>,
 ) -> Result<Vec<Items<ValueRef>>, Error>
-    ensures ok { IfOk result (λ all. cells_added pool.old.pool.long columns.now (in_use pool.old) rows.items new_rows.items
+    ensures ok { IfOk result (λ all.
+        cells_added pool.old.pool.long columns.now (in_use pool.old) rows.items new_rows.items
         ≡ Some (all.items, in_use pool.new)) }
     ensures kind { let all = cells_added pool.old.pool.long columns.now (in_use pool.old) rows.items new_rows.items in
         IfErr result (IsRefusal (or_refused InvalidInput all)) }

@@ -12,8 +12,8 @@ pub fn inserts_add_their_rows()
     given_back_takes_one();
 }
 
-/// An accepted update sets its columns in exactly the rows whose condition counts as true, and every other table has the
-/// rows that it had.
+/// An accepted update sets its columns in exactly the rows whose condition counts as true, and every other table has
+/// the rows that it had.
 pub fn updates_set_their_rows()
     ensures { UpdateSetsItsRows }
 {
@@ -21,8 +21,8 @@ pub fn updates_set_their_rows()
     given_back_takes_one();
 }
 
-/// An accepted delete removes exactly the rows whose condition counts as true, and every other table has the rows that it
-/// had.
+/// An accepted delete removes exactly the rows whose condition counts as true, and every other table has the rows
+/// that it had.
 pub fn deletes_remove_their_rows()
     ensures { DeleteRemovesItsRows }
 {
@@ -30,8 +30,8 @@ pub fn deletes_remove_their_rows()
     given_back_takes_one();
 }
 
-/// An accepted change of rows leaves a sound database well formed and sound, rows that fit their columns fitting, counts
-/// that equal the cells equal, and keys that are distinct distinct.
+/// An accepted change of rows leaves a sound database well formed and sound, rows that fit their columns fitting,
+/// counts that equal the cells equal, and keys that are distinct distinct.
 pub fn changes_keep_databases_sound()
     ensures { ChangesKeep }
 {
@@ -39,8 +39,8 @@ pub fn changes_keep_databases_sound()
     given_back_takes_one();
 }
 
-/// A table that is created or dropped leaves a sound database well formed and sound, rows that fit their columns fitting,
-/// counts that equal the cells equal, and keys that are distinct distinct.
+/// A table that is created or dropped leaves a sound database well formed and sound, rows that fit their columns
+/// fitting, counts that equal the cells equal, and keys that are distinct distinct.
 pub fn table_changes_keep_databases_sound()
     ensures { TableChangesKeep }
 {
@@ -48,14 +48,14 @@ pub fn table_changes_keep_databases_sound()
     given_back_takes_one();
 }
 
-/// In a sound database whose counts equal its cells, the number of cells that hold a text is the sum of the counts of the
-/// places that hold it.
+/// In a sound database whose counts equal its cells, the number of cells that hold a text is the sum of the counts of
+/// the places that hold it.
 pub fn counts_tell_texts()
     ensures { CountsTellTexts }
 {}
 
-/// After an accepted change of rows the first values of its table ascend, where they are numbers and their column isn't of
-/// category Binary.
+/// After an accepted change of rows the first values of its table ascend, where they are numbers and their column
+/// isn't of category Binary.
 pub fn leading_numbers_ascend()
     ensures { LeadingNumbersAscend }
 {

@@ -73,7 +73,8 @@ impl PoolInUse {
     /// # Errors
     /// `InvalidInput` where the pool is full; `OutOfMemory`.
     pub fn put(&mut self, value: Value) -> Result<ValueRef, Error>
-        ensures ok { IfOk result (λ cell. cell_put self.old.pool.long (in_use self.old) value ≡ Some (cell, in_use self.new)) }
+        ensures ok { IfOk result (λ cell.
+            cell_put self.old.pool.long (in_use self.old) value ≡ Some (cell, in_use self.new)) }
         ensures kind { FailsWith InvalidInput result (cell_put self.old.pool.long (in_use self.old) value) }
         ensures page { self.new.pool.page ≡ self.old.pool.page }
         ensures long { self.new.pool.long ≡ self.old.pool.long }
