@@ -28,12 +28,12 @@ use Rattle.msi_changes.proofs.PutFitsLemmas.{CellOf, Both, as_many, joined_fit, 
 use Rattle.msi_changes.proofs.TracksLemmas.{Tracks, tracks_stored}
 use Rattle.msi_changes.proofs.CreateRowsLemmas.{first_step, second_step, is_sound_created}
 
-few_rows : (d : Database) (values : List (List Value)) (t : TableCells) → first_refusal (row_refusals d.pool.places t values) ≡ None → length (rows_of t) + length values ≤ 65536
+pub few_rows : (d : Database) (values : List (List Value)) (t : TableCells) → first_refusal (row_refusals d.pool.places t values) ≡ None → length (rows_of t) + length values ≤ 65536
 few_rows d values t e =
     let few = (first_fails (nat_lt 65536 (length (rows_of t) + length values)) InvalidInput [] (front_fails (row_faults values t ++ key_faults d values t) (length_faults values t) e).1).0 in
     grind (arith, nat_tests, few)
 
-tracked_from : (d : Database) → Tracks d (no_change d)
+pub tracked_from : (d : Database) → Tracks d (no_change d)
 tracked_from d = record { others = λ other e. refl; names = refl; kept = λ h. h; unused = λ e. refl; long = refl; fits = λ h. h }
 
 module _ (takes : TakenPlacesHoldTheirText) (gives : GivenBackTakesOne) where

@@ -1,5 +1,5 @@
 -- What creating a table does, and when it is refused.
-use Rattle.std.specs.Prelude.{ℕ, ◌+◌, Bool, true, false, not, List, [], ◌∷◌, ◌++◌, length, Option, Some, option_and_then, nat_lt, nat_le, ◌==◌, ◌&&◌, ◌||◌, bytes_eq, Result, Ok}
+use Rattle.std.specs.Prelude.{ℕ, Bool, true, false, not, List, [], ◌∷◌, ◌++◌, length, Option, Some, option_and_then, nat_lt, nat_le, ◌==◌, ◌&&◌, ◌||◌, bytes_eq, Result, Ok}
 use Rattle.std.specs.List.{list_any, list_all}
 use Rattle.msi_text.specs.declared.errors.ErrorKind.{ErrorKind}
 use Rattle.msi_text.specs.declared.errors.ErrorKind.TheVariants.{AlreadyExists, InvalidInput, NotFound}
@@ -7,7 +7,7 @@ use Rattle.msi_text.specs.CategoryRules.{is_identifier}
 use Rattle.msi_text.specs.Lists.{has_pair}
 use Rattle.msi_relation.specs.Refusals.{Refusals, unless_refused, ◌>>=◌}
 use Rattle.msi_table.specs.declared.value.Value.{Value}
-use Rattle.msi_table.specs.declared.value.Value.TheVariants.{Str, Binary}
+use Rattle.msi_table.specs.declared.value.Value.TheVariants.{Str}
 use Rattle.msi_table.specs.declared.column.ColumnType.{ColumnType}
 use Rattle.msi_table.specs.Columns.{ColumnDef}
 use Rattle.msi_schema.specs.Keys.{is_table_name}
@@ -41,16 +41,21 @@ abbrev pub is_binary : ColumnType → Bool
 is_binary coltype.Binary = true
 is_binary _ = false
 
-abbrev pub table_refusals : Database → List ℕ → List ColumnDef → Refusals
-table_refusals d name columns = (not (is_table_name name), InvalidInput)
-    ∷ (not (nat_le 1 (length columns) && nat_le (length columns) 32), InvalidInput)
+abbrev pub column_refusals : List ColumnDef → Refusals
+column_refusals columns = (not (nat_le 1 (length columns) && nat_le (length columns) 32), InvalidInput)
     ∷ (not (list_any (λ c. c.is_primary_key) columns), InvalidInput)
     ∷ (not (columns_are_named columns), InvalidInput)
     ∷ (list_any (λ c. is_too_long c.coltype) columns, InvalidInput)
     ∷ (list_any (λ c. is_binary c.coltype && (c.is_primary_key || c.is_localizable)) columns, InvalidInput)
-    ∷ (list_any (λ c. list_any (list_any (λ b. b == 59)) c.enum_values) columns, InvalidInput)
-    ∷ (has_table name d, AlreadyExists)
-    ∷ (not (has_table validation_name d), NotFound) ∷ []
+    ∷ (list_any (λ c. list_any (list_any (λ b. b == 59)) c.enum_values) columns, InvalidInput) ∷ []
+
+-- why no table is made of a name and columns
+abbrev pub new_table_refusals : List ℕ → List ColumnDef → Refusals
+new_table_refusals name columns = (not (is_table_name name), InvalidInput) ∷ column_refusals columns
+
+abbrev pub table_refusals : Database → List ℕ → List ColumnDef → Refusals
+table_refusals d name columns = new_table_refusals name columns
+    ++ (has_table name d, AlreadyExists) ∷ (not (has_table validation_name d), NotFound) ∷ []
 
 abbrev pub create_table : Database → List ℕ → List ColumnDef → Result Change ErrorKind
 create_table d name columns = unless_refused (sound_refusal d ++ table_refusals d name columns) (no_change d) >>=
