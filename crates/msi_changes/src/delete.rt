@@ -6,7 +6,7 @@ ghost use Rattle.msi_text.specs.declared.errors.ErrorKind.TheVariants.{InvalidIn
 ghost use Rattle.msi_relation.specs.Refusals.{unless_refused};
 ghost use Rattle.msi_relation.specs.Selection.{condition_names, has_columns};
 ghost use Rattle.msi_changes.specs.Delete.{rows_meeting};
-ghost use Rattle.msi_changes.specs.RowUpdates.{table_of};
+ghost use Rattle.msi_changes.specs.Insert.{table_with};
 ghost use Rattle.msi_changes.specs.Texts.{in_use, rows_released};
 
 use crate::conditions::knows_condition;
@@ -45,9 +45,9 @@ fn rows_failing(
     test: &RowFilter,
     rows: Vec<Items<ValueRef>>,
 ) -> Result<Vec<Items<ValueRef>>, Error>
-    ensures ok { let rows_of = rows_meeting old.now.places (table_of test.now.columns rows.items) test.now.condition in
+    ensures ok { let rows_of = rows_meeting old.now.places (table_with test.now.columns rows.items) test.now.condition in
         IfOk result (λ kept. kept.items ≡ rows_of false) }
-    ensures released { let rows_of = rows_meeting old.now.places (table_of test.now.columns rows.items) test.now.condition in
+    ensures released { let rows_of = rows_meeting old.now.places (table_with test.now.columns rows.items) test.now.condition in
         OnOk result (in_use pool.new ≡ rows_released (in_use pool.old) (rows_of true)) }
     ensures kind { OnlyMemory result }
     ensures page { pool.new.pool.page ≡ pool.old.pool.page }
@@ -77,9 +77,9 @@ pub fn remaining_rows(
     delete: &DeleteParts,
     rows: Vec<Items<ValueRef>>,
 ) -> Result<Vec<Items<ValueRef>>, Error>
-    ensures ok { let rows_of = rows_meeting old.now.places (table_of columns.now rows.items) delete.now.condition in
+    ensures ok { let rows_of = rows_meeting old.now.places (table_with columns.now rows.items) delete.now.condition in
         IfOk result (λ kept. kept.items ≡ rows_of false) }
-    ensures released { let rows_of = rows_meeting old.now.places (table_of columns.now rows.items) delete.now.condition in
+    ensures released { let rows_of = rows_meeting old.now.places (table_with columns.now rows.items) delete.now.condition in
         OnOk result (in_use pool.new ≡ rows_released (in_use pool.old) (rows_of true)) }
     ensures kind { OnlyMemory result }
     ensures page { pool.new.pool.page ≡ pool.old.pool.page }
