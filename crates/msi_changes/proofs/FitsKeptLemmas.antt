@@ -1,5 +1,5 @@
 -- Rows that fit their columns fit after an accepted change, too.
-use Rattle.std.proofs.Common.{◌≡◌, ℕ, ◌+◌, ◌≤◌, Bool, true, false, cond, not, List, [], ◌∷◌, ◌++◌, map, filter, length, Option, Some, None, Ok, refl, sym, ap, ◌∙◌, subst, arith, ⊎_elim}
+use Rattle.std.proofs.Common.{◌≡◌, ℕ, ◌≤◌, Bool, true, false, cond, List, [], ◌++◌, length, Option, Some, None, Ok, refl, sym, ap, ◌∙◌, subst, arith, ⊎_elim}
 use Rattle.std.specs.Prelude.{IsSomeAnd, unwrap_or}
 use Rattle.std.specs.List.{AllByRecursion, list_all}
 use Rattle.std.specs.Ordering.{eq_by_cmp}
@@ -11,13 +11,11 @@ use Rattle.std.proofs.lemmas.Option.{same_Some}
 use Rattle.msi_text.specs.FirstFit.{most_places}
 use Rattle.msi_text.specs.FirstFitLaws.{TakenPlacesHoldTheirText, GivenBackTakesOne}
 use Rattle.msi_text.specs.Lists.{list_cmp}
-use Rattle.msi_table.specs.declared.value.Value.{Value}
 use Rattle.msi_table.specs.declared.value.ValueRef.{ValueRef}
 use Rattle.msi_table.specs.Columns.{ColumnDef, types_of}
 use Rattle.msi_table.specs.ReadBack.{FitsRow, FitsTable}
 use Rattle.msi_table.specs.StoredOrder.{in_stored_order, row_values}
 use Rattle.msi_table.proofs.SortedFitsLemmas.{sorted_fits}
-use Rattle.msi_query.specs.Queries.{UpdateQuery}
 use Rattle.msi_relation.specs.Rows.{TableCells}
 use Rattle.msi_schema.specs.Keys.{is_table_name}
 use Rattle.msi_schema.specs.System.{columns_name, tables_name, validation_columns, validation_name}
@@ -30,13 +28,12 @@ use Rattle.msi_changes.specs.Delete.{rows_meeting}
 use Rattle.msi_changes.specs.Drop.{drop_table}
 use Rattle.msi_changes.specs.Keyed.{in_key_order}
 use Rattle.msi_changes.specs.Laws.{RowsFit, TableFits, IsChange, inserted, updated, deleted}
-use Rattle.msi_changes.specs.Texts.{in_turn, rows_released}
-use Rattle.msi_changes.specs.Update.{row_updated, set_is_valid}
+use Rattle.msi_changes.specs.Texts.{rows_released}
 use Rattle.msi_changes.proofs.StoredLemmas.{WellFormed, sound_parts}
 use Rattle.msi_changes.proofs.StaysLemmas.{LeavesUnlisted}
 use Rattle.msi_changes.proofs.TracksLemmas.{Tracks, fewer_fit}
 use Rattle.msi_changes.proofs.PutFitsLemmas.{Both, CellOf, as_many, joined_fit, rows_all_fit, rows_put_of}
-use Rattle.msi_changes.proofs.UpdateFitsLemmas.{AreSet, rows_updated_fit}
+use Rattle.msi_changes.proofs.UpdateFitsLemmas.{rows_updated_fit}
 use Rattle.msi_changes.proofs.InsertedLemmas.{rows_fit}
 use Rattle.msi_changes.proofs.InsertLemmas.{insert_parts}
 use Rattle.msi_changes.proofs.UpdateLemmas.{update_parts}

@@ -1,5 +1,5 @@
 -- The rows of a database describe its tables, also after one was created or dropped.
-use Rattle.std.proofs.Common.{◌≡◌, ℕ, Bool, true, false, List, [], ◌∷◌, map, Option, Some, None, is_some, option_map, Ok, refl, sym, ap, subst, ◌∙◌}
+use Rattle.std.proofs.Common.{◌≡◌, ℕ, Bool, true, false, List, [], ◌∷◌, map, Option, Some, None, is_some, option_map, refl, sym, ap, subst, ◌∙◌}
 use Rattle.std.specs.Prelude.{IsSomeAnd, unwrap_or}
 use Rattle.std.specs.List.{AllByRecursion}
 use Rattle.msi_text.specs.FirstFitLaws.{TakenPlacesHoldTheirText, GivenBackTakesOne}
@@ -15,10 +15,8 @@ use Rattle.msi_schema.specs.System.{columns_name, columns_columns, validation_na
 use Rattle.msi_schema.proofs.OrderlessLemmas.{HasKinds}
 use Rattle.msi_schema.proofs.SchemaLemmas.{NoFault, describes_from, table_of}
 use Rattle.msi_changes.specs.Database.{Database, table_at, has_table, rows_of, are_alike}
-use Rattle.msi_changes.specs.Changes.{Change, sound_refusal}
-use Rattle.msi_changes.specs.Create.{create_table}
-use Rattle.msi_changes.specs.Drop.{drop_table}
-use Rattle.msi_changes.specs.Laws.{describing, columns_by_name, RowsFit, TablesAreDescribed, CreatedTablesAreDescribed, DroppedTablesAreForgotten}
+use Rattle.msi_changes.specs.Changes.{sound_refusal}
+use Rattle.msi_changes.specs.Laws.{describing, RowsFit, TablesAreDescribed, CreatedTablesAreDescribed, DroppedTablesAreForgotten}
 use Rattle.msi_changes.proofs.KindsLemmas.{fits_alike, kinds_from_cells}
 use Rattle.msi_changes.proofs.ShownLemmas.{created, find_shown, mapped_some, shown, shown_created}
 use Rattle.msi_changes.proofs.ShownChangesLemmas.{dropped_parts, shown_dropped}

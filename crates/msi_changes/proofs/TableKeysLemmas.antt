@@ -1,10 +1,10 @@
 -- After a table was created or dropped no two rows of a table share a key, if none did before.
-use Rattle.std.proofs.Common.{◌≡◌, ℕ, Bool, true, false, cond, not, List, [], ◌∷◌, map, Option, Some, None, option_map, option_and_then, unwrap_or, Ok, fold, filter, refl, sym, ap, ◌∙◌, subst, ⊎_elim, bytes_eq}
+use Rattle.std.proofs.Common.{◌≡◌, ℕ, Bool, true, false, cond, not, List, [], ◌∷◌, map, Option, Some, None, option_map, option_and_then, unwrap_or, Ok, fold, refl, sym, ap, ◌∙◌, subst, ⊎_elim, bytes_eq}
 use Rattle.std.specs.Ordering.{eq_by_cmp}
 use Rattle.std.specs.Cmp.Lexicographic.{nat_list_cmp_total, bytes_decides}
 use Rattle.std.specs.FinMap.Entries.{find-put}
 use Rattle.std.proofs.lemmas.Bool.{cases_Bool}
-use Rattle.std.proofs.lemmas.Option.{none-some, same_Some}
+use Rattle.std.proofs.lemmas.Option.{none-some}
 use Rattle.msi_text.specs.FirstFitLaws.{TakenPlacesHoldTheirText, GivenBackTakesOne}
 use Rattle.msi_text.specs.Lists.{list_cmp, has_pair}
 use Rattle.msi_text.specs.Pool.{Place}

@@ -18,7 +18,7 @@ use Rattle.msi_schema.specs.System.{columns_name, tables_name, validation_column
 use Rattle.msi_query.specs.Queries.{InsertQuery, UpdateQuery, DeleteQuery}
 use Rattle.msi_query.specs.Conditions.{meets}
 use Rattle.msi_changes.specs.Keyed.{key_of, same_key}
-use Rattle.msi_changes.specs.Database.{Database, CountsAreExact, values_of, is_sound, is_well_formed, table_at, has_table, rows_of, named_numbers}
+use Rattle.msi_changes.specs.Database.{Database, CountsAreExact, values_of, is_sound, is_well_formed, table_at, has_table, named_numbers}
 use Rattle.msi_relation.specs.Rows.{TableCells}
 use Rattle.msi_changes.specs.Changes.{Change}
 use Rattle.msi_changes.specs.Insert.{insert_rows}
