@@ -26,5 +26,5 @@ row_set u row = if meets u.columns u.query.condition row then values_set u.colum
 
 -- a row with one cell exchanged for a value: the old text is given back, and then the new one taken
 abbrev pub cell_exchanged : Bool → PoolInUse → List ValueRef → ℕ → Value → Option (List ValueRef × PoolInUse)
-cell_exchanged long pool row place value =
-    option_map (λ (r : ValueRef × PoolInUse). (set row place r.0, r.1)) (cell_put long (cell_released pool (cell_of row place)) value)
+cell_exchanged long pool row place value = option_map (λ (r : ValueRef × PoolInUse). (set row place r.0, r.1))
+    (cell_put long (cell_released pool (cell_of row place)) value)

@@ -164,8 +164,8 @@ fn set_cells(
         → cells_set pool.old.pool.long columns (in_use pool.old) row.items sets.now
         ≡ Some (cells.items, in_use pool.new)) }
     ensures kind { IfErr result (λ kind. (columns : List ColumnDef) → places.now ≡ map (index_of columns) sets.now
-        → IsRefusal (or_refused InvalidInput (cells_set pool.old.pool.long columns (in_use pool.old) row.items sets.now))
-        kind) }
+        → let cells = cells_set pool.old.pool.long columns (in_use pool.old) row.items sets.now in
+        IsRefusal (or_refused InvalidInput cells) kind) }
     ensures page { pool.new.pool.page ≡ pool.old.pool.page }
     ensures long { pool.new.pool.long ≡ pool.old.pool.long }
 {
@@ -376,9 +376,11 @@ pub fn refuse_update(
     rows: &[Items<ValueRef>],
     update: &UpdateParts,
 ) -> Result<(), Error>
-    ensures ok { let refusals = update_refusals pool.now.places (table_with columns.now rows.now) (update_of update.now) in
+    ensures ok { let t = table_with columns.now rows.now in
+        let refusals = update_refusals pool.now.places t (update_of update.now) in
         OnOk result (first_refusal refusals ≡ None) }
-    ensures kind { let refusals = update_refusals pool.now.places (table_with columns.now rows.now) (update_of update.now) in
+    ensures kind { let t = table_with columns.now rows.now in
+        let refusals = update_refusals pool.now.places t (update_of update.now) in
         IfErr result (IsRefusal {A = Unit {0}} (unless_refused refusals tt)) }
 {
     let sets = update.sets.as_slice();
@@ -398,8 +400,8 @@ pub fn refuse_update(
 }
 
 /// A table's rows after an update, in their order: per row and per new value the pool gets the old text back, and then
-/// the new one is taken of it. Which rows are meant is judged by the old pool, of which the pool in use began as a clone.
-/// Their stored order is given to them where they are written.
+/// the new one is taken of it. Which rows are meant is judged by the old pool, of which the pool in use began as a
+/// clone. Their stored order is given to them where they are written.
 ///
 /// # Errors
 /// `InvalidInput` where the pool is full; `OutOfMemory`, which may come before.
