@@ -58,7 +58,7 @@ none_refused (r ∷ rs) e = let g = not_refused (r.0) (r.1) rs e in (g.0, none_r
 
 -- ---- columns
 
-short_length : (type : ColumnType) → is_too_long type ≡ false → HasShortLength type
+pub short_length : (type : ColumnType) → is_too_long type ≡ false → HasShortLength type
 short_length coltype.Int16 e = tt
 short_length coltype.Int32 e = tt
 short_length (coltype.Str n) e = grind (arith, nat_tests)

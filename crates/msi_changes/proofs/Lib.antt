@@ -7,6 +7,7 @@ pub mod CreateLemmas
 pub mod CreateRowsLemmas
 pub mod CreateTracksLemmas
 pub mod CreatedLemmas
+pub mod CreatingLemmas
 pub mod DeleteLemmas
 pub mod DescribingLemmas
 pub mod DescriptionLemmas

@@ -1,11 +1,12 @@
 //! Creating a table: why a name and columns are refused.
 
-ghost use Rattle.std.specs.Prelude.{◌≡◌, ◌==◌, ◌&&◌, ◌||◌, bytes_eq, Err};
-ghost use Rattle.std.specs.List.{list_all, list_any};
+ghost use Rattle.std.specs.Prelude.{◌≡◌, ◌≤◌, ◌==◌, ◌&&◌, ◌||◌, OnOk, bytes_eq, length, Err};
+ghost use Rattle.std.specs.List.{AllByRecursion, list_all, list_any};
 ghost use Rattle.msi_text.specs.CategoryRules.{is_identifier};
 ghost use Rattle.msi_text.specs.declared.errors.ErrorKind.TheVariants.{InvalidInput};
 ghost use Rattle.msi_text.specs.Lists.{has_pair};
 ghost use Rattle.msi_relation.specs.Refusals.{unless_refused};
+ghost use Rattle.msi_table.specs.Columns.{HasShortLength};
 ghost use Rattle.msi_changes.specs.Create.{column_refusals, columns_are_named, is_binary, is_too_long};
 
 use crate::reasons;
@@ -131,7 +132,9 @@ fn refused(reason: Reason) -> Result<(), Error>
 /// where a column limits its texts to more than 255 characters, where a column of streams is a key or localizable, or
 /// where a listed text has a semicolon.
 pub fn refuse_columns(columns: &[Column]) -> Result<(), Error>
-    ensures { result ≡ unless_refused (column_refusals columns.now) tt }
+    ensures value { result ≡ unless_refused (column_refusals columns.now) tt }
+    ensures few { OnOk result (length columns.now ≤ 32) }
+    ensures short { OnOk result (AllByRecursion (λ c. HasShortLength c.coltype) columns.now) }
 {
     if columns.is_empty() || columns.len() > MOST_COLUMNS {
         return refused(reasons::COLUMN_COUNT);
