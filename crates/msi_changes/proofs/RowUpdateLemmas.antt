@@ -14,8 +14,9 @@ use Rattle.msi_table.specs.declared.value.ValueRef.{ValueRef}
 use Rattle.msi_table.specs.Columns.{ColumnDef}
 use Rattle.msi_table.specs.StoredOrder.{row_values}
 use Rattle.msi_query.specs.Queries.{UpdateQuery}
+use Rattle.msi_changes.specs.Insert.{table_with}
 use Rattle.msi_changes.specs.Keyed.{key_of, same_key}
-use Rattle.msi_changes.specs.RowUpdates.{RowUpdateDef, row_set, table_of}
+use Rattle.msi_changes.specs.RowUpdates.{RowUpdateDef, row_set}
 use Rattle.msi_changes.specs.Update.{index_of, set_is_valid, sets_key, update_refusals, values_after, values_set}
 use Rattle.msi_changes.proofs.KeySetLemmas.{refused}
 
@@ -54,7 +55,7 @@ module _ {X : Type 0} (p : X → Bool) (kind : ErrorKind) where
 -- why an update is refused
 module _ (places : List Place) (columns : List ColumnDef) (rows : List (List ValueRef)) (q : UpdateQuery) where
   abbrev pub refusals : Refusals
-  refusals = update_refusals places (table_of columns rows) q
+  refusals = update_refusals places (table_with columns rows) q
 
   abbrev pub sets_valid : Bool
   sets_valid = list_all (set_is_valid columns) q.sets
@@ -63,7 +64,7 @@ module _ (places : List Place) (columns : List ColumnDef) (rows : List (List Val
   names_known = has_columns columns (condition_names q.condition)
 
   abbrev pub keys_collide : Bool
-  keys_collide = has_pair same_key (map (key_of columns) (values_after (table_of columns rows) q (map (row_values places) rows)))
+  keys_collide = has_pair same_key (map (key_of columns) (values_after (table_with columns rows) q (map (row_values places) rows)))
 
   abbrev late : Refusals
   late = (not names_known, InvalidInput) ∷ (sets_key columns q.sets && keys_collide, AlreadyExists) ∷ []

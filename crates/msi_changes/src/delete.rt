@@ -6,7 +6,7 @@ ghost use Rattle.msi_text.specs.declared.errors.ErrorKind.TheVariants.{InvalidIn
 ghost use Rattle.msi_relation.specs.Refusals.{unless_refused};
 ghost use Rattle.msi_relation.specs.Selection.{condition_names, has_columns};
 ghost use Rattle.msi_changes.specs.Delete.{rows_meeting};
-ghost use Rattle.msi_changes.specs.RowUpdates.{table_of};
+ghost use Rattle.msi_changes.specs.Insert.{table_with};
 ghost use Rattle.msi_changes.specs.Texts.{in_use, rows_released};
 
 use crate::conditions::knows_condition;
@@ -45,10 +45,11 @@ fn rows_failing(
     test: &RowFilter,
     rows: Vec<Items<ValueRef>>,
 ) -> Result<Vec<Items<ValueRef>>, Error>
-    ensures ok { let rows_of = rows_meeting old.now.places (table_of test.now.columns rows.items) test.now.condition in
-        IfOk result (λ kept. kept.items ≡ rows_of false) }
-    ensures released { let rows_of = rows_meeting old.now.places (table_of test.now.columns rows.items) test.now.condition in
-        OnOk result (in_use pool.new ≡ rows_released (in_use pool.old) (rows_of true)) }
+    ensures ok { let t = table_with test.now.columns rows.items in
+        IfOk result (λ kept. kept.items ≡ rows_meeting old.now.places t test.now.condition false) }
+    ensures released { let t = table_with test.now.columns rows.items in
+        let gone = rows_meeting old.now.places t test.now.condition true in
+        OnOk result (in_use pool.new ≡ rows_released (in_use pool.old) gone) }
     ensures kind { OnlyMemory result }
     ensures page { pool.new.pool.page ≡ pool.old.pool.page }
     ensures long { pool.new.pool.long ≡ pool.old.pool.long }
@@ -77,10 +78,11 @@ pub fn remaining_rows(
     delete: &DeleteParts,
     rows: Vec<Items<ValueRef>>,
 ) -> Result<Vec<Items<ValueRef>>, Error>
-    ensures ok { let rows_of = rows_meeting old.now.places (table_of columns.now rows.items) delete.now.condition in
-        IfOk result (λ kept. kept.items ≡ rows_of false) }
-    ensures released { let rows_of = rows_meeting old.now.places (table_of columns.now rows.items) delete.now.condition in
-        OnOk result (in_use pool.new ≡ rows_released (in_use pool.old) (rows_of true)) }
+    ensures ok { let t = table_with columns.now rows.items in
+        IfOk result (λ kept. kept.items ≡ rows_meeting old.now.places t delete.now.condition false) }
+    ensures released { let t = table_with columns.now rows.items in
+        let gone = rows_meeting old.now.places t delete.now.condition true in
+        OnOk result (in_use pool.new ≡ rows_released (in_use pool.old) gone) }
     ensures kind { OnlyMemory result }
     ensures page { pool.new.pool.page ≡ pool.old.pool.page }
     ensures long { pool.new.pool.long ≡ pool.old.pool.long }

@@ -12,7 +12,7 @@ ghost use Rattle.msi_table.specs.declared.value.Value.{Value as ValueOf};
 ghost use Rattle.msi_table.specs.OrderLaws.{value_cmp-total};
 ghost use Rattle.msi_table.specs.StoredOrder.{row_values};
 ghost use Rattle.msi_table.specs.Values.{value_cmp};
-ghost use Rattle.msi_changes.specs.Insert.{key_refusals};
+ghost use Rattle.msi_changes.specs.Insert.{key_refusals, keys_of as keys_held, table_with};
 ghost use Rattle.msi_changes.specs.Keyed.{key_of, same_key};
 ghost use Rattle.msi_changes.specs.KeySets.{HasKeys, clash_refusals};
 ghost use Rattle.msi_changes.specs.Views.{seen_row};
@@ -195,7 +195,8 @@ fn refuse_held<'a>(
     ensures ok { OnOk result ((keys : List (List ValueOf)) → HasKeys held.now keys
         → first_refusal (key_refusals keys [] (map (key_of columns.now) new_rows.now)) ≡ None) }
     ensures kind { IfErr result (λ kind. (keys : List (List ValueOf)) → HasKeys held.now keys
-        → IsRefusal {A = Unit {0}} (unless_refused (key_refusals keys [] (map (key_of columns.now) new_rows.now)) tt) kind) }
+        → let refusals = key_refusals keys [] (map (key_of columns.now) new_rows.now) in
+        IsRefusal {A = Unit {0}} (unless_refused refusals tt) kind) }
 {
     let mut earlier = BTreeSet::new(alloc);
     for row in new_rows {
@@ -215,8 +216,8 @@ fn refuse_held<'a>(
 ///
 /// # Errors
 /// The first that holds: `InvalidData` where two of the table's rows share a key; then, row by row, `AlreadyExists`
-/// where a row's key is that of one of the table's, and `InvalidInput` where it is that of an earlier new one. At any time
-/// `OutOfMemory`.
+/// where a row's key is that of one of the table's, and `InvalidInput` where it is that of an earlier new one. At any
+/// time `OutOfMemory`.
 pub(crate) fn refuse_clashes(
     alloc: Global,
     pool: &StringPool,
@@ -224,10 +225,11 @@ pub(crate) fn refuse_clashes(
     rows: &[Items<ValueRef>],
     new_rows: &[Items<Value>],
 ) -> Result<(), Error>
-    ensures ok { let held = map (λ row. key_of columns.now (row_values pool.now.places row)) rows.now in
+    ensures ok { let held = keys_held pool.now.places (table_with columns.now rows.now) in
         OnOk result (first_refusal (clash_refusals held (map (key_of columns.now) new_rows.now)) ≡ None) }
-    ensures kind { let held = map (λ row. key_of columns.now (row_values pool.now.places row)) rows.now in
-        IfErr result (IsRefusal {A = Unit {0}} (unless_refused (clash_refusals held (map (key_of columns.now) new_rows.now)) tt)) }
+    ensures kind { let held = keys_held pool.now.places (table_with columns.now rows.now) in
+        let refusals = clash_refusals held (map (key_of columns.now) new_rows.now) in
+        IfErr result (IsRefusal {A = Unit {0}} (unless_refused refusals tt)) }
 {
     let keys = keys_of_cells(alloc, pool, columns, rows)?;
     match distinct_keys(alloc, keys)? {

@@ -10,8 +10,9 @@ ghost use Rattle.msi_relation.specs.Refusals.{IsRefusal, first_refusal, or_refus
 ghost use Rattle.msi_table.specs.Cells.{cell_of};
 ghost use Rattle.msi_table.specs.Columns.{ColumnDef, column_named};
 ghost use Rattle.msi_table.specs.StoredOrder.{row_values};
+ghost use Rattle.msi_changes.specs.Insert.{table_with};
 ghost use Rattle.msi_changes.specs.Keyed.{key_of, same_key};
-ghost use Rattle.msi_changes.specs.RowUpdates.{cell_exchanged, row_set, table_of, update_of};
+ghost use Rattle.msi_changes.specs.RowUpdates.{cell_exchanged, row_set, update_of};
 ghost use Rattle.msi_changes.specs.Texts.{in_turn, in_use};
 ghost use Rattle.msi_changes.specs.Update.{cells_set, index_of, row_updated, set_is_valid, sets_key as sets_a_key, update_refusals, values_after, values_set};
 ghost use Rattle.msi_changes.specs.Views.{seen_row};
@@ -163,8 +164,8 @@ fn set_cells(
         → cells_set pool.old.pool.long columns (in_use pool.old) row.items sets.now
         ≡ Some (cells.items, in_use pool.new)) }
     ensures kind { IfErr result (λ kind. (columns : List ColumnDef) → places.now ≡ map (index_of columns) sets.now
-        → IsRefusal (or_refused InvalidInput (cells_set pool.old.pool.long columns (in_use pool.old) row.items sets.now))
-        kind) }
+        → let cells = cells_set pool.old.pool.long columns (in_use pool.old) row.items sets.now in
+        IsRefusal (or_refused InvalidInput cells) kind) }
     ensures page { pool.new.pool.page ≡ pool.old.pool.page }
     ensures long { pool.new.pool.long ≡ pool.old.pool.long }
 {
@@ -307,7 +308,7 @@ impl<'a> RowUpdate<'a> {
         pool: &'a StringPool,
         rows: &[Items<ValueRef>],
     ) -> Result<bool, Error>
-        ensures ok { let values = values_after (table_of self.now.columns rows.now) self.now.query in
+        ensures ok { let values = values_after (table_with self.now.columns rows.now) self.now.query in
             IfOk result (λ collide. collide
             ≡ has_pair same_key (map (key_of self.now.columns) (values (map (row_values pool.now.places) rows.now)))) }
         ensures kind { OnlyMemory result }
@@ -353,7 +354,7 @@ fn shares_key(
     rows: &[Items<ValueRef>],
     update: &UpdateParts,
 ) -> Result<bool, Error>
-    ensures ok { let values = values_after (table_of columns.now rows.now) (update_of update.now) in
+    ensures ok { let values = values_after (table_with columns.now rows.now) (update_of update.now) in
         IfOk result (λ shares. shares
         ≡ has_pair same_key (map (key_of columns.now) (values (map (row_values pool.now.places) rows.now)))) }
     ensures kind { OnlyMemory result }
@@ -375,9 +376,11 @@ pub fn refuse_update(
     rows: &[Items<ValueRef>],
     update: &UpdateParts,
 ) -> Result<(), Error>
-    ensures ok { let refusals = update_refusals pool.now.places (table_of columns.now rows.now) (update_of update.now) in
+    ensures ok { let t = table_with columns.now rows.now in
+        let refusals = update_refusals pool.now.places t (update_of update.now) in
         OnOk result (first_refusal refusals ≡ None) }
-    ensures kind { let refusals = update_refusals pool.now.places (table_of columns.now rows.now) (update_of update.now) in
+    ensures kind { let t = table_with columns.now rows.now in
+        let refusals = update_refusals pool.now.places t (update_of update.now) in
         IfErr result (IsRefusal {A = Unit {0}} (unless_refused refusals tt)) }
 {
     let sets = update.sets.as_slice();
@@ -397,7 +400,8 @@ pub fn refuse_update(
 }
 
 /// A table's rows after an update, in their order: per row and per new value the pool gets the old text back, and then
-/// the new one is taken of it. Which rows are meant is judged by the old pool, of which the pool in use began as a clone.
+/// the new one is taken of it. Which rows are meant is judged by the old pool, of which the pool in use began as a
+/// clone. Their stored order is given to them where they are written.
 ///
 /// # Errors
 /// `InvalidInput` where the pool is full; `OutOfMemory`, which may come before.
