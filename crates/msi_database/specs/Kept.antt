@@ -1,5 +1,5 @@
 -- A database as it is kept: tables by their columns, and their rows in the streams of a container.
-use Rattle.std.specs.Prelude.{◌≡◌, ℕ, Bool, List, [], map, unwrap_or, if◌then◌else◌, bytes_eq}
+use Rattle.std.specs.Prelude.{◌≡◌, ℕ, Bool, List, [], ◌∷◌, map, Option, Some, None, unwrap_or, if◌then◌else◌, bytes_eq}
 use Rattle.std.specs.List.{list_any, AllByRecursion}
 use Rattle.msi_text.specs.Pool.{Pool}
 use Rattle.msi_table.specs.declared.value.ValueRef.{ValueRef}
@@ -36,6 +36,11 @@ kept_of pool tables streams = record { database = database_kept pool tables stre
 -- what a change leaves
 abbrev pub after_change : Kept → Change → Kept
 after_change k c = record { database = c.database; streams = stored_streams c.database c.stored k.streams }
+
+-- the table of a name among those that are kept
+abbrev pub table_kept_at : List ℕ → List TableDef → Option TableDef
+table_kept_at name [] = None
+table_kept_at name (t ∷ ts) = if bytes_eq name t.name then Some t else table_kept_at name ts
 
 -- each table's references are as long as the pool's
 abbrev pub AreAsLong : Bool → List TableDef → Type 0

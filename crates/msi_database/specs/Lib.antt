@@ -1,3 +1,6 @@
 -- The words of this crate.
 pub mod Streams
+pub mod Agreement
 pub mod Kept
+pub mod Storing
+pub mod Keeping

@@ -1,2 +1,4 @@
 //! The database of a package: its tables, kept in the streams of a container.
 #![tactic(auto)]
+
+pub mod storing;
