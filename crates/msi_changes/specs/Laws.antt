@@ -1,5 +1,5 @@
 -- What follows for users, in the words of the database: statements that public contracts name.
-use Rattle.std.specs.Prelude.{◌≡◌, ℕ, true, false, not, List, [], ◌++◌, map, filter, Some, option_and_then, unwrap_or, IsPermutation, bytes_eq, Ok, count_by}
+use Rattle.std.specs.Prelude.{if◌then◌else◌, ◌≡◌, ℕ, true, false, not, List, [], ◌++◌, map, filter, Some, option_and_then, unwrap_or, IsPermutation, bytes_eq, Ok, count_by}
 use Rattle.std.specs.List.{sum_by}
 use Rattle.msi_text.specs.FirstFitLaws.{text_at}
 use Rattle.msi_text.specs.Lists.{has_pair}

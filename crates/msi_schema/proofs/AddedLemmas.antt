@@ -12,7 +12,7 @@ use Rattle.msi_table.specs.declared.value.Value.{Value}
 use Rattle.msi_table.specs.declared.value.Value.TheVariants.{Int, Str}
 use Rattle.msi_table.specs.Columns.{ColumnDef}
 use Rattle.msi_table.specs.OrderLaws.{value_eq-Decides}
-use Rattle.msi_database.specs.Changes as changes
+use Rattle.msi_schema.specs.Description as description
 use Rattle.msi_schema.specs.Keys.{is_pool_name}
 use Rattle.msi_schema.specs.System.{columns_columns, columns_name, is_schema_table, tables_columns, tables_name}
 use Rattle.msi_schema.specs.Schema.{text_of, SchemaRows, columns_of, counted, describes_column, has_null, is_null, lacks_value, listed_names, schema_of, share_key, text_at, value_at}
@@ -53,7 +53,7 @@ pub rows_kinds : (name : List ℕ) (k : ℕ) (columns : List ColumnDef) → AllB
 rows_kinds name k [] = tt
 rows_kinds name k (c ∷ cs) = ((refl, refl), rows_kinds name (k + 1) cs)
 
-pub validation_kinds : (name : List ℕ) (columns : List ColumnDef) → AllByRecursion IsValidationRow (changes.validation_rows name columns)
+pub validation_kinds : (name : List ℕ) (columns : List ColumnDef) → AllByRecursion IsValidationRow (description.validation_rows name columns)
 validation_kinds name [] = tt
 validation_kinds name (c ∷ cs) = ((refl, refl), validation_kinds name cs)
 
@@ -76,19 +76,19 @@ numbers_once : (name : List ℕ) (k : ℕ) (columns : List ColumnDef) → has_pa
 numbers_once name k [] = refl
 numbers_once name k (c ∷ cs) = or_both _ _ (later_number name k (k + 1) c cs (omega arith)) (numbers_once name (k + 1) cs)
 
-other_names : (name : List ℕ) (c : ColumnDef) (columns : List ColumnDef) → list_any (λ d. bytes_eq c.name d.name) columns ≡ false → list_any (share_key 2 (changes.validation_row name c)) (changes.validation_rows name columns) ≡ false
+other_names : (name : List ℕ) (c : ColumnDef) (columns : List ColumnDef) → list_any (λ d. bytes_eq c.name d.name) columns ≡ false → list_any (share_key 2 (description.validation_row name c)) (description.validation_rows name columns) ≡ false
 other_names name c [] e = refl
 other_names name c (d ∷ ds) e = let g = or_false (bytes_eq c.name d.name) (list_any (λ d. bytes_eq c.name d.name) ds) e in or_both _ _
-    (true_false _ (λ t. let same : c.name ≡ d.name = str_same c.name d.name (shared_second (changes.validation_row name c) (changes.validation_row name d) t) in
+    (true_false _ (λ t. let same : c.name ≡ d.name = str_same c.name d.name (shared_second (description.validation_row name c) (description.validation_row name d) t) in
     yes_is_no (bytes_eq c.name d.name) (rw same (same_text d.name)) g.0))
     (other_names name c ds g.1)
 
-columns_once : (name : List ℕ) (columns : List ColumnDef) → has_pair (λ c d. bytes_eq c.name d.name) columns ≡ false → has_pair (share_key 2) (changes.validation_rows name columns) ≡ false
+columns_once : (name : List ℕ) (columns : List ColumnDef) → has_pair (λ c d. bytes_eq c.name d.name) columns ≡ false → has_pair (share_key 2) (description.validation_rows name columns) ≡ false
 columns_once name [] e = refl
 columns_once name (c ∷ cs) e = let g = or_false (list_any (λ d. bytes_eq c.name d.name) cs) (has_pair (λ c d. bytes_eq c.name d.name) cs) e in or_both _ _ (other_names name c cs g.0) (columns_once name cs g.1)
 
-no_stale : (s : SchemaRows) (name : List ℕ) (columns : List ColumnDef) → AllByRecursion (λ c. list_any (share_key 2 (changes.validation_row name c)) s.validation ≡ false) columns
-    → AllByRecursion (λ row. list_any (share_key 2 row) s.validation ≡ false) (changes.validation_rows name columns)
+no_stale : (s : SchemaRows) (name : List ℕ) (columns : List ColumnDef) → AllByRecursion (λ c. list_any (share_key 2 (description.validation_row name c)) s.validation ≡ false) columns
+    → AllByRecursion (λ row. list_any (share_key 2 row) s.validation ≡ false) (description.validation_rows name columns)
 no_stale s name [] a = tt
 no_stale s name (c ∷ cs) a = (a.0, no_stale s name cs (a.1))
 
@@ -112,7 +112,7 @@ module _ (s : SchemaRows) (name : List ℕ) (columns : List ColumnDef) (sound : 
   kinds_now : HasKinds now
   kinds_now = record {
     columns = all_joined IsColumnRow (rows_from name 1 columns) s.columns (rows_kinds name 1 columns) kinds.columns;
-    validation = all_joined IsValidationRow (changes.validation_rows name columns) s.validation (validation_kinds name columns) kinds.validation;
+    validation = all_joined IsValidationRow (description.validation_rows name columns) s.validation (validation_kinds name columns) kinds.validation;
   }
 
   -- a row of `_Validation` that was there is about no column of the new table
@@ -122,18 +122,18 @@ module _ (s : SchemaRows) (name : List ℕ) (columns : List ColumnDef) (sound : 
       let k = all_at IsValidationRow s.validation row kinds.validation h in
       let (n, c, inside, v) = described_name name 1 columns (λ c. bytes_eq (text_at 2 c) (text_at 1 row)) (rw (about, new_column_rows s name columns sound new) at u) in
       let own : c.name ≡ text_at 1 row = texts_same _ _ v in
-      yes_is_no (list_any (share_key 2 (changes.validation_row name c)) s.validation)
-      (any_at (share_key 2 (changes.validation_row name c)) s.validation row h (shared_two (changes.validation_row name c) row (ap Str (sym about) ∙ sym k.0) (ap Str own ∙ sym k.1)))
-      (all_at (λ c. list_any (share_key 2 (changes.validation_row name c)) s.validation ≡ false) columns c new.no_stale_row inside))
+      yes_is_no (list_any (share_key 2 (description.validation_row name c)) s.validation)
+      (any_at (share_key 2 (description.validation_row name c)) s.validation row h (shared_two (description.validation_row name c) row (ap Str (sym about) ∙ sym k.0) (ap Str own ∙ sym k.1)))
+      (all_at (λ c. list_any (share_key 2 (description.validation_row name c)) s.validation ≡ false) columns c new.no_stale_row inside))
 
   still_full : (row : List Value) → In row s.validation → lacks_value s row ≡ false → lacks_value now row ≡ false
   still_full row h e = by_test (bytes_eq name (text_at 0 row))
       (λ t. let g = or_false _ _ e in or_both _ _ (g.0) (ap (λ b. b && is_null (value_at 2 row)) (not_about row h t)))
       (λ t. rw (old_column_rows s name columns sound new (text_at 0 row) t) e)
 
-  new_full : (table : List ℕ) (cs : List ColumnDef) → list_any (lacks_value now) (changes.validation_rows table cs) ≡ false
+  new_full : (table : List ℕ) (cs : List ColumnDef) → list_any (lacks_value now) (description.validation_rows table cs) ≡ false
   new_full table [] = refl
-  new_full table (c ∷ cs) = or_both _ _ (and_false (describes_column now (changes.validation_row table c))) (new_full table cs)
+  new_full table (c ∷ cs) = or_both _ _ (and_false (describes_column now (description.validation_row table c))) (new_full table cs)
 
   -- no table had the name
   no_such_table : list_any (share_key 1 (Str name ∷ [])) (counted s.tables) ≡ false
@@ -171,12 +171,12 @@ module _ (s : SchemaRows) (name : List ℕ) (columns : List ColumnDef) (sound : 
   sound_now = record {
     tables_full = sound.tables_full;
     columns_full = any_joined (list_any is_null) (rows_from name 1 columns) s.columns (rows_full name 1 columns) sound.columns_full;
-    validation_full = any_joined (lacks_value now) (changes.validation_rows name columns) s.validation (new_full name columns)
+    validation_full = any_joined (lacks_value now) (description.validation_rows name columns) s.validation (new_full name columns)
         (none_pass (lacks_value now) s.validation (all_from (λ row. lacks_value now row ≡ false) s.validation (λ row h. still_full row h (all_at (λ r. lacks_value s r ≡ false) s.validation row (none_passes (lacks_value s) s.validation sound.validation_full) h))));
     plain_names = ap (list_any is_pool_name) new_names ∙ or_both (is_pool_name name) _ new.not_pool sound.plain_names;
     tables_once = rw (new.not_reserved) (or_both _ _ no_such_table sound.tables_once);
     columns_once = ap (has_pair (share_key 2)) counted_now ∙ no_pair_joined (share_key 2) (rows_from name 1 columns) (counted s.columns) (numbers_once name 1 columns) sound.columns_once (none_share 1 columns);
-    validation_once = no_pair_joined (share_key 2) (changes.validation_rows name columns) s.validation (columns_once name columns new.names_once) sound.validation_once (no_stale s name columns new.no_stale_row);
+    validation_once = no_pair_joined (share_key 2) (description.validation_rows name columns) s.validation (columns_once name columns new.names_once) sound.validation_once (no_stale s name columns new.no_stale_row);
     columns_listed = ap (list_any unlisted) counted_now ∙ any_joined unlisted (rows_from name 1 columns) (counted s.columns)
         (none_pass unlisted (rows_from name 1 columns) (none_about unlisted name (λ n c. ap not name_listed) 1 columns))
         (none_pass unlisted (counted s.columns) (all_from (λ row. unlisted row ≡ false) (counted s.columns) now_listed));

@@ -13,7 +13,7 @@ use Rattle.msi_table.specs.declared.value.Value.TheVariants.{Str}
 use Rattle.msi_table.specs.Columns.{ColumnDef}
 use Rattle.msi_schema.specs.Keys.{is_pool_name}
 use Rattle.msi_schema.specs.System.{is_schema_table}
-use Rattle.msi_database.specs.Changes as changes
+use Rattle.msi_schema.specs.Description as description
 use Rattle.msi_schema.specs.Schema.{SchemaRows, column_of_row, column_rows, columns_of, has_number, is_about, share_key, text_at, validation_row}
 use Rattle.msi_schema.proofs.ColumnBackLemmas.{IsDescribable, column_back, row_of_column}
 use Rattle.msi_schema.proofs.ListLemmas.{In, In-slice_get, all_at, all_from, and_true, each_present, filter_all, filter_none, find_back, find_front, none_passes, or_false, true_false, yes_is_no, list_any-filter}
@@ -24,8 +24,8 @@ use Rattle.msi_schema.proofs.OrderlessLemmas.{columns_same, filter-filter, is_co
 abbrev pub added : SchemaRows → List ℕ → List ColumnDef → SchemaRows
 added s name columns = record {
   tables = (Str name ∷ []) ∷ s.tables;
-  columns = changes.column_rows name columns ++ s.columns;
-  validation = changes.validation_rows name columns ++ s.validation;
+  columns = description.column_rows name columns ++ s.columns;
+  validation = description.validation_rows name columns ++ s.validation;
 }
 
 -- a table that rows don't describe yet, and that can be described
@@ -36,7 +36,7 @@ pub record IsNew (s : SchemaRows) (name : List ℕ) (columns : List ColumnDef) :
   pub some_column : (length columns == 0) ≡ false
   pub describable : AllByRecursion IsDescribable columns
   pub names_once : has_pair (λ c d. bytes_eq c.name d.name) columns ≡ false
-  pub no_stale_row : AllByRecursion (λ c. list_any (share_key 2 (changes.validation_row name c)) s.validation ≡ false) columns
+  pub no_stale_row : AllByRecursion (λ c. list_any (share_key 2 (description.validation_row name c)) s.validation ≡ false) columns
 
 pub same_text : (a : List ℕ) → bytes_eq a a ≡ true
 same_text a = (bytes_eq-Decides a a).1 refl
@@ -75,14 +75,14 @@ rows_as_many name k (c ∷ cs) = ap suc (rows_as_many name (k + 1) cs)
 -- ---- rows of `_Validation` by their columns
 
 found_row : (name : List ℕ) (columns : List ColumnDef) (c : ColumnDef) → has_pair (λ c d. bytes_eq c.name d.name) columns ≡ false → In c columns
-    → find (validates name c.name) (changes.validation_rows name columns) ≡ Some (changes.validation_row name c)
+    → find (validates name c.name) (description.validation_rows name columns) ≡ Some (description.validation_row name c)
 found_row name [] c d h = absurd h
 found_row name (x ∷ xs) c d (inl e) = rw (e, same_text name, same_text c.name) refl
 found_row name (x ∷ xs) c d (inr h) =
     let g = or_false (list_any (λ y. bytes_eq x.name y.name) xs) (has_pair (λ c d. bytes_eq c.name d.name) xs) d in
     rw (same_text name, all_at (λ y. bytes_eq x.name y.name ≡ false) xs c (none_passes (λ y. bytes_eq x.name y.name) xs g.0) h) (found_row name xs c g.1 h)
 
-pub none_validates : (name other column : List ℕ) (columns : List ColumnDef) → bytes_eq name other ≡ false → list_any (validates other column) (changes.validation_rows name columns) ≡ false
+pub none_validates : (name other column : List ℕ) (columns : List ColumnDef) → bytes_eq name other ≡ false → list_any (validates other column) (description.validation_rows name columns) ≡ false
 none_validates name other column [] d = refl
 none_validates name other column (c ∷ cs) d = rw d (none_validates name other column cs d)
 
@@ -96,24 +96,24 @@ module _ (s : SchemaRows) (name : List ℕ) (columns : List ColumnDef) (sound : 
       let same : text_at 0 row ≡ name = texts_same _ _ p.1 in
       yes_is_no _ (rw (p.0, same, new.not_listed) refl) listed))
 
-  pub new_column_rows : column_rows (added s name columns) name ≡ changes.column_rows name columns
-  new_column_rows = filter-filter (is_about name) is_counted (changes.column_rows name columns ++ s.columns)
-      ∙ filter-append (λ row. is_counted row && is_about name row) (changes.column_rows name columns) s.columns
+  pub new_column_rows : column_rows (added s name columns) name ≡ description.column_rows name columns
+  new_column_rows = filter-filter (is_about name) is_counted (description.column_rows name columns ++ s.columns)
+      ∙ filter-append (λ row. is_counted row && is_about name row) (description.column_rows name columns) s.columns
       ∙ (λ i. filter_all (λ row. is_counted row && is_about name row) (rows_from name 1 columns) (all_about (λ row. is_counted row && is_about name row) name (λ n c. rw (new.not_reserved, same_text name) refl) 1 columns) i
       ++ filter_none (λ row. is_counted row && is_about name row) s.columns none_before i)
-      ∙ append-nil (changes.column_rows name columns)
+      ∙ append-nil (description.column_rows name columns)
 
   pub old_column_rows : (other : List ℕ) → bytes_eq name other ≡ false → column_rows (added s name columns) other ≡ column_rows s other
-  old_column_rows other d = filter-filter (is_about other) is_counted (changes.column_rows name columns ++ s.columns)
-      ∙ filter-append (λ row. is_counted row && is_about other row) (changes.column_rows name columns) s.columns
+  old_column_rows other d = filter-filter (is_about other) is_counted (description.column_rows name columns ++ s.columns)
+      ∙ filter-append (λ row. is_counted row && is_about other row) (description.column_rows name columns) s.columns
       ∙ ap (λ (l : List (List Value)). l ++ filter (λ row. is_counted row && is_about other row) s.columns) (filter_none (λ row. is_counted row && is_about other row) (rows_from name 1 columns) (none_about (λ row. is_counted row && is_about other row) name (λ n c. rw (new.not_reserved, d) refl) 1 columns))
       ∙ sym (filter-filter (is_about other) is_counted s.columns)
 
   pub old_validation_row : (other column : List ℕ) → bytes_eq name other ≡ false → validation_row (added s name columns) other column ≡ validation_row s other column
-  old_validation_row other column d = find_back (validates other column) (changes.validation_rows name columns) s.validation (none_validates name other column columns d)
+  old_validation_row other column d = find_back (validates other column) (description.validation_rows name columns) s.validation (none_validates name other column columns d)
 
-  new_validation_row : (c : ColumnDef) → In c columns → validation_row (added s name columns) name c.name ≡ Some (changes.validation_row name c)
-  new_validation_row c h = find_front (validates name c.name) (changes.validation_rows name columns) s.validation (changes.validation_row name c) (found_row name columns c new.names_once h)
+  new_validation_row : (c : ColumnDef) → In c columns → validation_row (added s name columns) name c.name ≡ Some (description.validation_row name c)
+  new_validation_row c h = find_front (validates name c.name) (description.validation_rows name columns) s.validation (description.validation_row name c) (found_row name columns c new.names_once h)
 
   -- the other tables are as they were
   pub old_columns : (other : List ℕ) → bytes_eq name other ≡ false → columns_of (added s name columns) other ≡ columns_of s other
@@ -126,5 +126,5 @@ module _ (s : SchemaRows) (name : List ℕ) (columns : List ColumnDef) (sound : 
   -- the new one has its columns
   pub new_columns : columns_of (added s name columns) name ≡ Some columns
   new_columns = rw (new_column_rows, rows_as_many name 1 columns, new.some_column)
-      (each_present (λ i. option_and_then (column_of_row (added s name columns) name) (find (has_number (i + 1)) (changes.column_rows name columns))) columns 0
+      (each_present (λ i. option_and_then (column_of_row (added s name columns) name) (find (has_number (i + 1)) (description.column_rows name columns))) columns 0
       (λ i j e. ap (option_and_then (column_of_row (added s name columns) name)) (numbered_from name 1 columns i (j + 1) (omega arith)) ∙ column_at i (j + 1) (slice_get columns i) refl))

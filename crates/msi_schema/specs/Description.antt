@@ -1,5 +1,5 @@
 -- The rows that describe a table: in `_Columns`, in `_Tables` and in `_Validation` (MSI SDK, "System tables").
-use Rattle.std.specs.Prelude.{ℕ, List, [], ◌∷◌, map, Option, Some, None, option_map, codes, ℤ, pos}
+use Rattle.std.specs.Prelude.{if◌then◌else◌, ℕ, List, [], ◌∷◌, map, Option, Some, None, option_map, codes, ℤ, pos}
 use Rattle.std.specs.List.{enumerate_from, join_with_byte}
 use Rattle.msi_text.specs.Categories.{category_name}
 use Rattle.msi_table.specs.declared.value.Value.{Value}

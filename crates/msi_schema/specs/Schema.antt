@@ -1,5 +1,5 @@
 -- Which tables the rows of `_Tables`, `_Columns` and `_Validation` describe (MSI SDK, "System tables").
-use Rattle.std.specs.Prelude.{ℕ, ◌+◌, Bool, true, false, not, List, [], ◌∷◌, map, length, filter, Option, Some, None, option_map, option_and_then, unwrap_or, find, ◌==◌, ◌&&◌, ◌||◌, bytes_eq, codes, slice_get, ℤ, pos, zip}
+use Rattle.std.specs.Prelude.{if◌then◌else◌, ℕ, ◌+◌, Bool, true, false, not, List, [], ◌∷◌, map, length, filter, Option, Some, None, option_map, option_and_then, unwrap_or, find, ◌==◌, ◌&&◌, ◌||◌, bytes_eq, codes, slice_get, ℤ, pos, zip}
 use Rattle.std.specs.List.{list_any, list_all, slice_split}
 use Rattle.std.specs.Ordering.{is_eq, int_cmp, eq_by_cmp}
 use Rattle.std.specs.FinMap.{put}
