@@ -16,11 +16,11 @@ use Rattle.msi_database.specs.Agreement.{DatabaseIs}
 use Rattle.msi_database.specs.Kept.{Kept, kept_of, database_kept, after_change, AreAsLong}
 
 -- a table has a column, and its rows, where they can be read, have a cell for each column, which fits it
-abbrev pub TableFits : Bool → TableCells → Type 0
-TableFits long t = IfSome t.rows (FitsTable long (types_of t.columns))
+abbrev pub HasFittingRows : Bool → TableCells → Type 0
+HasFittingRows long t = IfSome t.rows (FitsTable long (types_of t.columns))
 
 abbrev pub RowsFit : Database → Type 0
-RowsFit d = AllByRecursion (λ t. TableFits d.pool.long t.1) d.tables
+RowsFit d = AllByRecursion (λ t. HasFittingRows d.pool.long t.1) d.tables
 
 abbrev pub UnlistedFits : Database → Type 0
 UnlistedFits d = AllByRecursion (FitsRow d.pool.long (types_of validation_columns)) d.unlisted_validation
