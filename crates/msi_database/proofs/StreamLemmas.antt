@@ -1,15 +1,14 @@
 -- Streams and tables by their names: what a put or a removal at one name does at another.
-use Rattle.std.proofs.Common.{◌≡◌, ◌≢◌, ℕ, Bool, not, List, Option, Some, None}
+use Rattle.std.proofs.Common.{◌≡◌, ◌≢◌, ℕ, not, List, Option, Some, None}
 use Rattle.std.specs.Prelude.{T}
 use Rattle.std.specs.List.{AllByRecursion}
-use Rattle.std.specs.FinMap.{find, put, is_sorted, IsAntisymmetric, nat_cmp-IsAntisymmetric, slice_cmp-IsAntisymmetric}
+use Rattle.std.specs.FinMap.{find, is_sorted, IsAntisymmetric, nat_cmp-IsAntisymmetric, slice_cmp-IsAntisymmetric}
 use Rattle.std.specs.Ordering.{eq_by_cmp}
 use Rattle.std.specs.Cmp.{IsTotalOrder, nat_cmp_total}
 use Rattle.std.specs.Cmp.Lexicographic.{lists_total}
 use Rattle.msi_text.specs.Lists.{list_cmp}
 use Rattle.msi_compound.specs.Names.{name_cmp}
 use Rattle.msi_compound.proofs.NamesLemmas.{names_total, exact_names}
-use Rattle.msi_relation.specs.Rows.{TableCells}
 use Rattle.msi_changes.specs.Database.{Tables}
 use Rattle.msi_database.specs.Streams.{Streams, stream_at, with_stream, without_stream, with_stream_or_none}
 use Rattle.msi_database.proofs.MapLemmas as maps
