@@ -5,3 +5,9 @@ pub mod GivenBackLemmas
 pub mod SoundLemmas
 pub mod StreamLemmas
 pub mod StoredLemmas
+pub mod SchemaLemmas
+pub mod FitLemmas
+pub mod DescribedLemmas
+pub mod RowChangeLemmas
+pub mod KindsLemmas
+pub mod ComesLemmas
