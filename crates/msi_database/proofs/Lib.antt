@@ -11,3 +11,4 @@ pub mod DescribedLemmas
 pub mod RowChangeLemmas
 pub mod KindsLemmas
 pub mod ComesLemmas
+pub mod UpdateFitsLemmas
