@@ -12,3 +12,6 @@ pub mod RowChangeLemmas
 pub mod KindsLemmas
 pub mod ComesLemmas
 pub mod UpdateFitsLemmas
+pub mod RowsComeLemmas
+pub mod TablesComeLemmas
+pub mod KeepingLemmas
