@@ -1,10 +1,11 @@
 -- What an accepted change brings, where each of its steps is tracked and its rows describe its tables, keeps a database.
-use Rattle.std.proofs.Common.{◌≡◌, ℕ, Bool, true, false, List, [], ◌∷◌, bytes_eq, Some, refl, sym, ap, subst, ◌∙◌}
+use Rattle.std.proofs.Common.{◌≡◌, ℕ, Bool, true, false, List, [], ◌∷◌, bytes_eq, length, Some, refl, sym, ap, subst, ◌∙◌}
 use Rattle.std.specs.Prelude.{MatchBool}
 use Rattle.std.specs.List.{list_any, list_all, AllByRecursion}
 use Rattle.std.specs.FinMap.{find}
 use Rattle.std.proofs.lemmas.Bool.{and_parts}
 use Rattle.msi_text.specs.Lists.{list_cmp}
+use Rattle.msi_compound.specs.Names.{is_name_length}
 use Rattle.msi_table.specs.declared.value.ValueRef.{ValueRef}
 use Rattle.msi_table.specs.Columns.{types_of}
 use Rattle.msi_table.specs.ReadBack.{FitsRow}
@@ -25,10 +26,10 @@ use Rattle.msi_database.specs.Streams.{Streams, stored_rows, stored_streams}
 use Rattle.msi_database.specs.Agreement.{TablesAre, UnlistedIs}
 use Rattle.msi_database.specs.Kept.{Kept, after_change}
 use Rattle.msi_database.specs.Keeping.{IsKeptDatabase}
-use Rattle.msi_database.proofs.KeyLemmas.{validation_accepted}
+use Rattle.msi_database.proofs.KeyLemmas.{validation_accepted, table_key_is_name}
 use Rattle.msi_database.proofs.StreamLemmas.{tables_found}
 use Rattle.msi_database.proofs.SoundLemmas.{sound_names, sound_pool}
-use Rattle.msi_database.proofs.StoredLemmas.{AreNames, IsStoredOrStays, tables_are, rows_stay, all_sorted}
+use Rattle.msi_database.proofs.StoredLemmas.{AreNames, IsStoredOrStays, tables_are, rows_stay, all_sorted, all_names}
 use Rattle.msi_database.proofs.SchemaLemmas.{tables_sorted}
 use Rattle.msi_database.proofs.FitLemmas.{regular_by, rows_fit}
 use Rattle.msi_database.proofs.DescribedLemmas.{Spelled, table_rows, schema_before, schema_after}
@@ -110,6 +111,7 @@ module _ (k : Kept) (c : Change) (h : IsKeptDatabase k) (sound : is_sound k.data
   pub comes_kept : IsKeptDatabase (after_change k c)
   comes_kept = record {
     in_order = all_sorted c.database c.stored k.streams h.in_order;
+    names = all_names c.database (λ key. is_name_length (length key) ≡ true) table_key_is_name c.stored k.streams names h.names;
     spelled = record {
       tables = tables_after;
       unlisted = unlisted_after;

@@ -1,5 +1,5 @@
 -- Keys of tables tell their names, and differ from every other key of a package.
-use Rattle.std.proofs.Common.{◌≡◌, ◌≢◌, ℕ, zero, suc, ◌+◌, ◌-◌, ◌/◌, ◌%◌, ◌<◌, ◌≤◌, Bool, true, false, ◌==◌, List, [], ◌∷◌, drop, chars, Option, Some, None, is_none, IfSome, refl, sym, ap, ◌∙◌, arith, nat_lt, inl, inr}
+use Rattle.std.proofs.Common.{◌≡◌, ◌≢◌, ℕ, zero, suc, ◌+◌, ◌-◌, ◌/◌, ◌%◌, ◌<◌, ◌≤◌, Bool, true, false, ◌==◌, List, [], ◌∷◌, drop, chars, Option, Some, None, is_none, IfSome, refl, sym, ap, subst, ◌∙◌, arith, nat_lt, nat_le, length, inl, inr}
 use Rattle.std.specs.List.{list_all, list_any, flat_map, AllByRecursion}
 use Rattle.std.specs.Str.{IsAscii}
 use Rattle.std.specs.Char.Escape.{encode_utf16}
@@ -9,7 +9,8 @@ use Rattle.std.proofs.lemmas.List.Folds.{list_all-append}
 use Rattle.std.proofs.lemmas.Slice.Eq.{bytes_eq-Decides}
 use Rattle.std.proofs.lemmas.Str.{chars-IsAscii}
 use Rattle.msi_text.specs.CategoryRules.{is_identifier, continues_name, starts_name}
-use Rattle.msi_compound.specs.Names.{utf16_units}
+use Rattle.msi_compound.specs.Names.{utf16_units, is_name_length}
+use Rattle.msi_compound.proofs.EncodedUnitsLemmas.{some_units}
 use Rattle.msi_compound.specs.StreamNames.{value_of, packed, packed_pair, packed_single, is_marked, is_forbidden, table_mark, unpacked}
 use Rattle.msi_compound.proofs.CharacterValueLemmas.{value_below}
 use Rattle.msi_compound.proofs.PackingLemmas.{packed_from, packed_is}
@@ -104,6 +105,21 @@ table_key≢pool name h =
 
 pub pool_keys_differ : table_key string_pool_name ≢ table_key string_data_name
 pool_keys_differ e = true≢false (sym ((bytes_eq-Decides string_pool_name string_data_name).1 (table_keys_tell string_pool_name string_data_name refl refl e)))
+
+-- an accepted name's key is as long as a container's name may be
+is_length : (n : ℕ) → 0 < n → nat_le n 31 ≡ true → is_name_length n ≡ true
+is_length n some most = and_from (nat_lt 0 n) (nat_le n 31) (lt-ltb 0 n some) most
+
+filled_identifier : (name : List ℕ) → is_identifier name ≡ true → 0 < length name
+filled_identifier [] h = absurd cc
+filled_identifier (c ∷ cs) h = omega arith
+
+pub table_key_is_name : (name : List ℕ) → is_table_name name ≡ true → is_name_length (length (table_key name)) ≡ true
+table_key_is_name name h =
+    let parts = and_parts _ _ h in
+    let first = and_parts (is_identifier name) _ parts.0 in
+    let same : name ≡ chars name = sym (chars-IsAscii name (are_ascii name (continue_all name first.0))) in
+    is_length (length (table_key name)) (some_units true (chars name) (subst (λ (cs : List ℕ). 0 < length cs) same (filled_identifier name first.0))) first.1
 
 -- a table's key begins with the mark
 pub table_key_marked : (name : List ℕ) → is_marked (table_key name) ≡ true

@@ -1,5 +1,6 @@
 -- The words of this crate.
 pub mod Streams
+pub mod StreamNames
 pub mod Agreement
 pub mod Kept
 pub mod Storing
