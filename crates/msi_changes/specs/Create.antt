@@ -1,5 +1,5 @@
 -- What creating a table does, and when it is refused.
-use Rattle.std.specs.Prelude.{ℕ, ◌+◌, Bool, true, false, not, List, [], ◌∷◌, ◌++◌, length, Option, Some, option_and_then, nat_lt, nat_le, ◌==◌, ◌&&◌, ◌||◌, bytes_eq, Result, Ok}
+use Rattle.std.specs.Prelude.{ℕ, Bool, true, false, not, List, [], ◌∷◌, ◌++◌, length, Option, Some, option_and_then, nat_lt, nat_le, ◌==◌, ◌&&◌, ◌||◌, bytes_eq, Result, Ok}
 use Rattle.std.specs.List.{list_any, list_all}
 use Rattle.msi_text.specs.declared.errors.ErrorKind.{ErrorKind}
 use Rattle.msi_text.specs.declared.errors.ErrorKind.TheVariants.{AlreadyExists, InvalidInput, NotFound}
@@ -7,7 +7,7 @@ use Rattle.msi_text.specs.CategoryRules.{is_identifier}
 use Rattle.msi_text.specs.Lists.{has_pair}
 use Rattle.msi_relation.specs.Refusals.{Refusals, unless_refused, ◌>>=◌}
 use Rattle.msi_table.specs.declared.value.Value.{Value}
-use Rattle.msi_table.specs.declared.value.Value.TheVariants.{Str, Binary}
+use Rattle.msi_table.specs.declared.value.Value.TheVariants.{Str}
 use Rattle.msi_table.specs.declared.column.ColumnType.{ColumnType}
 use Rattle.msi_table.specs.Columns.{ColumnDef}
 use Rattle.msi_schema.specs.Keys.{is_table_name}

@@ -1,5 +1,5 @@
 -- What dropping a table does.
-use Rattle.std.specs.Prelude.{ℕ, ◌+◌, Bool, not, List, [], ◌∷◌, ◌++◌, filter, Result, Ok, take}
+use Rattle.std.specs.Prelude.{ℕ, Bool, not, List, [], ◌∷◌, ◌++◌, filter, Result, Ok, take}
 use Rattle.std.specs.Option.{option_map_or}
 use Rattle.std.specs.List.{fold}
 use Rattle.msi_text.specs.declared.errors.ErrorKind.{ErrorKind}

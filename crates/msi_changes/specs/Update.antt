@@ -1,5 +1,5 @@
 -- What updating rows does, and when it is refused.
-use Rattle.std.specs.Prelude.{if◌then◌else◌, ℕ, ◌+◌, Bool, false, not, List, [], ◌∷◌, ◌++◌, map, Option, Some, option_map, option_and_then, unwrap_or, ◌&&◌, ◌||◌, bytes_eq, codes, set, Result}
+use Rattle.std.specs.Prelude.{if◌then◌else◌, ℕ, Bool, false, not, List, [], ◌∷◌, ◌++◌, map, Option, Some, option_map, option_and_then, unwrap_or, ◌&&◌, ◌||◌, bytes_eq, codes, set, Result}
 use Rattle.std.specs.Option.{option_map_or}
 use Rattle.std.specs.List.{list_any, list_all, fold}
 use Rattle.msi_text.specs.declared.errors.ErrorKind.{ErrorKind}
