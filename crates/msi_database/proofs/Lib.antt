@@ -1,0 +1,2 @@
+pub mod PutBackLemmas
+pub mod EntriesLemmas
