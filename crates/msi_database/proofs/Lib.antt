@@ -1,2 +1,3 @@
 pub mod PutBackLemmas
 pub mod EntriesLemmas
+pub mod StreamAtLemmas

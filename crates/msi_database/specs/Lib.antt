@@ -1,6 +1,8 @@
 -- The words of this crate.
 pub mod Streams
+pub mod StreamNames
 pub mod Agreement
 pub mod Kept
+pub mod Listed
 pub mod Storing
 pub mod Keeping
