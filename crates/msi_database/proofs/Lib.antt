@@ -15,3 +15,6 @@ pub mod UpdateFitsLemmas
 pub mod RowsComeLemmas
 pub mod TablesComeLemmas
 pub mod KeepingLemmas
+pub mod PutBackLemmas
+pub mod EntriesLemmas
+pub mod StreamAtLemmas

@@ -3,5 +3,6 @@ pub mod Streams
 pub mod StreamNames
 pub mod Agreement
 pub mod Kept
+pub mod Listed
 pub mod Storing
 pub mod Keeping

@@ -1,0 +1,11 @@
+-- Tables by their columns, as a database lists them.
+use Rattle.std.specs.Prelude.{ℕ, List, map, Option, option_map}
+use Rattle.msi_table.specs.Columns.{TableDef}
+use Rattle.msi_changes.specs.Database.{Database, table_at}
+
+-- the table of a name, and all of them in their order
+abbrev pub table_def_at : List ℕ → Database → Option TableDef
+table_def_at name d = option_map (λ t. record { name = name; columns = t.columns; long = d.pool.long }) (table_at name d)
+
+abbrev pub tables_listed : Database → List TableDef
+tables_listed d = map (λ t. record { name = t.0; columns = t.1.columns; long = d.pool.long }) d.tables
