@@ -18,3 +18,4 @@ pub mod KeepingLemmas
 pub mod PutBackLemmas
 pub mod EntriesLemmas
 pub mod StreamAtLemmas
+pub mod PartsLemmas

@@ -5,7 +5,7 @@ use Rattle.std.specs.Ordering.{is_lt}
 use Rattle.msi_text.specs.Lists.{list_cmp}
 use Rattle.msi_text.specs.Pool.{Pool}
 use Rattle.msi_table.specs.declared.value.ValueRef.{ValueRef}
-use Rattle.msi_table.specs.Columns.{TableDef}
+use Rattle.msi_table.specs.Columns.{ColumnDef, TableDef}
 use Rattle.msi_relation.specs.Rows.{TableCells}
 use Rattle.msi_schema.specs.System.{validation_name, validation_columns}
 use Rattle.msi_changes.specs.Database.{Database}
@@ -55,3 +55,7 @@ without_table_kept name tables = filter (λ t. not (bytes_eq name t.name)) table
 -- each table's references are as long as the pool's
 abbrev pub AreAsLong : Bool → List TableDef → Type 0
 AreAsLong long tables = AllByRecursion (λ t. t.long ≡ long) tables
+
+-- each table's columns
+abbrev pub schema_listed : List TableDef → List (List ℕ × List ColumnDef)
+schema_listed tables = map (λ t. (t.name, t.columns)) tables
