@@ -19,3 +19,4 @@ pub mod PutBackLemmas
 pub mod EntriesLemmas
 pub mod StreamAtLemmas
 pub mod PartsLemmas
+pub mod TableListLemmas
