@@ -20,3 +20,4 @@ pub mod EntriesLemmas
 pub mod StreamAtLemmas
 pub mod PartsLemmas
 pub mod TableListLemmas
+pub mod EditLemmas
