@@ -21,3 +21,4 @@ pub mod StreamAtLemmas
 pub mod PartsLemmas
 pub mod TableListLemmas
 pub mod EditLemmas
+pub mod FinishLemmas
