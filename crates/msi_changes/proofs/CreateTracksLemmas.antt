@@ -33,7 +33,7 @@ few_rows d values t e =
     let few = (first_fails (nat_lt 65536 (length (rows_of t) + length values)) InvalidInput [] (front_fails (row_faults values t ++ key_faults d values t) (length_faults values t) e).1).0 in
     grind (arith, nat_tests, few)
 
-tracked_from : (d : Database) → Tracks d (no_change d)
+pub tracked_from : (d : Database) → Tracks d (no_change d)
 tracked_from d = record { others = λ other e. refl; names = refl; kept = λ h. h; unused = λ e. refl; long = refl; fits = λ h. h }
 
 module _ (takes : TakenPlacesHoldTheirText) (gives : GivenBackTakesOne) where

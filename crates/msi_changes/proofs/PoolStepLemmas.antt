@@ -59,7 +59,7 @@ no_step pool = record { kept = λ h. h; unused = λ e. (refl, e) }
 pub step_then : (a b c : PoolInUse) → PoolStep a b → PoolStep b c → PoolStep a c
 step_then a b c s t = record { kept = λ h. t.kept (s.kept h); unused = λ e. let u = t.unused e in let v = s.unused (u.1) in (u.0 ∙ v.0, v.1) }
 
-turn_steps : {X Y : Type 0} (step : PoolInUse → X → Option (Y × PoolInUse)) → ((s : PoolInUse) (x : X) (r : Y × PoolInUse) → step s x ≡ Some r → PoolStep s r.1)
+pub turn_steps : {X Y : Type 0} (step : PoolInUse → X → Option (Y × PoolInUse)) → ((s : PoolInUse) (x : X) (r : Y × PoolInUse) → step s x ≡ Some r → PoolStep s r.1)
     → (s : PoolInUse) (xs : List X) (r : List Y × PoolInUse) → in_turn step s xs ≡ Some r → PoolStep s r.1
 turn_steps step each s [] r e = subst (λ r. PoolStep s r.1) (same_Some ([], s) r e) (no_step s)
 turn_steps step each s (x ∷ xs) r e = option_and_then_some _ (step s x) r e
@@ -71,7 +71,7 @@ fold_steps step each s [] = no_step s
 fold_steps step each s (x ∷ xs) = step_then s (step s x) (fold step (step s x) xs) (each s x) (fold_steps step each (step s x) xs)
 
 module _ (takes : TakenPlacesHoldTheirText) (gives : GivenBackTakesOne) where
-  put_step : (long : Bool) (s : PoolInUse) (v : Value) (r : ValueRef × PoolInUse) → cell_put long s v ≡ Some r → PoolStep s r.1
+  pub put_step : (long : Bool) (s : PoolInUse) (v : Value) (r : ValueRef × PoolInUse) → cell_put long s v ≡ Some r → PoolStep s r.1
   put_step long s (Str text) r e = map_some _ (taken long s.places text) r e
       (λ x x_is whole. let t = takes long s.places x.1 text x.0 x_is in
       subst (λ (r : ValueRef × PoolInUse). PoolStep s r.1) whole (record { kept = taken_kept x.0 s.places x.1 t.from_one text t; unused = λ e. absurd (true≢false e) }))
@@ -88,7 +88,7 @@ module _ (takes : TakenPlacesHoldTheirText) (gives : GivenBackTakesOne) where
   back_kept places zero (Some after) e h = given_kept 1 places after (lit≤ tt) (gives places after 1 (lit≤ tt) e) h
   back_kept places (suc i) (Some after) e h = given_kept (suc i) places after (omega arith) (gives places after (suc i) (omega arith) e) h
 
-  released_step : (s : PoolInUse) (c : ValueRef) → PoolStep s (cell_released s c)
+  pub released_step : (s : PoolInUse) (c : ValueRef) → PoolStep s (cell_released s c)
   released_step s (cell.Str number) = record { kept = back_kept s.places number (given_back s.places number) refl; unused = λ e. absurd (true≢false e) }
   released_step s cell.Null = no_step s
   released_step s (cell.Int n) = no_step s

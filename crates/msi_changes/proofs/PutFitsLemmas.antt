@@ -64,7 +64,7 @@ fits_stream long coltype.Int32 e = absurd (true≢false (sym e))
 fits_stream long (coltype.Str k) e = absurd (true≢false (sym e))
 fits_stream long coltype.Binary e = tt
 
-fits_cell : (long : Bool) (c : ColumnDef) (v : Value) (x : ValueRef) → is_valid_value c v ≡ true → CellOf long v x → FitsColumn long c.coltype x
+pub fits_cell : (long : Bool) (c : ColumnDef) (v : Value) (x : ValueRef) → is_valid_value c v ≡ true → CellOf long v x → FitsColumn long c.coltype x
 fits_cell long c Null cell.Null e h = fits_null long c.coltype (and_parts c.is_nullable _ e).1
 fits_cell long c Null (cell.Int n) e h = absurd h
 fits_cell long c Null (cell.Str n) e h = absurd h
@@ -134,7 +134,7 @@ below_bound true n h = omega (arith, h)
 below_bound false n h = omega (arith, h)
 
 module _ (takes : TakenPlacesHoldTheirText) (long : Bool) where
-  put_of : (s : PoolInUse) (v : Value) (r : ValueRef × PoolInUse) → length s.places ≤ most_places long → cell_put long s v ≡ Some r → CellOf long v r.0 × (length r.1.places ≤ most_places long)
+  pub put_of : (s : PoolInUse) (v : Value) (r : ValueRef × PoolInUse) → length s.places ≤ most_places long → cell_put long s v ≡ Some r → CellOf long v r.0 × (length r.1.places ≤ most_places long)
   put_of s (Str text) r w e = map_some _ (taken long s.places text) r e
       (λ x x_is whole.
       let t = takes long s.places x.1 text x.0 x_is in

@@ -1,3 +1,20 @@
+-- The lemmas of this crate.
+pub mod MapLemmas
+pub mod KeyLemmas
+pub mod GivenBackLemmas
+pub mod SoundLemmas
+pub mod StreamLemmas
+pub mod StoredLemmas
+pub mod SchemaLemmas
+pub mod FitLemmas
+pub mod DescribedLemmas
+pub mod RowChangeLemmas
+pub mod KindsLemmas
+pub mod ComesLemmas
+pub mod UpdateFitsLemmas
+pub mod RowsComeLemmas
+pub mod TablesComeLemmas
+pub mod KeepingLemmas
 pub mod PutBackLemmas
 pub mod EntriesLemmas
 pub mod StreamAtLemmas
@@ -5,3 +22,5 @@ pub mod TablesKeptLemmas
 pub mod WholeLemmas
 pub mod PageLemmas
 pub mod AnswerLemmas
+pub mod PartsLemmas
+pub mod TableListLemmas

@@ -10,6 +10,7 @@ pub kept_with_page : (pool : Pool) (tables : List TableDef) (streams : Streams) 
 kept_with_page pool tables streams sound page k = record {
   kept = record {
     in_order = k.kept.in_order;
+    names = k.kept.names;
     spelled = record { tables = k.kept.spelled.tables; unlisted = k.kept.spelled.unlisted; schema = k.kept.spelled.schema };
     rows = k.kept.rows;
     unlisted = k.kept.unlisted;

@@ -23,7 +23,7 @@ use Rattle.msi_relation.proofs.RefusalLemmas.{goes_on-Err}
 use Rattle.msi_changes.specs.Database.{table_at, Tables}
 use Rattle.msi_database.specs.Streams.{Streams, stored_rows}
 use Rattle.msi_database.specs.Kept.{Kept, table_kept, table_kept_at, database_kept, AreAsLong}
-use Rattle.msi_database.specs.Keeping.{IsKeptDatabase, TableFits}
+use Rattle.msi_database.specs.Keeping.{IsKeptDatabase, HasFittingRows}
 use Rattle.msi_database.proofs.TablesKeptLemmas.{table_at_kept}
 
 abbrev pub relation_at : List ℕ → List ColumnDef → List (List ValueRef) → RelationCells
@@ -86,4 +86,4 @@ found_holds P name (u ∷ us) t all e =
     ] e
 
 pub kept_wide : (k : Kept) → IsKeptDatabase k → AreWide (λ name. table_at name k.database)
-kept_wide k kept name t found rows is = fits_wide k.database.pool.long t.columns t.rows rows (found_holds (TableFits k.database.pool.long) name k.database.tables t kept.rows found) is
+kept_wide k kept name t found rows is = fits_wide k.database.pool.long t.columns t.rows rows (found_holds (HasFittingRows k.database.pool.long) name k.database.tables t kept.rows found) is

@@ -1,5 +1,5 @@
 -- What streams say of a database: the rows of its tables, and by the rows of the system tables which tables it has.
-use Rattle.std.specs.Prelude.{◌≡◌, ℕ, Bool, List, [], map, Option, Some, option_map, option_and_then, MatchBool}
+use Rattle.std.specs.Prelude.{◌≡◌, ℕ, List, [], map, Option, Some, option_map, option_and_then, MatchBool}
 use Rattle.std.specs.List.{AllByRecursion}
 use Rattle.msi_text.specs.Pool.{Pool}
 use Rattle.msi_table.specs.declared.value.Value.{Value}

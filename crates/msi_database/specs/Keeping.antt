@@ -1,5 +1,5 @@
 -- What every database keeps to that is kept in streams, and that each change keeps it.
-use Rattle.std.specs.Prelude.{◌≡◌, ℕ, ◌≤◌, ◌⊎◌, T, Bool, true, List, length, IfSome}
+use Rattle.std.specs.Prelude.{◌≡◌, ◌≤◌, ◌⊎◌, T, Bool, true, List, length, IfSome}
 use Rattle.std.specs.List.{AllByRecursion}
 use Rattle.std.specs.FinMap.{is_sorted}
 use Rattle.msi_compound.specs.Names.{name_cmp}
@@ -12,24 +12,26 @@ use Rattle.msi_changes.specs.Database.{Database, is_sound}
 use Rattle.msi_changes.specs.Changes.{Change}
 use Rattle.msi_changes.specs.Laws.{IsChange, IsTableChange}
 use Rattle.msi_database.specs.Streams.{Streams}
+use Rattle.msi_database.specs.StreamNames.{HaveNames}
 use Rattle.msi_database.specs.Agreement.{DatabaseIs}
 use Rattle.msi_database.specs.Kept.{Kept, kept_of, database_kept, after_change, AreAsLong}
 
 -- a table has a column, and its rows, where they can be read, have a cell for each column, which fits it
-abbrev pub TableFits : Bool → TableCells → Type 0
-TableFits long t = IfSome t.rows (FitsTable long (types_of t.columns))
+abbrev pub HasFittingRows : Bool → TableCells → Type 0
+HasFittingRows long t = IfSome t.rows (FitsTable long (types_of t.columns))
 
 abbrev pub RowsFit : Database → Type 0
-RowsFit d = AllByRecursion (λ t. TableFits d.pool.long t.1) d.tables
+RowsFit d = AllByRecursion (λ t. HasFittingRows d.pool.long t.1) d.tables
 
 abbrev pub UnlistedFits : Database → Type 0
 UnlistedFits d = AllByRecursion (FitsRow d.pool.long (types_of validation_columns)) d.unlisted_validation
 
--- Every kept database, sound or not: the streams stand in their order, and spell it; its tables are those that the system tables
--- describe, in the order of their names; rows fit their columns, so that cells name places from 1 on; the pool has as many places as references can
--- name, with counts of 16 bits. Of a sound one each free place has the empty text
+-- Every kept database, sound or not: the streams have names, in the container's order, and spell it; its tables are those that the
+-- system tables describe, in the order of their names; rows fit their columns, so that cells name places from 1 on; the pool
+-- has no more places than a pool can have, with counts of 16 bits. Of a sound one each free place has the empty text
 pub record IsKeptDatabase (k : Kept) : Type 0 where
   pub in_order : T (is_sorted name_cmp k.streams)
+  pub names : HaveNames k.streams
   pub spelled : DatabaseIs k.streams k.database
   pub rows : RowsFit k.database
   pub unlisted : UnlistedFits k.database

@@ -1,5 +1,5 @@
 -- Streams that are stored together: each name gets its bytes, or has no stream.
-use Rattle.std.specs.Prelude.{◌≡◌, ◌≢◌, ℕ, List, [], ◌∷◌, map, Option}
+use Rattle.std.specs.Prelude.{◌≢◌, ℕ, List, [], ◌∷◌, map}
 use Rattle.std.specs.List.{AllByRecursion}
 use Rattle.msi_compound.specs.Streams as maps
 use Rattle.msi_schema.specs.Keys.{table_key}

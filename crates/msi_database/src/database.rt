@@ -41,13 +41,12 @@ impl Model for Database {
     ghost use Rattle.std.specs.FinMap.{entries};
     ghost use Rattle.msi_database.specs.Kept.{Kept, kept_of};
     ghost use Rattle.msi_database.specs.Keeping.{AreKept};
-    ghost use Rattle.msi_database.specs.StreamNames.{HaveNames};
 
     ghost Value = { Kept };
 
     ghost view = { λ d. kept_of d.pool d.tables (entries d.streams) };
 
-    ghost invariant = { λ d. AreKept d.pool d.tables (entries d.streams) d.is_sound × HaveNames (entries d.streams) };
+    ghost invariant = { λ d. AreKept d.pool d.tables (entries d.streams) d.is_sound };
 }
 
 impl Database {

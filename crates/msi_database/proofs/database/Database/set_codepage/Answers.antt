@@ -4,4 +4,4 @@ use Rattle.msi_database.proofs.database.Database.set_codepage.Goals as goal
 
 pub invariant_of-self : goal.invariant_of-self
 invariant_of-self c = let d = c.self.inside in
-    rw c.set_codepage.ensures (kept_with_page d.pool d.tables (entries d.streams) d.is_sound c.args.page c.self.invariant.0, c.self.invariant.1)
+    rw c.set_codepage.ensures (kept_with_page d.pool d.tables (entries d.streams) d.is_sound c.args.page c.self.invariant)
