@@ -18,6 +18,10 @@ pub mod KeepingLemmas
 pub mod PutBackLemmas
 pub mod EntriesLemmas
 pub mod StreamAtLemmas
+pub mod TablesKeptLemmas
+pub mod WholeLemmas
+pub mod PageLemmas
+pub mod AnswerLemmas
 pub mod PartsLemmas
 pub mod TableListLemmas
 pub mod EditLemmas

@@ -1,7 +1,9 @@
 -- Tables by their columns, as a database lists them.
 use Rattle.std.specs.Prelude.{ℕ, List, map, Option, option_map}
+use Rattle.msi_text.specs.declared.codepage.CodePage.{CodePage}
 use Rattle.msi_table.specs.Columns.{TableDef}
 use Rattle.msi_changes.specs.Database.{Database, table_at}
+use Rattle.msi_database.specs.Kept.{Kept}
 
 -- the table of a name, and all of them in their order
 abbrev pub table_def_at : List ℕ → Database → Option TableDef
@@ -9,3 +11,7 @@ table_def_at name d = option_map (λ t. record { name = name; columns = t.column
 
 abbrev pub tables_listed : Database → List TableDef
 tables_listed d = map (λ t. record { name = t.0; columns = t.1.columns; long = d.pool.long }) d.tables
+
+-- a kept database with another page
+abbrev pub with_page : CodePage → Kept → Kept
+with_page page k = record k { database = record k.database { pool = record k.database.pool { page = page } } }

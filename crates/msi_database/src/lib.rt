@@ -1,6 +1,9 @@
 //! The database of a package: its tables, kept in the streams of a container.
 #![tactic(auto)]
 
+pub mod database;
 mod decoding;
 mod reasons;
 pub mod storing;
+
+pub use database::Database;
