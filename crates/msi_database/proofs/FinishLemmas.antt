@@ -25,7 +25,8 @@ use Rattle.msi_database.specs.Kept.{Kept, kept_of, database_kept, after_change, 
 use Rattle.msi_database.specs.Keeping.{IsKeptDatabase, AreKept, AreParts}
 use Rattle.msi_database.proofs.EntriesLemmas.{entries_stored}
 use Rattle.msi_database.proofs.SchemaLemmas.{shown_in_order}
-use Rattle.msi_database.proofs.PartsLemmas.{parts_make, schema_kept, has_table_kept}
+use Rattle.msi_database.proofs.PartsLemmas.{parts_make, schema_kept}
+use Rattle.msi_database.proofs.TablesKeptLemmas.{has_table_kept}
 use Rattle.msi_database.proofs.TableListLemmas.{put_listed, put_as_long, without_listed, without_as_long}
 use Rattle.msi_database.proofs.EditLemmas.{tables_stored_in, rows_stored_first}
 use Rattle.msi_database.proofs.ComesLemmas.{Comes}

@@ -26,3 +26,7 @@ pub mod PartsLemmas
 pub mod TableListLemmas
 pub mod EditLemmas
 pub mod FinishLemmas
+pub mod OwnNamesLemmas
+pub mod MadeLemmas
+pub mod NamedLemmas
+pub mod OpenedLemmas
