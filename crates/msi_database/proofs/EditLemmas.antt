@@ -3,7 +3,7 @@ use Rattle.std.proofs.Common.{◌≡◌, ◌≢◌, ℕ, Bool, true, false, List
 use Rattle.std.specs.Prelude.{if◌then◌else◌}
 use Rattle.std.specs.List.{list_any, AllByRecursion}
 use Rattle.std.specs.FinMap.{find, put}
-use Rattle.std.proofs.lemmas.Bool.{or_parts, true≢false}
+use Rattle.std.proofs.lemmas.Bool.{or_parts, or_from, true≢false}
 use Rattle.std.proofs.lemmas.Slice.Eq.{bytes_eq-Decides}
 use Rattle.msi_text.specs.Lists.{list_cmp}
 use Rattle.msi_table.specs.declared.value.ValueRef.{ValueRef}
@@ -14,6 +14,7 @@ use Rattle.msi_table.proofs.RowOrderLemmas.{row_cmp-weak}
 use Rattle.msi_table.proofs.StableSortLemmas.{length_sorted}
 use Rattle.msi_relation.specs.Rows.{TableCells}
 use Rattle.msi_schema.specs.Keys.{is_table_name, table_key}
+use Rattle.msi_schema.specs.System.{tables_name, columns_name, validation_name}
 use Rattle.msi_changes.specs.Database.{Database, Tables, table_at, with_table}
 use Rattle.msi_changes.specs.Changes.{Change, PoolInUse, no_change, with_stored}
 use Rattle.msi_changes.specs.Create.{with_new_table}
@@ -103,3 +104,60 @@ new_stored_last b name columns apart = put_stored b.database name (record { colu
 pub dropped_stored_first : (d : Database) (name : List ℕ) (t : TableCells)
     → tables_stored (table_released name t (no_change d)).database (name ∷ []) ≡ record { name = table_key name; bytes = None } ∷ []
 dropped_stored_first d name t = ap (λ (o : Option TableCells). record { name = table_key name; bytes = table_stream d.pool.long o } ∷ []) (maps.find_without_same list_cmp_total list_cmp_exact name d.tables)
+
+-- WHOLE CHANGES
+
+single : (name : List ℕ) (o : Option (List ℕ)) → List Stored
+single name o = record { name = name; bytes = o } ∷ []
+
+-- a table that is created, after rows of the three system tables
+pub created_stored : (d : Database) (name : List ℕ) (columns cs ts vs : List ColumnDef) (c_rows t_rows v_rows : List (List ValueRef)) (c_pool t_pool v_pool : PoolInUse)
+    → list_any (bytes_eq name) (columns_name ∷ tables_name ∷ validation_name ∷ []) ≡ false
+    → let c = with_new_table name columns (with_stored validation_name vs v_rows v_pool (with_stored tables_name ts t_rows t_pool (with_stored columns_name cs c_rows c_pool (no_change d)))) in
+    tables_stored c.database c.stored
+    ≡ record { name = table_key columns_name; bytes = stream_of_rows d.pool.long cs c_rows }
+    ∷ record { name = table_key tables_name; bytes = stream_of_rows d.pool.long ts t_rows }
+    ∷ record { name = table_key validation_name; bytes = stream_of_rows d.pool.long vs v_rows }
+    ∷ record { name = table_key name; bytes = None } ∷ []
+unfolding single
+created_stored d name columns cs ts vs c_rows t_rows v_rows c_pool t_pool v_pool apart =
+    let b₁ : Change = with_stored columns_name cs c_rows c_pool (no_change d) in
+    let b₂ : Change = with_stored tables_name ts t_rows t_pool b₁ in
+    let b₃ : Change = with_stored validation_name vs v_rows v_pool b₂ in
+    new_stored_last b₃ name columns apart
+    ∙ ap (λ (es : List Stored). es ++ single (table_key name) None) (rows_stored_last b₂ validation_name vs v_rows v_pool refl
+    ∙ ap (λ (es : List Stored). es ++ single (table_key validation_name) (stream_of_rows d.pool.long vs v_rows)) (rows_stored_last b₁ tables_name ts t_rows t_pool refl
+    ∙ ap (λ (es : List Stored). es ++ single (table_key tables_name) (stream_of_rows d.pool.long ts t_rows)) (rows_stored_first d columns_name cs c_rows c_pool)))
+
+-- a table that is dropped, and rows of the system tables after it; `_Validation` may be missing
+module _ (d : Database) (name : List ℕ) (t : TableCells) (cs ts vs : List ColumnDef) (c_rows t_rows v_rows : List (List ValueRef)) (c_pool t_pool v_pool : PoolInUse)
+    (validation : bytes_eq validation_name name ≡ false) (columns : bytes_eq columns_name name ≡ false) (tables : bytes_eq tables_name name ≡ false) where
+  abbrev b₀ : Change
+  b₀ = table_released name t (no_change d)
+
+  pub dropped_stored : let c = with_stored tables_name ts t_rows t_pool (with_stored columns_name cs c_rows c_pool (with_stored validation_name vs v_rows v_pool b₀)) in
+      tables_stored c.database c.stored
+      ≡ record { name = table_key name; bytes = None }
+      ∷ record { name = table_key validation_name; bytes = stream_of_rows d.pool.long vs v_rows }
+      ∷ record { name = table_key columns_name; bytes = stream_of_rows d.pool.long cs c_rows }
+      ∷ record { name = table_key tables_name; bytes = stream_of_rows d.pool.long ts t_rows } ∷ []
+  unfolding single
+  dropped_stored =
+      let b₁ : Change = with_stored validation_name vs v_rows v_pool b₀ in
+      let b₂ : Change = with_stored columns_name cs c_rows c_pool b₁ in
+      rows_stored_last b₂ tables_name ts t_rows t_pool (or_from (bytes_eq tables_name name) false tables refl)
+      ∙ ap (λ (es : List Stored). es ++ single (table_key tables_name) (stream_of_rows d.pool.long ts t_rows)) (rows_stored_last b₁ columns_name cs c_rows c_pool (or_from (bytes_eq columns_name name) false columns refl)
+      ∙ ap (λ (es : List Stored). es ++ single (table_key columns_name) (stream_of_rows d.pool.long cs c_rows)) (rows_stored_last b₀ validation_name vs v_rows v_pool (or_from (bytes_eq validation_name name) false validation refl)
+      ∙ ap (λ (es : List Stored). es ++ single (table_key validation_name) (stream_of_rows d.pool.long vs v_rows)) (dropped_stored_first d name t)))
+
+  pub dropped_unvalidated : let c = with_stored tables_name ts t_rows t_pool (with_stored columns_name cs c_rows c_pool b₀) in
+      tables_stored c.database c.stored
+      ≡ record { name = table_key name; bytes = None }
+      ∷ record { name = table_key columns_name; bytes = stream_of_rows d.pool.long cs c_rows }
+      ∷ record { name = table_key tables_name; bytes = stream_of_rows d.pool.long ts t_rows } ∷ []
+  unfolding single
+  dropped_unvalidated =
+      let b₂ : Change = with_stored columns_name cs c_rows c_pool b₀ in
+      rows_stored_last b₂ tables_name ts t_rows t_pool (or_from (bytes_eq tables_name name) false tables refl)
+      ∙ ap (λ (es : List Stored). es ++ single (table_key tables_name) (stream_of_rows d.pool.long ts t_rows)) (rows_stored_last b₀ columns_name cs c_rows c_pool (or_from (bytes_eq columns_name name) false columns refl)
+      ∙ ap (λ (es : List Stored). es ++ single (table_key columns_name) (stream_of_rows d.pool.long cs c_rows)) (dropped_stored_first d name t))

@@ -30,3 +30,4 @@ pub mod OwnNamesLemmas
 pub mod MadeLemmas
 pub mod NamedLemmas
 pub mod OpenedLemmas
+pub mod ReadLemmas
