@@ -6,3 +6,4 @@ pub mod Kept
 pub mod Listed
 pub mod Storing
 pub mod Keeping
+pub mod OwnStreams

@@ -3,6 +3,7 @@
 
 pub mod database;
 mod decoding;
+pub mod laws;
 mod reasons;
 pub mod storing;
 
