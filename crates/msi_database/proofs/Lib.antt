@@ -32,3 +32,4 @@ pub mod NamedLemmas
 pub mod OpenedLemmas
 pub mod ReadLemmas
 pub mod KeptLawLemmas
+pub mod FreshLemmas

@@ -7,3 +7,4 @@ pub mod Listed
 pub mod Storing
 pub mod Keeping
 pub mod OwnStreams
+pub mod Fresh

@@ -1,5 +1,6 @@
 //! What holds of the definitions themselves: each law is what a function that does nothing ensures.
 
+ghost use Rattle.msi_database.specs.Fresh.{FreshIsKept};
 ghost use Rattle.msi_database.specs.Keeping.{ChangesAreKept, KeptIsWellFormed, ReadIsKept};
 ghost use Rattle.msi_database.specs.OwnStreams.{TablesHaveOwnStreams};
 
@@ -18,6 +19,11 @@ pub fn kept_is_well_formed()
 /// A pool and tables that are read of streams make a kept database with them, sound or not.
 pub fn read_is_kept()
     ensures { ReadIsKept }
+{}
+
+/// A new database is kept and sound, and its counts are exact.
+pub fn fresh_is_kept()
+    ensures { FreshIsKept }
 {}
 
 /// The stream of a table with an accepted name is no other's.
