@@ -18,15 +18,21 @@ empty_table columns = record { columns = columns; rows = Some [] }
 abbrev pub bare_database : Database
 bare_database = record {
   pool = record { page = page.Utf8; long = false; places = [] };
-  tables = (columns_name, empty_table columns_columns) ∷ (tables_name, empty_table tables_columns) ∷ (validation_name, empty_table validation_columns) ∷ [];
+  tables = (columns_name, empty_table columns_columns)
+      ∷ (tables_name, empty_table tables_columns)
+      ∷ (validation_name, empty_table validation_columns) ∷ [];
   unlisted_validation = [];
 }
 
 abbrev pub fresh_change : Change
-fresh_change = unwrap_or (described_by_rows validation_name validation_columns (no_change bare_database)) (no_change bare_database)
+fresh_change = unwrap_or (described_by_rows validation_name validation_columns (no_change bare_database))
+    (no_change bare_database)
 
 abbrev pub fresh : Kept
-fresh = record { database = fresh_change.database; streams = stored_streams fresh_change.database fresh_change.stored [] }
+fresh = record {
+  database = fresh_change.database;
+  streams = stored_streams fresh_change.database fresh_change.stored [];
+}
 
 -- It is kept and sound, and its counts are exact.
 pub record FreshIsKept : Type 0 where

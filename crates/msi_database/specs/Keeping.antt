@@ -26,9 +26,10 @@ RowsFit d = AllByRecursion (λ t. HasFittingRows d.pool.long t.1) d.tables
 abbrev pub UnlistedFits : Database → Type 0
 UnlistedFits d = AllByRecursion (FitsRow d.pool.long (types_of validation_columns)) d.unlisted_validation
 
--- Every kept database, sound or not: the streams have names, in the container's order, and spell it; its tables are those that the
--- system tables describe, in the order of their names; rows fit their columns, so that cells name places from 1 on; the pool
--- has no more places than a pool can have, with counts of 16 bits. Of a sound one each free place has the empty text
+-- Every kept database, sound or not: the streams have names, in the container's order, and spell it; its tables are
+-- those that the system tables describe, in the order of their names; rows fit their columns, so that cells name places
+-- from 1 on; the pool has no more places than a pool can have, with counts of 16 bits. Of a sound one each free place
+-- has the empty text
 pub record IsKeptDatabase (k : Kept) : Type 0 where
   pub in_order : T (is_sorted name_cmp k.streams)
   pub names : HaveNames k.streams
@@ -55,8 +56,8 @@ ChangesAreKept = (k : Kept) (c : Change) → IsKeptDatabase k → is_sound k.dat
 abbrev pub KeptIsWellFormed : Type 0
 KeptIsWellFormed = (k : Kept) → IsKeptDatabase k → is_well_formed k.database ≡ true
 
--- What is read is kept: streams of bytes under names in order; a pool that lost the texts of its free places but where a cell names one; and the
--- tables that the system tables describe
+-- What is read is kept: streams of bytes under names in order; a pool that lost the texts of its free places but where
+-- a cell names one; and the tables that the system tables describe
 pub record IsRead (raw pool : Pool) (tables : List TableDef) (streams : Streams) : Type 0 where
   pub in_order : T (is_sorted name_cmp streams)
   pub names : HaveNames streams
@@ -68,7 +69,8 @@ pub record IsRead (raw pool : Pool) (tables : List TableDef) (streams : Streams)
   pub schema : schema_in streams pool ≡ Some (schema_listed tables)
 
 abbrev pub ReadIsKept : Type 0
-ReadIsKept = (raw pool : Pool) (tables : List TableDef) (streams : Streams) (is_known_sound : Bool) → IsRead raw pool tables streams
+ReadIsKept = (raw pool : Pool) (tables : List TableDef) (streams : Streams) (is_known_sound : Bool)
+    → IsRead raw pool tables streams
     → is_known_sound ≡ is_sound (database_kept pool tables streams) → AreKept pool tables streams is_known_sound
 
 -- a kept database is that of these parts, which is sound
