@@ -33,3 +33,4 @@ pub mod OpenedLemmas
 pub mod ReadLemmas
 pub mod KeptLawLemmas
 pub mod FreshLemmas
+pub mod RefusedCallLemmas
