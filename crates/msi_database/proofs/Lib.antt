@@ -34,3 +34,5 @@ pub mod ReadLemmas
 pub mod KeptLawLemmas
 pub mod FreshLemmas
 pub mod RefusedCallLemmas
+pub mod ChainLemmas
+pub mod CanStoreLemmas
