@@ -177,3 +177,14 @@ module _ (d : Database) (name : List ℕ) (gone c t : TableCells) (passed : firs
   -- the pool after the table's own rows
   pub released_pool : pool_of released ≡ rows_released (pool_of (no_change d)) (rows_of gone)
   released_pool = refl
+
+-- WHAT A CREATE AND A DROP LEAVE OF THE SYSTEM TABLES
+
+-- a table that is stored is there
+pub stored_there : (name : List ℕ) (columns : List ColumnDef) (rows : List (List ValueRef)) (pool : PoolInUse) (b : Change)
+    → table_at name (with_stored name columns rows pool b).database ≡ Some (record { columns = columns; rows = Some (in_stored_order columns rows) })
+stored_there name columns rows pool b = maps.find_put_same list_cmp_total list_cmp_exact name (record { columns = columns; rows = Some (in_stored_order columns rows) }) b.database.tables
+
+-- also behind a new table
+pub new_stays_at : (name other : List ℕ) (columns : List ColumnDef) (b : Change) → bytes_eq name other ≡ false → table_at other (with_new_table name columns b).database ≡ table_at other b.database
+new_stays_at name other columns b apart = put_elsewhere name other (record { columns = columns; rows = Some [] }) b.database apart

@@ -36,3 +36,4 @@ pub mod FreshLemmas
 pub mod RefusedCallLemmas
 pub mod ChainLemmas
 pub mod CanStoreLemmas
+pub mod StorableLemmas
