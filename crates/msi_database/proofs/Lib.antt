@@ -24,3 +24,5 @@ pub mod PageLemmas
 pub mod AnswerLemmas
 pub mod PartsLemmas
 pub mod TableListLemmas
+pub mod SpendLemmas
+pub mod SoundnessLemmas

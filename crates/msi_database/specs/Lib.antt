@@ -5,4 +5,5 @@ pub mod Agreement
 pub mod Kept
 pub mod Listed
 pub mod Storing
+pub mod Spending
 pub mod Keeping

@@ -4,6 +4,7 @@
 pub mod database;
 mod decoding;
 mod reasons;
+mod soundness;
 pub mod storing;
 
 pub use database::Database;
