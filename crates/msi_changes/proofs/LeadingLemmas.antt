@@ -1,5 +1,5 @@
 -- The first values of a table's rows ascend after an accepted change, where they are numbers.
-use Rattle.std.proofs.Common.{◌≡◌, ℕ, ◌+◌, ◌<◌, Bool, true, false, cond, List, [], ◌∷◌, map, length, get_or, slice_get, Some, None, refl, sym, ap, ◌∙◌, subst, arith, Ordering}
+use Rattle.std.proofs.Common.{◌≡◌, ℕ, ◌+◌, ◌<◌, Bool, true, false, cond, List, [], ◌∷◌, ◌++◌, map, length, get_or, slice_get, Some, None, refl, sym, ap, ◌∙◌, subst, arith, Ordering}
 use Rattle.std.specs.Prelude.{unwrap_or, IsSomeAnd}
 use Rattle.std.specs.List.{AllByRecursion}
 use Rattle.std.specs.List.Sorted.{IsSortedByKey}
@@ -25,7 +25,10 @@ use Rattle.msi_table.specs.Values.{value_cmp}
 use Rattle.msi_relation.specs.Rows.{TableCells}
 use Rattle.msi_schema.proofs.SortLemmas.{sort_moves}
 use Rattle.msi_changes.specs.Database.{Database, table_at, rows_of}
-use Rattle.msi_changes.specs.Changes.{Change, PoolInUse, no_change, with_stored}
+use Rattle.msi_changes.specs.Changes.{Change, PoolInUse, no_change, pool_of, with_stored}
+use Rattle.msi_changes.specs.Delete.{rows_meeting}
+use Rattle.msi_changes.specs.Keyed.{in_key_order}
+use Rattle.msi_changes.specs.Texts.{rows_released}
 use Rattle.msi_changes.specs.Laws.{rows_at, LeadingNumbersAscend, LeadingNumbersAscendIn, inserted, updated, deleted}
 use Rattle.msi_changes.proofs.DescribingLemmas.{rows_at_is}
 use Rattle.msi_changes.proofs.KindsKeptLemmas.{all_permuted}
@@ -81,8 +84,10 @@ module _ (ascend : sorted.LeadingNumbersAscend) where
 
   pub leading_ascend : LeadingNumbersAscend
   leading_ascend d c (inserted q e) =
-      let s = (insert_parts d q c e).1 in subst LeadingNumbersAscendIn s.stored (leading_stored d q.table s.table.columns _ s.put.1)
+      let s = (insert_parts d q c e).1 in subst LeadingNumbersAscendIn s.stored 
+      (leading_stored d q.table s.table.columns (in_key_order s.table.columns s.put.1.places (rows_of s.table ++ s.put.0)) s.put.1)
   leading_ascend d c (updated q e) =
       let s = update_parts d q c e in subst LeadingNumbersAscendIn s.stored (leading_stored d q.table s.table.columns s.rows.0 s.rows.1)
   leading_ascend d c (deleted q e) =
-      let s = delete_parts d q c e in subst LeadingNumbersAscendIn s.stored (leading_stored d q.table s.table.columns _ _)
+      let s = delete_parts d q c e in subst LeadingNumbersAscendIn s.stored 
+      (leading_stored d q.table s.table.columns (rows_meeting d.pool.places s.table q.condition false) (rows_released (pool_of (no_change d)) (rows_meeting d.pool.places s.table q.condition true)))

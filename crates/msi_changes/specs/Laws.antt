@@ -1,6 +1,9 @@
 -- What follows for users, in the words of the database: statements that public contracts name.
-use Rattle.std.specs.Prelude.{if◌then◌else◌, ◌≡◌, ℕ, true, false, not, List, [], ◌++◌, map, filter, Some, option_and_then, unwrap_or, IsPermutation, bytes_eq, Ok, count_by}
-use Rattle.std.specs.List.{sum_by}
+use Rattle.std.specs.Prelude.{◌≡◌, ℕ, true, false, not, if◌then◌else◌, List, [], ◌∷◌, ◌++◌, map, filter, Some, option_and_then, unwrap_or, slice_get, IsSomeAnd, IsPermutation, bytes_eq, Ok, count_by}
+use Rattle.std.specs.FinMap.{put}
+use Rattle.std.specs.List.Sorted.{IsSortedByKey}
+use Rattle.std.specs.Ordering.{eq_by_cmp}
+use Rattle.std.specs.List.{sum_by, AllByRecursion}
 use Rattle.msi_text.specs.FirstFitLaws.{text_at}
 use Rattle.msi_text.specs.Lists.{has_pair, list_cmp}
 use Rattle.msi_table.specs.declared.value.Value.{Value}
