@@ -26,3 +26,10 @@ pub mod PartsLemmas
 pub mod TableListLemmas
 pub mod SpendLemmas
 pub mod SoundnessLemmas
+pub mod EditLemmas
+pub mod FinishLemmas
+pub mod OwnNamesLemmas
+pub mod MadeLemmas
+pub mod NamedLemmas
+pub mod OpenedLemmas
+pub mod ReadLemmas

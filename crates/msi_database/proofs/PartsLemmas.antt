@@ -17,28 +17,8 @@ use Rattle.msi_schema.specs.Schema.{SchemaRows, schema_of}
 use Rattle.msi_changes.specs.Database.{Database, Tables, has_table, table_at}
 use Rattle.msi_database.specs.Streams.{Streams, stored_rows}
 use Rattle.msi_database.specs.Agreement.{DatabaseIs, schema_shown, schema_in}
+use Rattle.msi_database.proofs.TablesKeptLemmas.{has_table_kept}
 use Rattle.msi_database.specs.Kept.{table_kept, table_kept_at, unlisted_kept, database_kept, schema_listed}
-
--- TABLES BY NAME
-
-pub find_kept : (streams : Streams) (long : Bool) (name : List ℕ) (tables : List TableDef)
-    → find list_cmp name (map (table_kept streams long) tables) ≡ option_map (λ t. (table_kept streams long t).1) (table_kept_at name tables)
-find_kept streams long name [] = refl
-find_kept streams long name (t ∷ ts) = rw (is_eq-slice_cmp name t.name)
-    (elim (bytes_eq name t.name) as (λ b. cond b (Some (table_kept streams long t).1) (find list_cmp name (map (table_kept streams long) ts)) ≡ option_map (λ t. (table_kept streams long t).1) (cond b (Some t) (table_kept_at name ts)))
-    [ true ↦ refl | false ↦ find_kept streams long name ts ])
-
-pub table_at_kept : (pool : Pool) (tables : List TableDef) (streams : Streams) (name : List ℕ)
-    → table_at name (database_kept pool tables streams) ≡ option_map (λ t. (table_kept streams pool.long t).1) (table_kept_at name tables)
-table_at_kept pool tables streams name = find_kept streams pool.long name tables
-
-mapped_some : {X Y : Type 0} (f : X → Y) (o : Option X) → is_some (option_map f o) ≡ is_some o
-mapped_some f None = refl
-mapped_some f (Some x) = refl
-
-pub has_table_kept : (pool : Pool) (tables : List TableDef) (streams : Streams) (name : List ℕ)
-    → has_table name (database_kept pool tables streams) ≡ is_some (table_kept_at name tables)
-has_table_kept pool tables streams name = ap is_some (table_at_kept pool tables streams name) ∙ mapped_some (λ t. (table_kept streams pool.long t).1) (table_kept_at name tables)
 
 pub schema_kept : (pool : Pool) (tables : List TableDef) (streams : Streams) → schema_shown (database_kept pool tables streams) ≡ schema_listed tables
 schema_kept pool [] streams = refl

@@ -1,13 +1,13 @@
 -- What streams say of a database: the rows of its tables, and by the rows of the system tables which tables it has.
-use Rattle.std.specs.Prelude.{◌≡◌, ℕ, List, [], map, Option, Some, option_map, option_and_then, MatchBool}
-use Rattle.std.specs.List.{AllByRecursion}
+use Rattle.std.specs.Prelude.{◌≡◌, ℕ, ◌==◌, Bool, List, [], ◌++◌, map, Option, Some, option_map, option_and_then, unwrap_or, MatchBool}
+use Rattle.std.specs.List.{AllByRecursion, list_any}
 use Rattle.msi_text.specs.Pool.{Pool}
 use Rattle.msi_table.specs.declared.value.Value.{Value}
 use Rattle.msi_table.specs.Columns.{ColumnDef}
 use Rattle.msi_table.specs.StoredOrder.{row_values}
 use Rattle.msi_schema.specs.System.{tables_name, columns_name, validation_name, tables_columns, columns_columns, validation_columns}
 use Rattle.msi_schema.specs.Schema.{SchemaRows, schema_of}
-use Rattle.msi_changes.specs.Database.{Database, has_table}
+use Rattle.msi_changes.specs.Database.{Database, has_table, named_numbers, numbers_of_rows}
 use Rattle.msi_database.specs.Streams.{Streams, stored_rows}
 
 -- each table has the rows of its stream
@@ -44,3 +44,13 @@ pub record DatabaseIs (streams : Streams) (d : Database) : Type 0 where
   pub tables : TablesAre streams d
   pub unlisted : UnlistedIs streams d
   pub schema : SchemaIs streams d
+
+-- what names a place: a cell of a table, or of the stream of `_Validation` by its standard columns, listed or not
+abbrev pub numbers_stored : Streams → Bool → List ℕ
+numbers_stored streams long = numbers_of_rows (unwrap_or (stored_rows streams long validation_columns validation_name) [])
+
+abbrev pub shown_numbers : Streams → Database → List ℕ
+shown_numbers streams d = named_numbers d ++ numbers_stored streams d.pool.long
+
+abbrev pub is_shown : Streams → Database → ℕ → Bool
+is_shown streams d number = list_any (λ n. n == number) (shown_numbers streams d)
