@@ -7,3 +7,4 @@ pub mod Listed
 pub mod Storing
 pub mod Spending
 pub mod Keeping
+pub mod Making

@@ -1,6 +1,7 @@
 //! The database of a package: its tables, kept in the streams of a container.
 #![tactic(auto)]
 
+mod changing;
 pub mod database;
 mod decoding;
 mod reasons;
