@@ -33,3 +33,4 @@ pub mod MadeLemmas
 pub mod NamedLemmas
 pub mod OpenedLemmas
 pub mod ReadLemmas
+pub mod ChangingLemmas
