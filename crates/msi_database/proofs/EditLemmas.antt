@@ -55,7 +55,7 @@ own_names d (n ∷ ns) are apart = (others_apart d n ns are.0 are.1 apart.0, own
 stored_same : (long : Bool) (columns : List ColumnDef) (rows : List (List ValueRef)) → table_stream long (Some (record { columns = columns; rows = Some (in_stored_order columns rows) })) ≡ stream_of_rows long columns rows
 stored_same long columns rows = ap (λ (n : ℕ). if n == 0 then None else Some (table_bytes long (types_of columns) (in_stored_order columns rows))) (length_sorted (row_cmp columns) (row_cmp-weak columns) rows)
 
-apart_names : (name other : List ℕ) → bytes_eq name other ≡ false → other ≢ name
+pub apart_names : (name other : List ℕ) → bytes_eq name other ≡ false → other ≢ name
 apart_names name other apart e = true≢false (sym ((bytes_eq-Decides name other).1 (sym e)) ∙ apart)
 
 -- the streams of other tables are as before

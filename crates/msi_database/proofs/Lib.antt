@@ -34,3 +34,9 @@ pub mod NamedLemmas
 pub mod OpenedLemmas
 pub mod ReadLemmas
 pub mod ChangingLemmas
+pub mod KeptLawLemmas
+pub mod FreshLemmas
+pub mod RefusedCallLemmas
+pub mod ChainLemmas
+pub mod CanStoreLemmas
+pub mod StorableLemmas

@@ -24,13 +24,13 @@ use Rattle.msi_changes.specs.Delete.{delete_rows, rows_deleted}
 use Rattle.msi_changes.specs.Create.{create_table, table_refusals, with_new_table}
 
 -- a first refusal of a sound database, of two that are tested
-both_pass : (a b : Bool) (kind other : ErrorKind) → a ≡ true → b ≡ false → first_refusal ((not a, kind) ∷ (b, other) ∷ []) ≡ None
+pub both_pass : (a b : Bool) (kind other : ErrorKind) → a ≡ true → b ≡ false → first_refusal ((not a, kind) ∷ (b, other) ∷ []) ≡ None
 both_pass a b kind other e f = rw (e, f) refl
 
-goes_on : {A B : Type 0} (rs : Refusals) (x : A) (f : A → Result B ErrorKind) → first_refusal rs ≡ None → (unless_refused rs x >>= f) ≡ f x
+pub goes_on : {A B : Type 0} (rs : Refusals) (x : A) (f : A → Result B ErrorKind) → first_refusal rs ≡ None → (unless_refused rs x >>= f) ≡ f x
 goes_on rs x f e = ap (λ (o : Option ErrorKind). unless o x >>= f) e
 
-found : {A B : Type 0} (kind : ErrorKind) (o : Option A) (x : A) (f : A → Result B ErrorKind) → o ≡ Some x → (or_refused kind o >>= f) ≡ f x
+pub found : {A B : Type 0} (kind : ErrorKind) (o : Option A) (x : A) (f : A → Result B ErrorKind) → o ≡ Some x → (or_refused kind o >>= f) ≡ f x
 found kind o x f e = ap (λ (o : Option _). or_refused kind o >>= f) e
 
 -- ROWS THAT ARE INSERTED, from any change on

@@ -21,12 +21,16 @@ UnlistedIs streams d = MatchBool (has_table validation_name d) (d.unlisted_valid
 
 -- the values of a system table's rows; those of `_Validation` are read by its standard columns, listed or not
 abbrev pub described_by : Streams → Pool → List ColumnDef → List ℕ → Option (List (List Value))
-described_by streams pool columns name = option_map (map (row_values pool.places)) (stored_rows streams pool.long columns name)
+described_by streams pool columns name = option_map (map (row_values pool.places))
+    (stored_rows streams pool.long columns name)
 
 abbrev pub schema_rows : Streams → Pool → Option SchemaRows
 schema_rows streams pool =
-    option_and_then (λ tables. option_and_then (λ columns. option_map (λ validation. record { tables = tables; columns = columns; validation = validation })
-    (described_by streams pool validation_columns validation_name)) (described_by streams pool columns_columns columns_name)) (described_by streams pool tables_columns tables_name)
+    option_and_then (λ tables. option_and_then (λ columns. option_map
+    (λ validation. record { tables = tables; columns = columns; validation = validation })
+    (described_by streams pool validation_columns validation_name))
+    (described_by streams pool columns_columns columns_name))
+    (described_by streams pool tables_columns tables_name)
 
 abbrev pub schema_in : Streams → Pool → Option (List (List ℕ × List ColumnDef))
 schema_in streams pool = option_and_then schema_of (schema_rows streams pool)
@@ -47,7 +51,8 @@ pub record DatabaseIs (streams : Streams) (d : Database) : Type 0 where
 
 -- what names a place: a cell of a table, or of the stream of `_Validation` by its standard columns, listed or not
 abbrev pub numbers_stored : Streams → Bool → List ℕ
-numbers_stored streams long = numbers_of_rows (unwrap_or (stored_rows streams long validation_columns validation_name) [])
+numbers_stored streams long = numbers_of_rows
+    (unwrap_or (stored_rows streams long validation_columns validation_name) [])
 
 abbrev pub shown_numbers : Streams → Database → List ℕ
 shown_numbers streams d = named_numbers d ++ numbers_stored streams d.pool.long

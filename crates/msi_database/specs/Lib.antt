@@ -8,3 +8,5 @@ pub mod Storing
 pub mod Spending
 pub mod Keeping
 pub mod Making
+pub mod OwnStreams
+pub mod Fresh

@@ -23,4 +23,6 @@ stored_in (e ∷ es) streams = stored_in es (with_stream_or_none e.name e.bytes 
 
 -- what becomes of the streams of a database's tables of these names
 abbrev pub tables_stored : Database → List (List ℕ) → List Stored
-tables_stored d names = map (λ name. record { name = table_key name; bytes = table_stream d.pool.long (table_at name d) }) names
+tables_stored d names = map
+    (λ name. record { name = table_key name; bytes = table_stream d.pool.long (table_at name d) })
+    names

@@ -35,12 +35,14 @@ with_stream_or_none name (Some bytes) streams = with_stream name bytes streams
 
 -- the rows that a table's stream spells; a missing stream has none
 abbrev pub stored_rows : Streams → Bool → List ColumnDef → List ℕ → Option (List (List ValueRef))
-stored_rows streams long columns name = rows_in long (types_of columns) (unwrap_or (stream_at (table_key name) streams) [])
+stored_rows streams long columns name = rows_in long (types_of columns)
+    (unwrap_or (stream_at (table_key name) streams) [])
 
 -- the stream of a table: one without rows, and one that is gone, has none
 abbrev pub table_stream : Bool → Option TableCells → Option (List ℕ)
 table_stream long None = None
-table_stream long (Some t) = if length (rows_of t) == 0 then None else Some (table_bytes long (types_of t.columns) (rows_of t))
+table_stream long (Some t) = if length (rows_of t) == 0 then None
+    else Some (table_bytes long (types_of t.columns) (rows_of t))
 
 -- the same of rows that are still to be given their stored order
 abbrev pub stream_of_rows : Bool → List ColumnDef → List (List ValueRef) → Option (List ℕ)
@@ -51,4 +53,5 @@ abbrev pub stored_stream : Bool → List ℕ → Option TableCells → Streams �
 stored_stream long name t streams = with_stream_or_none (table_key name) (table_stream long t) streams
 
 abbrev pub stored_streams : Database → List (List ℕ) → Streams → Streams
-stored_streams d names streams = fold (λ streams name. stored_stream d.pool.long name (table_at name d) streams) streams names
+stored_streams d names streams = fold
+    (λ streams name. stored_stream d.pool.long name (table_at name d) streams) streams names

@@ -4,6 +4,7 @@
 mod changing;
 pub mod database;
 mod decoding;
+pub mod laws;
 mod reasons;
 mod soundness;
 pub mod storing;
