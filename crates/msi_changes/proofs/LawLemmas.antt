@@ -9,7 +9,7 @@ use Rattle.msi_text.specs.FirstFitLaws.{TakenPlacesHoldTheirText, GivenBackTakes
 use Rattle.msi_text.specs.Lists.{list_cmp}
 use Rattle.msi_query.specs.Queries.{InsertQuery, UpdateQuery, DeleteQuery}
 use Rattle.msi_query.specs.Conditions.{meets}
-use Rattle.msi_changes.specs.Database.{Database, table_at, is_sound, CountsAreExact}
+use Rattle.msi_changes.specs.Database.{Database, table_at, is_sound, is_well_formed, CountsAreExact}
 use Rattle.msi_relation.specs.Rows.{TableCells}
 use Rattle.msi_changes.specs.Changes.{Change, no_change}
 use Rattle.msi_changes.specs.Insert.{insert_rows}
@@ -17,21 +17,20 @@ use Rattle.msi_changes.specs.Update.{update_rows, values_after}
 use Rattle.msi_changes.specs.Delete.{delete_rows}
 use Rattle.msi_changes.specs.Create.{create_table}
 use Rattle.msi_changes.specs.Drop.{drop_table}
-use Rattle.msi_changes.specs.Laws.{rows_at, OthersStay, KeysAreDistinct, IsChange, inserted, updated, deleted}
+use Rattle.msi_changes.specs.Laws.{rows_at, OthersStay, KeysAreDistinct, IsChange, inserted, updated, deleted, IsTableChange, created, dropped, Keeps, InsertAddsItsRows, UpdateSetsItsRows, DeleteRemovesItsRows, ChangesKeep, TableChangesKeep, CountsTellTexts}
 use Rattle.msi_table.specs.Columns.{ColumnDef}
 use Rattle.msi_changes.proofs.KeysLemmas.{inserted_distinct}
 use Rattle.msi_changes.proofs.KeysKeptLemmas.{delete_distinct, update_distinct}
 use Rattle.msi_changes.proofs.CreateLemmas.{create_keeps}
-use Rattle.msi_changes.proofs.DropLemmas.{Keeps, drop_keeps}
+use Rattle.msi_changes.proofs.DropLemmas.{drop_keeps}
+use Rattle.msi_changes.proofs.DropLemmas as steps
+use Rattle.msi_changes.proofs.TableKeysLemmas.{create_distinct, drop_distinct}
+use Rattle.msi_changes.proofs.TextCountLemmas.{counts_of_text}
 use Rattle.msi_changes.proofs.SoundLemmas.{names_are_numbers}
 use Rattle.msi_changes.proofs.StoredLemmas.{WellFormed, table_is_full}
 use Rattle.msi_changes.proofs.InsertLemmas.{insert_parts, insert_sound, insert_well, insert_exact, insert_adds}
 use Rattle.msi_changes.proofs.UpdateLemmas.{update_parts, update_sound, update_well, update_exact, update_sets}
 use Rattle.msi_changes.proofs.DeleteLemmas.{delete_parts, delete_sound, delete_well, delete_exact, delete_removes}
-
--- the same as a test
-abbrev pub is_well_formed : Database → Bool
-is_well_formed d = names_are_numbers d && is_sorted list_cmp d.tables && list_all table_is_full d.tables
 
 three : (a b c : Bool) → (a && b && c) ≡ true → (a ≡ true) × (T b) × (c ≡ true)
 three true true c h = (refl, tt, h)
@@ -82,10 +81,10 @@ module _ (takes : TakenPlacesHoldTheirText) (gives : GivenBackTakesOne) where
   changes_keep_keys d c (deleted q e) well distinct = delete_distinct takes gives d q c well (delete_parts d q c e) distinct
 
   -- the same of a table that is created and of one that is dropped
-  pub create_table_keeps : (d : Database) (name : List ℕ) (columns : List ColumnDef) (c : Change) → WellFormed d → create_table d name columns ≡ Ok c → Keeps d c.database
+  pub create_table_keeps : (d : Database) (name : List ℕ) (columns : List ColumnDef) (c : Change) → WellFormed d → create_table d name columns ≡ Ok c → steps.Keeps d c.database
   create_table_keeps = create_keeps takes gives
 
-  pub drop_table_keeps : (d : Database) (name : List ℕ) (c : Change) → WellFormed d → drop_table d name ≡ Ok c → Keeps d c.database
+  pub drop_table_keeps : (d : Database) (name : List ℕ) (c : Change) → WellFormed d → drop_table d name ≡ Ok c → steps.Keeps d c.database
   drop_table_keeps = drop_keeps takes gives
 
   -- an accepted insert adds exactly its rows
@@ -108,3 +107,34 @@ module _ (takes : TakenPlacesHoldTheirText) (gives : GivenBackTakesOne) where
       let s = delete_parts d q c e in
       subst (λ t. IsPermutation (filter (λ row. not (meets t.columns q.condition row)) (rows_at q.table d)) (rows_at q.table c.database) × OthersStay q.table d c.database)
       (same_Some s.table t (sym s.found ∙ found)) (delete_removes takes gives d q c well s)
+
+  -- the same as they are told
+  pub inserts_add : InsertAddsItsRows
+  inserts_add d q c well e = insert_adds_its_rows d q c (well_formed_from d well) e
+
+  pub updates_set : UpdateSetsItsRows
+  updates_set d q c t well found e = update_sets_its_rows d q c t (well_formed_from d well) found e
+
+  pub deletes_remove : DeleteRemovesItsRows
+  deletes_remove d q c t well found e = delete_removes_its_rows d q c t (well_formed_from d well) found e
+
+  pub changes_keep : ChangesKeep
+  changes_keep d c change formed sound =
+      let well = well_formed_from d formed in record {
+        formed = well_formed_to c.database (changes_keep_form d c change well);
+        sound = changes_keep_soundness d c change well sound;
+        counts = changes_keep_counts d c change well sound;
+        keys = changes_keep_keys d c change well;
+      }
+
+  keeps_by : (d : Database) (c : Change) → steps.Keeps d c.database → (KeysAreDistinct d → KeysAreDistinct c.database) → Keeps d c.database
+  keeps_by d c kept keys = record { formed = well_formed_to c.database kept.well; sound = kept.sound; counts = kept.exact; keys = keys }
+
+  pub table_changes_keep : TableChangesKeep
+  table_changes_keep d c (created name columns e) formed sound =
+      let well = well_formed_from d formed in keeps_by d c (create_table_keeps d name columns c well e) (create_distinct takes gives d name columns c well e)
+  table_changes_keep d c (dropped name e) formed sound =
+      let well = well_formed_from d formed in keeps_by d c (drop_table_keeps d name c well e) (drop_distinct takes gives d name c well e)
+
+pub counts_tell : CountsTellTexts
+counts_tell d text formed sound exact = counts_of_text d text sound (well_formed_from d formed) exact

@@ -41,16 +41,21 @@ abbrev pub is_binary : ColumnType → Bool
 is_binary coltype.Binary = true
 is_binary _ = false
 
-abbrev pub table_refusals : Database → List ℕ → List ColumnDef → Refusals
-table_refusals d name columns = (not (is_table_name name), InvalidInput)
-    ∷ (not (nat_le 1 (length columns) && nat_le (length columns) 32), InvalidInput)
+abbrev pub column_refusals : List ColumnDef → Refusals
+column_refusals columns = (not (nat_le 1 (length columns) && nat_le (length columns) 32), InvalidInput)
     ∷ (not (list_any (λ c. c.is_primary_key) columns), InvalidInput)
     ∷ (not (columns_are_named columns), InvalidInput)
     ∷ (list_any (λ c. is_too_long c.coltype) columns, InvalidInput)
     ∷ (list_any (λ c. is_binary c.coltype && (c.is_primary_key || c.is_localizable)) columns, InvalidInput)
-    ∷ (list_any (λ c. list_any (list_any (λ b. b == 59)) c.enum_values) columns, InvalidInput)
-    ∷ (has_table name d, AlreadyExists)
-    ∷ (not (has_table validation_name d), NotFound) ∷ []
+    ∷ (list_any (λ c. list_any (list_any (λ b. b == 59)) c.enum_values) columns, InvalidInput) ∷ []
+
+-- why a table of a name and columns isn't made, where a table of the name is there or isn't, and `_Validation` is or isn't
+abbrev pub new_table_refusals : List ℕ → List ColumnDef → Bool → Bool → Refusals
+new_table_refusals name columns is_there is_validation_there = (not (is_table_name name), InvalidInput)
+    ∷ column_refusals columns ++ (is_there, AlreadyExists) ∷ (not is_validation_there, NotFound) ∷ []
+
+abbrev pub table_refusals : Database → List ℕ → List ColumnDef → Refusals
+table_refusals d name columns = new_table_refusals name columns (has_table name d) (has_table validation_name d)
 
 abbrev pub create_table : Database → List ℕ → List ColumnDef → Result Change ErrorKind
 create_table d name columns = unless_refused (sound_refusal d ++ table_refusals d name columns) (no_change d) >>=

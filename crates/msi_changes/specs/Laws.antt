@@ -1,14 +1,24 @@
 -- What follows for users, in the words of the database: statements that public contracts name.
-use Rattle.std.specs.Prelude.{if◌then◌else◌, ◌≡◌, ℕ, true, false, not, List, [], ◌++◌, map, filter, Some, option_and_then, unwrap_or, IsPermutation, bytes_eq, Ok, count_by}
-use Rattle.std.specs.List.{sum_by}
+use Rattle.std.specs.Prelude.{◌≡◌, ℕ, true, false, not, if◌then◌else◌, List, [], ◌∷◌, ◌++◌, map, filter, Some, option_and_then, unwrap_or, slice_get, IsSomeAnd, IsPermutation, bytes_eq, Ok, count_by}
+use Rattle.std.specs.FinMap.{put}
+use Rattle.std.specs.List.Sorted.{IsSortedByKey}
+use Rattle.std.specs.Ordering.{eq_by_cmp}
+use Rattle.std.specs.List.{sum_by, AllByRecursion}
 use Rattle.msi_text.specs.FirstFitLaws.{text_at}
-use Rattle.msi_text.specs.Lists.{has_pair}
+use Rattle.msi_text.specs.Lists.{has_pair, list_cmp}
 use Rattle.msi_table.specs.declared.value.Value.{Value}
-use Rattle.msi_table.specs.Columns.{ColumnDef}
+use Rattle.msi_table.specs.declared.value.Value.TheVariants.{Null}
+use Rattle.msi_table.specs.Columns.{ColumnDef, types_of}
+use Rattle.msi_table.specs.ReadBack.{FitsRow, FitsTable}
+use Rattle.msi_table.specs.SortedRows.{HoldsNumbers}
+use Rattle.msi_table.specs.StoredOrder.{is_of_category_binary, row_values}
+use Rattle.msi_table.specs.Values.{value_cmp}
+use Rattle.msi_schema.specs.Schema.{SchemaRows, schema_of}
+use Rattle.msi_schema.specs.System.{columns_name, tables_name, validation_columns, validation_name}
 use Rattle.msi_query.specs.Queries.{InsertQuery, UpdateQuery, DeleteQuery}
 use Rattle.msi_query.specs.Conditions.{meets}
 use Rattle.msi_changes.specs.Keyed.{key_of, same_key}
-use Rattle.msi_changes.specs.Database.{Database, CountsAreExact, values_of, is_sound, is_well_formed, table_at, named_numbers}
+use Rattle.msi_changes.specs.Database.{Database, CountsAreExact, values_of, is_sound, is_well_formed, table_at, has_table, rows_of, named_numbers}
 use Rattle.msi_relation.specs.Rows.{TableCells}
 use Rattle.msi_changes.specs.Changes.{Change}
 use Rattle.msi_changes.specs.Insert.{insert_rows}
@@ -74,3 +84,51 @@ CountsOfText d text = sum_by (λ place. if bytes_eq place.text text then place.c
 
 abbrev pub CountsTellTexts : Type 0
 CountsTellTexts = (d : Database) (text : List ℕ) → is_well_formed d ≡ true → is_sound d ≡ true → CountsAreExact d → CountsOfText d text
+
+-- the rows of a table fit its columns
+abbrev pub TableFits : Database → TableCells → Type 0
+TableFits d t = IsSomeAnd t.rows (FitsTable d.pool.long (types_of t.columns))
+
+-- after a change of rows the table's first values ascend, where they are numbers and their column isn't of category Binary
+abbrev pub LeadingNumbersAscendIn : Change → Type 0
+LeadingNumbersAscendIn c = (name : List ℕ) (t : TableCells) (first : ColumnDef) (others : List ColumnDef) → c.stored ≡ name ∷ []
+    → table_at name c.database ≡ Some t → TableFits c.database t → t.columns ≡ first ∷ others
+    → HoldsNumbers first.coltype → is_of_category_binary first.category ≡ false
+    → IsSortedByKey (λ row. unwrap_or (slice_get row 0) Null) value_cmp (rows_at name c.database)
+
+abbrev pub LeadingNumbersAscend : Type 0
+LeadingNumbersAscend = (d : Database) (c : Change) → IsChange d c → LeadingNumbersAscendIn c
+
+-- the rows that describe tables; those of a `_Validation` that is no table are in its stream
+abbrev pub describing : Database → SchemaRows
+describing d = record {
+  tables = rows_at tables_name d;
+  columns = rows_at columns_name d;
+  validation = if has_table validation_name d then rows_at validation_name d
+      else map (row_values d.pool.places) d.unlisted_validation;
+}
+
+-- the columns of tables by name
+abbrev pub columns_by_name : Database → List (List ℕ × List ColumnDef)
+columns_by_name d = map (λ t. (t.0, t.1.columns)) d.tables
+
+-- the rows of each table fit its columns, and those of a `_Validation` that is no table the standard ones
+pub record RowsFit (d : Database) : Type 0 where
+  pub tables : (name : List ℕ) (t : TableCells) → table_at name d ≡ Some t → TableFits d t
+  pub unlisted : AllByRecursion (FitsRow d.pool.long (types_of validation_columns)) d.unlisted_validation
+
+-- the rows describe the tables that there are
+abbrev pub TablesAreDescribed : Database → Type 0
+TablesAreDescribed d = schema_of (describing d) ≡ Some (columns_by_name d)
+
+-- the rows of a new table give its columns back, beside the other tables
+abbrev pub CreatedTablesAreDescribed : Type 0
+CreatedTablesAreDescribed = (d : Database) (name : List ℕ) (columns : List ColumnDef) (c : Change)
+    → is_well_formed d ≡ true → RowsFit d → TablesAreDescribed d → create_table d name columns ≡ Ok c
+    → schema_of (describing c.database) ≡ Some (put list_cmp name columns (columns_by_name d))
+
+-- after a table was dropped the rows describe the others
+abbrev pub DroppedTablesAreForgotten : Type 0
+DroppedTablesAreForgotten = (d : Database) (name : List ℕ) (c : Change)
+    → is_well_formed d ≡ true → RowsFit d → TablesAreDescribed d → drop_table d name ≡ Ok c
+    → schema_of (describing c.database) ≡ Some (filter (λ t. not (eq_by_cmp list_cmp name t.0)) (columns_by_name d))

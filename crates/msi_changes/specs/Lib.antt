@@ -9,3 +9,6 @@ pub mod Delete
 pub mod Create
 pub mod Drop
 pub mod Laws
+pub mod Views
+pub mod KeySets
+pub mod RowUpdates

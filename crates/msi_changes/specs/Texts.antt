@@ -2,11 +2,20 @@
 use Rattle.std.specs.Prelude.{Bool, true, List, [], ◌∷◌, Option, Some, option_map, option_and_then, unwrap_or}
 use Rattle.std.specs.List.{fold}
 use Rattle.msi_text.specs.FirstFit.{taken, given_back}
+use Rattle.msi_text.specs.Pool.{Pool}
 use Rattle.msi_table.specs.declared.value.Value.{Value}
 use Rattle.msi_table.specs.declared.value.Value.TheVariants.{Null, Int, Str, Binary}
 use Rattle.msi_table.specs.declared.value.ValueRef.{ValueRef}
 use Rattle.msi_changes.specs.Changes.{PoolInUse}
 use Rattle.msi_table.specs.declared.value.ValueRef.TheVariants as cell
+
+-- a pool while a change goes on, whole
+pub record UsedPool : Type 0 where
+  pub pool : Pool
+  pub is_used : Bool
+
+abbrev pub in_use : UsedPool → PoolInUse
+in_use u = record { places = u.pool.places; is_used = u.is_used }
 
 -- each in turn, from the state that the one before it left
 abbrev pub in_turn : {S X Y : Type 0} → (S → X → Option (Y × S)) → S → List X → Option (List Y × S)

@@ -24,6 +24,8 @@ pub mod PageLemmas
 pub mod AnswerLemmas
 pub mod PartsLemmas
 pub mod TableListLemmas
+pub mod SpendLemmas
+pub mod SoundnessLemmas
 pub mod EditLemmas
 pub mod FinishLemmas
 pub mod OwnNamesLemmas
@@ -31,6 +33,7 @@ pub mod MadeLemmas
 pub mod NamedLemmas
 pub mod OpenedLemmas
 pub mod ReadLemmas
+pub mod ChangingLemmas
 pub mod KeptLawLemmas
 pub mod FreshLemmas
 pub mod RefusedCallLemmas

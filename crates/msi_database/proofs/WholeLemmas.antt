@@ -30,7 +30,7 @@ abbrev pub relation_at : List ℕ → List ColumnDef → List (List ValueRef) �
 relation_at name columns rows = record { name = name; columns = columns; rows = rows }
 
 -- the rows of a table that was found, as its own columns read them
-rows_found : (streams : Streams) (long : Bool) (name : List ℕ) (tables : List TableDef) (t : TableDef) → AreAsLong long tables → table_kept_at name tables ≡ Some t
+pub rows_found : (streams : Streams) (long : Bool) (name : List ℕ) (tables : List TableDef) (t : TableDef) → AreAsLong long tables → table_kept_at name tables ≡ Some t
     → stored_rows streams long t.columns t.name ≡ stored_rows streams t.long t.columns t.name
 rows_found streams long name [] t all e = cc
 rows_found streams long name (u ∷ us) t all e =
@@ -77,7 +77,7 @@ fits_wide : (long : Bool) (columns : List ColumnDef) (o : Option (List (List Val
 fits_wide long columns None rows fits e = cc
 fits_wide long columns (Some held) rows fits e = let same : held ≡ rows = cc in subst (AreAsWide columns) same (each_wide long columns held fits.each_row)
 
-found_holds : (P : TableCells → Type 0) (name : List ℕ) (tables : Tables) (t : TableCells) → AllByRecursion (λ e. P e.1) tables → find list_cmp name tables ≡ Some t → P t
+pub found_holds : (P : TableCells → Type 0) (name : List ℕ) (tables : Tables) (t : TableCells) → AllByRecursion (λ e. P e.1) tables → find list_cmp name tables ≡ Some t → P t
 found_holds P name [] t all e = cc
 found_holds P name (u ∷ us) t all e =
     elim (eq_by_cmp list_cmp name u.0) as (λ b. cond b (Some u.1) (find list_cmp name us) ≡ Some t → P t) [

@@ -5,6 +5,8 @@ pub mod Agreement
 pub mod Kept
 pub mod Listed
 pub mod Storing
+pub mod Spending
 pub mod Keeping
+pub mod Making
 pub mod OwnStreams
 pub mod Fresh

@@ -186,7 +186,7 @@ impl Tables for Database {
 }
 
 /// The table of this name among these.
-fn table_named<'a>(tables: &'a [Table], name: &str) -> Option<&'a Table>
+pub(crate) fn table_named<'a>(tables: &'a [Table], name: &str) -> Option<&'a Table>
     ensures known { is_some result ≡ is_some (table_kept_at name.now tables.now) }
     ensures found { option_copied result ≡ table_kept_at name.now tables.now }
 {

@@ -1,10 +1,12 @@
 //! The database of a package: its tables, kept in the streams of a container.
 #![tactic(auto)]
 
+mod changing;
 pub mod database;
 mod decoding;
 pub mod laws;
 mod reasons;
+mod soundness;
 pub mod storing;
 
 pub use database::Database;

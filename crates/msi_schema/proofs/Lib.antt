@@ -3,6 +3,9 @@ pub mod AddedLemmas
 pub mod AddedRowsLemmas
 pub mod ColumnBackLemmas
 pub mod ListLemmas
+pub mod OrderLemmas
 pub mod OrderlessLemmas
+pub mod RowOrderLemmas
 pub mod SchemaLemmas
 pub mod SortLemmas
+pub mod TablesLemmas

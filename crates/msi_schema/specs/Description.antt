@@ -1,14 +1,19 @@
 -- The rows that describe a table: in `_Columns`, in `_Tables` and in `_Validation` (MSI SDK, "System tables").
-use Rattle.std.specs.Prelude.{if◌then◌else◌, ℕ, List, [], ◌∷◌, map, Option, Some, None, option_map, codes, ℤ, pos}
-use Rattle.std.specs.List.{enumerate_from, join_with_byte}
+use Rattle.std.specs.Prelude.{if◌then◌else◌, ℕ, Bool, true, nat_lt, List, [], ◌∷◌, map, Option, Some, None, option_map, codes, ℤ, pos}
+use Rattle.std.specs.List.{enumerate_from, join_with_byte, list_all}
 use Rattle.msi_text.specs.Categories.{category_name}
 use Rattle.msi_table.specs.declared.value.Value.{Value}
 use Rattle.msi_table.specs.declared.value.Value.TheVariants.{Null, Int, Str}
+use Rattle.msi_table.specs.declared.column.ColumnType.{ColumnType}
+use Rattle.msi_table.specs.declared.column.ColumnType.TheVariants as coltype
 use Rattle.msi_table.specs.Columns.{ColumnDef, type_bits}
 
 -- The rows that describe a table: in `_Columns`, in `_Tables` and in `_Validation`
+abbrev pub column_row : List ℕ → ℕ × ColumnDef → List Value
+column_row name e = Str name ∷ Int (pos e.0) ∷ Str e.1.name ∷ Int (pos (type_bits e.1)) ∷ []
+
 abbrev pub column_rows : List ℕ → List ColumnDef → List (List Value)
-column_rows name columns = map (λ e. Str name ∷ Int (pos e.0) ∷ Str e.1.name ∷ Int (pos (type_bits e.1)) ∷ []) (enumerate_from 1 columns)
+column_rows name columns = map (column_row name) (enumerate_from 1 columns)
 
 abbrev pub int_or_null : Option ℤ → Value
 int_or_null None = Null
@@ -30,3 +35,17 @@ validation_row table c = Str table ∷ Str c.name ∷ Str (if c.is_nullable then
 
 abbrev pub validation_rows : List ℕ → List ColumnDef → List (List Value)
 validation_rows name columns = map (validation_row name) columns
+
+abbrev pub tables_row : List ℕ → List Value
+tables_row name = Str name ∷ []
+
+-- the bits of a type tell a length in one byte
+abbrev pub is_short : ColumnType → Bool
+is_short (coltype.Str n) = nat_lt n 256
+is_short _ = true
+
+abbrev pub has_short_length : ColumnDef → Bool
+has_short_length c = is_short c.coltype
+
+abbrev pub have_short_lengths : List ColumnDef → Bool
+have_short_lengths columns = list_all has_short_length columns

@@ -1,7 +1,7 @@
 -- The names of a package's streams in its container.
-use Rattle.std.specs.Prelude.{ℕ, Bool, true, false, not, List, ◌∷◌, nat_le, ◌&&◌, ◌||◌, chars, codes, bytes_eq}
+use Rattle.std.specs.Prelude.{ℕ, Bool, true, false, not, List, ◌∷◌, length, Option, Some, None, nat_le, ◌&&◌, ◌||◌, if◌then◌else◌, chars, codes, bytes_eq}
 use Rattle.msi_text.specs.CategoryRules.{is_identifier}
-use Rattle.msi_compound.specs.Names.{utf16_units}
+use Rattle.msi_compound.specs.Names.{is_name_length, utf16_units}
 use Rattle.msi_compound.specs.StreamNames.{encoded_name, encoded_units, is_valid_name}
 
 -- what may name a stream, and what may name a table
@@ -38,3 +38,7 @@ signature_key = 5 ∷ codes "DigitalSignature"
 
 abbrev pub signature_ex_key : List ℕ
 signature_ex_key = 5 ∷ codes "MsiDigitalSignatureEx"
+
+-- a name of these units, where they are as many as a container's name may have
+abbrev pub named : List ℕ → Option (List ℕ)
+named units = if is_name_length (length units) then Some units else None

@@ -2,4 +2,6 @@
 pub mod Keys
 pub mod System
 pub mod Schema
+pub mod ListedTables
+pub mod RowOrders
 pub mod Description

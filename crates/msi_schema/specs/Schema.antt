@@ -1,5 +1,5 @@
 -- Which tables the rows of `_Tables`, `_Columns` and `_Validation` describe (MSI SDK, "System tables").
-use Rattle.std.specs.Prelude.{if◌then◌else◌, ℕ, ◌+◌, Bool, true, false, not, List, [], ◌∷◌, map, length, filter, Option, Some, None, option_map, option_and_then, unwrap_or, find, ◌==◌, ◌&&◌, ◌||◌, bytes_eq, codes, slice_get, ℤ, pos, zip}
+use Rattle.std.specs.Prelude.{if◌then◌else◌, ℕ, ◌+◌, Bool, true, false, not, List, [], ◌∷◌, map, length, filter, Option, Some, None, option_map, option_and_then, unwrap_or, find, ◌==◌, ◌&&◌, ◌||◌, bytes_eq, codes, slice_get, ℤ, pos, negsuc, nat_le, zip}
 use Rattle.std.specs.List.{list_any, list_all, slice_split}
 use Rattle.std.specs.Ordering.{is_eq, int_cmp, eq_by_cmp}
 use Rattle.std.specs.FinMap.{put}
@@ -8,9 +8,9 @@ use Rattle.msi_text.specs.declared.category.Category.{Category}
 use Rattle.msi_text.specs.Categories.{category_name, all_categories}
 use Rattle.msi_text.specs.Lists.{all_present, tabulated, has_pair, list_cmp}
 use Rattle.msi_table.specs.declared.value.Value.{Value}
-use Rattle.msi_table.specs.declared.value.Value.TheVariants.{Null, Int, Str}
+use Rattle.msi_table.specs.declared.value.Value.TheVariants.{Null, Int, Str, Binary}
 use Rattle.msi_table.specs.Values.{value_cmp}
-use Rattle.msi_table.specs.Columns.{ColumnDef, begun_column, column_of_bits}
+use Rattle.msi_table.specs.Columns.{ColumnDef, TableDef, begun_column, column_of_bits, greatest_16}
 use Rattle.msi_schema.specs.Keys.{is_pool_name}
 use Rattle.msi_schema.specs.System.{tables_name, columns_name, is_schema_table, tables_columns, columns_columns}
 use Rattle.msi_text.specs.declared.category.Category.TheVariants as category
@@ -127,3 +127,28 @@ abbrev pub schema_of : SchemaRows → Option (List (List ℕ × List ColumnDef))
 schema_of s = if is_faulty s then None
     else option_map (λ columns. by_name ((tables_name, tables_columns) ∷ (columns_name, columns_columns) ∷ zip (listed_names s) columns))
     (all_present (map (columns_of s) (listed_names s)))
+
+-- what the cells of the system tables' columns give: a number of 16 bits, and a text or null
+abbrev pub is_of_16_bits : ℤ → Bool
+is_of_16_bits (pos n) = nat_le n greatest_16
+is_of_16_bits (negsuc n) = nat_le n greatest_16
+
+abbrev pub is_text_or_null : Value → Bool
+is_text_or_null (Int n) = false
+is_text_or_null Binary = false
+is_text_or_null _ = true
+
+-- a column's number, or the bits of its type
+abbrev pub has_long_number : List (List Value) → Bool
+has_long_number rows = list_any (λ row. not (is_of_16_bits (number_of (value_at 1 row)) && is_of_16_bits (number_of (value_at 3 row)))) rows
+
+-- the name of a table
+abbrev pub has_odd_name : List (List Value) → Bool
+has_odd_name rows = list_any (λ row. not (is_text_or_null (value_at 0 row))) rows
+
+abbrev pub table_with : Bool → List ℕ × List ColumnDef → TableDef
+table_with long t = record { name = t.0; columns = t.1; long = long }
+
+-- the tables as such, in the order of their names; nothing for rows that no cells of the system tables give, either
+abbrev pub tables_of : Bool → SchemaRows → Option (List TableDef)
+tables_of long s = if has_odd_name s.tables || has_long_number s.columns then None else option_map (map (table_with long)) (schema_of s)

@@ -1,5 +1,5 @@
 -- The tables that describe tables (MSI SDK, "System tables").
-use Rattle.std.specs.Prelude.{ℕ, Bool, true, false, List, [], ◌∷◌, map, Some, None, codes, ◌||◌, bytes_eq, ℤ, pos, negsuc}
+use Rattle.std.specs.Prelude.{ℕ, Bool, true, false, List, [], ◌∷◌, ◌++◌, map, Some, None, codes, ◌||◌, bytes_eq, ℤ, pos, negsuc}
 use Rattle.msi_text.specs.declared.category.Category.{Category}
 use Rattle.msi_text.specs.Categories.{category_name, all_categories}
 use Rattle.msi_table.specs.declared.column.ColumnType.{ColumnType}
@@ -59,15 +59,21 @@ abbrev pub columns_columns : List ColumnDef
 columns_columns = key (plain_column (codes "Table") (Str 64)) ∷ key (plain_column (codes "Number") Int16)
     ∷ plain_column (codes "Name") (Str 64) ∷ plain_column (codes "Type") Int16 ∷ []
 
-abbrev pub validation_columns : List ColumnDef
-validation_columns =
-    key (of_category category.Identifier (plain_column (codes "Table") (Str 32)))
+abbrev pub naming_columns : List ColumnDef
+naming_columns = key (of_category category.Identifier (plain_column (codes "Table") (Str 32)))
     ∷ key (of_category category.Identifier (plain_column (codes "Column") (Str 32)))
-    ∷ one_of (codes "Y" ∷ codes "N" ∷ []) (plain_column (codes "Nullable") (Str 4))
-    ∷ nullable (in_range (negsuc 2147483646) (pos 2147483647) (plain_column (codes "MinValue") Int32))
+    ∷ one_of (codes "Y" ∷ codes "N" ∷ []) (plain_column (codes "Nullable") (Str 4)) ∷ []
+
+abbrev pub referring_columns : List ColumnDef
+referring_columns = nullable (in_range (negsuc 2147483646) (pos 2147483647) (plain_column (codes "MinValue") Int32))
     ∷ nullable (in_range (negsuc 2147483646) (pos 2147483647) (plain_column (codes "MaxValue") Int32))
     ∷ nullable (of_category category.Identifier (plain_column (codes "KeyTable") (Str 255)))
-    ∷ nullable (in_range (pos 1) (pos 32) (plain_column (codes "KeyColumn") Int16))
-    ∷ nullable (one_of (map category_name all_categories) (plain_column (codes "Category") (Str 32)))
+    ∷ nullable (in_range (pos 1) (pos 32) (plain_column (codes "KeyColumn") Int16)) ∷ []
+
+abbrev pub describing_columns : List ColumnDef
+describing_columns = nullable (one_of (map category_name all_categories) (plain_column (codes "Category") (Str 32)))
     ∷ nullable (of_category category.Text (plain_column (codes "Set") (Str 255)))
     ∷ nullable (of_category category.Text (plain_column (codes "Description") (Str 255))) ∷ []
+
+abbrev pub validation_columns : List ColumnDef
+validation_columns = naming_columns ++ referring_columns ++ describing_columns
