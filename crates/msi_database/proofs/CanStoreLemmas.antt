@@ -3,6 +3,8 @@ use Rattle.std.proofs.Common.{◌≡◌, ℕ, ◌≤◌, Bool, true, false, List
 use Rattle.std.specs.List.{AllByRecursion}
 use Rattle.std.proofs.lemmas.List.Sorted.{IsPermutation-sym, length_permutation}
 use Rattle.msi_database.specs.Streams.{Streams}
+use Rattle.std.specs.FinMap.{entries}
+use Rattle.msi_compound.specs.Streams as maps
 use Rattle.msi_text.specs.Pool.{Pool}
 use Rattle.msi_table.specs.declared.value.ValueRef.{ValueRef}
 use Rattle.msi_table.specs.Columns.{ColumnDef, TableDef, types_of}
@@ -46,7 +48,12 @@ module _ (pool : Pool) (tables : List TableDef) (streams : Streams) (kept : AreK
       unsorted_fits pool.long columns rows (subst (λ (long : Bool). FitsTable long (types_of columns) (in_stored_order columns rows)) comes.tracks.long fits)
 
   -- of the table that a change of rows stores
-  pub rows_can_store : (name : List ℕ) (columns : List ColumnDef) (rows : List (List ValueRef)) (used : PoolInUse) → with_stored name columns rows used (no_change (database_kept pool tables streams)) ≡ c
+  pub stored_can_store : (name : List ℕ) (columns : List ColumnDef) (rows : List (List ValueRef)) (used : PoolInUse) → with_stored name columns rows used (no_change (database_kept pool tables streams)) ≡ c
       → FitsTable pool.long (types_of columns) rows
-  rows_can_store name columns rows used is = can_store name columns rows (ap (λ (x : Change). table_at name x.database) (sym is)
+  stored_can_store name columns rows used is = can_store name columns rows (ap (λ (x : Change). table_at name x.database) (sym is)
       ∙ lists.find_put_same list_cmp_total list_cmp_exact name (record { columns = columns; rows = Some (in_stored_order columns rows) }) (database_kept pool tables streams).tables)
+
+-- the same over a map of streams
+pub rows_can_store : (pool : Pool) (tables : List TableDef) (m : maps.Streams) → AreKept pool tables (entries m) true → (c : Change) → IsChange (database_kept pool tables (entries m)) c ⊎ IsTableChange (database_kept pool tables (entries m)) c
+    → (name : List ℕ) (columns : List ColumnDef) (rows : List (List ValueRef)) (used : PoolInUse) → with_stored name columns rows used (no_change (database_kept pool tables (entries m))) ≡ c → FitsTable pool.long (types_of columns) rows
+rows_can_store pool tables m kept c change = stored_can_store pool tables (entries m) kept c change

@@ -28,7 +28,7 @@ use Rattle.msi_changes.proofs.DroppedLemmas.{flips}
 use Rattle.msi_database.proofs.MapLemmas as maps
 use Rattle.msi_database.proofs.StreamLemmas.{list_cmp_total, list_cmp_exact}
 use Rattle.msi_database.proofs.EditLemmas.{apart_names}
-use Rattle.msi_database.proofs.MadeLemmas.{goes_on, found, inserted_made, create_made}
+use Rattle.msi_database.proofs.MadeLemmas.{goes_on, found, inserted_by_cells, create_made}
 
 -- the change after a table's rows and the pool became these
 abbrev pub added : List ℕ → TableCells → List (List ValueRef) × PoolInUse → Change → Change
@@ -62,20 +62,20 @@ module _ (d : Database) (name : List ℕ) (columns : List ColumnDef) (c t v : Ta
     third = added validation_name v three second
 
     pub first_inserted : first_refusal (row_refusals d.pool.places c c_rows) ≡ None → cells_added d.pool.long c.columns (pool_of (no_change d)) (rows_of c) c_rows ≡ Some one → rows_inserted columns_name c_rows (no_change d) ≡ Ok first
-    first_inserted passed put = inserted_made (no_change d) columns_name c c_rows one.0 one.1 c_at passed put
+    first_inserted passed put = inserted_by_cells (no_change d) columns_name c c_rows one.0 one.1 c_at passed put
 
     t_there : table_at tables_name first.database ≡ Some t
     t_there = stays_at columns_name tables_name c.columns one.0 one.1 (no_change d) refl ∙ t_at
 
     pub second_inserted : first_refusal (row_refusals one.1.places t t_rows) ≡ None → cells_added d.pool.long t.columns one.1 (rows_of t) t_rows ≡ Some two → rows_inserted tables_name t_rows first ≡ Ok second
-    second_inserted passed put = inserted_made first tables_name t t_rows two.0 two.1 t_there passed put
+    second_inserted passed put = inserted_by_cells first tables_name t t_rows two.0 two.1 t_there passed put
 
     v_there : table_at validation_name second.database ≡ Some v
     v_there = stays_at tables_name validation_name t.columns two.0 two.1 first refl
         ∙ stays_at columns_name validation_name c.columns one.0 one.1 (no_change d) refl ∙ v_at
 
     pub third_inserted : first_refusal (row_refusals two.1.places v v_rows) ≡ None → cells_added d.pool.long v.columns two.1 (rows_of v) v_rows ≡ Some three → rows_inserted validation_name v_rows second ≡ Ok third
-    third_inserted passed put = inserted_made second validation_name v v_rows three.0 three.1 v_there passed put
+    third_inserted passed put = inserted_by_cells second validation_name v v_rows three.0 three.1 v_there passed put
 
     -- the tables that are found in between
     pub second_at : table_at tables_name first.database ≡ Some t
