@@ -40,3 +40,4 @@ pub mod RefusedCallLemmas
 pub mod ChainLemmas
 pub mod CanStoreLemmas
 pub mod StorableLemmas
+pub mod RowCallLemmas
