@@ -41,3 +41,4 @@ pub mod ChainLemmas
 pub mod CanStoreLemmas
 pub mod StorableLemmas
 pub mod TableCallLemmas
+pub mod RowCallLemmas

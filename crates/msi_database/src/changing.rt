@@ -1,20 +1,19 @@
 //! What each change of a database's rows goes through: it is judged, made beside the old, and moved in at the end.
 
-ghost use Rattle.std.specs.Prelude.{◌≡◌, ◌++◌, ◌∷◌, [], Bool, IfOk, OnErr, OnOk, Some, length, true};
+ghost use Rattle.std.specs.Prelude.{◌≡◌, ◌∷◌, [], false, IfErr, IfOk, MatchOption, None, OnErr, OnOk, Some, length, option_copied, true};
 ghost use Rattle.std.specs.FinMap.{entries};
 ghost use Rattle.msi_compound.specs.Names.{is_name_length};
 ghost use Rattle.msi_text.specs.Results.{OnlyMemory};
-ghost use Rattle.msi_text.specs.declared.errors.ErrorKind.TheVariants.{InvalidInput};
 ghost use Rattle.msi_table.specs.Tables.{CanStore};
-ghost use Rattle.msi_relation.specs.Refusals.{unless_refused};
+ghost use Rattle.msi_relation.specs.Refusals.{IsRefusal, first_refusal, unless_refused};
 ghost use Rattle.msi_schema.specs.Keys.{table_key as key_of};
-ghost use Rattle.msi_changes.specs.Changes.{sound_refusal};
 ghost use Rattle.msi_changes.specs.Database.{is_sound as is_sound_one, table_at};
 ghost use Rattle.msi_changes.specs.Insert.{table_with};
 ghost use Rattle.msi_database.specs.Keeping.{AreKept};
-ghost use Rattle.msi_database.specs.Kept.{kept_of, table_kept_at};
-ghost use Rattle.msi_database.specs.Listed.{table_def_at, tables_listed};
-ghost use Rattle.msi_database.specs.Storing.{HaveOwnNames, stored_in};
+ghost use Rattle.msi_database.specs.Kept.{kept_of};
+ghost use Rattle.msi_database.specs.Listed.{IsKnown, table_def_at, tables_listed};
+ghost use Rattle.msi_database.specs.Making.{early_refusals};
+ghost use Rattle.msi_database.specs.Storing.{stored_in};
 ghost use Rattle.msi_database.specs.Streams.{stream_of_rows};
 
 use crate::database::Database;
@@ -71,13 +70,24 @@ impl Database {
     /// # Errors
     /// `InvalidData` where it isn't sound, then `InvalidInput` where it is barred.
     pub(crate) fn refuse_change(&self, is_barred: bool) -> Result<(), Error>
-        ensures { result ≡ unless_refused (sound_refusal self.now.database ++ (is_barred, InvalidInput) ∷ []) tt }
+        ensures passed { OnOk result (first_refusal (early_refusals self.now.database is_barred) ≡ None) }
+        ensures sound { OnOk result (is_sound_one self.now.database ≡ true) }
+        ensures free { OnOk result (is_barred ≡ false) }
+        ensures kind { IfErr result (IsRefusal {A = Unit {0}} (unless_refused (early_refusals self.now.database is_barred) tt)) }
     {
         self.check_sound()?;
         if is_barred {
             return Err(Error::new(ErrorKind::InvalidInput, reasons::BARRED));
         }
         Ok(())
+    }
+
+    /// The table of a name, of a sound database.
+    pub(crate) fn known_table(&self, name: &str) -> Option<&Table>
+        requires { is_sound_one self.now.database ≡ true }
+        ensures { MatchOption (option_copied result) (table_at name.now self.now.database ≡ None) (IsKnown self.now.database name.now) }
+    {
+        self.get_table(name)
     }
 
     /// The rows of a table of a sound database.

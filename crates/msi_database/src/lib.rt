@@ -6,6 +6,7 @@ pub mod database;
 mod decoding;
 pub mod laws;
 mod reasons;
+mod rows;
 mod soundness;
 pub mod storing;
 
