@@ -10,10 +10,10 @@ ghost use Rattle.msi_schema.specs.Keys.{table_key as key_of};
 ghost use Rattle.msi_changes.specs.Database.{is_sound as is_sound_one, table_at};
 ghost use Rattle.msi_changes.specs.Insert.{table_with};
 ghost use Rattle.msi_database.specs.Keeping.{AreKept};
-ghost use Rattle.msi_database.specs.Kept.{kept_of};
+ghost use Rattle.msi_database.specs.Kept.{kept_of, without_table_kept};
 ghost use Rattle.msi_database.specs.Listed.{IsKnown, table_def_at, tables_listed};
 ghost use Rattle.msi_database.specs.Making.{early_refusals};
-ghost use Rattle.msi_database.specs.Storing.{stored_in};
+ghost use Rattle.msi_database.specs.Storing.{HaveOwnNames, stored_in};
 ghost use Rattle.msi_database.specs.Streams.{stream_of_rows};
 
 use crate::database::Database;
@@ -34,6 +34,14 @@ use std::alloc::Global;
 pub(crate) struct RowsAnew {
     pub(crate) stored: Stored,
     pub(crate) pool: StringPool,
+}
+
+/// Streams to be stored, and the pool and the tables after a change of tables.
+#[derive(Drop)]
+pub(crate) struct TablesAnew {
+    pub(crate) stored: Vec<Stored>,
+    pub(crate) pool: StringPool,
+    pub(crate) tables: Items<Table>,
 }
 
 /// The stream of a table whose rows become these: none where there is no row.
@@ -121,4 +129,55 @@ impl Database {
         self.pool = pool;
         Ok(())
     }
+
+    /// Ends a change of tables: stores these streams, and takes the pool and the tables in place of its own.
+    ///
+    /// # Errors
+    /// `OutOfMemory`; then nothing is changed.
+    pub(crate) fn finish_tables(&mut self, new: TablesAnew) -> Result<(), Error>
+        requires names { HaveOwnNames new.stored.items }
+        requires sound { is_sound_one self.old.database ≡ true }
+        requires kept { AreKept new.pool new.tables (stored_in new.stored.items self.old.streams) true }
+        ensures ok { OnOk result (self.new ≡ kept_of new.pool new.tables (stored_in new.stored.items self.old.streams)) }
+        ensures same { OnErr result (self.new ≡ self.old) }
+        ensures kind { OnlyMemory result }
+    {
+        let TablesAnew {
+            stored,
+            pool,
+            tables,
+        } = new;
+        store_all(&mut self.streams, stored.into_iter())?;
+        self.pool = pool;
+        self.tables = tables;
+        Ok(())
+    }
+
+    /// The tables without the one of a name.
+    ///
+    /// # Errors
+    /// `OutOfMemory`.
+    pub(crate) fn tables_without(&self, name: &str) -> Result<Items<Table>, Error>
+        ensures ok { IfOk result (λ tables. tables ≡ without_table_kept name.now (tables_listed self.now.database)) }
+        ensures kind { OnlyMemory result }
+    {
+        copies_without(self.alloc, self.tables(), name)
+    }
+}
+
+/// Tables once more, but for the one of a name.
+///
+/// # Errors
+/// `OutOfMemory`.
+fn copies_without(alloc: Global, tables: &[Table], name: &str) -> Result<Items<Table>, Error>
+    ensures ok { IfOk result (λ copies. copies ≡ without_table_kept name.now tables.now) }
+    ensures kind { OnlyMemory result }
+{
+    let mut copies = Vec::new(alloc);
+    for table in tables {
+        if name != table.name() {
+            copies.push(table.clone(alloc)?)?;
+        }
+    }
+    Ok(Items::from_vec(copies))
 }
