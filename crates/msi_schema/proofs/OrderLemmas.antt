@@ -77,25 +77,40 @@ all_other P Q (x ∷ xs) f h = (f x h.0, all_other P Q xs f h.1)
 abbrev pub found_at : {X : Type 0} → (X → Bool) → List X → ℕ → Option X
 found_at p xs i = option_and_then (λ x. if p x then Some x else None) (slice_get xs i)
 
+pub found_here : {X : Type 0} (p : X → Bool) (xs : List X) (i : ℕ) (x : X) → Some x ≡ slice_get xs i → p x ≡ true → Some x ≡ found_at p xs i
+found_here p xs i x e t = rw (← e, t) refl
+
+pub missing_here : {X : Type 0} (p : X → Bool) (xs : List X) (i : ℕ) (x : X) → Some x ≡ slice_get xs i → p x ≡ false → None ≡ found_at p xs i
+missing_here p xs i x e t = rw (← e, t) refl
+
+pub past_here : {X : Type 0} (p : X → Bool) (xs : List X) (i : ℕ) → None ≡ slice_get xs i → None ≡ found_at p xs i
+past_here p xs i e = rw (← e) refl
+
 -- as many pass as stand in front of the place up to which all pass
 pub passed_before : {X : Type 0} (p : X → Bool) (xs : List X) (i : ℕ) → i ≤ length xs → AllWithin (λ x. p x ≡ true) xs 0 i → AllWithin (λ x. p x ≡ false) xs i (length xs) → length (filter p xs) ≡ i
-passed_before p [] i l yes no = omega arith
-passed_before p (x ∷ xs) zero l yes no =
-    let t : p x ≡ false = no 0 x (omega arith) (omega arith) in
-    rw t (passed_before p xs 0 (omega arith) (λ k d h g. absurd (omega arith)) (λ k d h g. no (suc k) d (omega arith) (omega arith)))
-passed_before p (x ∷ xs) (suc i) l yes no =
-    let t : p x ≡ true = yes 0 x (omega arith) (omega arith) in
-    rw t (ap suc (passed_before p xs i (omega arith) (λ k d h g. yes (suc k) d (omega arith) (omega arith)) (λ k d h g. no (suc k) d (omega arith) (omega arith))))
+passed_before p [] i l holds fails = omega arith
+passed_before p (x ∷ xs) zero l holds fails =
+    let t : p x ≡ false = fails 0 x (omega arith) (omega arith) in
+    rw t (passed_before p xs 0 (omega arith) (λ k d h g. absurd (omega arith)) (λ k d h g. fails (suc k) d (omega arith) (omega arith)))
+passed_before p (x ∷ xs) (suc i) l holds fails =
+    let t : p x ≡ true = holds 0 x (omega arith) (omega arith) in
+    rw t (ap suc (passed_before p xs i (omega arith) (λ k d h g. holds (suc k) d (omega arith) (omega arith)) (λ k d h g. fails (suc k) d (omega arith) (omega arith))))
 
 -- those up to a bound are those below it and those at it
 pub up_to_bound : {X : Type 0} (o : X → Ordering) (xs : List X) → length (filter (λ x. is_le (o x)) xs) ≡ length (filter (λ x. is_lt (o x)) xs) + length (filter (λ x. is_eq (o x)) xs)
 up_to_bound o [] = refl
-up_to_bound o (x ∷ xs) = go (o x) refl
+up_to_bound o (x ∷ xs) = one_more (o x) _ _ _ (up_to_bound o xs)
   where
-    go : (r : Ordering) → o x ≡ r → length (filter (λ x. is_le (o x)) (x ∷ xs)) ≡ length (filter (λ x. is_lt (o x)) (x ∷ xs)) + length (filter (λ x. is_eq (o x)) (x ∷ xs))
-    go Less e = rw e (let h = up_to_bound o xs in omega arith)
-    go Equal e = rw e (let h = up_to_bound o xs in omega arith)
-    go Greater e = rw e (up_to_bound o xs)
+    one_more : (r : Ordering) (a b c : List _) → length a ≡ length b + length c → length (if is_le r then x ∷ a else a) ≡ length (if is_lt r then x ∷ b else b) + length (if is_eq r then x ∷ c else c)
+    one_more Less a b c h = omega arith
+    one_more Equal a b c h = omega arith
+    one_more Greater a b c h = h
+
+one_later : {X : Type 0} (P : X → X → Type 0) (x : X) (xs : List X) (k : ℕ) (d : X) → P (slice_index_or (x ∷ xs) (suc k) d) (slice_index_or (x ∷ xs) (suc k + 1) d) → P (slice_index_or xs k d) (slice_index_or xs (k + 1) d)
+one_later P x xs k d h = let e : suc k + 1 ≡ suc (k + 1) = omega arith in subst (λ (j : ℕ). P (slice_index_or xs k d) (slice_index_or (x ∷ xs) j d)) e h
+
+tail_adjacent : {X : Type 0} (P : X → X → Type 0) (x : X) (xs : List X) → AllAdjacentBelow P (x ∷ xs) (length (x ∷ xs)) → AllAdjacentBelow P xs (length xs)
+tail_adjacent P x xs up k d l = one_later P x xs k d (up (suc k) d (omega arith))
 
 module _ {X K : Type 0} (key : X → K) (R : K → K → Ordering) (total : IsTotalOrder R) where
   abbrev pub order : X → X → Ordering
@@ -114,6 +129,9 @@ module _ {X K : Type 0} (key : X → K) (R : K → K → Ordering) (total : IsTo
   pub sorted_is : (xs : List X) → IsStableSort order xs (stable_sort order xs)
   sorted_is xs = (only_stable_sort order order-weak xs (stable_sort order xs)).0 refl
 
+  pub ascending : (xs ys : List X) → xs ≡ stable_sort order ys → IsSorted order xs
+  ascending xs ys e = subst (IsSorted order) (sym e) ((sorted_is ys).ascends)
+
   -- a look-up by a key finds the same in the sorted list
   pub find_sorted : (q : K) (xs : List X) → find (λ x. is_eq (R (key x) q)) (stable_sort order xs) ≡ find (λ x. is_eq (R (key x) q)) xs
   find_sorted q xs = find_alike (ties (λ a b. is_lt (order a b))) (λ x. is_eq (R (key x) q)) (at_ties q) xs (stable_sort order xs) (sorted_is xs).moved (sorted_is xs).stable
@@ -131,6 +149,28 @@ module _ {X K : Type 0} (key : X → K) (R : K → K → Ordering) (total : IsTo
   pub below_parts : (q : K) (xs : List X) → IsSorted order xs → IsPartitionedBy (λ x. is_lt (R (key x) q)) xs
   below_parts q xs sorted i j d h l t = below_first q (slice_index_or xs i d) (slice_index_or xs j d) (sorted_far (λ x y. is_lt (order x y)) order-weak xs sorted i j d h l) t
 
+  -- and so do those up to it
+  up_first : (q : K) (x y : X) → is_lt (order y x) ≡ false → is_le (R (key y) q) ≡ true → is_le (R (key x) q) ≡ true
+  up_first q x y up t = by_test (is_lt (R (key y) q))
+      (λ l. le_if_lt (R (key x) q) (below_first q x y up l))
+      (λ f. le_if_not_gt (R (key x) q) (R (key y) q) (R (key y) (key x)) f t
+      (λ e. total.congr (key y) q (key x) e ∙ total.antisymm q (key x)) up)
+    where
+      le_if_lt : (o : Ordering) → is_lt o ≡ true → is_le o ≡ true
+      le_if_lt Less e = refl
+      le_if_lt Equal e = refl
+      le_if_lt Greater e = cc
+
+      le_if_not_gt : (o p r : Ordering) → is_lt p ≡ false → is_le p ≡ true → (p ≡ Equal → r ≡ ordering_reverse o) → is_lt r ≡ false → is_le o ≡ true
+      le_if_not_gt Less p r f t h up = refl
+      le_if_not_gt Equal p r f t h up = refl
+      le_if_not_gt Greater Less r f t h up = cc
+      le_if_not_gt Greater Equal r f t h up = let e = h refl in cc (ap is_lt e)
+      le_if_not_gt Greater Greater r f t h up = cc
+
+  pub up_parts : (q : K) (xs : List X) → IsSorted order xs → IsPartitionedBy (λ x. is_le (R (key x) q)) xs
+  up_parts q xs sorted i j d h l t = up_first q (slice_index_or xs i d) (slice_index_or xs j d) (sorted_far (λ x y. is_lt (order x y)) order-weak xs sorted i j d h l) t
+
   none_at : (q : K) (x : X) (xs : List X) → is_lt (R (key x) q) ≡ false → is_eq (R (key x) q) ≡ false → AllByRecursion (λ y. is_lt (order y x) ≡ false) xs → list_any (λ y. is_eq (R (key y) q)) xs ≡ false
   none_at q x xs f n up = none_pass (λ y. is_eq (R (key y) q)) xs (all_other (λ y. is_lt (order y x) ≡ false) (λ y. is_eq (R (key y) q) ≡ false) xs
       (λ y h. by_test (is_eq (R (key y) q))
@@ -141,13 +181,13 @@ module _ {X K : Type 0} (key : X → K) (R : K → K → Ordering) (total : IsTo
   looked_up : (q : K) (xs : List X) (i : ℕ) → Ascends (λ x y. is_lt (order x y)) xs → i ≤ length xs
       → AllWithin (λ x. is_lt (R (key x) q) ≡ true) xs 0 i → AllWithin (λ x. is_lt (R (key x) q) ≡ false) xs i (length xs)
       → find (λ x. is_eq (R (key x) q)) xs ≡ found_at (λ x. is_eq (R (key x) q)) xs i
-  looked_up q [] i up l yes no = refl
-  looked_up q (x ∷ xs) zero up l yes no =
-      let f : is_lt (R (key x) q) ≡ false = no 0 x (omega arith) (omega arith) in
+  looked_up q [] i up l holds fails = refl
+  looked_up q (x ∷ xs) zero up l holds fails =
+      let f : is_lt (R (key x) q) ≡ false = fails 0 x (omega arith) (omega arith) in
       by_test (is_eq (R (key x) q)) (λ t. rw t refl) (λ t. rw t (not_found (λ y. is_eq (R (key y) q)) xs (none_at q x xs f t up.0)))
-  looked_up q (x ∷ xs) (suc i) up l yes no =
-      let t : is_eq (R (key x) q) ≡ false = less_is_no_tie (R (key x) q) (yes 0 x (omega arith) (omega arith)) in
-      rw t (looked_up q xs i up.1 (omega arith) (λ k d h g. yes (suc k) d (omega arith) (omega arith)) (λ k d h g. no (suc k) d (omega arith) (omega arith)))
+  looked_up q (x ∷ xs) (suc i) up l holds fails =
+      let t : is_eq (R (key x) q) ≡ false = less_is_no_tie (R (key x) q) (holds 0 x (omega arith) (omega arith)) in
+      rw t (looked_up q xs i up.1 (omega arith) (λ k d h g. holds (suc k) d (omega arith) (omega arith)) (λ k d h g. fails (suc k) d (omega arith) (omega arith)))
 
   pub found_first : (q : K) (xs : List X) (i : ℕ) → IsSorted order xs → i ≤ length xs
       → IsPartitionPoint (λ x. is_lt (R (key x) q) ≡ true) (λ x. is_lt (R (key x) q) ≡ false) xs i
@@ -172,13 +212,13 @@ module _ {X K : Type 0} (key : X → K) (R : K → K → Ordering) (total : IsTo
   all_above x [] up = tt
   all_above x (y ∷ ys) up =
       let here : order x y ≡ Less = less_is (order x y) (sym (up 0 x (omega arith))) in
-      (here, all_other (λ z. order y z ≡ Less) (λ z. order x z ≡ Less) ys (λ z h. total.trans (key x) (key y) (key z) here h) (all_above y ys (λ k d l. up (suc k) d (omega arith))))
+      (here, all_other (λ z. order y z ≡ Less) (λ z. order x z ≡ Less) ys (λ z h. total.trans (key x) (key y) (key z) here h) (all_above y ys (tail_adjacent (λ a b. true ≡ is_lt (order a b)) x (y ∷ ys) up)))
 
   strict_apart : (xs : List X) → AllAdjacentBelow (λ a b. true ≡ is_lt (order a b)) xs (length xs) → has_pair tie xs ≡ false
   strict_apart [] up = refl
   strict_apart (x ∷ xs) up = or_both (list_any (tie x) xs) (has_pair tie xs)
       (none_pass (tie x) xs (all_other (λ y. order x y ≡ Less) (λ y. tie x y ≡ false) xs (λ y h. ap is_eq h) (all_above x xs up)))
-      (strict_apart xs (λ k d l. up (suc k) d (omega arith)))
+      (strict_apart xs (tail_adjacent (λ a b. true ≡ is_lt (order a b)) x xs up))
 
   -- two neighbours of which the first isn't less tie, where the list is sorted
   neighbours_tie : (xs : List X) (k : ℕ) → Ascends (λ x y. is_lt (order x y)) xs → k + 1 < length xs → ((d : X) → false ≡ is_lt (order (slice_index_or xs k d) (slice_index_or xs (k + 1) d))) → has_pair tie xs ≡ true
@@ -193,7 +233,7 @@ module _ {X K : Type 0} (key : X → K) (R : K → K → Ordering) (total : IsTo
       tied Equal r e g h = refl
       tied Greater r e g h = let s = rw e at h in cc
   neighbours_tie (x ∷ y ∷ ys) (suc k) up l f =
-      let t : has_pair tie (y ∷ ys) ≡ true = neighbours_tie (y ∷ ys) k up.1 (omega arith) (λ d. f d) in
+      let t : has_pair tie (y ∷ ys) ≡ true = neighbours_tie (y ∷ ys) k up.1 (omega arith) (λ d. one_later (λ a b. false ≡ is_lt (order a b)) x (y ∷ ys) k d (f d)) in
       rest_pairs (list_any (tie x) (y ∷ ys)) (has_pair tie (y ∷ ys)) t
     where
       rest_pairs : (a b : Bool) → b ≡ true → (a || b) ≡ true
@@ -211,3 +251,6 @@ module _ {X K : Type 0} (key : X → K) (R : K → K → Ordering) (total : IsTo
       → not strict ≡ has_pair tie xs
   repeats_told xs true up = sym (strict_apart (stable_sort order xs) up) ∙ same_pairs xs (stable_sort order xs) (sorted_is xs).moved
   repeats_told xs false up = sym (neighbours_tie (stable_sort order xs) up.0 (ascends (stable_sort order xs) (sorted_is xs).ascends) up.1 up.2) ∙ same_pairs xs (stable_sort order xs) (sorted_is xs).moved
+
+pub pairs_alike : {X : Type 0} (p q : X → X → Bool) (xs : List X) → ((x y : X) → p x y ≡ q x y) → has_pair p xs ≡ has_pair q xs
+pairs_alike p q xs h = λ i. has_pair (λ x y. h x y i) xs

@@ -148,7 +148,7 @@ module _ (s u : SchemaRows) (same : IsReordered s u) where
   lacks_reordered : (row : List Value) → lacks_value u row ≡ lacks_value s row
   lacks_reordered row = ap (λ b. is_null (value_at 0 row) || is_null (value_at 1 row) || (b && is_null (value_at 2 row))) (describes_reordered row)
 
-  sound_reordered : NoFault s → NoFault u
+  pub sound_reordered : NoFault s → NoFault u
   sound_reordered n = record {
     tables_full = sym (list_any-IsPermutation (list_any is_null) s.tables u.tables same.tables) ∙ n.tables_full;
     columns_full = sym (list_any-IsPermutation (list_any is_null) s.columns u.columns same.columns) ∙ n.columns_full;

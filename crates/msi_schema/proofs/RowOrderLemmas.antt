@@ -19,6 +19,12 @@ use Rattle.msi_schema.proofs.OrderLemmas.{Ascends}
 pub pairs_total : {A B : Type 0} (first : A → A → Ordering) (second : B → B → Ordering) → IsTotalOrder first → IsTotalOrder second → IsTotalOrder (pair_cmp first second)
 pairs_total first second o p = then_total (on_total (λ q. q.0) o) (on_total (λ q. q.1) p)
 
+pub names_total : IsTotalOrder list_cmp
+names_total = lists_total nat_cmp_total
+
+pub about_is : (table : List ℕ) (row : List Value) → is_eq (list_cmp (text_at 0 row) table) ≡ is_about table row
+about_is table row = is_eq-slice_cmp (text_at 0 row) table
+
 pub texts_total : IsTotalOrder texts_cmp
 texts_total = pairs_total list_cmp list_cmp (lists_total nat_cmp_total) (lists_total nat_cmp_total)
 

@@ -118,7 +118,7 @@ module _ (f : List ℕ → Option (List ColumnDef)) where
 
 -- ---- a schema is what it says of each name
 
-abbrev both_first : SchemaRows → List (List ColumnDef) → Described
+abbrev pub both_first : SchemaRows → List (List ColumnDef) → Described
 both_first s cols = (tables_name, tables_columns) ∷ (columns_name, columns_columns) ∷ zip (listed_names s) cols
 
 found_first : (s : SchemaRows) (cols : List (List ColumnDef)) (q : List ℕ) → all_present (map (columns_of s) (listed_names s)) ≡ Some cols

@@ -1,5 +1,5 @@
 -- The tables that `_Tables` lists, one by one, and the two that are always there.
-use Rattle.std.specs.Prelude.{ℕ, Bool, List, [], ◌∷◌, map, Option, option_map}
+use Rattle.std.specs.Prelude.{ℕ, Bool, List, [], ◌∷◌, ◌++◌, map, Option, option_map}
 use Rattle.std.specs.declared.cmp.Ordering.{Ordering}
 use Rattle.msi_text.specs.Lists.{all_present, list_cmp}
 use Rattle.msi_table.specs.Columns.{TableDef}
@@ -17,3 +17,6 @@ system_tables long = table_with long (tables_name, tables_columns) ∷ table_wit
 
 abbrev pub by_names : TableDef → TableDef → Ordering
 by_names t u = list_cmp t.name u.name
+
+abbrev pub with_system : Bool → List TableDef → List TableDef
+with_system long listed = system_tables long ++ listed

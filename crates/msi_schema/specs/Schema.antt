@@ -8,7 +8,7 @@ use Rattle.msi_text.specs.declared.category.Category.{Category}
 use Rattle.msi_text.specs.Categories.{category_name, all_categories}
 use Rattle.msi_text.specs.Lists.{all_present, tabulated, has_pair, list_cmp}
 use Rattle.msi_table.specs.declared.value.Value.{Value}
-use Rattle.msi_table.specs.declared.value.Value.TheVariants.{Null, Int, Str, Binary}
+use Rattle.msi_table.specs.declared.value.Value.TheVariants.{Null, Int, Str}
 use Rattle.msi_table.specs.Values.{value_cmp}
 use Rattle.msi_table.specs.Columns.{ColumnDef, TableDef, begun_column, column_of_bits, greatest_16}
 use Rattle.msi_schema.specs.Keys.{is_pool_name}
@@ -128,23 +128,22 @@ schema_of s = if is_faulty s then None
     else option_map (λ columns. by_name ((tables_name, tables_columns) ∷ (columns_name, columns_columns) ∷ zip (listed_names s) columns))
     (all_present (map (columns_of s) (listed_names s)))
 
--- what the cells of the system tables' columns give: a number of 16 bits, and a text or null
+-- what the cells of the system tables' columns give: numbers of 16 bits, and texts
 abbrev pub is_of_16_bits : ℤ → Bool
 is_of_16_bits (pos n) = nat_le n greatest_16
 is_of_16_bits (negsuc n) = nat_le n greatest_16
 
-abbrev pub is_text_or_null : Value → Bool
-is_text_or_null (Int n) = false
-is_text_or_null Binary = false
-is_text_or_null _ = true
+abbrev pub is_text : Value → Bool
+is_text (Str t) = true
+is_text _ = false
 
 -- a column's number, or the bits of its type
 abbrev pub has_long_number : List (List Value) → Bool
 has_long_number rows = list_any (λ row. not (is_of_16_bits (number_of (value_at 1 row)) && is_of_16_bits (number_of (value_at 3 row)))) rows
 
--- the name of a table
+-- a table's name that is none
 abbrev pub has_odd_name : List (List Value) → Bool
-has_odd_name rows = list_any (λ row. not (is_text_or_null (value_at 0 row))) rows
+has_odd_name rows = list_any (λ row. not (is_text (value_at 0 row))) rows
 
 abbrev pub table_with : Bool → List ℕ × List ColumnDef → TableDef
 table_with long t = record { name = t.0; columns = t.1; long = long }

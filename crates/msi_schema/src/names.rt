@@ -1,10 +1,10 @@
 //! The names of a package's streams in its container, and which names tables and streams may have.
 
-ghost use Rattle.std.specs.Prelude.{◌≡◌, ◌||◌, IfOk, IsSome, IsTrue, length};
+ghost use Rattle.std.specs.Prelude.{◌≡◌, ◌&&◌, IfOk, IsSome, IsTrue, chars, length, nat_le, true};
+ghost use Rattle.msi_text.specs.CategoryRules.{is_identifier};
 ghost use Rattle.msi_text.specs.Results.{OnlyMemory};
 ghost use Rattle.msi_compound.specs.Names.{is_name_length, units_of, utf16_units};
-ghost use Rattle.msi_compound.specs.StreamNames.{encoded_name};
-ghost use Rattle.std.specs.Prelude.{chars};
+ghost use Rattle.msi_compound.specs.StreamNames.{encoded_name, encoded_units};
 ghost use Rattle.msi_schema.specs.Keys.{document_summary_key as document_summary_of, is_pool_name as is_of_pool, is_stream_name as is_of_stream, is_table_name as is_of_table, named, signature_ex_key as signature_ex_of, signature_key as signature_of, stream_key as key_of_stream, summary_key as summary_of, table_key as key_of_table};
 
 use msi_compound::name::Name;
@@ -41,7 +41,17 @@ pub fn is_stream_name(name: &str) -> bool
 pub fn is_table_name(name: &str) -> bool
     ensures { result ≡ is_of_table name.now }
 {
-    Category::Identifier.validate(name) && is_valid(name, true) && !is_pool_name(name)
+    is_short_identifier(name) && !is_pool_name(name)
+}
+
+/// Whether a name is an identifier that is short enough for the name of a table's stream.
+fn is_short_identifier(name: &str) -> bool
+    ensures { result ≡ (is_identifier name.now && nat_le (encoded_units true (chars name.now)) 31) }
+{
+    if !Category::Identifier.validate(name) {
+        return false;
+    }
+    is_valid(name, true)
 }
 
 /// The container's name of a table's stream. A name that no table may have can be too long for one: such a table, which

@@ -1,8 +1,9 @@
 //! Rows in order, and looking them up there: a system table can have 65536 rows.
 
-ghost use Rattle.std.specs.Prelude.{◌≡◌, ◌&&◌, ℕ, IfOk, OnOk, bytes_eq, filter, find, length, option_copied, pos};
+ghost use Rattle.std.specs.Prelude.{◌≡◌, ◌≤◌, ◌+◌, ◌&&◌, ℕ, IfOk, OnOk, bytes_eq, filter, find, length, option_copied, pos, slice_get};
+ghost use Rattle.std.specs.List.{IsAllAdjacentAnswer};
 ghost use Rattle.std.specs.List.Sorted.{IsSorted};
-ghost use Rattle.std.specs.Ordering.{is_le, is_lt};
+ghost use Rattle.std.specs.Ordering.{is_lt};
 ghost use Rattle.msi_text.specs.Lists.{has_pair, list_cmp, stable_sort};
 ghost use Rattle.msi_text.specs.Results.{OnlyMemory};
 ghost use Rattle.msi_schema.specs.RowOrders.{by_numbers, by_texts, by_values, number_in, numbers_cmp, texts_at, texts_cmp};
@@ -30,6 +31,15 @@ fn number_order(row: &Items<Value>, table: &str, number: i32) -> Ordering
     text_at(row, 0)
         .cmp(table)
         .then(number_at(row, 1).cmp(&number))
+}
+
+/// How a row's table and its number stand to a text and a column's number.
+fn numbered_order(row: &Items<Value>, table: &str, number: u16) -> Ordering
+    ensures { result ≡ numbers_cmp (number_in row.now) (table.now, pos number) }
+{
+    text_at(row, 0)
+        .cmp(table)
+        .then(number_at(row, 1).cmp(&i32::from(number)))
 }
 
 /// How the first values of two rows, and those at a place, stand to one another.
@@ -70,6 +80,13 @@ pub(crate) fn is_about(row: &Items<Value>, table: &str) -> bool
     text_at(row, 0) == table
 }
 
+/// The row at a place, where there is one.
+fn row_at(rows: &[Items<Value>], at: usize) -> Option<&Items<Value>>
+    ensures { option_copied result ≡ slice_get rows.now at }
+{
+    rows.get(at)
+}
+
 /// The first row about a table with a text at a place, of rows that `sort_by_texts` ordered.
 pub(crate) fn find_by_texts<'a>(
     rows: &'a [Items<Value>],
@@ -82,11 +99,15 @@ pub(crate) fn find_by_texts<'a>(
         ≡ find (λ row. is_of_table table.now row && bytes_eq (text_in place row) text.now) rows.now }
 {
     let at = rows.partition_point(|row| texts_order(row, place, table, text).is_lt());
-    let row = rows.get(at)?;
-    if texts_order(row, place, table, text).is_eq() {
-        Some(row)
-    } else {
-        None
+    match row_at(rows, at) {
+        Some(row) => {
+            if texts_order(row, place, table, text).is_eq() {
+                Some(row)
+            } else {
+                None
+            }
+        }
+        None => None,
     }
 }
 
@@ -99,13 +120,16 @@ pub(crate) fn find_by_number<'a>(
     requires { IsSorted by_numbers rows.now }
     ensures { option_copied result ≡ find (λ row. is_of_table table.now row && has_number number row) rows.now }
 {
-    let number = i32::from(number);
-    let at = rows.partition_point(|row| number_order(row, table, number).is_lt());
-    let row = rows.get(at)?;
-    if number_order(row, table, number).is_eq() {
-        Some(row)
-    } else {
-        None
+    let at = rows.partition_point(|row| numbered_order(row, table, number).is_lt());
+    match row_at(rows, at) {
+        Some(row) => {
+            if numbered_order(row, table, number).is_eq() {
+                Some(row)
+            } else {
+                None
+            }
+        }
+        None => None,
     }
 }
 
@@ -119,6 +143,25 @@ pub(crate) fn count_about(rows: &[Items<Value>], table: &str) -> usize
     end - start
 }
 
+/// Puts rows into the order of their first values and those at a place.
+///
+/// # Errors
+/// `OutOfMemory`.
+fn sort_by_values(rows: &mut Vec<Items<Value>>, place: usize) -> Result<(), Error>
+    ensures ok { OnOk result (rows.new.items ≡ stable_sort (by_values place) rows.old.items) }
+    ensures kind { OnlyMemory result }
+{
+    rows.sort_by(|row, other| compare_values(row, other, place))?;
+    Ok(())
+}
+
+/// Whether each row stands before the next by its first value and that at a place.
+fn ascends_strictly(rows: &[Items<Value>], place: usize) -> bool
+    ensures { IsAllAdjacentAnswer (λ row other b. b ≡ is_lt (by_values place row other)) rows.now result }
+{
+    rows.is_sorted_by(|row, other| compare_values(row, other, place).is_lt())
+}
+
 /// Whether two rows share their first values and those at a place, which is 0 or 1.
 ///
 /// # Errors
@@ -129,6 +172,6 @@ pub(crate) fn has_repeat(rows: Vec<Items<Value>>, place: usize) -> Result<bool, 
     ensures kind { OnlyMemory result }
 {
     let mut rows = rows;
-    rows.sort_by(|row, other| compare_values(row, other, place))?;
-    Ok(!rows.is_sorted_by(|row, other| compare_values(row, other, place).is_lt()))
+    sort_by_values(&mut rows, place)?;
+    Ok(!ascends_strictly(rows.as_slice(), place))
 }

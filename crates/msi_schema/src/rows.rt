@@ -2,7 +2,7 @@
 
 ghost use Rattle.std.specs.Prelude.{◌≡◌};
 ghost use Rattle.msi_table.specs.Values.{value_cmp};
-ghost use Rattle.msi_schema.specs.Schema.{is_null, number_of, text_at as text_in, value_at};
+ghost use Rattle.msi_schema.specs.Schema.{is_null, is_text, number_of, text_at as text_in, value_at};
 
 use msi_table::value::Value;
 use msi_text::text::Items;
@@ -35,6 +35,16 @@ pub(crate) fn is_null_at(row: &Items<Value>, place: usize) -> bool
     match row.as_slice().get(place) {
         Some(value) => value.is_null(),
         None => true,
+    }
+}
+
+/// Whether the value at a place is a text.
+pub(crate) fn is_text_at(row: &Items<Value>, place: usize) -> bool
+    ensures { result ≡ is_text (value_at place row.now) }
+{
+    match row.as_slice().get(place) {
+        Some(Value::Str(_)) => true,
+        _ => false,
     }
 }
 
