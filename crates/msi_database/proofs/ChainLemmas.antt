@@ -19,9 +19,8 @@ use Rattle.msi_schema.specs.Description.{column_rows, validation_rows}
 use Rattle.msi_schema.proofs.ListLemmas.{or_false}
 use Rattle.msi_changes.specs.Database.{Database, is_sound, table_at, rows_of}
 use Rattle.msi_changes.specs.Changes.{Change, PoolInUse, no_change, pool_of, with_stored, sound_refusal}
-use Rattle.msi_changes.specs.Keyed.{in_key_order}
-use Rattle.msi_changes.specs.Texts.{rows_put, rows_released}
-use Rattle.msi_changes.specs.Insert.{rows_inserted, row_refusals}
+use Rattle.msi_changes.specs.Texts.{rows_released}
+use Rattle.msi_changes.specs.Insert.{cells_added, rows_inserted, row_refusals}
 use Rattle.msi_changes.specs.Create.{create_table, table_refusals, with_new_table}
 use Rattle.msi_changes.specs.Drop.{drop_table, is_row_about, rows_forgotten, table_released}
 use Rattle.msi_changes.proofs.DescribingLemmas.{put_elsewhere}
@@ -29,11 +28,11 @@ use Rattle.msi_changes.proofs.DroppedLemmas.{flips}
 use Rattle.msi_database.proofs.MapLemmas as maps
 use Rattle.msi_database.proofs.StreamLemmas.{list_cmp_total, list_cmp_exact}
 use Rattle.msi_database.proofs.EditLemmas.{apart_names}
-use Rattle.msi_database.proofs.MadeLemmas.{goes_on, found, inserted_made, create_made}
+use Rattle.msi_database.proofs.MadeLemmas.{goes_on, found, inserted_by_cells, create_made}
 
--- the change after rows were added to a table
+-- the change after a table's rows and the pool became these
 abbrev pub added : List ℕ → TableCells → List (List ValueRef) × PoolInUse → Change → Change
-added name t r b = with_stored name t.columns (in_key_order t.columns r.1.places (rows_of t ++ r.0)) r.1 b
+added name t r b = with_stored name t.columns r.0 r.1 b
 
 -- another table is as it was
 pub stays_at : (name other : List ℕ) (columns : List ColumnDef) (rows : List (List ValueRef)) (pool : PoolInUse) (b : Change) → bytes_eq name other ≡ false
@@ -62,21 +61,21 @@ module _ (d : Database) (name : List ℕ) (columns : List ColumnDef) (c t v : Ta
     abbrev pub third : Change
     third = added validation_name v three second
 
-    pub first_inserted : first_refusal (row_refusals d.pool.places c c_rows) ≡ None → rows_put d.pool.long (pool_of (no_change d)) c_rows ≡ Some one → rows_inserted columns_name c_rows (no_change d) ≡ Ok first
-    first_inserted passed put = inserted_made (no_change d) columns_name c c_rows one c_at passed put
+    pub first_inserted : first_refusal (row_refusals d.pool.places c c_rows) ≡ None → cells_added d.pool.long c.columns (pool_of (no_change d)) (rows_of c) c_rows ≡ Some one → rows_inserted columns_name c_rows (no_change d) ≡ Ok first
+    first_inserted passed put = inserted_by_cells (no_change d) columns_name c c_rows one.0 one.1 c_at passed put
 
     t_there : table_at tables_name first.database ≡ Some t
-    t_there = stays_at columns_name tables_name c.columns (in_key_order c.columns one.1.places (rows_of c ++ one.0)) one.1 (no_change d) refl ∙ t_at
+    t_there = stays_at columns_name tables_name c.columns one.0 one.1 (no_change d) refl ∙ t_at
 
-    pub second_inserted : first_refusal (row_refusals one.1.places t t_rows) ≡ None → rows_put d.pool.long one.1 t_rows ≡ Some two → rows_inserted tables_name t_rows first ≡ Ok second
-    second_inserted passed put = inserted_made first tables_name t t_rows two t_there passed put
+    pub second_inserted : first_refusal (row_refusals one.1.places t t_rows) ≡ None → cells_added d.pool.long t.columns one.1 (rows_of t) t_rows ≡ Some two → rows_inserted tables_name t_rows first ≡ Ok second
+    second_inserted passed put = inserted_by_cells first tables_name t t_rows two.0 two.1 t_there passed put
 
     v_there : table_at validation_name second.database ≡ Some v
-    v_there = stays_at tables_name validation_name t.columns (in_key_order t.columns two.1.places (rows_of t ++ two.0)) two.1 first refl
-        ∙ stays_at columns_name validation_name c.columns (in_key_order c.columns one.1.places (rows_of c ++ one.0)) one.1 (no_change d) refl ∙ v_at
+    v_there = stays_at tables_name validation_name t.columns two.0 two.1 first refl
+        ∙ stays_at columns_name validation_name c.columns one.0 one.1 (no_change d) refl ∙ v_at
 
-    pub third_inserted : first_refusal (row_refusals two.1.places v v_rows) ≡ None → rows_put d.pool.long two.1 v_rows ≡ Some three → rows_inserted validation_name v_rows second ≡ Ok third
-    third_inserted passed put = inserted_made second validation_name v v_rows three v_there passed put
+    pub third_inserted : first_refusal (row_refusals two.1.places v v_rows) ≡ None → cells_added d.pool.long v.columns two.1 (rows_of v) v_rows ≡ Some three → rows_inserted validation_name v_rows second ≡ Ok third
+    third_inserted passed put = inserted_by_cells second validation_name v v_rows three.0 three.1 v_there passed put
 
     -- the tables that are found in between
     pub second_at : table_at tables_name first.database ≡ Some t
@@ -86,9 +85,9 @@ module _ (d : Database) (name : List ℕ) (columns : List ColumnDef) (c t v : Ta
     third_at = v_there
 
     pub create_by_steps : first_refusal (sound_refusal d ++ table_refusals d name columns) ≡ None
-        → first_refusal (row_refusals d.pool.places c c_rows) ≡ None → rows_put d.pool.long (pool_of (no_change d)) c_rows ≡ Some one
-        → first_refusal (row_refusals one.1.places t t_rows) ≡ None → rows_put d.pool.long one.1 t_rows ≡ Some two
-        → first_refusal (row_refusals two.1.places v v_rows) ≡ None → rows_put d.pool.long two.1 v_rows ≡ Some three
+        → first_refusal (row_refusals d.pool.places c c_rows) ≡ None → cells_added d.pool.long c.columns (pool_of (no_change d)) (rows_of c) c_rows ≡ Some one
+        → first_refusal (row_refusals one.1.places t t_rows) ≡ None → cells_added d.pool.long t.columns one.1 (rows_of t) t_rows ≡ Some two
+        → first_refusal (row_refusals two.1.places v v_rows) ≡ None → cells_added d.pool.long v.columns two.1 (rows_of v) v_rows ≡ Some three
         → create_table d name columns ≡ Ok (with_new_table name columns third)
     create_by_steps passed p₁ e₁ p₂ e₂ p₃ e₃ = create_made d name columns first second third passed (first_inserted p₁ e₁) (second_inserted p₂ e₂) (third_inserted p₃ e₃)
 

@@ -40,4 +40,5 @@ pub mod RefusedCallLemmas
 pub mod ChainLemmas
 pub mod CanStoreLemmas
 pub mod StorableLemmas
+pub mod TableCallLemmas
 pub mod RowCallLemmas

@@ -18,7 +18,7 @@ use Rattle.msi_changes.specs.Database.{Database, is_sound, table_at, rows_of}
 use Rattle.msi_changes.specs.Changes.{Change, PoolInUse, no_change, pool_of, with_stored, sound_refusal}
 use Rattle.msi_changes.specs.Keyed.{in_key_order}
 use Rattle.msi_changes.specs.Texts.{in_turn, rows_put}
-use Rattle.msi_changes.specs.Insert.{insert_rows, rows_inserted, rows_added, row_refusals}
+use Rattle.msi_changes.specs.Insert.{cells_added, insert_rows, rows_inserted, rows_added, row_refusals}
 use Rattle.msi_changes.specs.Update.{update_rows, update_refusals, is_update_barred, row_updated, rows_updated}
 use Rattle.msi_changes.specs.Delete.{delete_rows, rows_deleted}
 use Rattle.msi_changes.specs.Create.{create_table, table_refusals, with_new_table}
@@ -35,6 +35,10 @@ found kind o x f e = ap (λ (o : Option _). or_refused kind o >>= f) e
 
 -- ROWS THAT ARE INSERTED, from any change on
 
+mapped_twice : {A B C : Type 0} (f : A → B) (g : B → C) (o : Option A) → option_map (λ x. g (f x)) o ≡ option_map g (option_map f o)
+mapped_twice f g None = refl
+mapped_twice f g (Some x) = refl
+
 pub inserted_made : (b : Change) (name : List ℕ) (t : TableCells) (values : List (List Value)) (r : List (List ValueRef) × PoolInUse) → table_at name b.database ≡ Some t
     → first_refusal (row_refusals b.database.pool.places t values) ≡ None → rows_put b.database.pool.long (pool_of b) values ≡ Some r
     → rows_inserted name values b ≡ Ok (with_stored name t.columns (in_key_order t.columns r.1.places (rows_of t ++ r.0)) r.1 b)
@@ -42,6 +46,17 @@ inserted_made b name t values r at passed put =
     found NotFound (table_at name b.database) t (λ t. unless_refused (row_refusals b.database.pool.places t values) t >>= λ t. or_refused InvalidInput (rows_added name t values b)) at
     ∙ goes_on (row_refusals b.database.pool.places t values) t (λ t. or_refused InvalidInput (rows_added name t values b)) passed
     ∙ ap (λ (o : Option (List (List ValueRef) × PoolInUse)). or_refused InvalidInput (option_map (λ r. with_stored name t.columns (in_key_order t.columns r.1.places (rows_of t ++ r.0)) r.1 b) o)) put
+
+-- the same by all rows of the table, as a call has them
+pub inserted_by_cells : (b : Change) (name : List ℕ) (t : TableCells) (values : List (List Value)) (all : List (List ValueRef)) (used : PoolInUse) → table_at name b.database ≡ Some t
+    → first_refusal (row_refusals b.database.pool.places t values) ≡ None → cells_added b.database.pool.long t.columns (pool_of b) (rows_of t) values ≡ Some (all, used)
+    → rows_inserted name values b ≡ Ok (with_stored name t.columns all used b)
+inserted_by_cells b name t values all used at passed put =
+    let last : List (List ValueRef) × PoolInUse → Change = λ x. with_stored name t.columns x.0 x.1 b in
+    found NotFound (table_at name b.database) t (λ t. unless_refused (row_refusals b.database.pool.places t values) t >>= λ t. or_refused InvalidInput (rows_added name t values b)) at
+    ∙ goes_on (row_refusals b.database.pool.places t values) t (λ t. or_refused InvalidInput (rows_added name t values b)) passed
+    ∙ ap (or_refused InvalidInput) (mapped_twice (λ r. (in_key_order t.columns r.1.places (rows_of t ++ r.0), r.1)) last (rows_put b.database.pool.long (pool_of b) values)
+    ∙ ap (option_map last) put)
 
 pub insert_made : (d : Database) (q : InsertQuery) (t : TableCells) (r : List (List ValueRef) × PoolInUse) → is_sound d ≡ true → is_system_table q.table ≡ false → table_at q.table d ≡ Some t
     → first_refusal (row_refusals d.pool.places t q.rows) ≡ None → rows_put d.pool.long (pool_of (no_change d)) q.rows ≡ Some r

@@ -19,7 +19,7 @@ use Rattle.msi_changes.specs.Database.{Database, table_at, rows_of}
 use Rattle.msi_changes.specs.Changes.{Change, PoolInUse, no_change, pool_of, with_stored, sound_refusal}
 use Rattle.msi_changes.specs.Keyed.{in_key_order}
 use Rattle.msi_changes.specs.Texts.{in_turn, rows_put}
-use Rattle.msi_changes.specs.Insert.{insert_rows, rows_inserted, rows_added, row_refusals}
+use Rattle.msi_changes.specs.Insert.{cells_added, insert_rows, rows_inserted, rows_added, row_refusals}
 use Rattle.msi_changes.specs.Update.{update_rows, update_refusals, is_update_barred, row_updated, rows_updated}
 use Rattle.msi_changes.specs.Delete.{delete_rows, rows_deleted}
 use Rattle.msi_changes.specs.Create.{create_table, table_refusals, with_new_table}
@@ -80,10 +80,22 @@ module _ (b : Change) (name : List ℕ) (values : List (List Value)) where
     inserted_misfit h = becomes (rows_inserted name values b) (judged t) k (found NotFound (table_at name b.database) t judged at)
         (step_refuses (row_refusals b.database.pool.places t values) t tt added k h)
 
-    pub inserted_full : first_refusal (row_refusals b.database.pool.places t values) ≡ None → IsRefusal (or_refused InvalidInput (rows_put b.database.pool.long (pool_of b) values)) k → IsRefusal (rows_inserted name values b) k
-    inserted_full passed h = becomes (rows_inserted name values b) (added t) k
-        (found NotFound (table_at name b.database) t judged at ∙ goes_on (row_refusals b.database.pool.places t values) t added passed)
-        (option_refused InvalidInput k (λ r. with_stored name t.columns (in_key_order t.columns r.1.places (rows_of t ++ r.0)) r.1 b) (rows_put b.database.pool.long (pool_of b) values) h)
+    abbrev passes : Type 0
+    passes = first_refusal (row_refusals b.database.pool.places t values) ≡ None
+
+    at_last : passes → rows_inserted name values b ≡ added t
+    at_last passed = found NotFound (table_at name b.database) t judged at ∙ goes_on (row_refusals b.database.pool.places t values) t added passed
+
+    abbrev stored_as : List (List ValueRef) × PoolInUse → Change
+    stored_as r = with_stored name t.columns (in_key_order t.columns r.1.places (rows_of t ++ r.0)) r.1 b
+
+    pub inserted_full : passes → IsRefusal (or_refused InvalidInput (rows_put b.database.pool.long (pool_of b) values)) k → IsRefusal (rows_inserted name values b) k
+    inserted_full passed h = becomes (rows_inserted name values b) (added t) k (at_last passed) (option_refused InvalidInput k stored_as (rows_put b.database.pool.long (pool_of b) values) h)
+
+    -- the same of all rows of the table, as a call makes them
+    pub cells_full : passes → IsRefusal (or_refused InvalidInput (cells_added b.database.pool.long t.columns (pool_of b) (rows_of t) values)) k → IsRefusal (rows_inserted name values b) k
+    cells_full passed h = becomes (rows_inserted name values b) (added t) k (at_last passed)
+        (mapped_refused InvalidInput k (λ r. (in_key_order t.columns r.1.places (rows_of t ++ r.0), r.1)) stored_as (rows_put b.database.pool.long (pool_of b) values) h)
 
 -- AN INSERT
 

@@ -1,9 +1,9 @@
 -- Rows that a change makes of rows that fit can be stored, before the change is known to be accepted.
-use Rattle.std.proofs.Common.{◌≡◌, ℕ, ◌+◌, ◌≤◌, Bool, true, not, nat_lt, List, [], ◌∷◌, ◌++◌, filter, map, length, Option, Some, None, refl, sym, subst, arith}
-use Rattle.std.specs.Prelude.{IsSomeAnd, unwrap_or}
+use Rattle.std.proofs.Common.{◌≡◌, ℕ, ◌+◌, ◌≤◌, Bool, true, not, nat_lt, List, [], ◌∷◌, ◌++◌, filter, map, length, Option, Some, None, refl, sym, ap, subst, arith}
+use Rattle.std.specs.Prelude.{IsSomeAnd, option_map, unwrap_or}
 use Rattle.std.specs.List.{AllByRecursion, list_all}
 use Rattle.std.proofs.lemmas.Bool.Decides.{nat_tests}
-use Rattle.std.proofs.lemmas.Option.{same_Some, option_and_then_some}
+use Rattle.std.proofs.lemmas.Option.{same_Some, none-some, option_and_then_some}
 use Rattle.msi_text.specs.declared.errors.ErrorKind.TheVariants.{InvalidInput, InvalidData}
 use Rattle.msi_text.specs.FirstFit.{most_places}
 use Rattle.msi_text.specs.Lists.{has_pair}
@@ -19,7 +19,7 @@ use Rattle.msi_relation.specs.Rows.{TableCells}
 use Rattle.msi_changes.specs.Changes.{PoolInUse}
 use Rattle.msi_changes.specs.Keyed.{in_key_order, key_of, same_key}
 use Rattle.msi_changes.specs.Texts.{cell_put, in_turn, rows_put}
-use Rattle.msi_changes.specs.Insert.{key_refusals, keys_of, row_fits, row_refusals}
+use Rattle.msi_changes.specs.Insert.{cells_added, key_refusals, keys_of, row_fits, row_refusals, table_with}
 use Rattle.msi_changes.specs.Update.{row_updated, set_is_valid}
 use Rattle.msi_changes.proofs.RefusedLemmas.{front_fails, first_fails, each_passes}
 use Rattle.msi_changes.proofs.TracksLemmas.{fewer_fit}
@@ -77,6 +77,22 @@ module _ (long : Bool) where
       let few = few_rows pool.places t values passed in
       unsorted_fits long t.columns (in_key_order t.columns r.1.places (unwrap_or t.rows [] ++ r.0))
       (joined_fit t.columns long r.1.places t.rows r.0 fits (omega (arith, same, few)) (rows_all_fit long t.columns values r.0 (values_fit pool.places t values passed) of))
+
+  -- the same of the rows as a call makes them
+  added_is : (columns : List ColumnDef) (rows : List (List ValueRef)) (o : Option (List (List ValueRef) × PoolInUse)) (all : List (List ValueRef)) (used : PoolInUse)
+      → option_map {U = List (List ValueRef) × PoolInUse} (λ r. (in_key_order columns r.1.places (rows ++ r.0), r.1)) o ≡ Some (all, used)
+      → (r : List (List ValueRef) × PoolInUse) × (o ≡ Some r) × (in_key_order columns r.1.places (rows ++ r.0) ≡ all) × (r.1 ≡ used)
+  added_is columns rows None all used e = absurd (none-some (all, used) e)
+  added_is columns rows (Some r) all used e = let same = same_Some (in_key_order columns r.1.places (rows ++ r.0), r.1) (all, used) e in
+      (r, refl, ap (λ (x : List (List ValueRef) × PoolInUse). x.0) same, ap (λ (x : List (List ValueRef) × PoolInUse). x.1) same)
+
+  pub cells_can_store : (columns : List ColumnDef) (rows : List (List ValueRef)) (pool : PoolInUse) (values : List (List Value)) (all : List (List ValueRef)) (used : PoolInUse) → FitsTable long (types_of columns) rows → IsWithin pool
+      → first_refusal (row_refusals pool.places (table_with columns rows) values) ≡ None → cells_added long columns pool rows values ≡ Some (all, used) → FitsTable long (types_of columns) all × IsWithin used
+  cells_can_store columns rows pool values all used fits within passed e =
+      let r = added_is columns rows (rows_put long pool values) all used e in (
+        subst (FitsTable long (types_of columns)) r.2 (added_can_store (table_with columns rows) pool values r.0 fits within passed r.1),
+        subst IsWithin r.3 (rows_put_within pool values r.0 within r.1),
+      )
 
   -- so can fewer of them
   pub fewer_can_store : (columns : List ColumnDef) (rows : List (List ValueRef)) (p : List ValueRef → Bool) → FitsTable long (types_of columns) rows → FitsTable long (types_of columns) (filter p rows)
