@@ -5,7 +5,6 @@ ghost use Rattle.std.specs.FinMap.{entries};
 ghost use Rattle.std.specs.Option as options;
 ghost use Rattle.msi_text.specs.FirstFit.{most_places};
 ghost use Rattle.msi_text.specs.Results.{OnlyMemory};
-ghost use Rattle.msi_schema.specs.Keys.{is_table_name as is_of_table};
 ghost use Rattle.msi_schema.specs.System.{validation_columns, validation_name};
 ghost use Rattle.msi_changes.specs.Database.{are_alike as alike, is_sound as is_sound_one, names_are_numbers, numbers_of_rows, same_bool, same_kind as same_kinds, validation_is_standard};
 ghost use Rattle.msi_database.specs.Kept.{AreAsLong, database_kept, table_kept, table_kept_at, unlisted_kept};
@@ -15,6 +14,8 @@ ghost use Rattle.msi_database.specs.StreamNames.{HaveNames};
 use crate::database::table_named;
 use crate::decoding::readable_rows;
 use msi_compound::contents::StreamMap;
+use msi_schema::names::is_table_name;
+use msi_schema::system::VALIDATION;
 use msi_table::column::{Column, ColumnType};
 use msi_table::{Table, ValueRef};
 use msi_text::errors::Error;
@@ -24,18 +25,9 @@ use msi_text::text::Items;
 use std::alloc::Global;
 use std::marker::Model;
 
-/// The table that describes columns.
-const VALIDATION: &str = "_Validation";
-
 /// Up to how many places references can name, short and long.
 const MOST_PLACES: u32 = 16_777_215;
 const MOST_SHORT_PLACES: u32 = 65_535;
-
-fn is_table_name(name: &str) -> bool
-    ensures { result ≡ is_of_table name.now }
-{
-    name.is_empty()
-}
 
 /// Whether the pool has no more places than its references can name.
 fn fits_width(pool: &StringPool) -> bool
