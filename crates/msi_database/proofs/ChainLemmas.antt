@@ -148,12 +148,12 @@ module _ (d : Database) (name : List ℕ) (gone c t : TableCells) (passed : firs
         let kept = filter (λ row. not (is_row_about d.pool.places name row)) in
         let v_now = forgotten_is name d.pool.places validation_name v released (released_at validation_name parts.1 ∙ v_at) in
         let c_now = forgotten_is name d.pool.places columns_name c without_validation
-            (stays_at validation_name columns_name v.columns (kept (rows_of v)) (rows_released (pool_of released) (filter (is_row_about d.pool.places name) (rows_of v))) released refl
-            ∙ released_at columns_name names.1 ∙ c_at) in
+        (stays_at validation_name columns_name v.columns (kept (rows_of v)) (rows_released (pool_of released) (filter (is_row_about d.pool.places name) (rows_of v))) released refl
+        ∙ released_at columns_name names.1 ∙ c_at) in
         let t_now = forgotten_is name d.pool.places tables_name t without_columns
-            (stays_at columns_name tables_name c.columns (kept (rows_of c)) (rows_released (pool_of without_validation) (filter (is_row_about d.pool.places name) (rows_of c))) without_validation refl
-            ∙ stays_at validation_name tables_name v.columns (kept (rows_of v)) (rows_released (pool_of released) (filter (is_row_about d.pool.places name) (rows_of v))) released refl
-            ∙ released_at tables_name names.0 ∙ t_at) in
+        (stays_at columns_name tables_name c.columns (kept (rows_of c)) (rows_released (pool_of without_validation) (filter (is_row_about d.pool.places name) (rows_of c))) without_validation refl
+        ∙ stays_at validation_name tables_name v.columns (kept (rows_of v)) (rows_released (pool_of released) (filter (is_row_about d.pool.places name) (rows_of v))) released refl
+        ∙ released_at tables_name names.0 ∙ t_at) in
         dropped_is ∙ ap Ok (ap (λ (b : Change). rows_forgotten name d.pool.places tables_name (rows_forgotten name d.pool.places columns_name b)) v_now
         ∙ ap (λ (b : Change). rows_forgotten name d.pool.places tables_name b) c_now ∙ t_now)
 
@@ -168,8 +168,8 @@ module _ (d : Database) (name : List ℕ) (gone c t : TableCells) (passed : firs
         let v_now = forgotten_none name d.pool.places validation_name released (released_at validation_name parts.1 ∙ v_none) in
         let c_now = forgotten_is name d.pool.places columns_name c released (released_at columns_name names.1 ∙ c_at) in
         let t_now = forgotten_is name d.pool.places tables_name t without_columns_alone
-            (stays_at columns_name tables_name c.columns (kept (rows_of c)) (rows_released (pool_of released) (filter (is_row_about d.pool.places name) (rows_of c))) released refl
-            ∙ released_at tables_name names.0 ∙ t_at) in
+        (stays_at columns_name tables_name c.columns (kept (rows_of c)) (rows_released (pool_of released) (filter (is_row_about d.pool.places name) (rows_of c))) released refl
+        ∙ released_at tables_name names.0 ∙ t_at) in
         dropped_is ∙ ap Ok (ap (λ (b : Change). rows_forgotten name d.pool.places tables_name (rows_forgotten name d.pool.places columns_name b)) v_now
         ∙ ap (λ (b : Change). rows_forgotten name d.pool.places tables_name b) c_now ∙ t_now)
 

@@ -80,7 +80,7 @@ module _ (d : Database) (name : List ℕ) (t : TableCells) (names : List (List �
   put_stored =
       joined (λ (n : List ℕ). record { name = table_key n; bytes = table_stream d.pool.long (table_at n (with_table name t d)) }) names (name ∷ [])
       ∙ (λ i. stays_stored d.pool.long d.tables (put list_cmp name t d.tables) names (put_others name t d.tables names apart) i
-        ++ record { name = table_key name; bytes = table_stream d.pool.long (maps.find_put_same list_cmp_total list_cmp_exact name t d.tables i) } ∷ [])
+      ++ record { name = table_key name; bytes = table_stream d.pool.long (maps.find_put_same list_cmp_total list_cmp_exact name t d.tables i) } ∷ [])
 
 -- rows that are stored
 pub rows_stored_last : (b : Change) (name : List ℕ) (columns : List ColumnDef) (rows : List (List ValueRef)) (pool : PoolInUse) → list_any (bytes_eq name) b.stored ≡ false

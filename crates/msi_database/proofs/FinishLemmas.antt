@@ -69,11 +69,14 @@ module _ (pool : Pool) (tables : List TableDef) (streams : Streams) (kept : AreK
       same i = record { database = made i; streams = stored_now }
 
       parts_left : AreParts (after_change old c) c.database.pool after stored_now
-      parts_left = (same, record {
-        kept = subst IsKeptDatabase (sym same) left.0;
-        as_long = subst (λ long. AreAsLong long after) (sym long_stays) as_long;
-        known = sym (ap is_sound made ∙ left.1);
-      })
+      parts_left = (
+        same,
+        record {
+          kept = subst IsKeptDatabase (sym same) left.0;
+          as_long = subst (λ long. AreAsLong long after) (sym long_stays) as_long;
+          known = sym (ap is_sound made ∙ left.1);
+        },
+      )
 
     -- the pool is the change's, the tables' columns are those of its tables, and its streams were stored
     pub change_made : (new : Pool) (es : List Stored) → new ≡ c.database.pool → schema_listed after ≡ schema_shown c.database → AreAsLong pool.long after → es ≡ tables_stored c.database c.stored
@@ -93,8 +96,8 @@ module _ (pool : Pool) (tables : List TableDef) (streams : Streams) (kept : AreK
       → AreParts (after_change old c) new tables (stored_in (e ∷ []) streams)
   rows_made c change name columns rows used is new e pool_is name_is bytes_is =
       let edit : (e ∷ []) ≡ tables_stored c.database c.stored =
-          (λ i. record { name = name_is i; bytes = bytes_is i } ∷ []) ∙ sym (rows_stored_first d name columns rows used)
-          ∙ ap (λ (x : Change). tables_stored x.database x.stored) is in
+      (λ i. record { name = name_is i; bytes = bytes_is i } ∷ []) ∙ sym (rows_stored_first d name columns rows used)
+      ∙ ap (λ (x : Change). tables_stored x.database x.stored) is in
       change_made c (inl change) tables new (e ∷ []) (pool_is ∙ ap (λ (x : Change). x.database.pool) is)
       (sym shown_old ∙ sym (shown_changed d c (shown_in_order streams d kept.kept.spelled.schema) change)) kept.as_long edit
 

@@ -43,7 +43,7 @@ module _ (streams : Streams) (d : Database) (tables : TablesAre streams d) where
       → passes number (numbers_of_rows (unwrap_or (stored_rows streams d.pool.long t.columns name) [])) → passes number (named_numbers d)
   found_named name t found number h =
       let rows : t.rows ≡ stored_rows streams d.pool.long t.columns name =
-          maps.found_has list_cmp_total list_cmp_exact (λ u. u.1.rows ≡ stored_rows streams d.pool.long u.1.columns u.0) name t d.tables tables found in
+      maps.found_has list_cmp_total list_cmp_exact (λ u. u.1.rows ≡ stored_rows streams d.pool.long u.1.columns u.0) name t d.tables tables found in
       let here : passes number (numbers_of_rows (rows_of t)) = subst (λ (o : Option (List (List ValueRef))). passes number (numbers_of_rows (unwrap_or o []))) (sym rows) h in
       list_any-append (λ n. n == number) (flat_map numbers_of d.tables) (numbers_of_rows d.unlisted_validation)
       ∙ or_left _ _ (found_any (λ n. n == number) name t d.tables found here)

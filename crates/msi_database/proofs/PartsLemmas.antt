@@ -46,10 +46,10 @@ pub parts_make : (streams : Streams) (d : Database) (tables : List TableDef) →
 parts_make streams d tables h same =
     let own : map (table_kept streams d.pool.long) tables ≡ d.tables = kept_tables streams d.pool.long tables ∙ ap (map (table_of streams d.pool.long)) same ∙ own_tables streams d.pool.long d.tables h.tables in
     let listed : is_some (table_kept_at validation_name tables) ≡ has_table validation_name d =
-        sym (has_table_kept d.pool tables streams validation_name) ∙ ap (λ (ts : Tables). is_some (find list_cmp validation_name ts)) own in
+    sym (has_table_kept d.pool tables streams validation_name) ∙ ap (λ (ts : Tables). is_some (find list_cmp validation_name ts)) own in
     let unlisted : unlisted_kept streams d.pool.long tables ≡ d.unlisted_validation =
-        ap (λ b. if b then [] else unwrap_or (stored_rows streams d.pool.long validation_columns validation_name) []) listed
-        ∙ unlisted_from (has_table validation_name d) (stored_rows streams d.pool.long validation_columns validation_name) d.unlisted_validation h.unlisted in
+    ap (λ b. if b then [] else unwrap_or (stored_rows streams d.pool.long validation_columns validation_name) []) listed
+    ∙ unlisted_from (has_table validation_name d) (stored_rows streams d.pool.long validation_columns validation_name) d.unlisted_validation h.unlisted in
     λ i. record { pool = d.pool; tables = own i; unlisted_validation = unlisted i }
 
 -- WHERE THE SYSTEM TABLES DESCRIBE THE TABLES, THE STREAMS SPELL THEM

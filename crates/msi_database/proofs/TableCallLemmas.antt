@@ -89,9 +89,11 @@ module _ (pool : Pool) (tables : List TableDef) (streams : Streams) (kept : AreK
         let passed = drop_passes d name sound free named in
         let apart = dropped_apart d name gone c t passed free at c_at t_at in
         let made = drop_by_steps d name gone c t passed free at c_at t_at v v_at in
-        makes_by old (drop_table d name) (Ok _) new (without_table_kept name tables) es made
-        (drop_kept pool tables streams kept name _ made new es new_is
-        (es_is ∙ sym (dropped_stored d name gone c.columns t.columns v.columns (stay c) (stay t) (stay v) (released (released began v) c) (released (released (released began v) c) t) (released began v) apart.0 apart.1 apart.2)), sound)
+        makes_by old (drop_table d name) (Ok _) new (without_table_kept name tables) es made (
+          drop_kept pool tables streams kept name _ made new es new_is
+              (es_is ∙ sym (dropped_stored d name gone c.columns t.columns v.columns (stay c) (stay t) (stay v) (released (released began v) c) (released (released (released began v) c) t) (released began v) apart.0 apart.1 apart.2)),
+          sound,
+        )
 
     pub drop_makes_unvalidated : table_at validation_name d ≡ None → (new : Pool) (es : List Stored)
         → new ≡ record pool { places = (released (released began c) t).places }
@@ -103,6 +105,8 @@ module _ (pool : Pool) (tables : List TableDef) (streams : Streams) (kept : AreK
         let passed = drop_passes d name sound free named in
         let apart = dropped_apart d name gone c t passed free at c_at t_at in
         let made = drop_by_two_steps d name gone c t passed free at c_at t_at v_none in
-        makes_by old (drop_table d name) (Ok _) new (without_table_kept name tables) es made
-        (drop_kept pool tables streams kept name _ made new es new_is
-        (es_is ∙ sym (dropped_unvalidated d name gone c.columns t.columns [] (stay c) (stay t) [] (released began c) (released (released began c) t) began apart.0 apart.1 apart.2)), sound)
+        makes_by old (drop_table d name) (Ok _) new (without_table_kept name tables) es made (
+          drop_kept pool tables streams kept name _ made new es new_is
+              (es_is ∙ sym (dropped_unvalidated d name gone c.columns t.columns [] (stay c) (stay t) [] (released began c) (released (released began c) t) began apart.0 apart.1 apart.2)),
+          sound,
+        )

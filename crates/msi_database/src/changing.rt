@@ -81,7 +81,8 @@ impl Database {
         ensures passed { OnOk result (first_refusal (early_refusals self.now.database is_barred) ≡ None) }
         ensures sound { OnOk result (is_sound_one self.now.database ≡ true) }
         ensures free { OnOk result (is_barred ≡ false) }
-        ensures kind { IfErr result (IsRefusal {A = Unit {0}} (unless_refused (early_refusals self.now.database is_barred) tt)) }
+        ensures kind { let refusals = early_refusals self.now.database is_barred in
+            IfErr result (IsRefusal {A = Unit {0}} (unless_refused refusals tt)) }
     {
         self.check_sound()?;
         if is_barred {
@@ -93,7 +94,8 @@ impl Database {
     /// The table of a name, of a sound database.
     pub(crate) fn known_table(&self, name: &str) -> Option<&Table>
         requires { is_sound_one self.now.database ≡ true }
-        ensures { MatchOption (option_copied result) (table_at name.now self.now.database ≡ None) (IsKnown self.now.database name.now) }
+        ensures { MatchOption (option_copied result) (table_at name.now self.now.database ≡ None)
+            (IsKnown self.now.database name.now) }
     {
         self.get_table(name)
     }
@@ -105,7 +107,8 @@ impl Database {
     pub(crate) fn sound_rows(&self, table: &Table) -> Result<Vec<Items<ValueRef>>, Error>
         requires sound { is_sound_one self.now.database ≡ true }
         requires listed { table_def_at table.now.name self.now.database ≡ Some table.now }
-        ensures ok { IfOk result (λ rows. table_at table.now.name self.now.database ≡ Some (table_with table.now.columns rows.items)) }
+        ensures ok { IfOk result (λ rows.
+            table_at table.now.name self.now.database ≡ Some (table_with table.now.columns rows.items)) }
         ensures kind { OnlyMemory result }
     {
         stored_rows(self.alloc, &self.streams, table)
@@ -117,8 +120,10 @@ impl Database {
     /// `OutOfMemory`; then nothing is changed.
     pub(crate) fn finish_rows(&mut self, new: RowsAnew) -> Result<(), Error>
         requires sound { is_sound_one self.old.database ≡ true }
-        requires kept { AreKept new.pool (tables_listed self.old.database) (stored_in (new.stored ∷ []) self.old.streams) true }
-        ensures ok { OnOk result (self.new ≡ kept_of new.pool (tables_listed self.old.database) (stored_in (new.stored ∷ []) self.old.streams)) }
+        requires kept { let streams = stored_in (new.stored ∷ []) self.old.streams in
+            AreKept new.pool (tables_listed self.old.database) streams true }
+        ensures ok { let streams = stored_in (new.stored ∷ []) self.old.streams in
+            OnOk result (self.new ≡ kept_of new.pool (tables_listed self.old.database) streams) }
         ensures same { OnErr result (self.new ≡ self.old) }
         ensures kind { OnlyMemory result }
     {
@@ -138,7 +143,8 @@ impl Database {
         requires names { HaveOwnNames new.stored.items }
         requires sound { is_sound_one self.old.database ≡ true }
         requires kept { AreKept new.pool new.tables (stored_in new.stored.items self.old.streams) true }
-        ensures ok { OnOk result (self.new ≡ kept_of new.pool new.tables (stored_in new.stored.items self.old.streams)) }
+        ensures ok { let streams = stored_in new.stored.items self.old.streams in
+            OnOk result (self.new ≡ kept_of new.pool new.tables streams) }
         ensures same { OnErr result (self.new ≡ self.old) }
         ensures kind { OnlyMemory result }
     {

@@ -18,7 +18,8 @@ use msi_changes::insert::{add_rows, refuse_rows};
 use msi_changes::texts::PoolInUse;
 use msi_changes::update::{refuse_update, updated_rows};
 use msi_query::parts::{
-    Assignment, DeleteParts, InsertParts, NewRow, UpdateParts, delete_parts, insert_parts, update_parts,
+    Assignment, DeleteParts, InsertParts, NewRow, UpdateParts, delete_parts, insert_parts,
+    update_parts,
 };
 use msi_query::{Delete, Insert, Update};
 use msi_schema::system::{VALIDATION, is_schema_table, is_system_table};
@@ -64,8 +65,7 @@ fn is_barred(update: &UpdateParts) -> bool
     ensures { result ≡ updates.is_update_barred (update_of update.now) }
 {
     let name = update.table.as_str();
-    is_schema_table(name)
-        || (name == VALIDATION && !sets_description_alone(update.sets.as_slice()))
+    is_schema_table(name) || (name == VALIDATION && !sets_description_alone(update.sets.as_slice()))
 }
 
 impl Database {
@@ -152,8 +152,8 @@ impl Database {
     /// Inserts rows into a table. The pool's texts and the table's stream change together, at the end.
     ///
     /// # Errors
-    /// The first that holds: `InvalidData` where the database isn't sound; `InvalidInput` for a system table; `NotFound`
-    /// where there is no such table; `InvalidInput` where a row doesn't fit the columns; `InvalidData` where two of the
+    /// The first that holds: `InvalidData` where the database isn't sound; `InvalidInput` for a system table;
+    /// `NotFound` where there is no such table; `InvalidInput` where a row doesn't fit the columns; `InvalidData` where two of the
     /// table's rows share a key; row by row `AlreadyExists` where the table has its key, and `InvalidInput` where an
     /// earlier new row has it; `InvalidInput` where the table would have more than 65536 rows, and where the pool is
     /// full. At any time `OutOfMemory`. Then nothing is changed.
@@ -171,8 +171,9 @@ impl Database {
     /// # Errors
     /// The first that holds: `InvalidData` where the database isn't sound; `InvalidInput` for a system table, but for
     /// Description in `_Validation`; `NotFound` where there is no such table; `InvalidInput` where a column that is set
-    /// isn't there or doesn't take its value, and where a column of the condition isn't there; `AlreadyExists` where two
-    /// rows would share a key; `InvalidInput` where the pool is full. At any time `OutOfMemory`. Then nothing is changed.
+    /// isn't there or doesn't take its value, and where a column of the condition isn't there; `AlreadyExists` where
+    /// two rows would share a key; `InvalidInput` where the pool is full. At any time `OutOfMemory`. Then nothing is
+    /// changed.
     pub fn update_rows(&mut self, query: Update) -> Result<(), Error>
         ensures ok { OnOk result (Leaves self.old (updates.update_rows self.old.database query) self.new) }
         ensures same { OnErr result (self.new ≡ self.old) }
@@ -185,8 +186,8 @@ impl Database {
     /// Takes those rows out of a table that meet the condition.
     ///
     /// # Errors
-    /// The first that holds: `InvalidData` where the database isn't sound; `InvalidInput` for a system table; `NotFound`
-    /// where there is no such table; `InvalidInput` where a column of the condition isn't there. At any time
+    /// The first that holds: `InvalidData` where the database isn't sound; `InvalidInput` for a system table;
+    /// `NotFound` where there is no such table; `InvalidInput` where a column of the condition isn't there. At any time
     /// `OutOfMemory`. Then nothing is changed.
     pub fn delete_rows(&mut self, query: Delete) -> Result<(), Error>
         ensures ok { OnOk result (Leaves self.old (deletes.delete_rows self.old.database query) self.new) }

@@ -27,6 +27,7 @@ use std::marker::Model;
 
 /// Up to how many places references can name, short and long.
 const MOST_PLACES: u32 = 16_777_215;
+
 const MOST_SHORT_PLACES: u32 = 65_535;
 
 /// Whether the pool has no more places than its references can name.
@@ -80,7 +81,8 @@ fn are_alike(columns: &[Column], others: &[Column]) -> bool
 
 /// Whether `_Validation`, where it is a table, has its standard columns.
 fn is_standard(tables: &[Table], standard: &[Column]) -> bool
-    ensures { result ≡ options.option_map_or (λ t. alike t.columns standard.now) (table_kept_at validation_name tables.now) true }
+    ensures { result ≡ options.option_map_or (λ t. alike t.columns standard.now)
+        (table_kept_at validation_name tables.now) true }
 {
     match table_named(tables, VALIDATION) {
         Some(table) => are_alike(table.columns(), standard),
@@ -172,8 +174,8 @@ impl Unspent {
         table: &Table,
     ) -> Result<bool, Error>
         requires { HaveNames (entries streams.now) }
-        ensures ok { IfOk result (λ enough. table_spent self.old (table_kept (entries streams.now) table.now.long table.now)
-            ≡ (if enough then Some self.new else None)) }
+        ensures ok { let kept = table_kept (entries streams.now) table.now.long table.now in
+            IfOk result (λ enough. table_spent self.old kept ≡ (if enough then Some self.new else None)) }
         ensures kind { OnlyMemory result }
     {
         if !is_table_name(table.name()) {

@@ -17,5 +17,5 @@ returns-clause-ok c = let old = c.args.self.now in let new = c.finish_rows.new.s
     let same : delete_of c.delete_parts.result ≡ c.args.query = λ i. record { table = c.delete_parts.ensures.table i; condition = c.delete_parts.ensures.condition i } in
     on_ok c.finish_rows.result (new ≡ kept_of c.in_ok-new.new.pool (tables_listed old.database) (stored_in (c.in_ok-new.new.stored ∷ []) old.streams)) _
     (λ e. subst (λ (q : DeleteQuery). Leaves old (delete_rows old.database q) new) same
-      (makes_leaves old new (delete_rows old.database (delete_of c.delete_parts.result)) c.in_ok-new.new.pool (tables_listed old.database) (c.in_ok-new.new.stored ∷ []) c.in_ok-new.ensures.ok e))
+    (makes_leaves old new (delete_rows old.database (delete_of c.delete_parts.result)) c.in_ok-new.new.pool (tables_listed old.database) (c.in_ok-new.new.stored ∷ []) c.in_ok-new.ensures.ok e))
     c.finish_rows.ensures.ok

@@ -17,5 +17,5 @@ returns-clause-ok c = let old = c.args.self.now in let new = c.finish_rows.new.s
     let same : insert_of c.insert_parts.result ≡ c.args.query = λ i. record { table = c.insert_parts.ensures.table i; rows = c.insert_parts.ensures.rows i } in
     on_ok c.finish_rows.result (new ≡ kept_of c.in_ok-new.new.pool (tables_listed old.database) (stored_in (c.in_ok-new.new.stored ∷ []) old.streams)) _
     (λ e. subst (λ (q : InsertQuery). Leaves old (insert_rows old.database q) new) same
-      (makes_leaves old new (insert_rows old.database (insert_of c.insert_parts.result)) c.in_ok-new.new.pool (tables_listed old.database) (c.in_ok-new.new.stored ∷ []) c.in_ok-new.ensures.ok e))
+    (makes_leaves old new (insert_rows old.database (insert_of c.insert_parts.result)) c.in_ok-new.new.pool (tables_listed old.database) (c.in_ok-new.new.stored ∷ []) c.in_ok-new.ensures.ok e))
     c.finish_rows.ensures.ok

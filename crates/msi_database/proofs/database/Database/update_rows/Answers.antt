@@ -18,5 +18,5 @@ returns-clause-ok c = let old = c.args.self.now in let new = c.finish_rows.new.s
     let same : update_of c.update_parts.result ≡ c.args.query = λ i. record { table = c.update_parts.ensures.table i; sets = c.update_parts.ensures.sets i; condition = c.update_parts.ensures.condition i } in
     on_ok c.finish_rows.result (new ≡ kept_of c.in_ok-new.new.pool (tables_listed old.database) (stored_in (c.in_ok-new.new.stored ∷ []) old.streams)) _
     (λ e. subst (λ (q : UpdateQuery). Leaves old (update_rows old.database q) new) same
-      (makes_leaves old new (update_rows old.database (update_of c.update_parts.result)) c.in_ok-new.new.pool (tables_listed old.database) (c.in_ok-new.new.stored ∷ []) c.in_ok-new.ensures.ok e))
+    (makes_leaves old new (update_rows old.database (update_of c.update_parts.result)) c.in_ok-new.new.pool (tables_listed old.database) (c.in_ok-new.new.stored ∷ []) c.in_ok-new.ensures.ok e))
     c.finish_rows.ensures.ok
