@@ -21,9 +21,9 @@ entries_removed m k =
     same_entries name_cmp names_total exact_names (entries (remove m k)) (without_stream k (entries m)) (entries_sorted (remove m k))
     (is_sorted-where_key name_cmp p (entries m) (entries_sorted m))
     (λ q. sym (get-entries (remove m k) q) ∙ get-remove names_total m k q
-      ∙ ap (λ b. cond b None (get m q)) ((eq_by_cmp_equiv names_total).symm q k)
-      ∙ ap (cond (eq_by_cmp name_cmp k q) None) (get-entries m q)
-      ∙ sym (find-where_key name_cmp p q (λ x t. ap (λ r. not (is_eq r)) (sym (alike_right names_total q x k t))) (entries m) ∙ turned (eq_by_cmp name_cmp k q) (find name_cmp q (entries m)) None))
+    ∙ ap (λ b. cond b None (get m q)) ((eq_by_cmp_equiv names_total).symm q k)
+    ∙ ap (cond (eq_by_cmp name_cmp k q) None) (get-entries m q)
+    ∙ sym (find-where_key name_cmp p q (λ x t. ap (λ r. not (is_eq r)) (sym (alike_right names_total q x k t))) (entries m) ∙ turned (eq_by_cmp name_cmp k q) (find name_cmp q (entries m)) None))
 
 entries_either : (m : maps.Streams) (k : List ℕ) (v : Option (List ℕ)) → entries (maps.with_or_without m k v) ≡ with_stream_or_none k v (entries m)
 entries_either m k None = entries_removed m k

@@ -138,7 +138,7 @@ module _ (pool : Pool) (tables : List TableDef) (streams : Streams) (numbers : n
       → false ≡ is_sound (database_kept pool tables streams)
   not_enough counts same none =
       ap (λ o. is_some (option_and_then (λ rest. all_spent rest (numbers_of_rows (unlisted_kept streams pool.long tables))) o) && pool_fits_width (database_kept pool tables streams) && validation_is_standard (database_kept pool tables streams))
-        (sym none ∙ ap (λ c. tables_spent c (map (table_kept streams pool.long) tables)) same)
+      (sym none ∙ ap (λ c. tables_spent c (map (table_kept streams pool.long) tables)) same)
       ∙ sound_is_left (database_kept pool tables streams) numbers
 
   pub sound_by : (counts mid last : List ℕ) (unlisted : List (List ValueRef)) (standard : List ColumnDef) (b f v : Bool) → counts ≡ counts_of pool.places
@@ -150,7 +150,7 @@ module _ (pool : Pool) (tables : List TableDef) (streams : Streams) (numbers : n
   sound_by counts mid last unlisted standard b f v same some listed end fits wide std is alike =
       all_three b f v last wide alike
       ∙ ap (λ o. is_some o && f && v) (sym (ap (option_and_then (λ rest. all_spent rest (numbers_of_rows (unlisted_kept streams pool.long tables)))) (sym (ap (λ c. tables_spent c (map (table_kept streams pool.long) tables)) same) ∙ some)
-        ∙ ap (λ (u : List (List ValueRef)). all_spent mid (numbers_of_rows u)) (sym listed) ∙ end))
+      ∙ ap (λ (u : List (List ValueRef)). all_spent mid (numbers_of_rows u)) (sym listed) ∙ end))
       ∙ ap (λ f. is_some (all_left (database_kept pool tables streams)) && f && v) fits
       ∙ ap (λ v. is_some (all_left (database_kept pool tables streams)) && pool_fits_width (database_kept pool tables streams) && v) (is ∙ standard_kept standard std)
       ∙ sound_is_left (database_kept pool tables streams) numbers

@@ -103,10 +103,10 @@ same_truth false false f g = refl
 spent_is : (d : Database) → names_are_numbers d ≡ true → is_some (all_spent (counts_of d.pool.places) (named_numbers d)) ≡ (counts_suffice d && names_stay_in_pool d)
 spent_is d numbers = same_truth _ _
     (λ some. by_some (all_spent (counts_of d.pool.places) (named_numbers d)) _
-      (λ rest e. let s = sound_from_enough d (λ n. omega (arith, all_spent_leaves (counts_of d.pool.places) rest (named_numbers d) n e, room_is d.pool.places n, naming_is d n)) in both _ _ s.suffice s.in_pool)
-      (λ none. absurd (true≢false (sym some ∙ ap is_some none))))
+    (λ rest e. let s = sound_from_enough d (λ n. omega (arith, all_spent_leaves (counts_of d.pool.places) rest (named_numbers d) n e, room_is d.pool.places n, naming_is d n)) in both _ _ s.suffice s.in_pool)
+    (λ none. absurd (true≢false (sym some ∙ ap is_some none))))
     (λ sound. has_spent (counts_of d.pool.places) (named_numbers d)
-      (λ n. let enough = enough_from_sound d (part_one _ _ sound) (part_two (counts_suffice d) _ sound) numbers in omega (arith, enough n, room_is d.pool.places n, naming_is d n)))
+    (λ n. let enough = enough_from_sound d (part_one _ _ sound) (part_two (counts_suffice d) _ sound) numbers in omega (arith, enough n, room_is d.pool.places n, naming_is d n)))
 
 -- one list behind another
 pub all_spent_joined : (left ms ns : List ℕ) → all_spent left (ms ++ ns) ≡ option_and_then (λ rest. all_spent rest ns) (all_spent left ms)

@@ -40,9 +40,10 @@ def_kept : (streams : Streams) (wide long : Bool) (name : List ℕ) (tables : Li
     → option_map (λ t. record { name = name; columns = t.columns; long = long }) (option_map (λ t. (table_kept streams wide t).1) (table_kept_at name tables)) ≡ table_kept_at name tables
 def_kept streams wide long name [] all = refl
 def_kept streams wide long name (t ∷ ts) all =
-    elim (bytes_eq name t.name) as (λ b. (bytes_eq name t.name ≡ b) → option_map (λ t. record { name = name; columns = t.columns; long = long }) (option_map (λ t. (table_kept streams wide t).1) (cond b (Some t) (table_kept_at name ts))) ≡ cond b (Some t) (table_kept_at name ts))
-    [ true ↦ λ same i. Some (record { name = (bytes_eq-Decides name t.name).0 same i; columns = t.columns; long = sym all.0 i })
-    | false ↦ λ _. def_kept streams wide long name ts all.1 ] refl
+    elim (bytes_eq name t.name) as (λ b. (bytes_eq name t.name ≡ b) → option_map (λ t. record { name = name; columns = t.columns; long = long }) (option_map (λ t. (table_kept streams wide t).1) (cond b (Some t) (table_kept_at name ts))) ≡ cond b (Some t) (table_kept_at name ts)) [
+      | true ↦ λ same i. Some (record { name = (bytes_eq-Decides name t.name).0 same i; columns = t.columns; long = sym all.0 i })
+      | false ↦ λ _. def_kept streams wide long name ts all.1
+    ] refl
 
 pub table_def_kept : (pool : Pool) (tables : List TableDef) (streams : Streams) (name : List ℕ) → AreAsLong pool.long tables
     → table_def_at name (database_kept pool tables streams) ≡ table_kept_at name tables

@@ -36,7 +36,7 @@ rows_found streams long name [] t all e = cc
 rows_found streams long name (u ∷ us) t all e =
     elim (bytes_eq name u.name) as (λ b. cond b (Some u) (table_kept_at name us) ≡ Some t → stored_rows streams long t.columns t.name ≡ stored_rows streams t.long t.columns t.name) [
       | true ↦ λ is. let same : u ≡ t = cc in subst (λ (t : TableDef). stored_rows streams long t.columns t.name ≡ stored_rows streams t.long t.columns t.name) same
-        (ap (λ wide. stored_rows streams wide u.columns u.name) (sym all.0))
+          (ap (λ wide. stored_rows streams wide u.columns u.name) (sym all.0))
       | false ↦ λ is. rows_found streams long name us t all.1 is
     ] e
 
@@ -46,7 +46,7 @@ pub whole_kept : (pool : Pool) (tables : List TableDef) (streams : Streams) (nam
     ≡ (or_refused InvalidData (stored_rows streams t.long t.columns t.name) >>= λ rows. Ok (relation_at name t.columns rows))
 whole_kept pool tables streams name t all e =
     ap (λ (o : Option TableCells). or_refused NotFound o >>= λ t. or_refused InvalidData t.rows >>= λ rows. Ok (relation_at name t.columns rows))
-      (table_at_kept pool tables streams name ∙ ap (option_map (λ t. (table_kept streams pool.long t).1)) e)
+    (table_at_kept pool tables streams name ∙ ap (option_map (λ t. (table_kept streams pool.long t).1)) e)
     ∙ ap (λ (o : Option (List (List ValueRef))). or_refused InvalidData o >>= λ rows. Ok (relation_at name t.columns rows)) (rows_found streams pool.long name tables t all e)
 
 pub whole_none : (pool : Pool) (tables : List TableDef) (streams : Streams) (name : List ℕ) → table_kept_at name tables ≡ None

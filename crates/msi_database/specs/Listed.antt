@@ -9,7 +9,8 @@ use Rattle.msi_database.specs.Kept.{Kept}
 
 -- the table of a name, and all of them in their order
 abbrev pub table_def_at : List ℕ → Database → Option TableDef
-table_def_at name d = option_map (λ t. record { name = name; columns = t.columns; long = d.pool.long }) (table_at name d)
+table_def_at name d =
+    option_map (λ t. record { name = name; columns = t.columns; long = d.pool.long }) (table_at name d)
 
 abbrev pub tables_listed : Database → List TableDef
 tables_listed d = map (λ t. record { name = t.0; columns = t.1.columns; long = d.pool.long }) d.tables

@@ -23,7 +23,8 @@ Leaves old (Err kind) new = ⊥
 
 -- an accepted change of a sound database is made by this pool, these tables and these streams
 abbrev pub Makes : Kept → Result Change ErrorKind → Pool → List TableDef → List Stored → Type 0
-Makes old (Ok c) pool tables stored = AreParts (after_change old c) pool tables (stored_in stored old.streams) × (is_sound old.database ≡ true)
+Makes old (Ok c) pool tables stored = AreParts (after_change old c) pool tables (stored_in stored old.streams)
+    × (is_sound old.database ≡ true)
 Makes old (Err kind) pool tables stored = ⊥
 
 -- a change of one table's rows: the tables stay

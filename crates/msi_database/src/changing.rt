@@ -10,10 +10,10 @@ ghost use Rattle.msi_schema.specs.Keys.{table_key as key_of};
 ghost use Rattle.msi_changes.specs.Database.{is_sound as is_sound_one, table_at};
 ghost use Rattle.msi_changes.specs.Insert.{table_with};
 ghost use Rattle.msi_database.specs.Keeping.{AreKept};
-ghost use Rattle.msi_database.specs.Kept.{kept_of};
+ghost use Rattle.msi_database.specs.Kept.{kept_of, without_table_kept};
 ghost use Rattle.msi_database.specs.Listed.{IsKnown, table_def_at, tables_listed};
 ghost use Rattle.msi_database.specs.Making.{early_refusals};
-ghost use Rattle.msi_database.specs.Storing.{stored_in};
+ghost use Rattle.msi_database.specs.Storing.{HaveOwnNames, stored_in};
 ghost use Rattle.msi_database.specs.Streams.{stream_of_rows};
 
 use crate::database::Database;
@@ -34,6 +34,14 @@ use std::alloc::Global;
 pub(crate) struct RowsAnew {
     pub(crate) stored: Stored,
     pub(crate) pool: StringPool,
+}
+
+/// Streams to be stored, and the pool and the tables after a change of tables.
+#[derive(Drop)]
+pub(crate) struct TablesAnew {
+    pub(crate) stored: Vec<Stored>,
+    pub(crate) pool: StringPool,
+    pub(crate) tables: Items<Table>,
 }
 
 /// The stream of a table whose rows become these: none where there is no row.
@@ -73,7 +81,8 @@ impl Database {
         ensures passed { OnOk result (first_refusal (early_refusals self.now.database is_barred) ≡ None) }
         ensures sound { OnOk result (is_sound_one self.now.database ≡ true) }
         ensures free { OnOk result (is_barred ≡ false) }
-        ensures kind { IfErr result (IsRefusal {A = Unit {0}} (unless_refused (early_refusals self.now.database is_barred) tt)) }
+        ensures kind { let refusals = early_refusals self.now.database is_barred in
+            IfErr result (IsRefusal {A = Unit {0}} (unless_refused refusals tt)) }
     {
         self.check_sound()?;
         if is_barred {
@@ -85,7 +94,8 @@ impl Database {
     /// The table of a name, of a sound database.
     pub(crate) fn known_table(&self, name: &str) -> Option<&Table>
         requires { is_sound_one self.now.database ≡ true }
-        ensures { MatchOption (option_copied result) (table_at name.now self.now.database ≡ None) (IsKnown self.now.database name.now) }
+        ensures { MatchOption (option_copied result) (table_at name.now self.now.database ≡ None)
+            (IsKnown self.now.database name.now) }
     {
         self.get_table(name)
     }
@@ -97,7 +107,8 @@ impl Database {
     pub(crate) fn sound_rows(&self, table: &Table) -> Result<Vec<Items<ValueRef>>, Error>
         requires sound { is_sound_one self.now.database ≡ true }
         requires listed { table_def_at table.now.name self.now.database ≡ Some table.now }
-        ensures ok { IfOk result (λ rows. table_at table.now.name self.now.database ≡ Some (table_with table.now.columns rows.items)) }
+        ensures ok { IfOk result (λ rows.
+            table_at table.now.name self.now.database ≡ Some (table_with table.now.columns rows.items)) }
         ensures kind { OnlyMemory result }
     {
         stored_rows(self.alloc, &self.streams, table)
@@ -109,8 +120,10 @@ impl Database {
     /// `OutOfMemory`; then nothing is changed.
     pub(crate) fn finish_rows(&mut self, new: RowsAnew) -> Result<(), Error>
         requires sound { is_sound_one self.old.database ≡ true }
-        requires kept { AreKept new.pool (tables_listed self.old.database) (stored_in (new.stored ∷ []) self.old.streams) true }
-        ensures ok { OnOk result (self.new ≡ kept_of new.pool (tables_listed self.old.database) (stored_in (new.stored ∷ []) self.old.streams)) }
+        requires kept { let streams = stored_in (new.stored ∷ []) self.old.streams in
+            AreKept new.pool (tables_listed self.old.database) streams true }
+        ensures ok { let streams = stored_in (new.stored ∷ []) self.old.streams in
+            OnOk result (self.new ≡ kept_of new.pool (tables_listed self.old.database) streams) }
         ensures same { OnErr result (self.new ≡ self.old) }
         ensures kind { OnlyMemory result }
     {
@@ -121,4 +134,56 @@ impl Database {
         self.pool = pool;
         Ok(())
     }
+
+    /// Ends a change of tables: stores these streams, and takes the pool and the tables in place of its own.
+    ///
+    /// # Errors
+    /// `OutOfMemory`; then nothing is changed.
+    pub(crate) fn finish_tables(&mut self, new: TablesAnew) -> Result<(), Error>
+        requires names { HaveOwnNames new.stored.items }
+        requires sound { is_sound_one self.old.database ≡ true }
+        requires kept { AreKept new.pool new.tables (stored_in new.stored.items self.old.streams) true }
+        ensures ok { let streams = stored_in new.stored.items self.old.streams in
+            OnOk result (self.new ≡ kept_of new.pool new.tables streams) }
+        ensures same { OnErr result (self.new ≡ self.old) }
+        ensures kind { OnlyMemory result }
+    {
+        let TablesAnew {
+            stored,
+            pool,
+            tables,
+        } = new;
+        store_all(&mut self.streams, stored.into_iter())?;
+        self.pool = pool;
+        self.tables = tables;
+        Ok(())
+    }
+
+    /// The tables without the one of a name.
+    ///
+    /// # Errors
+    /// `OutOfMemory`.
+    pub(crate) fn tables_without(&self, name: &str) -> Result<Items<Table>, Error>
+        ensures ok { IfOk result (λ tables. tables ≡ without_table_kept name.now (tables_listed self.now.database)) }
+        ensures kind { OnlyMemory result }
+    {
+        copies_without(self.alloc, self.tables(), name)
+    }
+}
+
+/// Tables once more, but for the one of a name.
+///
+/// # Errors
+/// `OutOfMemory`.
+fn copies_without(alloc: Global, tables: &[Table], name: &str) -> Result<Items<Table>, Error>
+    ensures ok { IfOk result (λ copies. copies ≡ without_table_kept name.now tables.now) }
+    ensures kind { OnlyMemory result }
+{
+    let mut copies = Vec::new(alloc);
+    for table in tables {
+        if name != table.name() {
+            copies.push(table.clone(alloc)?)?;
+        }
+    }
+    Ok(Items::from_vec(copies))
 }

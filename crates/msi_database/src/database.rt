@@ -130,12 +130,9 @@ impl Database {
     ///
     /// # Errors
     /// `InvalidData` where the stream can't be read; `OutOfMemory`.
-    pub fn rows_of_table(
-        &self,
-        alloc: Global,
-        table: &Table,
-    ) -> Result<Vec<Items<ValueRef>>, Error>
-        ensures ok { IfOk result (λ rows. rows_stored self.now.streams table.now.long table.now.columns table.now.name ≡ Some rows.items) }
+    pub fn rows_of_table(&self, alloc: Global, table: &Table) -> Result<Vec<Items<ValueRef>>, Error>
+        ensures ok { IfOk result (λ rows.
+            rows_stored self.now.streams table.now.long table.now.columns table.now.name ≡ Some rows.items) }
         ensures kind { IfErr result (IsRefusal (or_refused InvalidData
             (rows_stored self.now.streams table.now.long table.now.columns table.now.name))) }
     {
@@ -161,8 +158,8 @@ impl Database {
     /// What a query selects.
     ///
     /// # Errors
-    /// The first that holds, for a join those of the left query, then those of the right: `NotFound` where a table isn't
-    /// there, `InvalidData` where it can't be read; then `InvalidInput` where a column isn't there, in a join's
+    /// The first that holds, for a join those of the left query, then those of the right: `NotFound` where a table
+    /// isn't there, `InvalidData` where it can't be read; then `InvalidInput` where a column isn't there, in a join's
     /// condition, then one that is to be kept, then in the condition. Where none holds, `OutOfMemory`, which also may
     /// come before.
     pub fn select(&self, alloc: Global, query: &Select) -> Result<Relation, Error>

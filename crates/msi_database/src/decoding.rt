@@ -40,11 +40,7 @@ pub(crate) fn table_key(alloc: Global, name: &str) -> Result<Option<Name>, Error
 ///
 /// # Errors
 /// `OutOfMemory`.
-fn stream_bytes<'a>(
-    alloc: Global,
-    streams: &'a StreamMap,
-    name: &str,
-) -> Result<&'a [u8], Error>
+fn stream_bytes<'a>(alloc: Global, streams: &'a StreamMap, name: &str) -> Result<&'a [u8], Error>
     requires { HaveNames (entries streams.now) }
     ensures ok { IfOk result (λ bytes. bytes.now ≡ unwrap_or (stream_at (key_of name.now) (entries streams.now)) []) }
     ensures kind { OnlyMemory result }
@@ -91,7 +87,8 @@ pub(crate) fn stored_rows(
     table: &Table,
 ) -> Result<Vec<Items<ValueRef>>, Error>
     requires { HaveNames (entries streams.now) }
-    ensures ok { IfOk result (λ rows. rows_stored (entries streams.now) table.now.long table.now.columns table.now.name ≡ Some rows.items) }
+    ensures ok { IfOk result (λ rows.
+        rows_stored (entries streams.now) table.now.long table.now.columns table.now.name ≡ Some rows.items) }
     ensures kind { IfErr result (IsRefusal (or_refused InvalidData
         (rows_stored (entries streams.now) table.now.long table.now.columns table.now.name))) }
 {

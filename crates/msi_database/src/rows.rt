@@ -1,6 +1,7 @@
 //! Changes of a table's rows: rows are inserted, updated and deleted.
 
-ghost use Rattle.std.specs.Prelude.{◌≡◌, IfErr, IfOk, OnErr, OnOk};
+ghost use Rattle.std.specs.Prelude.{◌≡◌, IfErr, IfOk, OnErr, OnOk, bytes_eq, codes};
+ghost use Rattle.std.specs.List.{list_all};
 ghost use Rattle.msi_text.specs.Results.{OnlyMemory};
 ghost use Rattle.msi_relation.specs.Refusals.{IsRefusal};
 ghost use Rattle.msi_changes.specs.Delete as deletes;
@@ -17,7 +18,8 @@ use msi_changes::insert::{add_rows, refuse_rows};
 use msi_changes::texts::PoolInUse;
 use msi_changes::update::{refuse_update, updated_rows};
 use msi_query::parts::{
-    DeleteParts, InsertParts, NewRow, UpdateParts, delete_parts, insert_parts, update_parts,
+    Assignment, DeleteParts, InsertParts, NewRow, UpdateParts, delete_parts, insert_parts,
+    update_parts,
 };
 use msi_query::{Delete, Insert, Update};
 use msi_schema::system::{VALIDATION, is_schema_table, is_system_table};
@@ -44,14 +46,26 @@ fn values_of(alloc: Global, rows: Items<NewRow>) -> Result<Vec<Items<Value>>, Er
     Ok(values)
 }
 
+/// Whether a new value is for the column Description.
+fn is_description(set: &Assignment) -> bool
+    ensures { result ≡ bytes_eq set.now.0 (codes "Description") }
+{
+    set.column() == DESCRIPTION
+}
+
+/// Whether each new value is for the column Description.
+fn sets_description_alone(sets: &[Assignment]) -> bool
+    ensures { result ≡ list_all (λ s. bytes_eq s.0 (codes "Description")) sets.now }
+{
+    sets.iter().all(|set| is_description(set))
+}
+
 /// Whether an update is barred: of the system tables only Description in `_Validation` may be set.
 fn is_barred(update: &UpdateParts) -> bool
     ensures { result ≡ updates.is_update_barred (update_of update.now) }
 {
     let name = update.table.as_str();
-    let sets = update.sets.as_slice();
-    is_schema_table(name)
-        || (name == VALIDATION && !sets.iter().all(|set| set.column() == DESCRIPTION))
+    is_schema_table(name) || (name == VALIDATION && !sets_description_alone(update.sets.as_slice()))
 }
 
 impl Database {
@@ -70,17 +84,13 @@ impl Database {
         let Some(table) = self.known_table(name) else {
             return Err(Error::new(ErrorKind::NotFound, reasons::NO_TABLE));
         };
+        let columns = table.columns();
         let held = self.sound_rows(table)?;
         let values = values_of(self.alloc, rows)?;
-        refuse_rows(
-            self.alloc,
-            &self.pool,
-            table.columns(),
-            held.as_slice(),
-            values.as_slice(),
-        )?;
+        let rows = held.as_slice();
+        refuse_rows(self.alloc, &self.pool, columns, rows, values.as_slice())?;
         let mut pool = PoolInUse::new(self.pool.clone()?);
-        let all = add_rows(self.alloc, table.columns(), &mut pool, held, values)?;
+        let all = add_rows(self.alloc, columns, &mut pool, held, values)?;
         let stored = stream_of(self.alloc, table, all)?;
         Ok(RowsAnew {
             stored,
@@ -142,8 +152,8 @@ impl Database {
     /// Inserts rows into a table. The pool's texts and the table's stream change together, at the end.
     ///
     /// # Errors
-    /// The first that holds: `InvalidData` where the database isn't sound; `InvalidInput` for a system table; `NotFound`
-    /// where there is no such table; `InvalidInput` where a row doesn't fit the columns; `InvalidData` where two of the
+    /// The first that holds: `InvalidData` where the database isn't sound; `InvalidInput` for a system table;
+    /// `NotFound` where there is no such table; `InvalidInput` where a row doesn't fit the columns; `InvalidData` where two of the
     /// table's rows share a key; row by row `AlreadyExists` where the table has its key, and `InvalidInput` where an
     /// earlier new row has it; `InvalidInput` where the table would have more than 65536 rows, and where the pool is
     /// full. At any time `OutOfMemory`. Then nothing is changed.
@@ -161,8 +171,9 @@ impl Database {
     /// # Errors
     /// The first that holds: `InvalidData` where the database isn't sound; `InvalidInput` for a system table, but for
     /// Description in `_Validation`; `NotFound` where there is no such table; `InvalidInput` where a column that is set
-    /// isn't there or doesn't take its value, and where a column of the condition isn't there; `AlreadyExists` where two
-    /// rows would share a key; `InvalidInput` where the pool is full. At any time `OutOfMemory`. Then nothing is changed.
+    /// isn't there or doesn't take its value, and where a column of the condition isn't there; `AlreadyExists` where
+    /// two rows would share a key; `InvalidInput` where the pool is full. At any time `OutOfMemory`. Then nothing is
+    /// changed.
     pub fn update_rows(&mut self, query: Update) -> Result<(), Error>
         ensures ok { OnOk result (Leaves self.old (updates.update_rows self.old.database query) self.new) }
         ensures same { OnErr result (self.new ≡ self.old) }
@@ -175,8 +186,8 @@ impl Database {
     /// Takes those rows out of a table that meet the condition.
     ///
     /// # Errors
-    /// The first that holds: `InvalidData` where the database isn't sound; `InvalidInput` for a system table; `NotFound`
-    /// where there is no such table; `InvalidInput` where a column of the condition isn't there. At any time
+    /// The first that holds: `InvalidData` where the database isn't sound; `InvalidInput` for a system table;
+    /// `NotFound` where there is no such table; `InvalidInput` where a column of the condition isn't there. At any time
     /// `OutOfMemory`. Then nothing is changed.
     pub fn delete_rows(&mut self, query: Delete) -> Result<(), Error>
         ensures ok { OnOk result (Leaves self.old (deletes.delete_rows self.old.database query) self.new) }

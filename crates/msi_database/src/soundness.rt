@@ -5,7 +5,6 @@ ghost use Rattle.std.specs.FinMap.{entries};
 ghost use Rattle.std.specs.Option as options;
 ghost use Rattle.msi_text.specs.FirstFit.{most_places};
 ghost use Rattle.msi_text.specs.Results.{OnlyMemory};
-ghost use Rattle.msi_schema.specs.Keys.{is_table_name as is_of_table};
 ghost use Rattle.msi_schema.specs.System.{validation_columns, validation_name};
 ghost use Rattle.msi_changes.specs.Database.{are_alike as alike, is_sound as is_sound_one, names_are_numbers, numbers_of_rows, same_bool, same_kind as same_kinds, validation_is_standard};
 ghost use Rattle.msi_database.specs.Kept.{AreAsLong, database_kept, table_kept, table_kept_at, unlisted_kept};
@@ -15,6 +14,8 @@ ghost use Rattle.msi_database.specs.StreamNames.{HaveNames};
 use crate::database::table_named;
 use crate::decoding::readable_rows;
 use msi_compound::contents::StreamMap;
+use msi_schema::names::is_table_name;
+use msi_schema::system::VALIDATION;
 use msi_table::column::{Column, ColumnType};
 use msi_table::{Table, ValueRef};
 use msi_text::errors::Error;
@@ -24,18 +25,10 @@ use msi_text::text::Items;
 use std::alloc::Global;
 use std::marker::Model;
 
-/// The table that describes columns.
-const VALIDATION: &str = "_Validation";
-
 /// Up to how many places references can name, short and long.
 const MOST_PLACES: u32 = 16_777_215;
-const MOST_SHORT_PLACES: u32 = 65_535;
 
-fn is_table_name(name: &str) -> bool
-    ensures { result ≡ is_of_table name.now }
-{
-    name.is_empty()
-}
+const MOST_SHORT_PLACES: u32 = 65_535;
 
 /// Whether the pool has no more places than its references can name.
 fn fits_width(pool: &StringPool) -> bool
@@ -88,7 +81,8 @@ fn are_alike(columns: &[Column], others: &[Column]) -> bool
 
 /// Whether `_Validation`, where it is a table, has its standard columns.
 fn is_standard(tables: &[Table], standard: &[Column]) -> bool
-    ensures { result ≡ options.option_map_or (λ t. alike t.columns standard.now) (table_kept_at validation_name tables.now) true }
+    ensures { result ≡ options.option_map_or (λ t. alike t.columns standard.now)
+        (table_kept_at validation_name tables.now) true }
 {
     match table_named(tables, VALIDATION) {
         Some(table) => are_alike(table.columns(), standard),
@@ -180,8 +174,8 @@ impl Unspent {
         table: &Table,
     ) -> Result<bool, Error>
         requires { HaveNames (entries streams.now) }
-        ensures ok { IfOk result (λ enough. table_spent self.old (table_kept (entries streams.now) table.now.long table.now)
-            ≡ (if enough then Some self.new else None)) }
+        ensures ok { let kept = table_kept (entries streams.now) table.now.long table.now in
+            IfOk result (λ enough. table_spent self.old kept ≡ (if enough then Some self.new else None)) }
         ensures kind { OnlyMemory result }
     {
         if !is_table_name(table.name()) {
