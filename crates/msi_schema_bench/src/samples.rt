@@ -94,12 +94,17 @@ pub(crate) fn described(alloc: Global, rows: &Rows) -> Result<Items<Table>, Erro
     tables_described(alloc, SchemaRows::new(tables, columns, validation), false)
 }
 
-/// The kind of error that rows give in place of tables.
-pub(crate) fn refusal(alloc: Global, rows: &Rows) -> Option<ErrorKind> {
-    match described(alloc, rows) {
-        Ok(_) => None,
+/// The kind of an error, where there is one.
+fn kind_of<A: Drop>(answer: Result<A, Error>) -> Option<ErrorKind> {
+    match answer {
+        Ok(_answer) => None,
         Err(error) => Some(error.kind()),
     }
+}
+
+/// The kind of error that rows give in place of tables.
+pub(crate) fn refusal(alloc: Global, rows: &Rows) -> Option<ErrorKind> {
+    kind_of(described(alloc, rows))
 }
 
 /// The names of the tables that rows describe, with the number of columns behind each.
