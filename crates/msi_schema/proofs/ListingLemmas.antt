@@ -3,18 +3,18 @@ use Rattle.std.proofs.Common.{◌≡◌, ℕ, zero, suc, ◌+◌, ◌<◌, Bool,
 use Rattle.std.specs.Prelude.{◌||◌, not, Option, option_and_then, option_map, slice_index_or, IsPermutation}
 use Rattle.std.specs.List.{list_any}
 use Rattle.std.proofs.lemmas.List.{take_more}
-use Rattle.std.proofs.lemmas.List.Sorted.{list_any-IsPermutation}
+use Rattle.std.proofs.lemmas.List.Sorted.{IsPermutation-refl, list_any-IsPermutation}
 use Rattle.msi_text.specs.Lists.{all_present, stable_sort}
 use Rattle.msi_table.specs.declared.value.Value.{Value}
 use Rattle.msi_table.specs.Columns.{ColumnDef, TableDef}
 use Rattle.msi_schema.specs.ListedTables.{by_names, listed_table, listed_tables, with_system}
-use Rattle.msi_schema.specs.RowOrders.{by_numbers, by_texts, describing, number_in, numbers_cmp, rows_of}
+use Rattle.msi_schema.specs.RowOrders.{by_numbers, by_texts, describing, number_in, numbers_cmp, rows_of, texts_at, texts_cmp}
 use Rattle.msi_schema.specs.Schema.{SchemaRows, columns_of, counted, has_long_number, has_odd_name, is_faulty, is_of_16_bits, number_of, tables_of, text_at, value_at}
 use Rattle.msi_schema.proofs.ListLemmas.{by_test, or_both, or_false}
 use Rattle.msi_schema.proofs.OrderLemmas.{sorted_is}
 use Rattle.msi_schema.proofs.OrderlessLemmas.{is_counted}
-use Rattle.msi_schema.proofs.RowOrderLemmas.{numbers_total}
-use Rattle.msi_schema.proofs.TablesLemmas.{listed_sorted, present_more, tables_are, tables_unread}
+use Rattle.msi_schema.proofs.RowOrderLemmas.{numbers_total, texts_total}
+use Rattle.msi_schema.proofs.TablesLemmas.{faulty_reordered, listed_sorted, present_more, tables_are, tables_unread}
 
 module _ (long : Bool) (columns validation : List (List Value)) where
   abbrev pub read_of : List Value → Option TableDef
@@ -87,6 +87,14 @@ pub short_sorted : (rows sorted : List (List Value)) → sorted ≡ stable_sort 
 short_sorted rows sorted e short = ap has_long_number e
     ∙ sym (list_any-IsPermutation _ rows (stable_sort by_numbers rows) ((sorted_is number_in numbers_cmp numbers_total rows).moved)) ∙ short
 
+pub faults_kept : (s : SchemaRows) (columns validation : List (List Value)) → columns ≡ stable_sort by_numbers s.columns → validation ≡ stable_sort (by_texts 1) s.validation → is_faulty (rows_of s.tables columns validation) ≡ is_faulty s
+faults_kept s columns validation ec ev = (λ i. is_faulty (rows_of s.tables (ec i) (ev i)))
+    ∙ faulty_reordered s (rows_of s.tables (stable_sort by_numbers s.columns) (stable_sort (by_texts 1) s.validation)) (record {
+      tables = IsPermutation-refl s.tables;
+      columns = (sorted_is number_in numbers_cmp numbers_total s.columns).moved;
+      validation = (sorted_is (texts_at 1) texts_cmp texts_total s.validation).moved;
+    })
+
 none_under : {X Y : Type 0} (f : X → Y) (o : Option X) → option_map f o ≡ None → o ≡ None
 none_under f None e = refl
 none_under f (Some x) e = cc
@@ -95,18 +103,18 @@ some_under : {X Y Z : Type 0} (f : X → Y) (g : Y → Z) (o : Option X) (y : Y)
 some_under f g None y e = cc
 some_under f g (Some x) y e = let s : y ≡ f x = cc in rw s refl
 
-module _ (long : Bool) (s : SchemaRows) (columns validation : List (List Value)) (ec : columns ≡ stable_sort by_numbers s.columns) (ev : validation ≡ stable_sort (by_texts 1) s.validation)
-  (fits : (has_odd_name s.tables || has_long_number s.columns) ≡ false) where
-  same_listed : listed_tables long (rows_of s.tables columns validation) ≡ listed_tables long s
-  same_listed = (λ i. listed_tables long (rows_of s.tables (ec i) (ev i))) ∙ listed_sorted long s
+module _ (long : Bool) (s : SchemaRows) (tables columns validation : List (List Value)) (et : tables ≡ s.tables) (ec : columns ≡ stable_sort by_numbers s.columns) (ev : validation ≡ stable_sort (by_texts 1) s.validation)
+    (fits : (has_odd_name s.tables || has_long_number s.columns) ≡ false) where
+  same_listed : listed_tables long (rows_of tables columns validation) ≡ listed_tables long s
+  same_listed = (λ i. listed_tables long (rows_of (et i) (ec i) (ev i))) ∙ listed_sorted long s
 
-  pub nothing_described : option_map (with_system long) (listed_tables long (rows_of s.tables columns validation)) ≡ None → tables_of long s ≡ None
+  pub nothing_described : option_map (with_system long) (listed_tables long (rows_of tables columns validation)) ≡ None → tables_of long s ≡ None
   nothing_described e =
       let f = or_false (has_odd_name s.tables) (has_long_number s.columns) fits in
-      tables_unread long s f.0 f.1 (sym same_listed ∙ none_under (with_system long) (listed_tables long (rows_of s.tables columns validation)) e)
+      tables_unread long s f.0 f.1 (sym same_listed ∙ none_under (with_system long) (listed_tables long (rows_of tables columns validation)) e)
 
-  pub tables_given : (read : List TableDef) → option_map (with_system long) (listed_tables long (rows_of s.tables columns validation)) ≡ Some read → is_faulty s ≡ false → tables_of long s ≡ Some (stable_sort by_names read)
+  pub tables_given : (read : List TableDef) → option_map (with_system long) (listed_tables long (rows_of tables columns validation)) ≡ Some read → is_faulty s ≡ false → tables_of long s ≡ Some (stable_sort by_names read)
   tables_given read e sound =
       let f = or_false (has_odd_name s.tables) (has_long_number s.columns) fits in
       tables_are long s f.0 f.1 sound ∙ ap (option_map (λ listed. stable_sort by_names (with_system long listed))) (sym same_listed)
-      ∙ some_under (with_system long) (stable_sort by_names) (listed_tables long (rows_of s.tables columns validation)) read e
+      ∙ some_under (with_system long) (stable_sort by_names) (listed_tables long (rows_of tables columns validation)) read e

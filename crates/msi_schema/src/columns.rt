@@ -1,4 +1,5 @@
-//! A column from its row of `_Columns` and its row of `_Validation` (MSI SDK, "_Columns table" and "_Validation table").
+//! A column from its row of `_Columns` and its row of `_Validation` (MSI SDK, "_Columns table" and "_Validation
+//! table").
 
 ghost use Rattle.std.specs.Prelude.{◌≡◌, ◌≤◌, ◌==◌, [], IfOk, Some, bytes_eq, codes, false, if◌then◌else◌, length, map, option_and_then, option_map, true};
 ghost use Rattle.std.specs.List.{slice_split};
@@ -128,7 +129,8 @@ fn bits_in(row: &Items<Value>) -> u16
     (number_at(row, 3) as i16).cast_unsigned()
 }
 
-/// Begins a column of a name with what `_Validation` says of it, whose rows stand in the order of their tables and columns.
+/// Begins a column of a name with what `_Validation` says of it, whose rows stand in the order of their tables and
+/// columns.
 ///
 /// # Errors
 /// `OutOfMemory`.
@@ -156,8 +158,8 @@ fn misnumbered() -> Error
     Error::new(ErrorKind::InvalidData, reasons::COLUMN_NUMBERS)
 }
 
-/// The column that a row of `_Columns` describes, with the row of `_Validation` about it where there is one; the rows of
-/// `_Validation` stand in the order of their tables and columns.
+/// The column that a row of `_Columns` describes, with the row of `_Validation` about it where there is one; the rows
+/// of `_Validation` stand in the order of their tables and columns.
 ///
 /// # Errors
 /// `InvalidData` where the row's bits name no type; `OutOfMemory`.
@@ -175,8 +177,8 @@ fn column_of_row(
     column_of_bits(builder, bits_in(row))
 }
 
-/// The column of a table that has a number. The rows of `_Columns` stand in the order of their tables and numbers, those of
-/// `_Validation` in the order of their tables and columns.
+/// The column of a table that has a number. The rows of `_Columns` stand in the order of their tables and numbers,
+/// those of `_Validation` in the order of their tables and columns.
 ///
 /// # Errors
 /// `InvalidData` where no row has the number, and where its bits name no type; `OutOfMemory`.
@@ -200,8 +202,8 @@ fn numbered_column(
     }
 }
 
-/// The columns of a table that is neither `_Tables` nor `_Columns`, by their numbers. The rows of `_Columns` stand in the
-/// order of their tables and numbers, those of `_Validation` in the order of their tables and columns.
+/// The columns of a table that is neither `_Tables` nor `_Columns`, by their numbers. The rows of `_Columns` stand in
+/// the order of their tables and numbers, those of `_Validation` in the order of their tables and columns.
 ///
 /// # Errors
 /// `InvalidData` where the numbers aren't 1 to n, n at least 1, and where a row's bits name no type; `OutOfMemory`.
@@ -227,13 +229,7 @@ pub(crate) fn columns_of_table(
     }
     let mut read = Vec::new(alloc);
     for i in 0..count {
-        read.push(numbered_column(
-            alloc,
-            columns,
-            validation,
-            table,
-            i as u16 + 1,
-        )?)?;
+        read.push(numbered_column(alloc, columns, validation, table, i as u16 + 1)?)?;
     }
     Ok(Items::from_vec(read))
 }

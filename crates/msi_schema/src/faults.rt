@@ -33,7 +33,7 @@ fn is_long(row: &Items<Value>) -> bool
 }
 
 /// Whether a row of `_Columns` has a number that no cell of 16 bits holds.
-pub(crate) fn has_long_number(rows: &[Items<Value>]) -> bool
+fn has_long_number(rows: &[Items<Value>]) -> bool
     ensures { result ≡ has_long rows.now }
 {
     rows.iter().any(is_long)
@@ -47,10 +47,17 @@ fn is_odd(row: &Items<Value>) -> bool
 }
 
 /// Whether a row of `_Tables` has no text for a name.
-pub(crate) fn has_odd_name(rows: &[Items<Value>]) -> bool
+fn has_odd_name(rows: &[Items<Value>]) -> bool
     ensures { result ≡ has_odd rows.now }
 {
     rows.iter().any(is_odd)
+}
+
+/// Whether rows of `_Tables` and `_Columns` have values that no cells give.
+pub(crate) fn has_odd_value(tables: &[Items<Value>], columns: &[Items<Value>]) -> bool
+    ensures { result ≡ (has_odd tables.now || has_long columns.now) }
+{
+    has_odd_name(tables) || has_long_number(columns)
 }
 
 /// Whether a value of a row is null.
@@ -88,7 +95,8 @@ fn lists_pool(tables: &[Items<Value>]) -> bool
     tables.iter().any(is_of_pool)
 }
 
-/// Whether a row of `_Columns` is about a table that isn't listed; the rows of `_Tables` stand in the order of their names.
+/// Whether a row of `_Columns` is about a table that isn't listed; the rows of `_Tables` stand in the order of their
+/// names.
 fn is_unlisted(tables: &[Items<Value>], row: &Items<Value>) -> bool
     requires { IsSorted (by_texts 0) tables.now }
     ensures { result ≡ (not (is_of_schema (text_in 0 row.now))
@@ -98,7 +106,8 @@ fn is_unlisted(tables: &[Items<Value>], row: &Items<Value>) -> bool
     is_counted(row) && find_by_texts(tables, 0, table, table).is_none()
 }
 
-/// Whether a row of `_Columns` is about a table that isn't listed; the rows of `_Tables` stand in the order of their names.
+/// Whether a row of `_Columns` is about a table that isn't listed; the rows of `_Tables` stand in the order of their
+/// names.
 fn has_unlisted(tables: &[Items<Value>], columns: &[Items<Value>]) -> bool
     requires { IsSorted (by_texts 0) tables.now }
     ensures { result ≡ list_any (λ row. not (is_of_schema (text_in 0 row))
@@ -107,8 +116,8 @@ fn has_unlisted(tables: &[Items<Value>], columns: &[Items<Value>]) -> bool
     columns.iter().any(|row| is_unlisted(tables, row))
 }
 
-/// Whether a row of `_Validation` is about a column that `_Columns` describes; the rows of `_Columns` stand in the order
-/// of their tables and names.
+/// Whether a row of `_Validation` is about a column that `_Columns` describes; the rows of `_Columns` stand in the
+/// order of their tables and names.
 fn describes_column(columns: &[Items<Value>], row: &Items<Value>) -> bool
     requires { IsSorted (by_texts 2) columns.now }
     ensures { result ≡ is_described (listing [] columns.now) row.now }
@@ -116,8 +125,8 @@ fn describes_column(columns: &[Items<Value>], row: &Items<Value>) -> bool
     is_counted(row) && find_by_texts(columns, 2, text_at(row, 0), text_at(row, 1)).is_some()
 }
 
-/// Whether a row of `_Validation` lacks a value that it needs; the rows of `_Columns` stand in the order of their tables
-/// and names.
+/// Whether a row of `_Validation` lacks a value that it needs; the rows of `_Columns` stand in the order of their
+/// tables and names.
 fn lacks_value(columns: &[Items<Value>], row: &Items<Value>) -> bool
     requires { IsSorted (by_texts 2) columns.now }
     ensures { result ≡ lacks_one (listing [] columns.now) row.now }
@@ -127,8 +136,8 @@ fn lacks_value(columns: &[Items<Value>], row: &Items<Value>) -> bool
         || (describes_column(columns, row) && is_null_at(row, 2))
 }
 
-/// Whether a row of `_Validation` lacks a value that it needs; the rows of `_Columns` stand in the order of their tables
-/// and names.
+/// Whether a row of `_Validation` lacks a value that it needs; the rows of `_Columns` stand in the order of their
+/// tables and names.
 fn has_lack(columns: &[Items<Value>], validation: &[Items<Value>]) -> bool
     requires { IsSorted (by_texts 2) columns.now }
     ensures { result ≡ list_any (lacks_one (listing [] columns.now)) validation.now }
@@ -150,8 +159,8 @@ fn repeats_counted(rows: Vec<Items<Value>>, place: usize) -> Result<bool, Error>
     has_repeat(rows, place)
 }
 
-/// Whether rows break a rule that each row decides, beside the other tables' rows: those of `_Tables` stand in the order of
-/// their names, those of `_Columns` in the order of their tables and names.
+/// Whether rows break a rule that each row decides, beside the other tables' rows: those of `_Tables` stand in the
+/// order of their names, those of `_Columns` in the order of their tables and names.
 fn has_fault_in_row(
     tables: &[Items<Value>],
     columns: &[Items<Value>],

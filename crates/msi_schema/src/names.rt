@@ -67,7 +67,8 @@ pub fn table_key(alloc: Global, name: &str) -> Result<Option<Name>, Error>
     container_name(alloc, name, true)
 }
 
-/// The container's name of a stream beside the tables, unless it is empty or too long for one: an accepted name's isn't.
+/// The container's name of a stream beside the tables, unless it is empty or too long for one: an accepted name's
+/// isn't.
 ///
 /// # Errors
 /// `OutOfMemory`.

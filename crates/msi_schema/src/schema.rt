@@ -11,7 +11,7 @@ ghost use Rattle.msi_schema.specs.Schema.{has_long_number as has_long, table_wit
 ghost use Rattle.msi_schema.specs.System.{is_schema_table};
 
 use crate::columns::columns_of_table;
-use crate::faults::{has_long_number, has_odd_name, is_counted, is_faulty};
+use crate::faults::{has_odd_value, is_counted, is_faulty};
 use crate::orders::{sort_by_numbers, sort_by_texts};
 use crate::reasons;
 use crate::rows::text_at;
@@ -62,7 +62,12 @@ impl SchemaRows {
 ///
 /// # Errors
 /// `OutOfMemory`.
-fn named_table(alloc: Global, name: &str, columns: Items<Column>, long: bool) -> Result<Table, Error>
+fn named_table(
+    alloc: Global,
+    name: &str,
+    columns: Items<Column>,
+    long: bool,
+) -> Result<Table, Error>
     requires { length columns ≤ most_columns }
     ensures ok { IfOk result (λ table. table ≡ table_with long (name.now, columns)) }
     ensures kind { OnlyMemory result }
@@ -110,8 +115,8 @@ fn listed_table(
     named_table(alloc, name, columns, long)
 }
 
-/// The tables that are always there, and then those that `_Tables` lists, in its order. The rows of `_Columns` stand in the
-/// order of their tables and numbers, those of `_Validation` in the order of their tables and columns.
+/// The tables that are always there, and then those that `_Tables` lists, in its order. The rows of `_Columns` stand
+/// in the order of their tables and numbers, those of `_Validation` in the order of their tables and columns.
 ///
 /// # Errors
 /// `InvalidData` where the columns of a listed table aren't numbered from 1 on, and where their bits name no type;
@@ -151,37 +156,58 @@ fn sort_by_names(tables: &mut Vec<Table>) -> Result<(), Error>
     Ok(())
 }
 
-/// The tables that rows describe, in the order of their names; `_Tables` and `_Columns` are always there. References to
-/// texts are long, or not, in all of them. It costs the rows times a logarithm.
+/// The tables that rows describe, in the order of their names.
 ///
 /// # Errors
-/// `InvalidData` where a row of `_Tables` or `_Columns` has a null, a row of `_Validation` lacks its table, its column or,
-/// about a column that is there, whether that takes null; where a stream of the string pool is listed, two rows share a
-/// key, a column is of no listed table, the columns of a listed table aren't numbered from 1 on, or their bits name no
-/// type; and for rows that no cells give: a name that is no text, a number of more than 16 bits. `OutOfMemory`.
-pub fn tables_described(alloc: Global, rows: SchemaRows, long: bool) -> Result<Items<Table>, Error>
-    ensures { Gives (λ tables. tables) result (tables_of long rows) }
+/// `InvalidData` for rows that describe none; `OutOfMemory`.
+fn described(
+    alloc: Global,
+    tables: Vec<Items<Value>>,
+    columns: Vec<Items<Value>>,
+    validation: Vec<Items<Value>>,
+    long: bool,
+) -> Result<Items<Table>, Error>
+    ensures { let s = rows_of tables.items columns.items validation.items in
+        Gives (λ tables. tables) result (tables_of long s) }
 {
-    let SchemaRows {
-        tables,
-        mut columns,
-        mut validation,
-    } = rows;
-    if has_odd_name(tables.as_slice()) || has_long_number(columns.as_slice()) {
+    if has_odd_value(tables.as_slice(), columns.as_slice()) {
         return Err(Error::new(ErrorKind::InvalidData, reasons::ODD_VALUE));
     }
+    let mut columns = columns;
+    let mut validation = validation;
     sort_by_numbers(&mut columns)?;
     sort_by_texts(&mut validation, 1)?;
-    let mut described = listed_tables(
+    let mut read = listed_tables(
         alloc,
         tables.as_slice(),
         columns.as_slice(),
         validation.as_slice(),
         long,
     )?;
-    if is_faulty(tables, columns, validation)? {
+    let faulty = is_faulty(tables, columns, validation)?;
+    if faulty {
         return Err(Error::new(ErrorKind::InvalidData, reasons::FAULTY_ROWS));
     }
-    sort_by_names(&mut described)?;
-    Ok(Items::from_vec(described))
+    sort_by_names(&mut read)?;
+    Ok(Items::from_vec(read))
+}
+
+/// The tables that rows describe, in the order of their names; `_Tables` and `_Columns` are always there. References to
+/// texts are long, or not, in all of them. It costs the rows times a logarithm.
+///
+/// # Errors
+/// `InvalidData` where a row of `_Tables` or `_Columns` has a null, a row of `_Validation` lacks its table, its
+/// column or, about a column that is there, whether that takes null; where a stream of the string pool is listed, two
+/// rows share a key, a column is of no listed table, the columns of a listed table aren't numbered from 1 on, or
+/// their bits name no type; and for rows that no cells give: a name that is no text, a number of more than 16 bits.
+/// `OutOfMemory`.
+pub fn tables_described(alloc: Global, rows: SchemaRows, long: bool) -> Result<Items<Table>, Error>
+    ensures { Gives (λ tables. tables) result (tables_of long rows) }
+{
+    let SchemaRows {
+        tables,
+        columns,
+        validation,
+    } = rows;
+    described(alloc, tables, columns, validation, long)
 }

@@ -1,8 +1,6 @@
 //! The rows that describe tables, and tables that come back from them.
 
-use msi_schema::description::{
-    column_rows, have_short_lengths, tables_row, validation_rows,
-};
+use msi_schema::description::{column_rows, have_short_lengths, tables_row, validation_rows};
 use msi_schema::schema::{SchemaRows, tables_described};
 use msi_schema::system::{VALIDATION, validation_columns};
 use msi_table::{Column, Table, Value};
@@ -51,9 +49,15 @@ fn numbers(alloc: Global) -> Result<Items<Column>, Error> {
 #[test]
 fn types_are_told_by_bits(rt: HostRuntime) -> Result<(), Fail> {
     let validation = validation_columns(rt.alloc())?;
-    assert!(rt; are_bits(rt.alloc(), validation, &VALIDATION_BITS)?, "_Validation");
+    assert!(rt;
+        are_bits(rt.alloc(), validation, &VALIDATION_BITS)?,
+        "_Validation"
+    );
     let numbers = numbers(rt.alloc())?;
-    assert!(rt; are_bits(rt.alloc(), numbers, &[0x2502, 0x1D32])?, "Numbers");
+    assert!(rt;
+        are_bits(rt.alloc(), numbers, &[0x2502, 0x1D32])?,
+        "Numbers"
+    );
     Ok(())
 }
 

@@ -44,10 +44,7 @@ fn text(alloc: Global, given: Option<&str>) -> Result<Value, Error> {
 fn table_rows(alloc: Global, names: &[&str]) -> Result<Vec<Items<Value>>, Error> {
     let mut rows = Vec::new(alloc);
     for name in names {
-        rows.push(Items::from_vec(Vec::from_array(
-            alloc,
-            [text(alloc, Some(name))?],
-        )?))?;
+        rows.push(Items::from_vec(Vec::from_array(alloc, [text(alloc, Some(name))?])?))?;
     }
     Ok(rows)
 }

@@ -22,7 +22,11 @@ const READ: [(Rows, &str); 5] = [
     (
         Rows {
             tables: &["b", "A"],
-            columns: &[("b", 2, "y", WORD), ("A", 1, "x", TYPE), ("b", 1, "z", TYPE)],
+            columns: &[
+                ("b", 2, "y", WORD),
+                ("A", 1, "x", TYPE),
+                ("b", 1, "z", TYPE),
+            ],
             validation: &[],
         },
         "A x!;_Columns Table!Number!Name!Type!;_Tables Name!;b z!y!;",
@@ -31,7 +35,11 @@ const READ: [(Rows, &str); 5] = [
     (
         Rows {
             tables: &["A"],
-            columns: &[("A", 1, "x", Some(0x1502)), ("A", 2, "y", TYPE), ("A", 3, "z", TYPE)],
+            columns: &[
+                ("A", 1, "x", Some(0x1502)),
+                ("A", 2, "y", TYPE),
+                ("A", 3, "z", TYPE),
+            ],
             validation: &[
                 ("A", "x", Some("N"), None, None),
                 ("A", "y", Some("Y"), None, None),

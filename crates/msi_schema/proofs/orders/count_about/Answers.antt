@@ -14,14 +14,14 @@ before : (c : After-partition_point-end) → length (filter (λ row. is_lt (list
 before c =
     let rows = c.args.rows.now in
     let point = IsPartitionPoint-from_clause (λ row. is_lt (list_cmp (text_at 0 row) c.args.table.now)) rows c.partition_point-start.result c.partition_point-start.ensures.partitioned
-        (below_parts (text_at 0) list_cmp names_total c.args.table.now rows (tables_ascend rows c.requires)) (λ a r f k. search (rules, of_calls)) in
+    (below_parts (text_at 0) list_cmp names_total c.args.table.now rows (tables_ascend rows c.requires)) (λ a r f k. search (rules, of_calls)) in
     passed_before (λ row. is_lt (list_cmp (text_at 0 row) c.args.table.now)) rows c.partition_point-start.result c.partition_point-start.ensures.bound point.0 point.1
 
 up_to : (c : After-partition_point-end) → length (filter (λ row. is_le (list_cmp (text_at 0 row) c.args.table.now)) c.args.rows.now) ≡ c.partition_point-end.result
 up_to c =
     let rows = c.args.rows.now in
     let point = IsPartitionPoint-from_clause (λ row. is_le (list_cmp (text_at 0 row) c.args.table.now)) rows c.partition_point-end.result c.partition_point-end.ensures.partitioned
-        (up_parts (text_at 0) list_cmp names_total c.args.table.now rows (tables_ascend rows c.requires)) (λ a r f k. search (rules, of_calls)) in
+    (up_parts (text_at 0) list_cmp names_total c.args.table.now rows (tables_ascend rows c.requires)) (λ a r f k. search (rules, of_calls)) in
     passed_before (λ row. is_le (list_cmp (text_at 0 row) c.args.table.now)) rows c.partition_point-end.result c.partition_point-end.ensures.bound point.0 point.1
 
 -- the rows between are those about it
