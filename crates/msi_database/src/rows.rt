@@ -153,10 +153,10 @@ impl Database {
     ///
     /// # Errors
     /// The first that holds: `InvalidData` where the database isn't sound; `InvalidInput` for a system table;
-    /// `NotFound` where there is no such table; `InvalidInput` where a row doesn't fit the columns; `InvalidData` where two of the
-    /// table's rows share a key; row by row `AlreadyExists` where the table has its key, and `InvalidInput` where an
-    /// earlier new row has it; `InvalidInput` where the table would have more than 65536 rows, and where the pool is
-    /// full. At any time `OutOfMemory`. Then nothing is changed.
+    /// `NotFound` where there is no such table; `InvalidInput` where a row doesn't fit the columns; `InvalidData` where
+    /// two of the table's rows share a key; row by row `AlreadyExists` where the table has its key, and `InvalidInput`
+    /// where an earlier new row has it; `InvalidInput` where the table would have more than 65536 rows, and where the
+    /// pool is full. At any time `OutOfMemory`. Then nothing is changed.
     pub fn insert_rows(&mut self, query: Insert) -> Result<(), Error>
         ensures ok { OnOk result (Leaves self.old (inserts.insert_rows self.old.database query) self.new) }
         ensures same { OnErr result (self.new ≡ self.old) }
