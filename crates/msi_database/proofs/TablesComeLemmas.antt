@@ -1,0 +1,72 @@
+-- An accepted create or drop brings what a change must.
+use Rattle.std.proofs.Common.{◌≡◌, ℕ, false, List, Option, Some, None, is_some, Ok, refl, sym, ◌∙◌}
+use Rattle.std.proofs.lemmas.Bool.{true≢false}
+use Rattle.msi_text.proofs.TakenLemmas.{taken_takes}
+use Rattle.msi_table.specs.Columns.{ColumnDef}
+use Rattle.msi_relation.specs.Rows.{TableCells}
+use Rattle.msi_schema.specs.System.{validation_name}
+use Rattle.msi_schema.specs.Schema.{schema_of}
+use Rattle.msi_schema.proofs.OrderlessLemmas.{HasKinds}
+use Rattle.msi_changes.specs.Database.{Database, table_at}
+use Rattle.msi_changes.specs.Changes.{Change}
+use Rattle.msi_changes.specs.Create.{create_table}
+use Rattle.msi_changes.specs.Drop.{drop_table}
+use Rattle.msi_changes.specs.Laws.{IsTableChange, created, dropped}
+use Rattle.msi_changes.proofs.ShownLemmas.{Created, shown}
+use Rattle.msi_changes.proofs.ShownLemmas as steps
+use Rattle.msi_changes.proofs.LawLemmas.{create_table_keeps, drop_table_keeps}
+use Rattle.msi_changes.proofs.DescribingLemmas.{describing}
+use Rattle.msi_changes.proofs.CreatedLemmas.{validated, validated_now}
+use Rattle.msi_changes.proofs.CreateRowsLemmas.{first_step, second_step, third_step, create_unlisted, create_describes}
+use Rattle.msi_changes.proofs.CreateTracksLemmas.{create_tracks}
+use Rattle.msi_changes.proofs.ShownChangesLemmas.{dropped_parts}
+use Rattle.msi_changes.proofs.ChangedLemmas.{same_validation}
+use Rattle.msi_changes.proofs.DropRowsLemmas.{drop_rows, drop_describes}
+use Rattle.msi_changes.proofs.DropTracksLemmas.{drop_tracks, drop_unstored}
+use Rattle.msi_changes.proofs.RegularLemmas.{IsRegular}
+use Rattle.msi_database.proofs.KeyLemmas.{tables_accepted, columns_accepted, validation_accepted}
+use Rattle.msi_database.proofs.GivenBackLemmas.{given_back_gives}
+use Rattle.msi_database.proofs.ComesLemmas.{Comes}
+
+no_table : (o : Option TableCells) → is_some o ≡ false → o ≡ None
+no_table None e = refl
+no_table (Some t) e = cc
+
+module _ (d : Database) (regular : IsRegular d) (before : schema_of (describing d) ≡ Some (shown d)) (kinds : HasKinds (describing d)) where
+  module _ (name : List ℕ) (columns : List ColumnDef) (c : Change) (e : create_table d name columns ≡ Ok c) where
+    pub create_comes : Comes d c
+    create_comes =
+        let r = steps.created d name columns c e in
+        let keeps = create_table_keeps taken_takes given_back_gives d name columns c regular.well e in
+        let a1 = (first_step taken_takes given_back_gives d name columns c regular.well r).adds in
+        let a2 = (second_step taken_takes given_back_gives d name columns c regular.well r).adds in
+        let a3 = (third_step taken_takes given_back_gives d name columns c regular.well r).adds in
+        let was = validated d name columns c r before kinds a1 a2 a3 in record {
+          tracks = create_tracks taken_takes given_back_gives d name columns c regular.well r columns_accepted tables_accepted validation_accepted;
+          sound = keeps.sound;
+          well = keeps.well;
+          schema = (create_describes taken_takes given_back_gives d name columns c regular.well r before kinds).0;
+          unlisted = (create_unlisted taken_takes given_back_gives d name columns c regular.well r).same;
+          listed = validated_now d name columns c r before kinds a1 a2 a3 ∙ sym was;
+          unstored = λ none. absurd (true≢false (sym was ∙ none));
+        }
+
+  module _ (name : List ℕ) (c : Change) (e : drop_table d name ≡ Ok c) where
+    pub drop_comes : Comes d c
+    drop_comes =
+        let p = dropped_parts d name c e in
+        let keeps = drop_table_keeps taken_takes given_back_gives d name c regular.well e in
+        let rows = drop_rows taken_takes given_back_gives d name c regular.well p in record {
+          tracks = drop_tracks taken_takes given_back_gives d name c regular.well p validation_accepted columns_accepted tables_accepted;
+          sound = keeps.sound;
+          well = keeps.well;
+          schema = (drop_describes taken_takes given_back_gives d name c regular.well p before kinds).0;
+          unlisted = rows.unlisted.same;
+          listed = same_validation d name c p before kinds rows.tables rows.columns;
+          unstored = λ none. drop_unstored taken_takes given_back_gives d name c regular.well p (no_table (table_at validation_name d) none);
+        }
+
+  -- so does each change of tables
+  pub tables_come : (c : Change) → IsTableChange d c → Comes d c
+  tables_come c (created name columns e) = create_comes name columns c e
+  tables_come c (dropped name e) = drop_comes name c e

@@ -1,0 +1,89 @@
+-- Whole tables of a kept database, and how wide their rows are.
+use Rattle.std.proofs.Common.{◌≡◌, ℕ, Bool, true, false, List, [], ◌∷◌, map, length, Option, Some, None, Result, Ok, Err, refl, sym, ap, subst, ◌∙◌, cond, option_map}
+use Rattle.std.specs.Prelude.{bytes_eq, IfSome}
+use Rattle.std.specs.List.{AllByRecursion}
+use Rattle.std.specs.FinMap.{find}
+use Rattle.std.specs.Ordering.{eq_by_cmp}
+use Rattle.std.specs.declared.cmp.Ordering.{Ordering}
+use Rattle.std.proofs.lemmas.Slice.Eq.{bytes_eq-Decides}
+use Rattle.msi_text.specs.declared.errors.ErrorKind.{ErrorKind}
+use Rattle.msi_text.specs.declared.errors.ErrorKind.TheVariants.{InvalidData, NotFound}
+use Rattle.msi_text.specs.Pool.{Pool}
+use Rattle.msi_text.specs.Lists.{list_cmp}
+use Rattle.msi_table.specs.declared.value.ValueRef.{ValueRef}
+use Rattle.msi_table.specs.Columns.{ColumnDef, TableDef, types_of}
+use Rattle.msi_table.specs.ReadBack.{FitsRow, FitsTable}
+use Rattle.msi_table.specs.Rows.{AreAsWide}
+use Rattle.msi_table.proofs.PlacesLemmas.{length-types_of}
+use Rattle.msi_table.proofs.ReadBackLemmas.{fits_length}
+use Rattle.msi_relation.specs.Refusals.{IsRefusal, or_refused, ◌>>=◌}
+use Rattle.msi_relation.specs.Rows.{TableCells, RelationCells, whole_table}
+use Rattle.msi_relation.specs.Width.{AreWide}
+use Rattle.msi_relation.proofs.RefusalLemmas.{goes_on-Err}
+use Rattle.msi_changes.specs.Database.{table_at, Tables}
+use Rattle.msi_database.specs.Streams.{Streams, stored_rows}
+use Rattle.msi_database.specs.Kept.{Kept, table_kept, table_kept_at, database_kept, AreAsLong}
+use Rattle.msi_database.specs.Keeping.{IsKeptDatabase, HasFittingRows}
+use Rattle.msi_database.proofs.TablesKeptLemmas.{table_at_kept}
+
+abbrev pub relation_at : List ℕ → List ColumnDef → List (List ValueRef) → RelationCells
+relation_at name columns rows = record { name = name; columns = columns; rows = rows }
+
+-- the rows of a table that was found, as its own columns read them
+pub rows_found : (streams : Streams) (long : Bool) (name : List ℕ) (tables : List TableDef) (t : TableDef) → AreAsLong long tables → table_kept_at name tables ≡ Some t
+    → stored_rows streams long t.columns t.name ≡ stored_rows streams t.long t.columns t.name
+rows_found streams long name [] t all e = cc
+rows_found streams long name (u ∷ us) t all e =
+    elim (bytes_eq name u.name) as (λ b. cond b (Some u) (table_kept_at name us) ≡ Some t → stored_rows streams long t.columns t.name ≡ stored_rows streams t.long t.columns t.name) [
+      | true ↦ λ is. let same : u ≡ t = cc in subst (λ (t : TableDef). stored_rows streams long t.columns t.name ≡ stored_rows streams t.long t.columns t.name) same
+          (ap (λ wide. stored_rows streams wide u.columns u.name) (sym all.0))
+      | false ↦ λ is. rows_found streams long name us t all.1 is
+    ] e
+
+-- a whole table is that of its rows
+pub whole_kept : (pool : Pool) (tables : List TableDef) (streams : Streams) (name : List ℕ) (t : TableDef) → AreAsLong pool.long tables → table_kept_at name tables ≡ Some t
+    → whole_table (λ q. table_at q (database_kept pool tables streams)) name
+    ≡ (or_refused InvalidData (stored_rows streams t.long t.columns t.name) >>= λ rows. Ok (relation_at name t.columns rows))
+whole_kept pool tables streams name t all e =
+    ap (λ (o : Option TableCells). or_refused NotFound o >>= λ t. or_refused InvalidData t.rows >>= λ rows. Ok (relation_at name t.columns rows))
+    (table_at_kept pool tables streams name ∙ ap (option_map (λ t. (table_kept streams pool.long t).1)) e)
+    ∙ ap (λ (o : Option (List (List ValueRef))). or_refused InvalidData o >>= λ rows. Ok (relation_at name t.columns rows)) (rows_found streams pool.long name tables t all e)
+
+pub whole_none : (pool : Pool) (tables : List TableDef) (streams : Streams) (name : List ℕ) → table_kept_at name tables ≡ None
+    → whole_table (λ q. table_at q (database_kept pool tables streams)) name ≡ Err NotFound
+whole_none pool tables streams name e =
+    ap (λ (o : Option TableCells). or_refused NotFound o >>= λ t. or_refused InvalidData t.rows >>= λ rows. Ok (relation_at name t.columns rows))
+    (table_at_kept pool tables streams name ∙ ap (option_map (λ t. (table_kept streams pool.long t).1)) e)
+
+pub whole_ok : (pool : Pool) (tables : List TableDef) (streams : Streams) (name : List ℕ) (t : TableDef) (rows : List (List ValueRef)) → AreAsLong pool.long tables → table_kept_at name tables ≡ Some t
+    → stored_rows streams t.long t.columns t.name ≡ Some rows
+    → whole_table (λ q. table_at q (database_kept pool tables streams)) name ≡ Ok (relation_at name t.columns rows)
+whole_ok pool tables streams name t rows all e is = whole_kept pool tables streams name t all e
+    ∙ ap (λ (o : Option (List (List ValueRef))). or_refused InvalidData o >>= λ rows. Ok (relation_at name t.columns rows)) is
+
+pub whole_refused : (pool : Pool) (tables : List TableDef) (streams : Streams) (name : List ℕ) (t : TableDef) (kind : ErrorKind) → AreAsLong pool.long tables → table_kept_at name tables ≡ Some t
+    → IsRefusal (or_refused InvalidData (stored_rows streams t.long t.columns t.name)) kind
+    → IsRefusal (whole_table (λ q. table_at q (database_kept pool tables streams)) name) kind
+whole_refused pool tables streams name t kind all e refused =
+    subst (λ (r : Result RelationCells ErrorKind). IsRefusal r kind) (sym (whole_kept pool tables streams name t all e))
+    (goes_on-Err (or_refused InvalidData (stored_rows streams t.long t.columns t.name)) (λ rows. Ok (relation_at name t.columns rows)) kind refused)
+
+-- rows that fit are as wide as the columns
+each_wide : (long : Bool) (columns : List ColumnDef) (rows : List (List ValueRef)) → AllByRecursion (FitsRow long (types_of columns)) rows → AreAsWide columns rows
+each_wide long columns [] all = tt
+each_wide long columns (row ∷ rows) all = (fits_length long (types_of columns) row all.0 ∙ length-types_of columns, each_wide long columns rows all.1)
+
+fits_wide : (long : Bool) (columns : List ColumnDef) (o : Option (List (List ValueRef))) (rows : List (List ValueRef)) → IfSome o (FitsTable long (types_of columns)) → o ≡ Some rows → AreAsWide columns rows
+fits_wide long columns None rows fits e = cc
+fits_wide long columns (Some held) rows fits e = let same : held ≡ rows = cc in subst (AreAsWide columns) same (each_wide long columns held fits.each_row)
+
+pub found_holds : (P : TableCells → Type 0) (name : List ℕ) (tables : Tables) (t : TableCells) → AllByRecursion (λ e. P e.1) tables → find list_cmp name tables ≡ Some t → P t
+found_holds P name [] t all e = cc
+found_holds P name (u ∷ us) t all e =
+    elim (eq_by_cmp list_cmp name u.0) as (λ b. cond b (Some u.1) (find list_cmp name us) ≡ Some t → P t) [
+      | true ↦ λ is. let same : u.1 ≡ t = cc in subst P same all.0
+      | false ↦ λ is. found_holds P name us t all.1 is
+    ] e
+
+pub kept_wide : (k : Kept) → IsKeptDatabase k → AreWide (λ name. table_at name k.database)
+kept_wide k kept name t found rows is = fits_wide k.database.pool.long t.columns t.rows rows (found_holds (HasFittingRows k.database.pool.long) name k.database.tables t kept.rows found) is

@@ -1,0 +1,12 @@
+-- The words of this crate.
+pub mod Streams
+pub mod StreamNames
+pub mod Agreement
+pub mod Kept
+pub mod Listed
+pub mod Storing
+pub mod Spending
+pub mod Keeping
+pub mod Making
+pub mod OwnStreams
+pub mod Fresh

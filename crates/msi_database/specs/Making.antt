@@ -1,0 +1,43 @@
+-- What a change makes of a kept database: the database that it leaves, and the parts in which that is kept.
+use Rattle.std.specs.Prelude.{◌≡◌, ◌++◌, Bool, true, List, [], ◌∷◌, Result, Ok, Err}
+use Rattle.msi_text.specs.declared.errors.ErrorKind.{ErrorKind}
+use Rattle.msi_text.specs.declared.errors.ErrorKind.TheVariants.{InvalidInput}
+use Rattle.msi_text.specs.Pool.{Pool}
+use Rattle.msi_table.specs.Columns.{TableDef}
+use Rattle.msi_query.specs.declared.query.insert.InsertParts.{InsertParts}
+use Rattle.msi_query.specs.declared.query.delete.DeleteParts.{DeleteParts}
+use Rattle.msi_query.specs.Queries.{InsertQuery, DeleteQuery}
+use Rattle.msi_relation.specs.Refusals.{Refusals}
+use Rattle.msi_changes.specs.Database.{Database, is_sound}
+use Rattle.msi_changes.specs.Changes.{Change, sound_refusal}
+use Rattle.msi_database.specs.declared.storing.Stored.{Stored}
+use Rattle.msi_database.specs.Storing.{stored_in}
+use Rattle.msi_database.specs.Kept.{Kept, after_change}
+use Rattle.msi_database.specs.Keeping.{AreParts}
+use Rattle.msi_database.specs.Listed.{tables_listed}
+
+-- what an accepted change leaves
+abbrev pub Leaves : Kept → Result Change ErrorKind → Kept → Type 0
+Leaves old (Ok c) new = new ≡ after_change old c
+Leaves old (Err kind) new = ⊥
+
+-- an accepted change of a sound database is made by this pool, these tables and these streams
+abbrev pub Makes : Kept → Result Change ErrorKind → Pool → List TableDef → List Stored → Type 0
+Makes old (Ok c) pool tables stored = AreParts (after_change old c) pool tables (stored_in stored old.streams)
+    × (is_sound old.database ≡ true)
+Makes old (Err kind) pool tables stored = ⊥
+
+-- a change of one table's rows: the tables stay
+abbrev pub MakesRows : Kept → Result Change ErrorKind → Pool → Stored → Type 0
+MakesRows old change pool stored = Makes old change pool (tables_listed old.database) (stored ∷ [])
+
+-- the queries of their parts
+abbrev pub insert_of : InsertParts → InsertQuery
+insert_of parts = record { table = parts.table; rows = parts.rows }
+
+abbrev pub delete_of : DeleteParts → DeleteQuery
+delete_of parts = record { table = parts.table; condition = parts.condition }
+
+-- what refuses a change before its table is looked for
+abbrev pub early_refusals : Database → Bool → Refusals
+early_refusals d is_barred = sound_refusal d ++ (is_barred, InvalidInput) ∷ []

@@ -1,0 +1,189 @@
+//! What each change of a database's rows goes through: it is judged, made beside the old, and moved in at the end.
+
+ghost use Rattle.std.specs.Prelude.{◌≡◌, ◌∷◌, [], false, IfErr, IfOk, MatchOption, None, OnErr, OnOk, Some, length, option_copied, true};
+ghost use Rattle.std.specs.FinMap.{entries};
+ghost use Rattle.msi_compound.specs.Names.{is_name_length};
+ghost use Rattle.msi_text.specs.Results.{OnlyMemory};
+ghost use Rattle.msi_table.specs.Tables.{CanStore};
+ghost use Rattle.msi_relation.specs.Refusals.{IsRefusal, first_refusal, unless_refused};
+ghost use Rattle.msi_schema.specs.Keys.{table_key as key_of};
+ghost use Rattle.msi_changes.specs.Database.{is_sound as is_sound_one, table_at};
+ghost use Rattle.msi_changes.specs.Insert.{table_with};
+ghost use Rattle.msi_database.specs.Keeping.{AreKept};
+ghost use Rattle.msi_database.specs.Kept.{kept_of, without_table_kept};
+ghost use Rattle.msi_database.specs.Listed.{IsKnown, table_def_at, tables_listed};
+ghost use Rattle.msi_database.specs.Making.{early_refusals};
+ghost use Rattle.msi_database.specs.Storing.{HaveOwnNames, stored_in};
+ghost use Rattle.msi_database.specs.Streams.{stream_of_rows};
+
+use crate::database::Database;
+use crate::decoding::{stored_rows, table_key};
+use crate::reasons;
+use crate::storing::{Stored, store_all};
+use msi_changes::texts::PoolInUse;
+use msi_compound::contents::Bytes;
+use msi_table::parts::write_rows;
+use msi_table::{Table, ValueRef};
+use msi_text::errors::{Error, ErrorKind};
+use msi_text::stringpool::StringPool;
+use msi_text::text::Items;
+use std::alloc::Global;
+
+/// A table's stream to be stored, and the pool after the change of its rows.
+#[derive(Drop)]
+pub(crate) struct RowsAnew {
+    pub(crate) stored: Stored,
+    pub(crate) pool: StringPool,
+}
+
+/// Streams to be stored, and the pool and the tables after a change of tables.
+#[derive(Drop)]
+pub(crate) struct TablesAnew {
+    pub(crate) stored: Vec<Stored>,
+    pub(crate) pool: StringPool,
+    pub(crate) tables: Items<Table>,
+}
+
+/// The stream of a table whose rows become these: none where there is no row.
+///
+/// # Errors
+/// `OutOfMemory`.
+pub(crate) fn stream_of(
+    alloc: Global,
+    table: &Table,
+    rows: Vec<Items<ValueRef>>,
+) -> Result<Stored, Error>
+    requires named { is_name_length (length (key_of table.now.name)) ≡ true }
+    requires storable { CanStore table.now rows.items }
+    ensures name { IfOk result (λ stored. stored.name ≡ key_of table.now.name) }
+    ensures bytes { IfOk result (λ stored. stored.bytes ≡ stream_of_rows table.now.long table.now.columns rows.items) }
+    ensures kind { OnlyMemory result }
+{
+    let Some(name) = table_key(alloc, table.name())? else {
+        unreachable!()
+    };
+    if rows.is_empty() {
+        return Ok(Stored { name, bytes: None });
+    }
+    let bytes = write_rows(alloc, table, rows)?;
+    Ok(Stored {
+        name,
+        bytes: Some(Bytes::from_vec(bytes)),
+    })
+}
+
+impl Database {
+    /// Refuses a change of a database that isn't sound, and one that is barred.
+    ///
+    /// # Errors
+    /// `InvalidData` where it isn't sound, then `InvalidInput` where it is barred.
+    pub(crate) fn refuse_change(&self, is_barred: bool) -> Result<(), Error>
+        ensures passed { OnOk result (first_refusal (early_refusals self.now.database is_barred) ≡ None) }
+        ensures sound { OnOk result (is_sound_one self.now.database ≡ true) }
+        ensures free { OnOk result (is_barred ≡ false) }
+        ensures kind { let refusals = early_refusals self.now.database is_barred in
+            IfErr result (IsRefusal {A = Unit {0}} (unless_refused refusals tt)) }
+    {
+        self.check_sound()?;
+        if is_barred {
+            return Err(Error::new(ErrorKind::InvalidInput, reasons::BARRED));
+        }
+        Ok(())
+    }
+
+    /// The table of a name, of a sound database.
+    pub(crate) fn known_table(&self, name: &str) -> Option<&Table>
+        requires { is_sound_one self.now.database ≡ true }
+        ensures { MatchOption (option_copied result) (table_at name.now self.now.database ≡ None)
+            (IsKnown self.now.database name.now) }
+    {
+        self.get_table(name)
+    }
+
+    /// The rows of a table of a sound database.
+    ///
+    /// # Errors
+    /// `OutOfMemory`.
+    pub(crate) fn sound_rows(&self, table: &Table) -> Result<Vec<Items<ValueRef>>, Error>
+        requires sound { is_sound_one self.now.database ≡ true }
+        requires listed { table_def_at table.now.name self.now.database ≡ Some table.now }
+        ensures ok { IfOk result (λ rows.
+            table_at table.now.name self.now.database ≡ Some (table_with table.now.columns rows.items)) }
+        ensures kind { OnlyMemory result }
+    {
+        stored_rows(self.alloc, &self.streams, table)
+    }
+
+    /// Ends a change of rows: stores the table's stream, and takes the pool in place of its own.
+    ///
+    /// # Errors
+    /// `OutOfMemory`; then nothing is changed.
+    pub(crate) fn finish_rows(&mut self, new: RowsAnew) -> Result<(), Error>
+        requires sound { is_sound_one self.old.database ≡ true }
+        requires kept { let streams = stored_in (new.stored ∷ []) self.old.streams in
+            AreKept new.pool (tables_listed self.old.database) streams true }
+        ensures ok { let streams = stored_in (new.stored ∷ []) self.old.streams in
+            OnOk result (self.new ≡ kept_of new.pool (tables_listed self.old.database) streams) }
+        ensures same { OnErr result (self.new ≡ self.old) }
+        ensures kind { OnlyMemory result }
+    {
+        let RowsAnew { stored, pool } = new;
+        let mut changes = Vec::new(self.alloc);
+        changes.push(stored)?;
+        store_all(&mut self.streams, changes.into_iter())?;
+        self.pool = pool;
+        Ok(())
+    }
+
+    /// Ends a change of tables: stores these streams, and takes the pool and the tables in place of its own.
+    ///
+    /// # Errors
+    /// `OutOfMemory`; then nothing is changed.
+    pub(crate) fn finish_tables(&mut self, new: TablesAnew) -> Result<(), Error>
+        requires names { HaveOwnNames new.stored.items }
+        requires sound { is_sound_one self.old.database ≡ true }
+        requires kept { AreKept new.pool new.tables (stored_in new.stored.items self.old.streams) true }
+        ensures ok { let streams = stored_in new.stored.items self.old.streams in
+            OnOk result (self.new ≡ kept_of new.pool new.tables streams) }
+        ensures same { OnErr result (self.new ≡ self.old) }
+        ensures kind { OnlyMemory result }
+    {
+        let TablesAnew {
+            stored,
+            pool,
+            tables,
+        } = new;
+        store_all(&mut self.streams, stored.into_iter())?;
+        self.pool = pool;
+        self.tables = tables;
+        Ok(())
+    }
+
+    /// The tables without the one of a name.
+    ///
+    /// # Errors
+    /// `OutOfMemory`.
+    pub(crate) fn tables_without(&self, name: &str) -> Result<Items<Table>, Error>
+        ensures ok { IfOk result (λ tables. tables ≡ without_table_kept name.now (tables_listed self.now.database)) }
+        ensures kind { OnlyMemory result }
+    {
+        copies_without(self.alloc, self.tables(), name)
+    }
+}
+
+/// Tables once more, but for the one of a name.
+///
+/// # Errors
+/// `OutOfMemory`.
+fn copies_without(alloc: Global, tables: &[Table], name: &str) -> Result<Items<Table>, Error>
+    ensures ok { IfOk result (λ copies. copies ≡ without_table_kept name.now tables.now) }
+    ensures kind { OnlyMemory result }
+{
+    let mut copies = Vec::new(alloc);
+    for table in tables {
+        if name != table.name() {
+            copies.push(table.clone(alloc)?)?;
+        }
+    }
+    Ok(Items::from_vec(copies))
+}

@@ -1,0 +1,196 @@
+//! A database: tables over one pool of texts, whose rows stand in the streams of a container.
+
+ghost use Rattle.std.specs.Prelude.{◌≡◌, IfErr, IfOk, Ok, OnErr, OnOk, is_some, option_copied};
+ghost use Rattle.std.specs.FinMap.{entries};
+ghost use Rattle.msi_text.specs.declared.errors.ErrorKind.TheVariants.{InvalidData};
+ghost use Rattle.msi_table.specs.Rows.{AreAsWide};
+ghost use Rattle.msi_relation.specs.Refusals.{IsRefusal, or_refused, unless_refused};
+ghost use Rattle.msi_relation.specs.Rows.{relation_values, whole_table};
+ghost use Rattle.msi_relation.specs.Selection.{relation_of};
+ghost use Rattle.msi_changes.specs.Changes.{sound_refusal};
+ghost use Rattle.msi_changes.specs.Database.{has_table as has_one, is_sound as is_sound_one, table_at, values_of};
+ghost use Rattle.msi_database.specs.Kept.{table_kept_at};
+ghost use Rattle.msi_database.specs.Listed.{table_def_at, tables_listed, with_page};
+ghost use Rattle.msi_database.specs.Streams.{stored_rows as rows_stored};
+
+use crate::decoding::stored_rows;
+use crate::reasons;
+use msi_compound::contents::StreamMap;
+use msi_query::Select;
+use msi_relation::{Relation, Tables, select};
+use msi_table::parts::copied_columns;
+use msi_table::{Table, ValueRef};
+use msi_text::codepage::CodePage;
+use msi_text::errors::{Error, ErrorKind};
+use msi_text::stringpool::StringPool;
+use msi_text::text::{IntoText, Items};
+use std::alloc::Global;
+use std::marker::Model;
+
+/// A database in its container. It has all streams of the container's root, and touches only those of tables.
+#[derive(Drop)]
+pub struct Database {
+    pub(crate) alloc: Global,
+    pub(crate) pool: StringPool,
+    pub(crate) tables: Items<Table>,
+    pub(crate) streams: StreamMap,
+    pub(crate) is_sound: bool,
+}
+
+impl Model for Database {
+    ghost use Rattle.std.specs.FinMap.{entries};
+    ghost use Rattle.msi_database.specs.Kept.{Kept, kept_of};
+    ghost use Rattle.msi_database.specs.Keeping.{AreKept};
+
+    ghost Value = { Kept };
+
+    ghost view = { λ d. kept_of d.pool d.tables (entries d.streams) };
+
+    ghost invariant = { λ d. AreKept d.pool d.tables (entries d.streams) d.is_sound };
+}
+
+impl Database {
+    /// The pool of texts.
+    pub fn pool(&self) -> &StringPool
+        ensures { result.now ≡ self.now.database.pool }
+    {
+        &self.pool
+    }
+
+    /// The page in which the texts are written.
+    pub fn codepage(&self) -> CodePage
+        ensures { result ≡ self.now.database.pool.page }
+    {
+        self.pool.codepage()
+    }
+
+    /// The streams of the container's root, those of tables among them.
+    pub fn streams(&self) -> &StreamMap
+        ensures { entries result.now ≡ self.now.streams }
+    {
+        &self.streams
+    }
+
+    /// Whether the database may be changed.
+    pub fn is_sound(&self) -> bool
+        ensures { result ≡ is_sound_one self.now.database }
+    {
+        self.is_sound
+    }
+
+    /// Whether there is a table of this name.
+    pub fn has_table(&self, name: &str) -> bool
+        ensures { result ≡ has_one name.now self.now.database }
+    {
+        table_named(self.tables.as_slice(), name).is_some()
+    }
+
+    /// The table of this name.
+    pub fn get_table(&self, name: &str) -> Option<&Table>
+        ensures { option_copied result ≡ table_def_at name.now self.now.database }
+    {
+        table_named(self.tables.as_slice(), name)
+    }
+
+    /// The tables, by name.
+    pub fn tables(&self) -> &[Table]
+        ensures { result.now ≡ tables_listed self.now.database }
+    {
+        self.tables.as_slice()
+    }
+
+    /// Refuses a change of a database that isn't sound.
+    ///
+    /// # Errors
+    /// `InvalidData` where it isn't sound.
+    pub(crate) fn check_sound(&self) -> Result<(), Error>
+        ensures { result ≡ unless_refused (sound_refusal self.now.database) tt }
+    {
+        if !self.is_sound {
+            return Err(Error::new(ErrorKind::InvalidData, reasons::UNSOUND));
+        }
+        Ok(())
+    }
+
+    /// Sets the page in which the texts are written. It takes no memory.
+    ///
+    /// # Errors
+    /// `InvalidData` where the database isn't sound; then nothing is changed.
+    pub fn set_codepage(&mut self, page: CodePage) -> Result<(), Error>
+        ensures answer { result ≡ unless_refused (sound_refusal self.old.database) tt }
+        ensures ok { OnOk result (self.new ≡ with_page page self.old) }
+        ensures same { OnErr result (self.new ≡ self.old) }
+    {
+        self.check_sound()?;
+        self.pool.set_codepage(page);
+        Ok(())
+    }
+
+    /// The rows of a table, read from its stream. A table without a stream has none.
+    ///
+    /// # Errors
+    /// `InvalidData` where the stream can't be read; `OutOfMemory`.
+    pub fn rows_of_table(&self, alloc: Global, table: &Table) -> Result<Vec<Items<ValueRef>>, Error>
+        ensures ok { IfOk result (λ rows.
+            rows_stored self.now.streams table.now.long table.now.columns table.now.name ≡ Some rows.items) }
+        ensures kind { IfErr result (IsRefusal (or_refused InvalidData
+            (rows_stored self.now.streams table.now.long table.now.columns table.now.name))) }
+    {
+        stored_rows(alloc, &self.streams, table)
+    }
+
+    /// The columns and the rows of the table of a name.
+    ///
+    /// # Errors
+    /// `NotFound` where there is none; `InvalidData` where it can't be read; `OutOfMemory`.
+    fn whole(&self, alloc: Global, name: &str) -> Result<Relation, Error>
+        ensures ok { IfOk result (λ relation. whole_table (λ q. table_at q self.now.database) name.now ≡ Ok relation) }
+        ensures kind { IfErr result (IsRefusal (whole_table (λ q. table_at q self.now.database) name.now)) }
+    {
+        let Some(table) = table_named(self.tables.as_slice(), name) else {
+            return Err(Error::new(ErrorKind::NotFound, reasons::NO_TABLE));
+        };
+        let rows = stored_rows(alloc, &self.streams, table)?;
+        let columns = copied_columns(alloc, table.columns())?;
+        Ok(Relation::new(name.into_text(alloc)?, columns, rows))
+    }
+
+    /// What a query selects.
+    ///
+    /// # Errors
+    /// The first that holds, for a join those of the left query, then those of the right: `NotFound` where a table
+    /// isn't there, `InvalidData` where it can't be read; then `InvalidInput` where a column isn't there, in a join's
+    /// condition, then one that is to be kept, then in the condition. Where none holds, `OutOfMemory`, which also may
+    /// come before.
+    pub fn select(&self, alloc: Global, query: &Select) -> Result<Relation, Error>
+        ensures ok { IfOk result (λ relation. relation_of (values_of self.now.database) query.now
+            ≡ Ok (relation_values self.now.database.pool.places relation)) }
+        ensures wide { IfOk result (λ relation. AreAsWide relation.columns relation.rows) }
+        ensures kind { IfErr result (IsRefusal (relation_of (values_of self.now.database) query.now)) }
+    {
+        select(alloc, &self.pool, self, query)
+    }
+}
+
+impl Tables for Database {
+    ghost use Rattle.msi_changes.specs.Database.{table_at};
+
+    ghost table = { λ d name. table_at name d.database };
+
+    fn find(&self, alloc: Global, name: &str) -> Result<Relation, Error> {
+        self.whole(alloc, name)
+    }
+}
+
+/// The table of this name among these.
+pub(crate) fn table_named<'a>(tables: &'a [Table], name: &str) -> Option<&'a Table>
+    ensures known { is_some result ≡ is_some (table_kept_at name.now tables.now) }
+    ensures found { option_copied result ≡ table_kept_at name.now tables.now }
+{
+    for table in tables {
+        if name == table.name() {
+            return Some(table);
+        }
+    }
+    None
+}

@@ -1,0 +1,13 @@
+//! The database of a package: its tables, kept in the streams of a container.
+#![tactic(auto)]
+
+mod changing;
+pub mod database;
+mod decoding;
+pub mod laws;
+mod reasons;
+mod rows;
+mod soundness;
+pub mod storing;
+
+pub use database::Database;

@@ -1,0 +1,51 @@
+//! Streams that are stored together, or not at all.
+
+ghost use Rattle.std.specs.Prelude.{◌≡◌, OnOk, OnErr};
+ghost use Rattle.std.specs.Vec.Iter.{into_iter_items};
+ghost use Rattle.msi_text.specs.Results.{OnlyMemory};
+ghost use Rattle.msi_database.specs.Storing.{stored_all, HaveOwnNames};
+
+use msi_compound::contents::{Bytes, StreamMap};
+use msi_compound::name::Name;
+use msi_text::errors::Error;
+use std::vec::IntoIter;
+
+/// What a stream becomes: these bytes, or no stream.
+#[derive(Drop)]
+pub struct Stored {
+    pub name: Name,
+    pub bytes: Option<Bytes>,
+}
+
+/// Stores each of these. Streams are put first, and what goes is removed only when all are put, since that takes no
+/// memory.
+///
+/// # Errors
+/// `OutOfMemory`; then nothing is changed.
+pub(crate) fn store_all(streams: &mut StreamMap, mut changes: IntoIter<Stored>) -> Result<(), Error>
+    requires { HaveOwnNames (into_iter_items changes) }
+    ensures ok { OnOk result (streams.new ≡ stored_all streams.old (into_iter_items changes)) }
+    ensures err { OnErr result (streams.new ≡ streams.old) }
+    ensures kind { OnlyMemory result }
+{
+    let Some(Stored { name, bytes }) = changes.next() else {
+        return Ok(());
+    };
+    match bytes {
+        Some(bytes) => {
+            let before = streams.replace(name.duplicate(), bytes)?;
+            match store_all(streams, changes) {
+                Ok(()) => Ok(()),
+                Err(error) => {
+                    streams.put_back(&name, before);
+                    Err(error)
+                }
+            }
+        }
+        None => {
+            store_all(streams, changes)?;
+            streams.remove(&name);
+            Ok(())
+        }
+    }
+}

@@ -1,0 +1,7 @@
+-- The words of this crate.
+pub mod Keys
+pub mod System
+pub mod Schema
+pub mod ListedTables
+pub mod RowOrders
+pub mod Description
