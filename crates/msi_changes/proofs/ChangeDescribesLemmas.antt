@@ -2,8 +2,8 @@
 use Rattle.std.proofs.Common.{◌≡◌, ℕ, Bool, true, false, List, [], ◌∷◌, ◌++◌, sym, ap, ◌∙◌, subst, Some, None}
 use Rattle.std.specs.Prelude.{◌&&◌, not, option_map, is_some, map, bytes_eq, codes, Result, Ok, IsPermutation}
 use Rattle.std.specs.List.{list_all}
-use Rattle.msi_text.specs.declared.errors.ErrorKind.{ErrorKind}
-use Rattle.msi_text.specs.declared.errors.ErrorKind.TheVariants.{InvalidInput, NotFound}
+use Rattle.msi_text.specs.ErrorKind.{ErrorKind}
+use Rattle.msi_text.specs.ErrorKind.TheVariants.{InvalidInput, NotFound}
 use Rattle.msi_relation.specs.Refusals.{Refusals, first_refusal, or_refused, unless_refused, ◌>>=◌}
 use Rattle.msi_query.specs.Queries.{DeleteQuery, InsertQuery, UpdateQuery}
 use Rattle.msi_table.specs.StoredOrder.{row_values}

@@ -1,6 +1,6 @@
 -- The three steps of a create each add their rows, and the other tables keep their own.
 use Rattle.std.proofs.Common.{◌≡◌, ℕ, true, false, not, List, [], ◌∷◌, Some, ◌∙◌, subst, bytes_eq}
-use Rattle.msi_text.specs.declared.errors.ErrorKind.TheVariants.{InvalidData}
+use Rattle.msi_text.specs.ErrorKind.TheVariants.{InvalidData}
 use Rattle.msi_text.specs.FirstFitLaws.{TakenPlacesHoldTheirText, GivenBackTakesOne}
 use Rattle.msi_table.specs.declared.value.Value.{Value}
 use Rattle.msi_table.specs.declared.value.Value.TheVariants.{Str}

@@ -1,8 +1,8 @@
 -- A delete.
 use Rattle.std.proofs.Common.{◌≡◌, Bool, true, false, not, List, [], ◌∷◌, ◌++◌, map, filter, Some, Result, Ok, refl, sym, ap, ◌∙◌, subst, ⊎_elim, IsPermutation}
 use Rattle.std.proofs.lemmas.Bool.{cases_Bool}
-use Rattle.msi_text.specs.declared.errors.ErrorKind.{ErrorKind}
-use Rattle.msi_text.specs.declared.errors.ErrorKind.TheVariants.{InvalidData, InvalidInput, NotFound}
+use Rattle.msi_text.specs.ErrorKind.{ErrorKind}
+use Rattle.msi_text.specs.ErrorKind.TheVariants.{InvalidData, InvalidInput, NotFound}
 use Rattle.msi_text.specs.FirstFitLaws.{TakenPlacesHoldTheirText, GivenBackTakesOne}
 use Rattle.msi_table.specs.declared.value.ValueRef.{ValueRef}
 use Rattle.msi_table.specs.StoredOrder.{row_values, row_cmp, in_stored_order}

@@ -1,6 +1,6 @@
 -- An insert.
 use Rattle.std.proofs.Common.{◌≡◌, true, not, [], ◌∷◌, ◌++◌, Ok, sym, subst, IsPermutation}
-use Rattle.msi_text.specs.declared.errors.ErrorKind.TheVariants.{InvalidData, InvalidInput}
+use Rattle.msi_text.specs.ErrorKind.TheVariants.{InvalidData, InvalidInput}
 use Rattle.msi_text.specs.FirstFitLaws.{TakenPlacesHoldTheirText, GivenBackTakesOne}
 use Rattle.msi_query.specs.Queries.{InsertQuery}
 use Rattle.msi_relation.specs.Refusals.{Refusals, unless_refused}

@@ -3,8 +3,8 @@ use Rattle.std.proofs.Common.{◌≡◌, ℕ, ◌+◌, ◌<◌, Bool, true, fals
 use Rattle.std.specs.List.{list_all}
 use Rattle.std.proofs.lemmas.Bool.{and_parts, cases_Bool}
 use Rattle.std.proofs.lemmas.List.{get_or-map, take_more}
-use Rattle.msi_text.specs.declared.errors.ErrorKind.{ErrorKind}
-use Rattle.msi_text.specs.declared.errors.ErrorKind.TheVariants.{AlreadyExists, InvalidInput}
+use Rattle.msi_text.specs.ErrorKind.{ErrorKind}
+use Rattle.msi_text.specs.ErrorKind.TheVariants.{AlreadyExists, InvalidInput}
 use Rattle.msi_text.specs.Lists.{has_pair}
 use Rattle.msi_text.specs.Pool.{Place}
 use Rattle.msi_relation.specs.Refusals.{IsRefusal, Refusals, first_refusal, unless_refused}

@@ -4,7 +4,7 @@ use Rattle.std.specs.Prelude.{T, not, Option, filter, Ok}
 use Rattle.std.specs.List.{fold}
 use Rattle.std.specs.FinMap.Entries.{is_sorted, is_sorted-where_key}
 use Rattle.std.specs.Ordering.{eq_by_cmp}
-use Rattle.msi_text.specs.declared.errors.ErrorKind.TheVariants.{InvalidInput, NotFound}
+use Rattle.msi_text.specs.ErrorKind.TheVariants.{InvalidInput, NotFound}
 use Rattle.msi_text.specs.Lists.{list_cmp}
 use Rattle.msi_text.specs.Pool.{Place}
 use Rattle.msi_relation.specs.Refusals.{Refusals, first_refusal, or_refused, unless_refused, ◌>>=◌}

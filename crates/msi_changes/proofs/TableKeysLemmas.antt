@@ -31,7 +31,7 @@ use Rattle.msi_changes.proofs.DropLemmas.{forgotten_by, released_keeps}
 use Rattle.msi_changes.proofs.DropRowsLemmas.{is_sound_dropped}
 use Rattle.msi_changes.proofs.ShownLemmas.{Created, created}
 use Rattle.msi_changes.proofs.ShownChangesLemmas.{Dropped, dropped_parts}
-use Rattle.msi_text.specs.declared.errors.ErrorKind.TheVariants.{InvalidData}
+use Rattle.msi_text.specs.ErrorKind.TheVariants.{InvalidData}
 
 -- a table without rows
 module _ (d : Database) (name : List ℕ) (columns : List ColumnDef) (before : KeysAreDistinct d) where

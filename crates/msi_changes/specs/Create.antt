@@ -1,8 +1,8 @@
 -- What creating a table does, and when it is refused.
 use Rattle.std.specs.Prelude.{ℕ, Bool, true, false, not, List, [], ◌∷◌, ◌++◌, length, Option, Some, option_and_then, nat_lt, nat_le, ◌==◌, ◌&&◌, ◌||◌, bytes_eq, Result, Ok}
 use Rattle.std.specs.List.{list_any, list_all}
-use Rattle.msi_text.specs.declared.errors.ErrorKind.{ErrorKind}
-use Rattle.msi_text.specs.declared.errors.ErrorKind.TheVariants.{AlreadyExists, InvalidInput, NotFound}
+use Rattle.msi_text.specs.ErrorKind.{ErrorKind}
+use Rattle.msi_text.specs.ErrorKind.TheVariants.{AlreadyExists, InvalidInput, NotFound}
 use Rattle.msi_text.specs.CategoryRules.{is_identifier}
 use Rattle.msi_text.specs.Lists.{has_pair}
 use Rattle.msi_relation.specs.Refusals.{Refusals, unless_refused, ◌>>=◌}

@@ -3,7 +3,7 @@
 ghost use Rattle.std.specs.Prelude.{◌≡◌, ◌≤◌, ◌==◌, ◌&&◌, ◌||◌, OnOk, bytes_eq, length, Err};
 ghost use Rattle.std.specs.List.{AllByRecursion, list_all, list_any};
 ghost use Rattle.msi_text.specs.CategoryRules.{is_identifier};
-ghost use Rattle.msi_text.specs.declared.errors.ErrorKind.TheVariants.{InvalidInput};
+ghost use Rattle.msi_text.specs.ErrorKind.TheVariants.{InvalidInput};
 ghost use Rattle.msi_text.specs.Lists.{has_pair};
 ghost use Rattle.msi_relation.specs.Refusals.{unless_refused};
 ghost use Rattle.msi_table.specs.Columns.{HasShortLength};

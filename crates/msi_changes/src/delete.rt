@@ -2,7 +2,7 @@
 
 ghost use Rattle.std.specs.Prelude.{◌≡◌, ◌∷◌, [], not, true, false, IfOk, OnOk};
 ghost use Rattle.msi_text.specs.Results.{OnlyMemory};
-ghost use Rattle.msi_text.specs.declared.errors.ErrorKind.TheVariants.{InvalidInput};
+ghost use Rattle.msi_text.specs.ErrorKind.TheVariants.{InvalidInput};
 ghost use Rattle.msi_relation.specs.Refusals.{unless_refused};
 ghost use Rattle.msi_relation.specs.Selection.{condition_names, has_columns};
 ghost use Rattle.msi_changes.specs.Delete.{rows_meeting};

@@ -1,7 +1,7 @@
 //! Inserting rows: why new rows are refused, and the rows of a table with new ones.
 
 ghost use Rattle.std.specs.Prelude.{◌≡◌, map, not, Some, None, IfOk, IfErr, OnOk};
-ghost use Rattle.msi_text.specs.declared.errors.ErrorKind.TheVariants.{InvalidInput};
+ghost use Rattle.msi_text.specs.ErrorKind.TheVariants.{InvalidInput};
 ghost use Rattle.msi_relation.specs.Refusals.{IsRefusal, first_refusal, or_refused, unless_refused};
 ghost use Rattle.msi_changes.specs.Insert.{cells_added, row_fits as fits_columns, row_refusals, table_with};
 ghost use Rattle.msi_changes.specs.Texts.{in_use};

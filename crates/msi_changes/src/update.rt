@@ -5,7 +5,7 @@ ghost use Rattle.std.specs.List.{list_all};
 ghost use Rattle.std.specs.Option.{option_map_or};
 ghost use Rattle.msi_text.specs.Lists.{has_pair};
 ghost use Rattle.msi_text.specs.Results.{OnlyMemory};
-ghost use Rattle.msi_text.specs.declared.errors.ErrorKind.TheVariants.{InvalidInput};
+ghost use Rattle.msi_text.specs.ErrorKind.TheVariants.{InvalidInput};
 ghost use Rattle.msi_relation.specs.Refusals.{IsRefusal, first_refusal, or_refused, unless_refused};
 ghost use Rattle.msi_table.specs.Cells.{cell_of};
 ghost use Rattle.msi_table.specs.Columns.{ColumnDef, column_named};

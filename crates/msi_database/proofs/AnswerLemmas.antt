@@ -1,7 +1,7 @@
 -- What an error that is passed on says.
 use Rattle.std.proofs.Common.{◌≡◌, Result, Ok, Err, subst, sym}
 use Rattle.std.specs.Prelude.{IsErrAnd, IfErr}
-use Rattle.msi_text.specs.declared.errors.ErrorKind.{ErrorKind}
+use Rattle.msi_text.specs.ErrorKind.{ErrorKind}
 use Rattle.msi_relation.specs.Refusals.{IsRefusal}
 
 -- an error that is passed on

@@ -1,6 +1,6 @@
 -- A database that is kept goes on to be kept under another page.
 use Rattle.std.proofs.Common.{Bool, List}
-use Rattle.msi_text.specs.declared.codepage.CodePage.{CodePage}
+use Rattle.msi_text.specs.CodePage.{CodePage}
 use Rattle.msi_text.specs.Pool.{Pool}
 use Rattle.msi_table.specs.Columns.{TableDef}
 use Rattle.msi_database.specs.Streams.{Streams}

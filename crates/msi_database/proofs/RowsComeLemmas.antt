@@ -8,7 +8,7 @@ use Rattle.std.proofs.lemmas.Slice.Eq.{bytes_eq-Decides}
 use Rattle.msi_text.specs.Lists.{list_cmp}
 use Rattle.msi_text.specs.Pool.{Place}
 use Rattle.msi_text.specs.FirstFit.{most_places}
-use Rattle.msi_text.proofs.TakenLemmas.{taken_takes}
+use Rattle.msi_pool.proofs.TakenLemmas.{taken_takes}
 use Rattle.msi_table.specs.declared.value.ValueRef.{ValueRef}
 use Rattle.msi_table.specs.Columns.{ColumnDef, types_of}
 use Rattle.msi_table.specs.ReadBack.{FitsRow, FitsTable}

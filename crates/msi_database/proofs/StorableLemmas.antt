@@ -4,11 +4,11 @@ use Rattle.std.specs.Prelude.{IsSomeAnd, option_map, unwrap_or}
 use Rattle.std.specs.List.{AllByRecursion, list_all}
 use Rattle.std.proofs.lemmas.Bool.Decides.{nat_tests}
 use Rattle.std.proofs.lemmas.Option.{same_Some, none-some, option_and_then_some}
-use Rattle.msi_text.specs.declared.errors.ErrorKind.TheVariants.{InvalidInput, InvalidData}
+use Rattle.msi_text.specs.ErrorKind.TheVariants.{InvalidInput, InvalidData}
 use Rattle.msi_text.specs.FirstFit.{most_places}
 use Rattle.msi_text.specs.Lists.{has_pair}
 use Rattle.msi_text.specs.Pool.{Place}
-use Rattle.msi_text.proofs.TakenLemmas.{taken_takes}
+use Rattle.msi_pool.proofs.TakenLemmas.{taken_takes}
 use Rattle.msi_table.specs.declared.value.Value.{Value}
 use Rattle.msi_table.specs.declared.value.ValueRef.{ValueRef}
 use Rattle.msi_table.specs.Columns.{ColumnDef, types_of}

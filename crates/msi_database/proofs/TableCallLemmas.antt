@@ -1,6 +1,6 @@
 -- What an accepted create and an accepted drop make, by what they have in hand at their ends.
 use Rattle.std.proofs.Common.{◌≡◌, ℕ, true, false, not, List, [], ◌∷◌, ◌++◌, filter, Some, None, Ok, Result, sym, subst, ◌∙◌}
-use Rattle.msi_text.specs.declared.errors.ErrorKind.{ErrorKind}
+use Rattle.msi_text.specs.ErrorKind.{ErrorKind}
 use Rattle.msi_text.specs.Pool.{Pool}
 use Rattle.msi_table.specs.declared.value.ValueRef.{ValueRef}
 use Rattle.msi_table.specs.Columns.{ColumnDef, TableDef}

@@ -6,8 +6,8 @@ use Rattle.std.specs.FinMap.{find}
 use Rattle.std.specs.Ordering.{eq_by_cmp}
 use Rattle.std.specs.declared.cmp.Ordering.{Ordering}
 use Rattle.std.proofs.lemmas.Slice.Eq.{bytes_eq-Decides}
-use Rattle.msi_text.specs.declared.errors.ErrorKind.{ErrorKind}
-use Rattle.msi_text.specs.declared.errors.ErrorKind.TheVariants.{InvalidData, NotFound}
+use Rattle.msi_text.specs.ErrorKind.{ErrorKind}
+use Rattle.msi_text.specs.ErrorKind.TheVariants.{InvalidData, NotFound}
 use Rattle.msi_text.specs.Pool.{Pool}
 use Rattle.msi_text.specs.Lists.{list_cmp}
 use Rattle.msi_table.specs.declared.value.ValueRef.{ValueRef}

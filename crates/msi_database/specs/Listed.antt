@@ -1,7 +1,7 @@
 -- Tables by their columns, as a database lists them.
 use Rattle.std.specs.Prelude.{◌≡◌, ℕ, true, List, length, map, Option, Some, option_map}
 use Rattle.msi_compound.specs.Names.{is_name_length}
-use Rattle.msi_text.specs.declared.codepage.CodePage.{CodePage}
+use Rattle.msi_text.specs.CodePage.{CodePage}
 use Rattle.msi_table.specs.Columns.{TableDef}
 use Rattle.msi_schema.specs.Keys.{table_key}
 use Rattle.msi_changes.specs.Database.{Database, table_at}

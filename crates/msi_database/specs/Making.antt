@@ -1,7 +1,7 @@
 -- What a change makes of a kept database: the database that it leaves, and the parts in which that is kept.
 use Rattle.std.specs.Prelude.{◌≡◌, ◌++◌, Bool, true, List, [], ◌∷◌, Result, Ok, Err}
-use Rattle.msi_text.specs.declared.errors.ErrorKind.{ErrorKind}
-use Rattle.msi_text.specs.declared.errors.ErrorKind.TheVariants.{InvalidInput}
+use Rattle.msi_text.specs.ErrorKind.{ErrorKind}
+use Rattle.msi_text.specs.ErrorKind.TheVariants.{InvalidInput}
 use Rattle.msi_text.specs.Pool.{Pool}
 use Rattle.msi_table.specs.Columns.{TableDef}
 use Rattle.msi_query.specs.declared.query.insert.InsertParts.{InsertParts}

@@ -2,7 +2,7 @@
 
 ghost use Rattle.std.specs.Prelude.{◌≡◌, IfErr, IfOk, Ok, OnErr, OnOk, is_some, option_copied};
 ghost use Rattle.std.specs.FinMap.{entries};
-ghost use Rattle.msi_text.specs.declared.errors.ErrorKind.TheVariants.{InvalidData};
+ghost use Rattle.msi_text.specs.ErrorKind.TheVariants.{InvalidData};
 ghost use Rattle.msi_table.specs.Rows.{AreAsWide};
 ghost use Rattle.msi_relation.specs.Refusals.{IsRefusal, or_refused, unless_refused};
 ghost use Rattle.msi_relation.specs.Rows.{relation_values, whole_table};

@@ -4,7 +4,7 @@ ghost use Rattle.std.specs.Prelude.{◌≡◌, [], IfErr, IfOk, MatchOption, Som
 ghost use Rattle.std.specs.FinMap.{entries};
 ghost use Rattle.msi_compound.specs.Names.{is_name_length};
 ghost use Rattle.msi_text.specs.Results.{OnlyMemory};
-ghost use Rattle.msi_text.specs.declared.errors.ErrorKind.TheVariants.{InvalidData};
+ghost use Rattle.msi_text.specs.ErrorKind.TheVariants.{InvalidData};
 ghost use Rattle.msi_relation.specs.Refusals.{IsRefusal, or_refused};
 ghost use Rattle.msi_schema.specs.Keys.{table_key as key_of};
 ghost use Rattle.msi_database.specs.StreamNames.{HaveNames};

@@ -5,9 +5,9 @@ use Rattle.std.specs.List.{list_any}
 use Rattle.std.specs.Option.{option_map_or}
 use Rattle.std.proofs.lemmas.Slice.Eq.{bytes_eq-Decides}
 use Rattle.msi_text.specs.Results.{FailsAs, Gives}
-use Rattle.msi_text.specs.declared.errors.ErrorKind.{ErrorKind}
-use Rattle.msi_text.specs.declared.errors.ErrorKind.TheVariants.{InvalidData}
-use Rattle.msi_text.specs.declared.errors.ErrorKind.TheVariants as kind
+use Rattle.msi_text.specs.ErrorKind.{ErrorKind}
+use Rattle.msi_text.specs.ErrorKind.TheVariants.{InvalidData}
+use Rattle.msi_text.specs.ErrorKind.TheVariants as kind
 use Rattle.msi_text.specs.declared.category.Category.{Category}
 use Rattle.msi_text.specs.declared.category.Category.TheVariants as category
 use Rattle.msi_text.specs.Categories.{all_categories, category_in, category_name, other_name}

@@ -6,7 +6,7 @@ ghost use Rattle.std.specs.List.{slice_split};
 ghost use Rattle.std.specs.Option.{option_map_or};
 ghost use Rattle.std.specs.List.Sorted.{IsSorted};
 ghost use Rattle.msi_text.specs.Results.{Gives, OnlyMemory};
-ghost use Rattle.msi_text.specs.declared.errors.ErrorKind.TheVariants.{InvalidData};
+ghost use Rattle.msi_text.specs.ErrorKind.TheVariants.{InvalidData};
 ghost use Rattle.msi_table.specs.Columns.{begun_column, most_columns};
 ghost use Rattle.msi_schema.specs.RowOrders.{by_numbers, by_texts, describing};
 ghost use Rattle.msi_schema.specs.Schema.{bits_in as bits_of_row, both_set, category_named, column_of_row as column_described, columns_of, described, has_long_number, is_of_16_bits, number_of, numbered_row, text_at as text_in, text_of, validation_row, value_at, values_in};

@@ -1,5 +1,5 @@
 use Rattle.std.proofs.Common.{◌≡◌, map, not, drop}
-use Rattle.msi_text.specs.declared.errors.ErrorKind.TheVariants.{InvalidInput}
+use Rattle.msi_text.specs.ErrorKind.TheVariants.{InvalidInput}
 use Rattle.msi_relation.specs.Refusals.{first_refusal}
 use Rattle.msi_changes.specs.Insert.{row_fits}
 use Rattle.msi_changes.proofs.insert.refuse_misfits.Given as goal

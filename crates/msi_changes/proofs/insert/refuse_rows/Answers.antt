@@ -1,6 +1,6 @@
 use Rattle.std.proofs.Common.{◌+◌, List, length, map, not, subst, sym, arith}
-use Rattle.msi_text.specs.declared.errors.ErrorKind.{ErrorKind}
-use Rattle.msi_text.specs.declared.errors.ErrorKind.TheVariants.{InvalidInput}
+use Rattle.msi_text.specs.ErrorKind.{ErrorKind}
+use Rattle.msi_text.specs.ErrorKind.TheVariants.{InvalidInput}
 use Rattle.msi_text.specs.Pool.{Place}
 use Rattle.msi_relation.specs.Refusals.{Refusals, IsRefusal, unless_refused}
 use Rattle.msi_table.specs.declared.value.Value.{Value}

@@ -1,7 +1,7 @@
 use Rattle.std.proofs.Common.{[], ◌≡◌, ◌∙◌, ◌<◌, get_or, length, map, sym, ap, arith, List}
 use Rattle.std.proofs.lemmas.Bool.{not-true, not-false}
 use Rattle.std.proofs.lemmas.List.{length-map}
-use Rattle.msi_text.specs.declared.errors.ErrorKind.TheVariants.{AlreadyExists, InvalidInput}
+use Rattle.msi_text.specs.ErrorKind.TheVariants.{AlreadyExists, InvalidInput}
 use Rattle.msi_table.specs.declared.value.Value.{Value}
 use Rattle.msi_changes.specs.Insert.{key_refusals}
 use Rattle.msi_changes.specs.Keyed.{key_of}
