@@ -1,50 +1,26 @@
-//! Changes of a table's rows: rows are inserted, updated and deleted.
+//! Changes of a table's rows: rows are updated and deleted.
 
 ghost use Rattle.std.specs.Prelude.{◌≡◌, IfErr, IfOk, OnErr, OnOk, bytes_eq, codes};
 ghost use Rattle.std.specs.List.{list_all};
-ghost use Rattle.msi_text.specs.Results.{OnlyMemory};
 ghost use Rattle.msi_relation.specs.Refusals.{IsRefusal};
 ghost use Rattle.msi_changes.specs.Delete as deletes;
-ghost use Rattle.msi_changes.specs.Insert as inserts;
 ghost use Rattle.msi_changes.specs.RowUpdates.{update_of};
 ghost use Rattle.msi_changes.specs.Update as updates;
-ghost use Rattle.msi_database.specs.Making.{Leaves, MakesRows, delete_of, insert_of};
+ghost use Rattle.msi_database.specs.Making.{Leaves, MakesRows, delete_of};
 
 use crate::changing::{RowsAnew, stream_of};
 use crate::database::Database;
 use crate::reasons;
 use msi_changes::delete::{refuse_delete, remaining_rows};
-use msi_changes::insert::{add_rows, refuse_rows};
 use msi_changes::texts::PoolInUse;
 use msi_changes::update::{refuse_update, updated_rows};
-use msi_query::parts::{
-    Assignment, DeleteParts, InsertParts, NewRow, UpdateParts, delete_parts, insert_parts,
-    update_parts,
-};
-use msi_query::{Delete, Insert, Update};
+use msi_query::parts::{Assignment, DeleteParts, UpdateParts, delete_parts, update_parts};
+use msi_query::{Delete, Update};
 use msi_schema::system::{VALIDATION, is_schema_table, is_system_table};
-use msi_table::Value;
 use msi_text::errors::{Error, ErrorKind};
-use msi_text::text::Items;
-use std::alloc::Global;
 
 /// The column of `_Validation` that may be set.
 const DESCRIPTION: &str = "Description";
-
-/// The values of new rows, moved out.
-///
-/// # Errors
-/// `OutOfMemory`.
-fn values_of(alloc: Global, rows: Items<NewRow>) -> Result<Vec<Items<Value>>, Error>
-    ensures ok { IfOk result (λ values. values.items ≡ rows) }
-    ensures kind { OnlyMemory result }
-{
-    let mut values = Vec::new(alloc);
-    for row in rows.into_vec() {
-        values.push(Items::from_vec(row.into_values()))?;
-    }
-    Ok(values)
-}
 
 /// Whether a new value is for the column Description.
 fn is_description(set: &Assignment) -> bool
@@ -69,35 +45,6 @@ fn is_barred(update: &UpdateParts) -> bool
 }
 
 impl Database {
-    /// What inserting rows makes.
-    ///
-    /// # Errors
-    /// Those of `insert_rows`.
-    fn rows_inserted(&self, insert: InsertParts) -> Result<RowsAnew, Error>
-        ensures ok { IfOk result (λ new.
-            MakesRows self.now (inserts.insert_rows self.now.database (insert_of insert)) new.pool new.stored) }
-        ensures kind { IfErr result (IsRefusal (inserts.insert_rows self.now.database (insert_of insert))) }
-    {
-        let InsertParts { table: name, rows } = insert;
-        let name = name.as_str();
-        self.refuse_change(is_system_table(name))?;
-        let Some(table) = self.known_table(name) else {
-            return Err(Error::new(ErrorKind::NotFound, reasons::NO_TABLE));
-        };
-        let columns = table.columns();
-        let held = self.sound_rows(table)?;
-        let values = values_of(self.alloc, rows)?;
-        let rows = held.as_slice();
-        refuse_rows(self.alloc, &self.pool, columns, rows, values.as_slice())?;
-        let mut pool = PoolInUse::new(self.pool.clone()?);
-        let all = add_rows(self.alloc, columns, &mut pool, held, values)?;
-        let stored = stream_of(self.alloc, table, all)?;
-        Ok(RowsAnew {
-            stored,
-            pool: pool.into_pool(),
-        })
-    }
-
     /// What updating rows makes.
     ///
     /// # Errors
@@ -147,23 +94,6 @@ impl Database {
             stored,
             pool: pool.into_pool(),
         })
-    }
-
-    /// Inserts rows into a table. The pool's texts and the table's stream change together, at the end.
-    ///
-    /// # Errors
-    /// The first that holds: `InvalidData` where the database isn't sound; `InvalidInput` for a system table;
-    /// `NotFound` where there is no such table; `InvalidInput` where a row doesn't fit the columns; `InvalidData` where
-    /// two of the table's rows share a key; row by row `AlreadyExists` where the table has its key, and `InvalidInput`
-    /// where an earlier new row has it; `InvalidInput` where the table would have more than 65536 rows, and where the
-    /// pool is full. At any time `OutOfMemory`. Then nothing is changed.
-    pub fn insert_rows(&mut self, query: Insert) -> Result<(), Error>
-        ensures ok { OnOk result (Leaves self.old (inserts.insert_rows self.old.database query) self.new) }
-        ensures same { OnErr result (self.new ≡ self.old) }
-        ensures kind { IfErr result (IsRefusal (inserts.insert_rows self.old.database query)) }
-    {
-        let new = self.rows_inserted(insert_parts(query))?;
-        self.finish_rows(new)
     }
 
     /// Sets columns of those of a table's rows that meet the condition.
