@@ -31,6 +31,11 @@ Makes old (Err kind) pool tables stored = ⊥
 abbrev pub MakesRows : Kept → Result Change ErrorKind → Pool → Stored → Type 0
 MakesRows old change pool stored = Makes old change pool (tables_listed old.database) (stored ∷ [])
 
+-- an accepted change answers whether a text was taken or given back
+abbrev pub TellsUse : Result Change ErrorKind → Bool → Type 0
+TellsUse (Ok c) used = used ≡ c.is_pool_used
+TellsUse (Err kind) used = ⊥
+
 -- the queries of their parts
 abbrev pub insert_of : InsertParts → InsertQuery
 insert_of parts = record { table = parts.table; rows = parts.rows }
