@@ -1,1 +1,6 @@
 -- The lemmas of this crate.
+pub mod Rows
+pub mod CallRows
+pub mod KeyNameLemmas
+pub mod OtherStreamLemmas
+pub mod SummarySetLemmas
