@@ -4,3 +4,5 @@ pub mod CallRows
 pub mod KeyNameLemmas
 pub mod OtherStreamLemmas
 pub mod SummarySetLemmas
+pub mod AgreementLemmas
+pub mod PoolLemmas
