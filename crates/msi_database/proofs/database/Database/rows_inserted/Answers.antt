@@ -3,7 +3,6 @@ use Rattle.msi_table.specs.declared.value.Value.{Value}
 use Rattle.msi_table.specs.declared.value.ValueRef.{ValueRef}
 use Rattle.msi_relation.specs.Refusals.{first_refusal}
 use Rattle.msi_changes.specs.Insert.{row_refusals, table_with}
-use Rattle.std.specs.FinMap.{entries}
 use Rattle.msi_database.specs.Kept.{Kept}
 use Rattle.msi_database.specs.Making.{insert_of}
 use Rattle.msi_database.proofs.AnswerLemmas.{err_passed}
