@@ -9,4 +9,5 @@ pub mod Spending
 pub mod Keeping
 pub mod Making
 pub mod OwnStreams
+pub mod Others
 pub mod Fresh

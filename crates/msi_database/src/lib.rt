@@ -5,6 +5,7 @@ mod changing;
 pub mod database;
 mod decoding;
 pub mod laws;
+pub mod others;
 mod reasons;
 mod rows;
 mod soundness;
