@@ -19,6 +19,7 @@ use Rattle.msi_changes.specs.Insert.{table_with}
 use Rattle.msi_changes.specs.Drop.{drop_table, is_row_about}
 use Rattle.msi_changes.specs.Laws.{dropped}
 use Rattle.msi_changes.proofs.DescribingLemmas.{describing}
+use Rattle.msi_changes.proofs.ShownLemmas.{mapped_some}
 use Rattle.msi_database.specs.Streams.{Streams, stream_of_rows}
 use Rattle.msi_database.specs.declared.storing.Stored.{Stored}
 use Rattle.msi_database.specs.Storing.{HaveOwnNames, tables_stored}
@@ -36,6 +37,7 @@ use Rattle.msi_database.proofs.EditLemmas.{dropped_stored, dropped_unvalidated}
 use Rattle.msi_database.proofs.FinishLemmas.{known_sound}
 use Rattle.msi_database.proofs.ChainLemmas.{drop_by_steps, drop_by_two_steps, drop_passes, dropped_apart}
 use Rattle.msi_database.proofs.StorableLemmas.{fewer_can_store}
+use Rattle.msi_database.proofs.RowCallLemmas.{began_as, known_cells}
 use Rattle.msi_database.proofs.TableCallLemmas.{drop_makes, drop_makes_unvalidated}
 
 -- WHAT CAN BE STORED
@@ -60,13 +62,13 @@ none_fit k kept t long held at rows is = fewer_fit k kept t long held at (λ row
 -- THE STEPS
 
 abbrev pub all_given_back : Database → List ℕ → PoolInUse
-all_given_back d name = about_given_back d name tables_name (about_given_back d name columns_name (about_given_back d name validation_name (rows_given_back d name)))
+all_given_back d name = about_given_back d name tables_name (about_given_back d name columns_name (about_given_back d name validation_name (rows_given_back d name (pool_of (no_change d)))))
 
 abbrev pub all_streams : Database → List ℕ → List Stored
 all_streams d name = ((own_stream name ++ system_stream d name validation_name) ++ system_stream d name columns_name) ++ system_stream d name tables_name
 
-given_first : (d : Database) (name : List ℕ) (t : TableCells) → table_at name d ≡ Some t → rows_given_back d name ≡ rows_released (pool_of (no_change d)) (rows_of t)
-given_first d name t e = ap (λ (o : Option TableCells). option_map_or (λ t. rows_released (pool_of (no_change d)) (rows_of t)) o (pool_of (no_change d))) e
+given_first : (d : Database) (name : List ℕ) (used : PoolInUse) (t : TableCells) → table_at name d ≡ Some t → rows_given_back d name used ≡ rows_released used (rows_of t)
+given_first d name used t e = ap (λ (o : Option TableCells). option_map_or (λ t. rows_released used (rows_of t)) o used) e
 
 given_with : (d : Database) (name system : List ℕ) (used : PoolInUse) (o : Option TableCells) → table_at system d ≡ o
     → about_given_back d name system used ≡ option_map_or (λ t. rows_released used (filter (is_row_about d.pool.places name) (rows_of t))) o used
@@ -77,6 +79,49 @@ other_rows d name system t = record { name = table_key system; bytes = stream_of
 
 stream_with : (d : Database) (name system : List ℕ) (o : Option TableCells) → table_at system d ≡ o → system_stream d name system ≡ option_map_or (other_rows d name system) o []
 stream_with d name system o e = ap (λ (o : Option TableCells). option_map_or (other_rows d name system) o []) e
+
+-- of a system table the stream is that of its other rows
+pub forgot : (d : Database) (name system : List ℕ) (t : TableDef) → IsKnown d system t → (held rows : List (List ValueRef)) → table_at t.name d ≡ Some (table_with t.columns held) → (pool : Pool) → pool ≡ d.pool
+    → rows ≡ filter (λ row. not (is_row_about pool.places name row)) held → (e : Stored) → e.name ≡ table_key t.name → e.bytes ≡ stream_of_rows t.long t.columns rows → e ∷ [] ≡ system_stream d name system
+forgot d name system t known held rows at pool pool_is is e name_is bytes_is =
+    let alike : stream_of_rows t.long t.columns rows ≡ stream_of_rows d.pool.long t.columns (filter (λ row. not (is_row_about d.pool.places name row)) held) =
+    ap₂ (λ long rows. stream_of_rows long t.columns rows) known.long (is ∙ ap (λ (p : Pool). filter (λ row. not (is_row_about p.places name row)) held) pool_is) in
+    (λ i. record { name = (name_is ∙ ap table_key known.named) i; bytes = (bytes_is ∙ alike) i } ∷ [])
+    ∙ sym (stream_with d name system (Some (table_with t.columns held)) (known_cells d system t (table_with t.columns held) known at))
+
+-- how far a drop has gone: the pool, and the streams to be stored
+pub record Went (d : Database) (after : UsedPool) (es : List Stored) (used : PoolInUse) (all : List Stored) : Type 0 where
+  pub pool : in_use after ≡ used
+  pub page : after.pool.page ≡ d.pool.page
+  pub long : after.pool.long ≡ d.pool.long
+  pub stored : es ≡ all
+
+pub went_on : (d : Database) (name system : List ℕ) (u v : UsedPool) (es fs : List Stored) (used : PoolInUse) (all : List Stored) → Went d u es used all
+    → in_use v ≡ about_given_back d name system (in_use u) → v.pool.page ≡ u.pool.page → v.pool.long ≡ u.pool.long → fs ≡ es ++ system_stream d name system
+    → Went d v fs (about_given_back d name system used) (all ++ system_stream d name system)
+went_on d name system u v es fs used all went pool page long more = record {
+  pool = pool ∙ ap (about_given_back d name system) went.pool;
+  page = page ∙ went.page;
+  long = long ∙ went.long;
+  stored = more ∙ ap (λ (es : List Stored). es ++ system_stream d name system) went.stored;
+}
+
+-- the table that is known is there, by its name
+known_there : (d : Database) (name : List ℕ) (t : TableDef) → IsKnown d name t → (gone : TableCells) × (table_at name d ≡ Some gone)
+known_there d name t known =
+    let found = mapped_some (λ (u : TableCells). record { name = t.name; columns = u.columns; long = d.pool.long }) (table_at t.name d) t known.listed in
+    (found.0, ap (λ n. table_at n d) (sym known.named) ∙ found.1)
+
+pub began_by : (k : Kept) (pool cloned : Pool) → cloned ≡ pool → pool ≡ k.database.pool → (u v : UsedPool) → u ≡ record { pool = cloned; is_used = false } → (name : List ℕ) (t : TableDef) → IsKnown k.database name t → (es fs : List Stored)
+    → in_use v ≡ rows_given_back k.database t.name (in_use u) → v.pool.page ≡ u.pool.page → v.pool.long ≡ u.pool.long → es ≡ [] → fs ≡ es ++ own_stream t.name
+    → Went k.database v fs (rows_given_back k.database name (pool_of (no_change k.database))) (own_stream name)
+began_by k pool cloned cloned_is pool_is u v u_is name t known es fs given page long empty more =
+    let began : u ≡ record { pool = k.database.pool; is_used = false } = began_as k.database.pool u cloned u_is (cloned_is ∙ pool_is) in record {
+      pool = given ∙ ap₂ (λ n (u : UsedPool). rows_given_back k.database n (in_use u)) known.named began;
+      page = page ∙ ap (λ (u : UsedPool). u.pool.page) began;
+      long = long ∙ ap (λ (u : UsedPool). u.pool.long) began;
+      stored = more ∙ ap₂ (λ (es : List Stored) n. es ++ own_stream n) empty known.named;
+    }
 
 -- WHAT THEY MAKE
 
@@ -124,7 +169,7 @@ module _ (pool : Pool) (tables : List TableDef) (streams : Streams) (kept : AreK
     by_validation (Some v) v_at =
         let used : all_given_back d name ≡ released (released (released began v) c) t =
         ap (λ (used : PoolInUse). about_given_back d name tables_name (about_given_back d name columns_name used))
-        (given_with d name validation_name (rows_given_back d name) (Some v) v_at ∙ ap (λ (used : PoolInUse). released used v) (given_first d name gone at))
+        (given_with d name validation_name (rows_given_back d name (pool_of (no_change d))) (Some v) v_at ∙ ap (λ (used : PoolInUse). released used v) (given_first d name (pool_of (no_change d)) gone at))
         ∙ by_schema (released began v) in
         let es : all_streams d name ≡ ((own_stream name ++ other_rows d name validation_name v) ++ other_rows d name columns_name c) ++ other_rows d name tables_name t = λ i.
         ((own_stream name ++ stream_with d name validation_name (Some v) v_at i) ++ stream_with d name columns_name (Some c) c_at i) ++ stream_with d name tables_name (Some t) t_at i in
@@ -137,7 +182,7 @@ module _ (pool : Pool) (tables : List TableDef) (streams : Streams) (kept : AreK
     by_validation None v_none =
         let used : all_given_back d name ≡ released (released began c) t =
         ap (λ (used : PoolInUse). about_given_back d name tables_name (about_given_back d name columns_name used))
-        (given_with d name validation_name (rows_given_back d name) None v_none ∙ given_first d name gone at)
+        (given_with d name validation_name (rows_given_back d name (pool_of (no_change d))) None v_none ∙ given_first d name (pool_of (no_change d)) gone at)
         ∙ by_schema began in
         let es : all_streams d name ≡ (own_stream name ++ other_rows d name columns_name c) ++ other_rows d name tables_name t = λ i.
         ((own_stream name ++ stream_with d name validation_name None v_none i) ++ stream_with d name columns_name (Some c) c_at i) ++ stream_with d name tables_name (Some t) t_at i in
@@ -171,17 +216,18 @@ module _ (pool : Pool) (tables : List TableDef) (streams : Streams) (known : Boo
       (drop_made pool tables streams (subst (AreKept pool tables streams) (kept.known ∙ sound) kept) name gone free named at new new_is))
 
   -- by the pool and the streams at the end
-  pub drop_called : is_sound k.database ≡ true → is_system_table name ≡ false → is_table_name name ≡ true → (gone : TableCells) → table_at name k.database ≡ Some gone
-      → (after : UsedPool) → in_use after ≡ all_given_back k.database name → after.pool.page ≡ k.database.pool.page → after.pool.long ≡ k.database.pool.long
-      → (es : List Stored) → es ≡ all_streams k.database name → (new : Pool) → new ≡ after.pool → (now : List TableDef) → now ≡ without_table_kept name (tables_listed k.database) → (used : Bool) → used ≡ after.is_used
+  pub drop_called : is_sound k.database ≡ true → is_system_table name ≡ false → is_table_name name ≡ true → (t : TableDef) → IsKnown k.database name t → (after : UsedPool) (es : List Stored)
+      → Went k.database after es (all_given_back k.database name) (all_streams k.database name)
+      → (new : Pool) → new ≡ after.pool → (now : List TableDef) → now ≡ without_table_kept name (tables_listed k.database) → (used : Bool) → used ≡ after.is_used
       → DropMade k name new now es used
-  drop_called sound free named gone at after is page long es es_is new new_is now now_is used used_is =
+  drop_called sound free named t is_known after es went new new_is now now_is used used_is =
       let whole : after.pool ≡ record k.database.pool { places = (all_given_back k.database name).places } = λ i. record {
-        page = page i;
-        long = long i;
-        places = ap (λ (u : PoolInUse). u.places) is i;
+        page = went.page i;
+        long = went.long i;
+        places = ap (λ (u : PoolInUse). u.places) went.pool i;
       } in
-      let base = made_in sound gone free named at new (new_is ∙ whole) in
+      let gone = known_there k.database name t is_known in
+      let base = made_in sound gone.0 free named gone.1 new (new_is ∙ whole) in
       subst (λ (ts : List TableDef). DropMade k name new ts es used) (sym now_is)
-      (subst (λ (es : List Stored). DropMade k name new (without_table_kept name (tables_listed k.database)) es used) (sym es_is)
-      (subst (DropMade k name new (without_table_kept name (tables_listed k.database)) (all_streams k.database name)) (sym (used_is ∙ ap (λ (u : PoolInUse). u.is_used) is)) base))
+      (subst (λ (es : List Stored). DropMade k name new (without_table_kept name (tables_listed k.database)) es used) (sym went.stored)
+      (subst (DropMade k name new (without_table_kept name (tables_listed k.database)) (all_streams k.database name)) (sym (used_is ∙ ap (λ (u : PoolInUse). u.is_used) went.pool)) base))

@@ -6,7 +6,7 @@ use Rattle.msi_relation.specs.Refusals.{Refusals}
 use Rattle.msi_schema.specs.Keys.{is_table_name, table_key}
 use Rattle.msi_schema.specs.System.{is_system_table}
 use Rattle.msi_changes.specs.Database.{Database, table_at, rows_of}
-use Rattle.msi_changes.specs.Changes.{PoolInUse, no_change, pool_of, sound_refusal}
+use Rattle.msi_changes.specs.Changes.{PoolInUse, sound_refusal}
 use Rattle.msi_changes.specs.Drop.{is_row_about}
 use Rattle.msi_changes.specs.Texts.{rows_released}
 use Rattle.msi_database.specs.declared.storing.Stored.{Stored}
@@ -17,8 +17,8 @@ abbrev pub drop_refusals : Database → List ℕ → Refusals
 drop_refusals d name = sound_refusal d ++ (is_system_table name, InvalidInput) ∷ (not (is_table_name name), InvalidInput) ∷ []
 
 -- the pool after the table's own rows, and after those about it of a system table
-abbrev pub rows_given_back : Database → List ℕ → PoolInUse
-rows_given_back d name = option_map_or (λ t. rows_released (pool_of (no_change d)) (rows_of t)) (table_at name d) (pool_of (no_change d))
+abbrev pub rows_given_back : Database → List ℕ → PoolInUse → PoolInUse
+rows_given_back d name used = option_map_or (λ t. rows_released used (rows_of t)) (table_at name d) used
 
 abbrev pub about_given_back : Database → List ℕ → List ℕ → PoolInUse → PoolInUse
 about_given_back d name system used = option_map_or

@@ -57,26 +57,26 @@ impl Database {
         Ok(())
     }
 
-    /// A drop that begins: the texts of the table's rows are given back, and its stream is to go.
+    /// Begins with the table itself: the texts of its rows are given back, and its stream is to go.
     ///
     /// # Errors
     /// `OutOfMemory`.
-    fn begin_drop(&self, table: &Table) -> Result<Dropping, Error>
+    fn drop_rows(&self, dropping: &mut Dropping, table: &Table) -> Result<(), Error>
         requires sound { is_sound_one self.now.database ≡ true }
         requires known { IsKnown self.now.database table.now.name table.now }
-        ensures pool { IfOk result (λ dropping.
-            in_use dropping.pool ≡ rows_given_back self.now.database table.now.name) }
-        ensures page { IfOk result (λ dropping. dropping.pool.pool.page ≡ self.now.database.pool.page) }
-        ensures long { IfOk result (λ dropping. dropping.pool.pool.long ≡ self.now.database.pool.long) }
-        ensures stored { IfOk result (λ dropping. dropping.stored.items ≡ own_stream table.now.name) }
+        ensures pool { OnOk result (in_use dropping.new.pool
+            ≡ rows_given_back self.now.database table.now.name (in_use dropping.old.pool)) }
+        ensures page { dropping.new.pool.pool.page ≡ dropping.old.pool.pool.page }
+        ensures long { dropping.new.pool.pool.long ≡ dropping.old.pool.pool.long }
+        ensures stored { OnOk result (dropping.new.stored.items
+            ≡ dropping.old.stored.items ++ own_stream table.now.name) }
         ensures kind { OnlyMemory result }
     {
         let held = self.sound_rows(table)?;
-        let mut pool = PoolInUse::new(self.pool.clone()?);
-        pool.release_rows(held.as_slice())?;
-        let mut stored = Vec::new(self.alloc);
-        stored.push(stream_of(self.alloc, table, Vec::new(self.alloc))?)?;
-        Ok(Dropping { pool, stored })
+        dropping.pool.release_rows(held.as_slice())?;
+        let gone = stream_of(self.alloc, table, Vec::new(self.alloc))?;
+        dropping.stored.push(gone)?;
+        Ok(())
     }
 
     /// Goes on with a system table, where it is one: the texts of its rows about the table of a name are given back,
@@ -99,7 +99,8 @@ impl Database {
         };
         let held = self.sound_rows(table)?;
         let rows = rows_without(self.alloc, &self.pool, &mut dropping.pool, name, held)?;
-        dropping.stored.push(stream_of(self.alloc, table, rows)?)?;
+        let others = stream_of(self.alloc, table, rows)?;
+        dropping.stored.push(others)?;
         Ok(())
     }
 
@@ -119,7 +120,11 @@ impl Database {
         let Some(table) = self.known_table(name) else {
             return Err(Error::new(ErrorKind::NotFound, reasons::NO_TABLE));
         };
-        let mut dropping = self.begin_drop(table)?;
+        let mut dropping = Dropping {
+            pool: PoolInUse::new(self.pool.clone()?),
+            stored: Vec::new(self.alloc),
+        };
+        self.drop_rows(&mut dropping, table)?;
         self.forget(&mut dropping, name, VALIDATION)?;
         self.forget(&mut dropping, name, COLUMNS)?;
         self.forget(&mut dropping, name, TABLES)?;
