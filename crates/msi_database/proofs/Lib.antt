@@ -44,3 +44,4 @@ pub mod TableCallLemmas
 pub mod RowCallLemmas
 pub mod InsertCallLemmas
 pub mod OtherLemmas
+pub mod DroppingCallLemmas

@@ -4,6 +4,7 @@
 mod changing;
 pub mod database;
 mod decoding;
+mod dropping;
 pub mod laws;
 pub mod others;
 mod reasons;
