@@ -9,3 +9,4 @@ pub mod LayoutLaw
 pub mod Index
 pub mod Regions
 pub mod Sectors
+pub mod Borrowed

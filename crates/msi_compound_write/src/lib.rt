@@ -9,6 +9,7 @@ mod extents;
 mod index;
 pub mod laws;
 mod layout;
+pub mod parts;
 mod reasons;
 mod regions;
 mod tables;

@@ -5,6 +5,7 @@ ghost use Rattle.std.specs.FinMap as finite;
 ghost use Rattle.msi_text.specs.ErrorKind.TheVariants.{InvalidInput, Io, OutOfMemory};
 ghost use Rattle.msi_device.specs.Held.{StandsInPart, with_piece};
 ghost use Rattle.msi_compound.specs.Container.{Holds};
+ghost use Rattle.msi_compound_write.specs.Borrowed.{contents_of};
 ghost use Rattle.msi_compound_write.specs.Extents as extents;
 ghost use Rattle.msi_compound_write.specs.Image as image;
 ghost use Rattle.msi_compound_write.specs.Layout as spec;
@@ -17,6 +18,7 @@ use crate::reasons;
 use crate::totals::{
     MAX_SECTORS, directory_sectors, least_total, mini_fat_sectors, mini_stream_sectors,
 };
+use crate::parts::BorrowedContents;
 use msi_compound::contents::{Contents, StreamMap};
 use msi_compound::format::{MINI_SECTOR_SIZE, SECTOR_SIZE_3};
 use msi_device::Device;
@@ -46,10 +48,7 @@ pub fn write(alloc: Global, contents: &Contents, earlier_len: u64) -> Result<Vec
     ensures refused { IsErrOf result InvalidInput ↔ IsTrue (spec.refuses contents.now earlier_len) }
     ensures kinds { IfErr result (λ kind. (kind ≡ InvalidInput) ⊎ (kind ≡ OutOfMemory)) }
 {
-    let extent = check(contents, earlier_len)?;
-    let places = index(alloc, &contents.streams)?;
-    let layout = layout_of(contents.clsid, places.as_slice(), extent);
-    Ok(image(alloc, &layout)?)
+    image_of(alloc, &borrowed(contents), earlier_len)
 }
 
 /// Writes the same bytes to a device, over those from its place on and past the end, and goes behind them. It holds one
@@ -74,11 +73,7 @@ pub fn write_to<W: Device>(
     ensures failed { IsErrOf result Io ↔ IsTrue (W.failed device.new) }
     ensures kinds { IfErr result (λ kind. (kind ≡ InvalidInput) ⊎ (kind ≡ OutOfMemory) ⊎ (kind ≡ Io)) }
 {
-    device.clear_failed();
-    let extent = check(contents, earlier_len)?;
-    let places = index(alloc, &contents.streams)?;
-    let layout = layout_of(contents.clsid, places.as_slice(), extent);
-    write_sectors(&layout, device)
+    image_to(alloc, &borrowed(contents), earlier_len, device)
 }
 
 /// Whether these contents can be written over a file of this length: where not, `write` and `write_to` answer
@@ -86,7 +81,65 @@ pub fn write_to<W: Device>(
 pub fn is_writable(contents: &Contents, earlier_len: u64) -> bool
     ensures { result ≡ not (spec.refuses contents.now earlier_len) }
 {
-    check(contents, earlier_len).is_ok()
+    check(&borrowed(contents), earlier_len).is_ok()
+}
+
+/// Contents as they are.
+fn borrowed(contents: &Contents) -> BorrowedContents<'_>
+    ensures { contents_of result ≡ contents.now }
+{
+    BorrowedContents {
+        clsid: contents.clsid,
+        streams: &contents.streams,
+        has_storages: contents.has_storages,
+    }
+}
+
+/// What `write` answers, of contents whose streams are borrowed.
+///
+/// # Errors
+/// Those of `write`.
+pub fn image_of(
+    alloc: Global,
+    contents: &BorrowedContents,
+    earlier_len: u64,
+) -> Result<Vec<u8>, Error>
+    ensures ok { IfOk result (λ image. image.items ≡ spec.layout (contents_of contents.now) earlier_len) }
+    ensures holds { IfOk result (λ image. Holds image.items (contents_of contents.now)) }
+    ensures refused { IsErrOf result InvalidInput ↔ IsTrue (spec.refuses (contents_of contents.now) earlier_len) }
+    ensures kinds { IfErr result (λ kind. (kind ≡ InvalidInput) ⊎ (kind ≡ OutOfMemory)) }
+{
+    let extent = check(contents, earlier_len)?;
+    let places = index(alloc, contents.streams)?;
+    let layout = layout_of(contents.clsid, places.as_slice(), extent);
+    Ok(image(alloc, &layout)?)
+}
+
+/// What `write_to` does, of contents whose streams are borrowed.
+///
+/// # Errors
+/// Those of `write_to`.
+pub fn image_to<W: Device>(
+    alloc: Global,
+    contents: &BorrowedContents,
+    earlier_len: u64,
+    device: &mut W,
+) -> Result<(), Error>
+    ensures ok { OnOk result
+        (W.held device.new ≡ option_map (with_piece (spec.layout (contents_of contents.now) earlier_len)) (W.held device.old)) }
+    ensures holds { OnOk result (Holds (spec.layout (contents_of contents.now) earlier_len) (contents_of contents.now)) }
+    ensures part { OnErr result
+        (StandsInPart (spec.layout (contents_of contents.now) earlier_len) (W.held device.old) (W.held device.new)) }
+    ensures untouched { IfErr result (λ kind. (kind ≡ Io) ⊎ (W.held device.new ≡ W.held device.old)) }
+    ensures refused { IsErrOf result InvalidInput ↔ IsTrue (spec.refuses (contents_of contents.now) earlier_len) }
+    ensures failed { IsErrOf result Io ↔ IsTrue (W.failed device.new) }
+    ensures kinds { IfErr result (λ kind. (kind ≡ InvalidInput) ⊎ (kind ≡ OutOfMemory) ⊎ (kind ≡ Io)) }
+{
+    device.clear_failed();
+    let extent = check(contents, earlier_len)?;
+    let places = index(alloc, contents.streams)?;
+    let layout = layout_of(contents.clsid, places.as_slice(), extent);
+    write_sectors(&layout, device)
 }
 
 /// The file in one vector.
@@ -121,18 +174,19 @@ fn write_sectors<W: Device>(layout: &Layout, device: &mut W) -> Result<(), Error
 }
 
 /// Checks that the contents can be written, and tells how much they take.
-fn check(contents: &Contents, earlier_len: u64) -> Result<Extent, Error>
-    ensures mini_sectors { IfOk result (λ extent. extent.mini_sectors ≡ spec.mini_sectors (finite.entries contents.now.streams)) }
-    ensures taken { IfOk result (λ extent. extent.taken ≡ spec.taken_by (finite.entries contents.now.streams)) }
-    ensures total { IfOk result (λ extent. extent.total ≡ spec.total contents.now earlier_len) }
+fn check(contents: &BorrowedContents, earlier_len: u64) -> Result<Extent, Error>
+    ensures mini_sectors { IfOk result (λ extent.
+        extent.mini_sectors ≡ spec.mini_sectors (finite.entries contents.now.streams.now)) }
+    ensures taken { IfOk result (λ extent. extent.taken ≡ spec.taken_by (finite.entries contents.now.streams.now)) }
+    ensures total { IfOk result (λ extent. extent.total ≡ spec.total (contents_of contents.now) earlier_len) }
     ensures few { IfOk result (λ extent. extent.total < 2 ^ 22) }
-    ensures refused { IsErr result ↔ IsTrue (spec.refuses contents.now earlier_len) }
+    ensures refused { IsErr result ↔ IsTrue (spec.refuses (contents_of contents.now) earlier_len) }
     ensures kinds { OnErr result (IsErrOf result InvalidInput) }
 {
     if contents.has_storages {
         return Err(Error::new(ErrorKind::InvalidInput, reasons::STORAGES));
     }
-    match measure(&contents.streams, earlier_len) {
+    match measure(contents.streams, earlier_len) {
         Some(extent) => Ok(extent),
         None => Err(Error::new(ErrorKind::InvalidInput, reasons::IMAGE_TOO_LARGE)),
     }

@@ -25,7 +25,7 @@ entries_removed m k =
     ∙ ap (cond (eq_by_cmp name_cmp k q) None) (get-entries m q)
     ∙ sym (find-where_key name_cmp p q (λ x t. ap (λ r. not (is_eq r)) (sym (alike_right names_total q x k t))) (entries m) ∙ turned (eq_by_cmp name_cmp k q) (find name_cmp q (entries m)) None))
 
-entries_either : (m : maps.Streams) (k : List ℕ) (v : Option (List ℕ)) → entries (maps.with_or_without m k v) ≡ with_stream_or_none k v (entries m)
+pub entries_either : (m : maps.Streams) (k : List ℕ) (v : Option (List ℕ)) → entries (maps.with_or_without m k v) ≡ with_stream_or_none k v (entries m)
 entries_either m k None = entries_removed m k
 entries_either m k (Some v) = entries-insert names_total m k v
 

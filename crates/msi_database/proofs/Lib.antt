@@ -42,3 +42,6 @@ pub mod CanStoreLemmas
 pub mod StorableLemmas
 pub mod TableCallLemmas
 pub mod RowCallLemmas
+pub mod InsertCallLemmas
+pub mod OtherLemmas
+pub mod DroppingCallLemmas

@@ -4,7 +4,9 @@
 mod changing;
 pub mod database;
 mod decoding;
+mod dropping;
 pub mod laws;
+pub mod others;
 mod reasons;
 mod rows;
 mod soundness;

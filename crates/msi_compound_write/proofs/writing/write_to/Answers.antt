@@ -1,69 +1,26 @@
-use Rattle.std.proofs.Common.{◌≡◌, length, ◌∙◌, ap, sym, subst}
-use Rattle.std.proofs.lemmas.Bool.{false≢true}
-use Rattle.std.proofs.lemmas.Result.{on_err_weaker, on_ok_weaker}
-use Rattle.std.specs.FinMap.{entries}
-use Rattle.msi_compound_write.specs.Index.{streams_of}
-use Rattle.msi_compound_write.specs.Layout.{layout, mini_sectors, taken_by}
-use Rattle.msi_compound_write.specs.LayoutLaw.{HaveNames}
-use Rattle.msi_compound_write.specs.Sectors.{file}
-use Rattle.msi_compound_write.proofs.IndexLemmas.{is_index, streams_indexed}
-use Rattle.msi_compound_write.proofs.LayoutHeldLemmas.{layout_holds}
-use Rattle.msi_compound_write.proofs.LayoutLemmas.{not_true, room_for, same_file, taken_few}
-use Rattle.msi_compound_write.proofs.SectorsHeldLemmas.{part_as, put_as}
+use Rattle.std.proofs.Common.{◌≡◌, subst}
+use Rattle.std.specs.Prelude.{IsErrOf, IsTrue, OnErr, OnOk, option_map, ◌↔◌}
+use Rattle.msi_text.specs.ErrorKind.TheVariants.{InvalidInput}
+use Rattle.msi_compound.specs.declared.contents.Contents.{Contents}
+use Rattle.msi_compound.specs.Container.{Holds}
+use Rattle.msi_compound_write.specs.Layout as spec
+use Rattle.msi_device.specs.Held.{StandsInPart, with_piece}
 use Rattle.msi_compound_write.proofs.writing.write_to.Goals as goal
 
-pub index-requires : goal.index-requires
-index-requires g c = record { few = taken_few c.args.contents.now c.args.earlier_len c.in_ok-extent.extent.total c.in_ok-extent.ensures.total c.in_ok-extent.ensures.few }
-
-pub layout_of-layout-requires-clause-indexed : goal.layout_of-layout-requires-clause-indexed
-layout_of-layout-requires-clause-indexed g c =
-    is_index c.as_slice.result.now (entries c.args.contents.now.streams) (c.as_slice.ensures.value ∙ c.in_ok-places.ensures.indexed)
-
-pub layout_of-layout-requires-clause-names : goal.layout_of-layout-requires-clause-names
-layout_of-layout-requires-clause-names g c =
-    let same = streams_indexed c.as_slice.result.now (entries c.args.contents.now.streams) (c.as_slice.ensures.value ∙ c.in_ok-places.ensures.indexed) in
-    subst HaveNames (sym same) c.in_ok-places.ensures.names
-
-pub layout_of-layout-requires-clause-mini_sectors : goal.layout_of-layout-requires-clause-mini_sectors
-layout_of-layout-requires-clause-mini_sectors g c =
-    let same = streams_indexed c.as_slice.result.now (entries c.args.contents.now.streams) (c.as_slice.ensures.value ∙ c.in_ok-places.ensures.indexed) in
-    c.in_ok-extent.ensures.mini_sectors ∙ ap mini_sectors (sym same)
-
-pub layout_of-layout-requires-clause-taken : goal.layout_of-layout-requires-clause-taken
-layout_of-layout-requires-clause-taken g c =
-    let same = streams_indexed c.as_slice.result.now (entries c.args.contents.now.streams) (c.as_slice.ensures.value ∙ c.in_ok-places.ensures.indexed) in
-    c.in_ok-extent.ensures.taken ∙ ap taken_by (sym same)
-
-pub layout_of-layout-requires-clause-room : goal.layout_of-layout-requires-clause-room
-layout_of-layout-requires-clause-room g c =
-    room_for c.in_ok-extent.extent.taken c.in_ok-extent.extent.total (taken_by (entries c.args.contents.now.streams)) c.args.earlier_len c.in_ok-extent.ensures.taken c.in_ok-extent.ensures.total
-
 pub returns-clause-ok : goal.returns-clause-ok
-returns-clause-ok g c =
-    let same : file c.layout_of-layout.result.clsid (streams_of c.layout_of-layout.result.places.now) c.layout_of-layout.result.extent.total ≡ layout c.args.contents.now c.args.earlier_len =
-    same_file c.args.contents.now c.args.earlier_len c.layout_of-layout.result.extent.total c.layout_of-layout.result.clsid (streams_of c.layout_of-layout.result.places.now)
-    c.layout_of-layout.ensures.clsid
-    (ap streams_of c.layout_of-layout.ensures.places ∙ streams_indexed c.as_slice.result.now (entries c.args.contents.now.streams) (c.as_slice.ensures.value ∙ c.in_ok-places.ensures.indexed))
-    (c.layout_of-layout.ensures.total ∙ c.in_ok-extent.ensures.total) in
-    on_ok_weaker c.write_sectors.result
-    (put_as (file c.layout_of-layout.result.clsid (streams_of c.layout_of-layout.result.places.now) c.layout_of-layout.result.extent.total) (layout c.args.contents.now c.args.earlier_len)
-    (g.W.Source.held c.args.device.now) (g.W.Source.held c.clear_failed.new.self) (g.W.Source.held c.write_sectors.new.device) same c.clear_failed.ensures.held)
-    c.write_sectors.ensures.ok
+returns-clause-ok g c = subst
+    (λ (held : Contents). OnOk c.image_to.result (g.W.Source.held c.image_to.new.device ≡ option_map (with_piece (spec.layout held c.args.earlier_len)) (g.W.Source.held c.args.device.now)))
+    c.borrowed.ensures c.image_to.ensures.ok
 
 pub returns-clause-holds : goal.returns-clause-holds
-returns-clause-holds g c =
-    on_ok_weaker c.write_sectors.result (λ _. layout_holds c.args.contents.now c.args.earlier_len
-    (record { clsid = sym (ap length c.layout_of-layout.ensures.clsid) ∙ c.layout_of-layout.ensures.laid_out.clsid; names = c.in_ok-places.ensures.names })
-    (not_true _ (λ h. false≢true (c.in_ok-extent.ensures.refused.1 h)))) c.write_sectors.ensures.ok
+returns-clause-holds g c = subst (λ (held : Contents). OnOk c.image_to.result (Holds (spec.layout held c.args.earlier_len) held))
+    c.borrowed.ensures c.image_to.ensures.holds
 
 pub returns-clause-part : goal.returns-clause-part
-returns-clause-part g c =
-    let same : file c.layout_of-layout.result.clsid (streams_of c.layout_of-layout.result.places.now) c.layout_of-layout.result.extent.total ≡ layout c.args.contents.now c.args.earlier_len =
-    same_file c.args.contents.now c.args.earlier_len c.layout_of-layout.result.extent.total c.layout_of-layout.result.clsid (streams_of c.layout_of-layout.result.places.now)
-    c.layout_of-layout.ensures.clsid
-    (ap streams_of c.layout_of-layout.ensures.places ∙ streams_indexed c.as_slice.result.now (entries c.args.contents.now.streams) (c.as_slice.ensures.value ∙ c.in_ok-places.ensures.indexed))
-    (c.layout_of-layout.ensures.total ∙ c.in_ok-extent.ensures.total) in
-    on_err_weaker c.write_sectors.result
-    (part_as (file c.layout_of-layout.result.clsid (streams_of c.layout_of-layout.result.places.now) c.layout_of-layout.result.extent.total) (layout c.args.contents.now c.args.earlier_len)
-    (g.W.Source.held c.args.device.now) (g.W.Source.held c.clear_failed.new.self) (g.W.Source.held c.write_sectors.new.device) same c.clear_failed.ensures.held)
-    c.write_sectors.ensures.part
+returns-clause-part g c = subst
+    (λ (held : Contents). OnErr c.image_to.result (StandsInPart (spec.layout held c.args.earlier_len) (g.W.Source.held c.args.device.now) (g.W.Source.held c.image_to.new.device)))
+    c.borrowed.ensures c.image_to.ensures.part
+
+pub returns-clause-refused : goal.returns-clause-refused
+returns-clause-refused g c = subst (λ (held : Contents). IsErrOf c.image_to.result InvalidInput ↔ IsTrue (spec.refuses held c.args.earlier_len))
+    c.borrowed.ensures c.image_to.ensures.refused
