@@ -4,6 +4,7 @@
 mod changing;
 pub mod database;
 mod decoding;
+mod fresh;
 pub mod laws;
 mod reasons;
 mod rows;
