@@ -32,12 +32,13 @@ use Rattle.msi_changes.specs.Texts.{UsedPool, in_use, rows_put}
 use Rattle.msi_changes.proofs.FitTestLemmas.{cells_fit, each_fits}
 use Rattle.msi_database.specs.Streams.{stream_of_rows}
 use Rattle.msi_database.specs.declared.storing.Stored.{Stored}
-use Rattle.msi_database.specs.Storing.{tables_stored}
+use Rattle.msi_database.specs.Storing.{HaveOwnNames, tables_stored}
 use Rattle.msi_database.specs.Fresh.{bare_database, empty_table, fresh_change}
 use Rattle.msi_database.specs.FreshParts.{Begins, CanBegin, columns_table, fresh_pool, fresh_stored, tables_table, unused_pool, validation_table}
 use Rattle.msi_database.proofs.MapLemmas as maps
 use Rattle.msi_database.proofs.StreamLemmas.{list_cmp_total, list_cmp_exact}
-use Rattle.msi_database.proofs.EditLemmas.{apart_names, rows_stored_first, rows_stored_last}
+use Rattle.msi_database.proofs.StoredLemmas.{AreNames}
+use Rattle.msi_database.proofs.EditLemmas.{AreApart, apart_names, own_names, rows_stored_first, rows_stored_last}
 
 -- all rows of a table, and the pool after their texts were taken
 abbrev pub Rows : Type 0
@@ -86,10 +87,10 @@ module _ (t : TableDef) (pool : UsedPool) (columns : List ColumnDef) (values : L
     first_begins (Err k) name_is bytes_is = tt
 
 -- what a table that can begin makes
-begun : TableDef → PoolInUse → List (List Value) → Rows
+unfoldable pub begun : TableDef → PoolInUse → List (List Value) → Rows
 begun t pool values = unwrap_or (cells_added t.long t.columns pool [] values) ([], pool)
 
-stream_begun : TableDef → Rows → Stored
+unfoldable pub stream_begun : TableDef → Rows → Stored
 stream_begun t r = record { name = table_key t.name; bytes = stream_of_rows t.long t.columns r.0 }
 
 begun_some : (P : Rows → Type 0) (o : Option Rows) (other : Rows) → IsSomeAnd o P → o ≡ Some (unwrap_or o other)
@@ -100,23 +101,23 @@ begun_holds : (P : Rows → Type 0) (o : Option Rows) (other : Rows) → IsSomeA
 begun_holds P None other h = absurd h
 begun_holds P (Some r) other h = h
 
-begins_as : (t : TableDef) (pool : PoolInUse) (values : List (List Value)) (s : Stored) (after : PoolInUse) → Begins t pool values s after
+pub begins_as : (t : TableDef) (pool : PoolInUse) (values : List (List Value)) (s : Stored) (after : PoolInUse) → Begins t pool values s after
     → (s ≡ stream_begun t (begun t pool values)) × (after ≡ (begun t pool values).1)
 unfolding begun stream_begun
 begins_as t pool values s after h =
     begun_holds (λ r. (s ≡ record { name = table_key t.name; bytes = stream_of_rows t.long t.columns r.0 }) × (after ≡ r.1)) (cells_added t.long t.columns pool [] values) ([], pool) h
 
-can_as : (t : TableDef) (pool : PoolInUse) (values : List (List Value)) → CanBegin t pool values → cells_added t.long t.columns pool [] values ≡ Some (begun t pool values)
+pub can_as : (t : TableDef) (pool : PoolInUse) (values : List (List Value)) → CanBegin t pool values → cells_added t.long t.columns pool [] values ≡ Some (begun t pool values)
 unfolding begun
 can_as t pool values can = begun_some (λ r. CanStore t r.0) (cells_added t.long t.columns pool [] values) ([], pool) can
 
 -- A TEST OF IT
 
-fits_begun : TableDef → Option Rows → Bool
+unfoldable pub fits_begun : TableDef → Option Rows → Bool
 fits_begun t None = false
 fits_begun t (Some r) = nat_lt 0 (length (types_of t.columns)) && nat_le (length r.0) 65536 && list_all (cells_fit t.long (types_of t.columns)) r.0
 
-fits_begun_is : (t : TableDef) (o : Option Rows) → fits_begun t o ≡ true → IsSomeAnd o (λ r. CanStore t r.0)
+pub fits_begun_is : (t : TableDef) (o : Option Rows) → fits_begun t o ≡ true → IsSomeAnd o (λ r. CanStore t r.0)
 unfolding fits_begun
 fits_begun_is t None e = cc
 fits_begun_is t (Some r) e =
@@ -126,7 +127,7 @@ fits_begun_is t (Some r) e =
 
 -- THREE TABLES: their rows describe a table
 
-abbrev listing : List ℕ → List (List Value)
+abbrev pub listing : List ℕ → List (List Value)
 listing name = (Str name ∷ []) ∷ []
 
 mapped_twice : {A B C : Type 0} (f : A → B) (g : B → C) (o : Option A) → option_map (λ x. g (f x)) o ≡ option_map g (option_map f o)
@@ -142,9 +143,38 @@ added_first c name t values r long at added =
     ∙ mapped_twice (λ r. (in_key_order t.columns r.1.places ([] ++ r.0), r.1)) last (rows_put c.database.pool.long (pool_of c) values)
     ∙ ap (option_map last) (ap (λ (l : Bool). cells_added l t.columns (pool_of c) [] values) (sym long) ∙ added)
 
-module _ (d : Database) (name : List ℕ) (columns : List ColumnDef) (c t v : TableDef) (c_long : c.long ≡ d.pool.long) (t_long : t.long ≡ d.pool.long) (v_long : v.long ≡ d.pool.long)
-    (c_at : table_at columns_name d ≡ Some (empty_table c.columns)) (t_at : table_at tables_name d ≡ Some (empty_table t.columns)) (v_at : table_at validation_name d ≡ Some (empty_table v.columns))
-    (c_rows t_rows v_rows : Rows) (c_added : cells_added c.long c.columns (pool_of (no_change d)) [] (column_rows name columns) ≡ Some c_rows)
+same_stream : (name : List ℕ) (long : Bool) (t : TableDef) (r : Rows) → t.name ≡ name → t.long ≡ long → record { name = table_key name; bytes = stream_of_rows long t.columns r.0 } ≡ stream_begun t r
+unfolding stream_begun
+same_stream name long t r named same i = record { name = table_key (sym named i); bytes = stream_of_rows (sym same i) t.columns r.0 }
+
+system_names : AreNames (columns_name ∷ tables_name ∷ validation_name ∷ [])
+unfolding Rattle.std.specs.Str.chars
+system_names = (refl, (refl, (refl, tt)))
+
+system_apart : AreApart (columns_name ∷ tables_name ∷ validation_name ∷ [])
+unfolding Rattle.std.specs.Str.chars
+system_apart = (refl, (refl, (refl, tt)))
+
+-- what is stored of a change, and its pool
+pub record Describes (d : Database) (c t v : TableDef) (c_rows t_rows v_rows : Rows) (change : Change) : Type 0 where
+  pub streams : tables_stored change.database change.stored ≡ stream_begun c c_rows ∷ stream_begun t t_rows ∷ stream_begun v v_rows ∷ []
+  pub own_names : HaveOwnNames (tables_stored change.database change.stored)
+  pub pool : change.database.pool ≡ record d.pool { places = v_rows.1.places }
+
+-- three tables without rows
+pub record AreBare (d : Database) (c t v : TableDef) : Type 0 where
+  pub c_named : c.name ≡ columns_name
+  pub t_named : t.name ≡ tables_name
+  pub v_named : v.name ≡ validation_name
+  pub c_long : c.long ≡ d.pool.long
+  pub t_long : t.long ≡ d.pool.long
+  pub v_long : v.long ≡ d.pool.long
+  pub c_at : table_at columns_name d ≡ Some (empty_table c.columns)
+  pub t_at : table_at tables_name d ≡ Some (empty_table t.columns)
+  pub v_at : table_at validation_name d ≡ Some (empty_table v.columns)
+
+module _ (d : Database) (name : List ℕ) (columns : List ColumnDef) (c t v : TableDef) (are : AreBare d c t v) (c_rows t_rows v_rows : Rows)
+    (c_added : cells_added c.long c.columns (pool_of (no_change d)) [] (column_rows name columns) ≡ Some c_rows)
     (t_added : cells_added t.long t.columns c_rows.1 [] (listing name) ≡ Some t_rows) (v_added : cells_added v.long v.columns t_rows.1 [] (validation_rows name columns) ≡ Some v_rows) where
   abbrev b₁ : Change
   b₁ = with_stored columns_name c.columns c_rows.0 c_rows.1 (no_change d)
@@ -156,16 +186,16 @@ module _ (d : Database) (name : List ℕ) (columns : List ColumnDef) (c t v : Ta
   b₃ = with_stored validation_name v.columns v_rows.0 v_rows.1 b₂
 
   first : added_to columns_name (column_rows name columns) (no_change d) ≡ Some b₁
-  first = added_first (no_change d) columns_name c (column_rows name columns) c_rows c_long c_at c_added
+  first = added_first (no_change d) columns_name c (column_rows name columns) c_rows are.c_long are.c_at c_added
 
   second : added_to tables_name (listing name) b₁ ≡ Some b₂
-  second = added_first b₁ tables_name t (listing name) t_rows t_long
-      (maps.find_put_other list_cmp_total list_cmp_exact tables_name columns_name _ d.tables (apart_names columns_name tables_name refl) ∙ t_at) t_added
+  second = added_first b₁ tables_name t (listing name) t_rows are.t_long
+      (maps.find_put_other list_cmp_total list_cmp_exact tables_name columns_name _ d.tables (apart_names columns_name tables_name refl) ∙ are.t_at) t_added
 
   third : added_to validation_name (validation_rows name columns) b₂ ≡ Some b₃
-  third = added_first b₂ validation_name v (validation_rows name columns) v_rows v_long
+  third = added_first b₂ validation_name v (validation_rows name columns) v_rows are.v_long
       (maps.find_put_other list_cmp_total list_cmp_exact validation_name tables_name _ b₁.database.tables (apart_names tables_name validation_name refl)
-      ∙ maps.find_put_other list_cmp_total list_cmp_exact validation_name columns_name _ d.tables (apart_names columns_name validation_name refl) ∙ v_at) v_added
+      ∙ maps.find_put_other list_cmp_total list_cmp_exact validation_name columns_name _ d.tables (apart_names columns_name validation_name refl) ∙ are.v_at) v_added
 
   described : described_by_rows name columns (no_change d) ≡ Some b₃
   described =
@@ -173,22 +203,25 @@ module _ (d : Database) (name : List ℕ) (columns : List ColumnDef) (c t v : Ta
       ∙ ap (λ (o : Option Change). option_and_then (added_to validation_name (validation_rows name columns)) o) second
       ∙ third
 
-  described_stored : tables_stored b₃.database b₃.stored
-      ≡ record { name = table_key columns_name; bytes = stream_of_rows d.pool.long c.columns c_rows.0 }
-      ∷ record { name = table_key tables_name; bytes = stream_of_rows d.pool.long t.columns t_rows.0 }
-      ∷ record { name = table_key validation_name; bytes = stream_of_rows d.pool.long v.columns v_rows.0 } ∷ []
-  described_stored =
+  single : List ℕ → TableDef → Rows → List Stored
+  single name t r = record { name = table_key name; bytes = stream_of_rows d.pool.long t.columns r.0 } ∷ []
+
+  three_stored : tables_stored b₃.database b₃.stored ≡ (single columns_name c c_rows ++ single tables_name t t_rows) ++ single validation_name v v_rows
+  unfolding single
+  three_stored =
       rows_stored_last b₂ validation_name v.columns v_rows.0 v_rows.1 refl
-      ∙ ap (λ (es : List Stored). es ++ record { name = table_key validation_name; bytes = stream_of_rows d.pool.long v.columns v_rows.0 } ∷ []) (rows_stored_last b₁ tables_name t.columns t_rows.0 t_rows.1 refl
-      ∙ ap (λ (es : List Stored). es ++ record { name = table_key tables_name; bytes = stream_of_rows d.pool.long t.columns t_rows.0 } ∷ []) (rows_stored_first d columns_name c.columns c_rows.0 c_rows.1))
+      ∙ ap (λ (es : List Stored). es ++ single validation_name v v_rows) (rows_stored_last b₁ tables_name t.columns t_rows.0 t_rows.1 refl
+      ∙ ap (λ (es : List Stored). es ++ single tables_name t t_rows) (rows_stored_first d columns_name c.columns c_rows.0 c_rows.1))
 
-  -- a change that comes of it, its streams and its pool
-  abbrev Made : Change → Type 0
-  Made change = (tables_stored change.database change.stored
-      ≡ record { name = table_key columns_name; bytes = stream_of_rows d.pool.long c.columns c_rows.0 }
-      ∷ record { name = table_key tables_name; bytes = stream_of_rows d.pool.long t.columns t_rows.0 }
-      ∷ record { name = table_key validation_name; bytes = stream_of_rows d.pool.long v.columns v_rows.0 } ∷ [])
-      × (change.database.pool ≡ record d.pool { places = v_rows.1.places })
+  same_three : (single columns_name c c_rows ++ single tables_name t t_rows) ++ single validation_name v v_rows ≡ stream_begun c c_rows ∷ stream_begun t t_rows ∷ stream_begun v v_rows ∷ []
+  unfolding single
+  same_three i = same_stream columns_name d.pool.long c c_rows are.c_named are.c_long i
+      ∷ same_stream tables_name d.pool.long t t_rows are.t_named are.t_long i
+      ∷ same_stream validation_name d.pool.long v v_rows are.v_named are.v_long i ∷ []
 
-  made : (other : Change) → Made (unwrap_or (described_by_rows name columns (no_change d)) other)
-  made other = subst (λ (o : Option Change). Made (unwrap_or o other)) (sym described) (described_stored, refl)
+  pub describes : (other : Change) → Describes d c t v c_rows t_rows v_rows (unwrap_or (described_by_rows name columns (no_change d)) other)
+  describes other = subst (λ (o : Option Change). Describes d c t v c_rows t_rows v_rows (unwrap_or o other)) (sym described) (record {
+    streams = three_stored ∙ same_three;
+    own_names = own_names b₃.database b₃.stored system_names system_apart;
+    pool = refl;
+  })

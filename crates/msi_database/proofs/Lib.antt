@@ -43,3 +43,5 @@ pub mod StorableLemmas
 pub mod TableCallLemmas
 pub mod RowCallLemmas
 pub mod FreshCallLemmas
+pub mod FreshStepLemmas
+pub mod FreshMadeLemmas
