@@ -45,3 +45,4 @@ pub mod RowCallLemmas
 pub mod FreshCallLemmas
 pub mod FreshStepLemmas
 pub mod FreshMadeLemmas
+pub mod FreshKeptLemmas
