@@ -5,6 +5,7 @@ mod changing;
 pub mod database;
 mod decoding;
 mod dropping;
+mod fresh;
 pub mod laws;
 pub mod others;
 mod reasons;
