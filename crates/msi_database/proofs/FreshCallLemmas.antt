@@ -1,28 +1,24 @@
 -- First rows of tables, one after the other: what the calls of a new database make is `fresh`.
-use Rattle.std.proofs.Common.{◌≡◌, ◌≢◌, ℕ, ◌<◌, ◌≤◌, Bool, true, false, ◌&&◌, List, [], ◌∷◌, ◌++◌, length, Option, Some, None, is_some, Result, Ok, Err, IfErr, refl, sym, ap, ap₂, subst, ◌∙◌, option_map, inl, inr, arith, lit≤, nat_lt, nat_le, bytes_eq}
-use Rattle.std.specs.Prelude.{IfOk, IsSomeAnd, IsTrue, option_and_then, unwrap_or}
+use Rattle.std.proofs.Common.{◌≡◌, ℕ, Bool, true, false, ◌&&◌, List, [], ◌∷◌, ◌++◌, length, Option, Some, None, is_some, Result, Ok, Err, IfErr, refl, sym, ap, ap₂, subst, ◌∙◌, option_map, inl, inr, arith, nat_lt, nat_le}
+use Rattle.std.specs.Prelude.{IfOk, IsSomeAnd, option_and_then, unwrap_or}
 use Rattle.std.specs.List.{list_all}
 use Rattle.std.specs.FinMap.{put}
 use Rattle.std.proofs.lemmas.Bool.{and_parts}
 use Rattle.std.proofs.lemmas.Bool.Decides.{nat_tests}
 use Rattle.std.proofs.lemmas.Option.{same_Some}
-use Rattle.msi_compound.specs.Names.{is_name_length}
 use Rattle.msi_text.specs.ErrorKind.{ErrorKind}
-use Rattle.msi_text.specs.ErrorKind.TheVariants.{InvalidInput, OutOfMemory}
-use Rattle.msi_text.specs.Lists.{list_cmp}
-use Rattle.msi_text.specs.Pool.{Pool}
+use Rattle.msi_text.specs.ErrorKind.TheVariants.{InvalidInput}
 use Rattle.msi_text.specs.Results.{OnlyMemory}
 use Rattle.msi_table.specs.declared.value.Value.{Value}
 use Rattle.msi_table.specs.declared.value.Value.TheVariants.{Str}
 use Rattle.msi_table.specs.declared.value.ValueRef.{ValueRef}
 use Rattle.msi_table.specs.Columns.{ColumnDef, TableDef, types_of}
-use Rattle.msi_table.specs.ReadBack.{FitsTable}
 use Rattle.msi_table.specs.Tables.{CanStore}
 use Rattle.msi_relation.specs.Refusals.{IsRefusal, or_refused}
 use Rattle.msi_relation.specs.Rows.{TableCells}
-use Rattle.msi_schema.specs.Description.{column_rows, have_short_lengths, tables_row, validation_rows}
+use Rattle.msi_schema.specs.Description.{column_rows, validation_rows}
 use Rattle.msi_schema.specs.Keys.{table_key}
-use Rattle.msi_schema.specs.System.{columns_name, tables_name, validation_columns, validation_name}
+use Rattle.msi_schema.specs.System.{columns_name, tables_name, validation_name}
 use Rattle.msi_changes.specs.Database.{Database, table_at}
 use Rattle.msi_changes.specs.Changes.{Change, PoolInUse, no_change, pool_of, with_stored}
 use Rattle.msi_changes.specs.Create.{added_to, described_by_rows}
@@ -33,8 +29,8 @@ use Rattle.msi_changes.proofs.FitTestLemmas.{cells_fit, each_fits}
 use Rattle.msi_database.specs.Streams.{stream_of_rows}
 use Rattle.msi_database.specs.declared.storing.Stored.{Stored}
 use Rattle.msi_database.specs.Storing.{HaveOwnNames, tables_stored}
-use Rattle.msi_database.specs.Fresh.{bare_database, empty_table, fresh_change}
-use Rattle.msi_database.specs.FreshParts.{Begins, CanBegin, columns_table, fresh_pool, fresh_stored, tables_table, unused_pool, validation_table}
+use Rattle.msi_database.specs.Fresh.{empty_table}
+use Rattle.msi_database.specs.FreshParts.{Begins, CanBegin}
 use Rattle.msi_database.proofs.MapLemmas as maps
 use Rattle.msi_database.proofs.StreamLemmas.{list_cmp_total, list_cmp_exact}
 use Rattle.msi_database.proofs.StoredLemmas.{AreNames}

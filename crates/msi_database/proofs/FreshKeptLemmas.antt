@@ -1,5 +1,5 @@
 -- The parts of a new database are kept, and make `fresh`.
-use Rattle.std.proofs.Common.{◌≡◌, ℕ, Bool, true, false, List, [], ◌∷◌, length, refl, sym, ap, subst, ◌∙◌, arith}
+use Rattle.std.proofs.Common.{◌≡◌, ℕ, true, false, List, [], ◌∷◌, length, refl, sym, ap, subst, ◌∙◌, arith}
 use Rattle.std.specs.FinMap.{empty, entries, len, len-empty, len-entries}
 use Rattle.msi_compound.specs.Names.{name_cmp}
 use Rattle.msi_compound.specs.Streams as maps
@@ -12,7 +12,7 @@ use Rattle.msi_database.specs.declared.storing.Stored.{Stored}
 use Rattle.msi_database.specs.Storing.{HaveOwnNames, stored_all, stored_in}
 use Rattle.msi_database.specs.Streams.{Streams}
 use Rattle.msi_database.specs.Kept.{AreAsLong, Kept, database_kept, kept_of, schema_listed}
-use Rattle.msi_database.specs.Keeping.{AreKept, AreParts, IsKeptDatabase}
+use Rattle.msi_database.specs.Keeping.{AreParts, IsKeptDatabase}
 use Rattle.msi_database.specs.Fresh.{fresh, fresh_change}
 use Rattle.msi_database.specs.FreshParts.{columns_table, fresh_pool, fresh_stored, tables_table, validation_table}
 use Rattle.msi_database.proofs.ChangingLemmas.{streams_stored}
@@ -45,12 +45,14 @@ kept_parts : (k : Kept) (tables : List TableDef) → IsKeptDatabase k → is_sou
     → AreParts k k.database.pool tables k.streams
 kept_parts k tables kept sound listed as_long =
     let made : database_kept k.database.pool tables k.streams ≡ k.database = parts_make k.streams k.database tables kept.spelled listed in
-    let same : kept_of k.database.pool tables k.streams ≡ k = λ i. record { database = made i; streams = k.streams } in
-    (same, record {
-      kept = subst IsKeptDatabase (sym same) kept;
-      as_long = as_long;
-      known = sym (ap is_sound made ∙ sound);
-    })
+    let same : kept_of k.database.pool tables k.streams ≡ k = λ i. record { database = made i; streams = k.streams } in (
+      same,
+      record {
+        kept = subst IsKeptDatabase (sym same) kept;
+        as_long = as_long;
+        known = sym (ap is_sound made ∙ sound);
+      },
+    )
 
 -- BY COMPUTATION
 

@@ -1,5 +1,5 @@
 -- The calls of a new database, one after the other, make the streams and the pool of `fresh`.
-use Rattle.std.proofs.Common.{◌≡◌, ℕ, Bool, true, false, List, [], ◌∷◌, length, Option, Some, refl, sym, ap, ap₂, subst, ◌∙◌}
+use Rattle.std.proofs.Common.{◌≡◌, true, false, List, [], ◌∷◌, length, Some, refl, sym, ap, ap₂, subst, ◌∙◌}
 use Rattle.std.specs.Prelude.{IsTrue, unwrap_or}
 use Rattle.msi_compound.specs.Names.{is_name_length}
 use Rattle.msi_text.specs.Pool.{Pool}
@@ -7,8 +7,8 @@ use Rattle.msi_table.specs.declared.value.Value.{Value}
 use Rattle.msi_table.specs.Columns.{ColumnDef, TableDef}
 use Rattle.msi_schema.specs.Description.{column_rows, have_short_lengths, tables_row, validation_rows}
 use Rattle.msi_schema.specs.Keys.{table_key}
-use Rattle.msi_schema.specs.System.{validation_columns, validation_name}
-use Rattle.msi_changes.specs.Changes.{Change, PoolInUse, no_change, pool_of}
+use Rattle.msi_schema.specs.System.{validation_name}
+use Rattle.msi_changes.specs.Changes.{PoolInUse, no_change, pool_of}
 use Rattle.msi_changes.specs.Create.{described_by_rows}
 use Rattle.msi_changes.specs.Insert.{cells_added}
 use Rattle.msi_changes.specs.Texts.{UsedPool, in_use}

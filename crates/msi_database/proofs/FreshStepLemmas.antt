@@ -1,12 +1,11 @@
 -- The steps of a new database by computation: each system table can be given the rows that describe `_Validation`.
-use Rattle.std.proofs.Common.{◌≡◌, ℕ, ◌≤◌, Bool, true, false, List, [], ◌∷◌, length, Some, refl, lit≤}
+use Rattle.std.proofs.Common.{◌≡◌, true, false, List, [], length, Some, refl}
 use Rattle.std.specs.Prelude.{IsTrue}
 use Rattle.msi_compound.specs.Names.{is_name_length}
 use Rattle.msi_table.specs.declared.value.Value.{Value}
-use Rattle.msi_table.specs.Columns.{most_columns}
 use Rattle.msi_schema.specs.Description.{column_rows, have_short_lengths, validation_rows}
 use Rattle.msi_schema.specs.Keys.{table_key}
-use Rattle.msi_schema.specs.System.{columns_columns, columns_name, tables_columns, tables_name, validation_columns, validation_name}
+use Rattle.msi_schema.specs.System.{columns_name, tables_name, validation_columns, validation_name}
 use Rattle.msi_changes.specs.Database.{Database, table_at}
 use Rattle.msi_changes.specs.Changes.{PoolInUse, no_change, pool_of}
 use Rattle.msi_changes.specs.Insert.{cells_added}
