@@ -5,6 +5,7 @@ mod changing;
 pub mod database;
 mod decoding;
 pub mod laws;
+mod reading;
 mod reasons;
 mod rows;
 mod soundness;
