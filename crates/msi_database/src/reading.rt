@@ -1,6 +1,6 @@
 //! A database read of its pool and the streams of a container's root.
 
-ghost use Rattle.std.specs.Prelude.{◌≡◌, ◌∷◌, [], ◌≤◌, Bool, IfErr, IfOk, OnOk, Some, false, if◌then◌else◌, is_some, length, map, replicate};
+ghost use Rattle.std.specs.Prelude.{◌≡◌, ◌∷◌, [], ◌<◌, ◌≤◌, All, Bool, IfErr, IfOk, OnOk, Some, false, if◌then◌else◌, is_some, length, map, replicate};
 ghost use Rattle.std.specs.FinMap.{entries};
 ghost use Rattle.msi_text.specs.ErrorKind.TheVariants.{InvalidData};
 ghost use Rattle.msi_text.specs.Results.{OnlyMemory};
@@ -159,6 +159,11 @@ fn with_named_texts(
     Ok(pool)
 }
 
+/// A byte is below 256.
+fn look_at_bytes(bytes: &[u8])
+    ensures { All (λ b. b < 256) bytes.now }
+{}
+
 /// Goes over streams: each has a name that a container can hold, and bytes.
 fn look_at(streams: &StreamMap)
     ensures names { HaveNames (entries streams.now) }
@@ -166,7 +171,7 @@ fn look_at(streams: &StreamMap)
 {
     for (name, bytes) in streams.iter() {
         let _units = name.units();
-        let _bytes = bytes.as_slice();
+        look_at_bytes(bytes.as_slice());
     }
 }
 
