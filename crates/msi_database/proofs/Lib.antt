@@ -44,3 +44,5 @@ pub mod TableCallLemmas
 pub mod RowCallLemmas
 pub mod ReadingLemmas
 pub mod MarkLemmas
+pub mod ShownTextLemmas
+pub mod ReadWholeLemmas

@@ -148,6 +148,13 @@ no_validation None columns = refl
 no_validation (Some t) None = refl
 no_validation (Some t) (Some c) = refl
 
+-- two pools by which rows have the same values
+pub schema_same : (streams : Streams) (pool other : Pool) → described_by streams pool tables_columns tables_name ≡ described_by streams other tables_columns tables_name
+    → described_by streams pool columns_columns columns_name ≡ described_by streams other columns_columns columns_name
+    → described_by streams pool validation_columns validation_name ≡ described_by streams other validation_columns validation_name → schema_in streams pool ≡ schema_in streams other
+unfolding joined
+schema_same streams pool other t c v = λ i. option_and_then schema_of (joined (t i) (c i) (v i))
+
 module _ (streams : Streams) (raw : Pool) where
   pub without_tables : described_by streams raw tables_columns tables_name ≡ None → schema_in streams raw ≡ None
   unfolding joined
