@@ -2,12 +2,17 @@
 use Rattle.std.proofs.Common.{◌≡◌, ℕ, ◌≤◌, Bool, true, false, ◌||◌, ◌==◌, List, [], ◌∷◌, ◌++◌, map, length, Option, Some, None, is_some, unwrap_or, refl, sym, ap, subst, ◌∙◌}
 use Rattle.std.specs.Prelude.{T, if◌then◌else◌}
 use Rattle.std.specs.List.{list_any}
-use Rattle.std.specs.FinMap.{is_sorted}
+use Rattle.std.specs.FinMap.{entries, entries_sorted, is_sorted}
 use Rattle.std.proofs.lemmas.List.Folds.{list_any-append}
 use Rattle.msi_compound.specs.Names.{name_cmp}
+use Rattle.msi_compound.specs.Streams as maps
+use Rattle.msi_text.specs.ErrorKind.{ErrorKind}
+use Rattle.msi_text.specs.ErrorKind.TheVariants.{InvalidData}
 use Rattle.msi_text.specs.Pool.{CountsFit, Place, Pool, with_named_texts}
 use Rattle.msi_table.specs.declared.value.ValueRef.{ValueRef}
-use Rattle.msi_table.specs.Columns.{TableDef}
+use Rattle.msi_table.specs.Columns.{ColumnDef, TableDef}
+use Rattle.msi_relation.specs.Refusals.{IsRefusal, or_refused}
+use Rattle.msi_schema.specs.Schema.{table_with}
 use Rattle.msi_schema.specs.System.{validation_columns, validation_name}
 use Rattle.msi_changes.specs.Database.{Database, is_sound, names_are_numbers, numbers_of_rows}
 use Rattle.msi_database.specs.Streams.{Streams, stored_rows}
@@ -19,6 +24,7 @@ use Rattle.msi_database.specs.Reading.{IsDatabaseOf, numbers_named, numbers_of_t
 use Rattle.msi_database.proofs.FitLemmas.{well_formed}
 use Rattle.msi_database.proofs.KeptLawLemmas.{read_is_kept}
 use Rattle.msi_database.proofs.PartsLemmas.{parts_spelled}
+use Rattle.msi_database.proofs.ReadingLemmas.{refused_from, without_validation}
 use Rattle.msi_database.proofs.SchemaLemmas.{tables_sorted}
 use Rattle.msi_database.proofs.ShownTextLemmas.{schema_by_raw}
 
@@ -95,3 +101,34 @@ module _ (raw : Pool) (tables : List TableDef) (streams : Streams) (rows : List 
   pub read_unlisted : (new : Pool) → new ≡ shown → (if is_some (table_kept_at validation_name tables) then [] else rows) ≡ unlisted_kept streams new.long tables
   read_unlisted new e = subst (λ (p : Pool). (if is_some (table_kept_at validation_name tables) then [] else rows) ≡ unlisted_kept streams p.long tables) (sym e)
       (ap (λ (o : Option (List (List ValueRef))). if is_some (table_kept_at validation_name tables) then [] else unwrap_or o []) (sym h.stored))
+
+-- THE STANDARD COLUMNS OF `_Validation`
+
+pub standard_is : (standard : TableDef) (wide long : Bool) (columns : List ColumnDef) → standard ≡ table_with wide (validation_name, columns) → wide ≡ long → columns ≡ validation_columns
+    → standard ≡ table_with long (validation_name, validation_columns)
+standard_is standard wide long columns is w c = is ∙ (λ i. table_with (w i) (validation_name, c i))
+
+pub standard_stored : (streams : Streams) (standard : TableDef) (long : Bool) → standard ≡ table_with long (validation_name, validation_columns)
+    → stored_rows streams long validation_columns validation_name ≡ stored_rows streams standard.long standard.columns standard.name
+standard_stored streams standard long is = ap (λ (t : TableDef). stored_rows streams t.long t.columns t.name) (sym is)
+
+-- where the stream of `_Validation` can't be read, nothing is described
+pub unread_refused : (streams : Streams) (raw : Pool) (standard : TableDef) (kind : ErrorKind) → standard ≡ table_with raw.long (validation_name, validation_columns)
+    → IsRefusal (or_refused InvalidData (stored_rows streams standard.long standard.columns standard.name)) kind → IsRefusal (or_refused InvalidData (schema_in streams raw)) kind
+unread_refused streams raw standard kind is e = refused_from (stored_rows streams standard.long standard.columns standard.name) (schema_in streams raw) kind
+    (λ none. without_validation streams raw (standard_stored streams standard raw.long is ∙ none)) e
+
+pub reads_by : (raw : Pool) (m : maps.Streams) (tables listed : List TableDef) (rows : List (List ValueRef)) (standard : TableDef) → HaveNames (entries m) → HoldBytes (entries m)
+    → length raw.places ≤ 16777215 → CountsFit raw.places → standard ≡ table_with raw.long (validation_name, validation_columns)
+    → stored_rows (entries m) standard.long standard.columns standard.name ≡ Some rows → listed ≡ tables → AreAsLong raw.long tables → schema_in (entries m) raw ≡ Some (schema_listed tables)
+    → Reads raw listed (entries m) rows
+reads_by raw m tables listed rows standard names held few counts is stored same as_long schema = record {
+  in_order = entries_sorted m;
+  names = names;
+  held = held;
+  few = few;
+  counts = counts;
+  as_long = subst (AreAsLong raw.long) (sym same) as_long;
+  stored = standard_stored (entries m) standard raw.long is ∙ stored;
+  schema = schema ∙ ap (λ (ts : List TableDef). Some (schema_listed ts)) (sym same);
+}
