@@ -13,3 +13,4 @@ pub mod OwnStreams
 pub mod Others
 pub mod Fresh
 pub mod FreshParts
+pub mod Reading

@@ -8,6 +8,7 @@ mod dropping;
 mod fresh;
 pub mod laws;
 pub mod others;
+mod reading;
 mod reasons;
 mod rows;
 mod soundness;
