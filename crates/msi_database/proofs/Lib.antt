@@ -45,3 +45,11 @@ pub mod RowCallLemmas
 pub mod InsertCallLemmas
 pub mod OtherLemmas
 pub mod DroppingCallLemmas
+pub mod FreshCallLemmas
+pub mod FreshStepLemmas
+pub mod FreshMadeLemmas
+pub mod FreshKeptLemmas
+pub mod ReadingLemmas
+pub mod MarkLemmas
+pub mod ShownTextLemmas
+pub mod ReadWholeLemmas

@@ -12,3 +12,5 @@ pub mod Dropping
 pub mod OwnStreams
 pub mod Others
 pub mod Fresh
+pub mod FreshParts
+pub mod Reading
