@@ -1,0 +1,10 @@
+//! The binary streams of a package as readers and writers.
+#![tactic(auto)]
+
+pub mod reader;
+mod reasons;
+mod seeking;
+pub mod writer;
+
+pub use reader::StreamReader;
+pub use writer::{OpenStream, StreamWriter};
