@@ -1,1 +1,4 @@
 -- The lemmas of this crate.
+pub mod CursorLemmas
+pub mod DeskLemmas
+pub mod NameLemmas

@@ -1,7 +1,6 @@
 -- The streams beside its tables that a package lists, by the units of their names in the container.
-use Rattle.std.specs.Prelude.{◌≡◌, ℕ, ◌<◌, Bool, not, ◌||◌, List, [], ◌∷◌, map, filter, length, bytes_eq, encode_utf8_all, string_bytes, Option, Some, None, Result, Ok, Err}
+use Rattle.std.specs.Prelude.{◌≡◌, ℕ, ◌<◌, Bool, not, ◌||◌, List, [], ◌∷◌, map, filter, length, bytes_eq, encode_utf8_all, string_bytes, Option, Some, None, Result, Ok, Err, String}
 use Rattle.std.specs.Char.Utf16.{utf16_lossy_chars}
-use Rattle.std.specs.declared.string.String.{String}
 use Rattle.msi_text.specs.ErrorKind.{ErrorKind}
 use Rattle.msi_text.specs.ErrorKind.TheVariants.{OutOfMemory}
 use Rattle.msi_compound.specs.StreamNames.{decoded_name, is_marked}
@@ -24,7 +23,7 @@ abbrev pub listed_names : List (List ℕ) → List (List ℕ)
 listed_names names = map text_of_key (filter is_listed names)
 
 -- The first name is given and the others are left; or, where memory is refused, none is left; or there was none.
-abbrev pub GivesName : List (List ℕ) → Option (Result String ErrorKind) → List (List ℕ) → Type 0
+abbrev pub GivesName : {Z : Type 0} → List (List ℕ) → Option (Result (String Z) ErrorKind) → List (List ℕ) → Type 0
 GivesName before None after = (before ≡ []) × (after ≡ [])
 GivesName before (Some (Ok name)) after = before ≡ string_bytes name ∷ after
 GivesName before (Some (Err kind)) after = (kind ≡ OutOfMemory) × (0 < length before) × (after ≡ [])

@@ -63,6 +63,16 @@ fn settle(
     }
 }
 
+/// The bytes of the stream of a name, if there is one.
+fn bytes_of<'a>(streams: &'a StreamMap, name: &Name) -> Option<&'a [u8]>
+    ensures { option_copied result ≡ finite.get streams.now name.now }
+{
+    match streams.get(name) {
+        Some(bytes) => Some(bytes.as_slice()),
+        None => None,
+    }
+}
+
 impl Desk {
     /// These streams, of which none lies open. It takes no memory.
     pub fn new(alloc: Global, streams: StreamMap) -> Desk
@@ -103,8 +113,14 @@ impl Desk {
         ensures { option_copied result ≡ finite.get self.now name.now }
     {
         match &self.name {
-            Some(open) if name == open => Some(self.current.as_slice()),
-            _ => self.streams.get(name).map(Bytes::as_slice),
+            Some(open) => {
+                if name == open {
+                    Some(self.current.as_slice())
+                } else {
+                    bytes_of(&self.streams, name)
+                }
+            }
+            None => bytes_of(&self.streams, name),
         }
     }
 
@@ -160,14 +176,13 @@ impl Desk {
     pub fn into_streams(self) -> StreamMap
         ensures { result ≡ self }
     {
-        let mut desk = self;
-        desk.settle();
         let Desk {
-            alloc: _,
-            streams,
-            name: _,
-            current: _,
-        } = desk;
+            alloc,
+            mut streams,
+            mut name,
+            mut current,
+        } = self;
+        settle(alloc, &mut streams, &mut name, &mut current);
         streams
     }
 }
