@@ -2,3 +2,5 @@
 pub mod CursorLemmas
 pub mod DeskLemmas
 pub mod NameLemmas
+pub mod CursorRows
+pub mod ListingRows
