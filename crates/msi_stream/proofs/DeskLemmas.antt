@@ -30,12 +30,10 @@ put_twice m k v w = same_map names_total exact_names _ _ (λ q.
     ∙ twice (eq_by_cmp name_cmp q k) (Some v) (Some w) (get m q)
     ∙ sym (get-insert names_total m k w q))
 
--- What the streams are when the one that lay open was put back and this one was opened, with w left in it.
-pub opened : (m settled_now made old : Streams) (name key bytes w : List ℕ) → settled_now ≡ m → made ≡ insert settled_now key bytes → key ≡ name
-    → m ≡ old → insert made name w ≡ insert old name w
-opened m settled_now made old name key bytes w e f g h =
-    ap (λ (a : Streams). insert a name w) (f ∙ ap (λ (k : List ℕ). insert settled_now k bytes) g)
-    ∙ put_twice settled_now name bytes w ∙ ap (λ (a : Streams). insert a name w) (e ∙ h)
+-- a stream that is made and then written is what was written
+pub made_and_written : (old made : Streams) (name key w : List ℕ) → made ≡ insert old key [] → key ≡ name → insert made name w ≡ insert old name w
+made_and_written old made name key w is same =
+    ap (λ (m : Streams). insert m name w) (is ∙ ap (λ (k : List ℕ). insert old k []) same) ∙ put_twice old name [] w
 
 -- what is lent ends alike where its values do
 pub lent_same : {G L R : Type 0} {g : G} {f h : L → R} → ((w : L) → f w ≡ h w) → ◌≡◌ {A = (G × (L → R)) ⊎ R} (inl (g, f)) (inl (g, h))

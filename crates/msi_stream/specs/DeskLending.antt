@@ -13,6 +13,10 @@ use Rattle.msi_stream.specs.contracts.writer.OpenStream as stream
 abbrev pub LendsOpen : List ℕ → MutBor Streams → Result (MutBor Cursor) ErrorKind → Fml
 LendsOpen name s r = LendsIfOk desk.the_row stream.the_row s r (λ (left : Cursor). insert s.now name left.bytes) s.now
 
+-- the same of a stream that is there
+abbrev pub LendsThere : List ℕ → MutBor Streams → MutBor Cursor → Fml
+LendsThere name s r = Lends desk.the_row stream.the_row s r (λ (left : Cursor). insert s.now name left.bytes)
+
 -- the streams end as those that were left
 abbrev pub LendsSettled : MutBor Streams → MutBor Streams → Fml
 LendsSettled s r = Lends desk.the_row map.the_row s r (λ (left : Streams). left)

@@ -1,13 +1,13 @@
 //! The streams of a container, of which one may lie open.
 
-ghost use Rattle.std.specs.Prelude.{◌≡◌, [], IfOk, IfSome, None, true};
+ghost use Rattle.std.specs.Prelude.{◌≡◌, [], IfOk, IfSome, None, OnErr, OnOk, true};
 ghost use Rattle.std.specs.Borrow.{sem};
 ghost use Rattle.std.specs.FinMap as finite;
 ghost use Rattle.std.specs.Option.{option_copied};
 ghost use Rattle.msi_text.specs.Results.{OnlyMemory};
 ghost use Rattle.msi_stream.specs.Cursor.{at_start};
 ghost use Rattle.msi_stream.specs.Desk.{settled};
-ghost use Rattle.msi_stream.specs.DeskLending.{LendsOpen, LendsSettled};
+ghost use Rattle.msi_stream.specs.DeskLending.{LendsOpen, LendsSettled, LendsThere};
 ghost use Rattle.msi_stream.specs.Listing.{listed_names};
 
 use crate::names::Streams;
@@ -95,17 +95,41 @@ impl Desk {
         ensures start { IfOk result (λ writer. writer.now ≡ at_start []) }
         ensures kind { OnlyMemory result }
     {
+        self.make_stream(name.duplicate())?;
+        Ok(self.open_stream(name))
+    }
+
+    /// Makes the stream of a name, or empties it.
+    ///
+    /// # Errors
+    /// `OutOfMemory`; then nothing is changed.
+    pub fn make_stream(&mut self, name: Name) -> Result<(), Error>
+        ensures ok { OnOk result (self.new ≡ finite.insert self.old name []) }
+        ensures there { OnOk result (finite.contains_key self.new name ≡ true) }
+        ensures err { OnErr result (self.new ≡ self.old) }
+        ensures kind { OnlyMemory result }
+    {
+        let empty = Bytes::from_vec(Vec::new(self.alloc));
+        self.settled().insert(name, empty)?;
+        Ok(())
+    }
+
+    /// Empties a stream that is there, and lends it for writing from its first byte on. It takes no memory: who has more
+    /// to do once a stream is made, as [`Desk::write_stream`] makes it, does that before it is lent.
+    pub fn open_stream(&mut self, name: Name) -> StreamWriter<'_>
+        requires { finite.contains_key self.old name ≡ true }
+        ensures* writes_back { sem 𝓛 (LendsThere name self.entry result) }
+        ensures start { result.now ≡ at_start [] }
+    {
         settle(
             self.alloc,
             &mut self.streams,
             &mut self.name,
             &mut self.current,
         );
-        let empty = Bytes::from_vec(Vec::new(self.alloc));
-        self.streams.insert(name.duplicate(), empty)?;
         self.name = Some(name);
         self.current = OpenStream::new(self.alloc);
-        Ok(&mut self.current)
+        &mut self.current
     }
 
     /// The bytes of the stream of a name, if there is one. It takes no memory.

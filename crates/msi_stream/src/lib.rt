@@ -2,6 +2,7 @@
 #![tactic(auto)]
 
 pub mod desk;
+pub mod faults;
 pub mod names;
 pub mod reader;
 mod reasons;
