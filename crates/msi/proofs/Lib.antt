@@ -6,3 +6,4 @@ pub mod OtherStreamLemmas
 pub mod SummarySetLemmas
 pub mod AgreementLemmas
 pub mod PoolLemmas
+pub mod PackageLemmas
