@@ -1,6 +1,6 @@
 -- A new table among others, and the streams of the system tables that describe it.
-use Rattle.std.proofs.Common.{◌≡◌, ℕ, suc, ◌+◌, Bool, true, false, not, List, [], ◌∷◌, ◌++◌, take, drop, Err, refl, sym, ap, arith}
-use Rattle.std.specs.Prelude.{IsTrue, if◌then◌else◌}
+use Rattle.std.proofs.Common.{◌≡◌, ℕ, suc, ◌+◌, Bool, true, false, not, Result, Ok, List, [], ◌∷◌, ◌++◌, take, drop, Err, refl, sym, ap, ◌∙◌, append_assoc, arith}
+use Rattle.std.specs.Prelude.{IsErrAnd, IsTrue, if◌then◌else◌}
 use Rattle.std.specs.List.{AllByRecursion, list_all, prefix_len}
 use Rattle.std.specs.Ordering.{is_lt}
 use Rattle.std.proofs.lemmas.Bool.{lt-ltb}
@@ -41,8 +41,22 @@ module _ (t : TableDef) where
   put_in_place [] = refl
   put_in_place (u ∷ us) = put_by u us (prefix_len is_less us) (put_in_place us) (is_less u)
 
+  -- the same of copies of both parts
+  pub copied_in_place : (tables : List TableDef) (i : ℕ) (name : List ℕ) → name ≡ t.name → i ≡ prefix_len (λ u. is_lt (list_cmp u.name name)) tables → (none some more all : List TableDef)
+      → none ≡ [] → some ≡ none ++ take i tables → more ≡ some ++ t ∷ [] → all ≡ more ++ drop i tables → all ≡ with_table_kept t tables
+  copied_in_place tables i name named is none some more all empty before new behind =
+      let place : i ≡ prefix_len is_less tables = is ∙ ap (λ (n : List ℕ). prefix_len (λ u. is_lt (list_cmp u.name n)) tables) named in
+      behind ∙ ap (λ (l : List TableDef). l ++ drop i tables) (new ∙ ap (λ (l : List TableDef). l ++ t ∷ []) (before ∙ ap (λ (l : List TableDef). l ++ take i tables) empty))
+      ∙ append_assoc (take i tables) (t ∷ []) (drop i tables)
+      ∙ ap (λ (i : ℕ). take i tables ++ t ∷ drop i tables) place ∙ sym (put_in_place tables)
+
 -- A REFUSAL BEHIND A TEST THAT PASSED, AND BEFORE OTHERS
 
-pub refused_behind_sound : (b : Bool) (kind : ErrorKind) (rs ss : Refusals) (k : ErrorKind) → b ≡ true → Err k ≡ unless_refused {A = Unit {0}} rs tt → Err k ≡ unless_refused {A = Unit {0}} ((not b, kind) ∷ rs ++ ss) tt
-refused_behind_sound b kind rs ss k sound e =
-    sym (first_refused ((not b, kind) ∷ rs ++ ss) tt k (rw sound (front_holds rs ss k (refused_first rs tt k (sym e)))))
+pub error_passed : {A : Type 0} (r : Result A ErrorKind) (k : ErrorKind) → IsErrAnd r (λ e. e ≡ k) → r ≡ Err k
+error_passed (Ok x) k h = absurd h
+error_passed (Err l) k h = ap Err h
+
+pub refused_behind_sound : (b : Bool) (kind : ErrorKind) (rs ss : Refusals) (k : ErrorKind) (x : Unit {0}) → Ok x ≡ unless_refused ((not b, kind) ∷ []) tt → Err k ≡ unless_refused {A = Unit {0}} rs tt
+    → Err k ≡ unless_refused {A = Unit {0}} ((not b, kind) ∷ rs ++ ss) tt
+refused_behind_sound true kind rs ss k x passed e = sym (first_refused (rs ++ ss) tt k (front_holds rs ss k (refused_first rs tt k (sym e))))
+refused_behind_sound false kind rs ss k x passed e = absurd cc
