@@ -53,3 +53,5 @@ pub mod ReadingLemmas
 pub mod MarkLemmas
 pub mod ShownTextLemmas
 pub mod ReadWholeLemmas
+pub mod CreatingLemmas
+pub mod CreatingCallLemmas

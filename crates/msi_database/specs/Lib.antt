@@ -14,3 +14,4 @@ pub mod Others
 pub mod Fresh
 pub mod FreshParts
 pub mod Reading
+pub mod Creating

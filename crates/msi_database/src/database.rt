@@ -9,6 +9,7 @@ ghost use Rattle.msi_relation.specs.Rows.{relation_values, whole_table};
 ghost use Rattle.msi_relation.specs.Selection.{relation_of};
 ghost use Rattle.msi_changes.specs.Changes.{sound_refusal};
 ghost use Rattle.msi_changes.specs.Database.{has_table as has_one, is_sound as is_sound_one, table_at, values_of};
+ghost use Rattle.msi_database.specs.Keeping.{IsKeptDatabase};
 ghost use Rattle.msi_database.specs.Kept.{table_kept_at};
 ghost use Rattle.msi_database.specs.Listed.{table_def_at, tables_listed, with_page};
 ghost use Rattle.msi_database.specs.Streams.{stored_rows as rows_stored};
@@ -97,6 +98,13 @@ impl Database {
         ensures { result.now ≡ tables_listed self.now.database }
     {
         self.tables.as_slice()
+    }
+
+    /// Tells what every database keeps to, sound or not: its streams spell it. It does nothing.
+    pub fn kept(&self)
+        ensures { IsKeptDatabase self.now }
+    {
+        let _is_sound = self.is_sound;
     }
 
     /// Refuses a change of a database that isn't sound.
