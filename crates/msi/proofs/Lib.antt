@@ -7,3 +7,5 @@ pub mod SummarySetLemmas
 pub mod AgreementLemmas
 pub mod PoolLemmas
 pub mod PackageLemmas
+pub mod FlushLemmas
+pub mod MeaningLemmas
