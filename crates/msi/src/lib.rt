@@ -3,5 +3,8 @@
 
 pub mod kinds;
 pub mod laws;
+pub mod package;
+mod reasons;
 
 pub use kinds::PackageType;
+pub use package::Package;

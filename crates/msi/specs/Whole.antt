@@ -1,0 +1,58 @@
+-- A package over a device, as contracts see it.
+use Rattle.std.specs.Prelude.{◌≡◌, ◌×◌, ℕ, Bool, true, List, Option, Some, None, Result, Ok, Err, IfSome}
+use Rattle.msi_text.specs.ErrorKind.{ErrorKind}
+use Rattle.msi_device.specs.Held.{Held}
+use Rattle.msi_summary.specs.Properties.{Properties}
+use Rattle.msi_schema.specs.Keys.{is_stream_name, stream_key}
+use Rattle.msi_changes.specs.Database.{is_sound}
+use Rattle.msi_changes.specs.Changes.{Change}
+use Rattle.msi_database.specs.Kept.{Kept}
+use Rattle.msi_database.specs.Others.{with_streams}
+use Rattle.msi_database.specs.Streams.{has_stream_at, with_stream}
+use Rattle.msi.specs.declared.kinds.PackageType.{PackageType}
+use Rattle.msi.specs.State.{State}
+use Rattle.msi.specs.Steps.{after_change}
+
+-- its state, what the device holds where that tells it, and whether a call of the device failed
+pub record Whole : Type 0 where
+  pub state : State
+  pub held : Option Held
+  pub failed : Bool
+
+-- another state over the same device
+abbrev pub with_state : State → Whole → Whole
+with_state s w = record w { state = s }
+
+-- The parts of a state: the stream that lies open stands over the one that is kept
+abbrev pub with_open : Option (List ℕ) → List ℕ → Kept → Kept
+with_open None bytes k = k
+with_open (Some name) bytes k = with_streams (with_stream name bytes) k
+
+abbrev pub state_of : PackageType → Properties → Kept → Bool → Bool → Bool → Bool → State
+state_of kind summary kept has_storages is_unwritten is_summary_lent is_pool_changed = record {
+  kind = kind;
+  summary = summary;
+  kept = kept;
+  has_storages = has_storages;
+  is_unwritten = is_unwritten;
+  is_summary_lent = is_summary_lent;
+  is_pool_changed = is_pool_changed;
+}
+
+-- a user's stream that is there
+pub record IsOpen (k : Kept) (name : List ℕ) : Type 0 where
+  pub text : List ℕ
+  pub accepted : is_stream_name text ≡ true
+  pub named : name ≡ stream_key text
+  pub there : has_stream_at name k.streams ≡ true
+
+-- What holds between calls: the stream that lies open is a user's and there, and only a sound database has changed its
+-- pool
+pub record IsHeld (k : Kept) (open : Option (List ℕ)) (is_pool_changed : Bool) : Type 0 where
+  pub open : IfSome open (IsOpen k)
+  pub changed : is_pool_changed ≡ true → is_sound k.database ≡ true
+
+-- what an accepted change leaves
+abbrev pub Leaves : Whole → Result Change ErrorKind → Whole → Type 0
+Leaves old (Ok c) new = new ≡ with_state (after_change old.state c) old
+Leaves old (Err kind) new = ⊥

@@ -1,0 +1,145 @@
+//! Packages over a source or a device.
+
+ghost use Rattle.std.specs.Prelude.{◌≡◌, None, Some, IfOk, IfErr, OnErr, OnOk};
+ghost use Rattle.std.specs.Option.{option_copied};
+ghost use Rattle.msi_table.specs.Rows.{AreAsWide};
+ghost use Rattle.msi_relation.specs.Refusals.{IsRefusal, unless_refused};
+ghost use Rattle.msi_relation.specs.Rows.{relation_values};
+ghost use Rattle.msi_relation.specs.Selection.{relation_of};
+ghost use Rattle.msi_changes.specs.Changes.{sound_refusal};
+ghost use Rattle.msi_changes.specs.Create.{create_table};
+ghost use Rattle.msi_changes.specs.Database.{has_table as has_one, values_of};
+ghost use Rattle.msi_changes.specs.Delete.{delete_rows};
+ghost use Rattle.msi_changes.specs.Drop.{drop_table};
+ghost use Rattle.msi_changes.specs.Insert.{insert_rows};
+ghost use Rattle.msi_changes.specs.Update.{update_rows};
+ghost use Rattle.msi_database.specs.Listed.{table_def_at, tables_listed};
+ghost use Rattle.msi.specs.State.{parts_of};
+ghost use Rattle.msi.specs.Steps.{changing, storage_refusal, with_page};
+ghost use Rattle.msi.specs.Whole.{Leaves, with_state};
+
+use crate::kinds::PackageType;
+use crate::reasons;
+use msi_compound::name::Name;
+use msi_database::Database;
+use msi_device::Source;
+use msi_query::{Delete, Insert, Select, Update};
+use msi_relation::Relation;
+use msi_stream::OpenStream;
+use msi_summary::SummaryInfo;
+use msi_table::Table;
+use msi_table::column::Column;
+use msi_text::codepage::CodePage;
+use msi_text::errors::{Error, ErrorKind};
+use msi_text::text::Items;
+use std::alloc::Global;
+use std::marker::Model;
+
+/// A package over a source, or over a device. It holds what the file held, and what was changed since; the file is
+/// written by `flush` alone.
+#[derive(Drop)]
+pub struct Package<F: Source> {
+    pub(crate) device: F,
+    pub(crate) alloc: Global,
+    pub(crate) kind: PackageType,
+    pub(crate) summary: SummaryInfo,
+    pub(crate) database: Database,
+    pub(crate) open: Option<Name>,
+    pub(crate) current: OpenStream,
+    pub(crate) has_storages: bool,
+    pub(crate) is_unwritten: bool,
+    pub(crate) is_summary_lent: bool,
+    pub(crate) is_pool_changed: bool,
+}
+
+impl<F: Source> Model for Package<F> {
+    ghost use Rattle.msi.specs.Whole.{IsHeld, Whole, state_of, with_open};
+
+    ghost Value = { Whole };
+
+    ghost view = { λ p. record {
+      state = state_of p.kind p.summary (with_open p.open p.current.bytes p.database)
+          p.has_storages p.is_unwritten p.is_summary_lent p.is_pool_changed;
+      held = F.held p.device;
+      failed = F.failed p.device;
+    } };
+
+    ghost invariant = { λ p. IsHeld p.database p.open p.is_pool_changed };
+}
+
+impl<F: Source> Package<F> {
+    /// What the package is for.
+    pub fn package_type(&self) -> PackageType
+        ensures { result ≡ self.now.state.kind }
+    {
+        self.kind
+    }
+
+    /// The page in which the texts of the database are written.
+    pub fn database_codepage(&self) -> CodePage
+        ensures { result ≡ self.now.state.kept.database.pool.page }
+    {
+        self.database.codepage()
+    }
+
+    /// Whether there is a table of this name.
+    pub fn has_table(&self, name: &str) -> bool
+        ensures { result ≡ has_one name.now self.now.state.kept.database }
+    {
+        self.database.has_table(name)
+    }
+
+    /// The table of this name.
+    pub fn get_table(&self, name: &str) -> Option<&Table>
+        ensures { option_copied result ≡ table_def_at name.now self.now.state.kept.database }
+    {
+        self.database.get_table(name)
+    }
+
+    /// The tables, by name.
+    pub fn tables(&self) -> &[Table]
+        ensures { result.now ≡ tables_listed self.now.state.kept.database }
+    {
+        self.database.tables()
+    }
+
+    /// Whether a call of the device failed since the flag was last cleared, which a call of the package does before its
+    /// first call of the device.
+    pub fn device_failed(&self) -> bool
+        ensures { result ≡ self.now.failed }
+    {
+        self.device.failed()
+    }
+
+    /// The device. Nothing is written. It takes no memory.
+    pub fn into_reader(self) -> F
+        ensures held { F.held result ≡ self.held }
+        ensures failed { F.failed result ≡ self.failed }
+    {
+        let Package { device, .. } = self;
+        device
+    }
+
+    /// The summary.
+    pub fn summary_info(&self) -> &SummaryInfo
+        ensures { result.now ≡ self.now.state.summary }
+    {
+        &self.summary
+    }
+
+    /// What a query selects.
+    ///
+    /// # Errors
+    /// The first that holds, for a join those of the left query, then those of the right: `NotFound` where a table
+    /// isn't there, `InvalidData` where it can't be read; then `InvalidInput` where a column isn't there, in a join's
+    /// condition, then one that is to be kept, then in the condition. Where none holds, `OutOfMemory`, which also may
+    /// come before.
+    pub fn select(&self, query: &Select) -> Result<Relation, Error>
+        ensures ok { IfOk result (λ relation. relation_of (values_of self.now.state.kept.database) query.now
+            ≡ Ok (relation_values self.now.state.kept.database.pool.places relation)) }
+        ensures wide { IfOk result (λ relation. AreAsWide relation.columns relation.rows) }
+        ensures kind { IfErr result (IsRefusal (relation_of (values_of self.now.state.kept.database) query.now)) }
+    {
+        self.database.select(self.alloc, query)
+    }
+}

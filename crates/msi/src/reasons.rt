@@ -1,0 +1,15 @@
+//! Why a call is refused: a sentence for each rule.
+
+use msi_text::Reason;
+
+pub(crate) const STORAGES: Reason = Reason("the package has storages below its root, and is only read");
+
+pub(crate) const STREAM_NAME: Reason = Reason("no stream may have this name");
+
+pub(crate) const NO_STREAM: Reason = Reason("there is no stream of this name");
+
+pub(crate) const NO_KIND: Reason = Reason("the root's CLSID is that of no package");
+
+pub(crate) const NO_SUMMARY: Reason = Reason("the summary's stream is missing");
+
+pub(crate) const NO_POOL: Reason = Reason("a stream of the string pool is missing");
