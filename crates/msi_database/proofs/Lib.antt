@@ -42,3 +42,4 @@ pub mod CanStoreLemmas
 pub mod StorableLemmas
 pub mod TableCallLemmas
 pub mod RowCallLemmas
+pub mod InsertCallLemmas

@@ -32,7 +32,7 @@ use Rattle.msi_database.specs.Storing.{stored_all, stored_in}
 use Rattle.msi_database.specs.Kept.{Kept, kept_of, after_change}
 use Rattle.msi_database.specs.Keeping.{AreKept, AreParts}
 use Rattle.msi_database.specs.Listed.{IsKnown, table_def_at, tables_listed}
-use Rattle.msi_database.specs.Making.{Leaves, Makes, MakesRows}
+use Rattle.msi_database.specs.Making.{Leaves, Makes, MakesRows, TellsUse}
 use Rattle.msi_database.proofs.MapLemmas as found
 use Rattle.msi_database.proofs.StreamLemmas.{list_cmp_total, list_cmp_exact}
 use Rattle.msi_database.proofs.KeyLemmas.{table_key_is_name}
@@ -166,6 +166,7 @@ insert_is d q t held rows values before after sound free at same passed began ad
 pub record Called (k : Kept) (r : Result Change ErrorKind) (t : TableDef) (rows : List (List ValueRef)) (before after : UsedPool) : Type 0 where
   pub can_store : CanStore t rows
   pub makes : (new : Pool) (e : Stored) → after.pool.page ≡ before.pool.page → after.pool.long ≡ before.pool.long → new ≡ after.pool → e.name ≡ table_key t.name → e.bytes ≡ stream_of_rows t.long t.columns rows → MakesRows k r new e
+  pub uses : (used : Bool) → used ≡ after.is_used → TellsUse r used
 
 passes_one : (b : Bool) (kind : ErrorKind) (x : Unit {0}) → Ok x ≡ unless_refused ((not b, kind) ∷ []) tt → b ≡ true
 passes_one true kind x e = refl
@@ -187,6 +188,7 @@ module _ (pool : Pool) (tables : List TableDef) (m : maps.Streams) (known : Bool
   called r made change = record {
     can_store = call_can_store pool tables m known kept k view sound r name t is_known rows (in_use after) made change;
     makes = λ new e page long same name_is bytes_is. call_makes pool tables m known kept k view sound r name t is_known rows (in_use after) made change before after new e began refl page long same name_is bytes_is;
+    uses = λ used e. subst (λ (r : Result Change ErrorKind). TellsUse r used) (sym made) e;
   }
 
   pub delete_called : (q : DeleteQuery) → name ≡ q.table → (b : Bool) → b ≡ is_system_table name → b ≡ false

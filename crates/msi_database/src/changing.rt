@@ -29,11 +29,13 @@ use msi_text::stringpool::StringPool;
 use msi_text::text::Items;
 use std::alloc::Global;
 
-/// A table's stream to be stored, and the pool after the change of its rows.
+/// A table's stream to be stored, the pool after the change of its rows, and whether a text was taken of the pool or
+/// given back.
 #[derive(Drop)]
 pub(crate) struct RowsAnew {
     pub(crate) stored: Stored,
     pub(crate) pool: StringPool,
+    pub(crate) is_pool_used: bool,
 }
 
 /// Streams to be stored, and the pool and the tables after a change of tables.
@@ -114,25 +116,31 @@ impl Database {
         stored_rows(self.alloc, &self.streams, table)
     }
 
-    /// Ends a change of rows: stores the table's stream, and takes the pool in place of its own.
+    /// Ends a change of rows: stores the table's stream, and takes the pool in place of its own. Answers whether a text
+    /// was taken of the pool or given back.
     ///
     /// # Errors
     /// `OutOfMemory`; then nothing is changed.
-    pub(crate) fn finish_rows(&mut self, new: RowsAnew) -> Result<(), Error>
+    pub(crate) fn finish_rows(&mut self, new: RowsAnew) -> Result<bool, Error>
         requires sound { is_sound_one self.old.database ≡ true }
         requires kept { let streams = stored_in (new.stored ∷ []) self.old.streams in
             AreKept new.pool (tables_listed self.old.database) streams true }
         ensures ok { let streams = stored_in (new.stored ∷ []) self.old.streams in
             OnOk result (self.new ≡ kept_of new.pool (tables_listed self.old.database) streams) }
+        ensures used { IfOk result (λ used. used ≡ new.is_pool_used) }
         ensures same { OnErr result (self.new ≡ self.old) }
         ensures kind { OnlyMemory result }
     {
-        let RowsAnew { stored, pool } = new;
+        let RowsAnew {
+            stored,
+            pool,
+            is_pool_used,
+        } = new;
         let mut changes = Vec::new(self.alloc);
         changes.push(stored)?;
         store_all(&mut self.streams, changes.into_iter())?;
         self.pool = pool;
-        Ok(())
+        Ok(is_pool_used)
     }
 
     /// Ends a change of tables: stores these streams, and takes the pool and the tables in place of its own.

@@ -1,26 +1,50 @@
-//! Changes of a table's rows: rows are updated and deleted.
+//! Changes of a table's rows: rows are inserted, updated and deleted.
 
 ghost use Rattle.std.specs.Prelude.{◌≡◌, IfErr, IfOk, OnErr, OnOk, bytes_eq, codes};
 ghost use Rattle.std.specs.List.{list_all};
+ghost use Rattle.msi_text.specs.Results.{OnlyMemory};
 ghost use Rattle.msi_relation.specs.Refusals.{IsRefusal};
 ghost use Rattle.msi_changes.specs.Delete as deletes;
+ghost use Rattle.msi_changes.specs.Insert as inserts;
 ghost use Rattle.msi_changes.specs.RowUpdates.{update_of};
 ghost use Rattle.msi_changes.specs.Update as updates;
-ghost use Rattle.msi_database.specs.Making.{Leaves, MakesRows, delete_of};
+ghost use Rattle.msi_database.specs.Making.{Leaves, MakesRows, TellsUse, delete_of, insert_of};
 
 use crate::changing::{RowsAnew, stream_of};
 use crate::database::Database;
 use crate::reasons;
 use msi_changes::delete::{refuse_delete, remaining_rows};
+use msi_changes::insert::{add_rows, refuse_rows};
 use msi_changes::texts::PoolInUse;
 use msi_changes::update::{refuse_update, updated_rows};
-use msi_query::parts::{Assignment, DeleteParts, UpdateParts, delete_parts, update_parts};
-use msi_query::{Delete, Update};
+use msi_query::parts::{
+    Assignment, DeleteParts, InsertParts, NewRow, UpdateParts, delete_parts, insert_parts,
+    update_parts,
+};
+use msi_query::{Delete, Insert, Update};
 use msi_schema::system::{VALIDATION, is_schema_table, is_system_table};
+use msi_table::Value;
 use msi_text::errors::{Error, ErrorKind};
+use msi_text::text::Items;
+use std::alloc::Global;
 
 /// The column of `_Validation` that may be set.
 const DESCRIPTION: &str = "Description";
+
+/// The values of new rows, moved out.
+///
+/// # Errors
+/// `OutOfMemory`.
+fn values_of(alloc: Global, rows: Vec<NewRow>) -> Result<Vec<Items<Value>>, Error>
+    ensures ok { IfOk result (λ values. values.items ≡ rows.items) }
+    ensures kind { OnlyMemory result }
+{
+    let mut values = Vec::new(alloc);
+    for row in rows {
+        values.push(Items::from_vec(row.into_values()))?;
+    }
+    Ok(values)
+}
 
 /// Whether a new value is for the column Description.
 fn is_description(set: &Assignment) -> bool
@@ -45,6 +69,38 @@ fn is_barred(update: &UpdateParts) -> bool
 }
 
 impl Database {
+    /// What inserting rows makes.
+    ///
+    /// # Errors
+    /// Those of `insert_rows`.
+    fn rows_inserted(&self, insert: InsertParts) -> Result<RowsAnew, Error>
+        ensures ok { IfOk result (λ new.
+            MakesRows self.now (inserts.insert_rows self.now.database (insert_of insert)) new.pool new.stored) }
+        ensures used { IfOk result (λ new.
+            TellsUse (inserts.insert_rows self.now.database (insert_of insert)) new.is_pool_used) }
+        ensures kind { IfErr result (IsRefusal (inserts.insert_rows self.now.database (insert_of insert))) }
+    {
+        let InsertParts { table: name, rows } = insert;
+        let name = name.as_str();
+        self.refuse_change(is_system_table(name))?;
+        let Some(table) = self.known_table(name) else {
+            return Err(Error::new(ErrorKind::NotFound, reasons::NO_TABLE));
+        };
+        let columns = table.columns();
+        let held = self.sound_rows(table)?;
+        let values = values_of(self.alloc, rows.into_vec())?;
+        let rows = held.as_slice();
+        refuse_rows(self.alloc, &self.pool, columns, rows, values.as_slice())?;
+        let mut pool = PoolInUse::new(self.pool.clone()?);
+        let all = add_rows(self.alloc, columns, &mut pool, held, values)?;
+        let stored = stream_of(self.alloc, table, all)?;
+        Ok(RowsAnew {
+            stored,
+            is_pool_used: pool.is_used(),
+            pool: pool.into_pool(),
+        })
+    }
+
     /// What updating rows makes.
     ///
     /// # Errors
@@ -52,6 +108,8 @@ impl Database {
     fn rows_updated(&self, update: &UpdateParts) -> Result<RowsAnew, Error>
         ensures ok { IfOk result (λ new.
             MakesRows self.now (updates.update_rows self.now.database (update_of update.now)) new.pool new.stored) }
+        ensures used { IfOk result (λ new.
+            TellsUse (updates.update_rows self.now.database (update_of update.now)) new.is_pool_used) }
         ensures kind { IfErr result (IsRefusal (updates.update_rows self.now.database (update_of update.now))) }
     {
         self.refuse_change(is_barred(update))?;
@@ -66,6 +124,7 @@ impl Database {
         let stored = stream_of(self.alloc, table, all)?;
         Ok(RowsAnew {
             stored,
+            is_pool_used: pool.is_used(),
             pool: pool.into_pool(),
         })
     }
@@ -77,6 +136,8 @@ impl Database {
     fn rows_deleted(&self, delete: &DeleteParts) -> Result<RowsAnew, Error>
         ensures ok { IfOk result (λ new.
             MakesRows self.now (deletes.delete_rows self.now.database (delete_of delete.now)) new.pool new.stored) }
+        ensures used { IfOk result (λ new.
+            TellsUse (deletes.delete_rows self.now.database (delete_of delete.now)) new.is_pool_used) }
         ensures kind { IfErr result (IsRefusal (deletes.delete_rows self.now.database (delete_of delete.now))) }
     {
         let name = delete.table.as_str();
@@ -92,11 +153,32 @@ impl Database {
         let stored = stream_of(self.alloc, table, all)?;
         Ok(RowsAnew {
             stored,
+            is_pool_used: pool.is_used(),
             pool: pool.into_pool(),
         })
     }
 
-    /// Sets columns of those of a table's rows that meet the condition.
+    /// Inserts rows into a table. The pool's texts and the table's stream change together, at the end. Answers whether a
+    /// text was taken of the pool or given back.
+    ///
+    /// # Errors
+    /// The first that holds: `InvalidData` where the database isn't sound; `InvalidInput` for a system table;
+    /// `NotFound` where there is no such table; `InvalidInput` where a row doesn't fit the columns; `InvalidData` where
+    /// two of the table's rows share a key; row by row `AlreadyExists` where the table has its key, and `InvalidInput`
+    /// where an earlier new row has it; `InvalidInput` where the table would have more than 65536 rows, and where the
+    /// pool is full. At any time `OutOfMemory`. Then nothing is changed.
+    pub fn insert_rows(&mut self, query: Insert) -> Result<bool, Error>
+        ensures ok { OnOk result (Leaves self.old (inserts.insert_rows self.old.database query) self.new) }
+        ensures used { IfOk result (TellsUse (inserts.insert_rows self.old.database query)) }
+        ensures same { OnErr result (self.new ≡ self.old) }
+        ensures kind { IfErr result (IsRefusal (inserts.insert_rows self.old.database query)) }
+    {
+        let new = self.rows_inserted(insert_parts(query))?;
+        self.finish_rows(new)
+    }
+
+    /// Sets columns of those of a table's rows that meet the condition. Answers whether a text was taken of the pool or
+    /// given back.
     ///
     /// # Errors
     /// The first that holds: `InvalidData` where the database isn't sound; `InvalidInput` for a system table, but for
@@ -104,8 +186,9 @@ impl Database {
     /// isn't there or doesn't take its value, and where a column of the condition isn't there; `AlreadyExists` where
     /// two rows would share a key; `InvalidInput` where the pool is full. At any time `OutOfMemory`. Then nothing is
     /// changed.
-    pub fn update_rows(&mut self, query: Update) -> Result<(), Error>
+    pub fn update_rows(&mut self, query: Update) -> Result<bool, Error>
         ensures ok { OnOk result (Leaves self.old (updates.update_rows self.old.database query) self.new) }
+        ensures used { IfOk result (TellsUse (updates.update_rows self.old.database query)) }
         ensures same { OnErr result (self.new ≡ self.old) }
         ensures kind { IfErr result (IsRefusal (updates.update_rows self.old.database query)) }
     {
@@ -113,14 +196,16 @@ impl Database {
         self.finish_rows(new)
     }
 
-    /// Takes those rows out of a table that meet the condition.
+    /// Takes those rows out of a table that meet the condition. Answers whether a text was taken of the pool or given
+    /// back.
     ///
     /// # Errors
     /// The first that holds: `InvalidData` where the database isn't sound; `InvalidInput` for a system table;
     /// `NotFound` where there is no such table; `InvalidInput` where a column of the condition isn't there. At any time
     /// `OutOfMemory`. Then nothing is changed.
-    pub fn delete_rows(&mut self, query: Delete) -> Result<(), Error>
+    pub fn delete_rows(&mut self, query: Delete) -> Result<bool, Error>
         ensures ok { OnOk result (Leaves self.old (deletes.delete_rows self.old.database query) self.new) }
+        ensures used { IfOk result (TellsUse (deletes.delete_rows self.old.database query)) }
         ensures same { OnErr result (self.new ≡ self.old) }
         ensures kind { IfErr result (IsRefusal (deletes.delete_rows self.old.database query)) }
     {

@@ -1,9 +1,10 @@
-use Rattle.std.proofs.Common.{◌≡◌, ◌∷◌, [], subst}
+use Rattle.std.proofs.Common.{◌≡◌, ◌∷◌, [], subst, sym}
+use Rattle.std.proofs.lemmas.Result.{IfOk-weaker}
 use Rattle.msi_query.specs.Queries.{DeleteQuery}
 use Rattle.msi_changes.specs.Delete.{delete_rows}
 use Rattle.msi_database.specs.Kept.{kept_of}
 use Rattle.msi_database.specs.Listed.{tables_listed}
-use Rattle.msi_database.specs.Making.{Leaves, delete_of}
+use Rattle.msi_database.specs.Making.{Leaves, TellsUse, delete_of}
 use Rattle.msi_database.specs.Storing.{stored_in}
 use Rattle.msi_database.proofs.RowCallLemmas.{makes_kept, makes_leaves, on_ok}
 use Rattle.msi_database.proofs.database.Database.delete_rows.Goals as goal
@@ -19,3 +20,11 @@ returns-clause-ok c = let old = c.args.self.now in let new = c.finish_rows.new.s
     (λ e. subst (λ (q : DeleteQuery). Leaves old (delete_rows old.database q) new) same
     (makes_leaves old new (delete_rows old.database (delete_of c.delete_parts.result)) c.in_ok-new.new.pool (tables_listed old.database) (c.in_ok-new.new.stored ∷ []) c.in_ok-new.ensures.ok e))
     c.finish_rows.ensures.ok
+
+pub returns-clause-used : goal.returns-clause-used
+returns-clause-used c = let old = c.args.self.now in
+    let same : delete_of c.delete_parts.result ≡ c.args.query = λ i. record { table = c.delete_parts.ensures.table i; condition = c.delete_parts.ensures.condition i } in
+    IfOk-weaker c.finish_rows.result (λ used. used ≡ c.in_ok-new.new.is_pool_used) _
+    (λ used e. subst (λ (q : DeleteQuery). TellsUse (delete_rows old.database q) used) same
+    (subst (TellsUse (delete_rows old.database (delete_of c.delete_parts.result))) (sym e) c.in_ok-new.ensures.used))
+    c.finish_rows.ensures.used

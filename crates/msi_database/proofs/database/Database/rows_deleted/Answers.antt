@@ -15,3 +15,9 @@ returns-clause-ok c = let d = c.self.inside in
     c.columns-columns.result.now c.columns-columns.ensures.columns c.in_ok-held.held.items c.in_ok-held.ensures.ok c.in_ok-clone.field-0 c.in_ok-clone.ensures.ok c.new-pool.result c.new-pool.ensures c.in_ok-all.all.items c.remaining_rows.new.pool
     (delete_of c.args.delete.now) c.as_str-name.ensures c.is_system_table.result c.is_system_table.ensures c.in_ok-refuse_change.ensures.free c.in_ok-refuse_delete.field-0 c.in_ok-refuse_delete.ensures c.in_ok-all.ensures.ok c.in_ok-all.ensures.released).makes
     c.into_pool.result c.in_ok-stored.stored c.in_ok-all.ensures.page c.in_ok-all.ensures.long c.into_pool.ensures c.in_ok-stored.ensures.name c.in_ok-stored.ensures.bytes
+
+pub returns-clause-used : goal.returns-clause-used
+returns-clause-used c = let d = c.self.inside in
+    (delete_called d.pool d.tables d.streams d.is_sound c.self.invariant c.args.self.now c.self.view_is c.in_ok-refuse_change.ensures.sound c.as_str-name.result.now c.in-Some.table.now c.in-Some.ensures
+    c.columns-columns.result.now c.columns-columns.ensures.columns c.in_ok-held.held.items c.in_ok-held.ensures.ok c.in_ok-clone.field-0 c.in_ok-clone.ensures.ok c.new-pool.result c.new-pool.ensures c.in_ok-all.all.items c.remaining_rows.new.pool
+    (delete_of c.args.delete.now) c.as_str-name.ensures c.is_system_table.result c.is_system_table.ensures c.in_ok-refuse_change.ensures.free c.in_ok-refuse_delete.field-0 c.in_ok-refuse_delete.ensures c.in_ok-all.ensures.ok c.in_ok-all.ensures.released).uses c.is_used.result c.is_used.ensures

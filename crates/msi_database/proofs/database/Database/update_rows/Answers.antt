@@ -1,10 +1,11 @@
-use Rattle.std.proofs.Common.{◌≡◌, ◌∷◌, [], subst}
+use Rattle.std.proofs.Common.{◌≡◌, ◌∷◌, [], subst, sym}
+use Rattle.std.proofs.lemmas.Result.{IfOk-weaker}
 use Rattle.msi_query.specs.Queries.{UpdateQuery}
 use Rattle.msi_changes.specs.RowUpdates.{update_of}
 use Rattle.msi_changes.specs.Update.{update_rows}
 use Rattle.msi_database.specs.Kept.{kept_of}
 use Rattle.msi_database.specs.Listed.{tables_listed}
-use Rattle.msi_database.specs.Making.{Leaves}
+use Rattle.msi_database.specs.Making.{Leaves, TellsUse}
 use Rattle.msi_database.specs.Storing.{stored_in}
 use Rattle.msi_database.proofs.RowCallLemmas.{makes_kept, makes_leaves, on_ok}
 use Rattle.msi_database.proofs.database.Database.update_rows.Goals as goal
@@ -20,3 +21,11 @@ returns-clause-ok c = let old = c.args.self.now in let new = c.finish_rows.new.s
     (λ e. subst (λ (q : UpdateQuery). Leaves old (update_rows old.database q) new) same
     (makes_leaves old new (update_rows old.database (update_of c.update_parts.result)) c.in_ok-new.new.pool (tables_listed old.database) (c.in_ok-new.new.stored ∷ []) c.in_ok-new.ensures.ok e))
     c.finish_rows.ensures.ok
+
+pub returns-clause-used : goal.returns-clause-used
+returns-clause-used c = let old = c.args.self.now in
+    let same : update_of c.update_parts.result ≡ c.args.query = λ i. record { table = c.update_parts.ensures.table i; sets = c.update_parts.ensures.sets i; condition = c.update_parts.ensures.condition i } in
+    IfOk-weaker c.finish_rows.result (λ used. used ≡ c.in_ok-new.new.is_pool_used) _
+    (λ used e. subst (λ (q : UpdateQuery). TellsUse (update_rows old.database q) used) same
+    (subst (TellsUse (update_rows old.database (update_of c.update_parts.result))) (sym e) c.in_ok-new.ensures.used))
+    c.finish_rows.ensures.used

@@ -1,0 +1,43 @@
+-- An insert whose rows find no room: what adding them refuses, the call refuses.
+use Rattle.std.proofs.Common.{◌≡◌, ℕ, Bool, true, false, List, Some, None, sym, ap, ap₂, subst, ◌∙◌}
+use Rattle.msi_text.specs.ErrorKind.{ErrorKind}
+use Rattle.msi_text.specs.ErrorKind.TheVariants.{InvalidData, InvalidInput}
+use Rattle.msi_text.specs.Pool.{Pool}
+use Rattle.msi_table.specs.declared.value.ValueRef.{ValueRef}
+use Rattle.msi_table.specs.declared.value.Value.{Value}
+use Rattle.msi_table.specs.Columns.{ColumnDef, TableDef}
+use Rattle.msi_query.specs.Queries.{InsertQuery}
+use Rattle.msi_relation.specs.Refusals.{IsRefusal, first_refusal, or_refused}
+use Rattle.msi_schema.specs.System.{is_system_table}
+use Rattle.msi_changes.specs.Database.{Database, is_sound, table_at}
+use Rattle.msi_changes.specs.Changes.{no_change}
+use Rattle.msi_changes.specs.Insert.{cells_added, insert_rows, row_refusals, table_with}
+use Rattle.msi_changes.specs.Texts.{UsedPool, in_use}
+use Rattle.msi_database.specs.Listed.{IsKnown}
+use Rattle.msi_database.proofs.MadeLemmas.{both_pass}
+use Rattle.msi_database.proofs.RefusedCallLemmas.{cells_full, insert_refused}
+use Rattle.msi_database.proofs.RowCallLemmas.{known_cells}
+
+module _ (d : Database) (sound : is_sound d ≡ true) (name : List ℕ) (t : TableDef) (held : List (List ValueRef)) (at : table_at name d ≡ Some (table_with t.columns held)) (values : List (List Value)) (l : ErrorKind) where
+  full_of : (q : InsertQuery) → name ≡ q.table → values ≡ q.rows → is_system_table name ≡ false → first_refusal (row_refusals d.pool.places (table_with t.columns held) values) ≡ None
+      → (before : UsedPool) → before ≡ record { pool = d.pool; is_used = false } → IsRefusal (or_refused InvalidInput (cells_added before.pool.long t.columns (in_use before) held values)) l
+      → IsRefusal (insert_rows d q) l
+  full_of q named values_are free passed before began refused =
+      let seen : InsertQuery = record { table = name; rows = values } in
+      let same : seen ≡ q = λ i. record { table = named i; rows = values_are i } in
+      let here = subst (λ (u : UsedPool). IsRefusal (or_refused InvalidInput (cells_added u.pool.long t.columns (in_use u) held values)) l) began refused in
+      subst (λ (q : InsertQuery). IsRefusal (insert_rows d q) l) same
+      (insert_refused d seen l (both_pass (is_sound d) (is_system_table name) InvalidData InvalidInput sound free)
+      (cells_full (no_change d) name values (table_with t.columns held) at l passed here))
+
+-- the same, from what a call knows
+pub insert_full : (pool : Pool) (d : Database) → pool ≡ d.pool → is_sound d ≡ true → (name : List ℕ) (t : TableDef) → IsKnown d name t → (columns : List ColumnDef) → columns ≡ t.columns
+    → (held : List (List ValueRef)) → table_at t.name d ≡ Some (table_with t.columns held) → (cloned : Pool) → cloned ≡ pool → (before : UsedPool) → before ≡ record { pool = cloned; is_used = false }
+    → (q : InsertQuery) (values : List (List Value)) → name ≡ q.table → values ≡ q.rows → (b : Bool) → b ≡ is_system_table name → b ≡ false
+    → first_refusal (row_refusals pool.places (table_with columns held) values) ≡ None
+    → (l : ErrorKind) → IsRefusal (or_refused InvalidInput (cells_added before.pool.long columns (in_use before) held values)) l → IsRefusal (insert_rows d q) l
+insert_full pool d pool_is sound name t is_known columns columns_is held at cloned cloned_is before before_is q values named values_are b b_is free passed l refused =
+    full_of d sound name t held (known_cells d name t (table_with t.columns held) is_known at) values l q named values_are (sym b_is ∙ free)
+    (ap₂ (λ (p : Pool) (cs : List ColumnDef). first_refusal (row_refusals p.places (table_with cs held) values)) (sym pool_is) (sym columns_is) ∙ passed)
+    before (before_is ∙ ap (λ (p : Pool). record { pool = p; is_used = false }) (cloned_is ∙ pool_is))
+    (subst (λ (cs : List ColumnDef). IsRefusal (or_refused InvalidInput (cells_added before.pool.long cs (in_use before) held values)) l) columns_is refused)
