@@ -10,3 +10,4 @@ pub mod Keeping
 pub mod Making
 pub mod OwnStreams
 pub mod Fresh
+pub mod Creating

@@ -2,6 +2,7 @@
 #![tactic(auto)]
 
 mod changing;
+mod creating;
 pub mod database;
 mod decoding;
 pub mod laws;

@@ -9,3 +9,11 @@ pub(crate) const NO_TABLE: Reason = Reason("there is no table of this name");
 pub(crate) const UNREADABLE: Reason = Reason("the table's stream has too many rows");
 
 pub(crate) const BARRED: Reason = Reason("this change of a system table is barred");
+
+pub(crate) const TABLE_NAME: Reason = Reason("no table may have this name");
+
+pub(crate) const TABLE_EXISTS: Reason = Reason("there is a table of this name already");
+
+pub(crate) const NO_VALIDATION: Reason = Reason(
+    "a table is created only where _Validation is a table",
+);

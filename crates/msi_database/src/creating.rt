@@ -1,0 +1,282 @@
+//! Creating a table: it is described in the system tables, and put in among the others.
+
+ghost use Rattle.std.specs.Prelude.{◌≡◌, ◌≤◌, ◌++◌, ◌∷◌, [], IfErr, IfOk, IsTrue, None, Ok, OnErr, OnOk, length, not, position, take, drop, true, unwrap_or};
+ghost use Rattle.std.specs.Ordering.{is_lt};
+ghost use Rattle.msi_compound.specs.Names.{is_name_length};
+ghost use Rattle.msi_text.specs.FirstFit.{most_places};
+ghost use Rattle.msi_text.specs.Lists.{list_cmp};
+ghost use Rattle.msi_text.specs.Results.{OnlyMemory};
+ghost use Rattle.msi_table.specs.Columns.{most_columns};
+ghost use Rattle.msi_relation.specs.Refusals.{IsRefusal, unless_refused};
+ghost use Rattle.msi_schema.specs.Description.{have_short_lengths};
+ghost use Rattle.msi_schema.specs.Keys.{is_table_name as is_name_of_table, table_key as key_of};
+ghost use Rattle.msi_changes.specs.Changes.{sound_refusal};
+ghost use Rattle.msi_changes.specs.Create as creates;
+ghost use Rattle.msi_changes.specs.Create.{new_table_refusals, table_refusals};
+ghost use Rattle.msi_changes.specs.Database.{is_sound as is_sound_one};
+ghost use Rattle.msi_changes.specs.Texts.{in_use};
+ghost use Rattle.msi_database.specs.Creating.{new_table, stream_gone, stream_with, streams_described};
+ghost use Rattle.msi_database.specs.Kept.{with_table_kept};
+ghost use Rattle.msi_database.specs.Listed.{tables_listed};
+ghost use Rattle.msi_database.specs.Making.{Leaves, Makes, TellsUse};
+ghost use Rattle.msi_database.specs.Storing.{HaveOwnNames};
+
+use crate::changing::{TablesAnew, stream_of};
+use crate::database::Database;
+use crate::decoding::table_key;
+use crate::reasons;
+use crate::storing::Stored;
+use msi_changes::create::refuse_columns;
+use msi_changes::insert::{add_rows, refuse_rows};
+use msi_changes::texts::PoolInUse;
+use msi_schema::description::{column_rows, tables_row, validation_rows};
+use msi_schema::names::is_table_name;
+use msi_schema::system::{COLUMNS, TABLES, VALIDATION};
+use msi_table::column::Column;
+use msi_table::parts::table;
+use msi_table::{Table, Value};
+use msi_text::errors::{Error, ErrorKind};
+use msi_text::text::{IntoText, Items};
+use std::alloc::Global;
+
+/// What creating a table makes, and whether it took a text of the pool.
+#[derive(Drop)]
+struct Created {
+    new: TablesAnew,
+    is_pool_used: bool,
+}
+
+/// Refuses a name and columns of which no table is made.
+///
+/// # Errors
+/// `InvalidInput` where no table may have the name, and for columns as `refuse_columns` does.
+fn refuse_table(name: &str, columns: &[Column]) -> Result<(), Error>
+    ensures value { result ≡ unless_refused (new_table_refusals name.now columns.now) tt }
+    ensures named { OnOk result (is_name_of_table name.now ≡ true) }
+    ensures few { OnOk result (length columns.now ≤ most_columns) }
+    ensures short { OnOk result (IsTrue (have_short_lengths columns.now)) }
+{
+    if !is_table_name(name) {
+        return Err(Error::new(ErrorKind::InvalidInput, reasons::TABLE_NAME));
+    }
+    refuse_columns(columns)
+}
+
+/// That a table has no stream.
+///
+/// # Errors
+/// `OutOfMemory`.
+fn no_stream(alloc: Global, name: &str) -> Result<Stored, Error>
+    requires { is_name_of_table name.now ≡ true }
+    ensures ok { IfOk result (λ stored. stored ≡ stream_gone name.now) }
+    ensures kind { OnlyMemory result }
+{
+    let Some(name) = table_key(alloc, name)? else {
+        unreachable!()
+    };
+    Ok(Stored { name, bytes: None })
+}
+
+/// How many of the first of these tables stand before a name in order.
+fn place_of(tables: &[Table], name: &str) -> usize
+    ensures value { let place = position (λ t. not (is_lt (list_cmp t.name name.now))) tables.now in
+        result ≡ unwrap_or place (length tables.now) }
+    ensures within { result ≤ length tables.now }
+{
+    tables
+        .iter()
+        .position(|table| table.name() >= name)
+        .unwrap_or(tables.len())
+}
+
+/// Puts copies of tables behind others.
+///
+/// # Errors
+/// `OutOfMemory`.
+fn push_copies(alloc: Global, copies: &mut Vec<Table>, tables: &[Table]) -> Result<(), Error>
+    ensures ok { OnOk result (copies.new.items ≡ copies.old.items ++ tables.now) }
+    ensures kind { OnlyMemory result }
+{
+    for table in tables {
+        copies.push(table.clone(alloc)?)?;
+    }
+    Ok(())
+}
+
+/// Tables once more, with a new one in the order of their names.
+///
+/// # Errors
+/// `OutOfMemory`.
+fn copies_with(alloc: Global, tables: &[Table], new: Table) -> Result<Items<Table>, Error>
+    ensures ok { IfOk result (λ copies. copies ≡ with_table_kept new tables.now) }
+    ensures kind { OnlyMemory result }
+{
+    let (before, behind) = tables.split_at(place_of(tables, new.name()));
+    let mut copies = Vec::new(alloc);
+    push_copies(alloc, &mut copies, before)?;
+    copies.push(new)?;
+    push_copies(alloc, &mut copies, behind)?;
+    Ok(Items::from_vec(copies))
+}
+
+impl Database {
+    /// Refuses a name and columns of which this database makes no table.
+    ///
+    /// # Errors
+    /// Those of `create_table` but the last two.
+    fn refuse_create(&self, name: &str, columns: &[Column]) -> Result<(), Error>
+        ensures value { let refusals = sound_refusal self.now.database ++ table_refusals self.now.database name.now columns.now in
+            result ≡ unless_refused refusals tt }
+        ensures sound { OnOk result (is_sound_one self.now.database ≡ true) }
+        ensures named { OnOk result (is_name_of_table name.now ≡ true) }
+        ensures few { OnOk result (length columns.now ≤ most_columns) }
+        ensures short { OnOk result (IsTrue (have_short_lengths columns.now)) }
+    {
+        self.check_sound()?;
+        refuse_table(name, columns)?;
+        if self.has_table(name) {
+            return Err(Error::new(ErrorKind::AlreadyExists, reasons::TABLE_EXISTS));
+        }
+        if !self.has_table(VALIDATION) {
+            return Err(Error::new(ErrorKind::NotFound, reasons::NO_VALIDATION));
+        }
+        Ok(())
+    }
+
+    /// The stream of a table with new rows, whose texts the pool takes.
+    ///
+    /// # Errors
+    /// `NotFound` where there is no such table; then those of `refuse_rows`; `InvalidInput` where the pool is full. At
+    /// any time `OutOfMemory`.
+    fn stream_with(
+        &self,
+        pool: &mut PoolInUse,
+        name: &str,
+        values: Vec<Items<Value>>,
+    ) -> Result<Stored, Error>
+        requires sound { is_sound_one self.now.database ≡ true }
+        requires long { pool.old.pool.long ≡ self.now.database.pool.long }
+        requires within { length pool.old.pool.places ≤ most_places pool.old.pool.long }
+        ensures ok { let made = stream_with self.now.database name.now values.items (in_use pool.old) in
+            IfOk result (λ stored. made ≡ Ok (stored, in_use pool.new)) }
+        ensures kind { let made = stream_with self.now.database name.now values.items (in_use pool.old) in
+            IfErr result (IsRefusal made) }
+        ensures page { pool.new.pool.page ≡ pool.old.pool.page }
+        ensures long { pool.new.pool.long ≡ pool.old.pool.long }
+        ensures within { OnOk result (length pool.new.pool.places ≤ most_places pool.new.pool.long) }
+    {
+        let Some(table) = self.known_table(name) else {
+            return Err(Error::new(ErrorKind::NotFound, reasons::NO_TABLE));
+        };
+        let columns = table.columns();
+        let held = self.sound_rows(table)?;
+        refuse_rows(
+            self.alloc,
+            pool.pool(),
+            columns,
+            held.as_slice(),
+            values.as_slice(),
+        )?;
+        let all = add_rows(self.alloc, columns, pool, held, values)?;
+        stream_of(self.alloc, table, all)
+    }
+
+    /// The streams of the system tables with the rows that describe a new table. Its own stream goes, if one is left
+    /// over.
+    ///
+    /// # Errors
+    /// Those of the three streams, in order.
+    fn streams_described(
+        &self,
+        pool: &mut PoolInUse,
+        name: &str,
+        columns: &[Column],
+    ) -> Result<Vec<Stored>, Error>
+        requires sound { is_sound_one self.now.database ≡ true }
+        requires named { is_name_of_table name.now ≡ true }
+        requires few { length columns.now ≤ most_columns }
+        requires short { IsTrue (have_short_lengths columns.now) }
+        requires long { pool.old.pool.long ≡ self.now.database.pool.long }
+        requires within { length pool.old.pool.places ≤ most_places pool.old.pool.long }
+        ensures ok { let made = streams_described self.now.database name.now columns.now (in_use pool.old) in
+            IfOk result (λ stored. made ≡ Ok (stored.items, in_use pool.new)) }
+        ensures kind { let made = streams_described self.now.database name.now columns.now (in_use pool.old) in
+            IfErr result (IsRefusal made) }
+        ensures page { pool.new.pool.page ≡ pool.old.pool.page }
+        ensures long { pool.new.pool.long ≡ pool.old.pool.long }
+    {
+        let alloc = self.alloc;
+        let in_columns = self.stream_with(pool, COLUMNS, column_rows(alloc, name, columns)?)?;
+        let row = tables_row(alloc, name)?;
+        let in_tables = self.stream_with(pool, TABLES, Vec::from_array(alloc, [row])?)?;
+        let rows = validation_rows(alloc, name, columns)?;
+        let in_validation = self.stream_with(pool, VALIDATION, rows)?;
+        let own = no_stream(alloc, name)?;
+        Ok(Vec::from_array(alloc, [in_columns, in_tables, in_validation, own])?)
+    }
+
+    /// The tables with a new one, in the order of their names.
+    ///
+    /// # Errors
+    /// `OutOfMemory`.
+    fn tables_with(&self, name: &str, columns: Items<Column>) -> Result<Items<Table>, Error>
+        requires { length columns ≤ most_columns }
+        ensures ok { let new = new_table self.now.database name.now columns in
+            IfOk result (λ tables. tables ≡ with_table_kept new (tables_listed self.now.database)) }
+        ensures kind { OnlyMemory result }
+    {
+        let name = name.into_text(self.alloc)?;
+        let Some(new) = table(name, columns, self.pool.long_string_refs()) else {
+            unreachable!()
+        };
+        copies_with(self.alloc, self.tables(), new)
+    }
+
+    /// What creating a table makes.
+    ///
+    /// # Errors
+    /// Those of `create_table`.
+    fn table_created(&self, name: &str, columns: Items<Column>) -> Result<Created, Error>
+        ensures ok { let change = creates.create_table self.now.database name.now columns in
+            IfOk result (λ created. Makes self.now change created.new.pool created.new.tables created.new.stored.items) }
+        ensures used { let change = creates.create_table self.now.database name.now columns in
+            IfOk result (λ created. TellsUse change created.is_pool_used) }
+        ensures names { IfOk result (λ created. HaveOwnNames created.new.stored.items) }
+        ensures kind { IfErr result (IsRefusal (creates.create_table self.now.database name.now columns)) }
+    {
+        self.refuse_create(name, columns.as_slice())?;
+        let mut pool = PoolInUse::new(self.pool.clone()?);
+        let stored = self.streams_described(&mut pool, name, columns.as_slice())?;
+        let tables = self.tables_with(name, columns)?;
+        let is_pool_used = pool.is_used();
+        let pool = pool.into_pool();
+        Ok(Created {
+            new: TablesAnew {
+                stored,
+                pool,
+                tables,
+            },
+            is_pool_used,
+        })
+    }
+
+    /// Creates a table, which is described in `_Tables`, `_Columns` and `_Validation`, and answers whether it took a text
+    /// of the pool.
+    ///
+    /// # Errors
+    /// The first that holds: `InvalidData` where the database isn't sound; `InvalidInput` where no table may have the name,
+    /// and for columns as `refuse_columns` does; `AlreadyExists` where there is such a table; `NotFound` where `_Validation`
+    /// is no table; then, for the rows that describe it, in turn in `_Columns`, `_Tables` and `_Validation`, what
+    /// `refuse_rows` answers, and `InvalidInput` where the pool is full. At any time `OutOfMemory`. Then nothing is changed.
+    pub fn create_table(&mut self, name: &str, columns: Items<Column>) -> Result<bool, Error>
+        ensures ok { let change = creates.create_table self.old.database name.now columns in
+            OnOk result (Leaves self.old change self.new) }
+        ensures used { IfOk result (TellsUse (creates.create_table self.old.database name.now columns)) }
+        ensures same { OnErr result (self.new ≡ self.old) }
+        ensures kind { IfErr result (IsRefusal (creates.create_table self.old.database name.now columns)) }
+    {
+        let Created { new, is_pool_used } = self.table_created(name, columns)?;
+        self.finish_tables(new)?;
+        Ok(is_pool_used)
+    }
+}
