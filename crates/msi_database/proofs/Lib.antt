@@ -43,3 +43,4 @@ pub mod StorableLemmas
 pub mod TableCallLemmas
 pub mod RowCallLemmas
 pub mod InsertCallLemmas
+pub mod DroppingCallLemmas

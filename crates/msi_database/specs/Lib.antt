@@ -8,6 +8,7 @@ pub mod Storing
 pub mod Spending
 pub mod Keeping
 pub mod Making
+pub mod Dropping
 pub mod OwnStreams
 pub mod Fresh
 pub mod Creating

@@ -5,6 +5,7 @@ mod changing;
 mod creating;
 pub mod database;
 mod decoding;
+mod dropping;
 pub mod laws;
 mod reasons;
 mod rows;

@@ -1,0 +1,37 @@
+-- A table that is dropped, step by step: which texts go back to the pool, and which streams are stored.
+use Rattle.std.specs.Prelude.{ℕ, not, List, [], ◌∷◌, ◌++◌, filter, None}
+use Rattle.std.specs.Option.{option_map_or}
+use Rattle.msi_text.specs.ErrorKind.TheVariants.{InvalidInput}
+use Rattle.msi_relation.specs.Refusals.{Refusals}
+use Rattle.msi_schema.specs.Keys.{is_table_name, table_key}
+use Rattle.msi_schema.specs.System.{is_system_table}
+use Rattle.msi_changes.specs.Database.{Database, table_at, rows_of}
+use Rattle.msi_changes.specs.Changes.{PoolInUse, sound_refusal}
+use Rattle.msi_changes.specs.Drop.{is_row_about}
+use Rattle.msi_changes.specs.Texts.{rows_released}
+use Rattle.msi_database.specs.declared.storing.Stored.{Stored}
+use Rattle.msi_database.specs.Streams.{stream_of_rows}
+
+-- what refuses a drop before its table is looked for
+abbrev pub drop_refusals : Database → List ℕ → Refusals
+drop_refusals d name = sound_refusal d ++ (is_system_table name, InvalidInput) ∷ (not (is_table_name name), InvalidInput) ∷ []
+
+-- the pool after the table's own rows, and after those about it of a system table
+abbrev pub rows_given_back : Database → List ℕ → PoolInUse → PoolInUse
+rows_given_back d name used = option_map_or (λ t. rows_released used (rows_of t)) (table_at name d) used
+
+abbrev pub about_given_back : Database → List ℕ → List ℕ → PoolInUse → PoolInUse
+about_given_back d name system used = option_map_or
+    (λ t. rows_released used (filter (is_row_about d.pool.places name) (rows_of t))) (table_at system d) used
+
+-- the table's own stream goes, and that of a system table, where it is one, has its other rows
+abbrev pub own_stream : List ℕ → List Stored
+own_stream name = record { name = table_key name; bytes = None } ∷ []
+
+abbrev pub system_stream : Database → List ℕ → List ℕ → List Stored
+system_stream d name system = option_map_or
+    (λ t. record {
+      name = table_key system;
+      bytes = stream_of_rows d.pool.long t.columns (filter (λ row. not (is_row_about d.pool.places name row)) (rows_of t));
+    } ∷ [])
+    (table_at system d) []
