@@ -44,3 +44,5 @@ pub mod TableCallLemmas
 pub mod RowCallLemmas
 pub mod InsertCallLemmas
 pub mod DroppingCallLemmas
+pub mod ReadingLemmas
+pub mod MarkLemmas

@@ -12,3 +12,4 @@ pub mod Dropping
 pub mod OwnStreams
 pub mod Fresh
 pub mod Creating
+pub mod Reading

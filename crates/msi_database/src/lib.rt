@@ -7,6 +7,7 @@ pub mod database;
 mod decoding;
 mod dropping;
 pub mod laws;
+mod reading;
 mod reasons;
 mod rows;
 mod soundness;

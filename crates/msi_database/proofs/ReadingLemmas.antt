@@ -1,0 +1,1 @@
+-- What reading a database rests on.

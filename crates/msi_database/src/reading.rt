@@ -1,0 +1,302 @@
+//! A database read of its pool and the streams of a container's root.
+
+ghost use Rattle.std.specs.Prelude.{◌≡◌, ◌∷◌, [], ◌≤◌, Bool, IfErr, IfOk, OnOk, Some, false, if◌then◌else◌, is_some, length, map, replicate};
+ghost use Rattle.std.specs.FinMap.{entries};
+ghost use Rattle.msi_text.specs.ErrorKind.TheVariants.{InvalidData};
+ghost use Rattle.msi_text.specs.Results.{OnlyMemory};
+ghost use Rattle.msi_table.specs.Columns.{most_columns};
+ghost use Rattle.msi_table.specs.StoredOrder.{row_values};
+ghost use Rattle.msi_relation.specs.Refusals.{IsRefusal, or_refused};
+ghost use Rattle.msi_schema.specs.Schema.{table_with};
+ghost use Rattle.msi_schema.specs.System.{validation_columns as columns_of_validation, validation_name};
+ghost use Rattle.msi_changes.specs.Database.{numbers_of_rows};
+ghost use Rattle.msi_database.specs.Agreement.{described_by, schema_in};
+ghost use Rattle.msi_database.specs.Kept.{AreAsLong, schema_listed, table_kept, table_kept_at};
+ghost use Rattle.msi_database.specs.Reading.{IsDatabaseOf, all_marked, cell_marked, numbers_named, numbers_of_tables, pool_shown};
+ghost use Rattle.msi_database.specs.StreamNames.{HaveNames, HoldBytes};
+ghost use Rattle.msi_database.specs.Streams.{stored_rows as rows_stored};
+
+use crate::database::{Database, table_named};
+use crate::decoding::{readable_rows, stored_rows};
+use crate::soundness::are_sound;
+use msi_compound::contents::StreamMap;
+use msi_schema::schema::{SchemaRows, tables_described};
+use msi_schema::system::{
+    COLUMNS, TABLES, VALIDATION, columns_columns, tables_columns, validation_columns,
+};
+use msi_table::column::Column;
+use msi_table::parts::{table, values};
+use msi_table::{Table, Value, ValueRef};
+use msi_text::errors::Error;
+use msi_text::parts::place_number;
+use msi_text::stringpool::StringPool;
+use msi_text::text::{IntoText, Items};
+use std::alloc::Global;
+use std::marker::Model;
+
+/// Which places of a pool cells name. A contract sees a mark for each place.
+#[derive(Drop)]
+struct Marks {
+    marks: Vec<bool>,
+}
+
+impl Model for Marks {
+    ghost use Rattle.std.specs.Prelude.{Bool, List};
+
+    ghost Value = { List Bool };
+
+    ghost view = { λ m. m.marks.items };
+}
+
+impl Marks {
+    /// No place is marked.
+    ///
+    /// # Errors
+    /// `OutOfMemory`.
+    fn new(alloc: Global, many: u32) -> Result<Marks, Error>
+        ensures ok { IfOk result (λ marks. marks ≡ replicate many false) }
+        ensures kind { OnlyMemory result }
+    {
+        Ok(Marks {
+            marks: vec![in alloc; false; many as usize]?,
+        })
+    }
+
+    /// Marks the place that a cell names, where there is one.
+    fn mark(&mut self, cell: ValueRef)
+        ensures { self.new ≡ cell_marked self.old cell }
+    {
+        let ValueRef::Str(reference) = cell else {
+            return;
+        };
+        let Some(at) = place_number(reference).checked_sub(1) else {
+            return;
+        };
+        let at = at as usize;
+        if at < self.marks.len() {
+            self.marks[at] = true;
+        }
+    }
+
+    /// Marks the places that the cells of a row name.
+    fn mark_row(&mut self, row: &[ValueRef])
+        ensures { self.new ≡ all_marked self.old (numbers_of_rows (row.now ∷ [])) }
+    {
+        for cell in row {
+            self.mark(*cell);
+        }
+    }
+
+    /// Marks the places that the cells of rows name.
+    fn mark_rows(&mut self, rows: &[Items<ValueRef>])
+        ensures { self.new ≡ all_marked self.old (numbers_of_rows rows.now) }
+    {
+        for row in rows {
+            self.mark_row(row.as_slice());
+        }
+    }
+
+    /// Marks the places that the cells of a table name; a table that can't be read has none.
+    ///
+    /// # Errors
+    /// `OutOfMemory`.
+    fn mark_table(&mut self, alloc: Global, streams: &StreamMap, table: &Table) -> Result<(), Error>
+        requires { HaveNames (entries streams.now) }
+        ensures ok { let kept = table_kept (entries streams.now) table.now.long table.now in
+            OnOk result (self.new ≡ all_marked self.old (numbers_of_tables (kept ∷ []))) }
+        ensures kind { OnlyMemory result }
+    {
+        if let Some(rows) = readable_rows(alloc, streams, table)? {
+            self.mark_rows(rows.as_slice());
+        }
+        Ok(())
+    }
+
+    /// Marks the places that the cells of tables name.
+    ///
+    /// # Errors
+    /// `OutOfMemory`.
+    fn mark_tables(
+        &mut self,
+        alloc: Global,
+        streams: &StreamMap,
+        tables: &[Table],
+    ) -> Result<(), Error>
+        requires { HaveNames (entries streams.now) }
+        ensures ok { OnOk result ((long : Bool) → AreAsLong long tables.now
+            → self.new ≡ all_marked self.old (numbers_of_tables (map (table_kept (entries streams.now) long) tables.now))) }
+        ensures kind { OnlyMemory result }
+    {
+        for table in tables {
+            self.mark_table(alloc, streams, table)?;
+        }
+        Ok(())
+    }
+}
+
+/// The pool without the texts of free places that no cell names: of tables, and of rows beside them.
+///
+/// # Errors
+/// `OutOfMemory`.
+fn with_named_texts(
+    alloc: Global,
+    pool: StringPool,
+    streams: &StreamMap,
+    tables: &[Table],
+    rows: &[Items<ValueRef>],
+) -> Result<StringPool, Error>
+    requires names { HaveNames (entries streams.now) }
+    requires long { AreAsLong pool.long tables.now }
+    ensures ok { IfOk result (λ shown.
+        shown ≡ pool_shown (numbers_named (entries streams.now) pool.long tables.now rows.now) pool) }
+    ensures kind { OnlyMemory result }
+{
+    let mut pool = pool;
+    let mut named = Marks::new(alloc, pool.num_strings())?;
+    named.mark_tables(alloc, streams, tables)?;
+    named.mark_rows(rows);
+    pool.forget_texts(named.marks.as_slice());
+    Ok(pool)
+}
+
+/// Goes over streams: each has a name that a container can hold, and bytes.
+fn look_at(streams: &StreamMap)
+    ensures names { HaveNames (entries streams.now) }
+    ensures bytes { HoldBytes (entries streams.now) }
+{
+    for (name, bytes) in streams.iter() {
+        let _units = name.units();
+        let _bytes = bytes.as_slice();
+    }
+}
+
+/// A table of a name and columns, which are at most 32767.
+///
+/// # Errors
+/// `OutOfMemory`.
+fn table_of(alloc: Global, name: &str, columns: Items<Column>, long: bool) -> Result<Table, Error>
+    requires { length columns ≤ most_columns }
+    ensures ok { IfOk result (λ table. table ≡ table_with long (name.now, columns)) }
+    ensures kind { OnlyMemory result }
+{
+    match table(name.into_text(alloc)?, columns, long) {
+        Some(table) => Ok(table),
+        None => unreachable!(),
+    }
+}
+
+/// The values of rows, whose texts stand in a pool.
+///
+/// # Errors
+/// `OutOfMemory`.
+fn values_of_rows(
+    alloc: Global,
+    pool: &StringPool,
+    rows: &[Items<ValueRef>],
+) -> Result<Vec<Items<Value>>, Error>
+    ensures ok { IfOk result (λ described. described.items ≡ map (row_values pool.now.places) rows.now) }
+    ensures kind { OnlyMemory result }
+{
+    let mut described = Vec::with_capacity(alloc, rows.len())?;
+    for row in rows {
+        described.push(values(alloc, pool, row.as_slice())?)?;
+    }
+    Ok(described)
+}
+
+/// The values of the rows of a table that is known by its name and columns, which are at most 32767.
+///
+/// # Errors
+/// `InvalidData` where its stream can't be read; `OutOfMemory`.
+fn described_rows(
+    alloc: Global,
+    pool: &StringPool,
+    streams: &StreamMap,
+    name: &str,
+    columns: Items<Column>,
+) -> Result<Vec<Items<Value>>, Error>
+    requires names { HaveNames (entries streams.now) }
+    requires few { length columns ≤ most_columns }
+    ensures ok { IfOk result (λ rows.
+        described_by (entries streams.now) pool.now columns name.now ≡ Some rows.items) }
+    ensures kind { IfErr result (IsRefusal (or_refused InvalidData
+        (described_by (entries streams.now) pool.now columns name.now))) }
+{
+    let table = table_of(alloc, name, columns, pool.long_string_refs())?;
+    let rows = stored_rows(alloc, streams, &table)?;
+    values_of_rows(alloc, pool, rows.as_slice())
+}
+
+/// The tables that the rows of the system tables describe: those of `_Tables` and `_Columns` are read of their streams,
+/// those of `_Validation` are these.
+///
+/// # Errors
+/// `InvalidData` where a stream can't be read, and where the rows describe no tables; `OutOfMemory`.
+fn tables_in(
+    alloc: Global,
+    pool: &StringPool,
+    streams: &StreamMap,
+    validation: &[Items<ValueRef>],
+) -> Result<Items<Table>, Error>
+    requires names { HaveNames (entries streams.now) }
+    requires bytes { HoldBytes (entries streams.now) }
+    requires validation { rows_stored (entries streams.now) pool.now.long columns_of_validation validation_name
+        ≡ Some validation.now }
+    ensures ok { IfOk result (λ tables. schema_in (entries streams.now) pool.now ≡ Some (schema_listed tables)) }
+    ensures long { IfOk result (AreAsLong pool.now.long) }
+    ensures kind { IfErr result (IsRefusal (or_refused InvalidData (schema_in (entries streams.now) pool.now))) }
+{
+    let tables = described_rows(alloc, pool, streams, TABLES, tables_columns(alloc)?)?;
+    let columns = described_rows(alloc, pool, streams, COLUMNS, columns_columns(alloc)?)?;
+    let validation = values_of_rows(alloc, pool, validation)?;
+    let rows = SchemaRows::new(tables, columns, validation);
+    tables_described(alloc, rows, pool.long_string_refs())
+}
+
+/// Of the rows of the stream of `_Validation` those that are kept beside the tables: all where it is no table, else none.
+fn unlisted_rows(
+    alloc: Global,
+    tables: &[Table],
+    validation: Vec<Items<ValueRef>>,
+) -> Vec<Items<ValueRef>>
+    ensures { result.items ≡ (if is_some (table_kept_at validation_name tables.now) then [] else validation.items) }
+{
+    if table_named(tables, VALIDATION).is_some() {
+        Vec::new(alloc)
+    } else {
+        validation
+    }
+}
+
+impl Database {
+    /// The database of a pool, as its two streams spell it, and of all streams of a container's root. Which tables it
+    /// has is what the rows of the system tables describe; a missing stream has no rows, and a table whose rows can't
+    /// be read is kept. A free place of the pool loses its text where no cell names it. It costs the rows times a
+    /// logarithm.
+    ///
+    /// # Errors
+    /// `InvalidData` where the stream of a system table can't be read, and where its rows describe no tables;
+    /// `OutOfMemory`.
+    pub fn read(alloc: Global, pool: StringPool, streams: StreamMap) -> Result<Database, Error>
+        ensures ok { IfOk result (IsDatabaseOf pool (entries streams)) }
+        ensures kind { IfErr result (IsRefusal (or_refused InvalidData (schema_in (entries streams) pool))) }
+    {
+        look_at(&streams);
+        let columns = validation_columns(alloc)?;
+        let standard = table_of(alloc, VALIDATION, columns, pool.long_string_refs())?;
+        let validation = stored_rows(alloc, &streams, &standard)?;
+        let tables = tables_in(alloc, &pool, &streams, validation.as_slice())?;
+        let listed = tables.as_slice();
+        let pool = with_named_texts(alloc, pool, &streams, listed, validation.as_slice())?;
+        let unlisted = unlisted_rows(alloc, listed, validation);
+        let beside = unlisted.as_slice();
+        let is_sound = are_sound(alloc, &pool, listed, &streams, beside, standard.columns())?;
+        Ok(Database {
+            alloc,
+            pool,
+            tables,
+            streams,
+            is_sound,
+        })
+    }
+}
