@@ -13,3 +13,4 @@ pub mod OwnStreams
 pub mod Fresh
 pub mod Creating
 pub mod Reading
+pub mod FreshParts

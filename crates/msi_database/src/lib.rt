@@ -6,6 +6,7 @@ mod creating;
 pub mod database;
 mod decoding;
 mod dropping;
+mod fresh;
 pub mod laws;
 mod reading;
 mod reasons;

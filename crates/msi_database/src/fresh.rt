@@ -1,0 +1,148 @@
+//! A new database: `_Validation`, described by itself.
+
+ghost use Rattle.std.specs.Prelude.{◌≡◌, ◌≤◌, IfOk, OnOk, false, length};
+ghost use Rattle.msi_compound.specs.Names.{is_name_length};
+ghost use Rattle.msi_text.specs.Results.{OnlyMemory};
+ghost use Rattle.msi_table.specs.Columns.{most_columns};
+ghost use Rattle.msi_schema.specs.Keys.{table_key as key_of};
+ghost use Rattle.msi_changes.specs.Texts.{in_use};
+ghost use Rattle.msi_database.specs.Fresh.{fresh};
+ghost use Rattle.msi_database.specs.FreshParts.{Begins, CanBegin, columns_table, fresh_pool, fresh_stored, tables_table, unused_pool, validation_table};
+
+use crate::changing::stream_of;
+use crate::database::Database;
+use crate::storing::{Stored, store_all};
+use msi_changes::insert::add_rows;
+use msi_changes::texts::PoolInUse;
+use msi_compound::contents::StreamMap;
+use msi_schema::description::{column_rows, tables_row, validation_rows};
+use msi_schema::system::{
+    COLUMNS, TABLES, VALIDATION, columns_columns, tables_columns, validation_columns,
+};
+use msi_table::Table;
+use msi_table::column::Column;
+use msi_table::parts::table;
+use msi_table::value::Value;
+use msi_text::codepage::CodePage;
+use msi_text::errors::Error;
+use msi_text::stringpool::StringPool;
+use msi_text::text::{IntoText, Items};
+use std::alloc::Global;
+
+/// The tables of a new database.
+#[derive(Drop)]
+struct SystemTables {
+    columns: Table,
+    tables: Table,
+    validation: Table,
+}
+
+/// A table with short references to texts.
+///
+/// # Errors
+/// `OutOfMemory`.
+fn short_table(alloc: Global, name: &str, columns: Items<Column>) -> Result<Table, Error>
+    requires { length columns ≤ most_columns }
+    ensures ok { IfOk result (λ made. made ≡ record { name = name.now; columns = columns; long = false }) }
+    ensures kind { OnlyMemory result }
+{
+    let Some(made) = table(name.into_text(alloc)?, columns, false) else {
+        unreachable!()
+    };
+    Ok(made)
+}
+
+/// The system tables.
+///
+/// # Errors
+/// `OutOfMemory`.
+fn system_tables(alloc: Global) -> Result<SystemTables, Error>
+    ensures columns { IfOk result (λ system. system.columns ≡ columns_table) }
+    ensures tables { IfOk result (λ system. system.tables ≡ tables_table) }
+    ensures validation { IfOk result (λ system. system.validation ≡ validation_table) }
+    ensures kind { OnlyMemory result }
+{
+    Ok(SystemTables {
+        columns: short_table(alloc, COLUMNS, columns_columns(alloc)?)?,
+        tables: short_table(alloc, TABLES, tables_columns(alloc)?)?,
+        validation: short_table(alloc, VALIDATION, validation_columns(alloc)?)?,
+    })
+}
+
+/// The stream of a table that gets its first rows, whose texts the pool takes.
+///
+/// # Errors
+/// `OutOfMemory`.
+fn first_rows(
+    alloc: Global,
+    table: &Table,
+    pool: &mut PoolInUse,
+    rows: Vec<Items<Value>>,
+) -> Result<Stored, Error>
+    requires long { table.now.long ≡ pool.old.pool.long }
+    requires named { is_name_length (length (key_of table.now.name)) ≡ true }
+    requires fits { CanBegin table.now (in_use pool.old) rows.items }
+    ensures ok { IfOk result (λ stored. Begins table.now (in_use pool.old) rows.items stored (in_use pool.new)) }
+    ensures kind { OnlyMemory result }
+    ensures page { pool.new.pool.page ≡ pool.old.pool.page }
+    ensures long { pool.new.pool.long ≡ pool.old.pool.long }
+{
+    let all = add_rows(alloc, table.columns(), pool, Vec::new(alloc), rows)?;
+    stream_of(alloc, table, all)
+}
+
+/// The streams of the system tables, whose rows describe `_Validation`.
+///
+/// # Errors
+/// `OutOfMemory`.
+fn described_streams(
+    alloc: Global,
+    system: &SystemTables,
+    pool: &mut PoolInUse,
+) -> Result<Vec<Stored>, Error>
+    requires columns { system.now.columns ≡ columns_table }
+    requires tables { system.now.tables ≡ tables_table }
+    requires validation { system.now.validation ≡ validation_table }
+    requires pool { pool.old ≡ unused_pool }
+    ensures ok { IfOk result (λ stored. stored.items ≡ fresh_stored) }
+    ensures pool { OnOk result (pool.new.pool ≡ fresh_pool) }
+    ensures kind { OnlyMemory result }
+{
+    let described = column_rows(alloc, VALIDATION, system.validation.columns())?;
+    let columns = first_rows(alloc, &system.columns, pool, described)?;
+    let listed = Vec::from_array(alloc, [tables_row(alloc, VALIDATION)?])?;
+    let tables = first_rows(alloc, &system.tables, pool, listed)?;
+    let validated = validation_rows(alloc, VALIDATION, system.validation.columns())?;
+    let validation = first_rows(alloc, &system.validation, pool, validated)?;
+    Ok(Vec::from_array(alloc, [columns, tables, validation])?)
+}
+
+impl Database {
+    /// A new database, in UTF-8: it has `_Validation` alone, beside the two tables that are always there.
+    ///
+    /// # Errors
+    /// `OutOfMemory`.
+    pub fn new(alloc: Global) -> Result<Database, Error>
+        ensures ok { IfOk result (λ database. database ≡ fresh) }
+        ensures kind { OnlyMemory result }
+    {
+        let system = system_tables(alloc)?;
+        let mut pool = PoolInUse::new(StringPool::new(alloc, CodePage::Utf8));
+        let stored = described_streams(alloc, &system, &mut pool)?;
+        let mut streams = StreamMap::new(alloc);
+        store_all(&mut streams, stored.into_iter())?;
+        let SystemTables {
+            columns,
+            tables,
+            validation,
+        } = system;
+        let tables = Vec::from_array(alloc, [columns, tables, validation])?;
+        Ok(Database {
+            alloc,
+            pool: pool.into_pool(),
+            tables: Items::from_vec(tables),
+            streams,
+            is_sound: true,
+        })
+    }
+}
