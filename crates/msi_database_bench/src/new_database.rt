@@ -26,20 +26,14 @@ fn cell_count(pool: &StringPool) -> u64 {
 }
 
 /// How many places the pool of a database has, and how many cells name them, where the other parts are as told.
-fn counted(
-    alloc: Global,
-    database: Result<Database, Error>,
-) -> Result<Option<(u32, u64)>, Error> {
+fn counted(alloc: Global, database: Result<Database, Error>) -> Result<Option<(u32, u64)>, Error> {
     let database = database?;
     let is_told = has_stream(alloc, &database, "_Columns", Some(COLUMNS))?
         && has_stream(alloc, &database, "_Tables", Some(&[1, 0]))?;
     if !is_told || !has_places(database.pool(), &[(1, "_Validation", 21), (12, "N", 3)]) {
         return Ok(None);
     }
-    Ok(Some((
-        database.pool().num_strings(),
-        cell_count(database.pool()),
-    )))
+    Ok(Some((database.pool().num_strings(), cell_count(database.pool()))))
 }
 
 #[test]

@@ -9,7 +9,6 @@ use std::alloc::Global;
 /// A value, as a row of a test tells it.
 #[derive(Clone, Copy)]
 pub(crate) enum Given {
-    Null,
     Int(i32),
     Str(&'static str),
 }
@@ -19,6 +18,8 @@ pub(crate) enum Given {
 pub(crate) enum Kind {
     /// A key of 16-bit numbers.
     Key,
+    /// A key of 32-bit numbers.
+    LongKey,
     /// Numbers of 32 bits, or null.
     Number,
     /// Texts of at most 50 characters, or null.
@@ -70,6 +71,7 @@ fn column(alloc: Global, told: &Told) -> Result<Column, Error> {
     let builder = Column::build(alloc, told.0)?;
     match told.1 {
         Kind::Key => Ok(builder.primary_key().int16()),
+        Kind::LongKey => Ok(builder.primary_key().int32()),
         Kind::Number => Ok(builder.nullable().int32()),
         Kind::Word => Ok(builder.nullable().string(50)),
         Kind::OneOf(texts) => Ok(builder.enum_values(texts)?.string(50)),
@@ -88,7 +90,6 @@ fn columns(alloc: Global, told: &[Told]) -> Result<Items<Column>, Error> {
 /// The value that is told.
 fn value(alloc: Global, given: Given) -> Result<Value, Error> {
     match given {
-        Given::Null => Ok(Value::Null),
         Given::Int(number) => Ok(Value::Int(number)),
         Given::Str(text) => Value::from_text(alloc, text),
     }
@@ -97,7 +98,6 @@ fn value(alloc: Global, given: Given) -> Result<Value, Error> {
 /// The literal of a value.
 fn literal(alloc: Global, given: Given) -> Result<Expr, Error> {
     match given {
-        Given::Null => Ok(Expr::null()),
         Given::Int(number) => Ok(Expr::integer(number)),
         Given::Str(text) => Expr::string(alloc, text),
     }

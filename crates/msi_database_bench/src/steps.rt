@@ -12,11 +12,7 @@ use std::alloc::Global;
 pub(crate) type Place = (u16, &'static str, u16);
 
 /// What a change leaves: the stream of a table, and some places.
-pub(crate) type Left = (
-    &'static str,
-    Option<&'static [u8]>,
-    &'static [Place],
-);
+pub(crate) type Left = (&'static str, Option<&'static [u8]>, &'static [Place]);
 
 /// A step of a database's life.
 #[derive(Clone, Copy)]
@@ -82,8 +78,10 @@ fn goes(alloc: Global, database: &mut Database, step: &Step) -> Result<bool, Err
     match step {
         Step::Made(change, (table, stream, places)) => {
             make(alloc, database, change)?;
-            Ok(has_places(database.pool(), *places)
-                && has_stream(alloc, database, *table, *stream)?)
+            Ok(
+                has_places(database.pool(), *places)
+                    && has_stream(alloc, database, *table, *stream)?,
+            )
         }
         Step::Refused(change, kind) => is_refused(alloc, database, change, *kind),
     }
