@@ -158,8 +158,8 @@ impl Database {
         })
     }
 
-    /// Inserts rows into a table. The pool's texts and the table's stream change together, at the end. Answers whether a
-    /// text was taken of the pool or given back.
+    /// Inserts rows into a table. The pool's texts and the table's stream change together, at the end. Answers whether
+    /// a text was taken of the pool or given back.
     ///
     /// # Errors
     /// The first that holds: `InvalidData` where the database isn't sound; `InvalidInput` for a system table;
