@@ -46,3 +46,5 @@ pub mod InsertCallLemmas
 pub mod DroppingCallLemmas
 pub mod ReadingLemmas
 pub mod MarkLemmas
+pub mod CreatingLemmas
+pub mod CreatingCallLemmas

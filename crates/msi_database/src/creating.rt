@@ -1,6 +1,7 @@
 //! Creating a table: it is described in the system tables, and put in among the others.
 
-ghost use Rattle.std.specs.Prelude.{◌≡◌, ◌≤◌, ◌++◌, ◌∷◌, [], IfErr, IfOk, IsTrue, None, Ok, OnErr, OnOk, length, not, position, take, drop, true, unwrap_or};
+ghost use Rattle.std.specs.Prelude.{◌≡◌, ◌≤◌, ◌++◌, ◌∷◌, [], IfErr, IfOk, IsTrue, None, Ok, OnErr, OnOk, length, true};
+ghost use Rattle.std.specs.List.{prefix_len};
 ghost use Rattle.std.specs.Ordering.{is_lt};
 ghost use Rattle.msi_compound.specs.Names.{is_name_length};
 ghost use Rattle.msi_text.specs.FirstFit.{most_places};
@@ -77,16 +78,24 @@ fn no_stream(alloc: Global, name: &str) -> Result<Stored, Error>
     Ok(Stored { name, bytes: None })
 }
 
+/// Whether a table's name stands before a name in order.
+fn is_before(table: &Table, name: &str) -> bool
+    ensures { result ≡ is_lt (list_cmp table.now.name name.now) }
+{
+    table.name() < name
+}
+
 /// How many of the first of these tables stand before a name in order.
 fn place_of(tables: &[Table], name: &str) -> usize
-    ensures value { let place = position (λ t. not (is_lt (list_cmp t.name name.now))) tables.now in
-        result ≡ unwrap_or place (length tables.now) }
+    ensures value { result ≡ prefix_len (λ t. is_lt (list_cmp t.name name.now)) tables.now }
     ensures within { result ≤ length tables.now }
 {
-    tables
-        .iter()
-        .position(|table| table.name() >= name)
-        .unwrap_or(tables.len())
+    for (i, table) in tables.iter().enumerate() {
+        if !is_before(table, name) {
+            return i;
+        }
+    }
+    tables.len()
 }
 
 /// Puts copies of tables behind others.
