@@ -1,14 +1,12 @@
 -- A drop: what a call has in hand at its end is what the drop leaves.
-use Rattle.std.proofs.Common.{◌≡◌, ℕ, Bool, true, false, not, List, [], ◌∷◌, ◌++◌, filter, Option, Some, None, Result, Ok, Err, refl, sym, ap, ap₂, subst, ◌∙◌, inl, inr}
+use Rattle.std.proofs.Common.{◌≡◌, ℕ, Bool, true, false, not, List, [], ◌∷◌, ◌++◌, filter, Option, Some, None, Result, Ok, refl, sym, ap, ap₂, subst, ◌∙◌, inr}
 use Rattle.std.specs.Option.{option_map_or}
 use Rattle.msi_text.specs.ErrorKind.{ErrorKind}
-use Rattle.msi_text.specs.ErrorKind.TheVariants.{InvalidInput}
 use Rattle.msi_text.specs.Pool.{Pool}
 use Rattle.msi_table.specs.declared.value.ValueRef.{ValueRef}
-use Rattle.msi_table.specs.Columns.{ColumnDef, TableDef, types_of}
+use Rattle.msi_table.specs.Columns.{TableDef, types_of}
 use Rattle.msi_table.specs.Tables.{CanStore}
 use Rattle.msi_table.specs.ReadBack.{FitsTable}
-use Rattle.msi_relation.specs.Refusals.{Refusals, IsRefusal, first_refusal, unless_refused}
 use Rattle.msi_relation.specs.Rows.{TableCells}
 use Rattle.msi_schema.specs.Keys.{is_table_name, table_key}
 use Rattle.msi_schema.specs.System.{is_system_table, tables_name, columns_name, validation_name, tables_columns, columns_columns}

@@ -14,7 +14,8 @@ use Rattle.msi_database.specs.Streams.{stream_of_rows}
 
 -- what refuses a drop before its table is looked for
 abbrev pub drop_refusals : Database → List ℕ → Refusals
-drop_refusals d name = sound_refusal d ++ (is_system_table name, InvalidInput) ∷ (not (is_table_name name), InvalidInput) ∷ []
+drop_refusals d name = sound_refusal d
+    ++ (is_system_table name, InvalidInput) ∷ (not (is_table_name name), InvalidInput) ∷ []
 
 -- the pool after the table's own rows, and after those about it of a system table
 abbrev pub rows_given_back : Database → List ℕ → PoolInUse → PoolInUse
@@ -32,6 +33,7 @@ abbrev pub system_stream : Database → List ℕ → List ℕ → List Stored
 system_stream d name system = option_map_or
     (λ t. record {
       name = table_key system;
-      bytes = stream_of_rows d.pool.long t.columns (filter (λ row. not (is_row_about d.pool.places name row)) (rows_of t));
+      bytes = stream_of_rows d.pool.long t.columns
+          (filter (λ row. not (is_row_about d.pool.places name row)) (rows_of t));
     } ∷ [])
     (table_at system d) []
