@@ -48,3 +48,5 @@ pub mod ReadingLemmas
 pub mod MarkLemmas
 pub mod CreatingLemmas
 pub mod CreatingCallLemmas
+pub mod ShownTextLemmas
+pub mod ReadWholeLemmas

@@ -1,14 +1,14 @@
 -- Marks of the places that cells name: how far each loop has come, and what they tell at the end.
 use Rattle.std.proofs.Common.{◌≡◌, ◌≢◌, ℕ, zero, suc, ◌+◌, ◌<◌, Bool, true, false, ◌||◌, ◌==◌, List, [], ◌∷◌, ◌++◌, map, length, drop, set, get_or, Option, Some, None, unwrap_or, refl, sym, ap, subst, ◌∙◌, arith, ⊎_elim, append_assoc, append-nil, get_or-set_same, get_or-set_other}
 use Rattle.std.specs.Prelude.{MatchOption, replicate}
-use Rattle.std.specs.List.{AllByRecursion, list_any}
+use Rattle.std.specs.List.{AllByRecursion, filter_map, list_any}
 use Rattle.std.proofs.lemmas.Bool.{cases_eq, eq-eqb, ne_eqb}
 use Rattle.std.proofs.lemmas.List.{length-set, length-replicate, get_or-replicate}
 use Rattle.msi_text.specs.Pool.{Place, Pool, without_unnamed_texts, with_named_texts}
 use Rattle.msi_pool.proofs.ForgottenLemmas.{marks_stand}
 use Rattle.msi_table.specs.declared.value.ValueRef.{ValueRef}
 use Rattle.msi_table.specs.Columns.{TableDef}
-use Rattle.msi_changes.specs.Database.{numbers_of_rows}
+use Rattle.msi_changes.specs.Database.{number_of_cell, numbers_of_rows, rows_of}
 use Rattle.msi_database.specs.Streams.{Streams, stored_rows}
 use Rattle.msi_database.specs.Kept.{AreAsLong, table_kept}
 use Rattle.msi_database.specs.Reading.{marked, all_marked, numbers_of_tables, numbers_named, pool_shown}
@@ -29,7 +29,7 @@ pub row_marked : (start old new : List Bool) (rows : List (List ValueRef)) (i : 
     → all_marked start (numbers_of_rows rows) ≡ all_marked new (numbers_of_rows (drop (i + 1) rows))
 row_marked start old new rows i row seen h is same so_far now =
     so_far ∙ ap (λ rest. all_marked old (numbers_of_rows rest)) (drop_next rows i row h is)
-    ∙ group_first old _ (numbers_of_rows (drop (i + 1) rows))
+    ∙ group_first old (filter_map number_of_cell row) (numbers_of_rows (drop (i + 1) rows))
     ∙ ap (λ marks. all_marked marks (numbers_of_rows (drop (i + 1) rows))) (ap (λ r. all_marked old (numbers_of_rows (r ∷ []))) (sym same) ∙ sym now)
 
 all_dropped : {X : Type 0} (P : X → Type 0) (xs : List X) (i : ℕ) → AllByRecursion P xs → AllByRecursion P (drop i xs)
@@ -46,7 +46,7 @@ table_marked start old new streams ts i t h is so_far now long all =
     let here : t.long ≡ long = (subst (AllByRecursion (λ t. t.long ≡ long)) next (all_dropped (λ t. t.long ≡ long) ts i all)).0 in
     let rest : List ℕ = numbers_of_tables (map (table_kept streams long) (drop (i + 1) ts)) in
     so_far long all ∙ ap (λ us. all_marked old (numbers_of_tables (map (table_kept streams long) us))) next
-    ∙ group_first old _ rest
+    ∙ group_first old (numbers_of_rows (rows_of (table_kept streams long t).1)) rest
     ∙ ap (λ marks. all_marked marks rest) (ap (λ wide. all_marked old (numbers_of_tables (table_kept streams wide t ∷ []))) (sym here) ∙ sym now)
 
 -- a table whose rows were read, and one that can't be

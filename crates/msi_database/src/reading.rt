@@ -1,8 +1,9 @@
 //! A database read of its pool and the streams of a container's root.
 
-ghost use Rattle.std.specs.Prelude.{◌≡◌, ◌∷◌, [], ◌≤◌, Bool, IfErr, IfOk, OnOk, Some, false, if◌then◌else◌, is_some, length, map, replicate};
+ghost use Rattle.std.specs.Prelude.{◌≡◌, ◌∷◌, [], ◌<◌, ◌≤◌, All, Bool, IfErr, IfOk, OnOk, Some, false, if◌then◌else◌, is_some, length, map, replicate};
 ghost use Rattle.std.specs.FinMap.{entries};
 ghost use Rattle.msi_text.specs.ErrorKind.TheVariants.{InvalidData};
+ghost use Rattle.msi_text.specs.Pool.{CountsFit};
 ghost use Rattle.msi_text.specs.Results.{OnlyMemory};
 ghost use Rattle.msi_table.specs.Columns.{most_columns};
 ghost use Rattle.msi_table.specs.StoredOrder.{row_values};
@@ -149,6 +150,8 @@ fn with_named_texts(
     requires long { AreAsLong pool.long tables.now }
     ensures ok { IfOk result (λ shown.
         shown ≡ pool_shown (numbers_named (entries streams.now) pool.long tables.now rows.now) pool) }
+    ensures few { IfOk result (λ _. length pool.places ≤ 16777215) }
+    ensures counts { IfOk result (λ _. CountsFit pool.places) }
     ensures kind { OnlyMemory result }
 {
     let mut pool = pool;
@@ -159,6 +162,11 @@ fn with_named_texts(
     Ok(pool)
 }
 
+/// A byte is below 256.
+fn look_at_bytes(bytes: &[u8])
+    ensures { All (λ b. b < 256) bytes.now }
+{}
+
 /// Goes over streams: each has a name that a container can hold, and bytes.
 fn look_at(streams: &StreamMap)
     ensures names { HaveNames (entries streams.now) }
@@ -166,7 +174,7 @@ fn look_at(streams: &StreamMap)
 {
     for (name, bytes) in streams.iter() {
         let _units = name.units();
-        let _bytes = bytes.as_slice();
+        look_at_bytes(bytes.as_slice());
     }
 }
 

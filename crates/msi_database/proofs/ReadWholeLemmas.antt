@@ -1,0 +1,134 @@
+-- A database that is read: its pool's places, what it keeps to, and what it is.
+use Rattle.std.proofs.Common.{◌≡◌, ℕ, ◌≤◌, Bool, true, false, ◌||◌, ◌==◌, List, [], ◌∷◌, ◌++◌, map, length, Option, Some, None, is_some, unwrap_or, refl, sym, ap, subst, ◌∙◌}
+use Rattle.std.specs.Prelude.{T, if◌then◌else◌}
+use Rattle.std.specs.List.{list_any}
+use Rattle.std.specs.FinMap.{entries, entries_sorted, is_sorted}
+use Rattle.std.proofs.lemmas.List.Folds.{list_any-append}
+use Rattle.msi_compound.specs.Names.{name_cmp}
+use Rattle.msi_compound.specs.Streams as maps
+use Rattle.msi_text.specs.ErrorKind.{ErrorKind}
+use Rattle.msi_text.specs.ErrorKind.TheVariants.{InvalidData}
+use Rattle.msi_text.specs.Pool.{CountsFit, Place, Pool, with_named_texts}
+use Rattle.msi_table.specs.declared.value.ValueRef.{ValueRef}
+use Rattle.msi_table.specs.Columns.{ColumnDef, TableDef}
+use Rattle.msi_relation.specs.Refusals.{IsRefusal, or_refused}
+use Rattle.msi_schema.specs.Schema.{table_with}
+use Rattle.msi_schema.specs.System.{validation_columns, validation_name}
+use Rattle.msi_changes.specs.Database.{Database, is_sound, names_are_numbers, numbers_of_rows}
+use Rattle.msi_database.specs.Streams.{Streams, stored_rows}
+use Rattle.msi_database.specs.StreamNames.{HaveNames, HoldBytes}
+use Rattle.msi_database.specs.Agreement.{is_shown, schema_in}
+use Rattle.msi_database.specs.Kept.{AreAsLong, database_kept, kept_of, schema_listed, table_kept, table_kept_at, unlisted_kept}
+use Rattle.msi_database.specs.Keeping.{AreKept, IsRead}
+use Rattle.msi_database.specs.Reading.{IsDatabaseOf, numbers_named, numbers_of_tables, pool_shown}
+use Rattle.msi_database.proofs.FitLemmas.{well_formed}
+use Rattle.msi_database.proofs.KeptLawLemmas.{read_is_kept}
+use Rattle.msi_database.proofs.PartsLemmas.{parts_spelled}
+use Rattle.msi_database.proofs.ReadingLemmas.{refused_from, without_validation}
+use Rattle.msi_database.proofs.SchemaLemmas.{tables_sorted}
+use Rattle.msi_database.proofs.ShownTextLemmas.{schema_by_raw}
+
+-- rows that are kept beside the tables name no more than those of their stream
+once_more : (p : ℕ → Bool) (a b : Bool) (rows : List (List ValueRef))
+    → ((a || list_any p (numbers_of_rows (if b then [] else rows))) || list_any p (numbers_of_rows rows)) ≡ (a || list_any p (numbers_of_rows rows))
+once_more p true b rows = refl
+once_more p false true rows = refl
+once_more p false false rows = twice (list_any p (numbers_of_rows rows)) where
+  twice : (x : Bool) → (x || x) ≡ x
+  twice true = refl
+  twice false = refl
+
+shown_here : (p : ℕ → Bool) (ts : List ℕ) (b : Bool) (rows : List (List ValueRef)) (o : Option (List (List ValueRef))) → o ≡ Some rows
+    → list_any p (ts ++ numbers_of_rows rows) ≡ list_any p ((ts ++ numbers_of_rows (if b then [] else unwrap_or o [])) ++ numbers_of_rows (unwrap_or o []))
+shown_here p ts b rows o e =
+    list_any-append p ts (numbers_of_rows rows) ∙ sym (once_more p (list_any p ts) b rows)
+    ∙ ap (λ x. x || list_any p (numbers_of_rows rows)) (sym (list_any-append p ts (numbers_of_rows (if b then [] else rows))))
+    ∙ sym (list_any-append p (ts ++ numbers_of_rows (if b then [] else rows)) (numbers_of_rows rows))
+    ∙ ap (λ (o : Option (List (List ValueRef))). list_any p ((ts ++ numbers_of_rows (if b then [] else unwrap_or o [])) ++ numbers_of_rows (unwrap_or o []))) (sym e)
+
+-- what is read of a pool, of streams, and of the tables that they describe
+pub record Reads (raw : Pool) (tables : List TableDef) (streams : Streams) (rows : List (List ValueRef)) : Type 0 where
+  pub in_order : T (is_sorted name_cmp streams)
+  pub names : HaveNames streams
+  pub held : HoldBytes streams
+  pub few : length raw.places ≤ 16777215
+  pub counts : CountsFit raw.places
+  pub as_long : AreAsLong raw.long tables
+  pub stored : stored_rows streams raw.long validation_columns validation_name ≡ Some rows
+  pub schema : schema_in streams raw ≡ Some (schema_listed tables)
+
+module _ (raw : Pool) (tables : List TableDef) (streams : Streams) (rows : List (List ValueRef)) (h : Reads raw tables streams rows) where
+  abbrev shown : Pool
+  shown = pool_shown (numbers_named streams raw.long tables rows) raw
+
+  schema_read : schema_in streams shown ≡ Some (schema_listed tables)
+  schema_read = schema_by_raw raw tables streams rows h.held h.stored h.schema ∙ h.schema
+
+  places_read : shown.places ≡ with_named_texts (is_shown streams (database_kept shown tables streams)) raw.places
+  places_read = λ i. with_named_texts (λ number. shown_here (λ n. n == number) (numbers_of_tables (map (table_kept streams raw.long) tables)) (is_some (table_kept_at validation_name tables)) rows
+      (stored_rows streams raw.long validation_columns validation_name) h.stored i) raw.places
+
+  is_read : IsRead raw shown tables streams
+  is_read = record {
+    in_order = h.in_order;
+    names = h.names;
+    bytes = h.held;
+    few = h.few;
+    counts = h.counts;
+    places = places_read;
+    as_long = h.as_long;
+    schema = schema_read;
+  }
+
+  pub read_numbers : (new : Pool) → new ≡ shown → names_are_numbers (database_kept new tables streams) ≡ true
+  read_numbers new e =
+      let d : Database = database_kept shown tables streams in
+      let kept = (read_is_kept raw shown tables streams (is_sound d) is_read refl).kept in
+      subst (λ (p : Pool). names_are_numbers (database_kept p tables streams) ≡ true) (sym e) (well_formed d (tables_sorted streams d kept.spelled.schema) kept.rows kept.unlisted).numbers
+
+  pub read_kept : (new : Pool) → new ≡ shown → (sound : Bool) → sound ≡ is_sound (database_kept new tables streams) → AreKept new tables streams sound
+  read_kept new e sound = subst (λ (p : Pool). sound ≡ is_sound (database_kept p tables streams) → AreKept p tables streams sound) (sym e) (read_is_kept raw shown tables streams sound is_read)
+
+  pub read_database : (new : Pool) → new ≡ shown → IsDatabaseOf raw streams (kept_of new tables streams)
+  read_database new e = subst (λ (p : Pool). IsDatabaseOf raw streams (kept_of p tables streams)) (sym e) (record {
+    streams = refl;
+    page = refl;
+    long = refl;
+    places = places_read;
+    spelled = parts_spelled shown tables streams schema_read;
+  })
+
+  pub read_unlisted : (new : Pool) → new ≡ shown → (if is_some (table_kept_at validation_name tables) then [] else rows) ≡ unlisted_kept streams new.long tables
+  read_unlisted new e = subst (λ (p : Pool). (if is_some (table_kept_at validation_name tables) then [] else rows) ≡ unlisted_kept streams p.long tables) (sym e)
+      (ap (λ (o : Option (List (List ValueRef))). if is_some (table_kept_at validation_name tables) then [] else unwrap_or o []) (sym h.stored))
+
+-- THE STANDARD COLUMNS OF `_Validation`
+
+pub standard_is : (standard : TableDef) (wide long : Bool) (columns : List ColumnDef) → standard ≡ table_with wide (validation_name, columns) → wide ≡ long → columns ≡ validation_columns
+    → standard ≡ table_with long (validation_name, validation_columns)
+standard_is standard wide long columns is w c = is ∙ (λ i. table_with (w i) (validation_name, c i))
+
+pub standard_stored : (streams : Streams) (standard : TableDef) (long : Bool) → standard ≡ table_with long (validation_name, validation_columns)
+    → stored_rows streams long validation_columns validation_name ≡ stored_rows streams standard.long standard.columns standard.name
+standard_stored streams standard long is = ap (λ (t : TableDef). stored_rows streams t.long t.columns t.name) (sym is)
+
+-- where the stream of `_Validation` can't be read, nothing is described
+pub unread_refused : (streams : Streams) (raw : Pool) (standard : TableDef) (kind : ErrorKind) → standard ≡ table_with raw.long (validation_name, validation_columns)
+    → IsRefusal (or_refused InvalidData (stored_rows streams standard.long standard.columns standard.name)) kind → IsRefusal (or_refused InvalidData (schema_in streams raw)) kind
+unread_refused streams raw standard kind is e = refused_from (stored_rows streams standard.long standard.columns standard.name) (schema_in streams raw) kind
+    (λ none. without_validation streams raw (standard_stored streams standard raw.long is ∙ none)) e
+
+pub reads_by : (raw : Pool) (m : maps.Streams) (tables listed : List TableDef) (rows : List (List ValueRef)) (standard : TableDef) → HaveNames (entries m) → HoldBytes (entries m)
+    → length raw.places ≤ 16777215 → CountsFit raw.places → standard ≡ table_with raw.long (validation_name, validation_columns)
+    → stored_rows (entries m) standard.long standard.columns standard.name ≡ Some rows → listed ≡ tables → AreAsLong raw.long tables → schema_in (entries m) raw ≡ Some (schema_listed tables)
+    → Reads raw listed (entries m) rows
+reads_by raw m tables listed rows standard names held few counts is stored same as_long schema = record {
+  in_order = entries_sorted m;
+  names = names;
+  held = held;
+  few = few;
+  counts = counts;
+  as_long = subst (AreAsLong raw.long) (sym same) as_long;
+  stored = standard_stored (entries m) standard raw.long is ∙ stored;
+  schema = schema ∙ ap (λ (ts : List TableDef). Some (schema_listed ts)) (sym same);
+}
