@@ -50,3 +50,7 @@ pub mod CreatingLemmas
 pub mod CreatingCallLemmas
 pub mod ShownTextLemmas
 pub mod ReadWholeLemmas
+pub mod FreshCallLemmas
+pub mod FreshStepLemmas
+pub mod FreshMadeLemmas
+pub mod FreshKeptLemmas

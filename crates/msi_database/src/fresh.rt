@@ -1,10 +1,11 @@
 //! A new database: `_Validation`, described by itself.
 
-ghost use Rattle.std.specs.Prelude.{◌≡◌, ◌≤◌, IfOk, OnOk, false, length};
+ghost use Rattle.std.specs.Prelude.{◌≡◌, ◌≤◌, [], IfOk, OnOk, Some, false, is_some, length, true};
 ghost use Rattle.msi_compound.specs.Names.{is_name_length};
 ghost use Rattle.msi_text.specs.Results.{OnlyMemory};
 ghost use Rattle.msi_table.specs.Columns.{most_columns};
 ghost use Rattle.msi_schema.specs.Keys.{table_key as key_of};
+ghost use Rattle.msi_changes.specs.Insert.{cells_added};
 ghost use Rattle.msi_changes.specs.Texts.{in_use};
 ghost use Rattle.msi_database.specs.Fresh.{fresh};
 ghost use Rattle.msi_database.specs.FreshParts.{Begins, CanBegin, columns_table, fresh_pool, fresh_stored, tables_table, unused_pool, validation_table};
@@ -22,7 +23,7 @@ use msi_schema::system::{
 use msi_table::Table;
 use msi_table::column::Column;
 use msi_table::parts::table;
-use msi_table::value::Value;
+use msi_table::value::{Value, ValueRef};
 use msi_text::codepage::CodePage;
 use msi_text::errors::Error;
 use msi_text::stringpool::StringPool;
@@ -69,7 +70,28 @@ fn system_tables(alloc: Global) -> Result<SystemTables, Error>
     })
 }
 
-/// The stream of a table that gets its first rows, whose texts the pool takes.
+/// The rows of a table that gets its first ones, whose texts the pool takes.
+///
+/// # Errors
+/// `OutOfMemory`.
+fn first_cells(
+    alloc: Global,
+    columns: &[Column],
+    pool: &mut PoolInUse,
+    rows: Vec<Items<Value>>,
+) -> Result<Vec<Items<ValueRef>>, Error>
+    requires { is_some (cells_added pool.old.pool.long columns.now (in_use pool.old) [] rows.items) ≡ true }
+    ensures ok { IfOk result (λ all.
+        cells_added pool.old.pool.long columns.now (in_use pool.old) [] rows.items
+        ≡ Some (all.items, in_use pool.new)) }
+    ensures kind { OnlyMemory result }
+    ensures page { pool.new.pool.page ≡ pool.old.pool.page }
+    ensures long { pool.new.pool.long ≡ pool.old.pool.long }
+{
+    add_rows(alloc, columns, pool, Vec::new(alloc), rows)
+}
+
+/// The stream of a table that gets its first rows.
 ///
 /// # Errors
 /// `OutOfMemory`.
@@ -87,7 +109,7 @@ fn first_rows(
     ensures page { pool.new.pool.page ≡ pool.old.pool.page }
     ensures long { pool.new.pool.long ≡ pool.old.pool.long }
 {
-    let all = add_rows(alloc, table.columns(), pool, Vec::new(alloc), rows)?;
+    let all = first_cells(alloc, table.columns(), pool, rows)?;
     stream_of(alloc, table, all)
 }
 

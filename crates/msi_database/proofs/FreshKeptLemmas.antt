@@ -1,0 +1,113 @@
+-- The parts of a new database are kept, and make `fresh`.
+use Rattle.std.proofs.Common.{◌≡◌, ℕ, true, false, List, [], ◌∷◌, length, refl, sym, ap, subst, ◌∙◌, arith}
+use Rattle.std.specs.FinMap.{empty, entries, len, len-empty, len-entries}
+use Rattle.msi_compound.specs.Names.{name_cmp}
+use Rattle.msi_compound.specs.Streams as maps
+use Rattle.msi_text.specs.Pool.{Pool}
+use Rattle.msi_table.specs.Columns.{ColumnDef, TableDef}
+use Rattle.msi_schema.specs.System.{columns_columns, columns_name, tables_columns, tables_name, validation_columns, validation_name}
+use Rattle.msi_changes.specs.Database.{is_sound}
+use Rattle.msi_database.specs.Agreement.{schema_shown}
+use Rattle.msi_database.specs.declared.storing.Stored.{Stored}
+use Rattle.msi_database.specs.Storing.{HaveOwnNames, stored_all, stored_in}
+use Rattle.msi_database.specs.Streams.{Streams}
+use Rattle.msi_database.specs.Kept.{AreAsLong, Kept, database_kept, kept_of, schema_listed}
+use Rattle.msi_database.specs.Keeping.{AreParts, IsKeptDatabase}
+use Rattle.msi_database.specs.Fresh.{fresh, fresh_change}
+use Rattle.msi_database.specs.FreshParts.{columns_table, fresh_pool, fresh_stored, tables_table, validation_table}
+use Rattle.msi_database.proofs.ChangingLemmas.{streams_stored}
+use Rattle.msi_database.proofs.EditLemmas.{tables_stored_in}
+use Rattle.msi_database.proofs.FreshLemmas.{fresh_is_kept}
+use Rattle.msi_database.proofs.FreshMadeLemmas.{have_own_names}
+use Rattle.msi_database.proofs.FreshStepLemmas.{columns_long, tables_long, validation_long}
+use Rattle.msi_database.proofs.PartsLemmas.{parts_make}
+
+-- THE TABLES
+
+pub columns_made : (t : TableDef) (cs : List ColumnDef) → t ≡ record { name = columns_name; columns = cs; long = false } → cs ≡ columns_columns → t ≡ columns_table
+unfolding columns_table
+columns_made t cs e f = e ∙ ap (λ (cs : List ColumnDef). record { name = columns_name; columns = cs; long = false }) f
+
+pub tables_made : (t : TableDef) (cs : List ColumnDef) → t ≡ record { name = tables_name; columns = cs; long = false } → cs ≡ tables_columns → t ≡ tables_table
+unfolding tables_table
+tables_made t cs e f = e ∙ ap (λ (cs : List ColumnDef). record { name = tables_name; columns = cs; long = false }) f
+
+pub validation_made : (t : TableDef) (cs : List ColumnDef) → t ≡ record { name = validation_name; columns = cs; long = false } → cs ≡ validation_columns → t ≡ validation_table
+unfolding validation_table
+validation_made t cs e f = e ∙ ap (λ (cs : List ColumnDef). record { name = validation_name; columns = cs; long = false }) f
+
+abbrev system : List TableDef
+system = columns_table ∷ tables_table ∷ validation_table ∷ []
+
+-- ANY KEPT DATABASE WHOSE TABLES ARE LISTED
+
+kept_parts : (k : Kept) (tables : List TableDef) → IsKeptDatabase k → is_sound k.database ≡ true → schema_listed tables ≡ schema_shown k.database → AreAsLong k.database.pool.long tables
+    → AreParts k k.database.pool tables k.streams
+kept_parts k tables kept sound listed as_long =
+    let made : database_kept k.database.pool tables k.streams ≡ k.database = parts_make k.streams k.database tables kept.spelled listed in
+    let same : kept_of k.database.pool tables k.streams ≡ k = λ i. record { database = made i; streams = k.streams } in (
+      same,
+      record {
+        kept = subst IsKeptDatabase (sym same) kept;
+        as_long = as_long;
+        known = sym (ap is_sound made ∙ sound);
+      },
+    )
+
+-- BY COMPUTATION
+
+whole : Kept
+whole = fresh
+
+whole_is : whole ≡ fresh
+unfolding whole
+whole_is = refl
+
+whole_kept : IsKeptDatabase whole
+unfolding whole
+whole_kept = fresh_is_kept.kept
+
+whole_sound : is_sound whole.database ≡ true
+unfolding whole
+whole_sound = fresh_is_kept.sound
+
+whole_listed : schema_listed system ≡ schema_shown whole.database
+unfolding Rattle.std.specs.Str.chars whole columns_table tables_table validation_table
+whole_listed = refl
+
+whole_long : whole.database.pool.long ≡ false
+unfolding Rattle.std.specs.Str.chars whole
+whole_long = refl
+
+whole_pool : fresh_pool ≡ whole.database.pool
+unfolding whole fresh_pool
+whole_pool = refl
+
+whole_streams : stored_in fresh_stored [] ≡ whole.streams
+unfolding whole fresh_stored
+whole_streams = tables_stored_in fresh_change.database fresh_change.stored []
+
+whole_as_long : AreAsLong whole.database.pool.long system
+whole_as_long = subst (λ long. AreAsLong long system) (sym whole_long) (columns_long, (tables_long, (validation_long, tt)))
+
+no_length : {A : Type 0} (xs : List A) → length xs ≡ 0 → xs ≡ []
+no_length [] e = refl
+no_length (x ∷ xs) e = absurd (omega arith)
+
+none_yet : (m : maps.Streams) → m ≡ empty → entries m ≡ []
+none_yet m e = no_length (entries m) (sym (len-entries m) ∙ ap len e ∙ len-empty name_cmp (List ℕ))
+
+-- AS THE CALL HAS THEM
+
+pub names_are_own : (items es : List Stored) → items ≡ es → es ≡ fresh_stored → HaveOwnNames items
+names_are_own items es e f = subst HaveOwnNames (sym (e ∙ f)) have_own_names
+
+pub fresh_parts : (pool : Pool) (c t v : TableDef) (tables : List TableDef) (m n : maps.Streams) (items : List Stored) → pool ≡ fresh_pool → c ≡ columns_table → t ≡ tables_table → v ≡ validation_table
+    → tables ≡ c ∷ t ∷ v ∷ [] → m ≡ empty → items ≡ fresh_stored → n ≡ stored_all m items → AreParts fresh pool tables (entries n)
+fresh_parts pool c t v tables m n items pool_is c_is t_is v_is tables_are none items_are stored =
+    let streams : whole.streams ≡ entries n = sym (streams_stored m n fresh_stored items stored items_are ∙ ap (stored_in fresh_stored) (none_yet m none) ∙ whole_streams) in
+    let system_is : system ≡ tables = sym (tables_are ∙ (λ i. c_is i ∷ t_is i ∷ v_is i ∷ [])) in
+    subst (λ (k : Kept). AreParts k pool tables (entries n)) whole_is
+    (subst (λ (p : Pool). AreParts whole p tables (entries n)) (sym (pool_is ∙ whole_pool))
+    (subst (λ (ts : List TableDef). AreParts whole whole.database.pool ts (entries n)) system_is
+    (subst (λ (s : Streams). AreParts whole whole.database.pool system s) streams (kept_parts whole system whole_kept whole_sound whole_listed whole_as_long))))
