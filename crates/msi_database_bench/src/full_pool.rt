@@ -4,7 +4,7 @@ use crate::changes::{NUMBERS, WORDS};
 use crate::samples::Change::{Create, Insert, UpdateWhere};
 use crate::samples::Given::{Int, Str};
 use crate::samples::Kind::Key;
-use crate::samples::make;
+use crate::samples::{both, make};
 use crate::steps::Step::{self, Made, Refused};
 use crate::steps::gone;
 use msi_compound::contents::{Bytes, StreamMap};
@@ -14,14 +14,21 @@ use msi_text::{Error, ErrorKind, StringPool};
 use std::alloc::Global;
 use std::test::Fail;
 
+/// Bytes with a piece put behind them 65512 times.
+fn extended(bytes: Result<Vec<u8>, Error>, piece: &[u8]) -> Result<Vec<u8>, Error> {
+    let mut bytes = bytes?;
+    for _ in 0..65512 {
+        bytes.extend_from_slice(piece)?;
+    }
+    Ok(bytes)
+}
+
 /// A pool with 65512 places more, each of a letter that one cell may name.
 fn with_letters(alloc: Global, pool: &StringPool) -> Result<StringPool, Error> {
-    let mut places = pool_stream_of(pool)?;
-    let mut texts = data_stream_of(pool)?;
-    for _ in 0..65512 {
-        places.extend_from_slice(&[1, 0, 1, 0])?;
-        texts.push(b'x')?;
-    }
+    let (places, texts) = both(
+        extended(pool_stream_of(pool), &[1, 0, 1, 0]),
+        extended(data_stream_of(pool), b"x"),
+    )?;
     pool_of(alloc, places.as_slice(), texts.as_slice())
 }
 

@@ -13,11 +13,18 @@ use std::test::Fail;
 
 const MANY: Change = Create("Many", &[("Key", LongKey), ("Word", Word)]);
 
-/// The row of a number, whose word is that of each 21,000th.
+/// A word of one character, which 21,000 numbers in turn have for themselves.
+fn word(alloc: Global, number: i32) -> Result<String, Error> {
+    let letter = char::from_u32(0x4E00 + (number % 21_000).unsigned_abs());
+    let mut text = String::new(alloc);
+    text.push(letter.unwrap_or('?'))?;
+    Ok(text)
+}
+
+/// The row of a number, with its word.
 fn row(alloc: Global, number: i32) -> Result<Vec<Value>, Error> {
-    let word = number % 21_000;
-    let text = format!(in alloc; "w{word}")?;
-    Ok(Vec::from_array(alloc, [Value::Int(number), Value::from(text)])?)
+    let word = Value::from(word(alloc, number)?);
+    Ok(Vec::from_array(alloc, [Value::Int(number), word])?)
 }
 
 /// The rows of the numbers from one on and before another.
@@ -62,12 +69,19 @@ fn filled(
     Ok((database.pool().num_strings(), len))
 }
 
+/// 17 places of a new database, 3 names and the words; 4 bytes of a key and 2 of a word's place.
+const FOUND: (u32, usize) = (21_020, 300_000);
+
 #[test]
-fn fifty_thousand_rows_are_inserted(rt: HostRuntime) -> Result<(), Fail> {
-    for (calls, size) in [(1, 50_000), (50, 1_000)] {
-        let found = filled(rt.alloc(), Database::new(rt.alloc()), calls, size)?;
-        // 17 places of a new database, 3 names, and the words; 4 bytes of a key and 2 of a word's place.
-        assert_eq!(rt; found, (21_020, 300_000), "{calls} calls");
-    }
+fn fifty_thousand_rows_are_inserted_at_once(rt: HostRuntime) -> Result<(), Fail> {
+    let found = filled(rt.alloc(), Database::new(rt.alloc()), 1, 50_000)?;
+    assert_eq!(rt; found, FOUND);
+    Ok(())
+}
+
+#[test]
+fn fifty_thousand_rows_are_inserted_in_fifty_calls(rt: HostRuntime) -> Result<(), Fail> {
+    let found = filled(rt.alloc(), Database::new(rt.alloc()), 50, 1_000)?;
+    assert_eq!(rt; found, FOUND);
     Ok(())
 }

@@ -16,17 +16,17 @@ const COLUMNS: &[u8] = &[
     0xFF, 0x9D,
 ];
 
-/// How many cells name places of a pool.
-fn cell_count(pool: &StringPool) -> u64 {
-    let mut sum = 0_u64;
-    for number in 1..=pool.num_strings() {
-        sum = sum.saturating_add(u64::from(pool.refcount(string_ref(number))));
+/// How many cells name the first places of a pool.
+fn cell_count(pool: &StringPool) -> u32 {
+    let mut sum = 0_u32;
+    for number in 1..18 {
+        sum = sum.saturating_add(u32::from(pool.refcount(string_ref(number))));
     }
     sum
 }
 
 /// How many places the pool of a database has, and how many cells name them, where the other parts are as told.
-fn counted(alloc: Global, database: Result<Database, Error>) -> Result<Option<(u32, u64)>, Error> {
+fn counted(alloc: Global, database: Result<Database, Error>) -> Result<Option<(u32, u32)>, Error> {
     let database = database?;
     let is_told = has_stream(alloc, &database, "_Columns", Some(COLUMNS))?
         && has_stream(alloc, &database, "_Tables", Some(&[1, 0]))?;
