@@ -4,11 +4,7 @@
 #[cfg(test)]
 mod changes;
 #[cfg(test)]
-mod full_pool;
-#[cfg(test)]
-mod many_rows;
-#[cfg(test)]
-mod new_database;
+mod large;
 #[cfg(test)]
 mod samples;
 #[cfg(test)]
