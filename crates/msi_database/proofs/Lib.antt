@@ -45,6 +45,12 @@ pub mod RowCallLemmas
 pub mod InsertCallLemmas
 pub mod OtherLemmas
 pub mod DroppingCallLemmas
+pub mod ReadingLemmas
+pub mod MarkLemmas
+pub mod CreatingLemmas
+pub mod CreatingCallLemmas
+pub mod ShownTextLemmas
+pub mod ReadWholeLemmas
 pub mod FreshCallLemmas
 pub mod FreshStepLemmas
 pub mod FreshMadeLemmas

@@ -15,3 +15,6 @@ pub mod Fresh
 pub mod FreshParts
 pub mod Reading
 pub mod Creating
+pub mod Creating
+pub mod Reading
+pub mod FreshParts
