@@ -55,9 +55,3 @@ pub mod FreshCallLemmas
 pub mod FreshStepLemmas
 pub mod FreshMadeLemmas
 pub mod FreshKeptLemmas
-pub mod ReadingLemmas
-pub mod MarkLemmas
-pub mod ShownTextLemmas
-pub mod ReadWholeLemmas
-pub mod CreatingLemmas
-pub mod CreatingCallLemmas

@@ -15,6 +15,3 @@ pub mod Fresh
 pub mod FreshParts
 pub mod Reading
 pub mod Creating
-pub mod Creating
-pub mod Reading
-pub mod FreshParts
