@@ -19,8 +19,8 @@ use std::alloc::Global;
 use std::marker::Model;
 use std::mem;
 
-/// Streams, of which the one that was last written may lie open. It stands beside the others, so that whoever borrows it
-/// for writing can leave any bytes in it; it is put back by the next call that needs it there, which takes no memory. A
+/// Streams, of which the one that was last written may lie open. It stands beside the others, so that whoever borrows
+/// it for writing can leave any bytes in it; the next call that needs it there puts it back, which takes no memory. A
 /// contract sees the streams with that one in its place.
 #[derive(Drop)]
 pub struct Desk {
@@ -47,12 +47,7 @@ impl Model for Desk {
 }
 
 /// Puts the open stream's bytes where they belong, which takes no memory.
-fn settle(
-    alloc: Global,
-    streams: &mut StreamMap,
-    name: &mut Option<Name>,
-    current: &mut OpenStream,
-)
+fn settle(alloc: Global, streams: &mut StreamMap, name: &mut Option<Name>, current: &mut OpenStream)
     requires { IfSome name.old (λ n. finite.contains_key streams.old n ≡ true) }
     ensures streams { streams.new ≡ settled streams.old name.old current.old.bytes }
     ensures name { name.new ≡ None }
@@ -114,8 +109,8 @@ impl Desk {
         Ok(())
     }
 
-    /// Empties a stream that is there, and lends it for writing from its first byte on. It takes no memory: who has more
-    /// to do once a stream is made, as [`Desk::write_stream`] makes it, does that before it is lent.
+    /// Empties a stream that is there, and lends it for writing from its first byte on. It takes no memory, so a caller
+    /// that has something to note once the stream is made calls [`Desk::make_stream`], notes it, and then calls this.
     pub fn open_stream(&mut self, name: Name) -> StreamWriter<'_>
         requires { finite.contains_key self.old name ≡ true }
         ensures* writes_back { sem 𝓛 (LendsThere name self.entry result) }
