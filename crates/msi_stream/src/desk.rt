@@ -1,6 +1,6 @@
 //! The streams of a container, of which one may lie open.
 
-ghost use Rattle.std.specs.Prelude.{◌≡◌, [], IfOk, IfSome, None, OnErr, OnOk, true};
+ghost use Rattle.std.specs.Prelude.{◌≡◌, [], IfOk, IfSome, None, OnErr, OnOk, option_map, true};
 ghost use Rattle.std.specs.Borrow.{sem};
 ghost use Rattle.std.specs.FinMap as finite;
 ghost use Rattle.std.specs.Option.{option_copied};
@@ -11,6 +11,7 @@ ghost use Rattle.msi_stream.specs.DeskLending.{LendsOpen, LendsSettled, LendsThe
 ghost use Rattle.msi_stream.specs.Listing.{listed_names};
 
 use crate::names::Streams;
+use crate::reader::StreamReader;
 use crate::writer::{OpenStream, StreamWriter};
 use msi_compound::contents::{Bytes, StreamMap};
 use msi_compound::name::Name;
@@ -141,6 +142,14 @@ impl Desk {
             }
             None => bytes_of(&self.streams, name),
         }
+    }
+
+    /// A reader of the stream of a name at its first byte, if there is one. It takes no memory.
+    pub fn read_stream(&self, name: &Name) -> Option<StreamReader<'_>>
+        ensures { result ≡ option_map at_start (finite.get self.now name.now) }
+    {
+        let bytes = self.get(name)?;
+        Some(StreamReader::new(bytes))
     }
 
     /// Whether there is a stream of a name. It takes no memory.
