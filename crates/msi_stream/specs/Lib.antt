@@ -1,0 +1,6 @@
+-- The words of this crate.
+pub mod Cursor
+pub mod Refusals
+pub mod Listing
+pub mod Desk
+pub mod DeskLending
