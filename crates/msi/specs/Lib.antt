@@ -6,3 +6,4 @@ pub mod Calls
 pub mod Lent
 pub mod Steps
 pub mod Runs
+pub mod Laws
