@@ -10,3 +10,6 @@ pub mod PackageLemmas
 pub mod FlushLemmas
 pub mod MeaningLemmas
 pub mod StepLemmas
+pub mod RunLemmas
+pub mod LeavingLemmas
+pub mod FreshLemmas
