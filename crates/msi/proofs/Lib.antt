@@ -13,3 +13,5 @@ pub mod StepLemmas
 pub mod RunLemmas
 pub mod LeavingLemmas
 pub mod FreshLemmas
+pub mod SessionLemmas
+pub mod ReplayLemmas

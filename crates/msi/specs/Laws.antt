@@ -1,10 +1,10 @@
 -- What holds of every step, of runs, and of what bytes mean: statements that public contracts name.
-use Rattle.std.specs.Prelude.{◌≡◌, ℕ, ◌<◌, ◌^◌, ◌⊎◌, true, false, List, Some, Result, Ok, Err}
+use Rattle.std.specs.Prelude.{◌≡◌, ℕ, ◌<◌, ◌^◌, ◌⊎◌, true, false, List, length, Some, Result, Ok, Err}
 use Rattle.std.specs.List.{AllByRecursion}
 use Rattle.msi_text.specs.ErrorKind.{ErrorKind}
 use Rattle.msi_text.specs.ErrorKind.TheVariants.{Io, OutOfMemory}
 use Rattle.msi_schema.specs.Keys.{is_stream_name, stream_key}
-use Rattle.msi_changes.specs.Database.{CountsAreExact, is_sound}
+use Rattle.msi_changes.specs.Database.{Database, CountsAreExact, is_sound}
 use Rattle.msi_changes.specs.Laws.{KeysAreDistinct}
 use Rattle.msi_database.specs.Streams.{Streams, with_stream, without_stream}
 use Rattle.msi.specs.declared.kinds.PackageType.{PackageType}
@@ -12,8 +12,8 @@ use Rattle.msi.specs.State.{Parts, State, parts_of}
 use Rattle.msi.specs.Meaning.{IsPackage, Means, OpensTo}
 use Rattle.msi.specs.Calls.{Call, Answer}
 use Rattle.msi.specs.Calls as calls
-use Rattle.msi.specs.Steps.{Step, outcome, is_lending, streams_written, as_written, with_streams, without_signature}
-use Rattle.msi.specs.Runs.{Session, SessionStep, Run, FitsCall, IsReplay, created}
+use Rattle.msi.specs.Steps.{Step, outcome, is_lending, image_of, streams_written, as_written, with_streams, without_signature}
+use Rattle.msi.specs.Runs.{Session, SessionStep, Run, FitsCall, TextsAreWritable, HoldsPackage, IsSession, IsReplay, created, created_over, opened}
 
 -- each of them is a byte
 abbrev pub AreBytes : List ℕ → Type 0
@@ -84,12 +84,40 @@ FlushKeepsParts = (s : State) (streams : Streams) → IsPackage s → streams_wr
 
 -- RUNS
 
+-- a sound database, with exact counts and distinct keys
+pub record IsExact (d : Database) : Type 0 where
+  pub sound : is_sound d ≡ true
+  pub counts : CountsAreExact d
+  pub keys : KeysAreDistinct d
+
 -- calls one after another keep what each of them keeps
 abbrev pub RunsKeepPackages : Type 0
 RunsKeepPackages = (old new : Session) (sent : List Call) (answers : List (Result Answer ErrorKind))
     → IsPackage old.state → AllByRecursion FitsCall sent → Run old sent answers new → KeepsPackage old.state new.state
 
--- what a flush that is done leaves on the device, after any calls on a new package: bytes that mean it, and open to it
+-- so do sessions: what is held after a flush that is done means the package that is left, and opens to it
+abbrev pub RunsKeepSessions : Type 0
+RunsKeepSessions = (old new : Session) (sent : List Call) (answers : List (Result Answer ErrorKind))
+    → IsSession old → AllByRecursion FitsCall sent → Run old sent answers new → IsSession new
+
+abbrev pub FlushedIsHeld : Type 0
+FlushedIsHeld = (old new : Session) → IsSession old → SessionStep old calls.flush (Ok calls.done) new
+    → (new.state.is_unwritten ≡ false) × (TextsAreWritable new.state → HoldsPackage new)
+
+-- the bytes are those that `image` answers
+abbrev pub FlushHoldsImage : Type 0
+FlushHoldsImage = (old new : Session) (answer : Answer) → old.state.is_unwritten ≡ true
+    → SessionStep old calls.flush (Ok answer) new → image_of old.state (length old.held) ≡ Ok new.held
+
+-- what is made, over a device of any length, and what is opened, over the bytes that it was read from, are sessions
+abbrev pub CreatedIsSession : Type 0
+CreatedIsSession = (kind : PackageType) (earlier_len : ℕ) (s : Session) → created_over kind earlier_len ≡ Ok s
+    → IsSession s × IsExact s.state.kept.database
+
+abbrev pub OpenedIsSession : Type 0
+OpenedIsSession = (bytes : List ℕ) (s : State) → AreBytes bytes → OpensTo bytes (Ok s) → IsSession (opened bytes s)
+
+-- any calls on a new package, and a last flush that is done
 abbrev pub ReplaysMean : Type 0
 ReplaysMean = (kind : PackageType) (sent : List Call) (answers : List (Result Answer ErrorKind)) (last left : Session)
     → AllByRecursion FitsCall sent → Run (created kind) sent answers last
