@@ -17,3 +17,5 @@ pub mod SessionLemmas
 pub mod ReplayLemmas
 pub mod HeldLemmas
 pub mod ShownPoolLemmas
+pub mod CoverLemmas
+pub mod OneMeaningLemmas
