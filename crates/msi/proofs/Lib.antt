@@ -19,3 +19,5 @@ pub mod HeldLemmas
 pub mod ShownPoolLemmas
 pub mod CoverLemmas
 pub mod OneMeaningLemmas
+pub mod OpeningLemmas
+pub mod OpenedLemmas
