@@ -24,7 +24,7 @@ use Rattle.msi_schema.specs.Schema.{SchemaRows, schema_of}
 use Rattle.msi_schema.proofs.SchemaLemmas.{table_of}
 use Rattle.msi_changes.specs.Database.{Database, Tables, table_at, rows_of, number_of_cell, numbers_of_rows, named_numbers}
 use Rattle.msi_database.specs.Streams.{Streams, stream_at, stored_rows}
-use Rattle.msi_database.specs.Agreement.{DatabaseIs, TablesAre, numbers_stored, is_shown, schema_rows, schema_shown}
+use Rattle.msi_database.specs.Agreement.{TablesAre, numbers_stored, is_shown, schema_shown}
 use Rattle.msi_database.proofs.DescribedLemmas.{shown_table, table_rows}
 use Rattle.msi.proofs.ShownPoolLemmas.{IsNamed, AreNamed, OptionNamed, CoversSchema}
 
@@ -116,19 +116,19 @@ system_found : (d : Database) (o : Option SchemaRows) → option_and_then schema
     → ((s : SchemaRows) → table_of s name ≡ Some columns) → (t : TableCells) × (table_at name d ≡ Some t) × (t.columns ≡ columns)
 system_found d o e name columns is = option_and_then_some schema_of o (schema_shown d) e (λ s s_is f. shown_table d s f name columns (is s))
 
-module _ (streams : Streams) (d : Database) (spelled : DatabaseIs streams d) where
+module _ (streams : Streams) (d : Database) (tables : TablesAre streams d) (o : Option SchemaRows) (read : option_and_then schema_of o ≡ Some (schema_shown d)) where
   -- a number that a found table's stream names is shown
   stream_shown : (name : List ℕ) (t : TableCells) → table_at name d ≡ Some t → (n : ℕ) → passes (numbers_of_rows (unwrap_or (stored_rows streams d.pool.long t.columns name) [])) n → is_shown streams d n ≡ true
   stream_shown name t found n h =
       let here : passes (numbers_of_rows (rows_of t)) n = subst (λ (o : Option (List (List ValueRef))). passes (numbers_of_rows (unwrap_or o [])) n)
-      (sym (table_rows streams d.pool.long d.tables spelled.tables name t found)) h in
+      (sym (table_rows streams d.pool.long d.tables tables name t found)) h in
       list_any-append (λ m. m == n) (named_numbers d) (numbers_stored streams d.pool.long)
       ∙ or_left _ _ (list_any-append (λ m. m == n) (flat_map numbers_of d.tables) (numbers_of_rows d.unlisted_validation)
       ∙ or_left _ _ (found_any (λ m. m == n) name t d.tables found here))
 
   system_named : (name : List ℕ) (columns : List ColumnDef) → ((s : SchemaRows) → table_of s name ≡ Some columns) → OptionNamed (is_shown streams d) (stored_rows streams d.pool.long columns name)
   system_named name columns is =
-      let t = system_found d (schema_rows streams d.pool) spelled.schema name columns is in
+      let t = system_found d o read name columns is in
       option_named (is_shown streams d) (stored_rows streams d.pool.long columns name) (stored_above streams d.pool.long columns name)
       (λ n h. stream_shown name t.0 t.1 n (subst (λ (cs : List ColumnDef). passes (numbers_of_rows (unwrap_or (stored_rows streams d.pool.long cs name) [])) n) (sym t.2) h))
 

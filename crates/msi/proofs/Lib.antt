@@ -21,3 +21,5 @@ pub mod CoverLemmas
 pub mod OneMeaningLemmas
 pub mod OpeningLemmas
 pub mod OpenedLemmas
+pub mod ReadingLemmas
+pub mod LawLemmas

@@ -18,7 +18,7 @@ use Rattle.msi_schema.specs.Keys.{table_key, summary_key, string_pool_name, stri
 use Rattle.msi_schema.specs.System.{validation_name, validation_columns}
 use Rattle.msi_changes.specs.Database.{Database, Tables, has_table}
 use Rattle.msi_database.specs.Streams.{Streams, stream_at, stored_rows}
-use Rattle.msi_database.specs.Agreement.{TablesAre, UnlistedIs, is_shown, schema_shown, schema_in}
+use Rattle.msi_database.specs.Agreement.{TablesAre, UnlistedIs, is_shown, schema_rows, schema_shown, schema_in}
 use Rattle.msi.specs.declared.kinds.PackageType.{PackageType}
 use Rattle.msi.specs.declared.kinds.PackageType.TheVariants as kind
 use Rattle.msi.specs.Kinds.{clsid_of}
@@ -109,7 +109,7 @@ database_one streams d e p q t u v w shown_same =
 pub schema_raw : (c : Contents) (p : Parts) (h : ContentsMean c p) → schema_in (entries c.streams) h.pool.0 ≡ Some (schema_shown p.database)
 schema_raw c p h =
     let covers : CoversSchema (entries c.streams) (is_shown (entries c.streams) p.database) h.pool.0 =
-    covers_schema (entries c.streams) p.database h.database h.pool.0 (ap (λ (x : Pool). x.long) h.pool.2) in
+    covers_schema (entries c.streams) p.database h.database.tables (schema_rows (entries c.streams) p.database.pool) h.database.schema h.pool.0 (ap (λ (x : Pool). x.long) h.pool.2) in
     sym (schema_by_raw (entries c.streams) (is_shown (entries c.streams) p.database) h.pool.0 covers) ∙ ap (schema_in (entries c.streams)) (sym h.pool.2) ∙ h.database.schema
 
 pub meaning_one : (c : Contents) (p q : Parts) → AreBytes (unwrap_or (stream_at summary_key (entries c.streams)) []) → ContentsMean c p → ContentsMean c q → p ≡ q

@@ -13,7 +13,7 @@ use Rattle.msi_database.specs.Agreement.{schema_in, schema_shown}
 use Rattle.msi.specs.State.{Parts, State, parts_of}
 use Rattle.msi.specs.Meaning.{ContentsMean, OpenStep, Passes, FailsFirst, OpensTo, Means, as_opened, open_steps}
 use Rattle.msi.specs.Meaning as step
-use Rattle.msi.specs.Laws.{AreBytes, BytesMeanOne, BytesOpenToOne}
+use Rattle.msi.specs.Laws.{AreBytes, BytesMeanOne, BytesOpenToOne, RefusedMeanNothing}
 use Rattle.msi.proofs.HeldLemmas.{held_small}
 use Rattle.msi.proofs.OneMeaningLemmas.{schema_raw, meaning_one}
 
@@ -63,6 +63,12 @@ fails_once c kind other (s ∷ ss) (inr h) (inr k) = fails_once c kind other ss 
 pub bytes_mean_one : BytesMeanOne
 bytes_mean_one bytes p q small (c, holds, h) (d, held, k) =
     meaning_one c p q (held_small bytes small c holds summary_key) h (subst (λ (x : Contents). ContentsMean x q) (held_once bytes d c held holds) k)
+
+-- bytes that aren't opened mean nothing
+pub refused_mean_nothing : RefusedMeanNothing
+refused_mean_nothing bytes kind p (inl none) (c, holds, h) = none.0 c holds
+refused_mean_nothing bytes kind p (inr (d, held, fails)) (c, holds, h) =
+    never_fails d kind (means_passes d p (subst (λ (x : Contents). ContentsMean x p) (held_once bytes c d holds held) h)) open_steps fails
 
 module _ (bytes : List ℕ) (small : AreBytes bytes) where
   same_opened : (c d : Contents) (p q : Parts) → c ≡ d → p ≡ q → as_opened (entries c.streams) p ≡ as_opened (entries d.streams) q
