@@ -1,5 +1,5 @@
 -- The streams that bytes hold: their names are names, and each holds bytes.
-use Rattle.std.proofs.Common.{◌≡◌, ℕ, zero, suc, ◌+◌, ◌-◌, ◌*◌, ◌/◌, ◌%◌, ◌<◌, ◌^◌, Bool, true, false, cond, List, [], ◌∷◌, map, length, filter, slice_index, Some, unwrap_or, refl, sym, ◌∙◌, subst, lit<, arith}
+use Rattle.std.proofs.Common.{◌≡◌, ℕ, zero, suc, ◌+◌, ◌-◌, ◌*◌, ◌/◌, ◌<◌, ◌^◌, Bool, true, false, cond, List, [], ◌∷◌, map, length, filter, slice_index, Some, unwrap_or, refl, sym, ◌∙◌, subst, lit<, arith}
 use Rattle.std.specs.Prelude.{if◌then◌else◌}
 use Rattle.std.specs.List.{AllByRecursion, range_with_len, zip}
 use Rattle.std.specs.Ordering.{eq_by_cmp}
@@ -8,7 +8,7 @@ use Rattle.std.specs.FinMap.{put, empty, entries, from_entries, entries-insert, 
 use Rattle.std.specs.FinMap.Entries.{by_order}
 use Rattle.std.proofs.lemmas.List.FromFn.{length-map-range_with_len}
 use Rattle.msi_compound.specs.declared.contents.Contents.{Contents}
-use Rattle.msi_compound.specs.Bytes.{number16, place}
+use Rattle.msi_compound.specs.Bytes.{number16}
 use Rattle.msi_compound.specs.Chains.{AreBelow}
 use Rattle.msi_compound.specs.Names.{name_cmp}
 use Rattle.msi_compound.specs.Trees.{members}

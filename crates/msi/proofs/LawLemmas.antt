@@ -1,13 +1,11 @@
 -- The laws of calls on streams, of flushes, and of answers.
-use Rattle.std.proofs.Common.{◌≡◌, ℕ, Bool, true, false, Result, Ok, Err, refl, sym, ap, ◌∙◌, ◌⊎◌, inl, inr}
+use Rattle.std.proofs.Common.{◌≡◌, Bool, true, false, ap, ◌∙◌, inl, inr}
 use Rattle.std.specs.Prelude.{MatchBool}
 use Rattle.std.proofs.lemmas.Bool.{true≢false}
-use Rattle.msi_text.specs.ErrorKind.{ErrorKind}
 use Rattle.msi_schema.specs.Keys.{stream_key, signature_key, signature_ex_key}
 use Rattle.msi_database.specs.Streams.{Streams, without_stream}
-use Rattle.msi.specs.State.{State, names_of, others_among, parts_of}
-use Rattle.msi.specs.Calls.{Call, Answer}
-use Rattle.msi.specs.Steps.{LendsOrRefuses, Step, outcome, is_lending}
+use Rattle.msi.specs.State.{names_of, parts_of}
+use Rattle.msi.specs.Steps.{LendsOrRefuses, outcome, is_lending}
 use Rattle.msi.specs.Laws.{WritesItsStream, RemovesItsStream, RemovesSignature, FlushKeepsParts, StepsAreFixed, PassingMeans, with_others}
 use Rattle.msi.proofs.FlushLemmas.{flush_parts}
 use Rattle.msi.proofs.OtherStreamLemmas.{others_with, others_without, stream_key_is_other}

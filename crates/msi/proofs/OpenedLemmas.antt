@@ -1,6 +1,6 @@
 -- What is opened is a package.
-use Rattle.std.proofs.Common.{◌≡◌, ℕ, suc, ◌<◌, ◌≤◌, ◌^◌, Bool, true, false, List, [], ◌∷◌, map, length, Option, Some, None, refl, sym, ap, subst, ◌∙◌}
-use Rattle.std.specs.Prelude.{IsSomeAnd, All, Ok}
+use Rattle.std.proofs.Common.{◌≡◌, ℕ, suc, ◌<◌, ◌≤◌, ◌^◌, Bool, List, [], ◌∷◌, map, length, Option, Some, None, refl, sym, ap, subst, ◌∙◌}
+use Rattle.std.specs.Prelude.{IsSomeAnd}
 use Rattle.std.specs.List.{AllByRecursion}
 use Rattle.std.specs.FinMap.{entries, entries_sorted}
 use Rattle.std.proofs.lemmas.Bool.{true≢false}
@@ -17,16 +17,15 @@ use Rattle.msi_schema.specs.Keys.{table_key, summary_key, string_pool_name, stri
 use Rattle.msi_changes.specs.Database.{Database, Tables, is_sound}
 use Rattle.msi_database.specs.Streams.{Streams, stream_at}
 use Rattle.msi_database.specs.StreamNames.{HoldBytes}
-use Rattle.msi_database.specs.Agreement.{DatabaseIs, is_shown, schema_in, schema_shown}
-use Rattle.msi_database.specs.Kept.{AreAsLong, database_kept, kept_of, schema_listed, Kept}
+use Rattle.msi_database.specs.Agreement.{DatabaseIs, is_shown}
+use Rattle.msi_database.specs.Kept.{AreAsLong, database_kept, schema_listed}
 use Rattle.msi_database.specs.Keeping.{IsKeptDatabase, AreKept}
 use Rattle.msi_database.specs.Listed.{tables_listed}
 use Rattle.msi_database.proofs.KeptLawLemmas.{read_is_kept}
 use Rattle.msi_database.proofs.PartsLemmas.{parts_make}
 use Rattle.msi.specs.State.{Parts, State, parts_of}
-use Rattle.msi.specs.Meaning.{SummaryIs, PoolIs, ContentsMean, IsPackage, Means, OpensTo, as_opened}
-use Rattle.msi.specs.Runs.{IsSession, opened}
-use Rattle.msi.specs.Laws.{AreBytes, IsOpened, OpenedArePackages, OpenedIsSession}
+use Rattle.msi.specs.Meaning.{SummaryIs, PoolIs, ContentsMean, IsPackage, as_opened}
+use Rattle.msi.specs.Laws.{AreBytes, OpenedArePackages, OpenedIsSession}
 use Rattle.msi.proofs.SummarySetLemmas.{IsSummarySet}
 use Rattle.msi.proofs.PackageLemmas.{short_names}
 use Rattle.msi.proofs.HeldLemmas.{held_names, held_bytes}

@@ -1,5 +1,5 @@
 -- Opening gives one answer for given bytes.
-use Rattle.std.proofs.Common.{◌≡◌, ℕ, Bool, List, [], ◌∷◌, Option, Some, None, Result, Ok, Err, refl, sym, ap, subst, ◌∙◌, inl, inr}
+use Rattle.std.proofs.Common.{◌≡◌, ℕ, Bool, List, [], ◌∷◌, Option, Some, None, Ok, Err, refl, sym, ap, subst, ◌∙◌, inl, inr}
 use Rattle.std.specs.Prelude.{IsSome, IsSomeAnd}
 use Rattle.std.specs.FinMap.{entries}
 use Rattle.msi_text.specs.ErrorKind.{ErrorKind}

@@ -1,21 +1,20 @@
 -- What is read, step by step, is what the bytes open to; and contents that pass each step mean a package.
-use Rattle.std.proofs.Common.{◌≡◌, ◌≢◌, ℕ, Bool, true, false, List, [], ◌∷◌, map, Option, Some, None, Ok, Err, refl, sym, ap, subst, ◌∙◌, inl, inr}
+use Rattle.std.proofs.Common.{◌≡◌, ℕ, Bool, false, List, [], ◌∷◌, map, Option, Some, None, Ok, refl, sym, ap, subst, ◌∙◌, inl, inr}
 use Rattle.std.specs.Prelude.{IsSome, IsSomeAnd}
 use Rattle.std.specs.List.{AllByRecursion}
 use Rattle.std.specs.FinMap.{entries}
 use Rattle.std.proofs.lemmas.Bool.{true≢false}
-use Rattle.msi_text.specs.CodePage.{CodePage}
 use Rattle.msi_text.specs.ErrorKind.{ErrorKind}
 use Rattle.msi_text.specs.ErrorKind.TheVariants.{InvalidData, NotFound}
-use Rattle.msi_text.specs.Pool.{Pool, Entry, SpellsPool, with_named_texts}
+use Rattle.msi_text.specs.Pool.{Pool, with_named_texts}
 use Rattle.msi_summary.specs.Properties.{Properties}
 use Rattle.msi_table.specs.Columns.{ColumnDef, TableDef}
 use Rattle.msi_compound.specs.declared.contents.Contents.{Contents}
 use Rattle.msi_compound.specs.Container.{Holds}
-use Rattle.msi_schema.specs.Keys.{table_key, summary_key, string_pool_name, string_data_name}
+use Rattle.msi_schema.specs.Keys.{table_key, string_pool_name, string_data_name}
 use Rattle.msi_changes.specs.Database.{Database}
 use Rattle.msi_database.specs.Streams.{Streams, stream_at, stored_rows}
-use Rattle.msi_database.specs.Agreement.{DatabaseIs, TablesAre, is_shown, schema_rows, schema_in, schema_shown}
+use Rattle.msi_database.specs.Agreement.{DatabaseIs, is_shown, schema_rows, schema_in}
 use Rattle.msi_database.specs.Kept.{Kept, database_kept, table_kept, schema_listed}
 use Rattle.msi_database.proofs.PartsLemmas.{parts_spelled, schema_kept}
 use Rattle.msi.specs.declared.kinds.PackageType.{PackageType}
