@@ -23,3 +23,4 @@ pub mod OpeningLemmas
 pub mod OpenedLemmas
 pub mod ReadingLemmas
 pub mod LawLemmas
+pub mod StreamAnswerLemmas
