@@ -24,3 +24,4 @@ pub mod OpenedLemmas
 pub mod ReadingLemmas
 pub mod LawLemmas
 pub mod StreamAnswerLemmas
+pub mod CallLemmas
