@@ -25,3 +25,4 @@ pub mod ReadingLemmas
 pub mod LawLemmas
 pub mod StreamAnswerLemmas
 pub mod CallLemmas
+pub mod DeviceLemmas
