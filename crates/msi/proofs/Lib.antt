@@ -1,6 +1,8 @@
 -- The lemmas of this crate.
 pub mod Rows
 pub mod CallRows
+pub mod SchemaRows
+pub mod RangeRows
 pub mod KeyNameLemmas
 pub mod OtherStreamLemmas
 pub mod SummarySetLemmas
