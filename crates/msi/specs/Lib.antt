@@ -1,0 +1,9 @@
+-- The words of this crate.
+pub mod Kinds
+pub mod State
+pub mod Meaning
+pub mod Calls
+pub mod Lent
+pub mod Steps
+pub mod Runs
+pub mod Laws

@@ -1,0 +1,255 @@
+-- What each call on a package answers and leaves.
+use Rattle.std.specs.Prelude.{◌≡◌, ℕ, ◌⊎◌, Bool, true, false, not, List, [], ◌∷◌, ◌++◌, map, filter, Option, Some, None, option_map, option_and_then, unwrap_or, ◌&&◌, ◌||◌, if◌then◌else◌, IsTrue, bytes_eq, encode_utf8_all, Result, Ok, Err, MatchBool}
+use Rattle.std.specs.FinMap.{from_sorted}
+use Rattle.std.specs.Char.Utf16.{utf16_lossy_chars}
+use Rattle.msi_text.specs.CodePage.{CodePage}
+use Rattle.msi_text.specs.ErrorKind.{ErrorKind}
+use Rattle.msi_text.specs.ErrorKind.TheVariants.{InvalidInput, NotFound, Io, OutOfMemory}
+use Rattle.msi_text.specs.Pool.{Pool, pool_stream, data_stream}
+use Rattle.msi_text.specs.PoolWriting.{is_refused}
+use Rattle.msi_summary.specs.Properties.{Properties}
+use Rattle.msi_summary.specs.PropertyStream.{property_stream}
+use Rattle.msi_summary.specs.PropertyWriting as properties
+use Rattle.msi_compound.specs.declared.contents.Contents.{Contents}
+use Rattle.msi_compound.specs.StreamNames.{decoded_name, is_marked}
+use Rattle.msi_compound_write.specs.Layout.{layout, refuses}
+use Rattle.msi_relation.specs.Refusals.{Refusals, first_refusal, unless_refused, or_refused, ◌>>=◌}
+use Rattle.msi_relation.specs.Selection.{relation_of}
+use Rattle.msi_schema.specs.Keys.{is_stream_name, stream_key, table_key, summary_key, document_summary_key, signature_key, signature_ex_key, string_pool_name, string_data_name}
+use Rattle.msi_changes.specs.Database.{Database, has_table, values_of}
+use Rattle.msi_changes.specs.Changes.{Change, sound_refusal}
+use Rattle.msi_changes.specs.Insert.{insert_rows}
+use Rattle.msi_changes.specs.Update.{update_rows}
+use Rattle.msi_changes.specs.Delete.{delete_rows}
+use Rattle.msi_changes.specs.Create.{create_table}
+use Rattle.msi_changes.specs.Drop.{drop_table}
+use Rattle.msi_database.specs.Streams.{Streams, stream_at, has_stream_at, with_stream, without_stream}
+use Rattle.msi_database.specs.Kept as databases
+use Rattle.msi_database.specs.Listed.{table_def_at, tables_listed}
+use Rattle.msi_database.specs.Listed as listed
+use Rattle.msi.specs.Kinds.{clsid_of}
+use Rattle.msi.specs.State.{Parts, State, parts_of}
+use Rattle.msi.specs.Calls.{Call, Answer}
+use Rattle.msi.specs.Calls as calls
+use Rattle.msi.specs.Lent.{RunsTo, summary_outcome, summary_wants_memory, reader_outcome, reader_wants_memory, writer_outcome, writer_wants_memory, Cursor, at_start}
+
+-- what a change of tables leaves
+abbrev pub after_change : State → Change → State
+after_change s c = record s {
+  kept = databases.after_change s.kept c;
+  is_unwritten = true;
+  is_pool_changed = s.is_pool_changed || c.is_pool_used;
+}
+
+-- no package with storages below the root is changed
+abbrev pub storage_refusal : Parts → Refusals
+storage_refusal p = (p.has_storages, InvalidInput) ∷ []
+
+abbrev pub changing : Parts → (Database → Result Change ErrorKind) → Result Change ErrorKind
+changing p change = unless_refused (storage_refusal p) p.database >>= change
+
+abbrev pub changed : State → Result Change ErrorKind → Result Answer ErrorKind × State
+changed s (Ok c) = (Ok calls.done, after_change s c)
+changed s (Err kind) = (Err kind, s)
+
+-- The root's other streams
+abbrev pub with_streams : (Streams → Streams) → State → State
+with_streams edit s = record s { kept = record s.kept { streams = edit s.kept.streams }; is_unwritten = true }
+
+abbrev pub without_signature : Streams → Streams
+without_signature streams = without_stream signature_key (without_stream signature_ex_key streams)
+
+abbrev pub is_listed_stream : List ℕ → Bool
+is_listed_stream name = not (is_marked name || bytes_eq name summary_key || bytes_eq name document_summary_key
+    || bytes_eq name signature_key || bytes_eq name signature_ex_key)
+
+abbrev pub text_of_key : List ℕ → List ℕ
+text_of_key name = encode_utf8_all (decoded_name (utf16_lossy_chars name)).0
+
+abbrev pub stream_names : Parts → List (List ℕ)
+stream_names p = map (λ s. text_of_key s.0) (filter (λ s. is_listed_stream s.0) p.streams)
+
+abbrev pub has_stream : Parts → List ℕ → Bool
+has_stream p name = is_stream_name name && has_stream_at (stream_key name) p.streams
+
+abbrev pub bytes_of_stream : Parts → List ℕ → List ℕ
+bytes_of_stream p name = unwrap_or (stream_at (stream_key name) p.streams) []
+
+abbrev pub name_refusals : Parts → List ℕ → Refusals
+name_refusals p name = storage_refusal p ++ (not (is_stream_name name), InvalidInput) ∷ []
+
+-- What a flush writes: the summary anew where it was lent, the pool where it was changed; nothing where the page can't
+-- carry a text
+abbrev pub summary_written : Properties → Option (List ℕ)
+summary_written summary = if properties.is_refused summary then None else property_stream summary
+
+abbrev pub with_summary : State → Streams → Option Streams
+with_summary s streams = if s.is_summary_lent
+    then option_map (λ bytes. with_stream summary_key bytes streams) (summary_written s.summary)
+    else Some streams
+
+abbrev pub pool_put : Pool → Streams → Option Streams
+pool_put pool streams = if is_refused pool then None else option_and_then
+    (λ written. option_map (λ texts. with_stream (table_key string_pool_name) written
+    (with_stream (table_key string_data_name) texts streams)) (data_stream pool))
+    (pool_stream pool)
+
+abbrev pub with_pool : State → Streams → Option Streams
+with_pool s streams = if s.is_pool_changed then pool_put s.kept.database.pool streams else Some streams
+
+abbrev pub streams_written : State → Option Streams
+streams_written s = option_and_then (with_pool s) (with_summary s s.kept.streams)
+
+abbrev pub contents_of : State → Streams → Contents
+contents_of s streams = record {
+  clsid = clsid_of s.kind;
+  streams = from_sorted streams;
+  has_storages = s.has_storages;
+}
+
+abbrev pub image_refusals : State → ℕ → Streams → Refusals
+image_refusals s earlier_len streams = (refuses (contents_of s streams) earlier_len, InvalidInput) ∷ []
+
+abbrev pub written_for : State → ℕ → Result Streams ErrorKind
+written_for s earlier_len = or_refused InvalidInput (streams_written s)
+    >>= λ streams. unless_refused (image_refusals s earlier_len streams) streams
+
+abbrev pub image_of : State → ℕ → Result (List ℕ) ErrorKind
+image_of s earlier_len = written_for s earlier_len >>= λ streams. Ok (layout (contents_of s streams) earlier_len)
+
+abbrev pub as_written : State → Streams → State
+as_written s streams = record s {
+  kept = record s.kept { streams = streams };
+  is_unwritten = false;
+  is_summary_lent = false;
+  is_pool_changed = false;
+}
+
+abbrev pub flushed : State → Result Streams ErrorKind → Result Answer ErrorKind × State
+flushed s (Ok streams) = (Ok calls.done, as_written s streams)
+flushed s (Err kind) = (Err kind, s)
+
+abbrev pub flush_outcome : State → ℕ → Result Answer ErrorKind × State
+flush_outcome s earlier_len = if s.is_unwritten then flushed s (written_for s earlier_len) else (Ok calls.done, s)
+
+-- a call that changes the state, unless it is refused
+abbrev pub leaving_or : Option ErrorKind → State → State → Result Answer ErrorKind × State
+leaving_or None old new = (Ok calls.done, new)
+leaving_or (Some kind) old new = (Err kind, old)
+
+abbrev pub leaving : State → Refusals → State → Result Answer ErrorKind × State
+leaving old refusals new = leaving_or (first_refusal refusals) old new
+
+abbrev pub with_page : CodePage → State → State
+with_page page s = record s { kept = listed.with_page page s.kept; is_unwritten = true; is_pool_changed = true }
+
+abbrev pub with_lent_summary : State → State
+with_lent_summary s = record s { is_summary_lent = true; is_unwritten = true }
+
+abbrev pub answer_of : {A : Type 0} → (A → Answer) → Result A ErrorKind → Result Answer ErrorKind
+answer_of f (Ok x) = Ok (f x)
+answer_of f (Err kind) = Err kind
+
+-- what each call that lends nothing answers and leaves; `earlier_len` is how many bytes the device holds
+abbrev pub outcome : ℕ → State → Call → Result Answer ErrorKind × State
+outcome earlier_len s calls.package_type = (Ok (calls.kind_is s.kind), s)
+outcome earlier_len s calls.database_codepage = (Ok (calls.page_is s.kept.database.pool.page), s)
+outcome earlier_len s (calls.has_table name) = (Ok (calls.flag_is (has_table name s.kept.database)), s)
+outcome earlier_len s (calls.get_table name) =
+    (Ok (calls.table_is (table_def_at name s.kept.database)), s)
+outcome earlier_len s calls.tables = (Ok (calls.tables_are (tables_listed s.kept.database)), s)
+outcome earlier_len s (calls.has_stream name) = (Ok (calls.flag_is (has_stream (parts_of s) name)), s)
+outcome earlier_len s calls.streams = (Ok (calls.names_are (stream_names (parts_of s))), s)
+outcome earlier_len s calls.has_digital_signature =
+    (Ok (calls.flag_is (has_stream_at signature_key (parts_of s).streams)), s)
+outcome earlier_len s (calls.select_rows query) =
+    (answer_of (λ r. calls.rows_are r.columns r.rows) (relation_of (values_of s.kept.database) query), s)
+outcome earlier_len s (calls.insert_rows query) =
+    changed s (changing (parts_of s) (λ d. insert_rows d query))
+outcome earlier_len s (calls.update_rows query) =
+    changed s (changing (parts_of s) (λ d. update_rows d query))
+outcome earlier_len s (calls.delete_rows query) =
+    changed s (changing (parts_of s) (λ d. delete_rows d query))
+outcome earlier_len s (calls.create_table name columns) =
+    changed s (changing (parts_of s) (λ d. create_table d name columns))
+outcome earlier_len s (calls.drop_table name) = changed s (changing (parts_of s) (λ d. drop_table d name))
+outcome earlier_len s (calls.set_database_codepage page) =
+    leaving s (storage_refusal (parts_of s) ++ sound_refusal s.kept.database) (with_page page s)
+outcome earlier_len s (calls.remove_stream name) =
+    leaving s (name_refusals (parts_of s) name ++ (not (has_stream (parts_of s) name), NotFound) ∷ [])
+    (with_streams (without_stream (stream_key name)) s)
+outcome earlier_len s calls.remove_digital_signature =
+    leaving s (storage_refusal (parts_of s)) (with_streams without_signature s)
+outcome earlier_len s (calls.image n) = (answer_of calls.bytes_are (image_of s n), s)
+outcome earlier_len s calls.flush = flush_outcome s earlier_len
+-- the device alone knows; a session answers it (`Runs`)
+outcome earlier_len s calls.device_failed = (Ok calls.done, s)
+-- these lend: here what lending alone leaves
+outcome earlier_len s (calls.summary_info questions) = (Ok calls.done, s)
+outcome earlier_len s (calls.summary_info_mut summary_calls) =
+    leaving s (storage_refusal (parts_of s)) (with_lent_summary s)
+outcome earlier_len s (calls.write_stream name stream_calls) =
+    leaving s (name_refusals (parts_of s) name) (with_streams (with_stream (stream_key name) []) s)
+outcome earlier_len s (calls.read_stream name stream_calls) = leaving s
+    ((not (is_stream_name name), InvalidInput) ∷ (not (has_stream (parts_of s) name), NotFound) ∷ []) s
+
+abbrev pub with_summary_calls : Properties → State → State
+with_summary_calls summary s = record s { summary = summary }
+
+-- what lends is refused, or runs the calls on what it lends; the new state holds what they leave
+abbrev pub Lends : State → Call → Answer → State → Type 0
+Lends s (calls.summary_info questions) (calls.summary_says answers) new = (summary : Properties)
+    × RunsTo summary_outcome summary_wants_memory s.summary (map calls.ask questions) answers summary × (new ≡ s)
+Lends s (calls.summary_info_mut summary_calls) (calls.summary_says answers) new = (summary : Properties)
+    × RunsTo summary_outcome summary_wants_memory s.summary summary_calls answers summary
+    × (new ≡ with_summary_calls summary s)
+Lends s (calls.write_stream name stream_calls) (calls.stream_says answers) new = (cursor : Cursor)
+    × RunsTo writer_outcome writer_wants_memory (at_start []) stream_calls answers cursor
+    × (new ≡ with_streams (with_stream (stream_key name) cursor.bytes) s)
+Lends s (calls.read_stream name stream_calls) (calls.stream_says answers) new = (cursor : Cursor)
+    × RunsTo reader_outcome reader_wants_memory (at_start (bytes_of_stream (parts_of s) name))
+    stream_calls answers cursor
+    × (new ≡ s)
+Lends s _ _ new = ⊥
+
+abbrev pub is_lending : Call → Bool
+is_lending (calls.summary_info questions) = true
+is_lending (calls.summary_info_mut summary_calls) = true
+is_lending (calls.write_stream name stream_calls) = true
+is_lending (calls.read_stream name stream_calls) = true
+is_lending _ = false
+
+abbrev pub LendsOrRefuses : State → Call → Result Answer ErrorKind × State → Result Answer ErrorKind → State → Type 0
+LendsOrRefuses s call (Ok lent, after) (Ok answer) new = Lends after call answer new
+LendsOrRefuses s call (Err kind, after) answer new = (answer ≡ Err kind) × (new ≡ s)
+LendsOrRefuses s call (Ok lent, after) (Err kind) new = ⊥
+
+-- which calls may want memory, and which may meet a fault of the device: of a package with nothing unwritten a flush
+-- neither
+abbrev pub may_want_memory : State → Call → Bool
+may_want_memory s (calls.select_rows q) = true
+may_want_memory s (calls.insert_rows q) = true
+may_want_memory s (calls.update_rows q) = true
+may_want_memory s (calls.delete_rows q) = true
+may_want_memory s (calls.create_table name columns) = true
+may_want_memory s (calls.drop_table name) = true
+may_want_memory s (calls.set_database_codepage page) = true
+may_want_memory s (calls.write_stream name c) = true
+may_want_memory s (calls.read_stream name c) = true
+may_want_memory s (calls.remove_stream name) = true
+may_want_memory s (calls.image n) = true
+may_want_memory s calls.flush = s.is_unwritten
+may_want_memory s _ = false
+
+abbrev pub may_meet_fault : State → Call → Bool
+may_meet_fault s calls.flush = s.is_unwritten
+may_meet_fault s _ = false
+
+-- One call: the first refusal that holds, and nothing changes; or its effect. Want of memory and a fault of the device
+-- change nothing
+abbrev pub Step : ℕ → State → Call → Result Answer ErrorKind → State → Type 0
+Step earlier_len old call answer new =
+    MatchBool (is_lending call) (LendsOrRefuses old call (outcome earlier_len old call) answer new)
+    (outcome earlier_len old call ≡ (answer, new))
+    ⊎ IsTrue (may_want_memory old call) × (answer ≡ Err OutOfMemory) × (new ≡ old)
+    ⊎ IsTrue (may_meet_fault old call) × (answer ≡ Err Io) × (new ≡ old)
