@@ -7,6 +7,7 @@ ghost use Rattle.msi_relation.specs.Refusals.{IsRefusal, unless_refused};
 ghost use Rattle.msi_relation.specs.Rows.{relation_values};
 ghost use Rattle.msi_relation.specs.Selection.{relation_of};
 ghost use Rattle.msi_changes.specs.Database.{has_table as has_one, values_of};
+ghost use Rattle.msi_database.specs.Keeping.{IsKeptDatabase};
 ghost use Rattle.msi_database.specs.Listed.{table_def_at, tables_listed};
 ghost use Rattle.msi.specs.State.{parts_of};
 ghost use Rattle.msi.specs.Steps.{storage_refusal};
@@ -150,7 +151,7 @@ impl<F: Source> Package<F> {
     }
 }
 
-/// Puts the stream that lies open where it belongs. It takes no memory.
+/// Puts the stream that lies open where it belongs, and tells what the database keeps to. It takes no memory.
 pub(crate) fn settle(
     alloc: Global,
     database: &mut Database,
@@ -160,9 +161,11 @@ pub(crate) fn settle(
     requires { IfSome name.old (IsOpen database.old) }
     ensures database { database.new ≡ with_open name.old current.old.bytes database.old }
     ensures taken { name.new ≡ None }
+    ensures kept { IsKeptDatabase database.new }
 {
     if let Some(name) = name.take() {
         let left = mem::replace(current, OpenStream::new(alloc));
         database.put_back_stream(&name, Some(left.into_bytes()));
     }
+    database.kept();
 }
