@@ -7,3 +7,5 @@ pub mod Lent
 pub mod Steps
 pub mod Runs
 pub mod Whole
+pub mod Selected
+pub mod Lending
