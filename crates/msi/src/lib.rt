@@ -2,10 +2,12 @@
 #![tactic(auto)]
 
 pub mod changes;
+mod keys;
 pub mod kinds;
 pub mod laws;
 pub mod package;
 mod reasons;
+pub mod streams;
 
 pub use kinds::PackageType;
 pub use package::Package;
