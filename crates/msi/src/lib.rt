@@ -1,10 +1,13 @@
 //! Packages of Windows Installer: a database, its summary and its streams in one container.
 #![tactic(auto)]
 
+pub mod changes;
+mod keys;
 pub mod kinds;
 pub mod laws;
 pub mod package;
 mod reasons;
+pub mod streams;
 
 pub use kinds::PackageType;
 pub use package::Package;
