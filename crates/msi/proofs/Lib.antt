@@ -9,3 +9,9 @@ pub mod PoolLemmas
 pub mod PackageLemmas
 pub mod FlushLemmas
 pub mod MeaningLemmas
+pub mod StepLemmas
+pub mod RunLemmas
+pub mod LeavingLemmas
+pub mod FreshLemmas
+pub mod SessionLemmas
+pub mod ReplayLemmas
