@@ -8,3 +8,4 @@ pub mod Steps
 pub mod Runs
 pub mod Whole
 pub mod Laws
+pub mod Flushing
