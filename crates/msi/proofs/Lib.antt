@@ -15,3 +15,5 @@ pub mod LeavingLemmas
 pub mod FreshLemmas
 pub mod SessionLemmas
 pub mod ReplayLemmas
+pub mod RenewedLemmas
+pub mod OverwritingLemmas

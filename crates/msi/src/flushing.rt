@@ -1,11 +1,12 @@
 //! Writing a package to its device.
 
-ghost use Rattle.std.specs.Prelude.{◌≡◌, ◌⊎◌, IfErr, IfOk, OnErr, OnOk, Some, true};
+ghost use Rattle.std.specs.Prelude.{◌≡◌, ◌⊎◌, ◌||◌, IfErr, IfOk, OnErr, OnOk, Some, is_err, option_map, true};
 ghost use Rattle.std.specs.Vec.Iter.{into_iter_items};
-ghost use Rattle.msi_text.specs.ErrorKind.TheVariants.{InvalidInput};
+ghost use Rattle.msi_text.specs.ErrorKind.TheVariants.{InvalidInput, Io};
 ghost use Rattle.msi_text.specs.PoolWriting.{is_refused as is_pool_refused};
 ghost use Rattle.msi_text.specs.Results.{OnlyMemory};
 ghost use Rattle.msi_summary.specs.PropertyWriting.{is_refused as is_summary_refused};
+ghost use Rattle.msi_device.specs.Held.{at_start, bytes_told};
 ghost use Rattle.msi_compound_write.specs.Borrowed.{contents_of};
 ghost use Rattle.msi_relation.specs.Refusals.{IsRefusal, or_refused};
 ghost use Rattle.msi_schema.specs.Keys.{string_data_name, string_pool_name, table_key as key_of_table};
@@ -14,7 +15,7 @@ ghost use Rattle.msi_database.specs.Streams.{Streams};
 ghost use Rattle.msi_database.specs.Others.{with_streams};
 ghost use Rattle.msi.specs.Kinds.{clsid_of};
 ghost use Rattle.msi.specs.Steps.{pool_put};
-ghost use Rattle.msi.specs.Flushing.{AreOthers, FlushStep, IsUnwritten, Overwrites, flush_answer, renewed_over, root_contents, summary_over, told, with_renewed};
+ghost use Rattle.msi.specs.Flushing.{AreOthers, AreSoMany, FlushStep, IsUnwritten, Overwrites, flush_answer, renewed_over, root_contents, summary_over, told, with_renewed};
 
 use crate::kinds::PackageType;
 use msi_compound::contents::Bytes;
@@ -135,6 +136,35 @@ pub(crate) fn renewed_streams(
     Ok(renewed)
 }
 
+/// Goes to the first byte of a device, and tells how many there are. It clears the device's flag first.
+///
+/// # Errors
+/// `Io` where a call of the device fails.
+fn go_to_start<F: Device>(device: &mut F) -> Result<u64, Error>
+    ensures count { IfOk result (λ n. AreSoMany n (told (F.held device.old) (F.failed device.old))) }
+    ensures held { OnOk result (F.held device.new ≡ option_map at_start (F.held device.old)) }
+    ensures bytes { bytes_told (F.held device.new) ≡ bytes_told (F.held device.old) }
+    ensures failed { F.failed device.new ≡ is_err result }
+    ensures kind { IfErr result (λ kind. kind ≡ Io) }
+{
+    device.clear_failed();
+    let count = device.length().map_err(fault)?;
+    device.rewind().map_err(fault)?;
+    Ok(count)
+}
+
+/// Hands on what was written to a device.
+///
+/// # Errors
+/// `Io` where the call of the device fails.
+fn hand_on<F: Device>(device: &mut F) -> Result<(), Error>
+    ensures bytes { bytes_told (F.held device.new) ≡ bytes_told (F.held device.old) }
+    ensures failed { F.failed device.new ≡ (F.failed device.old || is_err result) }
+    ensures kind { IfErr result (λ kind. kind ≡ Io) }
+{
+    device.flush().map_err(fault)
+}
+
 /// Puts the image of these contents over all that a device holds.
 ///
 /// # Errors
@@ -148,11 +178,9 @@ fn write_image<F: Device>(
     ensures { Overwrites (contents_of contents.now) (told (F.held device.old) (F.failed device.old)) result
         (told (F.held device.new) (F.failed device.new)) }
 {
-    device.clear_failed();
-    let earlier_len = device.length().map_err(fault)?;
-    device.rewind().map_err(fault)?;
+    let earlier_len = go_to_start(device)?;
     image_to(alloc, contents, earlier_len, device)?;
-    device.flush().map_err(fault)
+    hand_on(device)
 }
 
 /// Puts the image of these streams under a root over all that a device holds.
