@@ -2,6 +2,8 @@
 pub mod Rows
 pub mod CallRows
 pub mod KeyNameLemmas
+pub mod OpenLemmas
+pub mod ChangeLemmas
 pub mod OtherStreamLemmas
 pub mod SummarySetLemmas
 pub mod AgreementLemmas

@@ -1,6 +1,7 @@
 //! Packages of Windows Installer: a database, its summary and its streams in one container.
 #![tactic(auto)]
 
+pub mod changes;
 pub mod kinds;
 pub mod laws;
 mod flushing;

@@ -1,0 +1,7 @@
+use Rattle.msi.proofs.ChangeLemmas.{after_drop}
+use Rattle.msi.proofs.package.Package.drop_table.Goals as goal
+
+pub invariant_of-self-2 : goal.invariant_of-self-2
+invariant_of-self-2 g c =
+    after_drop c.settle.new.database c.drop_table.new.self c.settle.new.name _ c.settle.ensures.taken c.settle.ensures.kept
+    c.args.name.now c.in_ok-is_pool_used.ensures.ok

@@ -1,0 +1,10 @@
+use Rattle.std.proofs.Common.{ap}
+use Rattle.msi_changes.specs.Database.{is_sound}
+use Rattle.msi_database.specs.Kept.{Kept}
+use Rattle.msi.proofs.ChangeLemmas.{after_check}
+use Rattle.msi.proofs.package.Package.set_database_codepage.Goals as goal
+
+pub invariant_of-self-2 : goal.invariant_of-self-2
+invariant_of-self-2 g c =
+    after_check c.settle.new.database c.set_codepage.new.self c.settle.new.name _ c.settle.ensures.taken
+    c.in_ok-set_codepage.ensures.answer (ap (λ (k : Kept). is_sound k.database) c.in_ok-set_codepage.ensures.ok)

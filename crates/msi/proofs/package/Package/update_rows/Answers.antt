@@ -1,0 +1,7 @@
+use Rattle.msi.proofs.ChangeLemmas.{after_update}
+use Rattle.msi.proofs.package.Package.update_rows.Goals as goal
+
+pub invariant_of-self-2 : goal.invariant_of-self-2
+invariant_of-self-2 g c =
+    after_update c.settle.new.database c.update_rows.new.self c.settle.new.name _ c.settle.ensures.taken c.settle.ensures.kept
+    c.args.query c.in_ok-is_pool_used.ensures.ok
