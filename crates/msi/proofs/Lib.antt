@@ -19,3 +19,4 @@ pub mod SessionLemmas
 pub mod ReplayLemmas
 pub mod RenewedLemmas
 pub mod OverwritingLemmas
+pub mod FlushStepLemmas

@@ -11,6 +11,7 @@ use Rattle.msi_compound.specs.declared.contents.Contents.{Contents}
 use Rattle.msi_compound_write.specs.Layout.{layout, refuses}
 use Rattle.msi_schema.specs.Keys.{summary_key}
 use Rattle.msi_changes.specs.Database.{Database}
+use Rattle.msi_database.specs.Kept.{Kept}
 use Rattle.msi_database.specs.Streams.{Streams, with_stream}
 use Rattle.msi_database.specs.Others.{IsOther}
 use Rattle.msi.specs.declared.kinds.PackageType.{PackageType}
@@ -18,9 +19,9 @@ use Rattle.msi.specs.Kinds.{clsid_of}
 use Rattle.msi.specs.Calls.{Answer}
 use Rattle.msi.specs.Calls as calls
 use Rattle.msi.specs.State.{State}
-use Rattle.msi.specs.Steps.{Step, answer_of, contents_of, image_of, pool_put, summary_written}
+use Rattle.msi.specs.Steps.{Step, answer_of, as_written, contents_of, image_of, pool_put, summary_written}
 use Rattle.msi.specs.Runs.{Session, result_or}
-use Rattle.msi.specs.Whole.{Whole}
+use Rattle.msi.specs.Whole.{Whole, state_of}
 
 -- STREAMS
 
@@ -125,3 +126,14 @@ pub record FlushStep (old : Whole) (answer : Result Answer ErrorKind) (new : Who
 -- the session of a package whose device tells its bytes
 abbrev pub session_of : Whole → List ℕ → Session
 session_of w held = record { state = w.state; held = held; failed = w.failed }
+
+-- an unwritten package's state, what a flush of it leaves, and a state over a device
+abbrev pub unwritten_of : PackageType → Bool → Properties → Bool → Kept → Bool → State
+unwritten_of kind has_storages summary is_lent k is_changed = state_of kind summary k has_storages true is_lent is_changed
+
+abbrev pub left_by : {A : Type 0} → Result A ErrorKind → State → Kept → State
+left_by (Ok done) s k = as_written s k.streams
+left_by (Err kind) s k = s
+
+abbrev pub over_device : State → Option Held → Bool → Whole
+over_device s held failed = record { state = s; held = held; failed = failed }

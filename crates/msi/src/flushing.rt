@@ -15,9 +15,10 @@ ghost use Rattle.msi_database.specs.Streams.{Streams};
 ghost use Rattle.msi_database.specs.Others.{with_streams};
 ghost use Rattle.msi.specs.Kinds.{clsid_of};
 ghost use Rattle.msi.specs.Steps.{pool_put};
-ghost use Rattle.msi.specs.Flushing.{AreOthers, AreSoMany, FlushStep, IsUnwritten, Overwrites, flush_answer, renewed_over, root_contents, summary_over, told, with_renewed};
+ghost use Rattle.msi.specs.Flushing.{AreOthers, AreSoMany, FlushStep, IsUnwritten, Overwrites, flush_answer, left_by, over_device, renewed_over, root_contents, summary_over, told, unwritten_of, with_renewed};
 
 use crate::kinds::PackageType;
+use crate::package::{Package, settle};
 use msi_compound::contents::Bytes;
 use msi_compound::name::Name;
 use msi_compound_write::parts::{BorrowedContents, image_to};
@@ -234,5 +235,76 @@ pub(crate) fn write_with<F: Device>(
             database.put_back_stream(&name, before);
             Err(error)
         }
+    }
+}
+
+/// Writes an unwritten package: its root's streams, with those of the summary and the pool anew.
+///
+/// # Errors
+/// `InvalidInput` where a page doesn't carry a text; else those of `write_image`. Then the database is as it was.
+fn write_parts<F: Device>(
+    alloc: Global,
+    root: Root,
+    summary: &SummaryInfo,
+    is_summary_lent: bool,
+    database: &mut Database,
+    is_pool_changed: bool,
+    device: &mut F,
+) -> Result<(), Error>
+    requires { is_pool_changed ≡ true → is_sound database.old.database ≡ true }
+    ensures flushed {
+        let s = unwritten_of root.kind root.has_storages summary.now is_summary_lent database.old is_pool_changed in
+        FlushStep (over_device s (F.held device.old) (F.failed device.old)) (flush_answer result)
+        (over_device (left_by result s database.new) (F.held device.new) (F.failed device.new)) }
+    ensures tables { database.new.database ≡ database.old.database }
+    ensures same { OnErr result (database.new ≡ database.old) }
+{
+    let renewed = renewed_streams(
+        alloc,
+        summary,
+        is_summary_lent,
+        database.pool(),
+        is_pool_changed,
+    )?;
+    write_with(alloc, root, database, renewed.into_iter(), device)
+}
+
+impl<F: Device> Package<F> {
+    /// Writes what was changed: the whole file anew, over all that the device holds. With nothing unwritten it does
+    /// nothing, and calls no device. After an error the package is as it was, and is still unwritten.
+    ///
+    /// # Errors
+    /// `InvalidInput` where a page doesn't carry a text, or the file would pass 2^31 bytes; `OutOfMemory`; both before
+    /// anything is written. `Io` where a call of the device failed, which `device_failed` then tells: a beginning of the
+    /// new bytes may stand over the old ones.
+    pub fn flush(&mut self) -> Result<(), Error>
+        ensures { FlushStep self.old (flush_answer result) self.new }
+    {
+        if !self.is_unwritten {
+            return Ok(());
+        }
+        settle(
+            self.alloc,
+            &mut self.database,
+            &mut self.open,
+            &mut self.current,
+        );
+        let root = Root {
+            kind: self.kind,
+            has_storages: self.has_storages,
+        };
+        write_parts(
+            self.alloc,
+            root,
+            &self.summary,
+            self.is_summary_lent,
+            &mut self.database,
+            self.is_pool_changed,
+            &mut self.device,
+        )?;
+        self.is_unwritten = false;
+        self.is_summary_lent = false;
+        self.is_pool_changed = false;
+        Ok(())
     }
 }
