@@ -30,3 +30,6 @@ pub mod LawLemmas
 pub mod StreamAnswerLemmas
 pub mod CallLemmas
 pub mod DeviceLemmas
+pub mod RenewedLemmas
+pub mod OverwritingLemmas
+pub mod FlushStepLemmas

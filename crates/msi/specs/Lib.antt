@@ -10,3 +10,4 @@ pub mod Whole
 pub mod Laws
 pub mod Selected
 pub mod Lending
+pub mod Flushing

@@ -5,6 +5,7 @@ pub mod changes;
 mod keys;
 pub mod kinds;
 pub mod laws;
+mod flushing;
 pub mod package;
 mod reasons;
 pub mod streams;
