@@ -9,3 +9,4 @@ pub mod PoolLemmas
 pub mod PackageLemmas
 pub mod FlushLemmas
 pub mod MeaningLemmas
+pub mod OpeningLemmas

@@ -3,6 +3,7 @@
 
 pub mod kinds;
 pub mod laws;
+mod opening;
 pub mod package;
 mod reasons;
 

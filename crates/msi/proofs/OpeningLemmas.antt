@@ -1,0 +1,224 @@
+-- What the steps of opening give is what opening answers.
+use Rattle.std.proofs.Common.{◌≡◌, ℕ, Bool, false, List, [], ◌∷◌, ◌++◌, Option, Some, None, Result, Ok, Err, refl, sym, ap, subst, ◌∙◌, inl, inr}
+use Rattle.std.specs.Prelude.{◌⊎◌, IsSome, IsSomeAnd}
+use Rattle.std.specs.List.{AllByRecursion}
+use Rattle.std.specs.FinMap.{entries}
+use Rattle.msi_text.specs.CodePage.{CodePage}
+use Rattle.msi_text.specs.ErrorKind.{ErrorKind}
+use Rattle.msi_text.specs.ErrorKind.TheVariants.{InvalidData, NotFound, OutOfMemory}
+use Rattle.msi_text.specs.Pool.{Pool, PoolStream, Entry, IsPool, IsPoolStream, SpellsPool, SpellsTexts, pool_with}
+use Rattle.msi_text.specs.Pool as pools
+use Rattle.msi_text.specs.Results.{Gives, FailsAs, IsUnlessMemory}
+use Rattle.msi_summary.specs.Properties.{Properties}
+use Rattle.msi_summary.specs.Summary.{SpellsSummary}
+use Rattle.msi_compound.specs.declared.contents.Contents.{Contents}
+use Rattle.msi_compound.specs.Container.{Holds}
+use Rattle.msi_relation.specs.Refusals.{IsRefusal, or_refused}
+use Rattle.msi_schema.specs.Keys.{table_key, summary_key, string_pool_name, string_data_name}
+use Rattle.msi_database.specs.Agreement.{is_shown, schema_in}
+use Rattle.msi_database.specs.Kept.{Kept}
+use Rattle.msi_database.specs.Reading.{IsDatabaseOf}
+use Rattle.msi_database.specs.Streams.{Streams, stream_at}
+use Rattle.msi.specs.declared.kinds.PackageType.{PackageType}
+use Rattle.msi.specs.Kinds.{clsid_of}
+use Rattle.msi.specs.State.{State, others_among, parts_of}
+use Rattle.msi.specs.Whole.{state_of}
+use Rattle.msi.specs.Meaning.{ContentsMean, OpenStep, Passes, FailsFirst, OpensTo, PoolIs, RawPoolIs, SummaryIs, as_opened, open_steps, shown_pool, step_kind}
+use Rattle.msi.specs.Meaning as step
+use Rattle.msi.specs.Opening.{IsOpenRefusal, IsOpened, StopsAmong}
+
+-- STEPS IN TURN
+
+-- a step that fails first fails first among more
+pub fails_among : (c : Contents) (kind : ErrorKind) (steps more : List OpenStep) → FailsFirst c steps kind → FailsFirst c (steps ++ more) kind
+fails_among c kind [] more h = absurd h
+fails_among c kind (s ∷ ss) more (inl fails) = inl fails
+fails_among c kind (s ∷ ss) more (inr (passes, later)) = inr (passes, fails_among c kind ss more later)
+
+pub stops_among : (c : Contents) (kind : ErrorKind) (steps more : List OpenStep) → StopsAmong c steps kind → StopsAmong c (steps ++ more) kind
+stops_among c kind steps more (inl memory) = inl memory
+stops_among c kind steps more (inr fails) = inr (fails_among c kind steps more fails)
+
+-- steps that are passed, in front of the one that fails
+fails_after : (c : Contents) (kind : ErrorKind) (steps more : List OpenStep) → AllByRecursion (Passes c) steps → FailsFirst c more kind → FailsFirst c (steps ++ more) kind
+fails_after c kind [] more passed h = h
+fails_after c kind (s ∷ ss) more passed h = inr (passed.0, fails_after c kind ss more passed.1 h)
+
+pub stops_after : (c : Contents) (kind : ErrorKind) (steps more : List OpenStep) → AllByRecursion (Passes c) steps → StopsAmong c more kind → StopsAmong c (steps ++ more) kind
+stops_after c kind steps more passed (inl memory) = inl memory
+stops_after c kind steps more passed (inr fails) = inr (fails_after c kind steps more passed fails)
+
+-- a step whose refusal says that it isn't passed, unless memory was refused
+pub stops_at : (c : Contents) (kind : ErrorKind) (s : OpenStep) → (kind ≡ step_kind s) ⊎ (kind ≡ OutOfMemory) → ((kind ≡ step_kind s) → Passes c s → ⊥) → StopsAmong c (s ∷ []) kind
+stops_at c kind s (inl is) fails = inr (inl (fails is, is))
+stops_at c kind s (inr memory) fails = inl memory
+
+-- STREAMS THAT ARE THERE OR NOT
+
+pub none_there : (o : Option (List ℕ)) → o ≡ None → IsSome o → ⊥
+none_there None e h = absurd cc
+none_there (Some x) e h = absurd cc
+
+pub there : {X : Type 0} (o : Option X) (x : X) → o ≡ Some x → IsSome o
+there None x e = absurd cc
+there (Some y) x e = refl
+
+-- what holds of the bytes that are there
+pub at_bytes : {P : List ℕ → Type 0} (o : Option (List ℕ)) (bytes : List ℕ) → o ≡ Some bytes → P bytes → IsSomeAnd o P
+at_bytes o bytes e h = subst (λ (o : Option (List ℕ)). IsSomeAnd o P) (sym e) h
+
+pub of_bytes : {P : List ℕ → Type 0} (o : Option (List ℕ)) (bytes : List ℕ) → o ≡ Some bytes → IsSomeAnd o P → P bytes
+of_bytes o bytes e h = subst (λ (o : Option (List ℕ)). IsSomeAnd o P) e h
+
+-- THE SUMMARY
+
+-- bytes that are refused spell no summary
+given_none : (kind : ErrorKind) (set : Properties) → kind ≡ InvalidData → FailsAs kind (Some set) → ⊥
+given_none kind set is h = let fails : FailsAs InvalidData (Some set) = subst (λ k. FailsAs k (Some set)) is h in absurd cc
+
+pub summary_stops : (c : Contents) (kind : ErrorKind) (bytes : List ℕ) → stream_at summary_key (entries c.streams) ≡ Some bytes
+    → ((set : Properties) → SpellsSummary bytes set → FailsAs kind (Some set)) → (kind ≡ InvalidData) ⊎ (kind ≡ OutOfMemory)
+    → StopsAmong c (step.has_summary ∷ step.reads_summary ∷ []) kind
+summary_stops c kind bytes held only kinds =
+    stops_after c kind (step.has_summary ∷ []) (step.reads_summary ∷ []) (there (stream_at summary_key (entries c.streams)) bytes held, tt)
+    (stops_at c kind step.reads_summary kinds (λ is (set, spelled).
+    given_none kind set is (only set (of_bytes {P = λ b. SpellsSummary b set} (stream_at summary_key (entries c.streams)) bytes held spelled))))
+
+-- THE POOL
+
+InvalidData≢OutOfMemory : InvalidData ≡ OutOfMemory → ⊥
+InvalidData≢OutOfMemory e = cc
+
+pub not_memory : (kind : ErrorKind) → kind ≡ InvalidData → kind ≡ OutOfMemory → ⊥
+not_memory kind is memory = InvalidData≢OutOfMemory (sym is ∙ memory)
+
+pub pool_stream_stops : (c : Contents) (kind : ErrorKind) (bytes : List ℕ) → stream_at (table_key string_pool_name) (entries c.streams) ≡ Some bytes
+    → ((stream : PoolStream) → IsPoolStream bytes stream → kind ≡ OutOfMemory) → (kind ≡ InvalidData) ⊎ (kind ≡ OutOfMemory)
+    → StopsAmong c (step.has_pool ∷ step.reads_pool ∷ []) kind
+pool_stream_stops c kind bytes held only kinds =
+    let at : Option (List ℕ) = stream_at (table_key string_pool_name) (entries c.streams) in
+    stops_after c kind (step.has_pool ∷ []) (step.reads_pool ∷ []) (there at bytes held, tt)
+    (stops_at c kind step.reads_pool kinds (λ is (page, long, listed, spelled).
+    not_memory kind is (only (record { page = page; long = long; entries = listed }) (of_bytes {P = λ b. SpellsPool b page long listed} at bytes held spelled))))
+
+-- what a pool's two streams say of its first, and of its texts
+raw_form : (o p : Option (List ℕ)) (raw : Pool) → IsSomeAnd o (λ written. IsSomeAnd p (λ texts. IsPool written texts raw))
+    → (listed : List Entry) × IsSomeAnd o (λ b. IsPoolStream b (record { page = raw.page; long = raw.long; entries = listed }))
+raw_form None p raw h = absurd h
+raw_form (Some written) None raw h = absurd h
+raw_form (Some written) (Some texts) raw (listed, form, held) = (listed, form)
+
+raw_parts : (o p : Option (List ℕ)) (raw : Pool) (texts : List ℕ) → p ≡ Some texts → IsSomeAnd o (λ written. IsSomeAnd p (λ texts. IsPool written texts raw))
+    → (listed : List Entry) × IsSomeAnd o (λ b. IsPoolStream b (record { page = raw.page; long = raw.long; entries = listed })) × SpellsTexts raw.page texts listed raw.places
+raw_parts None p raw texts e h = absurd h
+raw_parts (Some written) p raw texts e h = of_bytes {P = λ t. IsPool written t raw} p texts e h
+
+raw_texts : (o p : Option (List ℕ)) (raw : Pool) → p ≡ None → IsSomeAnd o (λ written. IsSomeAnd p (λ texts. IsPool written texts raw)) → ⊥
+raw_texts None p raw e h = h
+raw_texts (Some written) p raw e h = subst (λ (o : Option (List ℕ)). IsSomeAnd o (λ t. IsPool written t raw)) e h
+
+pub pool_found : (o p : Option (List ℕ)) (texts : List ℕ) (stream : PoolStream) (pool : Pool) → IsSomeAnd o (λ written. IsPoolStream written stream) → p ≡ Some texts
+    → (pool ≡ pool_with stream pool.places) × SpellsTexts stream.page texts stream.entries pool.places → IsSomeAnd o (λ written. IsSomeAnd p (λ texts. IsPool written texts pool))
+pool_found None p texts stream pool form e h = absurd form
+pool_found (Some written) p texts stream pool form e h =
+    at_bytes {P = λ t. IsPool written t pool} p texts e (subst (λ (x : Pool). IsPool written texts x) (sym h.0) (stream.entries, form, h.1))
+
+-- The streams of a container, and what the pool's first one says. What is read of it is all that it says
+module _ (c : Contents) where
+  abbrev pub pool_bytes : Option (List ℕ)
+  pool_bytes = stream_at (table_key string_pool_name) (entries c.streams)
+
+  abbrev pub text_bytes : Option (List ℕ)
+  text_bytes = stream_at (table_key string_data_name) (entries c.streams)
+
+  abbrev pub IsAllThatIsSaid : PoolStream → Type 0
+  IsAllThatIsSaid stream = (other : PoolStream) → IsSomeAnd pool_bytes (λ bytes. IsPoolStream bytes other) → stream ≡ other
+
+  -- where the first stream isn't read there is no pool
+  pub no_pool_stream : {P : Type 0} (raw : Pool) → ((stream : PoolStream) → IsSomeAnd pool_bytes (λ bytes. IsPoolStream bytes stream) → P) → RawPoolIs (entries c.streams) raw → P
+  no_pool_stream raw only held = let form = raw_form pool_bytes text_bytes raw held in only (record { page = raw.page; long = raw.long; entries = form.0 }) form.1
+
+  -- nor where the second is missing
+  pub no_pool_texts : {P : Type 0} (raw : Pool) → text_bytes ≡ None → RawPoolIs (entries c.streams) raw → P
+  no_pool_texts raw none held = absurd (raw_texts pool_bytes text_bytes raw none held)
+
+  -- a pool has the texts that are read
+  pub pool_only : (texts : List ℕ) (stream : PoolStream) (r : Result Pool ErrorKind) (raw : Pool) → IsAllThatIsSaid stream → text_bytes ≡ Some texts
+      → ((places : List pools.Place) → SpellsTexts stream.page texts stream.entries places → IsUnlessMemory r (pool_with stream places))
+      → RawPoolIs (entries c.streams) raw → IsUnlessMemory r raw
+  pool_only texts stream r raw all e only held =
+      let parts = raw_parts pool_bytes text_bytes raw texts e held in
+      subst (λ (s : PoolStream). SpellsTexts s.page texts s.entries raw.places → IsUnlessMemory r (pool_with s raw.places)) (all (record { page = raw.page; long = raw.long; entries = parts.0 }) parts.1) (only raw.places) parts.2
+
+  passes_first : (stream : PoolStream) → IsSomeAnd pool_bytes (λ bytes. IsPoolStream bytes stream) → AllByRecursion (Passes c) (step.has_pool ∷ step.reads_pool ∷ [])
+  passes_first stream form = (is_there pool_bytes form, ((stream.page, stream.long, stream.entries, form), tt)) where
+    is_there : {P : List ℕ → Type 0} (o : Option (List ℕ)) → IsSomeAnd o P → IsSome o
+    is_there None h = absurd h
+    is_there (Some x) h = refl
+
+  -- a pool whose texts are missing, and one that doesn't have them
+  pub no_texts_stops : (kind : ErrorKind) (stream : PoolStream) → IsSomeAnd pool_bytes (λ bytes. IsPoolStream bytes stream) → (text_bytes ≡ None) × (kind ≡ NotFound)
+      → StopsAmong c (step.has_pool ∷ step.reads_pool ∷ step.has_texts ∷ step.reads_texts ∷ []) kind
+  no_texts_stops kind stream form (none, is) =
+      stops_after c kind (step.has_pool ∷ step.reads_pool ∷ []) (step.has_texts ∷ step.reads_texts ∷ []) (passes_first stream form)
+      (inr (inl (none_there text_bytes none, is)))
+
+  pub texts_stop : (kind : ErrorKind) (texts : List ℕ) (stream : PoolStream) → IsSomeAnd pool_bytes (λ bytes. IsPoolStream bytes stream) → IsAllThatIsSaid stream → text_bytes ≡ Some texts
+      → ((places : List pools.Place) → SpellsTexts stream.page texts stream.entries places → kind ≡ OutOfMemory) → (kind ≡ InvalidData) ⊎ (kind ≡ OutOfMemory)
+      → StopsAmong c (step.has_pool ∷ step.reads_pool ∷ step.has_texts ∷ step.reads_texts ∷ []) kind
+  texts_stop kind texts stream form all e only kinds =
+      stops_after c kind (step.has_pool ∷ step.reads_pool ∷ []) (step.has_texts ∷ step.reads_texts ∷ []) (passes_first stream form)
+      (stops_after c kind (step.has_texts ∷ []) (step.reads_texts ∷ []) (there text_bytes texts e, tt)
+      (stops_at c kind step.reads_texts kinds (λ is (raw, held).
+      not_memory kind is (pool_only texts stream (Err kind) raw all e only held))))
+
+-- THE SCHEMA
+
+refused_none : {X : Type 0} (o : Option X) (kind : ErrorKind) → or_refused InvalidData o ≡ Err kind → (o ≡ None) × (kind ≡ InvalidData)
+refused_none None kind e = (refl, cc)
+refused_none (Some x) kind e = absurd cc
+
+none_not : {X : Type 0} (o : Option X) → o ≡ None → IsSome o → ⊥
+none_not None e h = absurd cc
+none_not (Some x) e h = absurd cc
+
+-- where the system tables of the one pool aren't read, nor are those of any
+pub schema_stops : (c : Contents) (kind : ErrorKind) (raw : Pool) → ((other : Pool) → RawPoolIs (entries c.streams) other → raw ≡ other)
+    → IsRefusal (or_refused InvalidData (schema_in (entries c.streams) raw)) kind → StopsAmong c (step.reads_schema ∷ []) kind
+schema_stops c kind raw one (inl memory) = inl memory
+schema_stops c kind raw one (inr refused) =
+    let none = refused_none (schema_in (entries c.streams) raw) kind refused in
+    inr (inl (λ (other, held, some). none_not (schema_in (entries c.streams) other) (subst (λ (x : Pool). schema_in (entries c.streams) x ≡ None) (one other held) none.0) some, none.1))
+
+-- THE WHOLE
+
+module _ (c : Contents) (kind : PackageType) (summary : Properties) (raw : Pool) (k : Kept) (read : IsDatabaseOf raw (entries c.streams) k) where
+  pool_is : RawPoolIs (entries c.streams) raw → PoolIs (entries c.streams) k.database
+  pool_is held = (raw, held, λ i. record { page = read.page i; long = read.long i; places = read.places i })
+
+  -- what is read is what the contents mean
+  pub opened_is : c.clsid ≡ clsid_of kind → SummaryIs (entries c.streams) summary → RawPoolIs (entries c.streams) raw
+      → IsOpened c (state_of kind summary k c.has_storages false false false)
+  opened_is clsid spelled held = (
+    record {
+      kind = clsid;
+      summary = spelled;
+      pool = pool_is held;
+      database = read.spelled;
+      others = λ i. others_among (read.streams i) k.database;
+      storages = refl;
+    },
+    λ i. state_of kind summary (record { database = k.database; streams = read.streams i }) c.has_storages false false false,
+  )
+
+-- bytes that hold contents that open, that don't, and bytes that hold none
+pub opens_to : (bytes : List ℕ) (c : Contents) (s : State) → Holds bytes c → IsOpened c s → OpensTo bytes (Ok s)
+opens_to bytes c s holds opened = (c, holds, opened.0, opened.1)
+
+pub contents_stop : (bytes : List ℕ) (c : Contents) (kind : ErrorKind) → Holds bytes c → StopsAmong c open_steps kind → IsOpenRefusal bytes kind
+contents_stop bytes c kind holds (inl memory) = inl memory
+contents_stop bytes c kind holds (inr fails) = inr (inr (c, holds, fails))
+
+pub nothing_held : (bytes : List ℕ) (kind : ErrorKind) → ((c : Contents) → Holds bytes c → kind ≡ OutOfMemory) → (kind ≡ InvalidData) ⊎ (kind ≡ OutOfMemory) → IsOpenRefusal bytes kind
+nothing_held bytes kind only (inl is) = inr (inl (λ c holds. not_memory kind is (only c holds), is))
+nothing_held bytes kind only (inr memory) = inl memory
