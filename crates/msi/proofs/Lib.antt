@@ -9,4 +9,4 @@ pub mod PoolLemmas
 pub mod PackageLemmas
 pub mod FlushLemmas
 pub mod MeaningLemmas
-pub mod OpeningLemmas
+pub mod OpenStepLemmas

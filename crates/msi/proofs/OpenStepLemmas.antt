@@ -1,6 +1,6 @@
 -- What the steps of opening give is what opening answers.
 use Rattle.std.proofs.Common.{◌≡◌, ℕ, Bool, false, List, [], ◌∷◌, ◌++◌, Option, Some, None, Result, Ok, Err, refl, sym, ap, subst, ◌∙◌, inl, inr}
-use Rattle.std.specs.Prelude.{◌⊎◌, IsSome, IsSomeAnd}
+use Rattle.std.specs.Prelude.{◌⊎◌, IfErr, IsErrAnd, IsSome, IsSomeAnd}
 use Rattle.std.specs.List.{AllByRecursion}
 use Rattle.std.specs.FinMap.{entries}
 use Rattle.msi_text.specs.CodePage.{CodePage}
@@ -53,6 +53,11 @@ pub stops_at : (c : Contents) (kind : ErrorKind) (s : OpenStep) → (kind ≡ st
 stops_at c kind s (inl is) fails = inr (inl (fails is, is))
 stops_at c kind s (inr memory) fails = inl memory
 
+-- an error that is passed on
+pub passed_on : {A : Type 0} (P : ErrorKind → Type 0) (r : Result A ErrorKind) (kind : ErrorKind) → IsErrAnd r (λ e. e ≡ kind) → P kind → IfErr r P
+passed_on P (Ok x) kind e h = tt
+passed_on P (Err k) kind e h = subst P (sym e) h
+
 -- STREAMS THAT ARE THERE OR NOT
 
 pub none_there : (o : Option (List ℕ)) → o ≡ None → IsSome o → ⊥
@@ -64,11 +69,11 @@ there None x e = absurd cc
 there (Some y) x e = refl
 
 -- what holds of the bytes that are there
-pub at_bytes : {P : List ℕ → Type 0} (o : Option (List ℕ)) (bytes : List ℕ) → o ≡ Some bytes → P bytes → IsSomeAnd o P
-at_bytes o bytes e h = subst (λ (o : Option (List ℕ)). IsSomeAnd o P) (sym e) h
+pub at_bytes : (P : List ℕ → Type 0) (o : Option (List ℕ)) (bytes : List ℕ) → o ≡ Some bytes → P bytes → IsSomeAnd o P
+at_bytes P o bytes e h = subst (λ (o : Option (List ℕ)). IsSomeAnd o P) (sym e) h
 
-pub of_bytes : {P : List ℕ → Type 0} (o : Option (List ℕ)) (bytes : List ℕ) → o ≡ Some bytes → IsSomeAnd o P → P bytes
-of_bytes o bytes e h = subst (λ (o : Option (List ℕ)). IsSomeAnd o P) e h
+pub of_bytes : (P : List ℕ → Type 0) (o : Option (List ℕ)) (bytes : List ℕ) → o ≡ Some bytes → IsSomeAnd o P → P bytes
+of_bytes P o bytes e h = subst (λ (o : Option (List ℕ)). IsSomeAnd o P) e h
 
 -- THE SUMMARY
 
@@ -82,7 +87,7 @@ pub summary_stops : (c : Contents) (kind : ErrorKind) (bytes : List ℕ) → str
 summary_stops c kind bytes held only kinds =
     stops_after c kind (step.has_summary ∷ []) (step.reads_summary ∷ []) (there (stream_at summary_key (entries c.streams)) bytes held, tt)
     (stops_at c kind step.reads_summary kinds (λ is (set, spelled).
-    given_none kind set is (only set (of_bytes {P = λ b. SpellsSummary b set} (stream_at summary_key (entries c.streams)) bytes held spelled))))
+    given_none kind set is (only set (of_bytes (λ b. SpellsSummary b set) (stream_at summary_key (entries c.streams)) bytes held spelled))))
 
 -- THE POOL
 
@@ -99,7 +104,7 @@ pool_stream_stops c kind bytes held only kinds =
     let at : Option (List ℕ) = stream_at (table_key string_pool_name) (entries c.streams) in
     stops_after c kind (step.has_pool ∷ []) (step.reads_pool ∷ []) (there at bytes held, tt)
     (stops_at c kind step.reads_pool kinds (λ is (page, long, listed, spelled).
-    not_memory kind is (only (record { page = page; long = long; entries = listed }) (of_bytes {P = λ b. SpellsPool b page long listed} at bytes held spelled))))
+    not_memory kind is (only (record { page = page; long = long; entries = listed }) (of_bytes (λ b. SpellsPool b page long listed) at bytes held spelled))))
 
 -- what a pool's two streams say of its first, and of its texts
 raw_form : (o p : Option (List ℕ)) (raw : Pool) → IsSomeAnd o (λ written. IsSomeAnd p (λ texts. IsPool written texts raw))
@@ -111,7 +116,7 @@ raw_form (Some written) (Some texts) raw (listed, form, held) = (listed, form)
 raw_parts : (o p : Option (List ℕ)) (raw : Pool) (texts : List ℕ) → p ≡ Some texts → IsSomeAnd o (λ written. IsSomeAnd p (λ texts. IsPool written texts raw))
     → (listed : List Entry) × IsSomeAnd o (λ b. IsPoolStream b (record { page = raw.page; long = raw.long; entries = listed })) × SpellsTexts raw.page texts listed raw.places
 raw_parts None p raw texts e h = absurd h
-raw_parts (Some written) p raw texts e h = of_bytes {P = λ t. IsPool written t raw} p texts e h
+raw_parts (Some written) p raw texts e h = of_bytes (λ t. IsPool written t raw) p texts e h
 
 raw_texts : (o p : Option (List ℕ)) (raw : Pool) → p ≡ None → IsSomeAnd o (λ written. IsSomeAnd p (λ texts. IsPool written texts raw)) → ⊥
 raw_texts None p raw e h = h
@@ -121,7 +126,7 @@ pub pool_found : (o p : Option (List ℕ)) (texts : List ℕ) (stream : PoolStre
     → (pool ≡ pool_with stream pool.places) × SpellsTexts stream.page texts stream.entries pool.places → IsSomeAnd o (λ written. IsSomeAnd p (λ texts. IsPool written texts pool))
 pool_found None p texts stream pool form e h = absurd form
 pool_found (Some written) p texts stream pool form e h =
-    at_bytes {P = λ t. IsPool written t pool} p texts e (subst (λ (x : Pool). IsPool written texts x) (sym h.0) (stream.entries, form, h.1))
+    at_bytes (λ t. IsPool written t pool) p texts e (subst (λ (x : Pool). IsPool written texts x) (sym h.0) (stream.entries, form, h.1))
 
 -- The streams of a container, and what the pool's first one says. What is read of it is all that it says
 module _ (c : Contents) where
