@@ -1,6 +1,5 @@
 -- The rows that an accepted change writes can be stored.
-use Rattle.std.proofs.Common.{◌≡◌, ℕ, ◌≤◌, Bool, true, false, List, [], ◌∷◌, length, Option, Some, refl, sym, ap, subst, ◌∙◌, ◌⊎◌, arith, bytes_eq}
-use Rattle.std.specs.List.{AllByRecursion}
+use Rattle.std.proofs.Common.{◌≡◌, ℕ, Bool, true, List, length, Some, sym, ap, subst, ◌∙◌, ◌⊎◌, arith}
 use Rattle.std.proofs.lemmas.List.Sorted.{IsPermutation-sym, length_permutation}
 use Rattle.msi_database.specs.Streams.{Streams}
 use Rattle.std.specs.FinMap.{entries}
@@ -10,10 +9,8 @@ use Rattle.msi_table.specs.declared.value.ValueRef.{ValueRef}
 use Rattle.msi_table.specs.Columns.{ColumnDef, TableDef, types_of}
 use Rattle.msi_table.specs.ReadBack.{FitsRow, FitsTable}
 use Rattle.msi_table.specs.StoredOrder.{row_cmp, in_stored_order}
-use Rattle.msi_table.specs.Tables.{CanStore}
-use Rattle.msi_relation.specs.Rows.{TableCells}
 use Rattle.msi_schema.proofs.SortLemmas.{sort_moves}
-use Rattle.msi_changes.specs.Database.{Database, table_at}
+use Rattle.msi_changes.specs.Database.{table_at}
 use Rattle.msi_changes.specs.Changes.{Change, PoolInUse, no_change, with_stored}
 use Rattle.msi_changes.specs.Laws.{IsChange, IsTableChange}
 use Rattle.msi_changes.proofs.KindsKeptLemmas.{all_permuted}

@@ -1,17 +1,16 @@
 -- A create and a drop, by the rows of the system tables that the database has at its beginning.
-use Rattle.std.proofs.Common.{◌≡◌, ℕ, Bool, true, false, not, List, [], ◌∷◌, ◌++◌, filter, Option, Some, None, Ok, refl, sym, ap, subst, ◌∙◌, bytes_eq}
+use Rattle.std.proofs.Common.{◌≡◌, ℕ, true, false, not, List, [], ◌∷◌, ◌++◌, filter, Some, None, Ok, refl, ap, ◌∙◌, bytes_eq}
 use Rattle.std.specs.Prelude.{Result}
-use Rattle.std.specs.List.{fold, list_any}
-use Rattle.std.proofs.lemmas.Bool.{or_parts}
+use Rattle.std.specs.List.{fold}
 use Rattle.msi_text.specs.ErrorKind.{ErrorKind}
-use Rattle.msi_text.specs.ErrorKind.TheVariants.{InvalidInput, InvalidData, NotFound}
+use Rattle.msi_text.specs.ErrorKind.TheVariants.{InvalidInput, NotFound}
 use Rattle.msi_text.specs.Pool.{Place}
 use Rattle.msi_table.specs.declared.value.Value.{Value}
 use Rattle.msi_table.specs.declared.value.Value.TheVariants.{Str}
 use Rattle.msi_table.specs.declared.value.ValueRef.{ValueRef}
 use Rattle.msi_table.specs.Columns.{ColumnDef}
 use Rattle.msi_table.specs.StoredOrder.{in_stored_order}
-use Rattle.msi_relation.specs.Refusals.{Refusals, first_refusal, or_refused, unless, unless_refused, ◌>>=◌}
+use Rattle.msi_relation.specs.Refusals.{first_refusal, or_refused, ◌>>=◌}
 use Rattle.msi_relation.specs.Rows.{TableCells}
 use Rattle.msi_schema.specs.Keys.{is_table_name}
 use Rattle.msi_schema.specs.System.{is_schema_table, is_system_table, tables_name, columns_name, validation_name}

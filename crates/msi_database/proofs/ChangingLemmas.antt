@@ -1,17 +1,14 @@
 -- Rows of a table of a sound database, and the end of a change.
-use Rattle.std.proofs.Common.{◌≡◌, ℕ, Bool, true, false, List, [], ◌∷◌, map, length, Option, Some, None, is_some, Result, Ok, Err, refl, sym, ap, subst, ◌∙◌, option_map, inl, inr, IfErr, ⊎_elim}
-use Rattle.std.specs.List.{AllByRecursion}
+use Rattle.std.proofs.Common.{◌≡◌, Bool, true, List, map, Option, Some, None, is_some, Result, Ok, Err, sym, ap, subst, ◌∙◌, option_map, inl, inr, IfErr}
 use Rattle.std.specs.FinMap.{entries}
-use Rattle.std.proofs.lemmas.Bool.{true≢false}
 use Rattle.msi_compound.specs.Streams as maps
 use Rattle.msi_text.specs.ErrorKind.{ErrorKind}
-use Rattle.msi_text.specs.ErrorKind.TheVariants.{InvalidData, OutOfMemory}
+use Rattle.msi_text.specs.ErrorKind.TheVariants.{InvalidData}
 use Rattle.msi_text.specs.Results.{OnlyMemory}
 use Rattle.msi_text.specs.Pool.{Pool}
 use Rattle.msi_table.specs.declared.value.ValueRef.{ValueRef}
 use Rattle.msi_table.specs.Columns.{TableDef}
 use Rattle.msi_relation.specs.Refusals.{IsRefusal, or_refused}
-use Rattle.msi_relation.specs.Rows.{TableCells}
 use Rattle.msi_changes.specs.Database.{is_sound, table_at}
 use Rattle.msi_changes.specs.Insert.{table_with}
 use Rattle.msi_database.specs.Streams.{Streams, stored_rows}

@@ -1,7 +1,7 @@
 -- A new table among others, and the streams of the system tables that describe it.
 use Rattle.std.proofs.Common.{◌≡◌, ℕ, suc, ◌+◌, Bool, true, false, not, Result, Ok, List, [], ◌∷◌, ◌++◌, take, drop, Err, refl, sym, ap, ◌∙◌, append_assoc, arith}
 use Rattle.std.specs.Prelude.{IsErrAnd, IsTrue, if◌then◌else◌}
-use Rattle.std.specs.List.{AllByRecursion, list_all, prefix_len}
+use Rattle.std.specs.List.{AllByRecursion, prefix_len}
 use Rattle.std.specs.Ordering.{is_lt}
 use Rattle.std.proofs.lemmas.Bool.{lt-ltb}
 use Rattle.msi_text.specs.ErrorKind.{ErrorKind}

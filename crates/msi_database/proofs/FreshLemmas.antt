@@ -1,6 +1,6 @@
 -- A new database is kept and sound, and its counts are exact; its places and its streams.
 use Rattle.std.proofs.Common.{◌≡◌, ℕ, zero, suc, ◌+◌, ◌<◌, ◌≤◌, ◌^◌, Bool, true, ◌&&◌, ◌==◌, nat_lt, List, [], ◌∷◌, length, slice_get, refl, subst, arith, lit≤, inl, inr}
-use Rattle.std.specs.Prelude.{codes, Some, unwrap_or, map}
+use Rattle.std.specs.Prelude.{codes, Some, unwrap_or}
 use Rattle.std.specs.List.{list_all, AllByRecursion, sum_by}
 use Rattle.std.proofs.lemmas.Bool.{and_parts, ltb-true, eqb-true, cases_eq}
 use Rattle.msi_text.specs.Lists.{numbers_from, numbers_below}

@@ -1,5 +1,4 @@
 -- The laws of kept databases.
-use Rattle.std.proofs.Common.{sym}
 use Rattle.msi_changes.proofs.LawLemmas.{well_formed_to}
 use Rattle.msi_database.specs.Keeping.{KeptIsWellFormed, ReadIsKept}
 use Rattle.msi_database.specs.OwnStreams.{TablesHaveOwnStreams}

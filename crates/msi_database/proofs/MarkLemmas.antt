@@ -1,6 +1,6 @@
 -- Marks of the places that cells name: how far each loop has come, and what they tell at the end.
-use Rattle.std.proofs.Common.{◌≡◌, ◌≢◌, ℕ, zero, suc, ◌+◌, ◌<◌, Bool, true, false, ◌||◌, ◌==◌, List, [], ◌∷◌, ◌++◌, map, length, drop, set, get_or, Option, Some, None, unwrap_or, refl, sym, ap, subst, ◌∙◌, arith, ⊎_elim, append_assoc, append-nil, get_or-set_same, get_or-set_other}
-use Rattle.std.specs.Prelude.{MatchOption, replicate}
+use Rattle.std.proofs.Common.{◌≡◌, ◌≢◌, ℕ, zero, suc, ◌+◌, ◌<◌, Bool, true, false, ◌||◌, ◌==◌, List, [], ◌∷◌, ◌++◌, map, length, drop, set, get_or, Option, Some, None, unwrap_or, refl, sym, ap, subst, ◌∙◌, arith, ⊎_elim, append-nil, get_or-set_same, get_or-set_other}
+use Rattle.std.specs.Prelude.{replicate}
 use Rattle.std.specs.List.{AllByRecursion, filter_map, list_any}
 use Rattle.std.proofs.lemmas.Bool.{cases_eq, eq-eqb, ne_eqb}
 use Rattle.std.proofs.lemmas.List.{length-set, length-replicate, get_or-replicate}

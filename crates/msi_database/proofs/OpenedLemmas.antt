@@ -1,6 +1,6 @@
 -- What is opened is kept: a pool and tables that are read of streams.
-use Rattle.std.proofs.Common.{◌≡◌, ℕ, zero, suc, ◌+◌, ◌<◌, ◌≤◌, ◌^◌, Bool, true, false, cond, not, ◌&&◌, ◌||◌, ◌==◌, nat_le, List, [], ◌∷◌, map, filter, length, count_by, slice_get, Option, Some, None, refl, sym, ap, subst, ◌∙◌, arith}
-use Rattle.std.specs.Prelude.{if◌then◌else◌, IfSome, T, All, unwrap_or, is_some}
+use Rattle.std.proofs.Common.{◌≡◌, ℕ, zero, suc, ◌+◌, ◌<◌, ◌≤◌, Bool, true, false, cond, not, ◌&&◌, ◌||◌, ◌==◌, nat_le, List, [], ◌∷◌, map, filter, length, count_by, slice_get, Option, Some, None, refl, sym, ap, subst, ◌∙◌, arith}
+use Rattle.std.specs.Prelude.{if◌then◌else◌, IfSome, T, unwrap_or, is_some}
 use Rattle.std.specs.List.{list_any, list_all, AllByRecursion, enumerate_from}
 use Rattle.std.specs.FinMap.{is_sorted}
 use Rattle.std.proofs.lemmas.Bool.{and_parts, leb-true, eqb-false, true≢false}
@@ -10,17 +10,15 @@ use Rattle.msi_text.specs.Lists.{numbers_from}
 use Rattle.msi_text.specs.FirstFit.{count_of}
 use Rattle.msi_text.specs.Pool.{Pool, Place, CountsFit, PlacesWritten, forgotten, with_named_texts}
 use Rattle.msi_table.specs.declared.value.ValueRef.{ValueRef}
-use Rattle.msi_table.specs.Columns.{ColumnDef, TableDef, types_of}
-use Rattle.msi_table.specs.Cells.{rows_in}
+use Rattle.msi_table.specs.Columns.{TableDef, types_of}
 use Rattle.msi_table.specs.ReadBack.{FitsRow, FitsTable}
 use Rattle.msi_schema.specs.System.{validation_columns, validation_name}
-use Rattle.msi_schema.specs.Keys.{table_key}
 use Rattle.msi_changes.specs.Database.{Database, is_sound, named_numbers, cells_naming}
-use Rattle.msi_database.specs.Streams.{Streams, stored_rows, stream_at}
-use Rattle.msi_database.specs.StreamNames.{HaveNames, HoldBytes}
-use Rattle.msi_database.specs.Agreement.{DatabaseIs, schema_in, is_shown, shown_numbers}
-use Rattle.msi_database.specs.Kept.{Kept, kept_of, database_kept, table_kept, table_kept_at, unlisted_kept, schema_listed, AreAsLong}
-use Rattle.msi_database.specs.Keeping.{IsKeptDatabase, AreKept, RowsFit, UnlistedFits, HasFittingRows}
+use Rattle.msi_database.specs.Streams.{Streams, stored_rows}
+use Rattle.msi_database.specs.StreamNames.{HaveNames}
+use Rattle.msi_database.specs.Agreement.{DatabaseIs, schema_in, is_shown}
+use Rattle.msi_database.specs.Kept.{database_kept, table_kept, table_kept_at, schema_listed, AreAsLong}
+use Rattle.msi_database.specs.Keeping.{AreKept, HasFittingRows}
 use Rattle.msi_database.proofs.SoundLemmas.{sound_is}
 use Rattle.msi_database.proofs.NamedLemmas.{shown_named}
 use Rattle.msi_database.proofs.PartsLemmas.{parts_spelled}

@@ -7,17 +7,14 @@ use Rattle.msi_text.specs.Pool.{Pool}
 use Rattle.msi_text.specs.ErrorKind.{ErrorKind}
 use Rattle.msi_compound.specs.Names.{is_name_length}
 use Rattle.msi_compound.specs.Streams as maps
-use Rattle.msi_table.specs.declared.value.Value.{Value}
-use Rattle.msi_table.specs.declared.value.ValueRef.{ValueRef}
 use Rattle.msi_table.specs.Cells.{rows_in}
 use Rattle.msi_table.specs.StoredOrder.{row_values}
 use Rattle.msi_table.specs.Columns.{ColumnDef, TableDef, types_of}
-use Rattle.msi_relation.specs.Rows.{TableCells}
 use Rattle.msi_schema.specs.Keys.{table_key}
-use Rattle.msi_schema.specs.Schema.{SchemaRows, schema_of}
+use Rattle.msi_schema.specs.Schema.{schema_of}
 use Rattle.msi_schema.specs.System.{columns_columns, columns_name, tables_columns, tables_name, validation_columns, validation_name}
 use Rattle.msi_changes.specs.Database.{Database, is_sound}
-use Rattle.msi_database.specs.Agreement.{described_by, schema_in}
+use Rattle.msi_database.specs.Agreement.{schema_in}
 use Rattle.msi_database.specs.Keeping.{AreKept, RowsFit, UnlistedFits}
 use Rattle.msi_database.specs.Kept.{Kept, database_kept, kept_of, schema_listed, table_kept, table_kept_at}
 use Rattle.msi_database.specs.Others.{IsOther, with_streams}

@@ -1,5 +1,5 @@
 -- No change stores a stream twice.
-use Rattle.std.proofs.Common.{◌≡◌, ℕ, Bool, true, false, ◌||◌, List, [], ◌∷◌, ◌++◌, Option, Some, None, is_some, Ok, refl, sym, ap, subst, ◌∙◌, ◌⊎◌, inl, inr, bytes_eq}
+use Rattle.std.proofs.Common.{◌≡◌, ℕ, true, false, List, [], ◌∷◌, ◌++◌, Option, Some, None, is_some, Ok, refl, sym, ap, subst, ◌∙◌, ◌⊎◌, inl, inr, bytes_eq}
 use Rattle.std.specs.List.{list_any}
 use Rattle.std.proofs.lemmas.Bool.{or_parts, or_from}
 use Rattle.msi_text.specs.Pool.{Place}
@@ -7,7 +7,7 @@ use Rattle.msi_table.specs.declared.value.Value.{Value}
 use Rattle.msi_table.specs.declared.value.Value.TheVariants.{Str}
 use Rattle.msi_table.specs.Columns.{ColumnDef}
 use Rattle.msi_relation.specs.Rows.{TableCells}
-use Rattle.msi_schema.specs.System.{is_schema_table, is_system_table, tables_name, columns_name, validation_name, tables_columns}
+use Rattle.msi_schema.specs.System.{is_schema_table, tables_name, columns_name, validation_name, tables_columns}
 use Rattle.msi_schema.specs.Schema.{schema_of}
 use Rattle.msi_schema.specs.Description.{column_rows, validation_rows}
 use Rattle.msi_schema.proofs.ListLemmas.{or_false}
@@ -23,7 +23,7 @@ use Rattle.msi_changes.proofs.UpdateLemmas.{update_parts}
 use Rattle.msi_changes.proofs.DeleteLemmas.{delete_parts}
 use Rattle.msi_changes.proofs.ShownLemmas.{shown}
 use Rattle.msi_changes.proofs.ShownLemmas as steps
-use Rattle.msi_changes.proofs.ShownChangesLemmas.{Dropped, dropped_parts}
+use Rattle.msi_changes.proofs.ShownChangesLemmas.{dropped_parts}
 use Rattle.msi_changes.proofs.DescribingLemmas.{describing}
 use Rattle.msi_changes.proofs.DroppedLemmas.{flips}
 use Rattle.msi_database.specs.Storing.{HaveOwnNames, tables_stored}

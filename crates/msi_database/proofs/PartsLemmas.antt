@@ -1,9 +1,8 @@
 -- Which database parts that are kept make up: where streams spell a database, its pool and its tables' columns are all that is kept of it beside them.
-use Rattle.std.proofs.Common.{◌≡◌, ℕ, Bool, true, false, List, [], ◌∷◌, map, Option, Some, None, refl, sym, ap, subst, ◌∙◌, cond, option_map, is_some, bytes_eq}
+use Rattle.std.proofs.Common.{◌≡◌, ℕ, Bool, true, false, List, [], ◌∷◌, map, Option, Some, None, refl, sym, ap, subst, ◌∙◌, option_map, is_some}
 use Rattle.std.specs.Prelude.{MatchBool, option_and_then, unwrap_or, if◌then◌else◌}
 use Rattle.std.specs.List.{AllByRecursion}
 use Rattle.std.specs.FinMap.{find}
-use Rattle.std.proofs.lemmas.Map.Text.{is_eq-slice_cmp}
 use Rattle.std.proofs.lemmas.Option.{none-some}
 use Rattle.msi_text.specs.Lists.{list_cmp}
 use Rattle.msi_text.specs.Pool.{Pool, Place}
@@ -14,7 +13,7 @@ use Rattle.msi_table.specs.Columns.{ColumnDef, TableDef}
 use Rattle.msi_relation.specs.Rows.{TableCells}
 use Rattle.msi_schema.specs.System.{validation_name, validation_columns}
 use Rattle.msi_schema.specs.Schema.{SchemaRows, schema_of}
-use Rattle.msi_changes.specs.Database.{Database, Tables, has_table, table_at}
+use Rattle.msi_changes.specs.Database.{Database, Tables, has_table}
 use Rattle.msi_database.specs.Streams.{Streams, stored_rows}
 use Rattle.msi_database.specs.Agreement.{DatabaseIs, schema_shown, schema_in}
 use Rattle.msi_database.proofs.TablesKeptLemmas.{has_table_kept}

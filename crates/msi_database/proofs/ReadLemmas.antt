@@ -2,7 +2,7 @@
 use Rattle.std.proofs.Common.{◌≡◌, ◌≢◌, ℕ, zero, suc, ◌+◌, ◌<◌, Bool, true, false, ◌==◌, List, [], ◌∷◌, length, map, Option, Some, None, refl, sym, ap, subst, ◌∙◌, arith, inl, inr}
 use Rattle.std.specs.Prelude.{IfSome, All, unwrap_or, option_map, option_and_then, if◌then◌else◌, zip}
 use Rattle.std.specs.List.{AllByRecursion}
-use Rattle.std.specs.FinMap.{find, put}
+use Rattle.std.specs.FinMap.{put}
 use Rattle.std.proofs.lemmas.Option.{same_Some, none-some}
 use Rattle.std.proofs.lemmas.Bool.{eqb-false}
 use Rattle.msi_text.specs.Lists.{all_present, tabulated, list_cmp}
@@ -15,7 +15,6 @@ use Rattle.msi_schema.specs.Keys.{table_key}
 use Rattle.msi_schema.specs.System.{tables_name, columns_name, validation_name, tables_columns, columns_columns, validation_columns}
 use Rattle.msi_database.specs.Streams.{Streams, stored_rows, stream_at}
 use Rattle.msi_database.specs.StreamNames.{HoldBytes}
-use Rattle.msi_database.proofs.MapLemmas as maps
 use Rattle.msi_database.proofs.OpenedLemmas.{HaveFittingRows}
 use Rattle.msi_database.specs.Agreement.{schema_in, schema_rows}
 use Rattle.msi_database.specs.Kept.{schema_listed}

@@ -1,29 +1,31 @@
 -- A database that is read: its pool's places, what it keeps to, and what it is.
-use Rattle.std.proofs.Common.{◌≡◌, ℕ, ◌≤◌, Bool, true, false, ◌||◌, ◌==◌, List, [], ◌∷◌, ◌++◌, map, length, Option, Some, None, is_some, unwrap_or, refl, sym, ap, subst, ◌∙◌}
+use Rattle.std.proofs.Common.{◌≡◌, ℕ, ◌≤◌, Bool, true, false, ◌||◌, ◌==◌, List, [], ◌∷◌, ◌++◌, map, length, Option, Some, is_some, unwrap_or, refl, sym, ap, ap₂, subst, ◌∙◌}
 use Rattle.std.specs.Prelude.{T, if◌then◌else◌}
 use Rattle.std.specs.List.{list_any}
 use Rattle.std.specs.FinMap.{entries, entries_sorted, is_sorted}
 use Rattle.std.proofs.lemmas.List.Folds.{list_any-append}
+use Rattle.std.proofs.lemmas.Option.{same_Some}
 use Rattle.msi_compound.specs.Names.{name_cmp}
 use Rattle.msi_compound.specs.Streams as maps
 use Rattle.msi_text.specs.ErrorKind.{ErrorKind}
 use Rattle.msi_text.specs.ErrorKind.TheVariants.{InvalidData}
-use Rattle.msi_text.specs.Pool.{CountsFit, Place, Pool, with_named_texts}
+use Rattle.msi_text.specs.Pool.{CountsFit, Pool, with_named_texts}
 use Rattle.msi_table.specs.declared.value.ValueRef.{ValueRef}
 use Rattle.msi_table.specs.Columns.{ColumnDef, TableDef}
 use Rattle.msi_relation.specs.Refusals.{IsRefusal, or_refused}
 use Rattle.msi_schema.specs.Schema.{table_with}
 use Rattle.msi_schema.specs.System.{validation_columns, validation_name}
-use Rattle.msi_changes.specs.Database.{Database, is_sound, names_are_numbers, numbers_of_rows}
+use Rattle.msi_changes.specs.Database.{Database, Tables, is_sound, names_are_numbers, numbers_of_rows}
 use Rattle.msi_database.specs.Streams.{Streams, stored_rows}
 use Rattle.msi_database.specs.StreamNames.{HaveNames, HoldBytes}
 use Rattle.msi_database.specs.Agreement.{is_shown, schema_in}
-use Rattle.msi_database.specs.Kept.{AreAsLong, database_kept, kept_of, schema_listed, table_kept, table_kept_at, unlisted_kept}
+use Rattle.msi_database.specs.Kept.{AreAsLong, Kept, database_kept, kept_of, schema_listed, table_kept, table_kept_at, unlisted_kept}
 use Rattle.msi_database.specs.Keeping.{AreKept, IsRead}
+use Rattle.msi_database.specs.Listed.{tables_listed}
 use Rattle.msi_database.specs.Reading.{IsDatabaseOf, numbers_named, numbers_of_tables, pool_shown}
 use Rattle.msi_database.proofs.FitLemmas.{well_formed}
 use Rattle.msi_database.proofs.KeptLawLemmas.{read_is_kept}
-use Rattle.msi_database.proofs.PartsLemmas.{parts_spelled}
+use Rattle.msi_database.proofs.PartsLemmas.{parts_make, parts_spelled}
 use Rattle.msi_database.proofs.ReadingLemmas.{refused_from, without_validation}
 use Rattle.msi_database.proofs.SchemaLemmas.{tables_sorted}
 use Rattle.msi_database.proofs.ShownTextLemmas.{schema_by_raw}
@@ -62,7 +64,7 @@ module _ (raw : Pool) (tables : List TableDef) (streams : Streams) (rows : List 
   shown = pool_shown (numbers_named streams raw.long tables rows) raw
 
   schema_read : schema_in streams shown ≡ Some (schema_listed tables)
-  schema_read = schema_by_raw raw tables streams rows h.held h.stored h.schema ∙ h.schema
+  schema_read = schema_by_raw raw tables streams rows h.held h.stored raw h.schema ∙ h.schema
 
   places_read : shown.places ≡ with_named_texts (is_shown streams (database_kept shown tables streams)) raw.places
   places_read = λ i. with_named_texts (λ number. shown_here (λ n. n == number) (numbers_of_tables (map (table_kept streams raw.long) tables)) (is_some (table_kept_at validation_name tables)) rows
@@ -101,6 +103,64 @@ module _ (raw : Pool) (tables : List TableDef) (streams : Streams) (rows : List 
   pub read_unlisted : (new : Pool) → new ≡ shown → (if is_some (table_kept_at validation_name tables) then [] else rows) ≡ unlisted_kept streams new.long tables
   read_unlisted new e = subst (λ (p : Pool). (if is_some (table_kept_at validation_name tables) then [] else rows) ≡ unlisted_kept streams p.long tables) (sym e)
       (ap (λ (o : Option (List (List ValueRef))). if is_some (table_kept_at validation_name tables) then [] else unwrap_or o []) (sym h.stored))
+
+-- THERE IS NO OTHER
+
+abbrev first_name : List (List ℕ × List ColumnDef) → List ℕ
+first_name [] = []
+first_name (t ∷ ts) = t.0
+
+abbrev first_columns : List (List ℕ × List ColumnDef) → List ColumnDef
+first_columns [] = []
+first_columns (t ∷ ts) = t.1
+
+same_tables : (long : Bool) (tables others : List TableDef) → AreAsLong long tables → AreAsLong long others → schema_listed tables ≡ schema_listed others → tables ≡ others
+same_tables long [] [] all each e = refl
+same_tables long [] (u ∷ us) all each e = absurd cc
+same_tables long (t ∷ ts) [] all each e = absurd cc
+same_tables long (t ∷ ts) (u ∷ us) all each e =
+    let name : t.name ≡ u.name = ap first_name e in
+    let columns : t.columns ≡ u.columns = ap first_columns e in
+    let rest : schema_listed ts ≡ schema_listed us = cc in
+    let wide : t.long ≡ u.long = all.0 ∙ sym each.0 in
+    let here : t ≡ u = λ i. record { name = name i; columns = columns i; long = wide i } in
+    ap₂ (λ (v : TableDef) vs. v ∷ vs) here (same_tables long ts us all.1 each.1 rest)
+
+listed_shown : (long : Bool) (ts : Tables) → schema_listed (map (λ t. record { name = t.0; columns = t.1.columns; long = long }) ts) ≡ map (λ t. (t.0, t.1.columns)) ts
+listed_shown long [] = refl
+listed_shown long (t ∷ ts) = ap (λ (l : List (List ℕ × List ColumnDef)). (t.0, t.1.columns) ∷ l) (listed_shown long ts)
+
+listed_long : (long : Bool) (ts : Tables) → AreAsLong long (map (λ t. record { name = t.0; columns = t.1.columns; long = long }) ts)
+listed_long long [] = tt
+listed_long long (t ∷ ts) = (refl, listed_long long ts)
+
+module _ (raw : Pool) (tables : List TableDef) (streams : Streams) (rows : List (List ValueRef)) (h : Reads raw tables streams rows) (k : Kept) (is : IsDatabaseOf raw streams k) where
+  own : database_kept k.database.pool (tables_listed k.database) streams ≡ k.database
+  own = parts_make streams k.database (tables_listed k.database) is.spelled (listed_shown k.database.pool.long k.database.tables)
+
+  pool_of : (names : ℕ → Bool) → k.database.pool.places ≡ with_named_texts names raw.places → k.database.pool ≡ record raw { places = with_named_texts names raw.places }
+  pool_of names places = λ i. record { page = is.page i; long = is.long i; places = places i }
+
+  -- its pool is shown by its own tables
+  pool_is : k.database.pool ≡ pool_shown (numbers_named streams raw.long (tables_listed k.database) rows) raw
+  pool_is = pool_of (λ number. list_any (λ n. n == number) (numbers_named streams raw.long (tables_listed k.database) rows))
+      (is.places ∙ ap (λ (d : Database). with_named_texts (is_shown streams d) raw.places) (sym own)
+      ∙ (λ i. with_named_texts (is_shown streams (database_kept (record { page = is.page i; long = is.long i; places = k.database.pool.places }) (tables_listed k.database) streams)) raw.places)
+      ∙ sym (λ i. with_named_texts (λ number. shown_here (λ n. n == number) (numbers_of_tables (map (table_kept streams raw.long) (tables_listed k.database))) (is_some (table_kept_at validation_name (tables_listed k.database))) rows
+      (stored_rows streams raw.long validation_columns validation_name) h.stored i) raw.places))
+
+  own_schema : schema_in streams k.database.pool ≡ Some (schema_listed (tables_listed k.database))
+  own_schema = is.spelled.schema ∙ ap Some (sym (listed_shown k.database.pool.long k.database.tables))
+
+  tables_are : tables_listed k.database ≡ tables
+  tables_are = same_tables raw.long (tables_listed k.database) tables (subst (λ long. AreAsLong long (tables_listed k.database)) is.long (listed_long k.database.pool.long k.database.tables)) h.as_long
+      (same_Some _ _ (sym own_schema ∙ ap (schema_in streams) pool_is ∙ schema_by_raw raw (tables_listed k.database) streams rows h.held h.stored k.database.pool own_schema ∙ h.schema))
+
+  pub read_once : (new : Pool) → new ≡ pool_shown (numbers_named streams raw.long tables rows) raw → k ≡ kept_of new tables streams
+  read_once new e =
+      let pool : k.database.pool ≡ new = pool_is ∙ ap (λ (ts : List TableDef). pool_shown (numbers_named streams raw.long ts rows) raw) tables_are ∙ sym e in
+      let database : k.database ≡ database_kept new tables streams = sym own ∙ (λ i. database_kept (pool i) (tables_are i) streams) in
+      λ i. record { database = database i; streams = is.streams i }
 
 -- THE STANDARD COLUMNS OF `_Validation`
 

@@ -1,7 +1,7 @@
 -- What reading a database rests on: the entries of streams, and the tables that the rows of the system tables describe.
-use Rattle.std.proofs.Common.{◌≡◌, ◌≢◌, ℕ, zero, suc, ◌<◌, ◌≤◌, Bool, true, false, not, ◌||◌, ◌&&◌, List, [], ◌∷◌, map, Option, Some, None, Result, Ok, Err, refl, sym, ap, subst, ◌∙◌, arith, inl, inr, nat_le, length, ⊎_elim}
+use Rattle.std.proofs.Common.{◌≡◌, ℕ, ◌<◌, ◌≤◌, Bool, true, false, not, ◌||◌, ◌&&◌, List, [], ◌∷◌, map, Option, Some, None, Result, Ok, Err, refl, sym, ap, subst, ◌∙◌, arith, inl, inr, length, ⊎_elim}
 use Rattle.std.specs.Prelude.{All, IfErr, IfOk, IfSome, ℤ, pos, negsuc, neg_ℤ, ◌≤ℤ◌, option_map, option_and_then, if◌then◌else◌, zip}
-use Rattle.std.specs.List.{AllByRecursion, list_any}
+use Rattle.std.specs.List.{AllByRecursion}
 use Rattle.std.proofs.lemmas.Bool.{cases_Bool, le-leb, true≢false}
 use Rattle.std.proofs.lemmas.Option.{none-some, same_Some}
 use Rattle.std.proofs.lemmas.Bool.Decides.{nat_tests}
@@ -23,12 +23,12 @@ use Rattle.msi_table.specs.ReadBack.{FitsColumn, FitsRow, FitsTable}
 use Rattle.msi_table.specs.StoredOrder.{row_values}
 use Rattle.msi_relation.specs.Refusals.{IsRefusal, or_refused}
 use Rattle.msi_schema.specs.RowOrders.{rows_of}
-use Rattle.msi_schema.specs.Schema.{SchemaRows, by_name, columns_of, listed_names, has_long_number, has_null, has_odd_name, is_faulty, is_null, is_of_16_bits, is_text, number_of, schema_of, table_with, tables_of, value_at}
+use Rattle.msi_schema.specs.Schema.{SchemaRows, by_name, columns_of, listed_names, has_long_number, has_null, has_odd_name, is_faulty, is_null, is_of_16_bits, is_text, number_of, schema_of, table_with, tables_of}
 use Rattle.msi_schema.proofs.SchemaLemmas.{no_fault}
 use Rattle.msi_schema.specs.System.{columns_columns, columns_name, tables_columns, tables_name, validation_columns, validation_name}
 use Rattle.msi_database.specs.Streams.{Streams, stored_rows}
 use Rattle.msi_database.specs.StreamNames.{HaveNames, HoldBytes}
-use Rattle.msi_database.specs.Agreement.{described_by, schema_in, schema_rows}
+use Rattle.msi_database.specs.Agreement.{described_by, schema_in}
 use Rattle.msi_database.specs.Kept.{AreAsLong, schema_listed}
 use Rattle.msi_database.proofs.ReadLemmas.{rows_read_fit}
 
@@ -124,7 +124,6 @@ refused_from (Some x) p kind h (inr e) = absurd cc
 pub err_from : {A B X : Type 0} (r : Result X ErrorKind) (o : Option A) (p : Option B) → (o ≡ None → p ≡ None) → IfErr r (IsRefusal (or_refused InvalidData o)) → IfErr r (IsRefusal (or_refused InvalidData p))
 err_from (Ok x) o p h e = tt
 err_from (Err kind) o p h e = refused_from o p kind h e
-
 
 -- what is refused, of rows that cells give
 fails_by : {A B : Type 0} (o : Option A) (p : Option B) (kind : ErrorKind) → (o ≡ None → p ≡ None) → FailsAs kind o → IsRefusal (or_refused InvalidData p) kind

@@ -1,5 +1,5 @@
 -- A call that is refused, step by step: what a step refuses, the call refuses.
-use Rattle.std.proofs.Common.{◌≡◌, ℕ, Bool, true, false, not, List, [], ◌∷◌, ◌++◌, Option, Some, None, Ok, Err, refl, sym, ap, subst, ◌∙◌, inl, inr}
+use Rattle.std.proofs.Common.{◌≡◌, ℕ, not, List, [], ◌∷◌, ◌++◌, Option, Some, None, Ok, Err, sym, ap, subst, ◌∙◌, inl, inr}
 use Rattle.std.specs.Prelude.{option_map, Result}
 use Rattle.std.specs.List.{fold}
 use Rattle.msi_text.specs.ErrorKind.{ErrorKind}

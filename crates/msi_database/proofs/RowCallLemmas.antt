@@ -1,5 +1,5 @@
 -- Changes of rows: what a call made is what the change leaves.
-use Rattle.std.proofs.Common.{◌≡◌, ℕ, Bool, true, false, not, List, [], ◌∷◌, ◌++◌, length, Option, Some, None, Result, Ok, Err, refl, sym, ap, ap₂, subst, ◌∙◌, option_map, inl}
+use Rattle.std.proofs.Common.{◌≡◌, ℕ, Bool, true, false, not, List, [], ◌∷◌, ◌++◌, Option, Some, None, Result, Ok, Err, refl, sym, ap, ap₂, subst, ◌∙◌, option_map, inl}
 use Rattle.std.specs.Prelude.{MatchOption, OnOk}
 use Rattle.std.specs.FinMap.{entries}
 use Rattle.msi_compound.specs.Streams as maps

@@ -1,6 +1,6 @@
 -- Places that cells name keep their texts, so the rows of the system tables describe the same tables by the pool as it is stored and as it is read.
-use Rattle.std.proofs.Common.{◌≡◌, ℕ, zero, suc, ◌+◌, ◌-◌, ◌<◌, Bool, true, false, cond, not, ◌||◌, ◌&&◌, ◌==◌, List, [], ◌∷◌, ◌++◌, map, Option, Some, None, is_some, unwrap_or, slice_get, refl, sym, ap, subst, ◌∙◌, arith}
-use Rattle.std.specs.Prelude.{IfSome, option_map, option_and_then, if◌then◌else◌}
+use Rattle.std.proofs.Common.{◌≡◌, ℕ, zero, suc, ◌+◌, ◌-◌, ◌<◌, Bool, true, false, cond, not, ◌&&◌, ◌==◌, List, [], ◌∷◌, ◌++◌, map, Option, Some, None, unwrap_or, slice_get, refl, sym, ap, subst, ◌∙◌, arith}
+use Rattle.std.specs.Prelude.{IfSome, option_map, if◌then◌else◌}
 use Rattle.std.specs.Option.{option_map_or}
 use Rattle.std.specs.List.{AllByRecursion, enumerate_from, filter_map, list_any}
 use Rattle.std.specs.FinMap.{find}
@@ -14,7 +14,6 @@ use Rattle.msi_text.specs.Lists.{list_cmp}
 use Rattle.msi_text.specs.Pool.{Place, Pool, forgotten, with_named_texts}
 use Rattle.msi_table.specs.declared.column.ColumnType.{ColumnType}
 use Rattle.msi_table.specs.declared.column.ColumnType.TheVariants as coltype
-use Rattle.msi_table.specs.declared.value.Value.{Value}
 use Rattle.msi_table.specs.declared.value.Value.TheVariants as value
 use Rattle.msi_table.specs.declared.value.ValueRef.{ValueRef}
 use Rattle.msi_table.specs.declared.value.ValueRef.TheVariants as cell
@@ -22,13 +21,13 @@ use Rattle.msi_table.specs.Cells.{value_of_cell}
 use Rattle.msi_table.specs.Columns.{ColumnDef, TableDef, types_of}
 use Rattle.msi_table.specs.ReadBack.{FitsColumn, FitsRow, FitsTable}
 use Rattle.msi_table.specs.StoredOrder.{row_values}
-use Rattle.msi_schema.specs.Schema.{SchemaRows, schema_of}
+use Rattle.msi_schema.specs.Schema.{schema_of}
 use Rattle.msi_schema.specs.System.{columns_columns, columns_name, tables_columns, tables_name, validation_columns, validation_name}
 use Rattle.msi_schema.proofs.SchemaLemmas.{describes_from, names_tie}
 use Rattle.msi_changes.specs.Database.{number_of_cell, numbers_of_rows, rows_of}
 use Rattle.msi_database.specs.Streams.{Streams, stored_rows}
 use Rattle.msi_database.specs.StreamNames.{HoldBytes}
-use Rattle.msi_database.specs.Agreement.{described_by, schema_in, schema_rows}
+use Rattle.msi_database.specs.Agreement.{schema_in, schema_rows}
 use Rattle.msi_database.specs.Kept.{schema_listed, table_kept}
 use Rattle.msi_database.specs.Reading.{numbers_named, numbers_of_tables, pool_shown}
 use Rattle.msi_database.proofs.ReadLemmas.{rows_read_fit, validation_read_fits}
@@ -94,9 +93,10 @@ rows_named : (named : ℕ → Bool) (long : Bool) (types : List ColumnType) (row
     → AllByRecursion (AllByRecursion (IsNamed named)) rows
 rows_named named long types [] f h = tt
 rows_named named long types (row ∷ rows) f h =
-    let split = λ (n : ℕ). list_any-append (λ m. m == n) (filter_map number_of_cell row) (numbers_of_rows rows) in
-    (row_named named long types row f.0 (λ n here. h n (split n ∙ or_left (has (filter_map number_of_cell row) n) (has (numbers_of_rows rows) n) here)),
-    rows_named named long types rows f.1 (λ n later. h n (split n ∙ or_right (has (filter_map number_of_cell row) n) (has (numbers_of_rows rows) n) later)))
+    let split = λ (n : ℕ). list_any-append (λ m. m == n) (filter_map number_of_cell row) (numbers_of_rows rows) in (
+      row_named named long types row f.0 (λ n here. h n (split n ∙ or_left (has (filter_map number_of_cell row) n) (has (numbers_of_rows rows) n) here)),
+      rows_named named long types rows f.1 (λ n later. h n (split n ∙ or_right (has (filter_map number_of_cell row) n) (has (numbers_of_rows rows) n) later)),
+    )
 
 option_shown : (named : ℕ → Bool) (places : List Place) (long : Bool) (types : List ColumnType) (o : Option (List (List ValueRef))) → IfSome o (AllByRecursion (FitsRow long types)) → ((n : ℕ) → has (numbers_of_rows (unwrap_or o [])) n ≡ true → named n ≡ true)
     → option_map (map (row_values (with_named_texts named places))) o ≡ option_map (map (row_values places)) o
@@ -133,10 +133,10 @@ system_listed : (streams : Streams) (raw : Pool) (tables : List TableDef) → sc
 system_listed streams raw tables e = option_and_then_some schema_of (schema_rows streams raw) (schema_listed tables) e
     (λ s s_is is. ((describes_from s (schema_listed tables) is).found tables_name, (describes_from s (schema_listed tables) is).found columns_name))
 
--- THE SCHEMA
+-- THE SCHEMA, of tables that some pool describes
 
 module _ (raw : Pool) (tables : List TableDef) (streams : Streams) (rows : List (List ValueRef)) (held : HoldBytes streams)
-    (stored : stored_rows streams raw.long validation_columns validation_name ≡ Some rows) (schema : schema_in streams raw ≡ Some (schema_listed tables)) where
+    (stored : stored_rows streams raw.long validation_columns validation_name ≡ Some rows) (other : Pool) (schema : schema_in streams other ≡ Some (schema_listed tables)) where
   of_table : (name : List ℕ) (columns : List ColumnDef) → find list_cmp name (schema_listed tables) ≡ Some columns → (n : ℕ)
       → has (numbers_of_rows (unwrap_or (stored_rows streams raw.long columns name) [])) n ≡ true → has (numbers_named streams raw.long tables rows) n ≡ true
   of_table name columns e n h = list_any-append (λ m. m == n) (numbers_of_tables (map (table_kept streams raw.long) tables)) (numbers_of_rows rows)
@@ -150,7 +150,7 @@ module _ (raw : Pool) (tables : List TableDef) (streams : Streams) (rows : List 
   pub schema_by_raw : schema_in streams (pool_shown (numbers_named streams raw.long tables rows) raw) ≡ schema_in streams raw
   schema_by_raw =
       let named : ℕ → Bool = λ n. has (numbers_named streams raw.long tables rows) n in
-      let found = system_listed streams raw tables schema in
+      let found = system_listed streams other tables schema in
       schema_same streams (pool_shown (numbers_named streams raw.long tables rows) raw) raw
       (option_shown named raw.places raw.long (types_of tables_columns) (stored_rows streams raw.long tables_columns tables_name)
       (each_of raw.long tables_columns (stored_rows streams raw.long tables_columns tables_name) (rows_read_fit streams raw.long tables_columns tables_name held (omega arith))) (of_table tables_name tables_columns found.0))

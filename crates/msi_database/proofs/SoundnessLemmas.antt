@@ -3,7 +3,6 @@ use Rattle.std.proofs.Common.{◌≡◌, ◌≢◌, ℕ, zero, suc, ◌+◌, ◌
 use Rattle.std.specs.Prelude.{option_and_then, option_map, nat_le}
 use Rattle.std.specs.Option as options
 use Rattle.std.specs.List.{AllByRecursion}
-use Rattle.std.proofs.lemmas.Bool.{true≢false}
 use Rattle.msi_text.specs.Pool.{Pool, Place}
 use Rattle.msi_text.specs.FirstFit.{count_of, most_places}
 use Rattle.msi_table.specs.declared.value.ValueRef.{ValueRef}

@@ -1,16 +1,16 @@
 -- Where each place's count suffices for the cells that name it, one can be taken at each; and only there.
-use Rattle.std.proofs.Common.{◌≡◌, ◌≢◌, ℕ, zero, suc, ◌+◌, ◌-◌, ◌<◌, ◌≤◌, Bool, true, false, cond, ◌&&◌, List, [], ◌∷◌, ◌++◌, map, flat_map, length, set, Option, Some, None, is_some, nat_lt, ◌==◌, slice_get, get_or, refl, sym, ap, ◌∙◌, subst, arith, ⊎_elim, get_or-set_same, get_or-set_other}
+use Rattle.std.proofs.Common.{◌≡◌, ◌≢◌, ℕ, zero, suc, ◌+◌, ◌-◌, ◌<◌, ◌≤◌, Bool, true, false, cond, ◌&&◌, List, [], ◌∷◌, ◌++◌, map, flat_map, length, set, Option, Some, None, is_some, nat_lt, slice_get, get_or, refl, sym, ap, ◌∙◌, subst, arith, ⊎_elim, get_or-set_same, get_or-set_other}
 use Rattle.std.specs.Prelude.{option_and_then}
 use Rattle.std.specs.List.{list_all}
-use Rattle.std.proofs.lemmas.Bool.{cases_Bool, cases_eq, cases_lt, false_from_ne_true, true≢false}
+use Rattle.std.proofs.lemmas.Bool.{cases_eq, cases_lt, true≢false}
 use Rattle.std.proofs.lemmas.Bool.Decides.{nat_tests}
 use Rattle.msi_text.specs.Pool.{Place}
 use Rattle.msi_text.specs.FirstFit.{count_of}
-use Rattle.msi_schema.proofs.AccountLemmas.{once, room, Enough}
+use Rattle.msi_schema.proofs.AccountLemmas.{once, room}
 use Rattle.msi_changes.specs.Database.{Database, Tables, is_sound, rows_of, named_numbers, names_are_numbers, numbers_of_rows, counts_suffice, names_stay_in_pool, pool_fits_width, tables_are_readable, validation_is_standard}
 use Rattle.msi_changes.proofs.SoundLemmas.{enough_from_sound, sound_from_enough}
-use Rattle.msi_changes.proofs.TablesLemmas.{times, times-cons, database_uses, naming_is}
-use Rattle.msi_database.specs.Spending.{spent, all_spent, is_readable, table_spent, tables_spent}
+use Rattle.msi_changes.proofs.TablesLemmas.{times, times-cons, naming_is}
+use Rattle.msi_database.specs.Spending.{spent, all_spent, is_readable, tables_spent}
 
 -- the count at a number; no place has the number 0
 abbrev count_in : List ℕ → ℕ → ℕ

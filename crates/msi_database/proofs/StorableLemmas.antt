@@ -1,7 +1,7 @@
 -- Rows that a change makes of rows that fit can be stored, before the change is known to be accepted.
-use Rattle.std.proofs.Common.{◌≡◌, ℕ, ◌+◌, ◌≤◌, Bool, true, not, nat_lt, List, [], ◌∷◌, ◌++◌, filter, map, length, Option, Some, None, refl, sym, ap, subst, arith}
+use Rattle.std.proofs.Common.{◌≡◌, ◌+◌, ◌≤◌, Bool, true, not, nat_lt, List, [], ◌∷◌, ◌++◌, filter, map, length, Option, Some, None, refl, ap, subst, arith}
 use Rattle.std.specs.Prelude.{IsSomeAnd, option_map, unwrap_or}
-use Rattle.std.specs.List.{AllByRecursion, list_all}
+use Rattle.std.specs.List.{list_all}
 use Rattle.std.proofs.lemmas.Bool.Decides.{nat_tests}
 use Rattle.std.proofs.lemmas.Option.{same_Some, none-some, option_and_then_some}
 use Rattle.msi_text.specs.ErrorKind.TheVariants.{InvalidInput, InvalidData}
@@ -12,7 +12,7 @@ use Rattle.msi_pool.proofs.TakenLemmas.{taken_takes}
 use Rattle.msi_table.specs.declared.value.Value.{Value}
 use Rattle.msi_table.specs.declared.value.ValueRef.{ValueRef}
 use Rattle.msi_table.specs.Columns.{ColumnDef, types_of}
-use Rattle.msi_table.specs.ReadBack.{FitsRow, FitsTable}
+use Rattle.msi_table.specs.ReadBack.{FitsTable}
 use Rattle.msi_query.specs.Queries.{UpdateQuery}
 use Rattle.msi_relation.specs.Refusals.{Refusals, first_refusal}
 use Rattle.msi_relation.specs.Rows.{TableCells}
@@ -26,7 +26,7 @@ use Rattle.msi_changes.proofs.TracksLemmas.{fewer_fit}
 use Rattle.msi_changes.proofs.TurnLemmas.{map_some}
 use Rattle.msi_changes.proofs.PutFitsLemmas.{Both, CellOf, as_many, joined_fit, put_of, rows_all_fit, rows_put_of}
 use Rattle.msi_database.proofs.GivenBackLemmas.{given_back_gives}
-use Rattle.msi_database.proofs.UpdateFitsLemmas.{AreSet, rows_updated_fit}
+use Rattle.msi_database.proofs.UpdateFitsLemmas.{rows_updated_fit}
 use Rattle.msi_database.proofs.CanStoreLemmas.{unsorted_fits}
 
 -- ROWS THAT ARE ADDED

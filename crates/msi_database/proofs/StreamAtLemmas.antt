@@ -1,5 +1,5 @@
 -- Look-ups among streams whose names a container can have.
-use Rattle.std.proofs.Common.{◌≡◌, ℕ, Bool, true, false, cond, List, [], ◌∷◌, length, Option, Some, None, refl, sym, ap, ◌∙◌, rules}
+use Rattle.std.proofs.Common.{◌≡◌, ℕ, true, false, cond, List, [], ◌∷◌, length, Option, Some, None, refl, sym, ap, ◌∙◌, rules}
 use Rattle.std.specs.Prelude.{unwrap_or, MatchOption}
 use Rattle.std.specs.FinMap.{find, get, entries, get-entries}
 use Rattle.std.specs.Ordering.{eq_by_cmp, is_eq}

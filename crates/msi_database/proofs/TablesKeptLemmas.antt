@@ -1,5 +1,5 @@
 -- The tables that a database keeps, as its contents have them.
-use Rattle.std.proofs.Common.{◌≡◌, ℕ, Bool, true, false, List, [], ◌∷◌, map, Option, Some, None, refl, sym, ap, ap₂, ◌∙◌, cond, option_map, is_some}
+use Rattle.std.proofs.Common.{◌≡◌, ℕ, Bool, true, false, List, [], ◌∷◌, map, Some, None, refl, sym, ap₂, cond, option_map, is_some}
 use Rattle.std.specs.Prelude.{bytes_eq}
 use Rattle.std.proofs.lemmas.Slice.Eq.{bytes_eq-Decides}
 use Rattle.std.specs.FinMap.{find}
@@ -7,7 +7,6 @@ use Rattle.std.proofs.lemmas.Map.Text.{is_eq-slice_cmp}
 use Rattle.msi_text.specs.Pool.{Pool}
 use Rattle.msi_text.specs.Lists.{list_cmp}
 use Rattle.msi_table.specs.Columns.{TableDef}
-use Rattle.msi_relation.specs.Rows.{TableCells}
 use Rattle.msi_changes.specs.Database.{table_at, has_table}
 use Rattle.msi_database.specs.Streams.{Streams}
 use Rattle.msi_database.specs.Kept.{table_kept, table_kept_at, database_kept, AreAsLong}

@@ -1,18 +1,23 @@
--- The streams that a new table's description makes of those of the system tables.
-use Rattle.std.specs.Prelude.{ℕ, List, [], ◌∷◌, Option, None, option_map, Result, Ok}
+-- Creating a table: what refuses it, and the streams of the system tables that describe it.
+use Rattle.std.specs.Prelude.{ℕ, List, [], ◌∷◌, ◌++◌, None, option_map, Result, Ok}
 use Rattle.msi_text.specs.ErrorKind.{ErrorKind}
 use Rattle.msi_text.specs.ErrorKind.TheVariants.{InvalidInput, NotFound}
 use Rattle.msi_table.specs.declared.value.Value.{Value}
 use Rattle.msi_table.specs.Columns.{ColumnDef, TableDef}
-use Rattle.msi_relation.specs.Refusals.{or_refused, unless_refused, ◌>>=◌}
+use Rattle.msi_relation.specs.Refusals.{Refusals, or_refused, unless_refused, ◌>>=◌}
 use Rattle.msi_schema.specs.Description.{column_rows, tables_row, validation_rows}
 use Rattle.msi_schema.specs.Keys.{table_key}
 use Rattle.msi_schema.specs.System.{tables_name, columns_name, validation_name}
 use Rattle.msi_changes.specs.Database.{Database, table_at, rows_of}
-use Rattle.msi_changes.specs.Changes.{PoolInUse}
+use Rattle.msi_changes.specs.Changes.{PoolInUse, sound_refusal}
+use Rattle.msi_changes.specs.Create.{table_refusals}
 use Rattle.msi_changes.specs.Insert.{cells_added, row_refusals}
 use Rattle.msi_database.specs.declared.storing.Stored.{Stored}
 use Rattle.msi_database.specs.Streams.{stream_of_rows}
+
+-- why a database makes no table of a name and columns, before its rows are looked at
+abbrev pub create_refusals : Database → List ℕ → List ColumnDef → Refusals
+create_refusals d name columns = sound_refusal d ++ table_refusals d name columns
 
 -- a table's stream with new rows, and the pool after their texts were taken
 abbrev pub stream_with : Database → List ℕ → List (List Value) → PoolInUse → Result (Stored × PoolInUse) ErrorKind
@@ -27,7 +32,8 @@ abbrev pub stream_gone : List ℕ → Stored
 stream_gone name = record { name = table_key name; bytes = None }
 
 -- the streams of the system tables with the rows that describe a new table, whose own stream goes if one is left over
-abbrev pub streams_described : Database → List ℕ → List ColumnDef → PoolInUse → Result (List Stored × PoolInUse) ErrorKind
+abbrev pub streams_described : Database → List ℕ → List ColumnDef → PoolInUse
+    → Result (List Stored × PoolInUse) ErrorKind
 streams_described d name columns pool = stream_with d columns_name (column_rows name columns) pool >>=
     λ c. stream_with d tables_name (tables_row name ∷ []) c.1 >>=
     λ t. stream_with d validation_name (validation_rows name columns) t.1 >>=

@@ -1,5 +1,5 @@
 -- What the names and the bytes of a container's streams keep to.
-use Rattle.std.specs.Prelude.{◌≡◌, ℕ, ◌<◌, true, List, length, All}
+use Rattle.std.specs.Prelude.{◌≡◌, ◌<◌, true, length, All}
 use Rattle.std.specs.List.{AllByRecursion}
 use Rattle.msi_compound.specs.Names.{is_name_length}
 use Rattle.msi_database.specs.Streams.{Streams}

@@ -1,22 +1,20 @@
 //! Creating a table: it is described in the system tables, and put in among the others.
 
-ghost use Rattle.std.specs.Prelude.{◌≡◌, ◌≤◌, ◌++◌, ◌∷◌, [], IfErr, IfOk, IsTrue, None, Ok, OnErr, OnOk, length, true};
+ghost use Rattle.std.specs.Prelude.{◌≡◌, ◌≤◌, ◌++◌, IfErr, IfOk, IsTrue, Ok, OnErr, OnOk, length, true};
 ghost use Rattle.std.specs.List.{prefix_len};
 ghost use Rattle.std.specs.Ordering.{is_lt};
-ghost use Rattle.msi_compound.specs.Names.{is_name_length};
 ghost use Rattle.msi_text.specs.FirstFit.{most_places};
 ghost use Rattle.msi_text.specs.Lists.{list_cmp};
 ghost use Rattle.msi_text.specs.Results.{OnlyMemory};
 ghost use Rattle.msi_table.specs.Columns.{most_columns};
 ghost use Rattle.msi_relation.specs.Refusals.{IsRefusal, unless_refused};
 ghost use Rattle.msi_schema.specs.Description.{have_short_lengths};
-ghost use Rattle.msi_schema.specs.Keys.{is_table_name as is_name_of_table, table_key as key_of};
-ghost use Rattle.msi_changes.specs.Changes.{sound_refusal};
+ghost use Rattle.msi_schema.specs.Keys.{is_table_name as is_name_of_table};
 ghost use Rattle.msi_changes.specs.Create as creates;
-ghost use Rattle.msi_changes.specs.Create.{new_table_refusals, table_refusals};
+ghost use Rattle.msi_changes.specs.Create.{new_table_refusals};
 ghost use Rattle.msi_changes.specs.Database.{is_sound as is_sound_one};
 ghost use Rattle.msi_changes.specs.Texts.{in_use};
-ghost use Rattle.msi_database.specs.Creating.{new_table, stream_gone, stream_with, streams_described};
+ghost use Rattle.msi_database.specs.Creating.{create_refusals, new_table, stream_gone, stream_with, streams_described};
 ghost use Rattle.msi_database.specs.Kept.{with_table_kept};
 ghost use Rattle.msi_database.specs.Listed.{tables_listed};
 ghost use Rattle.msi_database.specs.Making.{Leaves, Makes, TellsUse};
@@ -132,10 +130,10 @@ impl Database {
     /// Refuses a name and columns of which this database makes no table.
     ///
     /// # Errors
-    /// Those of `create_table` but the last two.
+    /// The first that holds: `InvalidData` where it isn't sound; those of `refuse_table`; `AlreadyExists` where there is
+    /// such a table; `NotFound` where `_Validation` is no table.
     fn refuse_create(&self, name: &str, columns: &[Column]) -> Result<(), Error>
-        ensures value { let refusals = sound_refusal self.now.database ++ table_refusals self.now.database name.now columns.now in
-            result ≡ unless_refused refusals tt }
+        ensures value { result ≡ unless_refused (create_refusals self.now.database name.now columns.now) tt }
         ensures sound { OnOk result (is_sound_one self.now.database ≡ true) }
         ensures named { OnOk result (is_name_of_table name.now ≡ true) }
         ensures few { OnOk result (length columns.now ≤ most_columns) }
@@ -247,10 +245,10 @@ impl Database {
     /// Those of `create_table`.
     fn table_created(&self, name: &str, columns: Items<Column>) -> Result<Created, Error>
         ensures ok { let change = creates.create_table self.now.database name.now columns in
-            IfOk result (λ created. Makes self.now change created.new.pool created.new.tables created.new.stored.items) }
+            IfOk result (λ made. Makes self.now change made.new.pool made.new.tables made.new.stored.items) }
         ensures used { let change = creates.create_table self.now.database name.now columns in
-            IfOk result (λ created. TellsUse change created.is_pool_used) }
-        ensures names { IfOk result (λ created. HaveOwnNames created.new.stored.items) }
+            IfOk result (λ made. TellsUse change made.is_pool_used) }
+        ensures names { IfOk result (λ made. HaveOwnNames made.new.stored.items) }
         ensures kind { IfErr result (IsRefusal (creates.create_table self.now.database name.now columns)) }
     {
         self.refuse_create(name, columns.as_slice())?;
@@ -269,14 +267,15 @@ impl Database {
         })
     }
 
-    /// Creates a table, which is described in `_Tables`, `_Columns` and `_Validation`, and answers whether it took a text
-    /// of the pool.
+    /// Creates a table, which is described in `_Tables`, `_Columns` and `_Validation`, and answers whether that took a
+    /// text of the pool.
     ///
     /// # Errors
-    /// The first that holds: `InvalidData` where the database isn't sound; `InvalidInput` where no table may have the name,
-    /// and for columns as `refuse_columns` does; `AlreadyExists` where there is such a table; `NotFound` where `_Validation`
-    /// is no table; then, for the rows that describe it, in turn in `_Columns`, `_Tables` and `_Validation`, what
-    /// `refuse_rows` answers, and `InvalidInput` where the pool is full. At any time `OutOfMemory`. Then nothing is changed.
+    /// The first that holds: `InvalidData` where the database isn't sound; `InvalidInput` where no table may have the
+    /// name, and for columns as `refuse_columns` does; `AlreadyExists` where there is such a table; `NotFound` where
+    /// `_Validation` is no table; then for the rows that describe it, those of `_Columns`, of `_Tables` and of
+    /// `_Validation` in turn, as `refuse_rows` does, and `InvalidInput` where the pool is full. At any time
+    /// `OutOfMemory`. Then nothing is changed.
     pub fn create_table(&mut self, name: &str, columns: Items<Column>) -> Result<bool, Error>
         ensures ok { let change = creates.create_table self.old.database name.now columns in
             OnOk result (Leaves self.old change self.new) }

@@ -12,7 +12,7 @@ ghost use Rattle.msi_schema.specs.Schema.{table_with};
 ghost use Rattle.msi_schema.specs.System.{validation_columns as columns_of_validation, validation_name};
 ghost use Rattle.msi_changes.specs.Database.{numbers_of_rows};
 ghost use Rattle.msi_database.specs.Agreement.{described_by, schema_in};
-ghost use Rattle.msi_database.specs.Kept.{AreAsLong, schema_listed, table_kept, table_kept_at};
+ghost use Rattle.msi_database.specs.Kept.{AreAsLong, Kept, schema_listed, table_kept, table_kept_at};
 ghost use Rattle.msi_database.specs.Reading.{IsDatabaseOf, all_marked, cell_marked, numbers_named, numbers_of_tables, pool_shown};
 ghost use Rattle.msi_database.specs.StreamNames.{HaveNames, HoldBytes};
 ghost use Rattle.msi_database.specs.Streams.{stored_rows as rows_stored};
@@ -124,8 +124,8 @@ impl Marks {
         tables: &[Table],
     ) -> Result<(), Error>
         requires { HaveNames (entries streams.now) }
-        ensures ok { OnOk result ((long : Bool) → AreAsLong long tables.now
-            → self.new ≡ all_marked self.old (numbers_of_tables (map (table_kept (entries streams.now) long) tables.now))) }
+        ensures ok { let root = entries streams.now in OnOk result ((long : Bool) → AreAsLong long tables.now
+            → self.new ≡ all_marked self.old (numbers_of_tables (map (table_kept root long) tables.now))) }
         ensures kind { OnlyMemory result }
     {
         for table in tables {
@@ -261,7 +261,7 @@ fn tables_in(
     tables_described(alloc, rows, pool.long_string_refs())
 }
 
-/// Of the rows of the stream of `_Validation` those that are kept beside the tables: all where it is no table, else none.
+/// The rows of the stream of `_Validation` that are kept beside the tables: all where it is no table, else none.
 fn unlisted_rows(
     alloc: Global,
     tables: &[Table],
@@ -287,6 +287,7 @@ impl Database {
     /// `OutOfMemory`.
     pub fn read(alloc: Global, pool: StringPool, streams: StreamMap) -> Result<Database, Error>
         ensures ok { IfOk result (IsDatabaseOf pool (entries streams)) }
+        ensures only { IfOk result (λ d. (k : Kept) → IsDatabaseOf pool (entries streams) k → k ≡ d) }
         ensures kind { IfErr result (IsRefusal (or_refused InvalidData (schema_in (entries streams) pool))) }
     {
         look_at(&streams);

@@ -1,4 +1,4 @@
-use Rattle.std.proofs.Common.{◌++◌, ap, take, drop, ◌∙◌, List}
+use Rattle.std.proofs.Common.{◌++◌, ap, ◌∙◌, List}
 use Rattle.msi_table.specs.Columns.{TableDef}
 use Rattle.msi_database.proofs.CreatingLemmas.{copied_in_place}
 use Rattle.msi_database.proofs.creating.copies_with.Goals as goal

@@ -1,6 +1,6 @@
-use Rattle.std.proofs.Common.{◌≡◌, ◌∙◌, ap, cond, Some, None, map, Option, List, ℕ}
+use Rattle.std.proofs.Common.{◌∙◌, ap, cond, Some, None}
 use Rattle.std.specs.FinMap.{entries}
-use Rattle.msi_database.proofs.SoundnessLemmas.{too_wide, not_standard, not_enough, sound_by}
+use Rattle.msi_database.proofs.SoundnessLemmas.{not_standard, not_enough, sound_by}
 use Rattle.msi_database.proofs.soundness.are_sound.Goals as goal
 
 pub returns-then-not-is_standard-clause-ok : goal.returns-then-not-is_standard-clause-ok

@@ -7,7 +7,7 @@ use Rattle.msi_database.specs.Keeping.{AreKept}
 use Rattle.msi_database.specs.Kept.{kept_of}
 use Rattle.msi_database.specs.Reading.{IsDatabaseOf, numbers_named, pool_shown}
 use Rattle.msi_database.proofs.AnswerLemmas.{err_passed}
-use Rattle.msi_database.proofs.ReadWholeLemmas.{Reads, read_database, read_kept, read_numbers, read_unlisted, reads_by, standard_is, standard_stored, unread_refused}
+use Rattle.msi_database.proofs.ReadWholeLemmas.{Reads, read_database, read_kept, read_numbers, read_once, read_unlisted, reads_by, standard_is, standard_stored, unread_refused}
 use Rattle.msi_database.proofs.database.Database.read.Goals as goal
 
 pub returns-in_err-validation-clause-kind : goal.returns-in_err-validation-clause-kind
@@ -59,3 +59,12 @@ returns-clause-ok c = let raw : Pool = c.args.pool in let streams = entries c.ar
     c.in_ok-pool.ensures.ok ∙ ap (λ (rows : List (List ValueRef)). pool_shown (numbers_named streams raw.long listed rows) raw) c.as_slice-2.ensures.value in
     subst (λ (ts : List TableDef). IsDatabaseOf raw streams (kept_of c.in_ok-pool.pool ts streams)) c.as_slice-listed.ensures
     (read_database raw listed streams rows reads c.in_ok-pool.pool shown)
+
+pub returns-clause-only : goal.returns-clause-only
+returns-clause-only c = let raw : Pool = c.args.pool in let streams = entries c.args.streams in let listed : List TableDef = c.as_slice-listed.result.now in let rows : List (List ValueRef) = c.in_ok-validation.validation.items in
+    let reads : Reads raw listed streams rows = reads_by raw c.args.streams c.in_ok-tables.tables listed rows c.in_ok-standard.standard c.look_at.ensures.names c.look_at.ensures.bytes c.in_ok-pool.ensures.few c.in_ok-pool.ensures.counts
+    (standard_is c.in_ok-standard.standard c.long_string_refs.result c.args.pool.long c.in_ok-columns.columns c.in_ok-standard.ensures.ok c.long_string_refs.ensures c.in_ok-columns.ensures.ok)
+    c.in_ok-validation.ensures.ok c.as_slice-listed.ensures c.in_ok-tables.ensures.long c.in_ok-tables.ensures.ok in
+    let shown : c.in_ok-pool.pool ≡ pool_shown (numbers_named streams raw.long listed rows) raw =
+    c.in_ok-pool.ensures.ok ∙ ap (λ (rows : List (List ValueRef)). pool_shown (numbers_named streams raw.long listed rows) raw) c.as_slice-2.ensures.value in
+    λ k is. read_once raw listed streams rows reads k is c.in_ok-pool.pool shown ∙ ap (λ (ts : List TableDef). kept_of c.in_ok-pool.pool ts streams) c.as_slice-listed.ensures

@@ -1,4 +1,4 @@
-use Rattle.std.proofs.Common.{◌∷◌, [], not, sym, ◌∙◌}
+use Rattle.std.proofs.Common.{◌∷◌, [], not, ◌∙◌}
 use Rattle.msi_text.specs.ErrorKind.TheVariants.{AlreadyExists, InvalidData, NotFound}
 use Rattle.msi_schema.specs.System.{validation_name}
 use Rattle.msi_changes.specs.Create.{new_table_refusals}

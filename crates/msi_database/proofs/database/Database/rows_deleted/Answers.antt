@@ -1,4 +1,3 @@
-use Rattle.std.specs.FinMap.{entries}
 use Rattle.msi_database.specs.Making.{delete_of}
 use Rattle.msi_database.proofs.RowCallLemmas.{delete_called}
 use Rattle.msi_database.proofs.database.Database.rows_deleted.Goals as goal

@@ -3,7 +3,6 @@ use Rattle.msi_table.specs.declared.value.ValueRef.{ValueRef}
 use Rattle.msi_relation.specs.Refusals.{first_refusal}
 use Rattle.msi_changes.specs.Insert.{table_with}
 use Rattle.msi_changes.specs.Update.{update_refusals}
-use Rattle.std.specs.FinMap.{entries}
 use Rattle.msi_changes.specs.RowUpdates.{update_of}
 use Rattle.msi_database.proofs.RowCallLemmas.{update_called}
 use Rattle.msi_database.proofs.database.Database.rows_updated.Goals as goal

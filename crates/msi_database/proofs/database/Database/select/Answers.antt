@@ -1,11 +1,8 @@
-use Rattle.std.proofs.Common.{◌≡◌, subst, IfErr}
+use Rattle.std.proofs.Common.{subst}
 use Rattle.std.proofs.lemmas.Result.{IfOk-weaker}
 use Rattle.std.specs.FinMap.{entries}
 use Rattle.msi_table.specs.Rows.{AreAsWide}
 use Rattle.msi_relation.specs.Width.{AreWide}
-use Rattle.msi_relation.specs.Refusals.{IsRefusal}
-use Rattle.msi_relation.specs.Rows.{tables_values}
-use Rattle.msi_relation.specs.Selection.{relation_of}
 use Rattle.msi_changes.specs.Database.{table_at}
 use Rattle.msi_database.specs.Kept.{Kept, kept_of}
 use Rattle.msi_database.proofs.WholeLemmas.{kept_wide}

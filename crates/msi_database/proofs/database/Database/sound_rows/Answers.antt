@@ -1,8 +1,7 @@
 use Rattle.std.proofs.Common.{◌≡◌, sym, subst, Some, true}
 use Rattle.std.proofs.lemmas.Result.{IfOk-weaker}
 use Rattle.std.specs.FinMap.{entries}
-use Rattle.msi_changes.specs.Database.{is_sound, table_at}
-use Rattle.msi_changes.specs.Insert.{table_with}
+use Rattle.msi_changes.specs.Database.{is_sound}
 use Rattle.msi_database.specs.Kept.{Kept}
 use Rattle.msi_database.specs.Listed.{table_def_at}
 use Rattle.msi_database.specs.Streams.{stored_rows}

@@ -1,5 +1,4 @@
 use Rattle.std.proofs.Common.{◌≡◌, subst}
-use Rattle.std.specs.FinMap.{entries}
 use Rattle.msi_schema.specs.Keys.{table_key}
 use Rattle.msi_changes.proofs.RefusedLemmas.{refusal_passed}
 use Rattle.msi_database.specs.Keeping.{IsKeptDatabase}

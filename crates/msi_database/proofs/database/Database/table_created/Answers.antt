@@ -1,5 +1,4 @@
-use Rattle.std.proofs.Common.{List, ◌∙◌, ap, subst, sym}
-use Rattle.std.specs.FinMap.{entries}
+use Rattle.std.proofs.Common.{List, subst, sym}
 use Rattle.msi_table.specs.Columns.{TableDef}
 use Rattle.msi_changes.specs.Create.{create_table}
 use Rattle.msi_changes.specs.Texts.{in_use}

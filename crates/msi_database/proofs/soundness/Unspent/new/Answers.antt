@@ -1,4 +1,4 @@
-use Rattle.std.proofs.Common.{◌∙◌, ◌<◌, length, arith}
+use Rattle.std.proofs.Common.{◌<◌, length, arith}
 use Rattle.msi_database.proofs.SoundnessLemmas.{next_count}
 use Rattle.msi_database.proofs.soundness.Unspent.new.Goals as goal
 
