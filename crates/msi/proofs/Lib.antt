@@ -2,6 +2,7 @@
 pub mod Rows
 pub mod CallRows
 pub mod KeyNameLemmas
+pub mod OpenLemmas
 pub mod OtherStreamLemmas
 pub mod SummarySetLemmas
 pub mod AgreementLemmas

@@ -96,4 +96,3 @@ signature_is_other tables = other_key tables signature_key refl signature≢summ
 
 pub signature_ex_is_other : (tables : List (List ℕ)) → is_other_name tables signature_ex_key ≡ true
 signature_ex_is_other tables = other_key tables signature_ex_key refl signature_ex≢summary
-

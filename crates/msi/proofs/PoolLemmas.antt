@@ -73,8 +73,10 @@ lost_each is_named k (p ∷ ps) h = λ i. record {
 
 -- so a sound package's pool is spelled with each free place empty, whatever test shows that none is named
 pub shown_is_written : (is_named : ℕ → Bool) (raw : Pool) → FreeUnnamed is_named (shown_pool is_named raw).places → shown_pool is_named raw ≡ pools.as_written raw
-shown_is_written is_named raw free = λ i. record raw { places = lost_each is_named 1 raw.places (λ j l zeroed.
-    ap is_named (omega arith) ∙ free j (omega (arith, l, forgotten_length is_named 1 raw.places)) (forgotten_counts is_named 1 raw.places j ∙ zeroed)) i }
+shown_is_written is_named raw free = λ i. record raw {
+  places = lost_each is_named 1 raw.places (λ j l zeroed.
+      ap is_named (omega arith) ∙ free j (omega (arith, l, forgotten_length is_named 1 raw.places)) (forgotten_counts is_named 1 raw.places j ∙ zeroed)) i;
+}
 
 module _ (streams : Streams) (d : Database) (spelled : DatabaseIs streams d) (sound : is_sound d ≡ true) where
   -- a sound package's pool is its raw pool, as it is written
@@ -89,15 +91,21 @@ module _ (streams : Streams) (d : Database) (spelled : DatabaseIs streams d) (so
       sound_unnamed streams d spelled sound i
       (omega (arith, l, ap length places ∙ plain_length raw.places))
       (ap (λ (ps : List Place). count_of (slice_get ps i)) places ∙ plain_count raw.places i ∙ zeroed) where
-    plain_length : (ps : List Place) → length (map (forgotten false) ps) ≡ length ps
-    plain_length [] = refl
-    plain_length (p ∷ ps) = ap suc (plain_length ps)
+        plain_length : (ps : List Place) → length (map (forgotten false) ps) ≡ length ps
+        plain_length [] = refl
+        plain_length (p ∷ ps) = ap suc (plain_length ps)
 
-    plain_count : (ps : List Place) (i : ℕ) → count_of (slice_get (map (forgotten false) ps) i) ≡ count_of (slice_get ps i)
-    plain_count [] i = refl
-    plain_count (p ∷ ps) zero = refl
-    plain_count (p ∷ ps) (suc i) = plain_count ps i
+        plain_count : (ps : List Place) (i : ℕ) → count_of (slice_get (map (forgotten false) ps) i) ≡ count_of (slice_get ps i)
+        plain_count [] i = refl
+        plain_count (p ∷ ps) zero = refl
+        plain_count (p ∷ ps) (suc i) = plain_count ps i
 
   pub pool_spelled : (raw : Pool) → RawPoolIs streams raw → d.pool ≡ pools.as_written raw → PoolIs streams d
-  pool_spelled raw held is = (raw, held, is ∙ sym (λ i. record raw { places = lost_each (is_shown streams d) 1 raw.places (λ j l zeroed.
-      ap (is_shown streams d) (omega arith) ∙ written_free raw is j l zeroed) i }))
+  pool_spelled raw held is = (
+    raw,
+    held,
+    is ∙ sym (λ i. record raw {
+      places = lost_each (is_shown streams d) 1 raw.places (λ j l zeroed.
+          ap (is_shown streams d) (omega arith) ∙ written_free raw is j l zeroed) i;
+    }),
+  )

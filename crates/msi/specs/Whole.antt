@@ -1,5 +1,5 @@
 -- A package over a device, as contracts see it.
-use Rattle.std.specs.Prelude.{◌≡◌, ◌×◌, ℕ, Bool, true, List, Option, Some, None, Result, Ok, Err, IfSome}
+use Rattle.std.specs.Prelude.{◌≡◌, ℕ, Bool, true, List, Option, Some, None, Result, Ok, Err, IfSome}
 use Rattle.msi_text.specs.ErrorKind.{ErrorKind}
 use Rattle.msi_device.specs.Held.{Held}
 use Rattle.msi_summary.specs.Properties.{Properties}
@@ -8,7 +8,7 @@ use Rattle.msi_changes.specs.Database.{is_sound}
 use Rattle.msi_changes.specs.Changes.{Change}
 use Rattle.msi_database.specs.Kept.{Kept}
 use Rattle.msi_database.specs.Others.{with_streams}
-use Rattle.msi_database.specs.Streams.{has_stream_at, with_stream}
+use Rattle.msi_database.specs.Streams.{Streams, has_stream_at, with_stream}
 use Rattle.msi.specs.declared.kinds.PackageType.{PackageType}
 use Rattle.msi.specs.State.{State}
 use Rattle.msi.specs.Steps.{after_change}
@@ -24,9 +24,12 @@ abbrev pub with_state : State → Whole → Whole
 with_state s w = record w { state = s }
 
 -- The parts of a state: the stream that lies open stands over the one that is kept
+abbrev pub opened : Option (List ℕ) → List ℕ → Streams → Streams
+opened None bytes streams = streams
+opened (Some name) bytes streams = with_stream name bytes streams
+
 abbrev pub with_open : Option (List ℕ) → List ℕ → Kept → Kept
-with_open None bytes k = k
-with_open (Some name) bytes k = with_streams (with_stream name bytes) k
+with_open name bytes k = with_streams (opened name bytes) k
 
 abbrev pub state_of : PackageType → Properties → Kept → Bool → Bool → Bool → Bool → State
 state_of kind summary kept has_storages is_unwritten is_summary_lent is_pool_changed = record {
@@ -48,8 +51,8 @@ pub record IsOpen (k : Kept) (name : List ℕ) : Type 0 where
 
 -- What holds between calls: the stream that lies open is a user's and there, and only a sound database has changed its
 -- pool
-pub record IsHeld (k : Kept) (open : Option (List ℕ)) (is_pool_changed : Bool) : Type 0 where
-  pub open : IfSome open (IsOpen k)
+pub record IsHeld (k : Kept) (name : Option (List ℕ)) (is_pool_changed : Bool) : Type 0 where
+  pub current : IfSome name (IsOpen k)
   pub changed : is_pool_changed ≡ true → is_sound k.database ≡ true
 
 -- what an accepted change leaves

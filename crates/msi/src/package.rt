@@ -1,39 +1,32 @@
 //! Packages over a source or a device.
 
-ghost use Rattle.std.specs.Prelude.{◌≡◌, None, Some, IfOk, IfErr, OnErr, OnOk};
+ghost use Rattle.std.specs.Prelude.{◌≡◌, IfErr, IfOk, IfSome, None, Ok};
 ghost use Rattle.std.specs.Option.{option_copied};
 ghost use Rattle.msi_table.specs.Rows.{AreAsWide};
 ghost use Rattle.msi_relation.specs.Refusals.{IsRefusal, unless_refused};
 ghost use Rattle.msi_relation.specs.Rows.{relation_values};
 ghost use Rattle.msi_relation.specs.Selection.{relation_of};
-ghost use Rattle.msi_changes.specs.Changes.{sound_refusal};
-ghost use Rattle.msi_changes.specs.Create.{create_table};
 ghost use Rattle.msi_changes.specs.Database.{has_table as has_one, values_of};
-ghost use Rattle.msi_changes.specs.Delete.{delete_rows};
-ghost use Rattle.msi_changes.specs.Drop.{drop_table};
-ghost use Rattle.msi_changes.specs.Insert.{insert_rows};
-ghost use Rattle.msi_changes.specs.Update.{update_rows};
 ghost use Rattle.msi_database.specs.Listed.{table_def_at, tables_listed};
 ghost use Rattle.msi.specs.State.{parts_of};
-ghost use Rattle.msi.specs.Steps.{changing, storage_refusal, with_page};
-ghost use Rattle.msi.specs.Whole.{Leaves, with_state};
+ghost use Rattle.msi.specs.Steps.{storage_refusal};
+ghost use Rattle.msi.specs.Whole.{IsOpen, with_open};
 
 use crate::kinds::PackageType;
 use crate::reasons;
 use msi_compound::name::Name;
 use msi_database::Database;
 use msi_device::Source;
-use msi_query::{Delete, Insert, Select, Update};
+use msi_query::Select;
 use msi_relation::Relation;
 use msi_stream::OpenStream;
 use msi_summary::SummaryInfo;
 use msi_table::Table;
-use msi_table::column::Column;
 use msi_text::codepage::CodePage;
 use msi_text::errors::{Error, ErrorKind};
-use msi_text::text::Items;
 use std::alloc::Global;
 use std::marker::Model;
+use std::mem;
 
 /// A package over a source, or over a device. It holds what the file held, and what was changed since; the file is
 /// written by `flush` alone.
@@ -141,5 +134,35 @@ impl<F: Source> Package<F> {
         ensures kind { IfErr result (IsRefusal (relation_of (values_of self.now.state.kept.database) query.now)) }
     {
         self.database.select(self.alloc, query)
+    }
+
+    /// Refuses a change of a package with storages below its root.
+    ///
+    /// # Errors
+    /// `InvalidInput` where it has some.
+    pub(crate) fn check_storages(&self) -> Result<(), Error>
+        ensures { result ≡ unless_refused (storage_refusal (parts_of self.now.state)) tt }
+    {
+        if self.has_storages {
+            return Err(Error::new(ErrorKind::InvalidInput, reasons::STORAGES));
+        }
+        Ok(())
+    }
+}
+
+/// Puts the stream that lies open where it belongs. It takes no memory.
+pub(crate) fn settle(
+    alloc: Global,
+    database: &mut Database,
+    name: &mut Option<Name>,
+    current: &mut OpenStream,
+)
+    requires { IfSome name.old (IsOpen database.old) }
+    ensures database { database.new ≡ with_open name.old current.old.bytes database.old }
+    ensures taken { name.new ≡ None }
+{
+    if let Some(name) = name.take() {
+        let left = mem::replace(current, OpenStream::new(alloc));
+        database.put_back_stream(&name, Some(left.into_bytes()));
     }
 }

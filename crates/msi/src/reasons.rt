@@ -2,7 +2,9 @@
 
 use msi_text::Reason;
 
-pub(crate) const STORAGES: Reason = Reason("the package has storages below its root, and is only read");
+pub(crate) const STORAGES: Reason = Reason(
+    "the package has storages below its root, and is only read",
+);
 
 pub(crate) const STREAM_NAME: Reason = Reason("no stream may have this name");
 
