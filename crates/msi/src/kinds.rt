@@ -1,7 +1,7 @@
 //! What packages are for.
 
 ghost use Rattle.std.specs.Prelude.{◌≡◌, IfSome, Some};
-ghost use Rattle.msi.specs.Kinds.{clsid_of, title_of};
+ghost use Rattle.msi.specs.Kinds.{clsid_of, clsid_of_number, title_of};
 
 /// What a package is for.
 #[derive(Clone, Copy, PartialEq, Eq, Hash, Debug, Drop)]
@@ -15,7 +15,9 @@ pub enum PackageType {
 }
 
 /// The CLSID of a package, as it is stored: the types differ in its first byte.
-const fn clsid_with(first: u8) -> [u8; 16] {
+fn clsid_with(first: u8) -> [u8; 16]
+    ensures { result ≡ clsid_of_number first }
+{
     [
         first, 0x10, 0x0C, 0, 0, 0, 0, 0, 0xC0, 0, 0, 0, 0, 0, 0, 0x46,
     ]

@@ -1,6 +1,6 @@
 //! Opening packages.
 
-ghost use Rattle.std.specs.Prelude.{◌≡◌, ◌×◌, ◌⊎◌, ◌∷◌, [], Err, IfErr, IfOk, IsSomeAnd, IsTrue, None, Ok, Some, false, length};
+ghost use Rattle.std.specs.Prelude.{◌≡◌, ◌⊎◌, ◌∷◌, [], Err, IfErr, IfOk, IsSomeAnd, IsTrue, None, Ok, Some, false, length};
 ghost use Rattle.std.specs.FinMap.{entries};
 ghost use Rattle.msi_text.specs.ErrorKind.TheVariants.{InvalidData, Io, NotFound, OutOfMemory};
 ghost use Rattle.msi_text.specs.Pool.{IsPoolStream, Pool, PoolStream, SpellsTexts, pool_with};
@@ -183,8 +183,8 @@ fn pool_in(alloc: Global, contents: &Contents) -> Result<StringPool, Error>
 /// What a container's contents say, as a package has it.
 ///
 /// # Errors
-/// Those of `opened`, once the container is read.
-fn opened_contents(alloc: Global, contents: Contents) -> Result<Opened, Error>
+/// Those of `open_bytes`, once the container is read.
+fn open_contents(alloc: Global, contents: Contents) -> Result<Opened, Error>
     ensures ok { IfOk result (IsOpened contents) }
     ensures kind { IfErr result (StopsAmong contents open_steps) }
 {
@@ -208,12 +208,12 @@ fn opened_contents(alloc: Global, contents: Contents) -> Result<Opened, Error>
 /// stream of the pool is missing, `InvalidData` where it doesn't have its form; `NotFound` where that of its texts is
 /// missing, `InvalidData` where it has no such texts; `InvalidData` where a system table can't be read, or they describe
 /// no tables. Where none holds, `OutOfMemory`, which also may come before.
-pub(crate) fn opened(alloc: Global, bytes: &[u8]) -> Result<Opened, Error>
+pub(crate) fn open_bytes(alloc: Global, bytes: &[u8]) -> Result<Opened, Error>
     ensures ok { IfOk result (λ opened. OpensTo bytes.now (Ok opened)) }
     ensures kind { IfErr result (IsOpenRefusal bytes.now) }
 {
     let contents = read(alloc, bytes)?;
-    opened_contents(alloc, contents)
+    open_contents(alloc, contents)
 }
 
 impl<F: Source + Drop> Package<F> {
@@ -236,7 +236,7 @@ impl<F: Source + Drop> Package<F> {
         let mut device = inner;
         device.clear_failed();
         let bytes = read_all(alloc, &mut device)?;
-        let opened = opened(alloc, bytes.as_slice())?;
+        let opened = open_bytes(alloc, bytes.as_slice())?;
         let Opened {
             kind,
             summary,
