@@ -1,18 +1,20 @@
 -- What the steps of opening give is what opening answers.
 use Rattle.std.proofs.Common.{◌≡◌, ℕ, Bool, false, List, [], ◌∷◌, ◌++◌, Option, Some, None, Result, Ok, Err, refl, sym, ap, subst, ◌∙◌, inl, inr}
-use Rattle.std.specs.Prelude.{◌⊎◌, IfErr, IsErrAnd, IsSome, IsSomeAnd}
+use Rattle.std.specs.Prelude.{◌⊎◌, IfErr, IfOk, IsErrAnd, IsSome, IsSomeAnd, IsTrue, MatchResult, length}
 use Rattle.std.specs.List.{AllByRecursion}
-use Rattle.std.specs.FinMap.{entries}
+use Rattle.std.specs.FinMap.{entries, get, get-entries}
 use Rattle.msi_text.specs.CodePage.{CodePage}
 use Rattle.msi_text.specs.ErrorKind.{ErrorKind}
-use Rattle.msi_text.specs.ErrorKind.TheVariants.{InvalidData, NotFound, OutOfMemory}
+use Rattle.msi_text.specs.ErrorKind.TheVariants.{InvalidData, Io, NotFound, OutOfMemory}
 use Rattle.msi_text.specs.Pool.{Pool, PoolStream, Entry, IsPool, IsPoolStream, SpellsPool, SpellsTexts, pool_with}
 use Rattle.msi_text.specs.Pool as pools
-use Rattle.msi_text.specs.Results.{Gives, FailsAs, IsUnlessMemory}
+use Rattle.msi_text.specs.Results.{FailsAs, Gives, IsUnlessFault, IsUnlessMemory}
 use Rattle.msi_summary.specs.Properties.{Properties}
 use Rattle.msi_summary.specs.Summary.{SpellsSummary}
 use Rattle.msi_compound.specs.declared.contents.Contents.{Contents}
 use Rattle.msi_compound.specs.Container.{Holds}
+use Rattle.msi_compound.specs.Names.{is_name_length}
+use Rattle.msi_compound.specs.Streams as maps
 use Rattle.msi_relation.specs.Refusals.{IsRefusal, or_refused}
 use Rattle.msi_schema.specs.Keys.{table_key, summary_key, string_pool_name, string_data_name}
 use Rattle.msi_database.specs.Agreement.{is_shown, schema_in}
@@ -25,7 +27,7 @@ use Rattle.msi.specs.State.{State, others_among, parts_of}
 use Rattle.msi.specs.Whole.{state_of}
 use Rattle.msi.specs.Meaning.{ContentsMean, OpenStep, Passes, FailsFirst, OpensTo, PoolIs, RawPoolIs, SummaryIs, as_opened, open_steps, shown_pool, step_kind}
 use Rattle.msi.specs.Meaning as step
-use Rattle.msi.specs.Opening.{IsOpenRefusal, IsOpened, StopsAmong}
+use Rattle.msi.specs.Opening.{IsOpenRefusal, IsOpened, StopsAmong, without_io}
 
 -- STEPS IN TURN
 
@@ -75,19 +77,53 @@ at_bytes P o bytes e h = subst (λ (o : Option (List ℕ)). IsSomeAnd o P) (sym 
 pub of_bytes : (P : List ℕ → Type 0) (o : Option (List ℕ)) (bytes : List ℕ) → o ≡ Some bytes → IsSomeAnd o P → P bytes
 of_bytes P o bytes e h = subst (λ (o : Option (List ℕ)). IsSomeAnd o P) e h
 
+-- the bytes that a container has at a name
+pub stream_got : (m : maps.Streams) (name : List ℕ) (o : Option (List ℕ)) → o ≡ get m name → stream_at name (entries m) ≡ o
+stream_got m name o e = sym (get-entries m name) ∙ sym e
+
+-- the names of the pool's streams are short enough
+pub pool_name_short : IsTrue (is_name_length (length (table_key string_pool_name)))
+unfolding Rattle.std.specs.Str.chars
+pool_name_short = refl
+
+pub text_name_short : IsTrue (is_name_length (length (table_key string_data_name)))
+unfolding Rattle.std.specs.Str.chars
+text_name_short = refl
+
+-- a step whose stream is missing
+pub missing_stops : (c : Contents) (kind : ErrorKind) (s : OpenStep) (steps : List OpenStep) → (Passes c s → ⊥) × (kind ≡ step_kind s) → StopsAmong c (s ∷ steps) kind
+missing_stops c kind s steps fails = inr (inl fails)
+
+-- THE FAULTS OF A READER OF BYTES IN MEMORY
+
+unless_io : (kind other : ErrorKind) → other ≡ without_io kind → (kind ≡ OutOfMemory) ⊎ (kind ≡ Io) → other ≡ OutOfMemory
+unless_io kind other e (inl memory) = e ∙ ap without_io memory
+unless_io kind other e (inr io) = e ∙ ap without_io io
+
+pub only_memory : {X : Type 0} (r told : Result X ErrorKind) (x : X) → MatchResult r (λ y. told ≡ Ok y) (λ kind. IsErrAnd told (λ other. other ≡ without_io kind)) → IsUnlessFault r x → IsUnlessMemory told x
+only_memory (Ok y) told x e is = subst (λ t. IsUnlessMemory t x) (sym e) is
+only_memory (Err kind) (Ok y) x e is = absurd e
+only_memory (Err kind) (Err other) x e is = unless_io kind other e is
+
 -- THE SUMMARY
 
 -- bytes that are refused spell no summary
 given_none : (kind : ErrorKind) (set : Properties) → kind ≡ InvalidData → FailsAs kind (Some set) → ⊥
 given_none kind set is h = let fails : FailsAs InvalidData (Some set) = subst (λ k. FailsAs k (Some set)) is h in absurd cc
 
-pub summary_stops : (c : Contents) (kind : ErrorKind) (bytes : List ℕ) → stream_at summary_key (entries c.streams) ≡ Some bytes
+unspelled_stops : (c : Contents) (kind : ErrorKind) (bytes : List ℕ) → stream_at summary_key (entries c.streams) ≡ Some bytes
     → ((set : Properties) → SpellsSummary bytes set → FailsAs kind (Some set)) → (kind ≡ InvalidData) ⊎ (kind ≡ OutOfMemory)
     → StopsAmong c (step.has_summary ∷ step.reads_summary ∷ []) kind
-summary_stops c kind bytes held only kinds =
+unspelled_stops c kind bytes held only kinds =
     stops_after c kind (step.has_summary ∷ []) (step.reads_summary ∷ []) (there (stream_at summary_key (entries c.streams)) bytes held, tt)
     (stops_at c kind step.reads_summary kinds (λ is (set, spelled).
     given_none kind set is (only set (of_bytes (λ b. SpellsSummary b set) (stream_at summary_key (entries c.streams)) bytes held spelled))))
+
+pub summary_stops : (c : Contents) (r : Result Properties ErrorKind) (bytes : List ℕ) → stream_at summary_key (entries c.streams) ≡ Some bytes
+    → ((set : Properties) → SpellsSummary bytes set → Gives (λ s. s) r (Some set)) → IfErr r (λ kind. (kind ≡ InvalidData) ⊎ (kind ≡ OutOfMemory))
+    → IfErr r (StopsAmong c (step.has_summary ∷ step.reads_summary ∷ []))
+summary_stops c (Ok set) bytes held only kinds = tt
+summary_stops c (Err kind) bytes held only kinds = unspelled_stops c kind bytes held only kinds
 
 -- THE POOL
 

@@ -2,11 +2,16 @@
 use Rattle.std.specs.Prelude.{◌≡◌, ℕ, ◌⊎◌, List, Option, Result, Ok, Err, IfSome}
 use Rattle.std.specs.FinMap.{entries}
 use Rattle.msi_text.specs.ErrorKind.{ErrorKind}
-use Rattle.msi_text.specs.ErrorKind.TheVariants.{OutOfMemory}
+use Rattle.msi_text.specs.ErrorKind.TheVariants.{InvalidData, OutOfMemory}
 use Rattle.msi_compound.specs.declared.contents.Contents.{Contents}
 use Rattle.msi_device.specs.Held.{Held, all_bytes}
 use Rattle.msi.specs.State.{State, parts_of}
 use Rattle.msi.specs.Meaning.{ContentsMean, OpenStep, FailsFirst, OpensTo, as_opened}
+
+-- why bytes in memory aren't read: the bytes themselves, or want of memory
+abbrev pub without_io : ErrorKind → ErrorKind
+without_io InvalidData = InvalidData
+without_io _ = OutOfMemory
 
 -- a package just opened whose parts the contents mean
 abbrev pub IsOpened : Contents → State → Type 0

@@ -1,6 +1,6 @@
 //! Opening packages.
 
-ghost use Rattle.std.specs.Prelude.{◌≡◌, ◌⊎◌, ◌∷◌, [], Err, IfErr, IfOk, IsSomeAnd, IsTrue, None, Ok, Some, false, length};
+ghost use Rattle.std.specs.Prelude.{◌≡◌, ◌⊎◌, ◌∷◌, [], Err, IfErr, IfOk, IsSomeAnd, IsTrue, List, None, Ok, Some, false, length};
 ghost use Rattle.std.specs.FinMap.{entries};
 ghost use Rattle.msi_text.specs.ErrorKind.TheVariants.{InvalidData, Io, NotFound, OutOfMemory};
 ghost use Rattle.msi_text.specs.Pool.{IsPoolStream, Pool, PoolStream, SpellsTexts, pool_with};
@@ -13,7 +13,7 @@ ghost use Rattle.msi_database.specs.Streams.{stream_at};
 ghost use Rattle.msi.specs.Kinds.{clsid_of};
 ghost use Rattle.msi.specs.Meaning.{FailsFirst, OpensTo, RawPoolIs, SummaryIs, open_steps};
 ghost use Rattle.msi.specs.Meaning.{has_pool, has_summary, has_texts, knows_kind, reads_pool, reads_schema, reads_summary, reads_texts};
-ghost use Rattle.msi.specs.Opening.{IsOpenRefusal, IsOpened, OpensSource, StopsAmong};
+ghost use Rattle.msi.specs.Opening.{IsOpenRefusal, IsOpened, OpensSource, StopsAmong, without_io as kind_without_io};
 
 use crate::kinds::PackageType;
 use crate::package::Package;
@@ -108,10 +108,9 @@ fn short_table_key(alloc: Global, name: &str) -> Result<Name, Error>
     }
 }
 
-/// The fault of a reader of bytes in memory, which fails for want of memory alone.
+/// Why bytes in memory aren't read, whose reader fails for want of memory alone.
 fn without_io(error: Error) -> Error
-    ensures invalid { error ≡ InvalidData → result ≡ InvalidData }
-    ensures memory { (error ≡ OutOfMemory) ⊎ (error ≡ Io) → result ≡ OutOfMemory }
+    ensures { result ≡ kind_without_io error }
 {
     if error.kind() == ErrorKind::InvalidData {
         error
@@ -227,9 +226,9 @@ impl<F: Source + Drop> Package<F> {
     /// `InvalidData` where a system table can't be read, or they describe no tables. Where none holds, `OutOfMemory`,
     /// which also may come before. The source is dropped.
     pub fn open(alloc: Global, inner: F) -> Result<Package<F>, Error>
-        ensures ok { IfOk result (λ package. OpensSource (F.held inner) (Ok package.state)) }
-        ensures bytes { IfOk result (λ package. bytes_told package.held ≡ bytes_told (F.held inner)) }
-        ensures failed { IfOk result (λ package. package.failed ≡ false) }
+        ensures ok { IfOk result (λ opened. OpensSource (F.held inner) (Ok opened.state)) }
+        ensures bytes { IfOk result (λ opened. bytes_told opened.held ≡ bytes_told (F.held inner)) }
+        ensures failed { IfOk result (λ opened. opened.failed ≡ false) }
         ensures kind { IfErr result
             (λ kind. (kind ≡ Io) ⊎ (kind ≡ OutOfMemory) ⊎ OpensSource (F.held inner) (Err kind)) }
     {
