@@ -70,6 +70,20 @@ pub there : {X : Type 0} (o : Option X) (x : X) → o ≡ Some x → IsSome o
 there None x e = absurd cc
 there (Some y) x e = refl
 
+is_there : (P : List ℕ → Type 0) (o : Option (List ℕ)) → IsSomeAnd o P → IsSome o
+is_there P None h = absurd h
+is_there P (Some x) h = refl
+
+-- nothing holds of bytes that aren't there
+pub no_bytes : {A : Type 0} (P : List ℕ → Type 0) (o : Option (List ℕ)) → o ≡ None → IsSomeAnd o P → A
+no_bytes P None e h = absurd h
+no_bytes P (Some x) e h = absurd cc
+
+-- want of memory that is passed on
+pub memory_passed : {A : Type 0} (r : Result A ErrorKind) (kind : ErrorKind) (x : A) → IsErrAnd r (λ e. e ≡ kind) → kind ≡ OutOfMemory → IsUnlessMemory r x
+memory_passed (Ok y) kind x e is = absurd e
+memory_passed (Err other) kind x e is = e ∙ is
+
 -- what holds of the bytes that are there
 pub at_bytes : (P : List ℕ → Type 0) (o : Option (List ℕ)) (bytes : List ℕ) → o ≡ Some bytes → P bytes → IsSomeAnd o P
 at_bytes P o bytes e h = subst (λ (o : Option (List ℕ)). IsSomeAnd o P) (sym e) h
@@ -133,14 +147,25 @@ InvalidData≢OutOfMemory e = cc
 pub not_memory : (kind : ErrorKind) → kind ≡ InvalidData → kind ≡ OutOfMemory → ⊥
 not_memory kind is memory = InvalidData≢OutOfMemory (sym is ∙ memory)
 
-pub pool_stream_stops : (c : Contents) (kind : ErrorKind) (bytes : List ℕ) → stream_at (table_key string_pool_name) (entries c.streams) ≡ Some bytes
+formless_stops : (c : Contents) (kind : ErrorKind) (bytes : List ℕ) → stream_at (table_key string_pool_name) (entries c.streams) ≡ Some bytes
     → ((stream : PoolStream) → IsPoolStream bytes stream → kind ≡ OutOfMemory) → (kind ≡ InvalidData) ⊎ (kind ≡ OutOfMemory)
     → StopsAmong c (step.has_pool ∷ step.reads_pool ∷ []) kind
-pool_stream_stops c kind bytes held only kinds =
+formless_stops c kind bytes held only kinds =
     let at : Option (List ℕ) = stream_at (table_key string_pool_name) (entries c.streams) in
     stops_after c kind (step.has_pool ∷ []) (step.reads_pool ∷ []) (there at bytes held, tt)
     (stops_at c kind step.reads_pool kinds (λ is (page, long, listed, spelled).
     not_memory kind is (only (record { page = page; long = long; entries = listed }) (of_bytes (λ b. SpellsPool b page long listed) at bytes held spelled))))
+
+pub pool_stream_stops : (c : Contents) (r : Result PoolStream ErrorKind) (bytes : List ℕ) → stream_at (table_key string_pool_name) (entries c.streams) ≡ Some bytes
+    → ((stream : PoolStream) → IsPoolStream bytes stream → IsUnlessMemory r stream) → IfErr r (λ kind. (kind ≡ InvalidData) ⊎ (kind ≡ OutOfMemory))
+    → IfErr r (StopsAmong c (step.has_pool ∷ step.reads_pool ∷ []))
+pool_stream_stops c (Ok stream) bytes held only kinds = tt
+pool_stream_stops c (Err kind) bytes held only kinds = formless_stops c kind bytes held only kinds
+
+pub pool_stream_found : (o : Option (List ℕ)) (r : Result PoolStream ErrorKind) (bytes : List ℕ) → o ≡ Some bytes → IfOk r (λ stream. IsPoolStream bytes stream)
+    → IfOk r (λ stream. IsSomeAnd o (λ bytes. IsPoolStream bytes stream))
+pool_stream_found o (Ok stream) bytes e h = at_bytes (λ b. IsPoolStream b stream) o bytes e h
+pool_stream_found o (Err kind) bytes e h = tt
 
 -- what a pool's two streams say of its first, and of its texts
 raw_form : (o p : Option (List ℕ)) (raw : Pool) → IsSomeAnd o (λ written. IsSomeAnd p (λ texts. IsPool written texts raw))
@@ -158,11 +183,16 @@ raw_texts : (o p : Option (List ℕ)) (raw : Pool) → p ≡ None → IsSomeAnd 
 raw_texts None p raw e h = h
 raw_texts (Some written) p raw e h = subst (λ (o : Option (List ℕ)). IsSomeAnd o (λ t. IsPool written t raw)) e h
 
-pub pool_found : (o p : Option (List ℕ)) (texts : List ℕ) (stream : PoolStream) (pool : Pool) → IsSomeAnd o (λ written. IsPoolStream written stream) → p ≡ Some texts
+both_found : (o p : Option (List ℕ)) (texts : List ℕ) (stream : PoolStream) (pool : Pool) → IsSomeAnd o (λ written. IsPoolStream written stream) → p ≡ Some texts
     → (pool ≡ pool_with stream pool.places) × SpellsTexts stream.page texts stream.entries pool.places → IsSomeAnd o (λ written. IsSomeAnd p (λ texts. IsPool written texts pool))
-pool_found None p texts stream pool form e h = absurd form
-pool_found (Some written) p texts stream pool form e h =
+both_found None p texts stream pool form e h = absurd form
+both_found (Some written) p texts stream pool form e h =
     at_bytes (λ t. IsPool written t pool) p texts e (subst (λ (x : Pool). IsPool written texts x) (sym h.0) (stream.entries, form, h.1))
+
+both_there : (o p : Option (List ℕ)) (raw : Pool) → IsSomeAnd o (λ written. IsSomeAnd p (λ texts. IsPool written texts raw)) → IsSome o × IsSome p
+both_there None p raw h = absurd h
+both_there (Some written) None raw h = absurd h
+both_there (Some written) (Some texts) raw h = (refl, refl)
 
 -- The streams of a container, and what the pool's first one says. What is read of it is all that it says
 module _ (c : Contents) where
@@ -192,10 +222,7 @@ module _ (c : Contents) where
       subst (λ (s : PoolStream). SpellsTexts s.page texts s.entries raw.places → IsUnlessMemory r (pool_with s raw.places)) (all (record { page = raw.page; long = raw.long; entries = parts.0 }) parts.1) (only raw.places) parts.2
 
   passes_first : (stream : PoolStream) → IsSomeAnd pool_bytes (λ bytes. IsPoolStream bytes stream) → AllByRecursion (Passes c) (step.has_pool ∷ step.reads_pool ∷ [])
-  passes_first stream form = (is_there pool_bytes form, ((stream.page, stream.long, stream.entries, form), tt)) where
-    is_there : {P : List ℕ → Type 0} (o : Option (List ℕ)) → IsSomeAnd o P → IsSome o
-    is_there None h = absurd h
-    is_there (Some x) h = refl
+  passes_first stream form = (is_there (λ bytes. IsPoolStream bytes stream) pool_bytes form, ((stream.page, stream.long, stream.entries, form), tt))
 
   -- a pool whose texts are missing, and one that doesn't have them
   pub no_texts_stops : (kind : ErrorKind) (stream : PoolStream) → IsSomeAnd pool_bytes (λ bytes. IsPoolStream bytes stream) → (text_bytes ≡ None) × (kind ≡ NotFound)
@@ -204,14 +231,32 @@ module _ (c : Contents) where
       stops_after c kind (step.has_pool ∷ step.reads_pool ∷ []) (step.has_texts ∷ step.reads_texts ∷ []) (passes_first stream form)
       (inr (inl (none_there text_bytes none, is)))
 
-  pub texts_stop : (kind : ErrorKind) (texts : List ℕ) (stream : PoolStream) → IsSomeAnd pool_bytes (λ bytes. IsPoolStream bytes stream) → IsAllThatIsSaid stream → text_bytes ≡ Some texts
+  textless_stops : (kind : ErrorKind) (texts : List ℕ) (stream : PoolStream) → IsSomeAnd pool_bytes (λ bytes. IsPoolStream bytes stream) → IsAllThatIsSaid stream → text_bytes ≡ Some texts
       → ((places : List pools.Place) → SpellsTexts stream.page texts stream.entries places → kind ≡ OutOfMemory) → (kind ≡ InvalidData) ⊎ (kind ≡ OutOfMemory)
       → StopsAmong c (step.has_pool ∷ step.reads_pool ∷ step.has_texts ∷ step.reads_texts ∷ []) kind
-  texts_stop kind texts stream form all e only kinds =
+  textless_stops kind texts stream form all e only kinds =
       stops_after c kind (step.has_pool ∷ step.reads_pool ∷ []) (step.has_texts ∷ step.reads_texts ∷ []) (passes_first stream form)
       (stops_after c kind (step.has_texts ∷ []) (step.reads_texts ∷ []) (there text_bytes texts e, tt)
       (stops_at c kind step.reads_texts kinds (λ is (raw, held).
       not_memory kind is (pool_only texts stream (Err kind) raw all e only held))))
+
+  pub texts_stop : (r : Result Pool ErrorKind) (texts : List ℕ) (stream : PoolStream) → IsSomeAnd pool_bytes (λ bytes. IsPoolStream bytes stream) → IsAllThatIsSaid stream → text_bytes ≡ Some texts
+      → ((places : List pools.Place) → SpellsTexts stream.page texts stream.entries places → IsUnlessMemory r (pool_with stream places)) → IfErr r (λ kind. (kind ≡ InvalidData) ⊎ (kind ≡ OutOfMemory))
+      → IfErr r (StopsAmong c (step.has_pool ∷ step.reads_pool ∷ step.has_texts ∷ step.reads_texts ∷ []))
+  texts_stop (Ok pool) texts stream form all e only kinds = tt
+  texts_stop (Err kind) texts stream form all e only kinds = textless_stops kind texts stream form all e only kinds
+
+  -- the pool that is read is that of both streams
+  pub pool_found : (r : Result Pool ErrorKind) (texts : List ℕ) (stream : PoolStream) → IsSomeAnd pool_bytes (λ bytes. IsPoolStream bytes stream) → text_bytes ≡ Some texts
+      → IfOk r (λ pool. (pool ≡ pool_with stream pool.places) × SpellsTexts stream.page texts stream.entries pool.places) → IfOk r (RawPoolIs (entries c.streams))
+  pool_found (Ok pool) texts stream form e h = both_found pool_bytes text_bytes texts stream pool form e h
+  pool_found (Err kind) texts stream form e h = tt
+
+  passes_pool : (raw : Pool) → RawPoolIs (entries c.streams) raw → AllByRecursion (Passes c) (step.has_pool ∷ step.reads_pool ∷ step.has_texts ∷ step.reads_texts ∷ [])
+  passes_pool raw held =
+      let are = both_there pool_bytes text_bytes raw held in
+      let form = raw_form pool_bytes text_bytes raw held in
+      (are.0, ((raw.page, raw.long, form.0, form.1), (are.1, ((raw, held), tt))))
 
 -- THE SCHEMA
 
@@ -233,6 +278,26 @@ schema_stops c kind raw one (inr refused) =
 
 -- THE WHOLE
 
+-- the kind and the summary are read, and the pool isn't, or the schema isn't
+module _ (c : Contents) (kind : PackageType) (clsid : c.clsid ≡ clsid_of kind) (summary : Properties) (spelled : SummaryIs (entries c.streams) summary) where
+  abbrev first_steps : List OpenStep
+  first_steps = step.knows_kind ∷ step.has_summary ∷ step.reads_summary ∷ []
+
+  abbrev pool_steps : List OpenStep
+  pool_steps = step.has_pool ∷ step.reads_pool ∷ step.has_texts ∷ step.reads_texts ∷ []
+
+  passes_start : AllByRecursion (Passes c) first_steps
+  passes_start = ((kind, clsid), (is_there (λ bytes. SpellsSummary bytes summary) (stream_at summary_key (entries c.streams)) spelled, ((summary, spelled), tt)))
+
+  pub pool_stops : (why : ErrorKind) → StopsAmong c pool_steps why → StopsAmong c open_steps why
+  pool_stops why stops = stops_among c why (first_steps ++ pool_steps) (step.reads_schema ∷ []) (stops_after c why first_steps pool_steps passes_start stops)
+
+  pub database_stops : (why : ErrorKind) (raw : Pool) → RawPoolIs (entries c.streams) raw → ((other : Pool) → RawPoolIs (entries c.streams) other → raw ≡ other)
+      → IsRefusal (or_refused InvalidData (schema_in (entries c.streams) raw)) why → StopsAmong c open_steps why
+  database_stops why raw held one refused =
+      stops_after c why first_steps (pool_steps ++ step.reads_schema ∷ []) passes_start
+      (stops_after c why pool_steps (step.reads_schema ∷ []) (passes_pool c raw held) (schema_stops c why raw one refused))
+
 module _ (c : Contents) (kind : PackageType) (summary : Properties) (raw : Pool) (k : Kept) (read : IsDatabaseOf raw (entries c.streams) k) where
   pool_is : RawPoolIs (entries c.streams) raw → PoolIs (entries c.streams) k.database
   pool_is held = (raw, held, λ i. record { page = read.page i; long = read.long i; places = read.places i })
@@ -253,12 +318,17 @@ module _ (c : Contents) (kind : PackageType) (summary : Properties) (raw : Pool)
   )
 
 -- bytes that hold contents that open, that don't, and bytes that hold none
-pub opens_to : (bytes : List ℕ) (c : Contents) (s : State) → Holds bytes c → IsOpened c s → OpensTo bytes (Ok s)
-opens_to bytes c s holds opened = (c, holds, opened.0, opened.1)
+pub opens_to : (bytes : List ℕ) (c : Contents) (r : Result State ErrorKind) → Holds bytes c → IfOk r (IsOpened c) → IfOk r (λ s. OpensTo bytes (Ok s))
+opens_to bytes c (Ok s) holds opened = (c, holds, opened.0, opened.1)
+opens_to bytes c (Err kind) holds opened = tt
 
-pub contents_stop : (bytes : List ℕ) (c : Contents) (kind : ErrorKind) → Holds bytes c → StopsAmong c open_steps kind → IsOpenRefusal bytes kind
-contents_stop bytes c kind holds (inl memory) = inl memory
-contents_stop bytes c kind holds (inr fails) = inr (inr (c, holds, fails))
+refused_by : (bytes : List ℕ) (c : Contents) (kind : ErrorKind) → Holds bytes c → StopsAmong c open_steps kind → IsOpenRefusal bytes kind
+refused_by bytes c kind holds (inl memory) = inl memory
+refused_by bytes c kind holds (inr fails) = inr (inr (c, holds, fails))
+
+pub contents_stop : (bytes : List ℕ) (c : Contents) (r : Result State ErrorKind) → Holds bytes c → IfErr r (StopsAmong c open_steps) → IfErr r (IsOpenRefusal bytes)
+contents_stop bytes c (Ok s) holds stops = tt
+contents_stop bytes c (Err kind) holds stops = refused_by bytes c kind holds stops
 
 pub nothing_held : (bytes : List ℕ) (kind : ErrorKind) → ((c : Contents) → Holds bytes c → kind ≡ OutOfMemory) → (kind ≡ InvalidData) ⊎ (kind ≡ OutOfMemory) → IsOpenRefusal bytes kind
 nothing_held bytes kind only (inl is) = inr (inl (λ c holds. not_memory kind is (only c holds), is))
