@@ -1,6 +1,6 @@
 -- What the steps of opening give is what opening answers.
 use Rattle.std.proofs.Common.{◌≡◌, ℕ, Bool, false, List, [], ◌∷◌, ◌++◌, Option, Some, None, Result, Ok, Err, refl, sym, ap, subst, ◌∙◌, inl, inr}
-use Rattle.std.specs.Prelude.{◌⊎◌, IfErr, IfOk, IsErrAnd, IsSome, IsSomeAnd, IsTrue, MatchResult, length}
+use Rattle.std.specs.Prelude.{◌⊎◌, IfErr, IfOk, IfSome, IsErrAnd, IsSome, IsSomeAnd, IsTrue, MatchResult, length}
 use Rattle.std.specs.List.{AllByRecursion}
 use Rattle.std.specs.FinMap.{entries, get, get-entries}
 use Rattle.msi_text.specs.CodePage.{CodePage}
@@ -9,6 +9,7 @@ use Rattle.msi_text.specs.ErrorKind.TheVariants.{InvalidData, Io, NotFound, OutO
 use Rattle.msi_text.specs.Pool.{Pool, PoolStream, Entry, IsPool, IsPoolStream, SpellsPool, SpellsTexts, pool_with}
 use Rattle.msi_text.specs.Pool as pools
 use Rattle.msi_text.specs.Results.{FailsAs, Gives, IsUnlessFault, IsUnlessMemory}
+use Rattle.msi_device.specs.Held.{Held, all_bytes}
 use Rattle.msi_summary.specs.Properties.{Properties}
 use Rattle.msi_summary.specs.Summary.{SpellsSummary}
 use Rattle.msi_compound.specs.declared.contents.Contents.{Contents}
@@ -27,7 +28,7 @@ use Rattle.msi.specs.State.{State, others_among, parts_of}
 use Rattle.msi.specs.Whole.{state_of}
 use Rattle.msi.specs.Meaning.{ContentsMean, OpenStep, Passes, FailsFirst, OpensTo, PoolIs, RawPoolIs, SummaryIs, as_opened, open_steps, shown_pool, step_kind}
 use Rattle.msi.specs.Meaning as step
-use Rattle.msi.specs.Opening.{IsOpenRefusal, IsOpened, StopsAmong, without_io}
+use Rattle.msi.specs.Opening.{IsOpenRefusal, IsOpened, OpensSource, StopsAmong, without_io}
 
 -- STEPS IN TURN
 
@@ -333,3 +334,12 @@ contents_stop bytes c (Err kind) holds stops = refused_by bytes c kind holds sto
 pub nothing_held : (bytes : List ℕ) (kind : ErrorKind) → ((c : Contents) → Holds bytes c → kind ≡ OutOfMemory) → (kind ≡ InvalidData) ⊎ (kind ≡ OutOfMemory) → IsOpenRefusal bytes kind
 nothing_held bytes kind only (inl is) = inr (inl (λ c holds. not_memory kind is (only c holds), is))
 nothing_held bytes kind only (inr memory) = inl memory
+
+-- what a source tells is read, and its bytes open to the package
+pub source_opens : (held cleared : Option Held) (read bytes : List ℕ) (s t : State) → cleared ≡ held → IfSome cleared (λ h. read ≡ all_bytes h) → bytes ≡ read → OpensTo bytes (Ok s) → t ≡ s
+    → OpensSource held (Ok t)
+source_opens held cleared read bytes s t same told is opens like = (
+  read,
+  subst (λ (o : Option Held). IfSome o (λ h. read ≡ all_bytes h)) same told,
+  subst (λ (x : State). OpensTo read (Ok x)) (sym like) (subst (λ (b : List ℕ). OpensTo b (Ok s)) is opens),
+)
