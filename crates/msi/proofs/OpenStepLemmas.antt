@@ -1,9 +1,8 @@
 -- What the steps of opening give is what opening answers.
-use Rattle.std.proofs.Common.{◌≡◌, ℕ, Bool, false, List, [], ◌∷◌, ◌++◌, Option, Some, None, Result, Ok, Err, refl, sym, ap, subst, ◌∙◌, inl, inr}
+use Rattle.std.proofs.Common.{◌≡◌, ℕ, List, [], ◌∷◌, ◌++◌, Option, Some, None, Result, Ok, Err, refl, sym, ap, subst, ◌∙◌, inl, inr}
 use Rattle.std.specs.Prelude.{◌⊎◌, IfErr, IfOk, IfSome, IsErrAnd, IsSome, IsSomeAnd, IsTrue, MatchResult, length}
 use Rattle.std.specs.List.{AllByRecursion}
 use Rattle.std.specs.FinMap.{entries, get, get-entries}
-use Rattle.msi_text.specs.CodePage.{CodePage}
 use Rattle.msi_text.specs.ErrorKind.{ErrorKind}
 use Rattle.msi_text.specs.ErrorKind.TheVariants.{InvalidData, Io, NotFound, OutOfMemory}
 use Rattle.msi_text.specs.Pool.{Pool, PoolStream, Entry, IsPool, IsPoolStream, SpellsPool, SpellsTexts, pool_with}
@@ -18,14 +17,11 @@ use Rattle.msi_compound.specs.Names.{is_name_length}
 use Rattle.msi_compound.specs.Streams as maps
 use Rattle.msi_relation.specs.Refusals.{IsRefusal, or_refused}
 use Rattle.msi_schema.specs.Keys.{table_key, summary_key, string_pool_name, string_data_name}
-use Rattle.msi_database.specs.Agreement.{is_shown, schema_in}
-use Rattle.msi_database.specs.Kept.{Kept}
-use Rattle.msi_database.specs.Reading.{IsDatabaseOf}
-use Rattle.msi_database.specs.Streams.{Streams, stream_at}
+use Rattle.msi_database.specs.Agreement.{schema_in}
+use Rattle.msi_database.specs.Streams.{stream_at}
 use Rattle.msi.specs.declared.kinds.PackageType.{PackageType}
 use Rattle.msi.specs.Kinds.{clsid_of}
-use Rattle.msi.specs.State.{State, others_among, parts_of}
-use Rattle.msi.specs.Whole.{state_of}
+use Rattle.msi.specs.State.{State}
 use Rattle.msi.specs.Meaning.{ContentsMean, OpenStep, Passes, FailsFirst, OpensTo, PoolIs, RawPoolIs, SummaryIs, as_opened, open_steps, shown_pool, step_kind}
 use Rattle.msi.specs.Meaning as step
 use Rattle.msi.specs.Opening.{IsOpenRefusal, IsOpened, OpensSource, StopsAmong, without_io}
@@ -298,25 +294,6 @@ module _ (c : Contents) (kind : PackageType) (clsid : c.clsid ≡ clsid_of kind)
   database_stops why raw held one refused =
       stops_after c why first_steps (pool_steps ++ step.reads_schema ∷ []) passes_start
       (stops_after c why pool_steps (step.reads_schema ∷ []) (passes_pool c raw held) (schema_stops c why raw one refused))
-
-module _ (c : Contents) (kind : PackageType) (summary : Properties) (raw : Pool) (k : Kept) (read : IsDatabaseOf raw (entries c.streams) k) where
-  pool_is : RawPoolIs (entries c.streams) raw → PoolIs (entries c.streams) k.database
-  pool_is held = (raw, held, λ i. record { page = read.page i; long = read.long i; places = read.places i })
-
-  -- what is read is what the contents mean
-  pub opened_is : c.clsid ≡ clsid_of kind → SummaryIs (entries c.streams) summary → RawPoolIs (entries c.streams) raw
-      → IsOpened c (state_of kind summary k c.has_storages false false false)
-  opened_is clsid spelled held = (
-    record {
-      kind = clsid;
-      summary = spelled;
-      pool = pool_is held;
-      database = read.spelled;
-      others = λ i. others_among (read.streams i) k.database;
-      storages = refl;
-    },
-    λ i. state_of kind summary (record { database = k.database; streams = read.streams i }) c.has_storages false false false,
-  )
 
 -- bytes that hold contents that open, that don't, and bytes that hold none
 pub opens_to : (bytes : List ℕ) (c : Contents) (r : Result State ErrorKind) → Holds bytes c → IfOk r (IsOpened c) → IfOk r (λ s. OpensTo bytes (Ok s))

@@ -1,10 +1,13 @@
 -- What opening answers where memory may be refused, and over a source.
-use Rattle.std.specs.Prelude.{◌≡◌, ℕ, ◌⊎◌, List, Option, Result, Ok, Err, IfSome}
+use Rattle.std.specs.Prelude.{◌≡◌, ℕ, ◌⊎◌, List, Option, Result, Err, IfSome, IsSomeAnd}
 use Rattle.std.specs.FinMap.{entries}
 use Rattle.msi_text.specs.ErrorKind.{ErrorKind}
 use Rattle.msi_text.specs.ErrorKind.TheVariants.{InvalidData, OutOfMemory}
+use Rattle.msi_text.specs.Pool.{PoolStream, IsPoolStream}
 use Rattle.msi_compound.specs.declared.contents.Contents.{Contents}
 use Rattle.msi_device.specs.Held.{Held, all_bytes}
+use Rattle.msi_schema.specs.Keys.{table_key, string_pool_name}
+use Rattle.msi_database.specs.Streams.{Streams, stream_at}
 use Rattle.msi.specs.State.{State, parts_of}
 use Rattle.msi.specs.Meaning.{ContentsMean, OpenStep, FailsFirst, OpensTo, as_opened}
 
@@ -16,6 +19,10 @@ without_io _ = OutOfMemory
 -- a package just opened whose parts the contents mean
 abbrev pub IsOpened : Contents → State → Type 0
 IsOpened c s = ContentsMean c (parts_of s) × (s ≡ as_opened (entries c.streams) (parts_of s))
+
+-- the first stream of the pool says this
+abbrev pub PoolStreamIs : Streams → PoolStream → Type 0
+PoolStreamIs streams stream = IsSomeAnd (stream_at (table_key string_pool_name) streams) (λ bytes. IsPoolStream bytes stream)
 
 -- why opening stops at one of these steps: the first that fails, or memory was refused
 abbrev pub StopsAmong : Contents → List OpenStep → ErrorKind → Type 0

@@ -1,6 +1,6 @@
 //! Opening packages.
 
-ghost use Rattle.std.specs.Prelude.{◌≡◌, ◌⊎◌, ◌∷◌, [], Err, IfErr, IfOk, IsSomeAnd, IsTrue, List, None, Ok, Some, false, length};
+ghost use Rattle.std.specs.Prelude.{◌≡◌, ◌⊎◌, ◌∷◌, [], Err, IfErr, IfOk, IsTrue, List, None, Ok, Some, false, length};
 ghost use Rattle.std.specs.FinMap.{entries};
 ghost use Rattle.msi_text.specs.ErrorKind.TheVariants.{InvalidData, Io, NotFound, OutOfMemory};
 ghost use Rattle.msi_text.specs.Pool.{IsPoolStream, Pool, PoolStream, SpellsTexts, pool_with};
@@ -8,12 +8,12 @@ ghost use Rattle.msi_text.specs.Pool as pools;
 ghost use Rattle.msi_text.specs.Results.{IsUnlessMemory, OnlyMemory};
 ghost use Rattle.msi_compound.specs.Names.{is_name_length};
 ghost use Rattle.msi_device.specs.Held.{bytes_told};
-ghost use Rattle.msi_schema.specs.Keys.{string_data_name, string_pool_name, table_key as key_of};
+ghost use Rattle.msi_schema.specs.Keys.{table_key as key_of};
 ghost use Rattle.msi_database.specs.Streams.{stream_at};
 ghost use Rattle.msi.specs.Kinds.{clsid_of};
 ghost use Rattle.msi.specs.Meaning.{FailsFirst, OpensTo, RawPoolIs, SummaryIs, open_steps};
-ghost use Rattle.msi.specs.Meaning.{has_pool, has_summary, has_texts, knows_kind, reads_pool, reads_schema, reads_summary, reads_texts};
-ghost use Rattle.msi.specs.Opening.{IsOpenRefusal, IsOpened, OpensSource, StopsAmong, without_io as kind_without_io};
+ghost use Rattle.msi.specs.Meaning.{has_pool, has_summary, has_texts, knows_kind, reads_pool, reads_summary, reads_texts};
+ghost use Rattle.msi.specs.Opening.{IsOpenRefusal, IsOpened, OpensSource, PoolStreamIs, StopsAmong, without_io as kind_without_io};
 
 use crate::kinds::PackageType;
 use crate::package::Package;
@@ -138,8 +138,8 @@ fn pool_stream_of(alloc: Global, bytes: &[u8]) -> Result<StringPoolBuilder, Erro
 fn with_texts(alloc: Global, stream: StringPoolBuilder, bytes: &[u8]) -> Result<StringPool, Error>
     ensures found { IfOk result (λ pool.
         (pool ≡ pool_with stream pool.places) × SpellsTexts stream.page bytes.now stream.entries pool.places) }
-    ensures only { (places : List pools.Place)
-        → SpellsTexts stream.page bytes.now stream.entries places → IsUnlessMemory result (pool_with stream places) }
+    ensures only { (places : List pools.Place) → SpellsTexts stream.page bytes.now stream.entries places
+        → IsUnlessMemory result (pool_with stream places) }
     ensures kinds { IfErr result (λ kind. (kind ≡ InvalidData) ⊎ (kind ≡ OutOfMemory)) }
 {
     stream.build_from_data(alloc, bytes).map_err(without_io)
@@ -150,11 +150,9 @@ fn with_texts(alloc: Global, stream: StringPoolBuilder, bytes: &[u8]) -> Result<
 /// # Errors
 /// `NotFound` where it isn't there, `InvalidData` where it doesn't have its form; `OutOfMemory`.
 fn pool_stream_in(alloc: Global, contents: &Contents) -> Result<StringPoolBuilder, Error>
-    ensures found { IfOk result (λ stream. IsSomeAnd (stream_at (key_of string_pool_name) (entries contents.now.streams))
-        (λ bytes. IsPoolStream bytes stream)) }
+    ensures found { IfOk result (PoolStreamIs (entries contents.now.streams)) }
     ensures only { (stream : PoolStream)
-        → IsSomeAnd (stream_at (key_of string_pool_name) (entries contents.now.streams)) (λ bytes. IsPoolStream bytes stream)
-        → IsUnlessMemory result stream }
+        → PoolStreamIs (entries contents.now.streams) stream → IsUnlessMemory result stream }
     ensures kind { IfErr result (StopsAmong contents.now (has_pool ∷ reads_pool ∷ [])) }
 {
     let key = short_table_key(alloc, STRING_POOL)?;

@@ -1,4 +1,4 @@
-use Rattle.std.proofs.Common.{◌≡◌, ◌∙◌, ap, sym, [], ◌∷◌, None, Some}
+use Rattle.std.proofs.Common.{◌≡◌, ◌∙◌, ap, sym, [], ◌∷◌, None}
 use Rattle.std.specs.FinMap.{entries}
 use Rattle.msi_schema.specs.Keys.{string_data_name, table_key}
 use Rattle.msi_database.specs.Streams.{stream_at}

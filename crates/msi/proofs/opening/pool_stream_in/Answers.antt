@@ -1,4 +1,4 @@
-use Rattle.std.proofs.Common.{◌≡◌, ◌∙◌, ap, sym, List, [], ◌∷◌, ℕ, Option, None, Some}
+use Rattle.std.proofs.Common.{◌≡◌, ◌∙◌, ap, sym, [], ◌∷◌, None}
 use Rattle.std.specs.FinMap.{entries}
 use Rattle.msi_text.specs.Pool.{IsPoolStream}
 use Rattle.msi_schema.specs.Keys.{string_pool_name, table_key}
