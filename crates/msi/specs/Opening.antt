@@ -22,7 +22,8 @@ IsOpened c s = ContentsMean c (parts_of s) × (s ≡ as_opened (entries c.stream
 
 -- the first stream of the pool says this
 abbrev pub PoolStreamIs : Streams → PoolStream → Type 0
-PoolStreamIs streams stream = IsSomeAnd (stream_at (table_key string_pool_name) streams) (λ bytes. IsPoolStream bytes stream)
+PoolStreamIs streams stream = IsSomeAnd (stream_at (table_key string_pool_name) streams)
+    (λ bytes. IsPoolStream bytes stream)
 
 -- why opening stops at one of these steps: the first that fails, or memory was refused
 abbrev pub StopsAmong : Contents → List OpenStep → ErrorKind → Type 0

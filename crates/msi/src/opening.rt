@@ -12,8 +12,10 @@ ghost use Rattle.msi_schema.specs.Keys.{table_key as key_of};
 ghost use Rattle.msi_database.specs.Streams.{stream_at};
 ghost use Rattle.msi.specs.Kinds.{clsid_of};
 ghost use Rattle.msi.specs.Meaning.{FailsFirst, OpensTo, RawPoolIs, SummaryIs, open_steps};
-ghost use Rattle.msi.specs.Meaning.{has_pool, has_summary, has_texts, knows_kind, reads_pool, reads_summary, reads_texts};
-ghost use Rattle.msi.specs.Opening.{IsOpenRefusal, IsOpened, OpensSource, PoolStreamIs, StopsAmong, without_io as kind_without_io};
+ghost use Rattle.msi.specs.Meaning.{has_pool, has_summary, has_texts};
+ghost use Rattle.msi.specs.Meaning.{knows_kind, reads_pool, reads_summary, reads_texts};
+ghost use Rattle.msi.specs.Opening.{IsOpenRefusal, IsOpened, OpensSource, PoolStreamIs, StopsAmong};
+ghost use Rattle.msi.specs.Opening.{without_io as kind_without_io};
 
 use crate::kinds::PackageType;
 use crate::package::Package;
@@ -200,11 +202,7 @@ fn open_contents(alloc: Global, contents: Contents) -> Result<Opened, Error>
 /// What the bytes of a package say.
 ///
 /// # Errors
-/// The first that holds: `InvalidData` where the bytes are no compound file, or the root's CLSID is that of no package;
-/// `NotFound` where the summary's stream is missing, `InvalidData` where it spells no summary; `NotFound` where the
-/// stream of the pool is missing, `InvalidData` where it doesn't have its form; `NotFound` where that of its texts is
-/// missing, `InvalidData` where it has no such texts; `InvalidData` where a system table can't be read, or they describe
-/// no tables. Where none holds, `OutOfMemory`, which also may come before.
+/// Those of [`Package::open`], but `Io`.
 pub(crate) fn open_bytes(alloc: Global, bytes: &[u8]) -> Result<Opened, Error>
     ensures ok { IfOk result (λ opened. OpensTo bytes.now (Ok opened)) }
     ensures kind { IfErr result (IsOpenRefusal bytes.now) }
