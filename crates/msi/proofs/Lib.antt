@@ -33,3 +33,4 @@ pub mod DeviceLemmas
 pub mod RenewedLemmas
 pub mod OverwritingLemmas
 pub mod FlushStepLemmas
+pub mod OpenStepLemmas

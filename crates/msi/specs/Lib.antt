@@ -11,3 +11,4 @@ pub mod Laws
 pub mod Selected
 pub mod Lending
 pub mod Flushing
+pub mod Opening

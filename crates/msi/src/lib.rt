@@ -6,6 +6,7 @@ mod keys;
 pub mod kinds;
 pub mod laws;
 mod flushing;
+mod opening;
 pub mod package;
 mod reasons;
 pub mod streams;
