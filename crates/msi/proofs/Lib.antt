@@ -4,6 +4,8 @@ pub mod CallRows
 pub mod KeyNameLemmas
 pub mod OpenLemmas
 pub mod ChangeLemmas
+pub mod PackedKeyLemmas
+pub mod StreamCallLemmas
 pub mod OtherStreamLemmas
 pub mod SummarySetLemmas
 pub mod AgreementLemmas
