@@ -1,5 +1,5 @@
 -- Names of streams that are packed unit by unit.
-use Rattle.std.proofs.Common.{◌≡◌, ℕ, ◌+◌, ◌<◌, ◌≤◌, Bool, true, false, List, [], ◌∷◌, ◌++◌, length, drop, get_or, Option, Some, None, IfSome, refl, sym, ap, ◌∙◌, append_assoc, append-nil, length-append, arith}
+use Rattle.std.proofs.Common.{◌≡◌, ℕ, ◌+◌, ◌<◌, ◌≤◌, Bool, true, false, List, [], ◌∷◌, ◌++◌, length, drop, get_or, Option, Some, None, IfSome, refl, sym, ap, subst, ◌∙◌, append_assoc, append-nil, length-append, arith}
 use Rattle.std.specs.Prelude.{if◌then◌else◌, is_some, ◌&&◌}
 use Rattle.std.specs.Char.Escape.{encode_utf16}
 use Rattle.std.specs.Str.{IsUtf8}
@@ -77,3 +77,21 @@ accepted_is o name units utf8 is same told found =
     (ap (λ us. is_name_length (length us) && is_text us) same ∙ holds) told found
     ∙ ap Some same
     ∙ ap (λ b. if b then Some (stream_key name) else None) (sym is)
+
+-- and where the loop that puts them ends
+module _ (all before whole : List ℕ) (i : ℕ) (over : i ≡ length all) (waiting : Option ℕ)
+    (so_far : before ++ utf16_units (packed_from value_of waiting (drop i all)) ≡ whole) where
+  pub ends_plain : waiting ≡ None → before ≡ whole
+  ends_plain none =
+      ended_without all before whole i over
+      (subst (λ (w : Option ℕ). before ++ utf16_units (packed_from value_of w (drop i all)) ≡ whole) none so_far)
+
+  pub ends_waiting : (v : ℕ) → waiting ≡ Some v → IfSome waiting (λ u. u < 64) → before ++ packed_single v ∷ [] ≡ whole
+  ends_waiting v is small =
+      ended_with all before whole i over v (subst (λ (w : Option ℕ). IfSome w (λ u. u < 64)) is small)
+      (subst (λ (w : Option ℕ). before ++ utf16_units (packed_from value_of w (drop i all)) ≡ whole) is so_far)
+
+  pub last_room : (v : ℕ) → waiting ≡ Some v → IfSome waiting (λ u. u < 64) → length whole ≤ 31 → length before < 31
+  last_room v is small few =
+      let counted : length before + 1 ≡ length whole = sym (length-append before (packed_single v ∷ [])) ∙ ap length (ends_waiting v is small) in
+      omega arith

@@ -27,7 +27,7 @@ pub returns-in-None : goal.returns-in-None
 returns-in-None g c =
     let p = c.self.inside in
     let key = c.args.key.now in
-    c.bytes_of.ensures
-    ∙ told_at p.database c.streams.result.now c.streams.ensures key
+    c.bytes_of-in-None.ensures
+    ∙ told_at p.database c.streams-in-None.result.now c.streams-in-None.ensures key
     ∙ ap (λ n. stream_at key (opened n p.current.bytes p.database.streams)) (sym c.in-None.is)
     ∙ ap (λ (w : Whole). stream_at key w.state.kept.streams) c.self.view_is
