@@ -1,5 +1,5 @@
 -- In which order calls on streams are refused.
-use Rattle.std.proofs.Common.{◌≡◌, ℕ, Bool, true, false, not, List, [], ◌∷◌, ◌⊎◌, Option, Some, None, is_some, refl, sym, ap, ◌∙◌, inl, inr}
+use Rattle.std.proofs.Common.{◌≡◌, ℕ, Bool, true, false, not, List, [], ◌∷◌, Option, Some, None, is_some, refl, sym, ap, subst, ◌∙◌}
 use Rattle.std.specs.Prelude.{Result, Ok, Err, if◌then◌else◌, unwrap_or}
 use Rattle.std.proofs.lemmas.Bool.{true≢false}
 use Rattle.msi_text.specs.ErrorKind.{ErrorKind}
@@ -9,6 +9,7 @@ use Rattle.msi_schema.specs.Keys.{is_stream_name, stream_key}
 use Rattle.msi_database.specs.Streams.{has_stream_at, stream_at}
 use Rattle.msi.specs.State.{State, parts_of}
 use Rattle.msi.specs.Steps.{bytes_of_stream, has_stream, name_refusals, storage_refusal}
+use Rattle.msi.specs.Whole.{Whole}
 use Rattle.msi.proofs.StreamCallLemmas.{accepted_there, bytes_told}
 
 -- no storages, an accepted name, and a stream that is there
@@ -115,3 +116,10 @@ module _ (s : State) (name : List ℕ) where
           let is = name_fails is_accepted kind (stream_key name) checked in
           ap Err is.1 ∙ sym (ap (λ (o : Option ErrorKind). unless o tt) (three_pass s.has_storages is_accepted is_there (storages_pass s.has_storages passes)
           ∙ two_name is_accepted is_there is.0))
+
+-- what the view of a package passes, the package passes
+abbrev PassesStorages : Whole → Type 0
+PassesStorages w = ◌≡◌ {A = Result (Unit {0}) ErrorKind} (Ok tt) (unless_refused (storage_refusal (parts_of w.state)) tt)
+
+pub storages_seen : (view old : Whole) → view ≡ old → PassesStorages view → PassesStorages old
+storages_seen view old is passes = subst PassesStorages is passes

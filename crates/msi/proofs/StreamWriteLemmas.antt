@@ -11,7 +11,8 @@ use Rattle.msi_database.specs.Others.{IsOther, with_streams}
 use Rattle.msi_database.specs.Streams.{Streams, has_stream_at, with_stream}
 use Rattle.msi_database.proofs.KeyLemmas.{stream_key_unmarked}
 use Rattle.msi_database.proofs.StreamLemmas.{AreSorted, sorted_put}
-use Rattle.msi.specs.Whole.{IsHeld, IsOpen}
+use Rattle.msi.specs.Steps as steps
+use Rattle.msi.specs.Whole.{IsHeld, IsOpen, Whole, with_open, with_state}
 use Rattle.msi.proofs.OpenLemmas.{unmarked_is_other}
 
 pub stream_is_other : (d : Database) (name key : List ℕ) → is_stream_name name ≡ true → key ≡ stream_key name → IsOther d key
@@ -40,9 +41,18 @@ opened_held k name key made changed accepted is same there sound = record {
 }
 
 -- what is left in it is what the package keeps
-pub left_open : (k made : Kept) (name key copy left : List ℕ) → AreSorted k.streams → made ≡ with_streams (with_stream copy []) k → copy ≡ key
+left_open : (k made : Kept) (name key copy first left : List ℕ) → AreSorted k.streams → made ≡ with_streams (with_stream copy first) k → copy ≡ key
     → key ≡ stream_key name → with_streams (with_stream key left) made ≡ with_streams (with_stream (stream_key name) left) k
-left_open k made name key copy left sorted is same named =
-    ap (with_streams (with_stream key left)) (is ∙ ap (λ n. with_streams (with_stream n []) k) same)
-    ∙ ap (λ (s : Streams). with_streams (λ _. s) k) (put_twice key [] left k.streams sorted)
+left_open k made name key copy first left sorted is same named =
+    ap (with_streams (with_stream key left)) (is ∙ ap (λ n. with_streams (with_stream n first) k) same)
+    ∙ ap (λ (s : Streams). with_streams (λ _. s) k) (put_twice key first left k.streams sorted)
     ∙ ap (λ n. with_streams (with_stream n left) k) named
+
+pub left_written : (view old : Whole) (k made : Kept) (name key copy first left : List ℕ) → view ≡ old → AreSorted k.streams
+    → made ≡ with_streams (with_stream copy first) k → copy ≡ key → key ≡ stream_key name → k ≡ view.state.kept
+    → with_state (record view.state { kept = with_open (Some key) left made; is_unwritten = true }) view
+    ≡ with_state (steps.with_streams (with_stream (stream_key name) left) old.state) old
+left_written view old k made name key copy first left seen sorted is same named before =
+    ap (λ (k : Kept). with_state (record view.state { kept = k; is_unwritten = true }) view)
+      (left_open k made name key copy first left sorted is same named ∙ ap (with_streams (with_stream (stream_key name) left)) before)
+    ∙ ap (λ (w : Whole). with_state (steps.with_streams (with_stream (stream_key name) left) w.state) w) seen
