@@ -7,5 +7,8 @@ pub mod Lent
 pub mod Steps
 pub mod Runs
 pub mod Whole
+pub mod Laws
 pub mod Selected
 pub mod Lending
+pub mod Flushing
+pub mod Opening

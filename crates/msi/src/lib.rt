@@ -5,6 +5,8 @@ pub mod changes;
 mod keys;
 pub mod kinds;
 pub mod laws;
+mod flushing;
+mod opening;
 pub mod package;
 mod reasons;
 pub mod streams;
