@@ -20,3 +20,5 @@ pub mod ReplayLemmas
 pub mod RenewedLemmas
 pub mod OverwritingLemmas
 pub mod FlushStepLemmas
+pub mod CreatingLemmas
+pub mod ImagingLemmas

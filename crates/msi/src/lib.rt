@@ -4,7 +4,9 @@
 pub mod changes;
 pub mod kinds;
 pub mod laws;
+mod creating;
 mod flushing;
+mod imaging;
 pub mod package;
 mod reasons;
 
