@@ -1,6 +1,6 @@
 //! New packages, and packages given back as their devices.
 
-ghost use Rattle.std.specs.Prelude.{◌≡◌, IfErr, IfOk};
+ghost use Rattle.std.specs.Prelude.{◌≡◌, IfErr, IfOk, false};
 ghost use Rattle.msi.specs.Kinds.{title_of};
 ghost use Rattle.msi.specs.Runs.{fresh};
 ghost use Rattle.msi.specs.Flushing.{FlushStep, IsCreateRefused, IsCreated, flush_answer, told};
