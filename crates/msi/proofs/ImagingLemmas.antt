@@ -103,7 +103,7 @@ no_items : (es : Streams) → length es ≡ 0 → es ≡ []
 no_items [] none = refl
 no_items (e ∷ es) none = absurd (omega arith)
 
-no_entries : entries (empty {R = name_cmp} {X = List ℕ}) ≡ []
+no_entries : entries (empty {X = List ℕ} {R = name_cmp}) ≡ []
 no_entries = no_items (entries empty) (sym (len-entries empty) ∙ len-empty name_cmp (List ℕ))
 
 pub nothing_copied : (copy streams : maps.Streams) (left : Streams) → copy ≡ empty → left ≡ entries streams → entries copy ++ left ≡ entries streams

@@ -1,4 +1,4 @@
-use Rattle.std.proofs.Common.{◌≡◌, Some, List, ℕ, rules, subst}
+use Rattle.std.proofs.Common.{◌≡◌, Some, ap, rules, subst}
 use Rattle.std.specs.Prelude.{IfErr, IfOk, Ok}
 use Rattle.msi_text.specs.ErrorKind.TheVariants.{InvalidInput}
 use Rattle.msi_text.specs.Pool.{Pool}
@@ -39,7 +39,9 @@ returns-clause-ok g c =
     subst (λ (w : Whole). IfOk c.image_of.result (λ bytes. image_of w.state c.args.earlier_len ≡ Ok bytes.items)) c.self.view_is
         (answer_done s all c.args.earlier_len written
             (record { clsid = c.clsid.result; streams = c.put_all.new.streams; has_storages = p.has_storages })
-            (root_contents_are p.kind p.has_storages c.clsid.result c.put_all.new.streams all c.clsid.ensures ?)
+            (root_contents_are p.kind p.has_storages c.clsid.result c.put_all.new.streams all c.clsid.ensures
+                (all_put c.put_all.new.streams c.in_ok-streams.streams (into_iter_items c.into_iter.result) c.in_ok-renewed.renewed.items (opened p.open p.current.bytes (entries c.streams.result.now)) kept
+                    c.in_ok-put_all.ensures.ok c.into_iter.ensures.rest c.in_ok-streams.ensures.ok (ap (opened p.open p.current.bytes) c.streams.ensures)))
             (λ bytes. bytes.items) c.image_of.result c.image_of.ensures.ok c.image_of.ensures.refused)
 
 pub returns-clause-kind : goal.returns-clause-kind
@@ -53,5 +55,7 @@ returns-clause-kind g c =
     subst (λ (w : Whole). IfErr c.image_of.result (IsRefusal (image_of w.state c.args.earlier_len))) c.self.view_is
         (answer_failed s all c.args.earlier_len written
             (record { clsid = c.clsid.result; streams = c.put_all.new.streams; has_storages = p.has_storages })
-            (root_contents_are p.kind p.has_storages c.clsid.result c.put_all.new.streams all c.clsid.ensures ?)
+            (root_contents_are p.kind p.has_storages c.clsid.result c.put_all.new.streams all c.clsid.ensures
+                (all_put c.put_all.new.streams c.in_ok-streams.streams (into_iter_items c.into_iter.result) c.in_ok-renewed.renewed.items (opened p.open p.current.bytes (entries c.streams.result.now)) kept
+                    c.in_ok-put_all.ensures.ok c.into_iter.ensures.rest c.in_ok-streams.ensures.ok (ap (opened p.open p.current.bytes) c.streams.ensures)))
             c.image_of.result c.image_of.ensures.refused c.image_of.ensures.kinds)
