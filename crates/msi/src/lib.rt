@@ -5,8 +5,13 @@ pub mod changes;
 mod keys;
 pub mod kinds;
 pub mod laws;
+mod creating;
 mod flushing;
+<<<<<<< HEAD
 mod opening;
+=======
+mod imaging;
+>>>>>>> pkg-flush
 pub mod package;
 mod reasons;
 pub mod streams;
