@@ -2,16 +2,13 @@
 #![tactic(auto)]
 
 pub mod changes;
+mod creating;
+mod flushing;
+mod imaging;
 mod keys;
 pub mod kinds;
 pub mod laws;
-mod creating;
-mod flushing;
-<<<<<<< HEAD
 mod opening;
-=======
-mod imaging;
->>>>>>> pkg-flush
 pub mod package;
 mod reasons;
 pub mod streams;
