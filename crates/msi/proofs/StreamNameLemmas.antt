@@ -71,5 +71,5 @@ module _ (k : Kept) (m : maps.Streams) (same : entries m ≡ k.streams) where
   names_told name bytes is =
       ap listed_names (sym (keys_opened m name bytes (there_in name is)))
       ∙ sym (names_kept text_of_key is_listed_stream is_listed (is_other_name (names_of k.database)) listed_alike
-          (listed_other (names_of k.database)) (opened name bytes (entries m)))
+      (listed_other (names_of k.database)) (opened name bytes (entries m)))
       ∙ ap (λ (s : Streams). map (λ s. text_of_key s.0) (filter (λ s. is_listed_stream s.0) (others_among (opened name bytes s) k.database))) same

@@ -54,5 +54,5 @@ pub left_written : (view old : Whole) (k made : Kept) (name key copy first left 
     ≡ with_state (steps.with_streams (with_stream (stream_key name) left) old.state) old
 left_written view old k made name key copy first left seen sorted is same named before =
     ap (λ (k : Kept). with_state (record view.state { kept = k; is_unwritten = true }) view)
-      (left_open k made name key copy first left sorted is same named ∙ ap (with_streams (with_stream (stream_key name) left)) before)
+    (left_open k made name key copy first left sorted is same named ∙ ap (with_streams (with_stream (stream_key name) left)) before)
     ∙ ap (λ (w : Whole). with_state (steps.with_streams (with_stream (stream_key name) left) w.state) w) seen

@@ -2,10 +2,10 @@
 #![tactic(auto)]
 
 pub mod changes;
+mod flushing;
 mod keys;
 pub mod kinds;
 pub mod laws;
-mod flushing;
 mod opening;
 pub mod package;
 mod reasons;

@@ -20,7 +20,7 @@ invariant_of-self-lent g c = λ left.
     (key_accepted s c.args.name.now c.in_ok-key.key c.in_ok-key.ensures) (key_is s c.args.name.now c.in_ok-key.key c.in_ok-key.ensures)
     c.duplicate.ensures c.in_ok-replace_stream.ensures.there
     (λ changed. ap (λ (k : Kept). is_sound k.database) c.in_ok-replace_stream.ensures.ok
-      ∙ ap (λ (k : Kept). is_sound k.database) c.settle.ensures.database ∙ c.self.invariant.changed changed)
+    ∙ ap (λ (k : Kept). is_sound k.database) c.settle.ensures.database ∙ c.self.invariant.changed changed)
 
 pub returns : goal.returns
 returns g c = (
@@ -29,7 +29,10 @@ returns g c = (
       (key_is c.args.self.now.state c.args.name.now c.in_ok-key.key c.in_ok-key.ensures) c.settle.ensures.database),
   (
     c.new-2.ensures,
-    (write_passes c.args.self.now.state c.args.name.now c.in_ok-key.key c.in_ok-key.ensures
-        (storages_seen _ c.args.self.now c.self.view_is c.in_ok-check_storages.ensures), tt),
+    (
+      write_passes c.args.self.now.state c.args.name.now c.in_ok-key.key c.in_ok-key.ensures
+          (storages_seen _ c.args.self.now c.self.view_is c.in_ok-check_storages.ensures),
+      tt,
+    ),
   ),
 )
