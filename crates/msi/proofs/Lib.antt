@@ -39,3 +39,5 @@ pub mod RenewedLemmas
 pub mod OverwritingLemmas
 pub mod FlushStepLemmas
 pub mod OpenStepLemmas
+pub mod CreatingLemmas
+pub mod ImagingLemmas

@@ -2,7 +2,9 @@
 #![tactic(auto)]
 
 pub mod changes;
+mod creating;
 mod flushing;
+mod imaging;
 mod keys;
 pub mod kinds;
 pub mod laws;
