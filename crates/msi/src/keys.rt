@@ -94,8 +94,8 @@ fn value_of(c: char) -> Option<u16>
     }
 }
 
-/// Puts behind the units what a character adds to them, where a value may wait for a partner, and answers the value that
-/// waits then.
+/// Puts behind the units what a character adds to them, where a value may wait for a partner, and answers the value
+/// that waits then.
 fn put(units: &mut Units, waiting: Option<u16>, c: char) -> Option<u16>
     requires room { length units.old + length (utf16_units (added waiting (value_of_one c) c)) ≤ 31 }
     requires small { IfSome waiting (λ value. value < 64) }
