@@ -19,7 +19,7 @@ use Rattle.msi_database.specs.Kept.{Kept}
 use Rattle.msi_database.specs.Making as databases
 use Rattle.msi_database.specs.Making.{TellsUse}
 use Rattle.msi_database.proofs.KeepingLemmas.{change_comes}
-use Rattle.msi.specs.State.{State, parts_of}
+use Rattle.msi.specs.State.{parts_of}
 use Rattle.msi.specs.Steps.{changing, storage_refusal}
 use Rattle.msi.specs.Whole.{IsHeld, IsOpen, Leaves, Whole, with_open, with_state}
 use Rattle.msi.proofs.PackageLemmas.{change_sound}

@@ -1,15 +1,14 @@
 -- What calls on streams answer, by the streams that are kept.
-use Rattle.std.proofs.Common.{◌≡◌, ◌≢◌, ℕ, Bool, true, false, not, cond, List, [], ◌∷◌, map, filter, Option, Some, None, is_some, IfSome, refl, sym, ap, ◌∙◌}
-use Rattle.std.specs.Prelude.{◌&&◌, ◌||◌, if◌then◌else◌, unwrap_or}
-use Rattle.std.specs.FinMap.{contains_key, entries, entries-insert, get, get-entries, keys}
+use Rattle.std.proofs.Common.{◌≡◌, ℕ, Bool, true, false, cond, List, [], Option, Some, None, is_some, IfSome, refl, sym, ap, ◌∙◌}
+use Rattle.std.specs.Prelude.{◌&&◌, if◌then◌else◌, unwrap_or}
+use Rattle.std.specs.FinMap.{contains_key, entries, get, get-entries}
 use Rattle.std.specs.FinMap.Entries.{find, find-put}
 use Rattle.std.specs.Ordering.{eq_by_cmp}
 use Rattle.std.proofs.lemmas.Option.{same_Some}
 use Rattle.msi_compound.specs.Names.{name_cmp}
 use Rattle.msi_compound.specs.Streams as maps
-use Rattle.msi_compound.specs.StreamNames.{is_marked}
 use Rattle.msi_compound.proofs.NamesLemmas.{names_total, exact_names}
-use Rattle.msi_schema.specs.Keys.{is_stream_name, signature_key, stream_key, summary_key}
+use Rattle.msi_schema.specs.Keys.{is_stream_name, signature_key, stream_key}
 use Rattle.msi_database.specs.Kept.{Kept}
 use Rattle.msi_database.specs.Streams.{Streams, has_stream_at, stream_at}
 use Rattle.msi_database.proofs.MapLemmas as lookups

@@ -1,5 +1,5 @@
 -- A stream that is made and then written.
-use Rattle.std.proofs.Common.{◌≡◌, ℕ, Bool, true, false, cond, List, [], Option, Some, refl, sym, ap, subst, ◌∙◌}
+use Rattle.std.proofs.Common.{◌≡◌, ℕ, Bool, true, false, cond, List, Option, Some, refl, sym, ap, subst, ◌∙◌}
 use Rattle.std.specs.FinMap.Entries.{find, find-put, same_entries}
 use Rattle.std.specs.Ordering.{eq_by_cmp}
 use Rattle.msi_compound.specs.Names.{name_cmp}
@@ -12,7 +12,7 @@ use Rattle.msi_database.specs.Streams.{Streams, has_stream_at, with_stream}
 use Rattle.msi_database.proofs.KeyLemmas.{stream_key_unmarked}
 use Rattle.msi_database.proofs.StreamLemmas.{AreSorted, sorted_put}
 use Rattle.msi.specs.Steps as steps
-use Rattle.msi.specs.Whole.{IsHeld, IsOpen, Whole, with_open, with_state}
+use Rattle.msi.specs.Whole.{IsHeld, Whole, with_open, with_state}
 use Rattle.msi.proofs.OpenLemmas.{unmarked_is_other}
 
 pub stream_is_other : (d : Database) (name key : List ℕ) → is_stream_name name ≡ true → key ≡ stream_key name → IsOther d key

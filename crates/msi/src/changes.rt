@@ -49,10 +49,11 @@ impl<F: Source> Package<F> {
     ///
     /// # Errors
     /// The first that holds: `InvalidInput` with storages below the root; `InvalidData` where the package isn't sound;
-    /// `InvalidInput` for a system table; `NotFound` where there is none; row by row `InvalidInput` for a wrong number of
-    /// values and for an invalid one; `InvalidData` where two stored rows share a key; row by row `AlreadyExists` where
-    /// the key is stored, and `InvalidInput` where an earlier new row has it; `InvalidInput` above 65536 rows, and where
-    /// the pool has no place left. Where none holds, `OutOfMemory`, which also may come before. Then nothing is changed.
+    /// `InvalidInput` for a system table; `NotFound` where there is none; row by row `InvalidInput` for a wrong number
+    /// of values and for an invalid one; `InvalidData` where two stored rows share a key; row by row `AlreadyExists`
+    /// where the key is stored, and `InvalidInput` where an earlier new row has it; `InvalidInput` above 65536 rows,
+    /// and where the pool has no place left. Where none holds, `OutOfMemory`, which also may come before. Then nothing
+    /// is changed.
     pub fn insert_rows(&mut self, query: Insert) -> Result<(), Error>
         ensures ok { let change = changing (parts_of self.old.state) (λ d. inserts.insert_rows d query) in
             OnOk result (Leaves self.old change self.new) }
@@ -105,8 +106,8 @@ impl<F: Source> Package<F> {
     ///
     /// # Errors
     /// The first that holds: `InvalidInput` with storages below the root; `InvalidData` where the package isn't sound;
-    /// `InvalidInput` for a system table; `NotFound` where there is none; `InvalidInput` where a column of the condition
-    /// isn't there. Where none holds, `OutOfMemory`, which also may come before. Then nothing is changed.
+    /// `InvalidInput` for a system table; `NotFound` where there is none; `InvalidInput` where a column of the
+    /// condition isn't there. Where none holds, `OutOfMemory`, which also may come before. Then nothing is changed.
     pub fn delete_rows(&mut self, query: Delete) -> Result<(), Error>
         ensures ok { let change = changing (parts_of self.old.state) (λ d. deletes.delete_rows d query) in
             OnOk result (Leaves self.old change self.new) }
@@ -132,11 +133,11 @@ impl<F: Source> Package<F> {
     /// # Errors
     /// The first that holds: `InvalidInput` with storages below the root; `InvalidData` where the package isn't sound;
     /// `InvalidInput` for a name that no table may have, for no columns or more than 32 of them, where none is of the
-    /// key, where a column's name is no identifier or repeated, where a length is above 255, where a binary column is of
-    /// the key or localizable, and where one of a column's values has a `;`; `AlreadyExists` where there is a table of
-    /// this name; `NotFound` where `_Validation` isn't there; then as for the rows that describe the table, put into
-    /// `_Columns`, `_Tables` and `_Validation` in turn. Where none holds, `OutOfMemory`, which also may come before. Then
-    /// nothing is changed.
+    /// key, where a column's name is no identifier or repeated, where a length is above 255, where a binary column is
+    /// of the key or localizable, and where one of a column's values has a `;`; `AlreadyExists` where there is a table
+    /// of this name; `NotFound` where `_Validation` isn't there; then as for the rows that describe the table, put
+    /// into `_Columns`, `_Tables` and `_Validation` in turn. Where none holds, `OutOfMemory`, which also may come
+    /// before. Then nothing is changed.
     pub fn create_table<S: IntoText>(&mut self, name: S, columns: Vec<Column>) -> Result<(), Error>
         ensures ok { let change = changing (parts_of self.old.state)
             (λ d. creates.create_table d (S.text name) columns.items) in

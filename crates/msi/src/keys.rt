@@ -2,12 +2,12 @@
 
 ghost use Rattle.std.specs.Prelude.{◌≡◌, ◌+◌, ◌<◌, ◌≤◌, ◌∷◌, ◌++◌, [], IfSome, None, Some, if◌then◌else◌, length, not};
 ghost use Rattle.std.specs.Char.Escape.{encode_utf16};
-ghost use Rattle.msi_compound.proofs.PackingLemmas.{added, waiting_after};
 ghost use Rattle.msi_compound.specs.Names.{utf16_units};
 ghost use Rattle.msi_compound.specs.StreamNames.{packed_pair, packed_single, value_of as value_of_one};
 ghost use Rattle.msi_relation.specs.Refusals.{unless_refused};
 ghost use Rattle.msi_schema.specs.Keys.{is_stream_name as is_accepted, stream_key};
 ghost use Rattle.msi_text.specs.ErrorKind.TheVariants.{InvalidInput};
+ghost use Rattle.msi.specs.Packing.{added, waiting_after};
 
 use crate::reasons;
 use msi_compound::name::Name;
@@ -94,8 +94,8 @@ fn value_of(c: char) -> Option<u16>
     }
 }
 
-/// Puts behind the units what a character adds to them, where a value may wait for a partner, and answers the value that
-/// waits then.
+/// Puts behind the units what a character adds to them, where a value may wait for a partner, and answers the value
+/// that waits then.
 fn put(units: &mut Units, waiting: Option<u16>, c: char) -> Option<u16>
     requires room { length units.old + length (utf16_units (added waiting (value_of_one c) c)) ≤ 31 }
     requires small { IfSome waiting (λ value. value < 64) }

@@ -67,8 +67,8 @@ impl<F: Source> Package<F> {
         }
     }
 
-    /// Makes the stream of this name, or empties it, and lends it for writing from its first byte on. What is left in it
-    /// is the stream.
+    /// Makes the stream of this name, or empties it, and lends it for writing from its first byte on. What is left in
+    /// it is the stream.
     ///
     /// # Errors
     /// `InvalidInput` with storages below the root, and where no stream may have this name; `OutOfMemory`. Then nothing

@@ -1,4 +1,4 @@
-use Rattle.std.proofs.Common.{◌≡◌, ◌∙◌, ap, refl}
+use Rattle.std.proofs.Common.{◌∙◌, ap, refl}
 use Rattle.std.specs.Prelude.{Err, Result}
 use Rattle.msi_text.specs.ErrorKind.{ErrorKind}
 use Rattle.msi.proofs.StreamRefusalLemmas.{key_accepted, key_is, removal_missing, removal_passes}
