@@ -70,7 +70,7 @@ created_from k bytes failed y step =
     let d = step_done k n y.state step.0 in
     let held : layout (contents_of (unwritten k) d.streams) n ≡ y.held = ap (λ (s : State). layout (contents_of s s.kept.streams) n) d.left ∙ sym step.1.0 in
     let same : ◌≡◌ {A = Session} (record { state = as_written (unwritten k) d.streams; held = layout (contents_of (unwritten k) d.streams) n; failed = false }) y =
-        (λ i. record { state = d.left i; held = held i; failed = sym step.1.1 i }) in
+    (λ i. record { state = d.left i; held = held i; failed = sym step.1.1 i }) in
     ap (λ (r : Result Streams ErrorKind). r >>= λ streams. Ok (record { state = as_written (unwritten k) streams; held = layout (contents_of (unwritten k) streams) n; failed = false })) d.written
     ∙ ap (λ (s : Session). Ok s) same
 

@@ -58,7 +58,7 @@ copied_more copy new streams key held name bytes left behind so_far is new_is ke
     let whole : entries copy ++ (name, bytes) ∷ behind ≡ entries streams = ap (λ (l : Streams). entries copy ++ l) (sym is) ∙ so_far in
     let sorted : T (is_sorted name_cmp (entries copy ++ (name, bytes) ∷ behind)) = subst (λ (es : Streams). T (is_sorted name_cmp es)) (sym whole) (entries_sorted streams) in
     let put_is : entries new ≡ entries copy ++ (name, bytes) ∷ [] =
-        ap entries (new_is ∙ (λ i. insert copy (key_is i) (held_is i))) ∙ entries-insert names_total copy name bytes ∙ put_last name bytes (entries copy) behind sorted in
+    ap entries (new_is ∙ (λ i. insert copy (key_is i) (held_is i))) ∙ entries-insert names_total copy name bytes ∙ put_last name bytes (entries copy) behind sorted in
     ap (λ (es : Streams). es ++ behind) put_is ∙ append_assoc (entries copy) ((name, bytes) ∷ []) behind ∙ whole
 
 pub copied_all : (copy streams : maps.Streams) (left : Streams) → entries copy ++ left ≡ entries streams → left ≡ [] → copy ≡ streams

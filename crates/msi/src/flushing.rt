@@ -93,11 +93,7 @@ fn pool_key(alloc: Global, name: &str) -> Result<Name, Error>
 ///
 /// # Errors
 /// `InvalidInput` where the database's page doesn't carry a text. Else `OutOfMemory`.
-fn add_pool(
-    alloc: Global,
-    pool: &StringPool,
-    renewed: &mut Vec<(Name, Bytes)>,
-) -> Result<(), Error>
+fn add_pool(alloc: Global, pool: &StringPool, renewed: &mut Vec<(Name, Bytes)>) -> Result<(), Error>
     ensures ok { OnOk result ((streams : Streams)
         → pool_put pool.now (with_renewed renewed.old.items streams) ≡ Some (with_renewed renewed.new.items streams)) }
     ensures others { OnOk result ((d : DatabaseValue) → is_sound d ≡ true
@@ -252,8 +248,7 @@ fn write_parts<F: Device>(
     device: &mut F,
 ) -> Result<(), Error>
     requires { is_pool_changed ≡ true → is_sound database.old.database ≡ true }
-    ensures flushed {
-        let s = unwritten_of root.kind root.has_storages summary.now is_summary_lent database.old is_pool_changed in
+    ensures flushed { let s = unwritten_of root.kind root.has_storages summary.now is_summary_lent database.old is_pool_changed in
         FlushStep (over_device s (F.held device.old) (F.failed device.old)) (flush_answer result)
         (over_device (left_by result s database.new) (F.held device.new) (F.failed device.new)) }
     ensures tables { database.new.database ≡ database.old.database }

@@ -2,11 +2,11 @@
 #![tactic(auto)]
 
 pub mod changes;
-pub mod kinds;
-pub mod laws;
 mod creating;
 mod flushing;
 mod imaging;
+pub mod kinds;
+pub mod laws;
 pub mod package;
 mod reasons;
 

@@ -9,6 +9,6 @@ returns-clause-ok c = elim c.match-name.branch [
   | in-Some+in_ok-copied_bytes+in_ok-insert w ↦
       ap entries w.copy-is
       ∙ settled_some c.in_ok-copy.copy w.insert.new.self c.args.streams.now w.duplicate.result w.in_ok-copied_bytes.field-0 w.in-Some.name c.args.current.now.bytes c.args.name.now
-          c.in_ok-copy.ensures.ok w.in_ok-insert.ensures.ok w.duplicate.ensures (w.in_ok-copied_bytes.ensures ∙ w.as_slice.ensures) (search rules)
+      c.in_ok-copy.ensures.ok w.in_ok-insert.ensures.ok w.duplicate.ensures (w.in_ok-copied_bytes.ensures ∙ w.as_slice.ensures) (search rules)
   | in_default w ↦ ap entries w.copy-is ∙ settled_none c.in_ok-copy.copy c.args.streams.now c.args.current.now.bytes c.args.name.now c.in_ok-copy.ensures.ok (search rules)
 ]
