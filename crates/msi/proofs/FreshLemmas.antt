@@ -1,11 +1,10 @@
 -- A new package: before its first write and after it.
-use Rattle.std.proofs.Common.{◌≡◌, Bool, true, false, List, [], Option, Some, None, unwrap_or, is_some, map, refl, sym, ap, ◌∙◌}
+use Rattle.std.proofs.Common.{◌≡◌, true, false, List, [], Option, Some, None, unwrap_or, is_some, map, refl, sym, ap, ◌∙◌}
 use Rattle.std.specs.List.{AllByRecursion}
 use Rattle.std.proofs.lemmas.Bool.{true≢false}
 use Rattle.msi_text.specs.Lists.{has_pair}
 use Rattle.msi_table.specs.declared.value.Value.{Value}
 use Rattle.msi_table.specs.StoredOrder.{row_values}
-use Rattle.msi_relation.specs.Rows.{TableCells}
 use Rattle.msi_compound_write.specs.LayoutLaw.{IsName}
 use Rattle.msi_changes.specs.Database.{CountsAreExact, is_sound, rows_of}
 use Rattle.msi_changes.specs.Keyed.{key_of, same_key}

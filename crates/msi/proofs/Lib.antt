@@ -1,9 +1,16 @@
 -- The lemmas of this crate.
 pub mod Rows
 pub mod CallRows
+pub mod SchemaRows
+pub mod RangeRows
 pub mod KeyNameLemmas
 pub mod OpenLemmas
 pub mod ChangeLemmas
+pub mod PackedKeyLemmas
+pub mod StreamCallLemmas
+pub mod StreamNameLemmas
+pub mod StreamRefusalLemmas
+pub mod StreamWriteLemmas
 pub mod OtherStreamLemmas
 pub mod SummarySetLemmas
 pub mod AgreementLemmas
@@ -17,8 +24,20 @@ pub mod LeavingLemmas
 pub mod FreshLemmas
 pub mod SessionLemmas
 pub mod ReplayLemmas
+pub mod HeldLemmas
+pub mod ShownPoolLemmas
+pub mod CoverLemmas
+pub mod OneMeaningLemmas
+pub mod OpeningLemmas
+pub mod OpenedLemmas
+pub mod ReadingLemmas
+pub mod LawLemmas
+pub mod StreamAnswerLemmas
+pub mod CallLemmas
+pub mod DeviceLemmas
 pub mod RenewedLemmas
 pub mod OverwritingLemmas
 pub mod FlushStepLemmas
+pub mod OpenStepLemmas
 pub mod CreatingLemmas
 pub mod ImagingLemmas

@@ -1,5 +1,5 @@
 -- What a new package's bytes mean after calls and a flush.
-use Rattle.std.proofs.Common.{◌≡◌, ℕ, ◌+◌, ◌*◌, ◌^◌, Bool, true, false, ◌||◌, nat_lt, List, [], ◌∷◌, Option, Some, Result, Ok, refl, sym, ap, subst, ◌∙◌}
+use Rattle.std.proofs.Common.{◌≡◌, ℕ, ◌+◌, ◌*◌, ◌^◌, Bool, false, ◌||◌, nat_lt, [], ◌∷◌, Option, Some, Result, Ok, refl, ap, subst, ◌∙◌}
 use Rattle.std.specs.List.{AllByRecursion}
 use Rattle.std.specs.FinMap.{entries-from_sorted}
 use Rattle.msi_text.specs.ErrorKind.{ErrorKind}
@@ -14,8 +14,8 @@ use Rattle.msi.specs.declared.kinds.PackageType.TheVariants as kind
 use Rattle.msi.specs.State.{State}
 use Rattle.msi.specs.Calls.{Call, Answer}
 use Rattle.msi.specs.Calls as calls
-use Rattle.msi.specs.Steps.{streams_written, image_refusals, contents_of, as_written, written_for}
-use Rattle.msi.specs.Runs.{Session, Run, SessionStep, FitsCall, HoldsPackage, IsSession, created, created_over, fresh, unwritten}
+use Rattle.msi.specs.Steps.{streams_written, image_refusals, contents_of, written_for}
+use Rattle.msi.specs.Runs.{Session, IsSession, created, created_over, fresh, unwritten}
 use Rattle.msi.specs.Laws.{CreatedIsSession, ReplaysMean, IsExact}
 use Rattle.msi.proofs.FreshLemmas.{unwritten_package, fresh_package, fresh_written, fresh_sound, fresh_counts, fresh_keys}
 use Rattle.msi.proofs.FlushLemmas.{flush_package}

@@ -1,6 +1,5 @@
 -- What steps and runs keep: packages, soundness, exact counts and distinct keys.
-use Rattle.std.proofs.Common.{◌≡◌, ℕ, true, List, [], ◌∷◌, length, Result, refl, sym, ap, subst, ◌∙◌, inl, inr}
-use Rattle.std.specs.List.{AllByRecursion}
+use Rattle.std.proofs.Common.{◌≡◌, true, [], ◌∷◌, length, Result, sym, ap, subst, ◌∙◌, inl, inr}
 use Rattle.msi_text.specs.CodePage.{CodePage}
 use Rattle.msi_text.specs.ErrorKind.{ErrorKind}
 use Rattle.msi_pool.proofs.TakenLemmas.{taken_takes}
@@ -15,8 +14,7 @@ use Rattle.msi.specs.State.{State}
 use Rattle.msi.specs.Meaning.{IsPackage}
 use Rattle.msi.specs.Calls.{Call, Answer}
 use Rattle.msi.specs.Calls as calls
-use Rattle.msi.specs.Steps.{Step}
-use Rattle.msi.specs.Runs.{Session, SessionStep, Run, FitsCall}
+use Rattle.msi.specs.Runs.{Session, SessionStep, FitsCall}
 use Rattle.msi.specs.Laws.{KeepsPackage, StepsKeepPackages, RunsKeepPackages}
 use Rattle.msi.proofs.PackageLemmas as packages
 use Rattle.msi.proofs.StepLemmas.{AnyChange, Keeps, step_keeps}

@@ -1,20 +1,19 @@
 -- Sessions: what the device holds means the package, wherever nothing is unwritten.
-use Rattle.std.proofs.Common.{◌≡◌, ℕ, Bool, true, false, List, [], ◌∷◌, length, Option, Some, None, Result, Ok, Err, refl, sym, ap, subst, ◌∙◌, inl, inr}
+use Rattle.std.proofs.Common.{◌≡◌, ℕ, Bool, true, false, List, [], ◌∷◌, length, Result, Ok, Err, refl, sym, ap, subst, ◌∙◌, inl, inr}
 use Rattle.std.specs.Prelude.{MatchBool, if◌then◌else◌}
-use Rattle.std.specs.List.{AllByRecursion}
 use Rattle.std.proofs.lemmas.Bool.{true≢false}
 use Rattle.msi_text.specs.ErrorKind.{ErrorKind}
 use Rattle.msi_text.specs.ErrorKind.TheVariants.{InvalidInput}
-use Rattle.msi_relation.specs.Refusals.{first_refusal, unless, unless_refused, or_refused, ◌>>=◌}
+use Rattle.msi_relation.specs.Refusals.{unless_refused, or_refused, ◌>>=◌}
 use Rattle.msi_changes.proofs.RefusedLemmas.{not_refused, first_fails}
 use Rattle.msi_compound_write.specs.Layout.{layout, refuses}
 use Rattle.msi_database.specs.Streams.{Streams}
-use Rattle.msi.specs.State.{State, parts_of}
-use Rattle.msi.specs.Meaning.{IsPackage, Means, OpensTo}
+use Rattle.msi.specs.State.{State}
+use Rattle.msi.specs.Meaning.{IsPackage}
 use Rattle.msi.specs.Calls.{Call, Answer}
 use Rattle.msi.specs.Calls as calls
-use Rattle.msi.specs.Steps.{Step, flushed, image_of, written_for, streams_written, image_refusals, contents_of, as_written}
-use Rattle.msi.specs.Runs.{Session, SessionStep, FlushLeaves, SameDevice, Run, FitsCall, TextsAreWritable, HoldsPackage, IsSession}
+use Rattle.msi.specs.Steps.{Step, flushed, written_for, streams_written, image_refusals, contents_of, as_written}
+use Rattle.msi.specs.Runs.{Session, SessionStep, FlushLeaves, SameDevice, FitsCall, TextsAreWritable, HoldsPackage, IsSession}
 use Rattle.msi.specs.Laws.{RunsKeepSessions, FlushedIsHeld, FlushHoldsImage}
 use Rattle.msi.proofs.FlushLemmas.{flush_package}
 use Rattle.msi.proofs.MeaningLemmas.{image_means, image_opens}

@@ -7,7 +7,7 @@ use Rattle.std.proofs.lemmas.Bool.{true≢false}
 use Rattle.msi_text.specs.CodePage.{CodePage}
 use Rattle.msi_text.specs.ErrorKind.{ErrorKind}
 use Rattle.msi_text.specs.ErrorKind.TheVariants.{InvalidInput, InvalidData, NotFound}
-use Rattle.msi_relation.specs.Refusals.{Refusals, first_refusal, unless, unless_refused, or_refused, ◌>>=◌}
+use Rattle.msi_relation.specs.Refusals.{Refusals, first_refusal, unless_refused, or_refused, ◌>>=◌}
 use Rattle.msi_schema.specs.Keys.{is_stream_name, stream_key}
 use Rattle.msi_changes.specs.Database.{Database, is_sound}
 use Rattle.msi_changes.specs.Changes.{Change, sound_refusal}

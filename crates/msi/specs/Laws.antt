@@ -3,13 +3,14 @@ use Rattle.std.specs.Prelude.{◌≡◌, ℕ, ◌<◌, ◌^◌, ◌⊎◌, true,
 use Rattle.std.specs.List.{AllByRecursion}
 use Rattle.msi_text.specs.ErrorKind.{ErrorKind}
 use Rattle.msi_text.specs.ErrorKind.TheVariants.{Io, OutOfMemory}
+use Rattle.msi_compound.specs.declared.contents.Contents.{Contents}
 use Rattle.msi_schema.specs.Keys.{is_stream_name, stream_key}
 use Rattle.msi_changes.specs.Database.{Database, CountsAreExact, is_sound}
 use Rattle.msi_changes.specs.Laws.{KeysAreDistinct}
 use Rattle.msi_database.specs.Streams.{Streams, with_stream, without_stream}
 use Rattle.msi.specs.declared.kinds.PackageType.{PackageType}
 use Rattle.msi.specs.State.{Parts, State, parts_of}
-use Rattle.msi.specs.Meaning.{IsPackage, Means, OpensTo}
+use Rattle.msi.specs.Meaning.{ContentsMean, IsPackage, Means, OpenStep, OpensTo, Passes}
 use Rattle.msi.specs.Calls.{Call, Answer}
 use Rattle.msi.specs.Calls as calls
 use Rattle.msi.specs.Steps.{Step, outcome, is_lending, image_of, streams_written, as_written, with_streams, without_signature}
@@ -28,6 +29,13 @@ BytesMeanOne = (bytes : List ℕ) (p q : Parts) → AreBytes bytes → Means byt
 abbrev pub BytesOpenToOne : Type 0
 BytesOpenToOne = (bytes : List ℕ) (a b : Result State ErrorKind) → AreBytes bytes
     → OpensTo bytes a → OpensTo bytes b → a ≡ b
+
+-- bytes that aren't opened mean no package, and contents that pass each step of opening mean one
+abbrev pub RefusedMeanNothing : Type 0
+RefusedMeanNothing = (bytes : List ℕ) (kind : ErrorKind) (p : Parts) → OpensTo bytes (Err kind) → Means bytes p → ⊥
+
+abbrev pub PassingMeans : Type 0
+PassingMeans = (c : Contents) → ((s : OpenStep) → Passes c s) → (p : Parts) × ContentsMean c p
 
 -- what is opened is a package of the parts that the bytes mean, with nothing unwritten
 pub record IsOpened (bytes : List ℕ) (s : State) : Type 0 where

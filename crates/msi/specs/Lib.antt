@@ -8,4 +8,8 @@ pub mod Steps
 pub mod Runs
 pub mod Whole
 pub mod Laws
+pub mod Selected
+pub mod Lending
+pub mod Packing
 pub mod Flushing
+pub mod Opening

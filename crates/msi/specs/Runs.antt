@@ -116,7 +116,8 @@ opened bytes s = record { state = s; held = bytes; failed = false }
 
 -- The calls were carried out on a new package and it was flushed: the bytes mean what the accepted calls define,
 -- opening them gives the package that was left, and each count is the number of its cells
-pub record IsReplay (kind : PackageType) (sent : List Call) (answers : List (Result Answer ErrorKind)) (bytes : List ℕ) : Type 0 where
+pub record IsReplay (kind : PackageType) (sent : List Call) (answers : List (Result Answer ErrorKind))
+    (bytes : List ℕ) : Type 0 where
   pub last : Session
   pub left : Session
   pub run : Run (created kind) sent answers last
