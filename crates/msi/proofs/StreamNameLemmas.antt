@@ -1,5 +1,5 @@
 -- The names of the streams that are listed, by the names that the container has.
-use Rattle.std.proofs.Common.{◌≡◌, ◌≢◌, ℕ, Bool, true, false, not, cond, List, [], ◌∷◌, map, filter, Option, Some, None, is_some, IfSome, refl, sym, ap, ◌∙◌}
+use Rattle.std.proofs.Common.{◌≡◌, ℕ, Bool, true, false, not, cond, List, [], ◌∷◌, map, filter, Option, Some, None, is_some, IfSome, refl, sym, ap, ◌∙◌}
 use Rattle.std.specs.Prelude.{◌||◌, bytes_eq}
 use Rattle.std.specs.FinMap.{contains_key, entries, entries-insert, keys}
 use Rattle.std.proofs.lemmas.Bool.{true≢false}
