@@ -1,5 +1,5 @@
 -- The lemmas of this crate.
-pub mod Rows
+pub mod PackageRows
 pub mod CallRows
 pub mod SchemaRows
 pub mod RangeRows

@@ -3,6 +3,7 @@
 
 pub mod changes;
 mod creating;
+pub mod files;
 mod flushing;
 mod imaging;
 mod keys;
@@ -13,5 +14,14 @@ pub mod package;
 mod reasons;
 pub mod streams;
 
+pub use files::{open, open_rw};
 pub use kinds::PackageType;
+pub use msi_device::{Device, Memory, Metered, Source};
+pub use msi_query::{Delete, Expr, Insert, Select, Update};
+pub use msi_stream::{StreamReader, StreamWriter, Streams};
+pub use msi_summary::SummaryInfo;
+pub use msi_table::{Column, ColumnBuilder, ColumnType, Row, Rows, Table, Value};
+pub use msi_text::{
+    Category, CodePage, Error, ErrorKind, IntoText, LanguageId, StringPool, Timestamp,
+};
 pub use package::Package;
