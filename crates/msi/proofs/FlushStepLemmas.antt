@@ -1,6 +1,6 @@
 -- A flush is a step of its package, and of a session whose device tells its bytes.
-use Rattle.std.proofs.Common.{◌≡◌, ℕ, Bool, true, false, List, [], ◌∷◌, length, Option, Some, None, Result, Ok, Err, refl, sym, ap, subst, ◌∙◌, inl, inr, ◌⊎◌}
-use Rattle.std.specs.Prelude.{IfErr, IfSome, IsErr, MatchBool, OnOk, if◌then◌else◌, option_map, take, ◌++◌, drop}
+use Rattle.std.proofs.Common.{◌≡◌, ℕ, Bool, true, false, List, [], ◌∷◌, length, Option, Some, None, Result, Ok, Err, refl, sym, ap, subst, ◌∙◌, inl, inr}
+use Rattle.std.specs.Prelude.{IfSome, MatchBool, OnOk, if◌then◌else◌, option_map}
 use Rattle.std.proofs.lemmas.Bool.{true≢false}
 use Rattle.msi_text.specs.ErrorKind.{ErrorKind}
 use Rattle.msi_text.specs.ErrorKind.TheVariants.{AlreadyExists, InvalidData, InvalidInput, Io, NotFound, OutOfMemory}
@@ -14,9 +14,9 @@ use Rattle.msi.specs.State.{State}
 use Rattle.msi.specs.Calls.{Answer}
 use Rattle.msi.specs.Calls as calls
 use Rattle.msi.specs.Steps.{Step, as_written, contents_of, flush_outcome, flushed, image_of, image_refusals, streams_written, written_for}
-use Rattle.msi.specs.Runs.{FlushLeaves, Session, SessionStep, SameDevice, result_or}
+use Rattle.msi.specs.Runs.{FlushLeaves, SessionStep, SameDevice, result_or}
 use Rattle.msi.specs.Whole.{Whole}
-use Rattle.msi.specs.Flushing.{AreSoMany, FlushStep, FlushTells, LeavesBytes, Overwrites, Writes, begun_over, flush_answer, left_by, over_device, session_of, told, told_by, with_renewed}
+use Rattle.msi.specs.Flushing.{FlushStep, FlushTells, Overwrites, Writes, begun_over, flush_answer, left_by, over_device, session_of, told, told_by, with_renewed}
 use Rattle.msi.proofs.OverwritingLemmas.{told_len, told_len_is}
 
 -- WHAT IS WRITTEN

@@ -16,9 +16,9 @@ use Rattle.msi_compound.specs.declared.contents.Contents.{Contents}
 use Rattle.msi_compound.proofs.NamesLemmas.{names_total}
 use Rattle.msi_compound_write.specs.Layout.{layout, refuses}
 use Rattle.msi_compound_write.proofs.LayoutLemmas.{not_true}
-use Rattle.msi_database.specs.Streams.{Streams, with_stream}
+use Rattle.msi_database.specs.Streams.{Streams}
 use Rattle.msi.specs.State.{State}
-use Rattle.msi.specs.Steps.{contents_of, image_of, streams_written, written_for}
+use Rattle.msi.specs.Steps.{contents_of, image_of, streams_written}
 use Rattle.msi.specs.Flushing.{with_renewed}
 use Rattle.msi.specs.Whole.{opened}
 use Rattle.msi.proofs.FlushStepLemmas.{written_is, written_refused}

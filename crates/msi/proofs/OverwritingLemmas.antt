@@ -1,5 +1,5 @@
 -- What a device holds after an image was put over all of it, or a beginning of the image.
-use Rattle.std.proofs.Common.{◌≡◌, ℕ, ◌+◌, ◌*◌, ◌≤◌, Bool, true, false, ◌&&◌, ◌||◌, List, [], ◌++◌, length, take, drop, Option, Some, None, Result, Ok, Err, refl, sym, ap, subst, ◌∙◌, ◌⊎◌, inl, inr, arith}
+use Rattle.std.proofs.Common.{◌≡◌, ℕ, ◌+◌, ◌*◌, ◌≤◌, Bool, true, false, ◌||◌, List, ◌++◌, length, take, drop, Option, Some, None, Result, Ok, Err, refl, sym, ap, subst, ◌∙◌, ◌⊎◌, inl, inr}
 use Rattle.std.specs.Prelude.{IfErr, IfSome, IsErr, IsErrOf, IsTrue, ◌↔◌, if◌then◌else◌, is_err, option_map}
 use Rattle.std.specs.FinMap.{entries}
 use Rattle.std.proofs.lemmas.Bool.{and_parts, leb-true, true≢false}
@@ -11,11 +11,11 @@ use Rattle.msi_text.specs.ErrorKind.{ErrorKind}
 use Rattle.msi_text.specs.ErrorKind.TheVariants.{AlreadyExists, InvalidData, InvalidInput, Io, NotFound, OutOfMemory}
 use Rattle.msi_device.specs.Held.{Held, StandsInPart, at_start, bytes_told, from_first, with_piece}
 use Rattle.msi_compound.specs.declared.contents.Contents.{Contents}
-use Rattle.msi_compound_write.specs.Image.{difat_sectors, fat_sectors, image_byte, least_total}
+use Rattle.msi_compound_write.specs.Image.{image_byte}
 use Rattle.msi_compound_write.specs.Layout.{layout, mini_fat_run, parts, refuses, taken_by, total}
 use Rattle.msi_compound_write.proofs.LayoutLemmas.{not_true}
 use Rattle.msi_compound_write.proofs.TotalsLemmas.{total_suffices}
-use Rattle.msi.specs.Flushing.{AreSoMany, LeavesBytes, Overwrites, Told, Writes, begun_over, told}
+use Rattle.msi.specs.Flushing.{AreSoMany, Overwrites, Told, Writes, begun_over, told}
 
 -- an image is no shorter than what it takes the place of
 pub layout_covers : (c : Contents) (n : ℕ) → n ≤ length (layout c n)

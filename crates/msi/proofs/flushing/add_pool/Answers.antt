@@ -1,5 +1,4 @@
-use Rattle.std.proofs.Common.{◌∙◌, ap, rules}
-use Rattle.std.specs.Prelude.{Some}
+use Rattle.std.proofs.Common.{rules}
 use Rattle.msi_compound_write.proofs.LayoutLemmas.{not_true}
 use Rattle.msi_text.specs.PoolWriting.{is_refused}
 use Rattle.msi.proofs.RenewedLemmas.{pool_added, pool_others}

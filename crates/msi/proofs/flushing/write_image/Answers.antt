@@ -1,4 +1,4 @@
-use Rattle.std.proofs.Common.{◌∙◌, ap, rules}
+use Rattle.std.proofs.Common.{rules}
 use Rattle.msi_compound_write.specs.Borrowed.{contents_of}
 use Rattle.msi.specs.Flushing.{told}
 use Rattle.msi.proofs.OverwritingLemmas.{fault_early, image_handed, image_refused}

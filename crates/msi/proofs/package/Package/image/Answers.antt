@@ -2,13 +2,12 @@ use Rattle.std.proofs.Common.{◌≡◌, Some, ap, rules, subst}
 use Rattle.std.specs.Prelude.{IfErr, IfOk, Ok}
 use Rattle.msi_text.specs.ErrorKind.TheVariants.{InvalidInput}
 use Rattle.msi_text.specs.Pool.{Pool}
-use Rattle.msi_compound.specs.declared.contents.Contents.{Contents}
 use Rattle.msi_relation.specs.Refusals.{IsRefusal, or_refused}
 use Rattle.msi_database.specs.Streams.{Streams}
 use Rattle.std.specs.FinMap.{entries}
 use Rattle.std.specs.Vec.Iter.{into_iter_items}
 use Rattle.msi.specs.State.{State}
-use Rattle.msi.specs.Steps.{contents_of, image_of, streams_written}
+use Rattle.msi.specs.Steps.{image_of, streams_written}
 use Rattle.msi.specs.Flushing.{renewed_over, with_renewed}
 use Rattle.msi.specs.Whole.{Whole, opened, state_of, with_open}
 use Rattle.msi.proofs.CreatingLemmas.{err_as}
