@@ -129,7 +129,8 @@ session_of w held = record { state = w.state; held = held; failed = w.failed }
 
 -- an unwritten package's state, what a flush of it leaves, and a state over a device
 abbrev pub unwritten_of : PackageType → Bool → Properties → Bool → Kept → Bool → State
-unwritten_of kind has_storages summary is_lent k is_changed = state_of kind summary k has_storages true is_lent is_changed
+unwritten_of kind has_storages summary is_lent k is_changed =
+    state_of kind summary k has_storages true is_lent is_changed
 
 abbrev pub left_by : {A : Type 0} → Result A ErrorKind → State → Kept → State
 left_by (Ok done) s k = as_written s k.streams

@@ -15,11 +15,12 @@ use msi_text::errors::Error;
 use std::alloc::Global;
 
 impl<F: Device + Drop> Package<F> {
-    /// A new package, written over all that a device holds. It has no table but the system's, and a summary with a title.
+    /// A new package, written over all that a device holds. It has no table but the system's, and a summary with a
+    /// title.
     ///
     /// # Errors
-    /// `OutOfMemory`. `Io` where a call of the device failed. `InvalidInput` where the device holds so many bytes that the
-    /// file would pass 2^31.
+    /// `OutOfMemory`. `Io` where a call of the device failed. `InvalidInput` where the device holds so many bytes that
+    /// the file would pass 2^31.
     pub fn create(alloc: Global, kind: PackageType, inner: F) -> Result<Package<F>, Error>
         ensures state { IfOk result (λ made. made.state ≡ fresh kind) }
         ensures held { IfOk result (λ made. IsCreated kind (told (F.held inner) (F.failed inner)) made) }

@@ -110,8 +110,8 @@ pub(crate) fn renewed_streams(
         ≡ Some (with_renewed renewed.items streams)) }
     ensures others { IfOk result (λ renewed. (d : DatabaseValue) → (is_pool_changed ≡ true → is_sound d ≡ true)
         → AreOthers d renewed.items) }
-    ensures kind { IfErr result (λ kind. (streams : Streams)
-        → IsRefusal (or_refused InvalidInput (renewed_over is_summary_lent summary.now is_pool_changed pool.now streams)) kind) }
+    ensures kind { let written = renewed_over is_summary_lent summary.now is_pool_changed pool.now in
+        IfErr result (λ kind. (streams : Streams) → IsRefusal (or_refused InvalidInput (written streams)) kind) }
 {
     let mut renewed = renewed_summary(alloc, summary, is_summary_lent)?;
     if is_pool_changed {
@@ -235,7 +235,8 @@ fn write_parts<F: Device>(
     device: &mut F,
 ) -> Result<(), Error>
     requires { is_pool_changed ≡ true → is_sound database.old.database ≡ true }
-    ensures flushed { let s = unwritten_of root.kind root.has_storages summary.now is_summary_lent database.old is_pool_changed in
+    ensures flushed { let s
+        = unwritten_of root.kind root.has_storages summary.now is_summary_lent database.old is_pool_changed in
         FlushStep (over_device s (F.held device.old) (F.failed device.old)) (flush_answer result)
         (over_device (left_by result s database.new) (F.held device.new) (F.failed device.new)) }
     ensures tables { database.new.database ≡ database.old.database }
@@ -257,8 +258,8 @@ impl<F: Device> Package<F> {
     ///
     /// # Errors
     /// `InvalidInput` where a page doesn't carry a text, or the file would pass 2^31 bytes; `OutOfMemory`; both before
-    /// anything is written. `Io` where a call of the device failed, which `device_failed` then tells: a beginning of the
-    /// new bytes may stand over the old ones.
+    /// anything is written. `Io` where a call of the device failed, which `device_failed` then tells: a beginning of
+    /// the new bytes may stand over the old ones.
     pub fn flush(&mut self) -> Result<(), Error>
         ensures { FlushStep self.old (flush_answer result) self.new }
     {

@@ -82,8 +82,8 @@ impl<F: Source> Package<F> {
     /// The bytes that a flush would write over `earlier_len` bytes. It copies the streams, and changes nothing.
     ///
     /// # Errors
-    /// `InvalidInput` where a page doesn't carry a text, storages lie below the root, or the file would pass 2^31 bytes.
-    /// Else `OutOfMemory`, which also may come before.
+    /// `InvalidInput` where a page doesn't carry a text, storages lie below the root, or the file would pass 2^31
+    /// bytes. Else `OutOfMemory`, which also may come before.
     pub fn image(&self, earlier_len: u64) -> Result<Vec<u8>, Error>
         ensures ok { IfOk result (λ bytes. image_of_state self.now.state earlier_len ≡ Ok bytes.items) }
         ensures kind { IfErr result (IsRefusal (image_of_state self.now.state earlier_len)) }
