@@ -1,15 +1,14 @@
 -- What a flush writes, and that the package that it leaves is one.
-use Rattle.std.proofs.Common.{◌≡◌, ◌≢◌, ℕ, ◌+◌, Bool, true, false, ◌&&◌, ◌==◌, not, List, [], ◌∷◌, map, Option, Some, None, refl, sym, ap, subst, ◌∙◌, inl, inr}
+use Rattle.std.proofs.Common.{◌≡◌, ◌≢◌, ℕ, ◌+◌, Bool, true, false, ◌&&◌, ◌==◌, not, List, [], ◌∷◌, map, Option, Some, None, refl, sym, ap, subst, ◌∙◌}
 use Rattle.std.specs.Prelude.{IsSomeAnd, option_map, option_and_then, if◌then◌else◌}
 use Rattle.std.specs.List.{AllByRecursion, enumerate_from}
-use Rattle.std.proofs.lemmas.Bool.{eqb-true, cases_Bool, cond-false, true≢false}
+use Rattle.std.proofs.lemmas.Bool.{eqb-true, true≢false}
 use Rattle.std.proofs.lemmas.Option.{same_Some}
 use Rattle.msi_text.specs.Pool.{Pool, Place, PlacesWritten, forgotten, pool_stream, data_stream, IsPool}
 use Rattle.msi_text.specs.Pool as pools
 use Rattle.msi_text.specs.PoolWriting as pool_writing
 use Rattle.msi_pool.proofs.PoolReadBackLemmas.{pools_read_back}
 use Rattle.msi_pool.proofs.ForgottenLemmas.{empty_places}
-use Rattle.msi_summary.specs.Properties.{Properties}
 use Rattle.msi_summary.specs.PropertyStream.{property_stream}
 use Rattle.msi_summary.specs.PropertyStream as properties
 use Rattle.msi_summary.specs.PropertyWriting as property_writing
@@ -18,19 +17,19 @@ use Rattle.msi_summary.proofs.ReadBackLemmas.{sets_read_back}
 use Rattle.msi_compound_write.specs.LayoutLaw.{HaveNames}
 use Rattle.msi_schema.specs.Keys.{is_table_name, table_key, summary_key, string_pool_name, string_data_name}
 use Rattle.msi_schema.specs.System.{tables_name, columns_name, validation_name}
-use Rattle.msi_changes.specs.Database.{Database, Tables, is_sound}
+use Rattle.msi_changes.specs.Database.{Database, Tables}
 use Rattle.msi_database.specs.Streams.{Streams, stream_at, with_stream}
 use Rattle.msi_database.specs.Agreement.{is_shown}
 use Rattle.msi_database.proofs.KeyLemmas.{pool_keys_differ, table_key≢summary_key, table_key≢pool, tables_accepted, columns_accepted, validation_accepted}
 use Rattle.msi_database.proofs.SoundLemmas.{sound_names}
 use Rattle.msi_database.proofs.StreamLemmas.{AreSorted, sorted_put, stream_at_put, stream_at_other_put}
-use Rattle.msi.specs.State.{State, names_of, others_among, parts_of, Parts}
+use Rattle.msi.specs.State.{State, names_of, others_among, parts_of}
 use Rattle.msi.specs.Meaning.{SummaryIs, PoolIs, shown_pool, IsPackage}
 use Rattle.msi.specs.Steps.{with_summary, with_pool, pool_put, streams_written, as_written}
 use Rattle.msi.proofs.KeyNameLemmas.{pool_keys_are_names, summary_key_is_name}
 use Rattle.msi.proofs.OtherStreamLemmas.{names_with, others_put, owned_by_summary, owned_by_pool, owned_by_texts}
 use Rattle.msi.proofs.SummarySetLemmas.{IsSummarySet}
-use Rattle.msi.proofs.AgreementLemmas.{SameStream, SameTables, summary_same, raw_from, pool_same, shown_same, database_same, all_same, kept_same}
+use Rattle.msi.proofs.AgreementLemmas.{SameStream, SameTables, summary_same, raw_from, pool_same, shown_same, database_same, kept_same}
 use Rattle.msi.proofs.PackageLemmas.{package_summary, short_names}
 
 -- THE SUMMARY

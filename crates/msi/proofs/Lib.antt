@@ -1,6 +1,8 @@
 -- The lemmas of this crate.
 pub mod Rows
 pub mod CallRows
+pub mod SchemaRows
+pub mod RangeRows
 pub mod KeyNameLemmas
 pub mod OpenLemmas
 pub mod ChangeLemmas
@@ -11,3 +13,20 @@ pub mod PoolLemmas
 pub mod PackageLemmas
 pub mod FlushLemmas
 pub mod MeaningLemmas
+pub mod StepLemmas
+pub mod RunLemmas
+pub mod LeavingLemmas
+pub mod FreshLemmas
+pub mod SessionLemmas
+pub mod ReplayLemmas
+pub mod HeldLemmas
+pub mod ShownPoolLemmas
+pub mod CoverLemmas
+pub mod OneMeaningLemmas
+pub mod OpeningLemmas
+pub mod OpenedLemmas
+pub mod ReadingLemmas
+pub mod LawLemmas
+pub mod StreamAnswerLemmas
+pub mod CallLemmas
+pub mod DeviceLemmas

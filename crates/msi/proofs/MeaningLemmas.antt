@@ -1,5 +1,5 @@
 -- A package with nothing unwritten: what its image holds means it, and opens to it.
-use Rattle.std.proofs.Common.{◌≡◌, ℕ, false, List, length, refl, sym, ap, subst}
+use Rattle.std.proofs.Common.{◌≡◌, ℕ, false, length, refl, sym, ap, subst}
 use Rattle.std.specs.Prelude.{Ok}
 use Rattle.std.specs.FinMap.{entries, from_sorted, entries-from_sorted}
 use Rattle.msi_compound.specs.Names.{name_cmp}

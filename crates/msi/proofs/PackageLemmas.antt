@@ -1,11 +1,9 @@
 -- What each change of a package keeps: of its other streams, its summary, its page, and its tables.
-use Rattle.std.proofs.Common.{◌≡◌, ◌≢◌, ℕ, Bool, true, false, List, [], ◌∷◌, length, ◌⊎◌, refl, sym, subst, ◌∙◌, inl, inr}
-use Rattle.std.specs.Prelude.{Ok}
-use Rattle.std.specs.List.{AllByRecursion}
+use Rattle.std.proofs.Common.{◌≡◌, ◌≢◌, ℕ, true, false, List, [], ◌∷◌, length, ◌⊎◌, refl, sym, subst, ◌∙◌, inl, inr}
 use Rattle.std.specs.Str.{IsUtf8}
 use Rattle.std.proofs.lemmas.Bool.{true≢false, or_parts, and_from, lt-ltb, le-leb}
 use Rattle.msi_text.specs.CodePage.{CodePage}
-use Rattle.msi_text.specs.ErrorKind.TheVariants.{InvalidData, InvalidInput}
+use Rattle.msi_text.specs.ErrorKind.TheVariants.{InvalidData}
 use Rattle.msi_text.specs.Pool as pools
 use Rattle.msi_summary.specs.Properties.{Properties}
 use Rattle.msi_compound.specs.Names.{is_name_length}
@@ -14,7 +12,7 @@ use Rattle.msi_compound_write.specs.LayoutLaw.{IsName, HaveNames}
 use Rattle.msi_schema.specs.Keys.{is_stream_name, table_key, stream_key, summary_key, signature_key, signature_ex_key, string_pool_name, string_data_name}
 use Rattle.msi_schema.specs.System.{validation_name}
 use Rattle.msi_changes.specs.Database.{Database, is_sound}
-use Rattle.msi_changes.specs.Changes.{Change, sound_refusal}
+use Rattle.msi_changes.specs.Changes.{Change}
 use Rattle.msi_changes.specs.Laws.{IsChange, IsTableChange, inserted, updated, deleted, created, dropped}
 use Rattle.msi_changes.proofs.InsertLemmas.{insert_parts}
 use Rattle.msi_changes.proofs.UpdateLemmas.{update_parts}

@@ -1,12 +1,12 @@
 -- The pool of a sound package: none of its free places is named, so the streams of the pool spell it with all of them empty.
 use Rattle.std.proofs.Common.{◌≡◌, ℕ, zero, suc, ◌+◌, ◌<◌, ◌≤◌, Bool, true, false, cond, not, ◌&&◌, ◌||◌, ◌==◌, nat_le, List, [], ◌∷◌, map, filter, length, count_by, slice_get, refl, sym, ap, subst, ◌∙◌, arith}
 use Rattle.std.specs.Prelude.{if◌then◌else◌}
-use Rattle.std.specs.List.{list_any, list_all, AllByRecursion, enumerate_from}
-use Rattle.std.proofs.lemmas.Bool.{and_parts, leb-true, eqb-true, true≢false}
+use Rattle.std.specs.List.{list_any, list_all, enumerate_from}
+use Rattle.std.proofs.lemmas.Bool.{and_parts, leb-true, eqb-true}
 use Rattle.std.proofs.lemmas.List.Sums.{length-filter}
 use Rattle.msi_text.specs.Lists.{numbers_from}
 use Rattle.msi_text.specs.FirstFit.{count_of}
-use Rattle.msi_text.specs.Pool.{Pool, Place, PlacesWritten, forgotten, with_named_texts}
+use Rattle.msi_text.specs.Pool.{Pool, Place, forgotten}
 use Rattle.msi_text.specs.Pool as pools
 use Rattle.msi_changes.specs.Database.{Database, is_sound, named_numbers, cells_naming}
 use Rattle.msi_database.specs.Streams.{Streams}

@@ -7,3 +7,4 @@ pub mod Lent
 pub mod Steps
 pub mod Runs
 pub mod Whole
+pub mod Laws

@@ -87,7 +87,8 @@ pub data OpenStep : Type 0 where
   knows_kind has_summary reads_summary has_pool reads_pool has_texts reads_texts reads_schema : OpenStep
 
 abbrev pub open_steps : List OpenStep
-open_steps = knows_kind ∷ has_summary ∷ reads_summary ∷ has_pool ∷ reads_pool ∷ has_texts ∷ reads_texts ∷ reads_schema ∷ []
+open_steps = knows_kind ∷ has_summary ∷ reads_summary
+    ∷ has_pool ∷ reads_pool ∷ has_texts ∷ reads_texts ∷ reads_schema ∷ []
 
 abbrev pub Passes : Contents → OpenStep → Type 0
 Passes c knows_kind = (k : PackageType) × (c.clsid ≡ clsid_of k)
@@ -95,7 +96,8 @@ Passes c has_summary = IsSome (stream_at summary_key (entries c.streams))
 Passes c reads_summary = (summary : Properties) × SummaryIs (entries c.streams) summary
 Passes c has_pool = IsSome (stream_at (table_key string_pool_name) (entries c.streams))
 Passes c reads_pool = (page : CodePage) × (long : Bool) × (listed : List Entry)
-    × IsSomeAnd (stream_at (table_key string_pool_name) (entries c.streams)) (λ bytes. SpellsPool bytes page long listed)
+    × IsSomeAnd (stream_at (table_key string_pool_name) (entries c.streams))
+    (λ bytes. SpellsPool bytes page long listed)
 Passes c has_texts = IsSome (stream_at (table_key string_data_name) (entries c.streams))
 Passes c reads_texts = (raw : Pool) × RawPoolIs (entries c.streams) raw
 Passes c reads_schema = (raw : Pool) × RawPoolIs (entries c.streams) raw × IsSome (schema_in (entries c.streams) raw)

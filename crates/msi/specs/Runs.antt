@@ -15,7 +15,7 @@ use Rattle.msi_database.specs.Fresh as databases
 use Rattle.msi.specs.declared.kinds.PackageType.{PackageType}
 use Rattle.msi.specs.Kinds.{title_of}
 use Rattle.msi.specs.State.{State, parts_of}
-use Rattle.msi.specs.Meaning.{Means, OpensTo}
+use Rattle.msi.specs.Meaning.{IsPackage, Means, OpensTo}
 use Rattle.msi.specs.Calls.{Call, Answer}
 use Rattle.msi.specs.Calls as calls
 use Rattle.msi.specs.Lent.{FitsSummaryCall}
@@ -99,16 +99,31 @@ FitsCall _ = Unit {0}
 abbrev pub TextsAreWritable : State → Type 0
 TextsAreWritable s = pools.AreWritable s.kept.database.pool × properties.AreWritable s.summary
 
+-- what the device holds means the package, and opens to it
+pub record HoldsPackage (s : Session) : Type 0 where
+  pub means : Means s.held (parts_of s.state)
+  pub opens : OpensTo s.held (Ok s.state)
+
+-- A package over its device: with nothing unwritten the device holds it, where its texts can be written; else whatever
+-- bytes it holds
+pub record IsSession (s : Session) : Type 0 where
+  pub is_package : IsPackage s.state
+  pub held : s.state.is_unwritten ≡ false → TextsAreWritable s.state → HoldsPackage s
+
+-- a package that was opened from the bytes that its device holds
+abbrev pub opened : List ℕ → State → Session
+opened bytes s = record { state = s; held = bytes; failed = false }
+
 -- The calls were carried out on a new package and it was flushed: the bytes mean what the accepted calls define,
 -- opening them gives the package that was left, and each count is the number of its cells
-pub record IsReplay (kind : PackageType) (sent : List Call) (answers : List (Result Answer ErrorKind)) (bytes : List ℕ) : Type 0 where
+pub record IsReplay (kind : PackageType) (sent : List Call) (answers : List (Result Answer ErrorKind))
+    (bytes : List ℕ) : Type 0 where
   pub last : Session
   pub left : Session
   pub run : Run (created kind) sent answers last
   pub flush : SessionStep last calls.flush (Ok calls.done) left
   pub held : bytes ≡ left.held
-  pub means : TextsAreWritable left.state → Means bytes (parts_of left.state)
-  pub opens : TextsAreWritable left.state → OpensTo bytes (Ok left.state)
+  pub means : TextsAreWritable left.state → HoldsPackage left
   pub counts : CountsAreExact left.state.kept.database
   pub keys : KeysAreDistinct left.state.kept.database
 

@@ -207,7 +207,8 @@ Lends s (calls.write_stream name stream_calls) (calls.stream_says answers) new =
     × RunsTo writer_outcome writer_wants_memory (at_start []) stream_calls answers cursor
     × (new ≡ with_streams (with_stream (stream_key name) cursor.bytes) s)
 Lends s (calls.read_stream name stream_calls) (calls.stream_says answers) new = (cursor : Cursor)
-    × RunsTo reader_outcome reader_wants_memory (at_start (bytes_of_stream (parts_of s) name)) stream_calls answers cursor
+    × RunsTo reader_outcome reader_wants_memory (at_start (bytes_of_stream (parts_of s) name))
+    stream_calls answers cursor
     × (new ≡ s)
 Lends s _ _ new = ⊥
 

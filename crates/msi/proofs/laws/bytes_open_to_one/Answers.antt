@@ -1,0 +1,5 @@
+use Rattle.msi.proofs.OpeningLemmas as lemmas
+use Rattle.msi.proofs.laws.bytes_open_to_one.Goals as goal
+
+pub returns : goal.returns
+returns c = lemmas.bytes_open_to_one

@@ -1,0 +1,5 @@
+use Rattle.msi.proofs.SessionLemmas as lemmas
+use Rattle.msi.proofs.laws.flush_holds_image.Goals as goal
+
+pub returns : goal.returns
+returns c = lemmas.flush_holds_image

@@ -1,0 +1,5 @@
+use Rattle.msi.proofs.OpenedLemmas as lemmas
+use Rattle.msi.proofs.laws.opened_are_packages.Goals as goal
+
+pub returns : goal.returns
+returns c = lemmas.opened_are_packages

@@ -1,0 +1,5 @@
+use Rattle.msi.proofs.LawLemmas as lemmas
+use Rattle.msi.proofs.laws.passing_means.Goals as goal
+
+pub returns : goal.returns
+returns c = lemmas.passing_means

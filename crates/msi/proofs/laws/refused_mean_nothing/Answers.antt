@@ -1,0 +1,5 @@
+use Rattle.msi.proofs.OpeningLemmas as lemmas
+use Rattle.msi.proofs.laws.refused_mean_nothing.Goals as goal
+
+pub returns : goal.returns
+returns c = lemmas.refused_mean_nothing

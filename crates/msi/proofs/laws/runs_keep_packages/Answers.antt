@@ -1,0 +1,5 @@
+use Rattle.msi.proofs.RunLemmas.{runs_keep}
+use Rattle.msi.proofs.laws.runs_keep_packages.Goals as goal
+
+pub returns : goal.returns
+returns c = runs_keep

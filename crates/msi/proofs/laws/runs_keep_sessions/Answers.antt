@@ -1,0 +1,5 @@
+use Rattle.msi.proofs.SessionLemmas as lemmas
+use Rattle.msi.proofs.laws.runs_keep_sessions.Goals as goal
+
+pub returns : goal.returns
+returns c = lemmas.runs_keep_sessions

@@ -1,0 +1,5 @@
+use Rattle.msi.proofs.LawLemmas as lemmas
+use Rattle.msi.proofs.laws.steps_are_fixed.Goals as goal
+
+pub returns : goal.returns
+returns c = lemmas.steps_are_fixed

@@ -1,0 +1,5 @@
+use Rattle.msi.proofs.LawLemmas as lemmas
+use Rattle.msi.proofs.laws.writes_its_stream.Goals as goal
+
+pub returns : goal.returns
+returns c = lemmas.writes_its_stream
