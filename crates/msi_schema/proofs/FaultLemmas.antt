@@ -1,6 +1,6 @@
 -- What looking rows up tells of broken rules.
-use Rattle.std.proofs.Common.{◌≡◌, ℕ, ◌+◌, Bool, true, false, List, [], ◌∷◌, refl, sym, ap, ◌∙◌, Some, None}
-use Rattle.std.specs.Prelude.{◌&&◌, ◌||◌, not, Option, is_none, is_some, bytes_eq, filter, find, option_copied}
+use Rattle.std.proofs.Common.{◌≡◌, ℕ, Bool, true, false, List, [], ◌∷◌, refl, sym, ap, ◌∙◌, Some, None}
+use Rattle.std.specs.Prelude.{◌&&◌, ◌||◌, not, Option, is_none, is_some, bytes_eq, find, option_copied}
 use Rattle.std.specs.List.{list_any}
 use Rattle.std.proofs.lemmas.List.Sorted.{IsPermutation-refl}
 use Rattle.std.proofs.lemmas.Slice.Eq.{bytes_eq-Decides}

@@ -1,16 +1,15 @@
 -- Listed tables read one by one, and the answer that they make.
 use Rattle.std.proofs.Common.{◌≡◌, ℕ, zero, suc, ◌+◌, ◌<◌, Bool, true, false, List, [], ◌∷◌, ◌++◌, length, map, take, refl, sym, ap, ◌∙◌, arith, Some, None}
-use Rattle.std.specs.Prelude.{◌||◌, not, Option, option_and_then, option_map, slice_index_or, IsPermutation}
-use Rattle.std.specs.List.{list_any}
+use Rattle.std.specs.Prelude.{◌||◌, Option, option_map, slice_index_or}
 use Rattle.std.proofs.lemmas.List.{take_more}
 use Rattle.std.proofs.lemmas.List.Sorted.{IsPermutation-refl, list_any-IsPermutation}
 use Rattle.msi_text.specs.Lists.{all_present, stable_sort}
 use Rattle.msi_table.specs.declared.value.Value.{Value}
-use Rattle.msi_table.specs.Columns.{ColumnDef, TableDef}
+use Rattle.msi_table.specs.Columns.{TableDef}
 use Rattle.msi_schema.specs.ListedTables.{by_names, listed_table, listed_tables, with_system}
 use Rattle.msi_schema.specs.RowOrders.{by_numbers, by_texts, describing, number_in, numbers_cmp, rows_of, texts_at, texts_cmp}
-use Rattle.msi_schema.specs.Schema.{SchemaRows, columns_of, counted, has_long_number, has_odd_name, is_faulty, is_of_16_bits, number_of, tables_of, text_at, value_at}
-use Rattle.msi_schema.proofs.ListLemmas.{by_test, or_both, or_false}
+use Rattle.msi_schema.specs.Schema.{SchemaRows, counted, has_long_number, has_odd_name, is_faulty, tables_of, text_at}
+use Rattle.msi_schema.proofs.ListLemmas.{by_test, or_false}
 use Rattle.msi_schema.proofs.OrderLemmas.{sorted_is}
 use Rattle.msi_schema.proofs.OrderlessLemmas.{is_counted}
 use Rattle.msi_schema.proofs.RowOrderLemmas.{numbers_total, texts_total}

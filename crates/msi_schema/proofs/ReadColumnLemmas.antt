@@ -1,7 +1,6 @@
 -- A column read from its rows, part by part.
-use Rattle.std.proofs.Common.{◌≡◌, ℕ, ◌+◌, ◌<◌, Bool, true, false, List, [], ◌∷◌, refl, sym, ap, ◌∙◌, arith, Some, None, Result, Ok, Err, ℤ, pos, negsuc, subst, w16, w32}
-use Rattle.std.specs.Prelude.{◌&&◌, ◌||◌, not, nat_le, Option, option_and_then, option_map, if◌then◌else◌, bytes_eq, codes, filter, find, length, IfOk, IfErr, IsErr, ◌↔◌}
-use Rattle.std.specs.List.{list_any}
+use Rattle.std.proofs.Common.{◌≡◌, ℕ, Bool, true, false, List, [], ◌∷◌, refl, sym, ap, ◌∙◌, Some, None, Result, Ok, Err, ℤ}
+use Rattle.std.specs.Prelude.{◌&&◌, ◌||◌, not, Option, option_map, if◌then◌else◌, bytes_eq, codes, find, IfOk, IfErr, IsErr, ◌↔◌}
 use Rattle.std.specs.Option.{option_map_or}
 use Rattle.std.proofs.lemmas.Slice.Eq.{bytes_eq-Decides}
 use Rattle.msi_text.specs.Results.{FailsAs, Gives}
@@ -14,7 +13,7 @@ use Rattle.msi_text.specs.Categories.{all_categories, category_in, category_name
 use Rattle.msi_table.specs.declared.value.Value.{Value}
 use Rattle.msi_table.specs.declared.column.ColumnType.{ColumnType}
 use Rattle.msi_table.specs.Columns.{ColumnDef, begun_column, column_of_bits, has_bit, type_of_bits, with_bits}
-use Rattle.msi_schema.specs.Schema.{SchemaRows, both_set, category_named, described, has_long_number, is_of_16_bits, number_of, text_at, text_of, value_at, values_in}
+use Rattle.msi_schema.specs.Schema.{both_set, category_named, described, has_long_number, is_of_16_bits, number_of, text_at, text_of, value_at, values_in}
 use Rattle.msi_schema.proofs.ListLemmas.{by_test, find_same, or_false, yes_is_no}
 
 -- the parts that a row of `_Validation` gives, one after the other

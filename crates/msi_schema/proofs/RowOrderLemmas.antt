@@ -1,20 +1,18 @@
 -- The orders in which rows of the system tables stand: total, and what ties in them.
-use Rattle.std.proofs.Common.{◌≡◌, ℕ, zero, suc, ◌+◌, ◌<◌, ◌≤◌, Bool, true, false, List, [], ◌∷◌, length, refl, sym, ap, ◌∙◌, arith, Ordering, Some, None, ℤ, pos}
-use Rattle.std.specs.Prelude.{◌&&◌, Option, option_and_then, if◌then◌else◌, bytes_eq, filter, find, slice_get}
+use Rattle.std.proofs.Common.{◌≡◌, ℕ, zero, suc, ◌+◌, ◌≤◌, Bool, true, false, List, refl, sym, ◌∙◌, arith, Ordering, pos}
+use Rattle.std.specs.Prelude.{◌&&◌, bytes_eq}
 use Rattle.std.specs.List.Sorted.{IsSorted}
 use Rattle.std.specs.Cmp.{IsTotalOrder, int_cmp_total, nat_cmp_total, on_total, then_total}
-use Rattle.std.specs.Cmp.Lexicographic.{lists_total, slice_cmp}
-use Rattle.std.specs.Ordering.{eq_by_cmp, int_cmp, is_eq, is_lt, ordering_then}
+use Rattle.std.specs.Cmp.Lexicographic.{lists_total}
+use Rattle.std.specs.Ordering.{int_cmp, is_eq, is_lt, ordering_then}
 use Rattle.std.specs.declared.cmp.Ordering.TheVariants.{Less, Equal, Greater}
 use Rattle.std.proofs.lemmas.Map.Text.{is_eq-slice_cmp}
 use Rattle.msi_text.specs.Lists.{list_cmp}
 use Rattle.msi_table.specs.declared.value.Value.{Value}
 use Rattle.msi_table.specs.OrderLaws.{value_cmp-total}
 use Rattle.msi_table.specs.Values.{value_cmp}
-use Rattle.msi_schema.specs.RowOrders.{by_numbers, by_texts, by_values, number_in, numbers_cmp, pair_cmp, texts_at, texts_cmp, values_at, values_cmp}
+use Rattle.msi_schema.specs.RowOrders.{by_numbers, by_values, number_in, numbers_cmp, pair_cmp, texts_at, texts_cmp, values_cmp}
 use Rattle.msi_schema.specs.Schema.{has_number, is_about, number_of, share_key, text_at, value_at}
-use Rattle.msi_schema.proofs.ListLemmas.{find_same}
-use Rattle.msi_schema.proofs.OrderLemmas.{Ascends}
 
 pub pairs_total : {A B : Type 0} (first : A → A → Ordering) (second : B → B → Ordering) → IsTotalOrder first → IsTotalOrder second → IsTotalOrder (pair_cmp first second)
 pairs_total first second o p = then_total (on_total (λ q. q.0) o) (on_total (λ q. q.1) p)

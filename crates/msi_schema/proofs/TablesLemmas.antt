@@ -1,31 +1,28 @@
 -- The tables that rows describe, read one by one from sorted rows.
-use Rattle.std.proofs.Common.{◌≡◌, ℕ, zero, suc, ◌+◌, ◌<◌, ◌≤◌, Bool, true, false, List, [], ◌∷◌, ◌++◌, length, refl, sym, ap, ◌∙◌, arith, Ordering, Some, None, ℤ, pos, negsuc, cond, nat_eq}
-use Rattle.std.specs.Prelude.{◌&&◌, ◌||◌, not, Option, is_some, option_and_then, option_map, if◌then◌else◌, bytes_eq, filter, find, map, nat_le, slice_get, zip, IsPermutation}
-use Rattle.std.specs.List.{AllByRecursion, list_any, list_all}
-use Rattle.std.specs.Cmp.{IsTotalOrder, nat_cmp_total}
-use Rattle.std.specs.Cmp.Lexicographic.{lists_total, slice_cmp}
+use Rattle.std.proofs.Common.{◌≡◌, ℕ, zero, suc, ◌+◌, ◌<◌, Bool, true, false, List, [], ◌∷◌, ◌++◌, length, refl, sym, ap, ◌∙◌, arith, Ordering, Some, None, ℤ, pos, cond, nat_eq}
+use Rattle.std.specs.Prelude.{◌&&◌, ◌||◌, not, Option, option_and_then, option_map, if◌then◌else◌, bytes_eq, filter, find, map, nat_le, slice_get, zip, IsPermutation}
+use Rattle.std.specs.List.{AllByRecursion, list_any}
 use Rattle.std.specs.FinMap.{put}
 use Rattle.std.specs.FinMap.Entries.{by_order}
-use Rattle.std.specs.Ordering.{eq_by_cmp, int_cmp, is_eq, is_lt, ordering_reverse}
+use Rattle.std.specs.Ordering.{int_cmp, is_eq, is_lt, ordering_reverse}
 use Rattle.std.specs.declared.cmp.Ordering.TheVariants.{Less, Equal, Greater}
-use Rattle.std.proofs.lemmas.List.Sorted.{IsPermutation-refl, IsPermutation-sym, sum_by-IsPermutation}
+use Rattle.std.proofs.lemmas.List.Sorted.{IsPermutation-sym, sum_by-IsPermutation}
 use Rattle.std.proofs.lemmas.Bool.{eqb-true}
 use Rattle.std.proofs.lemmas.Map.Text.{is_eq-slice_cmp}
-use Rattle.std.proofs.lemmas.Slice.Eq.{bytes_eq-Decides}
 use Rattle.msi_text.specs.Lists.{all_present, has_pair, list_cmp, numbers_from, placed, stable_sort, tabulated}
 use Rattle.msi_table.specs.declared.value.Value.{Value}
 use Rattle.msi_table.specs.declared.value.Value.TheVariants.{Null, Int, Str, Binary}
-use Rattle.msi_table.specs.Columns.{ColumnDef, TableDef}
+use Rattle.msi_table.specs.Columns.{ColumnDef}
 use Rattle.msi_table.specs.OrderLaws.{value_eq-Decides}
 use Rattle.msi_table.proofs.PlacesLemmas.{tabulated_more}
 use Rattle.msi_table.proofs.StableSortLemmas.{all_sorted}
 use Rattle.msi_schema.specs.ListedTables.{by_names, listed_table, listed_tables, with_system}
 use Rattle.msi_schema.specs.RowOrders.{by_numbers, by_texts, describing, number_in, numbers_cmp, texts_at, texts_cmp}
-use Rattle.msi_schema.specs.Schema.{SchemaRows, by_name, column_rows, column_of_row, columns_of, counted, has_long_number, has_number, has_odd_name, is_about, is_faulty, is_of_16_bits, is_text, listed_names, number_of, numbered_row, schema_of, share_key, table_with, tables_of, text_at, text_of, validation_row, value_at}
+use Rattle.msi_schema.specs.Schema.{SchemaRows, by_name, column_rows, column_of_row, columns_of, counted, has_long_number, has_number, has_odd_name, is_about, is_faulty, is_of_16_bits, is_text, listed_names, number_of, numbered_row, share_key, table_with, tables_of, text_at, text_of, validation_row, value_at}
 use Rattle.msi_schema.specs.System.{columns_columns, columns_name, is_schema_table, tables_columns, tables_name}
-use Rattle.msi_schema.proofs.ListLemmas.{all_kept, and_both, by_test, find-filter, find_same, list_any-filter, list_any-map, no_pair_weaker, none_pass, none_passes, not_found, or_both, or_false, true_false, yes_is_no}
+use Rattle.msi_schema.proofs.ListLemmas.{all_kept, and_both, by_test, find_same, list_any-map, no_pair_weaker, none_passes, not_found, or_both, or_false, true_false, yes_is_no}
 use Rattle.msi_schema.proofs.OrderLemmas.{filter_alike, find_sorted, order-weak, sorted_is}
-use Rattle.msi_schema.proofs.OrderlessLemmas.{IsReordered, StartsWithText, columns_same, filter-filter, is_counted, length_of_columns, listed_is, number_is, numbered_is, share_flips, sound_reordered, texts_same}
+use Rattle.msi_schema.proofs.OrderlessLemmas.{IsReordered, StartsWithText, columns_same, filter-filter, is_counted, length_of_columns, number_is, numbered_is, sound_reordered, texts_same}
 use Rattle.msi_schema.proofs.RowOrderLemmas.{at_number, at_texts, names_total, numbers_total, texts_total}
 use Rattle.msi_schema.proofs.SchemaLemmas.{Described, NoFault, both_first, no_fault, not_faulty}
 

@@ -5,7 +5,7 @@ use Rattle.std.specs.declared.io.Error.{Error}
 use Rattle.std.specs.declared.io.SeekFrom.{SeekFrom}
 use Rattle.msi_text.specs.ErrorKind.{ErrorKind}
 use Rattle.msi_text.specs.ErrorKind.TheVariants.{InvalidInput}
-use Rattle.msi_stream.specs.Cursor.{Cursor, can_seek, moved_to, seek_target, sought}
+use Rattle.msi_stream.specs.Cursor.{Cursor, can_seek, sought}
 use Rattle.msi_stream.specs.Refusals.{told}
 
 -- what lies ahead is what a read took, and what it left
@@ -25,8 +25,14 @@ empty_is_nil (x ∷ xs) e = absurd (omega arith)
 pub none_ahead : (bytes buf rest : List ℕ) (place n : ℕ) → n ≡ min (length buf) (length (drop place bytes)) → n ≡ 0
     → 0 < length (take n (drop place bytes) ++ drop n buf) → drop (place + n) bytes ≡ []
 none_ahead bytes buf rest place n count none room =
-    empty_is_nil (drop (place + n) bytes) (omega (arith, length-drop (place + n) bytes, length-drop place bytes,
-    length-append (take n (drop place bytes)) (drop n buf), length-drop n buf, length-take n (drop place bytes)))
+    empty_is_nil (drop (place + n) bytes) (omega (
+      arith,
+      length-drop (place + n) bytes,
+      length-drop place bytes,
+      length-append (take n (drop place bytes)) (drop n buf),
+      length-drop n buf,
+      length-take n (drop place bytes),
+    ))
 
 by_test : (b : Bool) (n : ℕ) (c moved : Cursor) (k : ErrorKind)
     → Err k ≡ (cond {A = Result ℕ ErrorKind × Cursor} b (Ok n, moved) (Err InvalidInput, c)).0

@@ -1,6 +1,6 @@
 -- Streams with the one that lies open put in its place.
 use Rattle.std.proofs.Common.{◌≡◌, ℕ, suc, ◌+◌, ◌⊎◌, inl, Bool, true, false, cond, ◌&&◌, T, List, [], ◌∷◌, length, map, Option, Some, None, is_some, IfSome, refl, sym, ap, ◌∙◌, arith, rules}
-use Rattle.std.specs.Cmp.{IsTotalOrder, eq_by_cmp_equiv}
+use Rattle.std.specs.Cmp.{IsTotalOrder}
 use Rattle.std.specs.FinMap.{contains_key, entries, entries-insert, entries_sorted, get, get-entries, get-insert, insert, keys, same_map}
 use Rattle.std.specs.FinMap.Entries.{by_order, find, is_sorted, length-put, put}
 use Rattle.std.specs.Ordering.{eq_by_cmp, is_eq}
@@ -69,12 +69,12 @@ module _ {K X : Type 0} {R : K → K → Ordering} (o : IsTotalOrder R) where
   keys_put k v [] sorted there = absurd cc
   keys_put k v (e ∷ es) sorted there =
       elim (R k e.0) as (λ r. R k e.0 ≡ r → is_some (cond (is_eq r) (Some e.1) (find R k es)) ≡ true
-          → map (λ f. f.0) (by_order r ((k, v) ∷ e ∷ es) ((e.0, v) ∷ es) (e ∷ put R k v es)) ≡ e.0 ∷ map (λ f. f.0) es) [
+      → map (λ f. f.0) (by_order r ((k, v) ∷ e ∷ es) ((e.0, v) ∷ es) (e ∷ put R k v es)) ≡ e.0 ∷ map (λ f. f.0) es) [
         | Less ↦ λ less found.
             let longer : suc (suc (length es)) ≡ suc (length es) =
-                ap (λ r. length (by_order r ((k, v) ∷ e ∷ es) ((e.0, v) ∷ es) (e ∷ put R k v es))) (sym less)
-                ∙ length-put R o k v (e ∷ es) sorted
-                ∙ ap (λ b. cond b (suc (length es)) (suc (length es) + 1)) there in
+            ap (λ r. length (by_order r ((k, v) ∷ e ∷ es) ((e.0, v) ∷ es) (e ∷ put R k v es))) (sym less)
+            ∙ length-put R o k v (e ∷ es) sorted
+            ∙ ap (λ b. cond b (suc (length es)) (suc (length es) + 1)) there in
             absurd (omega arith)
         | Equal ↦ λ same found. refl
         | Greater ↦ λ greater found. ap (λ ks. e.0 ∷ ks) (keys_put k v es (last_holds _ _ sorted) found)

@@ -1,6 +1,6 @@
 -- Worked rows: which streams are listed, and under which names.
 use Rattle.std.specs.Char.Utf16.{utf16_chars}
-use Rattle.std.specs.Prelude.{◌≡◌, ℕ, List, [], ◌∷◌, codes, refl}
+use Rattle.std.specs.Prelude.{◌≡◌, [], ◌∷◌, codes, refl}
 use Rattle.std.specs.Str.{chars}
 use Rattle.msi_schema.specs.Keys.{document_summary_key, signature_ex_key, signature_key, stream_key, summary_key, table_key}
 use Rattle.msi_stream.specs.Listing.{listed_names}

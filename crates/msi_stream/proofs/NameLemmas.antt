@@ -1,5 +1,5 @@
 -- The texts that names stand for, and names that are listed.
-use Rattle.std.proofs.Common.{◌≡◌, ℕ, ◌+◌, ◌-◌, ◌*◌, ◌/◌, ◌%◌, ◌≤◌, Bool, true, false, cond, ◌&&◌, List, [], ◌∷◌, ◌++◌, String, chars, string_bytes, map, Some, None, refl, sym, ap, ◌∙◌, arith}
+use Rattle.std.proofs.Common.{◌≡◌, ℕ, ◌+◌, ◌-◌, ◌/◌, ◌%◌, Bool, true, false, cond, ◌&&◌, List, [], ◌∷◌, ◌++◌, String, chars, string_bytes, map, Some, None, refl, sym, ap, ◌∙◌, arith}
 use Rattle.std.proofs.Math.Utf8.{scalar, scalars}
 use Rattle.std.proofs.lemmas.Bool.{false≢true}
 use Rattle.std.proofs.lemmas.Bool.Decides.{nat_tests}
@@ -51,7 +51,7 @@ spelled_by_two c us is many =
 spelled : (c : ℕ) (us : List ℕ) → scalar c ≡ true → utf16_chars (encode_utf16 c ++ us) ≡ Some c ∷ utf16_chars us
 spelled c us is =
     elim (nat_lt c 0x1_0000) as (λ few. nat_lt c 0x1_0000 ≡ few
-        → utf16_chars (cond few (c ∷ []) ((0xD800 + (c - 0x1_0000) / 0x400) ∷ (0xDC00 + (c - 0x1_0000) % 0x400) ∷ []) ++ us) ≡ Some c ∷ utf16_chars us) [
+    → utf16_chars (cond few (c ∷ []) ((0xD800 + (c - 0x1_0000) / 0x400) ∷ (0xDC00 + (c - 0x1_0000) % 0x400) ∷ []) ++ us) ≡ Some c ∷ utf16_chars us) [
       | true ↦ λ few. spelled_by_one c us is few
       | false ↦ λ many. spelled_by_two c us is many
     ] refl
@@ -69,6 +69,6 @@ pub text_is : {Z : Type 0} (name encoded : List ℕ) (text : String Z) (is_table
     → (chars (string_bytes text), is_table) ≡ decoded_name (chars encoded) → string_bytes text ≡ text_of_key name
 text_is name encoded text is_table utf8 units decoded =
     let spelled_is : utf16_lossy_chars name ≡ chars encoded =
-        ap utf16_lossy_chars (sym units) ∙ units_spell (chars encoded) (scalars-chars encoded utf8) in
+    ap utf16_lossy_chars (sym units) ∙ units_spell (chars encoded) (scalars-chars encoded utf8) in
     sym (encodes-chars (string_bytes text) (IsUtf8-string_bytes text))
     ∙ ap encode_utf8_all (ap (λ p. p.0) decoded ∙ ap (λ cs. (decoded_name cs).0) (sym spelled_is))

@@ -24,8 +24,11 @@ bytes_ahead c = drop c.place c.bytes
 abbrev pub piece_read : Cursor → ℕ → List ℕ
 piece_read c room = take room (bytes_ahead c)
 
+abbrev pub count_read : Cursor → ℕ → ℕ
+count_read c room = length (piece_read c room)
+
 abbrev pub after_read : Cursor → ℕ → Cursor
-after_read c room = moved_to c (c.place + length (piece_read c room))
+after_read c room = moved_to c (c.place + count_read c room)
 
 -- A write puts the whole piece over the bytes from the place on and past the end, and goes behind it.
 abbrev pub bytes_written : Cursor → List ℕ → List ℕ

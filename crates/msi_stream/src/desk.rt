@@ -1,6 +1,6 @@
 //! The streams of a container, of which one may lie open.
 
-ghost use Rattle.std.specs.Prelude.{◌≡◌, [], IfOk, IfSome, None, OnErr, OnOk, true};
+ghost use Rattle.std.specs.Prelude.{◌≡◌, [], IfOk, IfSome, None, OnErr, OnOk, option_map, true};
 ghost use Rattle.std.specs.Borrow.{sem};
 ghost use Rattle.std.specs.FinMap as finite;
 ghost use Rattle.std.specs.Option.{option_copied};
@@ -11,6 +11,7 @@ ghost use Rattle.msi_stream.specs.DeskLending.{LendsOpen, LendsSettled, LendsThe
 ghost use Rattle.msi_stream.specs.Listing.{listed_names};
 
 use crate::names::Streams;
+use crate::reader::StreamReader;
 use crate::writer::{OpenStream, StreamWriter};
 use msi_compound::contents::{Bytes, StreamMap};
 use msi_compound::name::Name;
@@ -19,8 +20,8 @@ use std::alloc::Global;
 use std::marker::Model;
 use std::mem;
 
-/// Streams, of which the one that was last written may lie open. It stands beside the others, so that whoever borrows it
-/// for writing can leave any bytes in it; it is put back by the next call that needs it there, which takes no memory. A
+/// Streams, of which the one that was last written may lie open. It stands beside the others, so that whoever borrows
+/// it for writing can leave any bytes in it; the next call that needs it there puts it back, which takes no memory. A
 /// contract sees the streams with that one in its place.
 #[derive(Drop)]
 pub struct Desk {
@@ -47,12 +48,7 @@ impl Model for Desk {
 }
 
 /// Puts the open stream's bytes where they belong, which takes no memory.
-fn settle(
-    alloc: Global,
-    streams: &mut StreamMap,
-    name: &mut Option<Name>,
-    current: &mut OpenStream,
-)
+fn settle(alloc: Global, streams: &mut StreamMap, name: &mut Option<Name>, current: &mut OpenStream)
     requires { IfSome name.old (λ n. finite.contains_key streams.old n ≡ true) }
     ensures streams { streams.new ≡ settled streams.old name.old current.old.bytes }
     ensures name { name.new ≡ None }
@@ -114,8 +110,8 @@ impl Desk {
         Ok(())
     }
 
-    /// Empties a stream that is there, and lends it for writing from its first byte on. It takes no memory: who has more
-    /// to do once a stream is made, as [`Desk::write_stream`] makes it, does that before it is lent.
+    /// Empties a stream that is there, and lends it for writing from its first byte on. It takes no memory, so a caller
+    /// that has something to note once the stream is made calls [`Desk::make_stream`], notes it, and then calls this.
     pub fn open_stream(&mut self, name: Name) -> StreamWriter<'_>
         requires { finite.contains_key self.old name ≡ true }
         ensures* writes_back { sem 𝓛 (LendsThere name self.entry result) }
@@ -146,6 +142,14 @@ impl Desk {
             }
             None => bytes_of(&self.streams, name),
         }
+    }
+
+    /// A reader of the stream of a name at its first byte, if there is one. It takes no memory.
+    pub fn read_stream(&self, name: &Name) -> Option<StreamReader<'_>>
+        ensures { result ≡ option_map at_start (finite.get self.now name.now) }
+    {
+        let bytes = self.get(name)?;
+        Some(StreamReader::new(bytes))
     }
 
     /// Whether there is a stream of a name. It takes no memory.

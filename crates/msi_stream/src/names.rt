@@ -20,8 +20,8 @@ use std::marker::Model;
 /// In front of a container's name: the stream holds a table.
 const TABLE_MARK: u16 = 0x4840;
 
-/// The names of a package's streams, in the container's order: of those that hold no table, summary or signature. After a
-/// growth that was refused none is left. A contract sees the names that are left.
+/// The names of a package's streams, in the container's order: of those that hold no table, summary or signature. After
+/// a growth that was refused none is left. A contract sees the names that are left.
 #[derive(Drop)]
 pub struct Streams<'a> {
     alloc: Global,

@@ -4,7 +4,7 @@ ghost use Rattle.std.specs.Prelude.{◌≡◌, Ok, Some, length, take, drop};
 ghost use Rattle.std.specs.Io.{ReadsAtMost};
 ghost use Rattle.std.specs.Io.KnownBytes.{Keeps, ReadConsumes};
 ghost use Rattle.std.specs.Io.Seek.{SeekMoves};
-ghost use Rattle.msi_stream.specs.Cursor.{after_read, at_start, bytes_ahead, piece_read, sought};
+ghost use Rattle.msi_stream.specs.Cursor.{after_read, at_start, bytes_ahead, count_read, piece_read, sought};
 ghost use Rattle.msi_stream.specs.Refusals.{told};
 
 use crate::seeking::seek_place;
@@ -49,9 +49,9 @@ impl Read for StreamReader<'_> {
     fn read(&mut self, buf: &mut [u8]) -> io::Result<usize>
         ensures bound { ReadsAtMost result buf.new }
         ensures bytes { ReadConsumes (Some (bytes_ahead self.old)) (Some (bytes_ahead self.new)) result buf.new }
-        ensures count { result ≡ Ok (length (piece_read self.old (length buf.old))) }
-        ensures piece { let piece = piece_read self.old (length buf.old) in take (length piece) buf.new ≡ piece }
-        ensures rest { let piece = piece_read self.old (length buf.old) in drop (length piece) buf.new ≡ drop (length piece) buf.old }
+        ensures count { result ≡ Ok (count_read self.old (length buf.old)) }
+        ensures piece { take (count_read self.old (length buf.old)) buf.new ≡ piece_read self.old (length buf.old) }
+        ensures rest { let count = count_read self.old (length buf.old) in drop count buf.new ≡ drop count buf.old }
         ensures after { self.new ≡ after_read self.old (length buf.old) }
     {
         let ahead = &self.bytes[self.place..];

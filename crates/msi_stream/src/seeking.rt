@@ -23,9 +23,6 @@ pub(crate) fn seek_place(bytes: &[u8], place: usize, to: SeekFrom) -> io::Result
     };
     match base.checked_add_signed(offset) {
         Some(place) if place <= bytes.len() as u64 => Ok(place),
-        _ => Err(io::Error::new(
-            io::ErrorKind::InvalidInput,
-            reasons::OUTSIDE,
-        )),
+        _ => Err(io::Error::new(io::ErrorKind::InvalidInput, reasons::OUTSIDE)),
     }
 }

@@ -153,17 +153,62 @@ const LIVES: [Life; 6] = [
     ),
 ];
 
+/// Asserts that each step goes as it says.
+fn assert_steps(
+    rt: &impl Abort,
+    alloc: Global,
+    pool: &mut StringPool,
+    steps: &[Step],
+) -> Result<(), Error> {
+    for step in steps {
+        assert!(rt; goes(alloc, pool, *step)?, "{step:?}");
+    }
+    Ok(())
+}
+
+/// The pool that two streams hold, once these steps are gone.
+fn pool_after(
+    rt: &impl Abort,
+    alloc: Global,
+    start: Streams,
+    steps: &[Step],
+) -> Result<StringPool, Error> {
+    let mut pool = pool_in(alloc, start)?;
+    assert_steps(rt, alloc, &mut pool, steps)?;
+    Ok(pool)
+}
+
+/// Asserts that a pool that was made has these places, and is written as these streams.
+fn assert_made(
+    rt: &impl Abort,
+    alloc: Global,
+    pool: Result<StringPool, Error>,
+    places: &[(&str, u16)],
+    streams: Streams,
+) -> Result<(), Error> {
+    assert_pool(rt, alloc, &pool?, places, streams)
+}
+
+/// Asserts the same of a pool and of its clone.
+fn assert_both_made(
+    rt: &impl Abort,
+    alloc: Global,
+    pool: Result<StringPool, Error>,
+    places: &[(&str, u16)],
+    streams: Streams,
+) -> Result<(), Error> {
+    let pool = pool?;
+    assert_made(rt, alloc, pool.clone(), places, streams)?;
+    assert_pool(rt, alloc, &pool, places, streams)
+}
+
 #[test]
 fn texts_take_the_first_place_that_fits(rt: HostRuntime) -> Result<(), Fail> {
     let alloc = rt.alloc();
-    for (start, steps, places, end) in LIVES {
-        let mut pool = pool_in(alloc, start)?;
-        for step in steps {
-            assert!(rt; goes(alloc, &mut pool, *step)?, "{step:?}");
-        }
-        assert_pool(&rt, alloc, &pool, places, end)?;
-        assert_pool(&rt, alloc, &pool.clone()?, places, end)?;
-        assert_pool(&rt, alloc, &pool_in(alloc, end)?, places, end)?;
+    for (start, steps, places, end) in &LIVES {
+        let pool = pool_after(&rt, alloc, *start, *steps);
+        assert_both_made(&rt, alloc, pool, *places, *end)?;
+        assert_made(&rt, alloc, pool_in(alloc, *end), *places, *end)?;
     }
     Ok(())
 }

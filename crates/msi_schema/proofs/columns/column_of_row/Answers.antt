@@ -1,4 +1,4 @@
-use Rattle.std.proofs.Common.{◌≡◌, ◌∙◌, [], ℕ, List, Option, ap, subst, option_map}
+use Rattle.std.proofs.Common.{◌∙◌, [], ℕ, List, Option, ap, subst, option_map}
 use Rattle.msi_text.specs.Results.{Gives}
 use Rattle.msi_table.specs.Columns.{ColumnDef, begun_column, column_of_bits}
 use Rattle.msi_schema.specs.RowOrders.{describing}

@@ -1,4 +1,4 @@
-use Rattle.std.proofs.Common.{◌≡◌, ◌∙◌, List, Option, ap, option_and_then, subst, sym}
+use Rattle.std.proofs.Common.{◌∙◌, List, Option, ap, option_and_then, subst, sym}
 use Rattle.msi_text.specs.Results.{Gives}
 use Rattle.msi_table.specs.declared.value.Value.{Value}
 use Rattle.msi_schema.specs.RowOrders.{describing}

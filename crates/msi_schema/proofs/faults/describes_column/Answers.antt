@@ -1,4 +1,4 @@
-use Rattle.std.proofs.Common.{◌≡◌, ◌&&◌, ◌∙◌, [], List, ℕ, ap, sym, find, bytes_eq, is_some}
+use Rattle.std.proofs.Common.{◌&&◌, ◌∙◌, [], ap, sym, find, bytes_eq, is_some}
 use Rattle.msi_schema.specs.RowOrders.{listing}
 use Rattle.msi_schema.specs.Schema.{is_about, text_at}
 use Rattle.msi_schema.proofs.FaultLemmas.{copied_some, described_told, none_described}

@@ -1,6 +1,5 @@
-use Rattle.std.proofs.Common.{◌≡◌, ◌+◌, ◌∙◌, rules, of_calls, sym, ap, arith, length, filter, ℕ, List}
+use Rattle.std.proofs.Common.{◌≡◌, ◌+◌, ◌∙◌, rules, of_calls, sym, arith, length, filter}
 use Rattle.std.proofs.lemmas.List.Sorted.{IsPartitionPoint-from_clause}
-use Rattle.std.specs.List.Sorted.{IsPartitionedBy}
 use Rattle.std.specs.Ordering.{is_eq, is_le, is_lt}
 use Rattle.msi_text.specs.Lists.{list_cmp}
 use Rattle.msi_schema.specs.Schema.{is_about, text_at}

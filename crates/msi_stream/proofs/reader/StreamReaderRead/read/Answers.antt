@@ -11,8 +11,9 @@ returns-clause-bytes c =
     let n = c.min-count.result in
     let buf = c.args.buf.now in
     let piece : c.copy_from_slice.new.self ≡ take n (drop place bytes) = c.copy_from_slice.ensures.after ∙ ap (take n) (take_rest bytes place) in
-    let count : n ≡ min (length buf) (length (drop place bytes)) = c.min-count.ensures ∙ ap (λ xs. min (length buf) (length xs)) (take_rest bytes place) in
-    (ap bytes_ahead (sym c.self.view_is)
-    ∙ taken_from_ahead bytes (drop n buf) place n (omega (arith, count, length-take n (drop place bytes)))
-    ∙ ap (λ xs. take n (xs ++ drop n buf) ++ drop (place + n) bytes) (sym piece),
-    λ none room. none_ahead bytes buf buf place n count none (subst (λ xs. 0 < length (xs ++ drop n buf)) piece room))
+    let count : n ≡ min (length buf) (length (drop place bytes)) = c.min-count.ensures ∙ ap (λ xs. min (length buf) (length xs)) (take_rest bytes place) in (
+      ap bytes_ahead (sym c.self.view_is)
+          ∙ taken_from_ahead bytes (drop n buf) place n (omega (arith, count, length-take n (drop place bytes)))
+          ∙ ap (λ xs. take n (xs ++ drop n buf) ++ drop (place + n) bytes) (sym piece),
+      λ none room. none_ahead bytes buf buf place n count none (subst (λ xs. 0 < length (xs ++ drop n buf)) piece room),
+    )
