@@ -1,0 +1,11 @@
+//! Calls on a package as values, carried out in turn.
+#![tactic(auto)]
+
+pub mod answer;
+pub mod call;
+mod stream;
+mod summary;
+
+pub use answer::{Answer, StreamAnswer, SummaryAnswer};
+pub use call::{Call, Change, Clearing, LookUp, ReaderCall, Setting, SummaryCall, SummaryQuestion, WriterCall};
+pub use call::{NumberProperty, TextProperty, TimeProperty};
