@@ -8,3 +8,5 @@ pub mod Steps
 pub mod Runs
 pub mod Whole
 pub mod Laws
+pub mod Selected
+pub mod Lending

@@ -1,14 +1,15 @@
 //! Packages over a source or a device.
 
-ghost use Rattle.std.specs.Prelude.{◌≡◌, IfErr, IfOk, IfSome, None, Ok};
+ghost use Rattle.std.specs.Prelude.{◌≡◌, IfErr, IfOk, IfSome, None, OnOk, Some};
+ghost use Rattle.std.specs.Borrow.{sem};
 ghost use Rattle.std.specs.Option.{option_copied};
-ghost use Rattle.msi_table.specs.Rows.{AreAsWide};
-ghost use Rattle.msi_relation.specs.Refusals.{IsRefusal, unless_refused};
-ghost use Rattle.msi_relation.specs.Rows.{relation_values};
+ghost use Rattle.msi_relation.specs.Refusals.{IsRefusal, first_refusal, unless_refused};
 ghost use Rattle.msi_relation.specs.Selection.{relation_of};
 ghost use Rattle.msi_changes.specs.Database.{has_table as has_one, values_of};
 ghost use Rattle.msi_database.specs.Keeping.{IsKeptDatabase};
 ghost use Rattle.msi_database.specs.Listed.{table_def_at, tables_listed};
+ghost use Rattle.msi.specs.Lending.{LendsSummary};
+ghost use Rattle.msi.specs.Selected.{Selects};
 ghost use Rattle.msi.specs.State.{parts_of};
 ghost use Rattle.msi.specs.Steps.{storage_refusal};
 ghost use Rattle.msi.specs.Whole.{IsOpen, with_open};
@@ -19,10 +20,9 @@ use msi_compound::name::Name;
 use msi_database::Database;
 use msi_device::Source;
 use msi_query::Select;
-use msi_relation::Relation;
 use msi_stream::OpenStream;
 use msi_summary::SummaryInfo;
-use msi_table::Table;
+use msi_table::{Rows, Table};
 use msi_text::codepage::CodePage;
 use msi_text::errors::{Error, ErrorKind};
 use std::alloc::Global;
@@ -121,20 +121,35 @@ impl<F: Source> Package<F> {
         &self.summary
     }
 
-    /// What a query selects.
+    /// The summary, to be changed: what is left in it is the summary, and a `flush` writes it. It takes no memory.
+    ///
+    /// # Errors
+    /// `InvalidInput` with storages below the root; then nothing is changed.
+    pub fn summary_info_mut(&mut self) -> Result<&mut SummaryInfo, Error>
+        ensures* writes_back { sem 𝓛 (LendsSummary F.row F.Source self.entry result) }
+        ensures value { IfOk result (λ summary. summary.now ≡ self.old.state.summary) }
+        ensures accepted { OnOk result (first_refusal (storage_refusal (parts_of self.old.state)) ≡ None) }
+        ensures kind { IfErr result (λ kind. first_refusal (storage_refusal (parts_of self.old.state)) ≡ Some kind) }
+    {
+        self.check_storages()?;
+        self.is_summary_lent = true;
+        self.is_unwritten = true;
+        Ok(&mut self.summary)
+    }
+
+    /// The rows that a query selects.
     ///
     /// # Errors
     /// The first that holds, for a join those of the left query, then those of the right: `NotFound` where a table
     /// isn't there, `InvalidData` where it can't be read; then `InvalidInput` where a column isn't there, in a join's
     /// condition, then one that is to be kept, then in the condition. Where none holds, `OutOfMemory`, which also may
     /// come before.
-    pub fn select(&self, query: &Select) -> Result<Relation, Error>
-        ensures ok { IfOk result (λ relation. relation_of (values_of self.now.state.kept.database) query.now
-            ≡ Ok (relation_values self.now.state.kept.database.pool.places relation)) }
-        ensures wide { IfOk result (λ relation. AreAsWide relation.columns relation.rows) }
-        ensures kind { IfErr result (IsRefusal (relation_of (values_of self.now.state.kept.database) query.now)) }
+    pub fn select_rows(&self, query: Select) -> Result<Rows<'_>, Error>
+        ensures ok { IfOk result (Selects (relation_of (values_of self.now.state.kept.database) query)) }
+        ensures kind { IfErr result (IsRefusal (relation_of (values_of self.now.state.kept.database) query)) }
     {
-        self.database.select(self.alloc, query)
+        let relation = self.database.select(self.alloc, &query)?;
+        relation.into_rows(self.alloc, self.database.pool())
     }
 
     /// Refuses a change of a package with storages below its root.

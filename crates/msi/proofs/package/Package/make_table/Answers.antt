@@ -1,7 +1,22 @@
-use Rattle.msi.proofs.ChangeLemmas.{after_create}
+use Rattle.msi_changes.specs.Create.{create_table}
+use Rattle.msi_changes.specs.Database.{Database}
+use Rattle.msi_database.proofs.AnswerLemmas.{err_passed}
+use Rattle.msi.proofs.ChangeLemmas.{after_create, change_left, change_refused}
 use Rattle.msi.proofs.package.Package.make_table.Goals as goal
 
 pub invariant_of-self-2 : goal.invariant_of-self-2
 invariant_of-self-2 g c =
     after_create c.settle.new.database c.create_table.new.self c.settle.new.name _ c.settle.ensures.taken c.settle.ensures.kept
     c.args.name.now c.args.columns c.in_ok-is_pool_used.ensures.ok
+
+pub returns-in_err-is_pool_used-clause-kind : goal.returns-in_err-is_pool_used-clause-kind
+returns-in_err-is_pool_used-clause-kind g c =
+    err_passed c.from_residual-in_err-is_pool_used.result c.in_err-is_pool_used.field-0.0 _ c.from_residual-in_err-is_pool_used.ensures.1
+    (change_refused _ c.args.self.now c.self.view_is (λ (d : Database). create_table d c.args.name.now c.args.columns)
+    c.in_ok-check_storages.ensures c.settle.new.database _ c.settle.ensures.database c.in_err-is_pool_used.ensures.kind)
+
+pub returns-clause-ok : goal.returns-clause-ok
+returns-clause-ok g c =
+    change_left _ c.args.self.now c.self.view_is (λ (d : Database). create_table d c.args.name.now c.args.columns) c.in_ok-check_storages.ensures
+    c.settle.new.database c.create_table.new.self c.settle.new.name c.settle.new.current.bytes c.in_ok-is_pool_used.is_pool_used
+    c.settle.ensures.database c.settle.ensures.taken c.in_ok-is_pool_used.ensures.ok c.in_ok-is_pool_used.ensures.used
