@@ -1,3 +1,6 @@
 -- The lemmas of this crate.
 pub mod RunningLemmas
+pub mod RunLemmas
 pub mod StreamLemmas
+pub mod SummaryLemmas
+pub mod TakenLemmas

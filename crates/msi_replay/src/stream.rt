@@ -82,14 +82,14 @@ fn carry_out_on_reader(
 pub(crate) fn read_all(
     alloc: Global,
     reader: &mut StreamReader<'_>,
-    calls: Items<ReaderCall>,
+    steps: Items<ReaderCall>,
 ) -> Result<Items<Result<StreamAnswer, ErrorKind>>, Error>
     ensures ok { IfOk result (λ answers. RunsTo reader_outcome reader_wants_memory (lent_cursor reader.old)
-        (map reader_call_sent calls) (map (told stream_answer) answers) (lent_cursor reader.new)) }
+        (map reader_call_sent steps) (map (told stream_answer) answers) (lent_cursor reader.new)) }
     ensures kind { OnlyMemory result }
 {
     let mut answers = Vec::new(alloc);
-    for call in calls.into_vec() {
+    for call in steps.into_vec() {
         answers.push(carry_out_on_reader(alloc, reader, call)?)?;
     }
     Ok(Items::from_vec(answers))
@@ -149,14 +149,14 @@ fn carry_out_on_writer(
 pub(crate) fn write_all(
     alloc: Global,
     writer: StreamWriter<'_>,
-    calls: Items<WriterCall>,
+    steps: Items<WriterCall>,
 ) -> Result<Items<Result<StreamAnswer, ErrorKind>>, Error>
     ensures ok { IfOk result (λ answers. RunsTo writer_outcome writer_wants_memory (lent_cursor writer.old)
-        (map writer_call_sent calls) (map (told stream_answer) answers) (lent_cursor writer.new)) }
+        (map writer_call_sent steps) (map (told stream_answer) answers) (lent_cursor writer.new)) }
     ensures kind { OnlyMemory result }
 {
     let mut answers = Vec::new(alloc);
-    for call in calls.into_vec() {
+    for call in steps.into_vec() {
         answers.push(carry_out_on_writer(writer, call))?;
     }
     Ok(Items::from_vec(answers))

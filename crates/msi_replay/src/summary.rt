@@ -1,6 +1,6 @@
 //! Calls on a summary, carried out in turn.
 
-ghost use Rattle.std.specs.Prelude.{◌≡◌, Err, IfErr, IfOk, IsTrue, Ok, OnErr, OnOk, map};
+ghost use Rattle.std.specs.Prelude.{◌≡◌, IfErr, IfOk, IsTrue, OnErr, OnOk, map};
 ghost use Rattle.std.specs.Int.{w32};
 ghost use Rattle.std.specs.Int.RustNames.{FitsSigned};
 ghost use Rattle.std.specs.List.{AllByRecursion};
@@ -78,7 +78,29 @@ fn copied(alloc: Global, text: Option<&str>) -> Result<Option<Text>, Error>
     }
 }
 
-/// What a summary answers, where it takes no memory of its own.
+/// The languages of a summary.
+fn languages(summary: &SummaryInfo) -> Result<SummaryAnswer, ErrorKind>
+    ensures ok { IfOk result (λ said. summary_answer said ≡ said_of summary.now calls.languages) }
+    ensures kind { OnlyMemory result }
+{
+    match summary.languages() {
+        Ok(languages) => Ok(SummaryAnswer::Languages(Items::from_vec(languages))),
+        Err(error) => Err(error.kind()),
+    }
+}
+
+/// The keywords of a summary.
+fn keywords(summary: &SummaryInfo) -> Result<SummaryAnswer, ErrorKind>
+    ensures ok { IfOk result (λ said. summary_answer said ≡ said_of summary.now calls.keywords) }
+    ensures kind { OnlyMemory result }
+{
+    match summary.keywords() {
+        Ok(keywords) => Ok(SummaryAnswer::Keywords(Items::from_vec(keywords))),
+        Err(error) => Err(error.kind()),
+    }
+}
+
+/// What a summary answers.
 ///
 /// # Errors
 /// `OutOfMemory` where the answer can't be copied.
@@ -93,25 +115,24 @@ fn said(
         IsTrue (question_wants_memory (question_sent question)) × (kind ≡ OutOfMemory))) }
     ensures kind { OnlyMemory result }
 {
-    let said = match question {
+    match question {
         SummaryQuestion::Text(property) => {
-            SummaryAnswer::Text(copied(alloc, text(summary, property))?)
+            let text = copied(alloc, text(summary, property))?;
+            Ok(Ok(SummaryAnswer::Text(text)))
         }
-        SummaryQuestion::Number(property) => SummaryAnswer::Number(number(summary, property)),
-        SummaryQuestion::Time(property) => SummaryAnswer::Time(time(summary, property)),
-        SummaryQuestion::Arch => SummaryAnswer::Text(copied(alloc, summary.arch())?),
-        SummaryQuestion::Languages => match summary.languages() {
-            Ok(languages) => SummaryAnswer::Languages(Items::from_vec(languages)),
-            Err(error) => return Ok(Err(error.kind())),
-        },
-        SummaryQuestion::Keywords => match summary.keywords() {
-            Ok(keywords) => SummaryAnswer::Keywords(Items::from_vec(keywords)),
-            Err(error) => return Ok(Err(error.kind())),
-        },
-        SummaryQuestion::Uuid => SummaryAnswer::Uuid(summary.uuid()),
-        SummaryQuestion::Codepage => SummaryAnswer::Codepage(summary.codepage()),
-    };
-    Ok(Ok(said))
+        SummaryQuestion::Number(property) => {
+            Ok(Ok(SummaryAnswer::Number(number(summary, property))))
+        }
+        SummaryQuestion::Time(property) => Ok(Ok(SummaryAnswer::Time(time(summary, property)))),
+        SummaryQuestion::Arch => {
+            let arch = copied(alloc, summary.arch())?;
+            Ok(Ok(SummaryAnswer::Text(arch)))
+        }
+        SummaryQuestion::Languages => Ok(languages(summary)),
+        SummaryQuestion::Keywords => Ok(keywords(summary)),
+        SummaryQuestion::Uuid => Ok(Ok(SummaryAnswer::Uuid(summary.uuid()))),
+        SummaryQuestion::Codepage => Ok(Ok(SummaryAnswer::Codepage(summary.codepage()))),
+    }
 }
 
 /// Asks a summary.
@@ -262,21 +283,31 @@ fn clear(summary: &mut SummaryInfo, clearing: Clearing) -> Result<(), Error>
     ensures err { OnErr result (summary.new ≡ summary.old) }
 {
     match clearing {
-        Clearing::Text(property) => clear_text(summary, property),
-        Clearing::Number(property) => clear_number(summary, property),
-        Clearing::Time(property) => clear_time(summary, property),
-        Clearing::Arch => return summary.clear_arch(),
-        Clearing::Languages => return summary.clear_languages(),
-        Clearing::Keywords => return summary.clear_keywords(),
-        Clearing::Uuid => summary.clear_uuid(),
+        Clearing::Text(property) => {
+            clear_text(summary, property);
+            Ok(())
+        }
+        Clearing::Number(property) => {
+            clear_number(summary, property);
+            Ok(())
+        }
+        Clearing::Time(property) => {
+            clear_time(summary, property);
+            Ok(())
+        }
+        Clearing::Arch => summary.clear_arch(),
+        Clearing::Languages => summary.clear_languages(),
+        Clearing::Keywords => summary.clear_keywords(),
+        Clearing::Uuid => {
+            summary.clear_uuid();
+            Ok(())
+        }
     }
-    Ok(())
 }
 
 /// What a change answers.
 fn done(outcome: Result<(), Error>) -> Result<SummaryAnswer, ErrorKind>
-    ensures ok { OnOk outcome (told summary_answer result ≡ Ok calls.done) }
-    ensures err { IfErr outcome (λ kind. told summary_answer result ≡ Err kind) }
+    ensures { told summary_answer result ≡ told (λ _. calls.done) outcome }
 {
     match outcome {
         Ok(()) => Ok(SummaryAnswer::Done),
@@ -333,15 +364,15 @@ pub(crate) fn ask_all(
 pub(crate) fn carry_out_all(
     alloc: Global,
     summary: &mut SummaryInfo,
-    calls: Items<SummaryCall>,
+    steps: Items<SummaryCall>,
 ) -> Result<Items<Result<SummaryAnswer, ErrorKind>>, Error>
     ensures ok { IfOk result (λ answers. RunsTo summary_outcome summary_wants_memory summary.old
-        (map summary_call_sent calls) (map (told summary_answer) answers) summary.new) }
-    ensures fits { OnOk result (AllByRecursion FitsSummaryCall (map summary_call_sent calls)) }
+        (map summary_call_sent steps) (map (told summary_answer) answers) summary.new) }
+    ensures fits { OnOk result (AllByRecursion FitsSummaryCall (map summary_call_sent steps)) }
     ensures kind { OnlyMemory result }
 {
     let mut answers = Vec::new(alloc);
-    for call in calls.into_vec() {
+    for call in steps.into_vec() {
         answers.push(carry_out(alloc, summary, call)?)?;
     }
     Ok(Items::from_vec(answers))
