@@ -1,6 +1,7 @@
 -- Calls one after another: one more call at the end.
 use Rattle.std.proofs.Common.{◌≡◌, Bool, List, [], ◌∷◌, ◌++◌, map, Result, refl, sym, subst}
 use Rattle.std.proofs.lemmas.List.{map-append}
+use Rattle.std.specs.List.{AllByRecursion}
 use Rattle.msi_text.specs.ErrorKind.{ErrorKind}
 use Rattle.msi.specs.Lent.{Gives, RunsTo}
 use Rattle.msi_replay.specs.Told.{told}
@@ -27,3 +28,9 @@ module _ {S C A : Type 0} (outcome : S → C → Result A ErrorKind × S) (wants
         (subst (λ (answers : List (Result A ErrorKind)). RunsTo outcome wants old (map sent xs ++ sent x ∷ []) answers new)
         (sym (map-append (told view) ys (y ∷ [])))
         (runs_then old mid new (map sent xs) (sent x) (map (told view) ys) (told view y) runs gives))
+
+-- what holds of each call sent, and of one more
+pub all_with : {X C : Type 0} (P : C → Type 0) (sent : X → C) (xs : List X) (x : X) → AllByRecursion P (map sent xs) → P (sent x)
+    → AllByRecursion P (map sent (xs ++ x ∷ []))
+all_with P sent [] x all p = (p, tt)
+all_with P sent (y ∷ ys) x all p = (all.0, all_with P sent ys x all.1 p)

@@ -3,6 +3,8 @@
 
 pub mod answer;
 pub mod call;
+mod changing;
+mod looking;
 mod stream;
 mod summary;
 

@@ -26,7 +26,7 @@ use std::alloc::Global;
 /// # Errors
 /// `OutOfMemory`.
 fn copied_table(alloc: Global, table: Option<&Table>) -> Result<Option<Table>, Error>
-    ensures ok { IfOk result (λ copy. copy ≡ option_copied table) }
+    ensures ok { IfOk result (λ copy. copy ≡ option_copied table.entry) }
     ensures kind { OnlyMemory result }
 {
     match table {
@@ -70,7 +70,7 @@ fn copied_columns(alloc: Global, columns: &[Column]) -> Result<Items<Column>, Er
 /// # Errors
 /// `OutOfMemory`.
 fn all_rows(alloc: Global, rows: Rows<'_>) -> Result<Items<Row>, Error>
-    ensures ok { IfOk result (λ all. map (λ (row : RowDef). row.values) all ≡ rows_values rows.places rows.rows) }
+    ensures ok { IfOk result (λ all. map (λ (row : RowDef). row.values) all ≡ rows_values rows.entry.places rows.entry.rows) }
     ensures kind { OnlyMemory result }
 {
     let mut all = Vec::new(alloc);

@@ -69,7 +69,7 @@ fn time(summary: &SummaryInfo, property: TimeProperty) -> Option<Timestamp>
 /// # Errors
 /// `OutOfMemory`.
 fn copied(alloc: Global, text: Option<&str>) -> Result<Option<Text>, Error>
-    ensures ok { IfOk result (λ copy. copy ≡ option_copied text) }
+    ensures ok { IfOk result (λ copy. copy ≡ option_copied text.entry) }
     ensures kind { OnlyMemory result }
 {
     match text {
