@@ -1,12 +1,12 @@
 -- Calls on a package one after another are a run.
 use Rattle.std.proofs.Common.{◌≡◌, ℕ, Bool, true, false, List, [], ◌∷◌, ◌++◌, map, length, Option, Some, None, Result, Ok, Err, refl, sym, ap, subst, ◌∙◌}
 use Rattle.std.proofs.lemmas.List.{map-append}
-use Rattle.std.specs.Prelude.{is_some, unwrap_or}
+use Rattle.std.specs.Prelude.{IfOk, OnOk, is_some, unwrap_or}
 use Rattle.msi_text.specs.ErrorKind.{ErrorKind}
 use Rattle.msi_device.specs.Held.{Held, bytes_told}
 use Rattle.msi.specs.Calls.{Call, Answer}
 use Rattle.msi.specs.Calls as calls
-use Rattle.msi.specs.Runs.{Run, Session, SessionStep}
+use Rattle.msi.specs.Runs.{FitsCall, Run, Session, SessionStep}
 use Rattle.msi.specs.Whole.{Whole}
 use Rattle.msi.proofs.CallLemmas.{asks_device, session_is}
 use Rattle.msi.proofs.LeavingLemmas.{is_flush}
@@ -40,3 +40,23 @@ session_takes old new call a f d t =
 
 pub tells_still : (old new : Whole) → new.held ≡ old.held → Tells old → Tells new
 tells_still old new e tells = ap (λ (h : Option Held). is_some (bytes_told h)) e ∙ tells
+
+-- what calls no device, as functions answer
+pub record IsQuiet (call : Call) : Type 0 where
+  pub unflushed : is_flush call ≡ false
+  pub alone : asks_device call ≡ false
+  pub fits : FitsCall call
+
+module _ {Y : Type 0} (view : Y → Answer) (old new : Whole) (call : Call) (quiet : IsQuiet call) (tells : Tells old) where
+  pub quiet_step : (r : Result (Result Y ErrorKind) ErrorKind) → IfOk r (λ a. Takes old call (told view a) new)
+      → IfOk r (λ a. SessionStep (session_at old) call (told view a) (session_at new))
+  quiet_step (Ok a) t = session_takes old new call (told view a) quiet.unflushed quiet.alone t
+  quiet_step (Err kind) t = tt
+
+  pub quiet_fits : (r : Result (Result Y ErrorKind) ErrorKind) → OnOk r (FitsCall call)
+  quiet_fits (Ok a) = quiet.fits
+  quiet_fits (Err kind) = tt
+
+  pub quiet_tells : (r : Result (Result Y ErrorKind) ErrorKind) → IfOk r (λ a. Takes old call (told view a) new) → OnOk r (Tells new)
+  quiet_tells (Ok a) t = tells_still old new t.held tells
+  quiet_tells (Err kind) t = tt

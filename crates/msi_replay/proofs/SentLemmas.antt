@@ -1,19 +1,11 @@
 -- Which calls call no device, and whose numbers and names fit.
-use Rattle.std.proofs.Common.{◌≡◌, false, refl}
-use Rattle.msi.specs.Calls.{Call}
-use Rattle.msi.specs.Runs.{FitsCall}
-use Rattle.msi.proofs.CallLemmas.{asks_device}
-use Rattle.msi.proofs.LeavingLemmas.{is_flush}
+use Rattle.std.proofs.Common.{refl}
 use Rattle.msi_replay.specs.declared.call.LookUp.{LookUp}
 use Rattle.msi_replay.specs.declared.call.LookUp.TheVariants as look
 use Rattle.msi_replay.specs.declared.call.Change.{Change}
 use Rattle.msi_replay.specs.declared.call.Change.TheVariants as change
 use Rattle.msi_replay.specs.Sent.{change_sent, look_up_sent}
-
-pub record IsQuiet (call : Call) : Type 0 where
-  pub unflushed : is_flush call ≡ false
-  pub alone : asks_device call ≡ false
-  pub fits : FitsCall call
+use Rattle.msi_replay.proofs.RunLemmas.{IsQuiet}
 
 pub look_up_quiet : (q : LookUp) → IsQuiet (look_up_sent q)
 look_up_quiet look.PackageType = record { unflushed = refl; alone = refl; fits = tt }

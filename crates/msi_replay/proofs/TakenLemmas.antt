@@ -24,6 +24,11 @@ pub looked : (w : Whole) (call : Call) (answer : Answer) → is_lending call ≡
     → ((n : ℕ) → outcome n w.state call ≡ (Ok answer, w.state)) → Takes w call (Ok answer) w
 looked w call answer plain is = record { step = λ n. step_is n w.state call (Ok answer) w.state plain (is n); held = refl; failed = refl }
 
+pub looked_as : {A : Type 0} (w : Whole) (call : Call) (say : A → Answer) (x : A) → is_lending call ≡ false
+    → ((n : ℕ) → outcome n w.state call ≡ (Ok (say x), w.state)) → (y : A) → y ≡ x → Takes w call (Ok (say y)) w
+looked_as w call say x plain is y same =
+    subst (λ (a : Answer). Takes w call (Ok a) w) (ap say (sym same)) (looked w call (say x) plain is)
+
 -- CHANGING
 
 module _ (old new : Whole) (call : Call) (plain : is_lending call ≡ false) where

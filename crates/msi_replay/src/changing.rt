@@ -1,6 +1,6 @@
 //! Calls that change a package.
 
-ghost use Rattle.std.specs.Prelude.{◌≡◌, IfOk, map};
+ghost use Rattle.std.specs.Prelude.{◌≡◌, IfOk, OnOk, map};
 ghost use Rattle.std.specs.List.{AllByRecursion};
 ghost use Rattle.msi_text.specs.Results.{OnlyMemory};
 ghost use Rattle.msi.specs.Calls as calls;
@@ -62,7 +62,7 @@ pub(crate) fn change_summary(
 ) -> Result<Result<Answer, ErrorKind>, Error>
     ensures ok { IfOk result (λ answer. Takes target.old (calls.summary_info_mut (map summary_call_sent steps))
         (told answer_told answer) target.new) }
-    ensures fits { AllByRecursion FitsSummaryCall (map summary_call_sent steps) }
+    ensures fits { OnOk result (AllByRecursion FitsSummaryCall (map summary_call_sent steps)) }
     ensures kind { OnlyMemory result }
 {
     match target.summary_info_mut() {

@@ -1,6 +1,6 @@
 //! Calls that leave a package as it is.
 
-ghost use Rattle.std.specs.Prelude.{◌≡◌, IfOk, Ok, map};
+ghost use Rattle.std.specs.Prelude.{◌≡◌, IfOk, map};
 ghost use Rattle.std.specs.Option.{option_copied};
 ghost use Rattle.msi_text.specs.Results.{OnlyMemory};
 ghost use Rattle.msi_table.specs.Rows.{RowDef};
@@ -88,22 +88,22 @@ pub(crate) fn look_up(
     alloc: Global,
     target: &Package<Memory>,
     question: LookUp,
-) -> Result<Answer, Error>
+) -> Result<Result<Answer, ErrorKind>, Error>
     ensures ok { IfOk result (λ answer.
-        Takes target.now (look_up_sent question) (Ok (answer_told answer)) target.now) }
+        Takes target.now (look_up_sent question) (told answer_told answer) target.now) }
     ensures kind { OnlyMemory result }
 {
     match question {
-        LookUp::PackageType => Ok(Answer::Kind(target.package_type())),
-        LookUp::DatabaseCodepage => Ok(Answer::Codepage(target.database_codepage())),
-        LookUp::HasTable(name) => Ok(Answer::Flag(target.has_table(name.as_str()))),
+        LookUp::PackageType => Ok(Ok(Answer::Kind(target.package_type()))),
+        LookUp::DatabaseCodepage => Ok(Ok(Answer::Codepage(target.database_codepage()))),
+        LookUp::HasTable(name) => Ok(Ok(Answer::Flag(target.has_table(name.as_str())))),
         LookUp::GetTable(name) => {
             let table = copied_table(alloc, target.get_table(name.as_str()))?;
-            Ok(Answer::Table(table))
+            Ok(Ok(Answer::Table(table)))
         }
         LookUp::Tables => {
             let tables = copied_tables(alloc, target.tables())?;
-            Ok(Answer::Tables(tables))
+            Ok(Ok(Answer::Tables(tables)))
         }
     }
 }
@@ -139,11 +139,11 @@ pub(crate) fn ask_summary(
     alloc: Global,
     target: &Package<Memory>,
     questions: Items<SummaryQuestion>,
-) -> Result<Answer, Error>
+) -> Result<Result<Answer, ErrorKind>, Error>
     ensures ok { IfOk result (λ answer. Takes target.now (calls.summary_info (map question_sent questions))
-        (Ok (answer_told answer)) target.now) }
+        (told answer_told answer) target.now) }
     ensures kind { OnlyMemory result }
 {
     let answers = ask_all(alloc, target.summary_info(), questions)?;
-    Ok(Answer::Summary(answers))
+    Ok(Ok(Answer::Summary(answers)))
 }

@@ -11,4 +11,4 @@ returns-in_ok-answers-in-Ok-clause-ok c =
     c.in_ok-answers-in-Ok.ensures.ok refl
 
 pub returns-in-Err-clause-fits : goal.returns-in-Err-clause-fits
-returns-in-Err-clause-fits c = let h = c.type_inv in ?
+returns-in-Err-clause-fits c = let h = c.drop-steps-inside.type_inv in ?

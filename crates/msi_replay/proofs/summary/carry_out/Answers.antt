@@ -10,4 +10,4 @@ returns-in-Set-clause-ok c =
 pub returns-in-Clear-clause-ok : goal.returns-in-Clear-clause-ok
 returns-in-Clear-clause-ok c =
     rw c.in-Clear.is (clear_gives c.args.summary.now c.clear.new.summary (clearing_sent c.in-Clear.clearing) c.clear.result
-    c.clear.ensures.ok c.clear.ensures.kind c.clear.ensures.err c.done.result c.done.ensures)
+    c.clear.ensures.ok c.clear.ensures.kind c.clear.ensures.err c.done-in-Clear.result c.done-in-Clear.ensures)
