@@ -6,6 +6,11 @@ pub mod RangeRows
 pub mod KeyNameLemmas
 pub mod OpenLemmas
 pub mod ChangeLemmas
+pub mod PackedKeyLemmas
+pub mod StreamCallLemmas
+pub mod StreamNameLemmas
+pub mod StreamRefusalLemmas
+pub mod StreamWriteLemmas
 pub mod OtherStreamLemmas
 pub mod SummarySetLemmas
 pub mod AgreementLemmas
@@ -30,3 +35,9 @@ pub mod LawLemmas
 pub mod StreamAnswerLemmas
 pub mod CallLemmas
 pub mod DeviceLemmas
+pub mod RenewedLemmas
+pub mod OverwritingLemmas
+pub mod FlushStepLemmas
+pub mod OpenStepLemmas
+pub mod CreatingLemmas
+pub mod ImagingLemmas

@@ -10,3 +10,5 @@ pub mod Whole
 pub mod Laws
 pub mod Selected
 pub mod Lending
+pub mod Flushing
+pub mod Opening

@@ -2,10 +2,16 @@
 #![tactic(auto)]
 
 pub mod changes;
+mod creating;
+mod flushing;
+mod imaging;
+mod keys;
 pub mod kinds;
 pub mod laws;
+mod opening;
 pub mod package;
 mod reasons;
+pub mod streams;
 
 pub use kinds::PackageType;
 pub use package::Package;

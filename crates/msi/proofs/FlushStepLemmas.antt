@@ -1,0 +1,176 @@
+-- A flush is a step of its package, and of a session whose device tells its bytes.
+use Rattle.std.proofs.Common.{◌≡◌, ℕ, Bool, true, false, List, [], ◌∷◌, length, Option, Some, None, Result, Ok, Err, refl, sym, ap, subst, ◌∙◌, inl, inr, ◌⊎◌}
+use Rattle.std.specs.Prelude.{IfErr, IfSome, IsErr, MatchBool, OnOk, if◌then◌else◌, option_map, take, ◌++◌, drop}
+use Rattle.std.proofs.lemmas.Bool.{true≢false}
+use Rattle.msi_text.specs.ErrorKind.{ErrorKind}
+use Rattle.msi_text.specs.ErrorKind.TheVariants.{AlreadyExists, InvalidData, InvalidInput, Io, NotFound, OutOfMemory}
+use Rattle.msi_relation.specs.Refusals.{IsRefusal, or_refused, unless_refused, ◌>>=◌}
+use Rattle.msi_device.specs.Held.{Held, bytes_told}
+use Rattle.msi_compound_write.specs.Layout.{layout, refuses}
+use Rattle.msi_database.specs.Kept.{Kept}
+use Rattle.msi_database.specs.Others.{with_streams}
+use Rattle.msi_database.specs.Streams.{Streams}
+use Rattle.msi.specs.State.{State}
+use Rattle.msi.specs.Calls.{Answer}
+use Rattle.msi.specs.Calls as calls
+use Rattle.msi.specs.Steps.{Step, as_written, contents_of, flush_outcome, flushed, image_of, image_refusals, streams_written, written_for}
+use Rattle.msi.specs.Runs.{FlushLeaves, Session, SessionStep, SameDevice, result_or}
+use Rattle.msi.specs.Whole.{Whole}
+use Rattle.msi.specs.Flushing.{AreSoMany, FlushStep, FlushTells, LeavesBytes, Overwrites, Writes, begun_over, flush_answer, left_by, over_device, session_of, told, told_by, with_renewed}
+use Rattle.msi.proofs.OverwritingLemmas.{told_len, told_len_is}
+
+-- WHAT IS WRITTEN
+
+module _ (s : State) (streams : Streams) (n : ℕ) (written : streams_written s ≡ Some streams) where
+  abbrev refused : Bool
+  refused = refuses (contents_of s streams) n
+
+  pub written_is : written_for s n ≡ (if refused then Err InvalidInput else Ok streams)
+  written_is =
+      ap (λ (o : Option Streams). or_refused InvalidInput o >>= λ all. unless_refused (image_refusals s n all) all) written ∙ by_refusal refused
+    where
+      by_refusal : (b : Bool) → ◌≡◌ {A = Result Streams ErrorKind} (unless_refused ((b, InvalidInput) ∷ []) streams) (if b then Err InvalidInput else Ok streams)
+      by_refusal true = refl
+      by_refusal false = refl
+
+  image_is : (bytes : List ℕ) → result_or bytes (image_of s n) ≡ (if refused then bytes else layout (contents_of s streams) n)
+  image_is bytes =
+      ap (λ (r : Result Streams ErrorKind). result_or bytes (r >>= λ all. Ok (layout (contents_of s all) n))) written_is ∙ by_refusal refused
+    where
+      by_refusal : (b : Bool) → result_or bytes ((if b then Err InvalidInput else Ok streams) >>= λ all. Ok (layout (contents_of s all) n)) ≡ (if b then bytes else layout (contents_of s streams) n)
+      by_refusal true = refl
+      by_refusal false = refl
+
+  -- of a package that is unwritten
+  module _ (unwritten : s.is_unwritten ≡ true) where
+    outcome_is : (b : Bool) → refused ≡ b → flush_outcome s n ≡ flushed s (if b then Err InvalidInput else Ok streams)
+    outcome_is b is =
+        ap (λ u. if u then flushed s (written_for s n) else (Ok calls.done, s)) unwritten
+        ∙ ap (flushed s) (written_is ∙ ap (λ r. if r then Err InvalidInput else Ok streams) is)
+
+    step_is : (old new : Option Held) (before after : Bool) (r : Result (Unit {0}) ErrorKind) (k : Kept) → (r ≡ Ok tt → k.streams ≡ streams)
+        → Writes (contents_of s streams) n (told old before) r (told new after) → Step n s calls.flush (flush_answer r) (left_by r s k)
+    step_is old new before after (Ok done) k is w =
+        inl (outcome_is false w.0 ∙ ap (λ (all : Streams). (Ok calls.done, as_written s all)) (sym (is refl)))
+    step_is old new before after (Err InvalidInput) k is w = inl (outcome_is true w.0)
+    step_is old new before after (Err OutOfMemory) k is w = inr (inl (unwritten, refl, refl))
+    step_is old new before after (Err Io) k is w = inr (inr (unwritten, refl, refl))
+    step_is old new before after (Err AlreadyExists) k is w = absurd w
+    step_is old new before after (Err InvalidData) k is w = absurd w
+    step_is old new before after (Err NotFound) k is w = absurd w
+
+    tells : (old new : Option Held) (before after : Bool) (r : Result (Unit {0}) ErrorKind) (k : Kept) → (r ≡ Ok tt → k.streams ≡ streams)
+        → Writes (contents_of s streams) n (told old before) r (told new after) → FlushTells n (over_device s old before) (flush_answer r) (over_device (left_by r s k) new after)
+    tells old new before after (Ok done) k is w =
+        (w.1 ∙ ap (λ (all : Streams). option_map (λ _. layout (contents_of s all) n) (bytes_told old)) (sym (is refl)), w.2)
+    tells old new before after (Err InvalidInput) k is w = w.1
+    tells old new before after (Err OutOfMemory) k is w = w
+    tells old new before after (Err Io) k is w =
+        (w.0, w.1 ∙ same (bytes_told old), w.2)
+      where
+        same : (o : Option (List ℕ)) → option_map (λ bytes. begun_over w.0 (if refused then bytes else layout (contents_of s streams) n) bytes) o
+            ≡ option_map (λ bytes. begun_over w.0 (result_or bytes (image_of s n)) bytes) o
+        same None = refl
+        same (Some bytes) = ap (λ image. Some (begun_over w.0 image bytes)) (sym (image_is bytes))
+    tells old new before after (Err AlreadyExists) k is w = absurd w
+    tells old new before after (Err InvalidData) k is w = absurd w
+    tells old new before after (Err NotFound) k is w = absurd w
+
+when_true : (b : Bool) (P Q : Type 0) → b ≡ true → P → MatchBool b P Q
+when_true true P Q is p = p
+when_true false P Q is p = absurd (true≢false (sym is))
+
+-- A FLUSH
+
+pub flush_written : (s : State) (streams : Streams) (k : Kept) (old new : Option Held) (before after : Bool) (r : Result (Unit {0}) ErrorKind)
+    → s.is_unwritten ≡ true → streams_written s ≡ Some streams → (r ≡ Ok tt → k.streams ≡ streams)
+    → Overwrites (contents_of s streams) (told old before) r (told new after)
+    → FlushStep (over_device s old before) (flush_answer r) (over_device (left_by r s k) new after)
+flush_written s streams k old new before after r unwritten written is w = record {
+  earlier_len = w.earlier_len;
+  are_so_many = w.are_so_many;
+  step = step_is s streams w.earlier_len written unwritten old new before after r k is w.writes;
+  device = when_true s.is_unwritten _ _ unwritten (tells s streams w.earlier_len written unwritten old new before after r k is w.writes);
+}
+
+-- one that is refused before it calls the device
+pub written_refused : (s : State) (n : ℕ) (kind : ErrorKind) → or_refused InvalidInput (streams_written s) ≡ Err kind → written_for s n ≡ Err kind
+written_refused s n kind e = ap (λ (r : Result Streams ErrorKind). r >>= λ all. unless_refused (image_refusals s n all) all) e
+
+only_input : (o : Option Streams) (kind : ErrorKind) → or_refused InvalidInput o ≡ Err kind → kind ≡ InvalidInput
+only_input None kind e = cc
+only_input (Some x) kind e = absurd cc
+
+refused_tells : (n : ℕ) (old : Whole) (kind : ErrorKind) → IsRefusal (or_refused InvalidInput (streams_written old.state)) kind → FlushTells n old (Err kind) old
+refused_tells n old kind (inl memory) = subst (λ k. FlushTells n old (Err k) old) (sym memory) (refl, inr refl)
+refused_tells n old kind (inr e) = subst (λ k. FlushTells n old (Err k) old) (sym (only_input (streams_written old.state) kind e)) (refl, inr refl)
+
+refused_step : (n : ℕ) (s : State) (kind : ErrorKind) → s.is_unwritten ≡ true → IsRefusal (or_refused InvalidInput (streams_written s)) kind → Step n s calls.flush (Err kind) s
+refused_step n s kind unwritten (inl memory) = inr (inl (unwritten, ap Err memory, refl))
+refused_step n s kind unwritten (inr e) =
+    inl (ap (λ u. if u then flushed s (written_for s n) else (Ok calls.done, s)) unwritten ∙ ap (flushed s) (written_refused s n kind e))
+
+pub flush_refused : (old : Whole) (kind : ErrorKind) → old.state.is_unwritten ≡ true → IsRefusal (or_refused InvalidInput (streams_written old.state)) kind → FlushStep old (Err kind) old
+flush_refused old kind unwritten refusal =
+    let n : ℕ = told_len (bytes_told old.held) in record {
+      earlier_len = n;
+      are_so_many = told_len_is (told_by old);
+      step = refused_step n old.state kind unwritten refusal;
+      device = when_true old.state.is_unwritten _ _ unwritten (refused_tells n old kind refusal);
+    }
+
+pub flush_refused_as : (s : State) (held : Option Held) (failed : Bool) (k : Kept) (r : Result (Unit {0}) ErrorKind) (kind : ErrorKind) → r ≡ Err kind → s.is_unwritten ≡ true
+    → IsRefusal (or_refused InvalidInput (streams_written s)) kind → FlushStep (over_device s held failed) (flush_answer r) (over_device (left_by r s k) held failed)
+flush_refused_as s held failed k r kind is unwritten refusal =
+    subst (λ (a : Result (Unit {0}) ErrorKind). FlushStep (over_device s held failed) (flush_answer a) (over_device (left_by a s k) held failed)) (sym is)
+    (flush_refused (over_device s held failed) kind unwritten refusal)
+
+-- the streams that are left where a flush is done
+pub left_streams : (r : Result (Unit {0}) ErrorKind) (new old : Kept) (items renewed : Streams) → OnOk r (new ≡ with_streams (with_renewed items) old) → items ≡ renewed
+    → r ≡ Ok tt → new.streams ≡ with_renewed renewed old.streams
+left_streams (Ok done) new old items renewed is same e = ap (λ (k : Kept). k.streams) is ∙ ap (λ rs. with_renewed rs old.streams) same
+left_streams (Err kind) new old items renewed is same e = absurd cc
+
+-- with nothing unwritten
+when_false : (b : Bool) (P Q : Type 0) → b ≡ false → Q → MatchBool b P Q
+when_false true P Q is q = absurd (true≢false is)
+when_false false P Q is q = q
+
+pub flush_nothing : (w : Whole) → w.state.is_unwritten ≡ false → FlushStep w (Ok calls.done) w
+flush_nothing w clean = record {
+  earlier_len = told_len (bytes_told w.held);
+  are_so_many = told_len_is (told_by w);
+  step = inl (ap (λ u. if u then flushed w.state (written_for w.state (told_len (bytes_told w.held))) else (Ok calls.done, w.state)) clean);
+  device = when_false w.state.is_unwritten _ _ clean (refl, refl);
+}
+
+-- A SESSION
+
+abbrev TellsSession : Whole → List ℕ → Result Answer ErrorKind → Whole → Type 0
+TellsSession old held answer new = (left : List ℕ) × (bytes_told new.held ≡ Some left) × FlushLeaves (session_of old held) answer (session_of new left)
+
+tells_session : (old new : Whole) (held : List ℕ) (n : ℕ) (answer : Result Answer ErrorKind) → bytes_told old.held ≡ Some held → n ≡ length held → FlushTells n old answer new → TellsSession old held answer new
+tells_session old new held n (Ok answer) is many w =
+    (layout (contents_of new.state new.state.kept.streams) n, w.0 ∙ ap (option_map (λ _. layout (contents_of new.state new.state.kept.streams) n)) is, (ap (layout (contents_of new.state new.state.kept.streams)) many, w.1))
+tells_session old new held n (Err Io) is many w =
+    let image : ℕ → List ℕ = λ m. begun_over w.0 (result_or held (image_of old.state m)) held in
+    (image n, w.1 ∙ ap (option_map (λ bytes. begun_over w.0 (result_or bytes (image_of old.state n)) bytes)) is, (w.0, ap image many, w.2))
+tells_session old new held n (Err InvalidInput) is many w = (held, w.0 ∙ is, (refl, w.1))
+tells_session old new held n (Err OutOfMemory) is many w = (held, w.0 ∙ is, (refl, w.1))
+tells_session old new held n (Err AlreadyExists) is many w = (held, w.0 ∙ is, (refl, w.1))
+tells_session old new held n (Err InvalidData) is many w = (held, w.0 ∙ is, (refl, w.1))
+tells_session old new held n (Err NotFound) is many w = (held, w.0 ∙ is, (refl, w.1))
+
+session_by : (old new : Whole) (held : List ℕ) (n : ℕ) (answer : Result Answer ErrorKind) (unwritten : Bool) → bytes_told old.held ≡ Some held → n ≡ length held
+    → MatchBool unwritten (FlushTells n old answer new) ((new.held ≡ old.held) × (new.failed ≡ old.failed))
+    → (left : List ℕ) × (bytes_told new.held ≡ Some left) × MatchBool unwritten (FlushLeaves (session_of old held) answer (session_of new left)) (SameDevice (session_of old held) (session_of new left))
+session_by old new held n answer true is many w = tells_session old new held n answer is many w
+session_by old new held n answer false is many w = (held, ap bytes_told w.0 ∙ is, (refl, w.1))
+
+-- a flush over a device that tells its bytes is a step of its session
+pub flush_session : (old new : Whole) (held : List ℕ) (answer : Result Answer ErrorKind) → bytes_told old.held ≡ Some held → FlushStep old answer new
+    → (left : List ℕ) × (bytes_told new.held ≡ Some left) × SessionStep (session_of old held) calls.flush answer (session_of new left)
+flush_session old new held answer is w =
+    let many : w.earlier_len ≡ length held = subst (λ (o : Option (List ℕ)). IfSome o (λ bytes. w.earlier_len ≡ length bytes)) is w.are_so_many in
+    let device = session_by old new held w.earlier_len answer old.state.is_unwritten is many w.device in
+    (device.0, device.1, (subst (λ m. Step m old.state calls.flush answer new.state) many w.step, device.2))

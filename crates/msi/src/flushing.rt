@@ -1,0 +1,292 @@
+//! Writing a package to its device.
+
+ghost use Rattle.std.specs.Prelude.{◌≡◌, ◌⊎◌, ◌||◌, IfErr, IfOk, OnErr, OnOk, Some, is_err, option_map, true};
+ghost use Rattle.std.specs.Vec.Iter.{into_iter_items};
+ghost use Rattle.msi_text.specs.ErrorKind.TheVariants.{InvalidInput, Io};
+ghost use Rattle.msi_text.specs.PoolWriting.{is_refused as is_pool_refused};
+ghost use Rattle.msi_text.specs.Results.{OnlyMemory};
+ghost use Rattle.msi_summary.specs.PropertyWriting.{is_refused as is_summary_refused};
+ghost use Rattle.msi_device.specs.Held.{at_start, bytes_told};
+ghost use Rattle.msi_compound_write.specs.Borrowed.{contents_of};
+ghost use Rattle.msi_relation.specs.Refusals.{IsRefusal, or_refused};
+ghost use Rattle.msi_schema.specs.Keys.{string_data_name, string_pool_name, table_key as key_of_table};
+ghost use Rattle.msi_changes.specs.Database.{Database as DatabaseValue, is_sound};
+ghost use Rattle.msi_database.specs.Streams.{Streams};
+ghost use Rattle.msi_database.specs.Others.{with_streams};
+ghost use Rattle.msi.specs.Steps.{pool_put};
+ghost use Rattle.msi.specs.Flushing.{AreOthers, AreSoMany, FlushStep, IsUnwritten, Overwrites, flush_answer, left_by, over_device, renewed_over, root_contents, summary_over, told, unwritten_of, with_renewed};
+
+use crate::kinds::PackageType;
+use crate::package::{Package, settle};
+use msi_compound::contents::Bytes;
+use msi_compound::name::Name;
+use msi_compound_write::parts::{BorrowedContents, image_to};
+use msi_database::Database;
+use msi_device::Device;
+use msi_device::faults::fault;
+use msi_pool::parts::{data_stream_of, pool_stream_of};
+use msi_schema::names::{STRING_DATA, STRING_POOL, summary_key, table_key};
+use msi_summary::SummaryInfo;
+use msi_summary::parts::summary_bytes;
+use msi_text::errors::Error;
+use msi_text::stringpool::StringPool;
+use std::alloc::Global;
+use std::vec::IntoIter;
+
+/// What the root of a package's container has beside its streams.
+#[derive(Clone, Copy)]
+pub(crate) struct Root {
+    pub(crate) kind: PackageType,
+    pub(crate) has_storages: bool,
+}
+
+/// The summary's stream, where it is to be written.
+///
+/// # Errors
+/// `InvalidInput` where the summary's page doesn't carry a text. Else `OutOfMemory`.
+fn renewed_summary(
+    alloc: Global,
+    summary: &SummaryInfo,
+    is_lent: bool,
+) -> Result<Vec<(Name, Bytes)>, Error>
+    ensures ok { IfOk result (λ renewed. (streams : Streams)
+        → summary_over is_lent summary.now streams ≡ Some (with_renewed renewed.items streams)) }
+    ensures others { IfOk result (λ renewed. (d : DatabaseValue) → AreOthers d renewed.items) }
+    ensures kind { IfErr result (λ kind. (is_lent ≡ true) × IsUnwritten (is_summary_refused summary.now) kind) }
+{
+    if !is_lent {
+        return Ok(Vec::new(alloc));
+    }
+    let bytes = Bytes::from_vec(summary_bytes(summary)?);
+    Ok(Vec::from_array(alloc, [(summary_key(), bytes)])?)
+}
+
+/// The container's name of one of the pool's streams.
+///
+/// # Errors
+/// `OutOfMemory`.
+fn pool_key(alloc: Global, name: &str) -> Result<Name, Error>
+    requires { (name.now ≡ string_pool_name) ⊎ (name.now ≡ string_data_name) }
+    ensures ok { IfOk result (λ key. key ≡ key_of_table name.now) }
+    ensures kind { OnlyMemory result }
+{
+    match table_key(alloc, name)? {
+        Some(key) => Ok(key),
+        None => unreachable!(),
+    }
+}
+
+/// Adds the pool's two streams, that of the texts first.
+///
+/// # Errors
+/// `InvalidInput` where the database's page doesn't carry a text. Else `OutOfMemory`.
+fn add_pool(alloc: Global, pool: &StringPool, renewed: &mut Vec<(Name, Bytes)>) -> Result<(), Error>
+    ensures ok { OnOk result ((streams : Streams)
+        → pool_put pool.now (with_renewed renewed.old.items streams) ≡ Some (with_renewed renewed.new.items streams)) }
+    ensures others { OnOk result ((d : DatabaseValue) → is_sound d ≡ true
+        → AreOthers d renewed.old.items → AreOthers d renewed.new.items) }
+    ensures kind { IfErr result (IsUnwritten (is_pool_refused pool.now)) }
+{
+    let texts = Bytes::from_vec(data_stream_of(pool)?);
+    let entries = Bytes::from_vec(pool_stream_of(pool)?);
+    renewed.push((pool_key(alloc, STRING_DATA)?, texts))?;
+    renewed.push((pool_key(alloc, STRING_POOL)?, entries))?;
+    Ok(())
+}
+
+/// The streams that are to be written anew: the summary's where it was lent, the pool's where it was changed.
+///
+/// # Errors
+/// `InvalidInput` where a page doesn't carry a text. Else `OutOfMemory`.
+pub(crate) fn renewed_streams(
+    alloc: Global,
+    summary: &SummaryInfo,
+    is_summary_lent: bool,
+    pool: &StringPool,
+    is_pool_changed: bool,
+) -> Result<Vec<(Name, Bytes)>, Error>
+    ensures ok { IfOk result (λ renewed. (streams : Streams)
+        → renewed_over is_summary_lent summary.now is_pool_changed pool.now streams
+        ≡ Some (with_renewed renewed.items streams)) }
+    ensures others { IfOk result (λ renewed. (d : DatabaseValue) → (is_pool_changed ≡ true → is_sound d ≡ true)
+        → AreOthers d renewed.items) }
+    ensures kind { IfErr result (λ kind. (streams : Streams)
+        → IsRefusal (or_refused InvalidInput (renewed_over is_summary_lent summary.now is_pool_changed pool.now streams)) kind) }
+{
+    let mut renewed = renewed_summary(alloc, summary, is_summary_lent)?;
+    if is_pool_changed {
+        add_pool(alloc, pool, &mut renewed)?;
+    }
+    Ok(renewed)
+}
+
+/// Goes to the first byte of a device, and tells how many there are. It clears the device's flag first.
+///
+/// # Errors
+/// `Io` where a call of the device fails.
+fn go_to_start<F: Device>(device: &mut F) -> Result<u64, Error>
+    ensures count { IfOk result (λ n. AreSoMany n (told (F.held device.old) (F.failed device.old))) }
+    ensures held { OnOk result (F.held device.new ≡ option_map at_start (F.held device.old)) }
+    ensures bytes { bytes_told (F.held device.new) ≡ bytes_told (F.held device.old) }
+    ensures failed { F.failed device.new ≡ is_err result }
+    ensures kind { IfErr result (λ kind. kind ≡ Io) }
+{
+    device.clear_failed();
+    let count = device.length().map_err(fault)?;
+    device.rewind().map_err(fault)?;
+    Ok(count)
+}
+
+/// Hands on what was written to a device.
+///
+/// # Errors
+/// `Io` where the call of the device fails.
+fn hand_on<F: Device>(device: &mut F) -> Result<(), Error>
+    ensures bytes { bytes_told (F.held device.new) ≡ bytes_told (F.held device.old) }
+    ensures failed { F.failed device.new ≡ (F.failed device.old || is_err result) }
+    ensures kind { IfErr result (λ kind. kind ≡ Io) }
+{
+    device.flush().map_err(fault)
+}
+
+/// Puts the image of these contents over all that a device holds.
+///
+/// # Errors
+/// `InvalidInput` where storages lie below the root, or the image would pass 2^31 bytes; `OutOfMemory`; both before the
+/// first byte is written. `Io` where a call of the device fails: then a beginning of the image may stand there.
+fn write_image<F: Device>(
+    alloc: Global,
+    contents: &BorrowedContents,
+    device: &mut F,
+) -> Result<(), Error>
+    ensures { Overwrites (contents_of contents.now) (told (F.held device.old) (F.failed device.old)) result
+        (told (F.held device.new) (F.failed device.new)) }
+{
+    let earlier_len = go_to_start(device)?;
+    image_to(alloc, contents, earlier_len, device)?;
+    hand_on(device)
+}
+
+/// Puts the image of these streams under a root over all that a device holds.
+///
+/// # Errors
+/// Those of `write_image`.
+fn write_streams<F: Device>(
+    alloc: Global,
+    root: Root,
+    database: &Database,
+    device: &mut F,
+) -> Result<(), Error>
+    ensures { Overwrites (root_contents root.kind root.has_storages database.now.streams)
+        (told (F.held device.old) (F.failed device.old)) result (told (F.held device.new) (F.failed device.new)) }
+{
+    let contents = BorrowedContents {
+        clsid: root.kind.clsid(),
+        streams: database.streams(),
+        has_storages: root.has_storages,
+    };
+    write_image(alloc, &contents, device)
+}
+
+/// Puts the image of a database's streams, with these anew, over all that a device holds. No stream is copied. After an
+/// error the database is as it was.
+///
+/// # Errors
+/// Those of `write_image`.
+pub(crate) fn write_with<F: Device>(
+    alloc: Global,
+    root: Root,
+    database: &mut Database,
+    mut renewed: IntoIter<(Name, Bytes)>,
+    device: &mut F,
+) -> Result<(), Error>
+    requires { AreOthers database.old.database (into_iter_items renewed) }
+    ensures ok { OnOk result (database.new ≡ with_streams (with_renewed (into_iter_items renewed)) database.old) }
+    ensures same { OnErr result (database.new ≡ database.old) }
+    ensures device { Overwrites
+        (root_contents root.kind root.has_storages (with_renewed (into_iter_items renewed) database.old.streams))
+        (told (F.held device.old) (F.failed device.old)) result (told (F.held device.new) (F.failed device.new)) }
+{
+    database.kept();
+    let Some((name, bytes)) = renewed.next() else {
+        return write_streams(alloc, root, database, device);
+    };
+    let before = database.replace_stream(name.duplicate(), bytes)?;
+    match write_with(alloc, root, database, renewed, device) {
+        Ok(()) => Ok(()),
+        Err(error) => {
+            database.put_back_stream(&name, before);
+            Err(error)
+        }
+    }
+}
+
+/// Writes an unwritten package: its root's streams, with those of the summary and the pool anew.
+///
+/// # Errors
+/// `InvalidInput` where a page doesn't carry a text; else those of `write_image`. Then the database is as it was.
+fn write_parts<F: Device>(
+    alloc: Global,
+    root: Root,
+    summary: &SummaryInfo,
+    is_summary_lent: bool,
+    database: &mut Database,
+    is_pool_changed: bool,
+    device: &mut F,
+) -> Result<(), Error>
+    requires { is_pool_changed ≡ true → is_sound database.old.database ≡ true }
+    ensures flushed { let s = unwritten_of root.kind root.has_storages summary.now is_summary_lent database.old is_pool_changed in
+        FlushStep (over_device s (F.held device.old) (F.failed device.old)) (flush_answer result)
+        (over_device (left_by result s database.new) (F.held device.new) (F.failed device.new)) }
+    ensures tables { database.new.database ≡ database.old.database }
+    ensures same { OnErr result (database.new ≡ database.old) }
+{
+    let renewed = renewed_streams(
+        alloc,
+        summary,
+        is_summary_lent,
+        database.pool(),
+        is_pool_changed,
+    )?;
+    write_with(alloc, root, database, renewed.into_iter(), device)
+}
+
+impl<F: Device> Package<F> {
+    /// Writes what was changed: the whole file anew, over all that the device holds. With nothing unwritten it does
+    /// nothing, and calls no device. After an error the package is as it was, and is still unwritten.
+    ///
+    /// # Errors
+    /// `InvalidInput` where a page doesn't carry a text, or the file would pass 2^31 bytes; `OutOfMemory`; both before
+    /// anything is written. `Io` where a call of the device failed, which `device_failed` then tells: a beginning of the
+    /// new bytes may stand over the old ones.
+    pub fn flush(&mut self) -> Result<(), Error>
+        ensures { FlushStep self.old (flush_answer result) self.new }
+    {
+        if !self.is_unwritten {
+            return Ok(());
+        }
+        settle(
+            self.alloc,
+            &mut self.database,
+            &mut self.open,
+            &mut self.current,
+        );
+        let root = Root {
+            kind: self.kind,
+            has_storages: self.has_storages,
+        };
+        write_parts(
+            self.alloc,
+            root,
+            &self.summary,
+            self.is_summary_lent,
+            &mut self.database,
+            self.is_pool_changed,
+            &mut self.device,
+        )?;
+        self.is_unwritten = false;
+        self.is_summary_lent = false;
+        self.is_pool_changed = false;
+        Ok(())
+    }
+}

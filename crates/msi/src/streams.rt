@@ -1,0 +1,181 @@
+//! The streams of a package that belong to no table.
+
+ghost use Rattle.std.specs.Prelude.{◌≡◌, ◌⊎◌, ◌∷◌, ◌++◌, [], IfErr, IfOk, None, OnErr, OnOk, Some, not};
+ghost use Rattle.std.specs.Borrow.{sem};
+ghost use Rattle.std.specs.FinMap as finite;
+ghost use Rattle.std.specs.Option.{option_copied};
+ghost use Rattle.msi_text.specs.ErrorKind.TheVariants.{InvalidInput, NotFound, OutOfMemory};
+ghost use Rattle.msi_relation.specs.Refusals.{first_refusal, unless_refused};
+ghost use Rattle.msi_schema.specs.Keys.{is_stream_name, signature_key as signature_of, stream_key};
+ghost use Rattle.msi_database.specs.Streams.{has_stream_at, stream_at, without_stream};
+ghost use Rattle.msi_stream.specs.Cursor.{at_start};
+ghost use Rattle.msi.specs.Lending.{LendsStream};
+ghost use Rattle.msi.specs.State.{parts_of};
+ghost use Rattle.msi.specs.Steps.{bytes_of_stream, has_stream as has_one, name_refusals, storage_refusal, stream_names, with_streams, without_signature};
+ghost use Rattle.msi.specs.Whole.{with_state};
+
+use crate::keys::{accepted_key, checked_key};
+use crate::package::{Package, settle};
+use crate::reasons;
+use msi_compound::contents::{Bytes, StreamMap};
+use msi_compound::name::Name;
+use msi_device::Source;
+use msi_schema::names::{signature_ex_key, signature_key};
+use msi_stream::{OpenStream, StreamReader, StreamWriter, Streams};
+use msi_text::errors::{Error, ErrorKind};
+
+impl<F: Source> Package<F> {
+    /// Whether there is a stream of this name. It takes no memory.
+    pub fn has_stream(&self, name: &str) -> bool
+        ensures { result ≡ has_one (parts_of self.now.state) name.now }
+    {
+        match accepted_key(name) {
+            Some(key) => self.contains(&key),
+            None => false,
+        }
+    }
+
+    /// The names of the streams, in the container's order: of those that hold no table, summary or signature.
+    pub fn streams(&self) -> Streams<'_>
+        ensures { result ≡ stream_names (parts_of self.now.state) }
+    {
+        Streams::new(self.alloc, self.database.streams())
+    }
+
+    /// Whether the package has a digital signature. It isn't judged.
+    pub fn has_digital_signature(&self) -> bool
+        ensures { result ≡ has_stream_at signature_of (parts_of self.now.state).streams }
+    {
+        self.contains(&signature_key())
+    }
+
+    /// The stream of this name, to be read from its first byte on. It takes no memory.
+    ///
+    /// # Errors
+    /// `InvalidInput` where no stream may have this name, and else `NotFound` where there is none.
+    pub fn read_stream(&self, name: &str) -> Result<StreamReader<'_>, Error>
+        ensures start { IfOk result (λ reader. reader ≡ at_start (bytes_of_stream (parts_of self.now.state) name.now)) }
+        ensures accepted { OnOk result (first_refusal ((not (is_stream_name name.now), InvalidInput)
+            ∷ (not (has_one (parts_of self.now.state) name.now), NotFound) ∷ []) ≡ None) }
+        ensures kind { IfErr result (λ kind. first_refusal ((not (is_stream_name name.now), InvalidInput)
+            ∷ (not (has_one (parts_of self.now.state) name.now), NotFound) ∷ []) ≡ Some kind) }
+    {
+        let key = checked_key(name)?;
+        match self.bytes_at(&key) {
+            Some(bytes) => Ok(StreamReader::new(bytes)),
+            None => Err(Error::new(ErrorKind::NotFound, reasons::NO_STREAM)),
+        }
+    }
+
+    /// Makes the stream of this name, or empties it, and lends it for writing from its first byte on. What is left in it
+    /// is the stream.
+    ///
+    /// # Errors
+    /// `InvalidInput` with storages below the root, and where no stream may have this name; `OutOfMemory`. Then nothing
+    /// is changed.
+    pub fn write_stream(&mut self, name: &str) -> Result<StreamWriter<'_>, Error>
+        ensures* writes_back { sem 𝓛 (LendsStream F.row F.Source name.now self.entry result) }
+        ensures start { IfOk result (λ writer. writer.now ≡ at_start []) }
+        ensures accepted { OnOk result (first_refusal (name_refusals (parts_of self.old.state) name.now) ≡ None) }
+        ensures kind { IfErr result (λ kind.
+            (kind ≡ OutOfMemory) ⊎ (first_refusal (name_refusals (parts_of self.old.state) name.now) ≡ Some kind)) }
+    {
+        self.check_storages()?;
+        let key = checked_key(name)?;
+        settle(
+            self.alloc,
+            &mut self.database,
+            &mut self.open,
+            &mut self.current,
+        );
+        let empty = Bytes::from_vec(Vec::new(self.alloc));
+        self.database.replace_stream(key.duplicate(), empty)?;
+        self.is_unwritten = true;
+        self.open = Some(key);
+        self.current = OpenStream::new(self.alloc);
+        Ok(&mut self.current)
+    }
+
+    /// Takes the stream of this name out. It takes no memory.
+    ///
+    /// # Errors
+    /// `InvalidInput` with storages below the root, and where no stream may have this name; else `NotFound` where there
+    /// is none. Then nothing is changed.
+    pub fn remove_stream(&mut self, name: &str) -> Result<(), Error>
+        ensures answer { let p = parts_of self.old.state in result ≡ unless_refused
+            (name_refusals p name.now ++ (not (has_one p name.now), NotFound) ∷ []) tt }
+        ensures ok { let edit = without_stream (stream_key name.now) in
+            OnOk result (self.new ≡ with_state (with_streams edit self.old.state) self.old) }
+        ensures same { OnErr result (self.new ≡ self.old) }
+    {
+        self.check_storages()?;
+        let key = checked_key(name)?;
+        if !self.contains(&key) {
+            return Err(Error::new(ErrorKind::NotFound, reasons::NO_STREAM));
+        }
+        settle(
+            self.alloc,
+            &mut self.database,
+            &mut self.open,
+            &mut self.current,
+        );
+        self.database.remove_stream(&key);
+        self.is_unwritten = true;
+        Ok(())
+    }
+
+    /// Takes the digital signature out, with what extends it, where they are there. It takes no memory.
+    ///
+    /// # Errors
+    /// `InvalidInput` with storages below the root; then nothing is changed.
+    pub fn remove_digital_signature(&mut self) -> Result<(), Error>
+        ensures answer { result ≡ unless_refused (storage_refusal (parts_of self.old.state)) tt }
+        ensures ok { OnOk result (self.new ≡ with_state (with_streams without_signature self.old.state) self.old) }
+        ensures same { OnErr result (self.new ≡ self.old) }
+    {
+        self.check_storages()?;
+        settle(
+            self.alloc,
+            &mut self.database,
+            &mut self.open,
+            &mut self.current,
+        );
+        self.database.remove_stream(&signature_ex_key());
+        self.database.remove_stream(&signature_key());
+        self.is_unwritten = true;
+        Ok(())
+    }
+
+    /// Whether there is a stream of a name of the container. The open one is there already.
+    fn contains(&self, key: &Name) -> bool
+        ensures { result ≡ has_stream_at key.now self.now.state.kept.streams }
+    {
+        self.database.streams().contains(key)
+    }
+
+    /// The bytes of the stream of a name of the container, if there is one.
+    fn bytes_at(&self, key: &Name) -> Option<&[u8]>
+        ensures { option_copied result ≡ stream_at key.now self.now.state.kept.streams }
+    {
+        match &self.open {
+            Some(open) => {
+                if key == open {
+                    Some(self.current.as_slice())
+                } else {
+                    bytes_of(self.database.streams(), key)
+                }
+            }
+            None => bytes_of(self.database.streams(), key),
+        }
+    }
+}
+
+/// The bytes of the stream of a name of the container, if there is one.
+fn bytes_of<'a>(streams: &'a StreamMap, key: &Name) -> Option<&'a [u8]>
+    ensures { option_copied result ≡ finite.get streams.now key.now }
+{
+    match streams.get(key) {
+        Some(bytes) => Some(bytes.as_slice()),
+        None => None,
+    }
+}
