@@ -1,6 +1,6 @@
 -- What a new package is once it is flushed.
 use Rattle.std.proofs.Common.{◌≡◌, ℕ, Bool, true, false, List, [], length, Option, Some, None, Result, Ok, Err, refl, sym, ap, subst, ◌∙◌, ◌⊎◌, inl, inr}
-use Rattle.std.specs.Prelude.{IfErr, IfSome}
+use Rattle.std.specs.Prelude.{IfErr, IfSome, IsErrAnd}
 use Rattle.std.proofs.lemmas.Option.{same_Some}
 use Rattle.msi_text.specs.ErrorKind.{ErrorKind}
 use Rattle.msi_text.specs.ErrorKind.TheVariants.{Io, OutOfMemory}
@@ -107,3 +107,7 @@ made_from k summary database bytes summary_is database_is = λ i. state_of k (su
 
 pub err_as : {A : Type 0} (r : Result A ErrorKind) (P : ErrorKind → Type 0) (kind : ErrorKind) → P kind → r ≡ Err kind → IfErr r P
 err_as {A} r P kind p is = subst (λ (a : Result A ErrorKind). IfErr a P) (sym is) p
+
+pub is_err_of : {A : Type 0} (r : Result A ErrorKind) (kind : ErrorKind) → IsErrAnd r (λ k. k ≡ kind) → r ≡ Err kind
+is_err_of (Ok x) kind h = absurd h
+is_err_of (Err k) kind h = ap Err h

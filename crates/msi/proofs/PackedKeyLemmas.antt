@@ -7,13 +7,25 @@ use Rattle.std.proofs.lemmas.Bool.{and_from, le-leb, lt-ltb}
 use Rattle.std.proofs.lemmas.Grind.{flat_map-append}
 use Rattle.msi_compound.specs.Names.{is_name_length, is_text, utf16_units}
 use Rattle.msi_compound.specs.StreamNames.{packed_single, value_of}
-use Rattle.msi_compound.proofs.PackingLemmas.{added, added_last, packed_end, packed_from, packed_is, waiting_after}
+use Rattle.msi_compound.proofs.PackingLemmas as packing
+use Rattle.msi_compound.proofs.PackingLemmas.{packed_end, packed_from}
 use Rattle.msi_compound.proofs.TextLemmas.{left_at_turn}
 use Rattle.msi_schema.specs.Keys.{is_stream_name, stream_key}
+use Rattle.msi.specs.Packing.{added, waiting_after}
 use Rattle.msi.proofs.KeyNameLemmas.{stream_key_is_name}
 
 units_join : (cs ds : List ℕ) → utf16_units (cs ++ ds) ≡ utf16_units cs ++ utf16_units ds
 units_join cs ds = flat_map-append encode_utf16 cs ds
+
+added_alike : (waiting own : Option ℕ) (c : ℕ) → added waiting own c ≡ packing.added waiting own c
+added_alike None None c = refl
+added_alike None (Some w) c = refl
+added_alike (Some v) None c = refl
+added_alike (Some v) (Some w) c = refl
+
+waiting_alike : (waiting own : Option ℕ) → waiting_after waiting own ≡ packing.waiting_after waiting own
+waiting_alike None own = refl
+waiting_alike (Some v) own = refl
 
 -- one turn of a loop that puts the packed characters' units behind the others, at a character c
 module _ (all before whole : List ℕ) (waiting : Option ℕ) (yielded : List ℕ) (c : ℕ) (t : (length yielded < length all) × (c ≡ get_or all (length yielded) c))
@@ -28,6 +40,9 @@ module _ (all before whole : List ℕ) (waiting : Option ℕ) (yielded : List �
   units_turn =
       append_assoc before (utf16_units more) (utf16_units rest)
       ∙ ap (λ us. before ++ us) (sym (units_join more rest))
+      ∙ ap (λ cs. before ++ utf16_units (cs ++ rest)) (added_alike waiting (value_of c) c)
+      ∙ ap (λ (w : Option ℕ). before ++ utf16_units (packing.added waiting (value_of c) c ++ packed_from value_of w (drop (length (yielded ++ c ∷ [])) all)))
+      (waiting_alike waiting (value_of c))
       ∙ ap (λ cs. before ++ utf16_units (packed_from value_of waiting cs)) (sym (left_at_turn all yielded c t))
       ∙ so_far
 
@@ -37,9 +52,6 @@ module _ (all before whole : List ℕ) (waiting : Option ℕ) (yielded : List �
       sym (length-append (before ++ utf16_units more) (utf16_units rest)) ∙ ap length units_turn in
       let first : length (before ++ utf16_units more) ≡ length before + length (utf16_units more) = length-append before (utf16_units more) in
       omega arith
-
-pub units_start : (cs : List ℕ) → [] ++ utf16_units (packed_from value_of None cs) ≡ utf16_units ([] ++ packed_from value_of None cs)
-units_start cs = refl
 
 -- its end
 single_unit : (v : ℕ) → v < 64 → utf16_units (packed_single v ∷ []) ≡ packed_single v ∷ []

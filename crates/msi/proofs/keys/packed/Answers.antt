@@ -4,8 +4,9 @@ use Rattle.std.proofs.lemmas.Iterator.Consumers.{YieldsList-turn, YieldsList-end
 use Rattle.std.specs.Prelude.{None}
 use Rattle.msi_compound.specs.Names.{utf16_units}
 use Rattle.msi_compound.specs.StreamNames.{value_of}
-use Rattle.msi_compound.proofs.PackingLemmas.{added, packed_from, packed_is}
+use Rattle.msi_compound.proofs.PackingLemmas.{packed_from, packed_is}
 use Rattle.msi_schema.specs.Keys.{stream_key}
+use Rattle.msi.specs.Packing.{added}
 use Rattle.msi.proofs.PackedKeyLemmas.{ends_plain, ends_waiting, last_room, units_room, units_turn}
 use Rattle.msi.proofs.keys.packed.Goals as goal
 
