@@ -2,6 +2,9 @@
 pub mod LendingLemmas
 pub mod RunningLemmas
 pub mod RunLemmas
+pub mod ReplayedLemmas
+pub mod StreamTakesLemmas
+pub mod DeviceLemmas
 pub mod StreamLemmas
 pub mod SummaryLemmas
 pub mod SentLemmas

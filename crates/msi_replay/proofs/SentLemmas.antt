@@ -13,6 +13,9 @@ look_up_quiet look.DatabaseCodepage = record { unflushed = refl; alone = refl; f
 look_up_quiet (look.HasTable name) = record { unflushed = refl; alone = refl; fits = tt }
 look_up_quiet (look.GetTable name) = record { unflushed = refl; alone = refl; fits = tt }
 look_up_quiet look.Tables = record { unflushed = refl; alone = refl; fits = tt }
+look_up_quiet (look.HasStream name) = record { unflushed = refl; alone = refl; fits = tt }
+look_up_quiet look.Streams = record { unflushed = refl; alone = refl; fits = tt }
+look_up_quiet look.HasDigitalSignature = record { unflushed = refl; alone = refl; fits = tt }
 
 pub change_quiet : (c : Change) → IsQuiet (change_sent c)
 change_quiet (change.CreateTable name columns) = record { unflushed = refl; alone = refl; fits = tt }
@@ -21,3 +24,5 @@ change_quiet (change.UpdateRows query) = record { unflushed = refl; alone = refl
 change_quiet (change.DeleteRows query) = record { unflushed = refl; alone = refl; fits = tt }
 change_quiet (change.DropTable name) = record { unflushed = refl; alone = refl; fits = tt }
 change_quiet (change.SetDatabaseCodepage page) = record { unflushed = refl; alone = refl; fits = tt }
+change_quiet (change.RemoveStream name) = record { unflushed = refl; alone = refl; fits = tt }
+change_quiet change.RemoveDigitalSignature = record { unflushed = refl; alone = refl; fits = tt }

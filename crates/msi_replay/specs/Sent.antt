@@ -119,6 +119,9 @@ look_up_sent look.DatabaseCodepage = calls.database_codepage
 look_up_sent (look.HasTable name) = calls.has_table name
 look_up_sent (look.GetTable name) = calls.get_table name
 look_up_sent look.Tables = calls.tables
+look_up_sent (look.HasStream name) = calls.has_stream name
+look_up_sent look.Streams = calls.streams
+look_up_sent look.HasDigitalSignature = calls.has_digital_signature
 
 abbrev pub change_sent : Change → calls.Call
 change_sent (change.CreateTable name columns) = calls.create_table name columns
@@ -127,6 +130,8 @@ change_sent (change.UpdateRows query) = calls.update_rows query
 change_sent (change.DeleteRows query) = calls.delete_rows query
 change_sent (change.DropTable name) = calls.drop_table name
 change_sent (change.SetDatabaseCodepage page) = calls.set_database_codepage page
+change_sent (change.RemoveStream name) = calls.remove_stream name
+change_sent change.RemoveDigitalSignature = calls.remove_digital_signature
 
 abbrev pub call_sent : Call → calls.Call
 call_sent (sent.LookUp question) = look_up_sent question

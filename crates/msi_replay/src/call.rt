@@ -155,6 +155,12 @@ pub enum LookUp {
     GetTable(Text),
     /// The tables.
     Tables,
+    /// Whether there is a stream of this name.
+    HasStream(Text),
+    /// The names of the streams.
+    Streams,
+    /// Whether the package is signed.
+    HasDigitalSignature,
 }
 
 /// A call that changes a package.
@@ -172,6 +178,10 @@ pub enum Change {
     DropTable(Text),
     /// Sets the page in which the database's texts are written.
     SetDatabaseCodepage(CodePage),
+    /// Takes the stream of this name out.
+    RemoveStream(Text),
+    /// Takes the digital signature out.
+    RemoveDigitalSignature,
 }
 
 /// A call on a package.

@@ -11,7 +11,7 @@ ghost use Rattle.msi_replay.specs.Told.{answer_told, told};
 
 use crate::answer::Answer;
 use crate::call::{Change, SummaryCall};
-use crate::summary::carry_out_all;
+use crate::summary::{carry_out_all, discard_all};
 use msi::Package;
 use msi_device::Memory;
 use msi_text::errors::{Error, ErrorKind};
@@ -19,7 +19,7 @@ use msi_text::text::Items;
 use std::alloc::Global;
 
 /// What a change answers.
-fn done(outcome: Result<(), Error>) -> Result<Answer, ErrorKind>
+pub(crate) fn done(outcome: Result<(), Error>) -> Result<Answer, ErrorKind>
     ensures { told answer_told result ≡ told (λ _. calls.done) outcome }
 {
     match outcome {
@@ -41,6 +41,8 @@ fn changed(target: &mut Package<Memory>, change: Change) -> Result<(), Error>
         Change::DeleteRows(query) => target.delete_rows(query),
         Change::DropTable(name) => target.drop_table(name.as_str()),
         Change::SetDatabaseCodepage(page) => target.set_database_codepage(page),
+        Change::RemoveStream(name) => target.remove_stream(name.as_str()),
+        Change::RemoveDigitalSignature => target.remove_digital_signature(),
     }
 }
 
@@ -70,6 +72,9 @@ pub(crate) fn change_summary(
             let answers = carry_out_all(alloc, summary, steps)?;
             Ok(Ok(Answer::Summary(answers)))
         }
-        Err(error) => Ok(Err(error.kind())),
+        Err(error) => {
+            discard_all(steps);
+            Ok(Err(error.kind()))
+        }
     }
 }

@@ -4,10 +4,14 @@
 pub mod answer;
 pub mod call;
 mod changing;
+mod device;
 mod looking;
+pub mod replaying;
 mod stream;
+mod streaming;
 mod summary;
 
 pub use answer::{Answer, StreamAnswer, SummaryAnswer};
 pub use call::{Call, Change, Clearing, LookUp, ReaderCall, Setting, SummaryCall, SummaryQuestion, WriterCall};
 pub use call::{NumberProperty, TextProperty, TimeProperty};
+pub use replaying::{Replayed, replay};

@@ -12,6 +12,7 @@ ghost use Rattle.msi_replay.specs.Told.{answer_told, told};
 
 use crate::answer::Answer;
 use crate::call::{LookUp, SummaryQuestion};
+use crate::streaming::all_names;
 use crate::summary::ask_all;
 use msi::Package;
 use msi_device::Memory;
@@ -105,6 +106,12 @@ pub(crate) fn look_up(
             let tables = copied_tables(alloc, target.tables())?;
             Ok(Ok(Answer::Tables(tables)))
         }
+        LookUp::HasStream(name) => Ok(Ok(Answer::Flag(target.has_stream(name.as_str())))),
+        LookUp::Streams => {
+            let names = all_names(alloc, target.streams())?;
+            Ok(Ok(Answer::Names(names)))
+        }
+        LookUp::HasDigitalSignature => Ok(Ok(Answer::Flag(target.has_digital_signature()))),
     }
 }
 

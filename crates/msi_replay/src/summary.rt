@@ -377,3 +377,39 @@ pub(crate) fn carry_out_all(
     }
     Ok(Items::from_vec(answers))
 }
+
+/// Drops a setting. Its number fits its type.
+fn discard_setting(setting: Setting)
+    ensures { FitsSummaryCall (setting_sent setting) }
+{
+    match setting {
+        Setting::Text(_, _) => {}
+        Setting::Number(_, _) => {}
+        Setting::Time(_, _) => {}
+        Setting::Arch(_) => {}
+        Setting::Languages(_) => {}
+        Setting::Keywords(_) => {}
+        Setting::Uuid(_) => {}
+        Setting::Codepage(_) => {}
+    }
+}
+
+/// Drops a call. Its number fits its type.
+fn discard(step: SummaryCall)
+    ensures { FitsSummaryCall (summary_call_sent step) }
+{
+    match step {
+        SummaryCall::Ask(_) => {}
+        SummaryCall::Set(setting) => discard_setting(setting),
+        SummaryCall::Clear(_) => {}
+    }
+}
+
+/// Drops calls that aren't carried out. Their numbers fit their types all the same.
+pub(crate) fn discard_all(steps: Items<SummaryCall>)
+    ensures { AllByRecursion FitsSummaryCall (map summary_call_sent steps) }
+{
+    for call in steps.into_vec() {
+        discard(call);
+    }
+}

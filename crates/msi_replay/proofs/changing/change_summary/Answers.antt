@@ -9,6 +9,3 @@ returns-in_ok-answers-in-Ok-clause-ok c =
     summary_takes c.args.target.now _ (map summary_call_sent c.args.steps) c.in-Ok.summary.now c.carry_out_all.new.summary
     (map (told summary_answer) c.in_ok-answers-in-Ok.answers) c.in-Ok.ensures.accepted c.in-Ok.ensures.value
     c.in_ok-answers-in-Ok.ensures.ok refl
-
-pub returns-in-Err-clause-fits : goal.returns-in-Err-clause-fits
-returns-in-Err-clause-fits c = let h = c.drop-steps-inside.type_inv in ?

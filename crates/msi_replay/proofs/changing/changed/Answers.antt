@@ -7,10 +7,14 @@ use Rattle.msi_changes.specs.Delete as deletes
 use Rattle.msi_changes.specs.Drop as drops
 use Rattle.msi_changes.specs.Insert as inserts
 use Rattle.msi_changes.specs.Update as updates
-use Rattle.std.specs.Prelude.{◌++◌, string_bytes}
+use Rattle.std.specs.Prelude.{◌++◌, [], ◌∷◌, not, string_bytes}
+use Rattle.msi_text.specs.ErrorKind.TheVariants.{NotFound}
+use Rattle.msi_relation.specs.Refusals.{Refusals}
+use Rattle.msi_schema.specs.Keys.{stream_key}
+use Rattle.msi_database.specs.Streams.{without_stream}
 use Rattle.msi.specs.State.{State, parts_of}
 use Rattle.msi.specs.Calls as calls
-use Rattle.msi.specs.Steps.{changed, changing, storage_refusal, with_page}
+use Rattle.msi.specs.Steps.{changed, changing, has_stream, leaving, name_refusals, storage_refusal, with_page, with_streams, without_signature}
 use Rattle.msi_replay.proofs.TakenLemmas.{change_takes, left_takes}
 use Rattle.msi_replay.proofs.changing.changed.Goals as goal
 
@@ -66,3 +70,27 @@ returns-in-SetDatabaseCodepage c =
     rw c.in-SetDatabaseCodepage.is (left_takes c.args.target.now c.set_database_codepage.new.self (calls.set_database_codepage c.in-SetDatabaseCodepage.page) refl
     (storage_refusal (parts_of s) ++ sound_refusal s.kept.database) (with_page c.in-SetDatabaseCodepage.page s) (λ n. refl)
     c.set_database_codepage.result c.set_database_codepage.ensures.answer c.set_database_codepage.ensures.ok c.set_database_codepage.ensures.same)
+
+-- why a stream isn't taken out, and what is left
+unremoved : State → List ℕ → Refusals
+unremoved s name = name_refusals (parts_of s) name ++ (not (has_stream (parts_of s) name), NotFound) ∷ []
+
+removed : State → List ℕ → State
+removed s name = with_streams (without_stream (stream_key name)) s
+
+pub returns-in-RemoveStream : goal.returns-in-RemoveStream
+unfolding unremoved removed
+returns-in-RemoveStream c =
+    let s = c.args.target.now.state in
+    let name : c.in-RemoveStream.name ≡ c.as_str-in-RemoveStream.result.now = sym c.as_str-in-RemoveStream.ensures in
+    rw c.in-RemoveStream.is (left_takes c.args.target.now c.remove_stream.new.self (calls.remove_stream c.in-RemoveStream.name) refl
+    (unremoved s c.as_str-in-RemoveStream.result.now) (removed s c.as_str-in-RemoveStream.result.now)
+    (λ n. ap (λ (x : List ℕ). leaving s (unremoved s x) (removed s x)) name)
+    c.remove_stream.result c.remove_stream.ensures.answer c.remove_stream.ensures.ok c.remove_stream.ensures.same)
+
+pub returns-in-RemoveDigitalSignature : goal.returns-in-RemoveDigitalSignature
+returns-in-RemoveDigitalSignature c =
+    let s = c.args.target.now.state in
+    rw c.in-RemoveDigitalSignature.is (left_takes c.args.target.now c.remove_digital_signature.new.self calls.remove_digital_signature refl
+    (storage_refusal (parts_of s)) (with_streams without_signature s) (λ n. refl)
+    c.remove_digital_signature.result c.remove_digital_signature.ensures.answer c.remove_digital_signature.ensures.ok c.remove_digital_signature.ensures.same)
