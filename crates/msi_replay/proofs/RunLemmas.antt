@@ -45,7 +45,6 @@ tells_still old new e tells = ap (λ (h : Option Held). is_some (bytes_told h)) 
 pub record IsQuiet (call : Call) : Type 0 where
   pub unflushed : is_flush call ≡ false
   pub alone : asks_device call ≡ false
-  pub fits : FitsCall call
 
 module _ {Y : Type 0} (view : Y → Answer) (old new : Whole) (call : Call) (quiet : IsQuiet call) (tells : Tells old) where
   pub quiet_step : (r : Result (Result Y ErrorKind) ErrorKind) → IfOk r (λ a. Takes old call (told view a) new)
@@ -53,10 +52,10 @@ module _ {Y : Type 0} (view : Y → Answer) (old new : Whole) (call : Call) (qui
   quiet_step (Ok a) t = session_takes old new call (told view a) quiet.unflushed quiet.alone t
   quiet_step (Err kind) t = tt
 
-  pub quiet_fits : (r : Result (Result Y ErrorKind) ErrorKind) → OnOk r (FitsCall call)
-  quiet_fits (Ok a) = quiet.fits
-  quiet_fits (Err kind) = tt
-
   pub quiet_tells : (r : Result (Result Y ErrorKind) ErrorKind) → IfOk r (λ a. Takes old call (told view a) new) → OnOk r (Tells new)
   quiet_tells (Ok a) t = tells_still old new t.held tells
   quiet_tells (Err kind) t = tt
+
+pub call_fits : {X : Type 0} (call : Call) → FitsCall call → (r : Result X ErrorKind) → OnOk r (FitsCall call)
+call_fits call fits (Ok x) = fits
+call_fits call fits (Err kind) = tt

@@ -45,7 +45,7 @@ pub(crate) fn write_stream(
 ) -> Result<Result<Answer, ErrorKind>, Error>
     ensures ok { IfOk result (λ answer. Takes target.old
         (calls.write_stream name (map writer_call_sent steps)) (told answer_told answer) target.new) }
-    ensures fits { IsUtf8 name }
+    ensures fits { OnOk result (IsUtf8 name) }
     ensures kind { OnlyMemory result }
 {
     match target.write_stream(name.as_str()) {

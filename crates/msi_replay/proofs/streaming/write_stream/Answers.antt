@@ -9,3 +9,9 @@ returns-in_ok-answers-in-Ok-clause-ok c =
     rw (← c.as_str.ensures) (write_takes c.args.target.now _ c.as_str.result.now (map writer_call_sent c.args.steps) c.in-Ok.writer.now
     c.write_all.new.writer (map (told stream_answer) c.in_ok-answers-in-Ok.answers) c.in-Ok.ensures.accepted
     c.in-Ok.ensures.start c.in_ok-answers-in-Ok.ensures.ok refl)
+
+pub returns-in_ok-answers-in-Ok-clause-fits : goal.returns-in_ok-answers-in-Ok-clause-fits
+returns-in_ok-answers-in-Ok-clause-fits c = rw (← c.as_str.ensures) c.as_str.utf8
+
+pub returns-in-Err-clause-fits : goal.returns-in-Err-clause-fits
+returns-in-Err-clause-fits c = rw (← c.as_str.ensures) c.as_str.utf8
