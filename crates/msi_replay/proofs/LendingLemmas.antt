@@ -34,9 +34,12 @@ pub asked_takes : (w : Whole) (start : Properties) (questions : List Asked) (ans
     → RunsTo summary_outcome summary_wants_memory start (map ask_sent questions) answers start
     → Takes w (calls.summary_info (map question_sent questions)) (Ok (calls.summary_says answers)) w
 asked_takes w start questions answers is runs = record {
-  step = λ n. lent n w.state (calls.summary_info (map question_sent questions)) w.state w.state (calls.summary_says answers) refl refl
-      (w.state.summary, subst (λ (s : Properties). RunsTo summary_outcome summary_wants_memory s (map calls.ask (map question_sent questions)) answers s) is
-      (subst (λ (cs : List SummaryCall). RunsTo summary_outcome summary_wants_memory start cs answers start) (asked questions) runs), refl);
+  step = λ n. lent n w.state (calls.summary_info (map question_sent questions)) w.state w.state (calls.summary_says answers) refl refl (
+    w.state.summary,
+    subst (λ (s : Properties). RunsTo summary_outcome summary_wants_memory s (map calls.ask (map question_sent questions)) answers s) is
+        (subst (λ (cs : List SummaryCall). RunsTo summary_outcome summary_wants_memory start cs answers start) (asked questions) runs),
+    refl,
+  );
   held = refl;
   failed = refl;
 }

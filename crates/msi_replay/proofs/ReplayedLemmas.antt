@@ -94,9 +94,13 @@ module _ (kind : PackageType) (sent : List Call) (answers : List (Result Answer 
 
   refused_by : (n : ℕ) (error : ErrorKind) → n ≡ length (session_at last).held → Step n last.state calls.flush (Err error) left.state
       → IsReplayRefused kind sent error
-  refused_by n error is (inl e) = inr (inr (inr (answers, session_at last, from_new,
-      ap (λ (m : ℕ). written_for last.state m) (sym is)
-      ∙ refused_for last.state left.state last.state.is_unwritten (written_for last.state n) error e)))
+  refused_by n error is (inl e) = inr (inr (inr (
+    answers,
+    session_at last,
+    from_new,
+    ap (λ (m : ℕ). written_for last.state m) (sym is)
+        ∙ refused_for last.state left.state last.state.is_unwritten (written_for last.state n) error e,
+  )))
   refused_by n error is (inr (inl memory)) = let e = memory.1 in inl cc
   refused_by n error is (inr (inr fault)) = let e = fault.1 in inr (inl cc)
 

@@ -60,10 +60,11 @@ module _ (old new : Whole) (name : List ℕ) (sent : List WriterCall) where
       → Takes old (calls.write_stream name sent) (Ok (calls.stream_says answers)) new
   write_takes start left answers accepted is runs ends =
       lent_takes old new (calls.write_stream name sent) refl (name_refusals (parts_of old.state) name)
-      (with_streams (with_stream (stream_key name) []) old.state) (λ n. refl) (calls.stream_says answers) accepted
-      (lent_cursor left,
-      subst (λ (c : streams.Cursor). RunsTo writer_outcome writer_wants_memory (lent_cursor c) sent answers (lent_cursor left)) is runs,
-      ap (λ (w : Whole). w.state) ends ∙ sym (rewritten (stream_key name) left.bytes old.state))
+      (with_streams (with_stream (stream_key name) []) old.state) (λ n. refl) (calls.stream_says answers) accepted (
+        lent_cursor left,
+        subst (λ (c : streams.Cursor). RunsTo writer_outcome writer_wants_memory (lent_cursor c) sent answers (lent_cursor left)) is runs,
+        ap (λ (w : Whole). w.state) ends ∙ sym (rewritten (stream_key name) left.bytes old.state),
+      )
       (ap (λ (w : Whole). w.held) ends) (ap (λ (w : Whole). w.failed) ends)
 
   pub write_refused : (kind : ErrorKind) → (kind ≡ OutOfMemory) ⊎ (first_refusal (name_refusals (parts_of old.state) name) ≡ Some kind)
@@ -89,10 +90,11 @@ module _ (w : Whole) (name : List ℕ) (sent : List ReaderCall) where
       → RunsTo reader_outcome reader_wants_memory (lent_cursor start) sent answers (lent_cursor left)
       → Takes w (calls.read_stream name sent) (Ok (calls.stream_says answers)) w
   read_takes start left answers accepted is runs =
-      lent_takes w w (calls.read_stream name sent) refl (read_refusals w.state name) w.state (λ n. refl) (calls.stream_says answers) accepted
-      (lent_cursor left,
-      subst (λ (c : streams.Cursor). RunsTo reader_outcome reader_wants_memory (lent_cursor c) sent answers (lent_cursor left)) is runs,
-      refl) refl refl
+      lent_takes w w (calls.read_stream name sent) refl (read_refusals w.state name) w.state (λ n. refl) (calls.stream_says answers) accepted (
+        lent_cursor left,
+        subst (λ (c : streams.Cursor). RunsTo reader_outcome reader_wants_memory (lent_cursor c) sent answers (lent_cursor left)) is runs,
+        refl,
+      ) refl refl
 
   pub read_refused : (kind : ErrorKind) → first_refusal (read_refusals w.state name) ≡ Some kind
       → Takes w (calls.read_stream name sent) (Err kind) w

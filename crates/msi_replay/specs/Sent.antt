@@ -7,7 +7,8 @@ use Rattle.msi_stream.specs.Cursor as streams
 use Rattle.msi.specs.Calls as calls
 use Rattle.msi.specs.Lent.{Cursor}
 use Rattle.msi_replay.specs.declared.call.TextProperty.{TextProperty}
-use Rattle.msi_replay.specs.declared.call.TextProperty.TheVariants.{Title, Subject, Author, Comments, LastSavedBy, CreatingApplication}
+use Rattle.msi_replay.specs.declared.call.TextProperty.TheVariants.{Title, Subject, Author, Comments, LastSavedBy}
+use Rattle.msi_replay.specs.declared.call.TextProperty.TheVariants.{CreatingApplication}
 use Rattle.msi_replay.specs.declared.call.NumberProperty.{NumberProperty}
 use Rattle.msi_replay.specs.declared.call.NumberProperty.TheVariants.{PageCount, WordCount, CharacterCount, DocSecurity}
 use Rattle.msi_replay.specs.declared.call.TimeProperty.{TimeProperty}

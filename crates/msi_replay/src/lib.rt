@@ -12,6 +12,8 @@ mod streaming;
 mod summary;
 
 pub use answer::{Answer, StreamAnswer, SummaryAnswer};
-pub use call::{Call, Change, Clearing, LookUp, ReaderCall, Setting, SummaryCall, SummaryQuestion, WriterCall};
-pub use call::{NumberProperty, TextProperty, TimeProperty};
+pub use call::{
+    Call, Change, Clearing, LookUp, NumberProperty, ReaderCall, Setting, SummaryCall,
+    SummaryQuestion, TextProperty, TimeProperty, WriterCall,
+};
 pub use replaying::{Replayed, replay};

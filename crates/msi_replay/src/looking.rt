@@ -71,7 +71,8 @@ fn copied_columns(alloc: Global, columns: &[Column]) -> Result<Items<Column>, Er
 /// # Errors
 /// `OutOfMemory`.
 fn all_rows(alloc: Global, rows: Rows<'_>) -> Result<Items<Row>, Error>
-    ensures ok { IfOk result (λ all. map (λ (row : RowDef). row.values) all ≡ rows_values rows.entry.places rows.entry.rows) }
+    ensures ok { IfOk result (λ all.
+        map (λ (row : RowDef). row.values) all ≡ rows_values rows.entry.places rows.entry.rows) }
     ensures kind { OnlyMemory result }
 {
     let mut all = Vec::new(alloc);

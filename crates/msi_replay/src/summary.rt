@@ -19,8 +19,9 @@ ghost use Rattle.msi_replay.specs.Sent.{summary_call_sent, text_named, time_name
 ghost use Rattle.msi_replay.specs.Told.{summary_answer, told};
 
 use crate::answer::SummaryAnswer;
-use crate::call::{Clearing, Setting, SummaryCall, SummaryQuestion};
-use crate::call::{NumberProperty, TextProperty, TimeProperty};
+use crate::call::{
+    Clearing, NumberProperty, Setting, SummaryCall, SummaryQuestion, TextProperty, TimeProperty,
+};
 use msi_summary::SummaryInfo;
 use msi_text::errors::{Error, ErrorKind};
 use msi_text::text::{IntoText, Items, Text};
@@ -176,11 +177,7 @@ fn set_text(summary: &mut SummaryInfo, property: TextProperty, text: Text) -> Re
 ///
 /// # Errors
 /// `OutOfMemory`; then the summary is as before.
-fn set_number(
-    summary: &mut SummaryInfo,
-    property: NumberProperty,
-    number: i32,
-) -> Result<(), Error>
+fn set_number(summary: &mut SummaryInfo, property: NumberProperty, number: i32) -> Result<(), Error>
     ensures ok { OnOk result (summary.new ≡ with_number (number_id (number_named property)) number summary.old) }
     ensures kind { OnlyMemory result }
     ensures err { OnErr result (summary.new ≡ summary.old) }
@@ -198,11 +195,7 @@ fn set_number(
 ///
 /// # Errors
 /// `OutOfMemory`; then the summary is as before.
-fn set_time(
-    summary: &mut SummaryInfo,
-    property: TimeProperty,
-    time: Timestamp,
-) -> Result<(), Error>
+fn set_time(summary: &mut SummaryInfo, property: TimeProperty, time: Timestamp) -> Result<(), Error>
     ensures ok { OnOk result (summary.new ≡ with_time (time_id (time_named property)) time summary.old) }
     ensures kind { OnlyMemory result }
     ensures err { OnErr result (summary.new ≡ summary.old) }

@@ -20,7 +20,7 @@ pub returns-in_err-flush-clause-refused : goal.returns-in_err-flush-clause-refus
 returns-in_err-flush-clause-refused c =
     let p = err_from_is_err_and c.from_residual.result c.from_residual.ensures.1 in
     let start = new_session c.args.kind (Some c.empty_device.result.held) c.empty_device.result.failed c.empty_device.ensures
-        c.in_ok-target.target c.in_ok-target.ensures.held in
+    c.in_ok-target.target c.in_ok-target.ensures.held in
     rw (p.1, p.2) (replay_refused c.args.kind (map call_sent c.args.steps.items) (map (told answer_told) c.in_ok-answers.answers)
     c.in_ok-target.target c.carry_out_all.new.target c.flush.new.self start c.in_ok-answers.ensures.run c.in_ok-answers.ensures.tells
     _ c.in_err-flush.ensures)
@@ -28,7 +28,7 @@ returns-in_err-flush-clause-refused c =
 pub returns-clause-ok : goal.returns-clause-ok
 returns-clause-ok c =
     let start = new_session c.args.kind (Some c.empty_device.result.held) c.empty_device.result.failed c.empty_device.ensures
-        c.in_ok-target.target c.in_ok-target.ensures.held in
+    c.in_ok-target.target c.in_ok-target.ensures.held in
     replay_means c.args.kind (map call_sent c.args.steps.items) (map (told answer_told) c.in_ok-answers.answers)
     c.in_ok-target.target c.carry_out_all.new.target c.flush.new.self start c.in_ok-answers.ensures.run c.in_ok-answers.ensures.tells
     c.in_ok-answers.ensures.fits c.in_ok-flush.ensures (Some c.into_reader.result.held) c.into_vec.result.items
