@@ -94,8 +94,8 @@ fn empty_device(alloc: Global) -> Memory
 /// the package that the calls left.
 ///
 /// # Errors
-/// `OutOfMemory`. Else what the last flush is refused as: `InvalidInput` where a page doesn't carry a text, or the file
-/// would pass 2^31 bytes.
+/// `OutOfMemory`, and `Io` where the device can't grow. Else what the last flush is refused as: `InvalidInput` where a
+/// page doesn't carry a text, or the file would pass 2^31 bytes.
 pub fn replay(alloc: Global, kind: PackageType, steps: Vec<Call>) -> Result<Replayed, Error>
     ensures ok { IfOk result (λ replayed. IsReplay kind (map call_sent steps.items)
         (map (told answer_told) replayed.answers) replayed.bytes.items) }
