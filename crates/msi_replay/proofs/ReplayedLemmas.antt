@@ -1,6 +1,6 @@
 -- A new package, calls on it, and a last flush are a replay.
 use Rattle.std.proofs.Common.{◌≡◌, ℕ, Bool, true, false, List, [], ◌∷◌, map, length, Option, Some, None, Result, Ok, Err, refl, sym, ap, subst, ◌∙◌, ◌⊎◌, inl, inr}
-use Rattle.std.specs.Prelude.{IfSome, is_some, unwrap_or, if◌then◌else◌}
+use Rattle.std.specs.Prelude.{IfErr, IfSome, is_some, unwrap_or, if◌then◌else◌}
 use Rattle.std.specs.List.{AllByRecursion}
 use Rattle.std.proofs.lemmas.Option.{same_Some}
 use Rattle.msi_text.specs.ErrorKind.{ErrorKind}
@@ -106,3 +106,8 @@ module _ (kind : PackageType) (sent : List Call) (answers : List (Result Answer 
 
   pub replay_refused : (error : ErrorKind) → FlushStep last (Err error) left → IsReplayRefused kind sent error
   replay_refused error f = refused_by (length (session_at last).held) error refl (flush_step last left (Err error) tells f).0
+
+-- what the exit of a `?` returns
+pub at_exit : {X : Type 0} (r : Result X ErrorKind) (P : ErrorKind → Type 0) (returned error : ErrorKind) → r ≡ Err returned → returned ≡ error
+    → P error → IfErr r P
+at_exit {X} r P returned error is same p = subst (λ (x : Result X ErrorKind). IfErr x P) (sym is) (subst P (sym same) p)
