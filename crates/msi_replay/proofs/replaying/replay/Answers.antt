@@ -28,7 +28,7 @@ pub returns-in_err-flush-clause-refused : goal.returns-in_err-flush-clause-refus
 returns-in_err-flush-clause-refused c =
     let p = err_from_is_err_and c.from_residual-in_err-flush.result c.from_residual-in_err-flush.ensures.1 in
     let start = new_session c.args.kind (Some c.empty_device.result.held) c.empty_device.result.failed c.empty_device.ensures
-        c.in_ok-target.target c.in_ok-target.ensures.held in
+    c.in_ok-target.target c.in_ok-target.ensures.held in
     let sent = map call_sent c.args.steps.items in
     at_exit c.from_residual-in_err-flush.result (IsReplayRefused c.args.kind sent) p.0 _ p.1 p.2
     (replay_refused c.args.kind sent (map (told answer_told) c.in_ok-answers.answers)
