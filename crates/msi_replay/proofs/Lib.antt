@@ -1,0 +1,11 @@
+-- The lemmas of this crate.
+pub mod LendingLemmas
+pub mod RunningLemmas
+pub mod RunLemmas
+pub mod ReplayedLemmas
+pub mod StreamTakesLemmas
+pub mod DeviceLemmas
+pub mod StreamLemmas
+pub mod SummaryLemmas
+pub mod SentLemmas
+pub mod TakenLemmas

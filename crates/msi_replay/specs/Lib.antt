@@ -1,0 +1,4 @@
+-- The words of this crate.
+pub mod Sent
+pub mod Told
+pub mod Taken

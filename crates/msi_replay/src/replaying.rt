@@ -1,0 +1,111 @@
+//! Calls on a new package in memory, carried out in turn.
+
+ghost use Rattle.std.specs.Prelude.{◌≡◌, [], IfErr, IfOk, OnOk, Some, map};
+ghost use Rattle.std.specs.List.{AllByRecursion};
+ghost use Rattle.msi_text.specs.Results.{OnlyMemory};
+ghost use Rattle.msi_device.specs.Held.{bytes_told};
+ghost use Rattle.msi.specs.Runs.{FitsCall, IsReplay, IsReplayRefused, Run, SessionStep};
+ghost use Rattle.msi_replay.specs.Sent.{call_sent};
+ghost use Rattle.msi_replay.specs.Taken.{Tells, session_at};
+ghost use Rattle.msi_replay.specs.Told.{answer_told, told};
+
+use crate::answer::Answer;
+use crate::call::Call;
+use crate::changing::{change, change_summary};
+use crate::device::{flush, image};
+use crate::looking::{ask_summary, look_up, select};
+use crate::streaming::{read_stream, write_stream};
+use msi::{Package, PackageType};
+use msi_device::Memory;
+use msi_text::errors::{Error, ErrorKind};
+use msi_text::text::Items;
+use std::alloc::Global;
+
+/// What calls answered, and the bytes that the package was written as in the end.
+#[derive(Drop)]
+pub struct Replayed {
+    /// What each call answered, in order.
+    pub answers: Items<Result<Answer, ErrorKind>>,
+    /// The bytes.
+    pub bytes: Vec<u8>,
+}
+
+/// Carries out a call on a package.
+///
+/// # Errors
+/// `OutOfMemory` where an answer can't be copied.
+fn carry_out(
+    alloc: Global,
+    target: &mut Package<Memory>,
+    call: Call,
+) -> Result<Result<Answer, ErrorKind>, Error>
+    requires { Tells target.old }
+    ensures step { IfOk result (λ answer. SessionStep (session_at target.old) (call_sent call)
+        (told answer_told answer) (session_at target.new)) }
+    ensures fits { OnOk result (FitsCall (call_sent call)) }
+    ensures tells { OnOk result (Tells target.new) }
+    ensures kind { OnlyMemory result }
+{
+    match call {
+        Call::LookUp(question) => look_up(alloc, target, question),
+        Call::SelectRows(query) => select(alloc, target, query),
+        Call::Change(step) => Ok(change(target, step)),
+        Call::SummaryInfo(questions) => ask_summary(alloc, target, questions),
+        Call::SummaryInfoMut(steps) => change_summary(alloc, target, steps),
+        Call::WriteStream(name, steps) => write_stream(alloc, target, name, steps),
+        Call::ReadStream(name, steps) => read_stream(alloc, target, name, steps),
+        Call::Image(earlier_len) => Ok(image(target, earlier_len)),
+        Call::Flush => Ok(flush(target)),
+        Call::DeviceFailed => Ok(Ok(Answer::Flag(target.device_failed()))),
+    }
+}
+
+/// Carries out calls on a package, one after another.
+///
+/// # Errors
+/// `OutOfMemory` where an answer can't be kept.
+fn carry_out_all(
+    alloc: Global,
+    target: &mut Package<Memory>,
+    steps: Vec<Call>,
+) -> Result<Items<Result<Answer, ErrorKind>>, Error>
+    requires { Tells target.old }
+    ensures run { IfOk result (λ answers. Run (session_at target.old) (map call_sent steps.items)
+        (map (told answer_told) answers) (session_at target.new)) }
+    ensures fits { OnOk result (AllByRecursion FitsCall (map call_sent steps.items)) }
+    ensures tells { OnOk result (Tells target.new) }
+    ensures kind { OnlyMemory result }
+{
+    let mut answers = Vec::new(alloc);
+    for call in steps {
+        answers.push(carry_out(alloc, target, call)?)?;
+    }
+    Ok(Items::from_vec(answers))
+}
+
+/// A device in memory without bytes.
+fn empty_device(alloc: Global) -> Memory
+    ensures { bytes_told (Some result.held) ≡ Some [] }
+{
+    Memory::from_vec(Vec::new(alloc))
+}
+
+/// Makes a package in memory, carries out the calls on it one after another, and writes it. Opening the bytes gives
+/// the package that the calls left.
+///
+/// # Errors
+/// `OutOfMemory`, and `Io` where the device can't grow. Else what the last flush is refused as: `InvalidInput` where a
+/// page doesn't carry a text, or the file would pass 2^31 bytes.
+pub fn replay(alloc: Global, kind: PackageType, steps: Vec<Call>) -> Result<Replayed, Error>
+    ensures ok { IfOk result (λ replayed. IsReplay kind (map call_sent steps.items)
+        (map (told answer_told) replayed.answers) replayed.bytes.items) }
+    ensures refused { IfErr result (IsReplayRefused kind (map call_sent steps.items)) }
+{
+    let mut target = Package::create(alloc, kind, empty_device(alloc))?;
+    let answers = carry_out_all(alloc, &mut target, steps)?;
+    target.flush()?;
+    Ok(Replayed {
+        answers,
+        bytes: target.into_reader().into_vec(),
+    })
+}
