@@ -1,5 +1,5 @@
 -- A flush, and the image of a package, as steps of its session.
-use Rattle.std.proofs.Common.{◌≡◌, ℕ, List, Result, Ok, Err, refl, sym, ap, subst, ◌∙◌}
+use Rattle.std.proofs.Common.{◌≡◌, ℕ, List, Result, Ok, Err, refl, sym, subst, ◌∙◌}
 use Rattle.msi_text.specs.ErrorKind.{ErrorKind}
 use Rattle.msi_relation.specs.Refusals.{IsRefusal}
 use Rattle.msi.specs.Calls.{Answer}

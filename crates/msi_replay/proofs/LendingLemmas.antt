@@ -1,5 +1,5 @@
 -- What calls on what a package lends, and what it selects, are to the package.
-use Rattle.std.proofs.Common.{◌≡◌, ℕ, Option, Some, None, List, [], ◌∷◌, map, Result, Ok, Err, refl, sym, ap, subst, ◌∙◌, inl, inr}
+use Rattle.std.proofs.Common.{◌≡◌, Some, None, List, [], ◌∷◌, map, Result, Ok, Err, refl, sym, ap, subst, ◌∙◌}
 use Rattle.msi_text.specs.ErrorKind.{ErrorKind}
 use Rattle.msi_summary.specs.Properties.{Properties}
 use Rattle.msi_table.specs.declared.value.Value.{Value}
@@ -10,7 +10,7 @@ use Rattle.msi_relation.specs.Refusals.{IsRefusal, first_refusal}
 use Rattle.msi_relation.specs.Rows.{rows_values}
 use Rattle.msi_relation.specs.Selection.{Relation, relation_of}
 use Rattle.msi_changes.specs.Database.{values_of}
-use Rattle.msi.specs.State.{State, parts_of}
+use Rattle.msi.specs.State.{parts_of}
 use Rattle.msi.specs.Calls.{Answer, SummaryAnswer, SummaryCall, SummaryQuestion}
 use Rattle.msi.specs.Calls as calls
 use Rattle.msi.specs.Lent.{RunsTo, summary_outcome, summary_wants_memory}

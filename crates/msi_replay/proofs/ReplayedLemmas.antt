@@ -1,10 +1,8 @@
 -- A new package, calls on it, and a last flush are a replay.
-use Rattle.std.proofs.Common.{◌≡◌, ℕ, Bool, true, false, List, [], ◌∷◌, map, length, Option, Some, None, Result, Ok, Err, refl, sym, ap, subst, ◌∙◌, ◌⊎◌, inl, inr}
+use Rattle.std.proofs.Common.{◌≡◌, ℕ, Bool, true, false, List, [], length, Option, Some, None, Result, Ok, Err, refl, sym, ap, subst, ◌∙◌, inl, inr}
 use Rattle.std.specs.Prelude.{IfErr, IfSome, is_some, unwrap_or, if◌then◌else◌}
 use Rattle.std.specs.List.{AllByRecursion}
-use Rattle.std.proofs.lemmas.Option.{same_Some}
 use Rattle.msi_text.specs.ErrorKind.{ErrorKind}
-use Rattle.msi_text.specs.ErrorKind.TheVariants.{Io, OutOfMemory}
 use Rattle.msi_device.specs.Held.{Held, bytes_told}
 use Rattle.msi_database.specs.Streams.{Streams}
 use Rattle.msi.specs.declared.kinds.PackageType.{PackageType}
@@ -14,7 +12,7 @@ use Rattle.msi.specs.Calls as calls
 use Rattle.msi.specs.Steps.{Step, flushed, written_for}
 use Rattle.msi.specs.Runs.{FitsCall, IsReplay, IsReplayRefused, Run, Session, SessionStep, created, unwritten}
 use Rattle.msi.specs.Whole.{Whole}
-use Rattle.msi.specs.Flushing.{AreSoMany, FlushStep, IsCreateRefused, IsCreated, session_of, told}
+use Rattle.msi.specs.Flushing.{FlushStep, IsCreateRefused, IsCreated, session_of, told}
 use Rattle.msi.proofs.FlushStepLemmas.{flush_session}
 use Rattle.msi.proofs.ReplayLemmas.{created_over_nothing, replays_mean}
 use Rattle.msi_replay.specs.Taken.{Tells, session_at}

@@ -1,11 +1,10 @@
 -- Calls on a package one after another are a run.
-use Rattle.std.proofs.Common.{◌≡◌, ℕ, Bool, true, false, List, [], ◌∷◌, ◌++◌, map, length, Option, Some, None, Result, Ok, Err, refl, sym, ap, subst, ◌∙◌}
+use Rattle.std.proofs.Common.{◌≡◌, false, List, [], ◌∷◌, ◌++◌, map, length, Option, Result, Ok, Err, refl, sym, ap, subst, ◌∙◌}
 use Rattle.std.proofs.lemmas.List.{map-append}
 use Rattle.std.specs.Prelude.{IfOk, OnOk, is_some, unwrap_or}
 use Rattle.msi_text.specs.ErrorKind.{ErrorKind}
 use Rattle.msi_device.specs.Held.{Held, bytes_told}
 use Rattle.msi.specs.Calls.{Call, Answer}
-use Rattle.msi.specs.Calls as calls
 use Rattle.msi.specs.Runs.{FitsCall, Run, Session, SessionStep}
 use Rattle.msi.specs.Whole.{Whole}
 use Rattle.msi.proofs.CallLemmas.{asks_device, session_is}

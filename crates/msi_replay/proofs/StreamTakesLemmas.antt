@@ -1,10 +1,10 @@
 -- What calls on a stream that a package lends are to the package.
-use Rattle.std.proofs.Common.{◌≡◌, ℕ, Option, Some, None, List, [], ◌∷◌, Result, Ok, Err, refl, sym, ap, subst, ◌∙◌, ◌⊎◌, inl, inr}
-use Rattle.std.specs.Prelude.{not, IsTrue}
+use Rattle.std.proofs.Common.{◌≡◌, ℕ, Some, None, List, [], ◌∷◌, Result, Ok, Err, refl, sym, ap, subst, ◌∙◌, ◌⊎◌, inl, inr}
+use Rattle.std.specs.Prelude.{not}
 use Rattle.std.specs.declared.cmp.Ordering.{Ordering}
 use Rattle.std.specs.declared.cmp.Ordering.TheVariants.{Less, Equal, Greater}
 use Rattle.std.specs.Ordering.{ordering_reverse}
-use Rattle.std.specs.FinMap.Entries.{by_order, put}
+use Rattle.std.specs.FinMap.Entries.{by_order}
 use Rattle.msi_text.specs.ErrorKind.{ErrorKind}
 use Rattle.msi_text.specs.ErrorKind.TheVariants.{InvalidInput, NotFound, OutOfMemory}
 use Rattle.msi_relation.specs.Refusals.{Refusals, first_refusal}
@@ -16,7 +16,7 @@ use Rattle.msi_stream.specs.Cursor as streams
 use Rattle.msi.specs.State.{State, parts_of}
 use Rattle.msi.specs.Calls.{StreamAnswer, ReaderCall, WriterCall}
 use Rattle.msi.specs.Calls as calls
-use Rattle.msi.specs.Lent.{RunsTo, at_start, reader_outcome, reader_wants_memory, writer_outcome, writer_wants_memory}
+use Rattle.msi.specs.Lent.{RunsTo, reader_outcome, reader_wants_memory, writer_outcome, writer_wants_memory}
 use Rattle.msi.specs.Steps.{Step, bytes_of_stream, has_stream, name_refusals, with_streams}
 use Rattle.msi.specs.Whole.{Whole, with_state}
 use Rattle.msi.proofs.CallLemmas.{step_unfed}

@@ -1,16 +1,15 @@
 -- What a package's calls ensure is what a call takes.
-use Rattle.std.proofs.Common.{◌≡◌, ℕ, Bool, true, false, Option, Some, None, List, map, Result, Ok, Err, refl, sym, ap, subst, ◌∙◌, inl, inr, length}
-use Rattle.std.specs.Prelude.{IfErr, IfOk, IsTrue, OnErr, OnOk}
+use Rattle.std.proofs.Common.{◌≡◌, ℕ, true, false, Option, Some, None, Result, Ok, Err, refl, sym, ap, subst, ◌∙◌}
+use Rattle.std.specs.Prelude.{IfErr, IsTrue, OnErr, OnOk}
 use Rattle.msi_text.specs.ErrorKind.{ErrorKind}
 use Rattle.msi_relation.specs.Refusals.{Refusals, IsRefusal, first_refusal, unless_refused}
 use Rattle.msi_changes.specs.Changes.{Change}
 use Rattle.msi.specs.State.{State}
 use Rattle.msi.specs.Calls.{Call, Answer}
 use Rattle.msi.specs.Calls as calls
-use Rattle.msi.specs.Lent.{RunsTo, summary_outcome, summary_wants_memory}
 use Rattle.msi.specs.Steps.{Lends, Step, changed, is_lending, leaving, leaving_or, may_want_memory, outcome}
 use Rattle.msi.specs.Whole.{Leaves, Whole, with_state}
-use Rattle.msi.proofs.CallLemmas.{answered, change_done, change_refused, left_done, left_refused, lent, not_lent, step_is, unanswered}
+use Rattle.msi.proofs.CallLemmas.{change_done, change_refused, left_done, left_refused, lent, not_lent, step_is}
 use Rattle.msi_replay.specs.Taken.{Takes}
 use Rattle.msi_replay.specs.Told.{told}
 

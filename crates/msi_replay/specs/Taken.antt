@@ -1,5 +1,5 @@
 -- What a call on a package over a device does, and the session that such a package is.
-use Rattle.std.specs.Prelude.{◌≡◌, ℕ, Bool, true, is_some, List, [], unwrap_or, Result}
+use Rattle.std.specs.Prelude.{◌≡◌, ℕ, true, is_some, [], unwrap_or, Result}
 use Rattle.msi_text.specs.ErrorKind.{ErrorKind}
 use Rattle.msi_device.specs.Held.{bytes_told}
 use Rattle.msi.specs.Calls.{Call, Answer}

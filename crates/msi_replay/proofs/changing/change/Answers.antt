@@ -1,4 +1,3 @@
-use Rattle.std.proofs.Common.{sym}
 use Rattle.msi_replay.proofs.TakenLemmas.{takes_as}
 use Rattle.msi_replay.proofs.changing.change.Goals as goal
 

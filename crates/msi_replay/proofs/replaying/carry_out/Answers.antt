@@ -1,5 +1,4 @@
-use Rattle.std.proofs.Common.{Ok, Bool, Result, ap, map, refl}
-use Rattle.msi_text.specs.ErrorKind.{ErrorKind}
+use Rattle.std.proofs.Common.{Ok, Bool, ap, map, refl}
 use Rattle.msi.specs.Calls.{Answer}
 use Rattle.msi.specs.Calls as calls
 use Rattle.msi_replay.specs.Sent.{change_sent, look_up_sent, question_sent, reader_call_sent, summary_call_sent, writer_call_sent}

@@ -1,7 +1,7 @@
-use Rattle.std.proofs.Common.{◌∙◌, map, refl, sym}
+use Rattle.std.proofs.Common.{map}
 use Rattle.msi_replay.specs.Sent.{reader_call_sent}
 use Rattle.msi_replay.specs.Told.{stream_answer, told}
-use Rattle.msi_replay.proofs.StreamTakesLemmas.{read_refused, read_takes}
+use Rattle.msi_replay.proofs.StreamTakesLemmas.{read_takes}
 use Rattle.msi_replay.proofs.streaming.read_stream.Goals as goal
 
 pub returns-in-Ok-clause-ok : goal.returns-in-Ok-clause-ok

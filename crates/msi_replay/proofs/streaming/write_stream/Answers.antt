@@ -1,7 +1,7 @@
-use Rattle.std.proofs.Common.{◌∙◌, map, refl, sym}
+use Rattle.std.proofs.Common.{map, refl}
 use Rattle.msi_replay.specs.Sent.{writer_call_sent}
 use Rattle.msi_replay.specs.Told.{stream_answer, told}
-use Rattle.msi_replay.proofs.StreamTakesLemmas.{write_refused, write_takes}
+use Rattle.msi_replay.proofs.StreamTakesLemmas.{write_takes}
 use Rattle.msi_replay.proofs.streaming.write_stream.Goals as goal
 
 pub returns-in-Ok-clause-ok : goal.returns-in-Ok-clause-ok
