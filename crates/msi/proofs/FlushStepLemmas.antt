@@ -25,7 +25,7 @@ module _ (s : State) (streams : Streams) (n : ℕ) (written : streams_written s 
   abbrev refused : Bool
   refused = refuses (contents_of s streams) n
 
-  written_is : written_for s n ≡ (if refused then Err InvalidInput else Ok streams)
+  pub written_is : written_for s n ≡ (if refused then Err InvalidInput else Ok streams)
   written_is =
       ap (λ (o : Option Streams). or_refused InvalidInput o >>= λ all. unless_refused (image_refusals s n all) all) written ∙ by_refusal refused
     where
@@ -94,7 +94,7 @@ flush_written s streams k old new before after r unwritten written is w = record
 }
 
 -- one that is refused before it calls the device
-written_refused : (s : State) (n : ℕ) (kind : ErrorKind) → or_refused InvalidInput (streams_written s) ≡ Err kind → written_for s n ≡ Err kind
+pub written_refused : (s : State) (n : ℕ) (kind : ErrorKind) → or_refused InvalidInput (streams_written s) ≡ Err kind → written_for s n ≡ Err kind
 written_refused s n kind e = ap (λ (r : Result Streams ErrorKind). r >>= λ all. unless_refused (image_refusals s n all) all) e
 
 only_input : (o : Option Streams) (kind : ErrorKind) → or_refused InvalidInput o ≡ Err kind → kind ≡ InvalidInput

@@ -34,3 +34,5 @@ pub mod RenewedLemmas
 pub mod OverwritingLemmas
 pub mod FlushStepLemmas
 pub mod OpenStepLemmas
+pub mod CreatingLemmas
+pub mod ImagingLemmas

@@ -19,8 +19,8 @@ use Rattle.msi.specs.Kinds.{clsid_of}
 use Rattle.msi.specs.Calls.{Answer}
 use Rattle.msi.specs.Calls as calls
 use Rattle.msi.specs.State.{State}
-use Rattle.msi.specs.Steps.{Step, answer_of, as_written, contents_of, image_of, pool_put, summary_written}
-use Rattle.msi.specs.Runs.{Session, result_or}
+use Rattle.msi.specs.Steps.{Step, answer_of, as_written, contents_of, image_of, pool_put, summary_written, written_for}
+use Rattle.msi.specs.Runs.{Session, created_over, result_or, unwritten}
 use Rattle.msi.specs.Whole.{Whole, state_of}
 
 -- STREAMS
@@ -137,3 +137,14 @@ left_by (Err kind) s k = s
 
 abbrev pub over_device : State → Option Held → Bool → Whole
 over_device s held failed = record { state = s; held = held; failed = failed }
+
+-- A NEW PACKAGE
+
+-- over a device that tells its bytes it is the session that `created_over` gives
+abbrev pub IsCreated : PackageType → Told → Whole → Type 0
+IsCreated kind old new = IfSome old.bytes (λ bytes. (left : List ℕ) × (bytes_told new.held ≡ Some left)
+    × (created_over kind (length bytes) ≡ Ok (session_of new left)))
+
+abbrev pub IsCreateRefused : PackageType → Told → ErrorKind → Type 0
+IsCreateRefused kind old error = (error ≡ OutOfMemory) ⊎ (error ≡ Io)
+    ⊎ ((n : ℕ) × AreSoMany n old × (written_for (unwritten kind) n ≡ Err error))

@@ -1,0 +1,85 @@
+-- Streams copied in their order, and the image that they give.
+use Rattle.std.proofs.Common.{◌≡◌, ℕ, Bool, true, false, List, [], ◌∷◌, ◌++◌, Option, Some, None, Result, Ok, Err, refl, sym, ap, subst, ◌∙◌, ◌⊎◌, inl, inr, append_assoc}
+use Rattle.std.specs.Prelude.{IsErrOf, IsTrue, T, ◌&&◌, ◌↔◌, if◌then◌else◌}
+use Rattle.std.specs.FinMap.{entries, entries_sorted, entries-insert, insert, is_sorted, put, same_entries_map}
+use Rattle.std.specs.FinMap.Entries.{below_all, by_order}
+use Rattle.std.specs.Ordering.{is_lt, ordering_reverse}
+use Rattle.std.specs.declared.cmp.Ordering.{Ordering}
+use Rattle.std.specs.declared.cmp.Ordering.TheVariants.{Less, Equal, Greater}
+use Rattle.std.proofs.lemmas.List.{append-nil}
+use Rattle.msi_text.specs.ErrorKind.{ErrorKind}
+use Rattle.msi_text.specs.ErrorKind.TheVariants.{InvalidInput, OutOfMemory}
+use Rattle.msi_relation.specs.Refusals.{IsRefusal, or_refused, ◌>>=◌}
+use Rattle.msi_compound.specs.Names.{name_cmp}
+use Rattle.msi_compound.specs.Streams as maps
+use Rattle.msi_compound.specs.declared.contents.Contents.{Contents}
+use Rattle.msi_compound.proofs.NamesLemmas.{names_total}
+use Rattle.msi_compound_write.specs.Layout.{layout, refuses}
+use Rattle.msi_compound_write.proofs.LayoutLemmas.{not_true}
+use Rattle.msi_database.specs.Streams.{Streams, with_stream}
+use Rattle.msi.specs.State.{State}
+use Rattle.msi.specs.Steps.{contents_of, image_of, streams_written, written_for}
+use Rattle.msi.specs.Flushing.{with_renewed}
+use Rattle.msi.proofs.FlushStepLemmas.{written_is, written_refused}
+
+-- STREAMS IN ORDER
+
+front : (a b : Bool) → T (a && b) → T a
+front true b h = tt
+front false b h = h
+
+rest : (a b : Bool) → T (a && b) → T b
+rest true b h = h
+rest false b h = absurd h
+
+turned : (o : Ordering) → T (is_lt o) → ordering_reverse o ≡ Greater
+turned Less h = refl
+turned Equal h = absurd h
+turned Greater h = absurd h
+
+below_one : (name key bytes : List ℕ) (before behind : Streams) → T (below_all name_cmp name (before ++ (key, bytes) ∷ behind)) → T (is_lt (name_cmp name key))
+below_one name key bytes [] behind h = front (is_lt (name_cmp name key)) (below_all name_cmp name behind) h
+below_one name key bytes (s ∷ ss) behind h =
+    below_one name key bytes ss behind (rest (is_lt (name_cmp name s.0)) (below_all name_cmp name (ss ++ (key, bytes) ∷ behind)) h)
+
+-- what comes behind all others is put behind them
+put_last : (key bytes : List ℕ) (before behind : Streams) → T (is_sorted name_cmp (before ++ (key, bytes) ∷ behind)) → put name_cmp key bytes before ≡ before ++ (key, bytes) ∷ []
+put_last key bytes [] behind h = refl
+put_last key bytes (s ∷ ss) behind h =
+    let others : Streams = ss ++ (key, bytes) ∷ behind in
+    let below : T (is_lt (name_cmp s.0 key)) = below_one s.0 key bytes ss behind (front (below_all name_cmp s.0 others) (is_sorted name_cmp others) h) in
+    ap (λ (o : Ordering). by_order o ((key, bytes) ∷ s ∷ ss) ((s.0, bytes) ∷ ss) (s ∷ put name_cmp key bytes ss)) (names_total.antisymm key s.0 ∙ turned (name_cmp s.0 key) below)
+    ∙ ap (λ (all : Streams). s ∷ all) (put_last key bytes ss behind (rest (below_all name_cmp s.0 others) (is_sorted name_cmp others) h))
+
+pub copied_more : (copy new streams : maps.Streams) (key held name bytes : List ℕ) (left behind : Streams) → entries copy ++ left ≡ entries streams → left ≡ (name, bytes) ∷ behind
+    → new ≡ insert copy key held → key ≡ name → held ≡ bytes → entries new ++ behind ≡ entries streams
+copied_more copy new streams key held name bytes left behind so_far is new_is key_is held_is =
+    let whole : entries copy ++ (name, bytes) ∷ behind ≡ entries streams = ap (λ (l : Streams). entries copy ++ l) (sym is) ∙ so_far in
+    let sorted : T (is_sorted name_cmp (entries copy ++ (name, bytes) ∷ behind)) = subst (λ (es : Streams). T (is_sorted name_cmp es)) (sym whole) (entries_sorted streams) in
+    let put_is : entries new ≡ entries copy ++ (name, bytes) ∷ [] =
+        ap entries (new_is ∙ (λ i. insert copy (key_is i) (held_is i))) ∙ entries-insert names_total copy name bytes ∙ put_last name bytes (entries copy) behind sorted in
+    ap (λ (es : Streams). es ++ behind) put_is ∙ append_assoc (entries copy) ((name, bytes) ∷ []) behind ∙ whole
+
+pub copied_all : (copy streams : maps.Streams) (left : Streams) → entries copy ++ left ≡ entries streams → left ≡ [] → copy ≡ streams
+copied_all copy streams left so_far none =
+    same_entries_map copy streams (sym (append-nil (entries copy)) ∙ ap (λ (l : Streams). entries copy ++ l) (sym none) ∙ so_far)
+
+-- THE IMAGE
+
+module _ (s : State) (streams : Streams) (n : ℕ) (written : streams_written s ≡ Some streams) (c : Contents) (same : c ≡ contents_of s streams) where
+  by_refusal : (b : Bool) → refuses c n ≡ b → image_of s n ≡ ((if b then Err InvalidInput else Ok streams) >>= λ all. Ok (layout (contents_of s all) n))
+  by_refusal b is =
+      ap (λ (r : Result Streams ErrorKind). r >>= λ all. Ok (layout (contents_of s all) n))
+      (written_is s streams n written ∙ ap (λ r. if r then Err InvalidInput else Ok streams) (ap (λ (k : Contents). refuses k n) (sym same) ∙ is))
+
+  pub image_done : (bytes : List ℕ) → bytes ≡ layout c n → (refuses c n ≡ true → ⊥) → image_of s n ≡ Ok bytes
+  image_done bytes is accepted =
+      by_refusal false (not_true (refuses c n) accepted) ∙ ap (λ (b : List ℕ). Ok b) (ap (λ (k : Contents). layout k n) (sym same) ∙ sym is)
+
+  pub image_failed : (kind : ErrorKind) → (kind ≡ InvalidInput) ⊎ (kind ≡ OutOfMemory) → (kind ≡ InvalidInput → refuses c n ≡ true) → IsRefusal (image_of s n) kind
+  image_failed kind (inl input) refused = inr (by_refusal true (refused input) ∙ ap Err (sym input))
+  image_failed kind (inr memory) refused = inl memory
+
+pub image_unwritten : (s : State) (n : ℕ) (kind : ErrorKind) → IsRefusal (or_refused InvalidInput (streams_written s)) kind → IsRefusal (image_of s n) kind
+image_unwritten s n kind (inl memory) = inl memory
+image_unwritten s n kind (inr e) = inr (ap (λ (r : Result Streams ErrorKind). r >>= λ all. Ok (layout (contents_of s all) n)) (written_refused s n kind e))

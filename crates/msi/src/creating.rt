@@ -1,0 +1,74 @@
+//! New packages, and packages given back as their devices.
+
+ghost use Rattle.std.specs.Prelude.{◌≡◌, IfErr, IfOk};
+ghost use Rattle.msi.specs.Kinds.{title_of};
+ghost use Rattle.msi.specs.Runs.{fresh};
+ghost use Rattle.msi.specs.Flushing.{FlushStep, IsCreateRefused, IsCreated, flush_answer, told};
+ghost use Rattle.msi.specs.Whole.{Whole};
+
+use crate::kinds::PackageType;
+use crate::package::Package;
+use msi_database::Database;
+use msi_device::Device;
+use msi_stream::OpenStream;
+use msi_summary::parts::new_summary;
+use msi_text::errors::Error;
+use std::alloc::Global;
+
+/// The title in the summary of a new package.
+fn title(kind: PackageType) -> &'static str
+    ensures { result.now ≡ title_of kind }
+{
+    match kind {
+        PackageType::Installer => "Installation Database",
+        PackageType::Patch => "Patch",
+        PackageType::Transform => "Transform",
+    }
+}
+
+impl<F: Device + Drop> Package<F> {
+    /// A new package, written over all that a device holds. It has no table but the system's, and a summary with a title.
+    ///
+    /// # Errors
+    /// `OutOfMemory`. `Io` where a call of the device failed. `InvalidInput` where the device holds so many bytes that the
+    /// file would pass 2^31.
+    pub fn create(alloc: Global, kind: PackageType, inner: F) -> Result<Package<F>, Error>
+        ensures state { IfOk result (λ made. made.state ≡ fresh kind) }
+        ensures held { IfOk result (λ made. IsCreated kind (told (F.held inner) (F.failed inner)) made) }
+        ensures failed { IfOk result (λ made. made.failed ≡ false) }
+        ensures refused { IfErr result (IsCreateRefused kind (told (F.held inner) (F.failed inner))) }
+    {
+        let mut package = Package {
+            device: inner,
+            alloc,
+            kind,
+            summary: new_summary(alloc, title(kind))?,
+            database: Database::new(alloc)?,
+            open: None,
+            current: OpenStream::new(alloc),
+            has_storages: false,
+            is_unwritten: true,
+            is_summary_lent: true,
+            is_pool_changed: true,
+        };
+        package.flush()?;
+        Ok(package)
+    }
+}
+
+impl<F: Device> Package<F> {
+    /// The device, after a flush. Where that fails, the package is handed back as the flush leaves it.
+    ///
+    /// # Errors
+    /// Those of `flush`.
+    pub fn into_inner(mut self) -> Result<F, (Error, Package<F>)>
+        ensures ok { IfOk result (λ inner. (left : Whole) × FlushStep self (flush_answer (Ok tt)) left
+            × (F.held inner ≡ left.held) × (F.failed inner ≡ left.failed)) }
+        ensures refused { IfErr result (λ refused. FlushStep self (flush_answer (Err refused.0)) refused.1) }
+    {
+        match self.flush() {
+            Ok(()) => Ok(self.into_reader()),
+            Err(error) => Err((error, self)),
+        }
+    }
+}
