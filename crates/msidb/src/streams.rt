@@ -33,12 +33,7 @@ fn write_names<W: Write>(names: Streams<'_>, lines: &mut W) -> Result<(), Error>
 }
 
 /// Prints the bytes of a stream as they are.
-pub(crate) fn print_bytes<R, O>(
-    rt: &R,
-    file: &str,
-    name: &str,
-    output: &mut O,
-) -> Result<(), Error>
+pub(crate) fn print_bytes<R, O>(rt: &R, file: &str, name: &str, output: &mut O) -> Result<(), Error>
 where
     R: Files + AllocGlobal,
     R::File: Read + Seek + Drop,
@@ -54,12 +49,7 @@ where
 
 /// Stores standard input as a stream of a package, and writes the package. The input is read before the package is, since
 /// its faults are told first.
-pub(crate) fn store_input<R, I>(
-    rt: &R,
-    file: &str,
-    name: &str,
-    input: &mut I,
-) -> Result<(), Error>
+pub(crate) fn store_input<R, I>(rt: &R, file: &str, name: &str, input: &mut I) -> Result<(), Error>
 where
     R: Files + AllocGlobal,
     R::File: Read + Write + Seek + Drop,
@@ -74,7 +64,11 @@ where
 }
 
 /// Makes the stream of a name, or empties it, and fills it with these bytes, which are dropped.
-fn fill_stream<F: Device>(package: &mut Package<F>, name: &str, bytes: Vec<u8>) -> Result<(), Error> {
+fn fill_stream<F: Device>(
+    package: &mut Package<F>,
+    name: &str,
+    bytes: Vec<u8>,
+) -> Result<(), Error> {
     let stream = package.write_stream(name)?;
     stream.write_all(bytes.as_slice())?;
     Ok(())

@@ -64,7 +64,11 @@ fn write_numbers<W: Write>(summary: &SummaryInfo, lines: &mut W) -> io::Result<(
     write_value("page_count", summary.page_count(), lines)?;
     write_value("word_count", summary.word_count(), lines)?;
     write_value("character_count", summary.character_count(), lines)?;
-    write_value("creating_application", summary.creating_application(), lines)?;
+    write_value(
+        "creating_application",
+        summary.creating_application(),
+        lines,
+    )?;
     write_value("doc_security", summary.doc_security(), lines)
 }
 

@@ -35,12 +35,7 @@ fn write_names<W: Write>(tables: &[Table], lines: &mut W) -> io::Result<()> {
 }
 
 /// Prints the names of a table's columns on a line, and then each row on one of its own.
-pub(crate) fn print_rows<R, O>(
-    rt: &R,
-    file: &str,
-    table: &str,
-    output: &mut O,
-) -> Result<(), Error>
+pub(crate) fn print_rows<R, O>(rt: &R, file: &str, table: &str, output: &mut O) -> Result<(), Error>
 where
     R: Files + AllocGlobal,
     R::File: Read + Seek + Drop,
