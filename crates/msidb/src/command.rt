@@ -1,7 +1,7 @@
 //! What the words on the command line ask for.
 
-ghost use Rattle.std.specs.Prelude.{◌≡◌, is_some};
-ghost use Rattle.msidb.specs.Commands.{fits_command, takes_file, takes_name};
+ghost use Rattle.std.specs.Prelude.{◌≡◌, ◌∷◌, [], IfSome, is_some};
+ghost use Rattle.msidb.specs.Commands.{fits_command, takes_file, takes_name, texts_of, words_of};
 
 /// A command with its operands.
 #[derive(Clone, Copy, Debug)]
@@ -29,7 +29,8 @@ pub enum Command<'a> {
 impl<'a> Command<'a> {
     /// The command that the words fit, if there is one.
     pub(crate) fn parse(words: &'a [String]) -> Option<Command<'a>>
-        ensures { is_some result ≡ fits_command words.now }
+        ensures fits { is_some result ≡ fits_command words.now }
+        ensures asked { IfSome result (λ command. words_of command ≡ texts_of words.now) }
     {
         match words {
             [verb, file] => Command::of_file(verb.as_str(), file.as_str()),
@@ -40,7 +41,8 @@ impl<'a> Command<'a> {
 
     /// The command of this verb on a file alone, if there is one.
     fn of_file(verb: &str, file: &'a str) -> Option<Command<'a>>
-        ensures { is_some result ≡ takes_file verb.now }
+        ensures fits { is_some result ≡ takes_file verb.now }
+        ensures asked { IfSome result (λ command. words_of command ≡ verb.now ∷ file.now ∷ []) }
     {
         match verb {
             "raw" => Some(Command::Raw { file }),
@@ -54,7 +56,8 @@ impl<'a> Command<'a> {
 
     /// The command of this verb on a file and a name, if there is one.
     fn of_name(verb: &str, file: &'a str, name: &'a str) -> Option<Command<'a>>
-        ensures { is_some result ≡ takes_name verb.now }
+        ensures fits { is_some result ≡ takes_name verb.now }
+        ensures asked { IfSome result (λ command. words_of command ≡ verb.now ∷ file.now ∷ name.now ∷ []) }
     {
         match verb {
             "wrap" => Some(Command::Wrap { out: file, name }),
