@@ -1,9 +1,11 @@
 -- What a new package is once it is flushed.
 use Rattle.std.proofs.Common.{◌≡◌, ℕ, Bool, true, false, List, [], length, Option, Some, None, Result, Ok, Err, refl, sym, ap, subst, ◌∙◌, ◌⊎◌, inl, inr}
-use Rattle.std.specs.Prelude.{IfSome}
+use Rattle.std.specs.Prelude.{IfErr, IfSome, IsErrAnd}
 use Rattle.std.proofs.lemmas.Option.{same_Some}
 use Rattle.msi_text.specs.ErrorKind.{ErrorKind}
 use Rattle.msi_text.specs.ErrorKind.TheVariants.{Io, OutOfMemory}
+use Rattle.msi_summary.specs.Properties.{Properties}
+use Rattle.msi_summary.specs.Summary.{new_summary}
 use Rattle.msi_relation.specs.Refusals.{◌>>=◌}
 use Rattle.msi_device.specs.Held.{Held, bytes_told}
 use Rattle.msi_compound_write.specs.Layout.{layout}
@@ -13,12 +15,13 @@ use Rattle.msi_database.specs.Fresh as databases
 use Rattle.msi_database.specs.Streams.{Streams}
 use Rattle.msi_database.proofs.FreshLemmas.{fresh_is_kept}
 use Rattle.msi.specs.declared.kinds.PackageType.{PackageType}
+use Rattle.msi.specs.Kinds.{title_of}
 use Rattle.msi.specs.State.{State}
 use Rattle.msi.specs.Calls.{Answer}
 use Rattle.msi.specs.Calls as calls
 use Rattle.msi.specs.Steps.{Step, as_written, contents_of, flushed, written_for}
 use Rattle.msi.specs.Runs.{Session, SessionStep, created_over, fresh, unwritten}
-use Rattle.msi.specs.Whole.{IsHeld, Whole}
+use Rattle.msi.specs.Whole.{IsHeld, Whole, state_of, with_open}
 use Rattle.msi.specs.Flushing.{AreSoMany, FlushStep, IsCreateRefused, IsCreated, over_device, session_of, told}
 use Rattle.msi.proofs.FreshLemmas.{fresh_written}
 use Rattle.msi.proofs.StepLemmas.{written_is}
@@ -67,7 +70,7 @@ created_from k bytes failed y step =
     let d = step_done k n y.state step.0 in
     let held : layout (contents_of (unwritten k) d.streams) n ≡ y.held = ap (λ (s : State). layout (contents_of s s.kept.streams) n) d.left ∙ sym step.1.0 in
     let same : ◌≡◌ {A = Session} (record { state = as_written (unwritten k) d.streams; held = layout (contents_of (unwritten k) d.streams) n; failed = false }) y =
-        (λ i. record { state = d.left i; held = held i; failed = sym step.1.1 i }) in
+    (λ i. record { state = d.left i; held = held i; failed = sym step.1.1 i }) in
     ap (λ (r : Result Streams ErrorKind). r >>= λ streams. Ok (record { state = as_written (unwritten k) streams; held = layout (contents_of (unwritten k) streams) n; failed = false })) d.written
     ∙ ap (λ (s : Session). Ok s) same
 
@@ -96,3 +99,15 @@ module _ (k : PackageType) (held : Option Held) (failed : Bool) (new : Whole) wh
 -- a new database is sound
 pub fresh_held : (k : Kept) → k ≡ databases.fresh → IsHeld k None true
 fresh_held k is = record { current = tt; changed = λ _. ap (λ (k : Kept). is_sound k.database) is ∙ fresh_is_kept.sound }
+
+-- the fields before the first write
+pub made_from : (k : PackageType) (summary : Properties) (database : Kept) (bytes : List ℕ) → summary ≡ new_summary (title_of k) → database ≡ databases.fresh
+    → state_of k summary (with_open None bytes database) false true true true ≡ unwritten k
+made_from k summary database bytes summary_is database_is = λ i. state_of k (summary_is i) (with_open None bytes (database_is i)) false true true true
+
+pub err_as : {A : Type 0} (r : Result A ErrorKind) (P : ErrorKind → Type 0) (kind : ErrorKind) → P kind → r ≡ Err kind → IfErr r P
+err_as {A} r P kind p is = subst (λ (a : Result A ErrorKind). IfErr a P) (sym is) p
+
+pub is_err_of : {A : Type 0} (r : Result A ErrorKind) (kind : ErrorKind) → IsErrAnd r (λ k. k ≡ kind) → r ≡ Err kind
+is_err_of (Ok x) kind h = absurd h
+is_err_of (Err k) kind h = ap Err h

@@ -1,7 +1,7 @@
 -- Streams copied in their order, and the image that they give.
-use Rattle.std.proofs.Common.{◌≡◌, ℕ, Bool, true, false, List, [], ◌∷◌, ◌++◌, Option, Some, None, Result, Ok, Err, refl, sym, ap, subst, ◌∙◌, ◌⊎◌, inl, inr, append_assoc}
-use Rattle.std.specs.Prelude.{IsErrOf, IsTrue, T, ◌&&◌, ◌↔◌, if◌then◌else◌}
-use Rattle.std.specs.FinMap.{entries, entries_sorted, entries-insert, insert, is_sorted, put, same_entries_map}
+use Rattle.std.proofs.Common.{◌≡◌, ℕ, Bool, true, false, List, [], ◌∷◌, ◌++◌, Option, Some, None, Result, Ok, Err, refl, sym, ap, subst, ◌∙◌, ◌⊎◌, inl, inr, append_assoc, arith, length}
+use Rattle.std.specs.Prelude.{IfErr, IfOk, IsErrOf, IsTrue, T, ◌&&◌, ◌↔◌, if◌then◌else◌}
+use Rattle.std.specs.FinMap.{entries, entries_sorted, entries-insert, empty, insert, is_sorted, len-empty, len-entries, put, same_entries_map}
 use Rattle.std.specs.FinMap.Entries.{below_all, by_order}
 use Rattle.std.specs.Ordering.{is_lt, ordering_reverse}
 use Rattle.std.specs.declared.cmp.Ordering.{Ordering}
@@ -20,6 +20,7 @@ use Rattle.msi_database.specs.Streams.{Streams, with_stream}
 use Rattle.msi.specs.State.{State}
 use Rattle.msi.specs.Steps.{contents_of, image_of, streams_written, written_for}
 use Rattle.msi.specs.Flushing.{with_renewed}
+use Rattle.msi.specs.Whole.{opened}
 use Rattle.msi.proofs.FlushStepLemmas.{written_is, written_refused}
 
 -- STREAMS IN ORDER
@@ -57,7 +58,7 @@ copied_more copy new streams key held name bytes left behind so_far is new_is ke
     let whole : entries copy ++ (name, bytes) ∷ behind ≡ entries streams = ap (λ (l : Streams). entries copy ++ l) (sym is) ∙ so_far in
     let sorted : T (is_sorted name_cmp (entries copy ++ (name, bytes) ∷ behind)) = subst (λ (es : Streams). T (is_sorted name_cmp es)) (sym whole) (entries_sorted streams) in
     let put_is : entries new ≡ entries copy ++ (name, bytes) ∷ [] =
-        ap entries (new_is ∙ (λ i. insert copy (key_is i) (held_is i))) ∙ entries-insert names_total copy name bytes ∙ put_last name bytes (entries copy) behind sorted in
+    ap entries (new_is ∙ (λ i. insert copy (key_is i) (held_is i))) ∙ entries-insert names_total copy name bytes ∙ put_last name bytes (entries copy) behind sorted in
     ap (λ (es : Streams). es ++ behind) put_is ∙ append_assoc (entries copy) ((name, bytes) ∷ []) behind ∙ whole
 
 pub copied_all : (copy streams : maps.Streams) (left : Streams) → entries copy ++ left ≡ entries streams → left ≡ [] → copy ≡ streams
@@ -83,3 +84,48 @@ module _ (s : State) (streams : Streams) (n : ℕ) (written : streams_written s 
 pub image_unwritten : (s : State) (n : ℕ) (kind : ErrorKind) → IsRefusal (or_refused InvalidInput (streams_written s)) kind → IsRefusal (image_of s n) kind
 image_unwritten s n kind (inl memory) = inl memory
 image_unwritten s n kind (inr e) = inr (ap (λ (r : Result Streams ErrorKind). r >>= λ all. Ok (layout (contents_of s all) n)) (written_refused s n kind e))
+
+-- the answer of a call that makes the image
+module _ (s : State) (streams : Streams) (n : ℕ) (written : streams_written s ≡ Some streams) (c : Contents) (same : c ≡ contents_of s streams) where
+  pub answer_done : {A : Type 0} (items : A → List ℕ) (r : Result A ErrorKind) → IfOk r (λ x. items x ≡ layout c n) → (IsErrOf r InvalidInput ↔ IsTrue (refuses c n))
+      → IfOk r (λ x. image_of s n ≡ Ok (items x))
+  answer_done items (Ok x) is refused = image_done s streams n written c same (items x) is (λ h. let e = refused.1 h in absurd cc)
+  answer_done items (Err kind) is refused = tt
+
+  pub answer_failed : {A : Type 0} (r : Result A ErrorKind) → (IsErrOf r InvalidInput ↔ IsTrue (refuses c n)) → IfErr r (λ kind. (kind ≡ InvalidInput) ⊎ (kind ≡ OutOfMemory))
+      → IfErr r (IsRefusal (image_of s n))
+  answer_failed (Ok x) refused kinds = tt
+  answer_failed (Err kind) refused kinds = image_failed s streams n written c same kind kinds (λ e. refused.0 (ap Err e))
+
+-- the streams that are copied
+
+no_items : (es : Streams) → length es ≡ 0 → es ≡ []
+no_items [] none = refl
+no_items (e ∷ es) none = absurd (omega arith)
+
+no_entries : entries (empty {X = List ℕ} {R = name_cmp}) ≡ []
+no_entries = no_items (entries empty) (sym (len-entries empty) ∙ len-empty name_cmp (List ℕ))
+
+pub nothing_copied : (copy streams : maps.Streams) (left : Streams) → copy ≡ empty → left ≡ entries streams → entries copy ++ left ≡ entries streams
+nothing_copied copy streams left none is = ap (λ (m : maps.Streams). entries m ++ left) none ∙ ap (λ (es : Streams). es ++ left) no_entries ∙ is
+
+pub put_more : (streams new : maps.Streams) (name bytes : List ℕ) (items behind whole : Streams) → with_renewed items (entries streams) ≡ whole → items ≡ (name, bytes) ∷ behind
+    → new ≡ insert streams name bytes → with_renewed behind (entries new) ≡ whole
+put_more streams new name bytes items behind whole so_far is new_is =
+    ap (λ (m : maps.Streams). with_renewed behind (entries m)) new_is
+    ∙ ap (with_renewed behind) (entries-insert names_total streams name bytes)
+    ∙ ap (λ rs. with_renewed rs (entries streams)) (sym is)
+    ∙ so_far
+
+pub settled_some : (copy new streams : maps.Streams) (key held name bytes : List ℕ) (o : Option (List ℕ)) → copy ≡ streams → new ≡ insert copy key held → key ≡ name → held ≡ bytes → o ≡ Some name
+    → entries new ≡ opened o bytes (entries streams)
+settled_some copy new streams key held name bytes o copy_is new_is key_is held_is o_is =
+    ap entries (new_is ∙ (λ i. insert (copy_is i) (key_is i) (held_is i))) ∙ entries-insert names_total streams name bytes
+    ∙ ap (λ (p : Option (List ℕ)). opened p bytes (entries streams)) (sym o_is)
+
+pub settled_none : (copy streams : maps.Streams) (bytes : List ℕ) (o : Option (List ℕ)) → copy ≡ streams → o ≡ None → entries copy ≡ opened o bytes (entries streams)
+settled_none copy streams bytes o copy_is o_is = ap entries copy_is ∙ ap (λ (p : Option (List ℕ)). opened p bytes (entries streams)) (sym o_is)
+
+pub all_put : (m : maps.Streams) (copy : maps.Streams) (renewed items now was : Streams) → entries m ≡ with_renewed renewed (entries copy) → renewed ≡ items → entries copy ≡ now → now ≡ was
+    → entries m ≡ with_renewed items was
+all_put m copy renewed items now was put same copy_is now_is = put ∙ (λ i. with_renewed (same i) ((copy_is ∙ now_is) i))

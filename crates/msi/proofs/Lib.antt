@@ -6,6 +6,11 @@ pub mod RangeRows
 pub mod KeyNameLemmas
 pub mod OpenLemmas
 pub mod ChangeLemmas
+pub mod PackedKeyLemmas
+pub mod StreamCallLemmas
+pub mod StreamNameLemmas
+pub mod StreamRefusalLemmas
+pub mod StreamWriteLemmas
 pub mod OtherStreamLemmas
 pub mod SummarySetLemmas
 pub mod AgreementLemmas

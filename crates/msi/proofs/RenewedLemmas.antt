@@ -47,10 +47,10 @@ pub pool_added : (pool : Pool) (old new : Streams) (entries texts data_key pool_
 pool_added pool old new entries texts data_key pool_key told e t data_is pool_is new_is m =
     pool_put_is pool (with_renewed old m) entries texts told e t
     ∙ ap Some (sym (
-        ap (λ rs. with_renewed rs m) new_is
-        ∙ renewed_last (old ++ (data_key, texts) ∷ []) pool_key entries m
-        ∙ ap (with_stream pool_key entries) (renewed_last old data_key texts m)
-        ∙ (λ i. with_stream (pool_is i) entries (with_stream (data_is i) texts (with_renewed old m)))))
+    ap (λ rs. with_renewed rs m) new_is
+    ∙ renewed_last (old ++ (data_key, texts) ∷ []) pool_key entries m
+    ∙ ap (with_stream pool_key entries) (renewed_last old data_key texts m)
+    ∙ (λ i. with_stream (pool_is i) entries (with_stream (data_is i) texts (with_renewed old m)))))
 
 -- THEIR NAMES
 
@@ -80,8 +80,8 @@ pub pool_others : (old new : Streams) (entries texts data_key pool_key : List �
 pool_others old new entries texts data_key pool_key data_is pool_is new_is d sound all =
     subst (AreOthers d) (sym new_is)
     (others_last d (old ++ (data_key, texts) ∷ []) pool_key entries
-        (others_last d old data_key texts all (subst (IsOther d) (sym data_is) (texts_are_other d sound)))
-        (subst (IsOther d) (sym pool_is) (pool_is_other d sound)))
+    (others_last d old data_key texts all (subst (IsOther d) (sym data_is) (texts_are_other d sound)))
+    (subst (IsOther d) (sym pool_is) (pool_is_other d sound)))
 
 -- the pool's streams have names
 pool_is_named : is_some (named (table_key string_pool_name)) ≡ true
@@ -104,8 +104,8 @@ pool_has_name name o (inr e) is none = nothing_named (table_key string_data_name
 back_in : (m : maps.Streams) (name bytes : List ℕ) → with_stream_or_none name (stream_at name (entries m)) (with_stream name bytes (entries m)) ≡ entries m
 back_in m name bytes =
     sym (entries_either (insert m name bytes) name (get m name)
-        ∙ ap (λ (o : Option (List ℕ)). with_stream_or_none name o (entries (insert m name bytes))) (get-entries m name)
-        ∙ ap (with_stream_or_none name (stream_at name (entries m))) (entries-insert names_total m name bytes))
+    ∙ ap (λ (o : Option (List ℕ)). with_stream_or_none name o (entries (insert m name bytes))) (get-entries m name)
+    ∙ ap (with_stream_or_none name (stream_at name (entries m))) (entries-insert names_total m name bytes))
     ∙ ap entries (put_back_same m name bytes)
 
 put_back : (streams : Streams) (name bytes : List ℕ) → AreSorted streams → with_stream_or_none name (stream_at name streams) (with_stream name bytes streams) ≡ streams

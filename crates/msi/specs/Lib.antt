@@ -10,5 +10,6 @@ pub mod Whole
 pub mod Laws
 pub mod Selected
 pub mod Lending
+pub mod Packing
 pub mod Flushing
 pub mod Opening

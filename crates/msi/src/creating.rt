@@ -1,7 +1,6 @@
 //! New packages, and packages given back as their devices.
 
-ghost use Rattle.std.specs.Prelude.{◌≡◌, IfErr, IfOk};
-ghost use Rattle.msi.specs.Kinds.{title_of};
+ghost use Rattle.std.specs.Prelude.{◌≡◌, IfErr, IfOk, false};
 ghost use Rattle.msi.specs.Runs.{fresh};
 ghost use Rattle.msi.specs.Flushing.{FlushStep, IsCreateRefused, IsCreated, flush_answer, told};
 ghost use Rattle.msi.specs.Whole.{Whole};
@@ -14,17 +13,6 @@ use msi_stream::OpenStream;
 use msi_summary::parts::new_summary;
 use msi_text::errors::Error;
 use std::alloc::Global;
-
-/// The title in the summary of a new package.
-fn title(kind: PackageType) -> &'static str
-    ensures { result.now ≡ title_of kind }
-{
-    match kind {
-        PackageType::Installer => "Installation Database",
-        PackageType::Patch => "Patch",
-        PackageType::Transform => "Transform",
-    }
-}
 
 impl<F: Device + Drop> Package<F> {
     /// A new package, written over all that a device holds. It has no table but the system's, and a summary with a title.
@@ -42,7 +30,7 @@ impl<F: Device + Drop> Package<F> {
             device: inner,
             alloc,
             kind,
-            summary: new_summary(alloc, title(kind))?,
+            summary: new_summary(alloc, kind.title())?,
             database: Database::new(alloc)?,
             open: None,
             current: OpenStream::new(alloc),

@@ -13,7 +13,6 @@ ghost use Rattle.msi_schema.specs.Keys.{string_data_name, string_pool_name, tabl
 ghost use Rattle.msi_changes.specs.Database.{Database as DatabaseValue, is_sound};
 ghost use Rattle.msi_database.specs.Streams.{Streams};
 ghost use Rattle.msi_database.specs.Others.{with_streams};
-ghost use Rattle.msi.specs.Kinds.{clsid_of};
 ghost use Rattle.msi.specs.Steps.{pool_put};
 ghost use Rattle.msi.specs.Flushing.{AreOthers, AreSoMany, FlushStep, IsUnwritten, Overwrites, flush_answer, left_by, over_device, renewed_over, root_contents, summary_over, told, unwritten_of, with_renewed};
 
@@ -39,18 +38,6 @@ use std::vec::IntoIter;
 pub(crate) struct Root {
     pub(crate) kind: PackageType,
     pub(crate) has_storages: bool,
-}
-
-/// The CLSID of the root, which tells what a package is for.
-pub(crate) fn clsid(kind: PackageType) -> [u8; 16]
-    ensures { result ≡ clsid_of kind }
-{
-    let low = match kind {
-        PackageType::Installer => 0x84,
-        PackageType::Patch => 0x86,
-        PackageType::Transform => 0x82,
-    };
-    [low, 0x10, 0x0C, 0, 0, 0, 0, 0, 0xC0, 0, 0, 0, 0, 0, 0, 0x46]
 }
 
 /// The summary's stream, where it is to be written.
@@ -93,11 +80,7 @@ fn pool_key(alloc: Global, name: &str) -> Result<Name, Error>
 ///
 /// # Errors
 /// `InvalidInput` where the database's page doesn't carry a text. Else `OutOfMemory`.
-fn add_pool(
-    alloc: Global,
-    pool: &StringPool,
-    renewed: &mut Vec<(Name, Bytes)>,
-) -> Result<(), Error>
+fn add_pool(alloc: Global, pool: &StringPool, renewed: &mut Vec<(Name, Bytes)>) -> Result<(), Error>
     ensures ok { OnOk result ((streams : Streams)
         → pool_put pool.now (with_renewed renewed.old.items streams) ≡ Some (with_renewed renewed.new.items streams)) }
     ensures others { OnOk result ((d : DatabaseValue) → is_sound d ≡ true
@@ -198,7 +181,7 @@ fn write_streams<F: Device>(
         (told (F.held device.old) (F.failed device.old)) result (told (F.held device.new) (F.failed device.new)) }
 {
     let contents = BorrowedContents {
-        clsid: clsid(root.kind),
+        clsid: root.kind.clsid(),
         streams: database.streams(),
         has_storages: root.has_storages,
     };
@@ -252,8 +235,7 @@ fn write_parts<F: Device>(
     device: &mut F,
 ) -> Result<(), Error>
     requires { is_pool_changed ≡ true → is_sound database.old.database ≡ true }
-    ensures flushed {
-        let s = unwritten_of root.kind root.has_storages summary.now is_summary_lent database.old is_pool_changed in
+    ensures flushed { let s = unwritten_of root.kind root.has_storages summary.now is_summary_lent database.old is_pool_changed in
         FlushStep (over_device s (F.held device.old) (F.failed device.old)) (flush_answer result)
         (over_device (left_by result s database.new) (F.held device.new) (F.failed device.new)) }
     ensures tables { database.new.database ≡ database.old.database }

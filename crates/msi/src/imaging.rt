@@ -9,7 +9,7 @@ ghost use Rattle.msi.specs.Flushing.{with_renewed};
 ghost use Rattle.msi.specs.Steps.{image_of as image_of_state};
 ghost use Rattle.msi.specs.Whole.{opened};
 
-use crate::flushing::{clsid, renewed_streams};
+use crate::flushing::renewed_streams;
 use crate::package::Package;
 use msi_compound::contents::{Bytes, StreamMap};
 use msi_compound::name::Name;
@@ -103,7 +103,7 @@ impl<F: Source> Package<F> {
         )?;
         put_all(&mut streams, renewed.into_iter())?;
         let contents = BorrowedContents {
-            clsid: clsid(self.kind),
+            clsid: self.kind.clsid(),
             streams: &streams,
             has_storages: self.has_storages,
         };

@@ -2,12 +2,12 @@
 
 ghost use Rattle.std.specs.Prelude.{◌≡◌, ◌+◌, ◌<◌, ◌≤◌, ◌∷◌, ◌++◌, [], IfSome, None, Some, if◌then◌else◌, length, not};
 ghost use Rattle.std.specs.Char.Escape.{encode_utf16};
-ghost use Rattle.msi_compound.proofs.PackingLemmas.{added, waiting_after};
 ghost use Rattle.msi_compound.specs.Names.{utf16_units};
 ghost use Rattle.msi_compound.specs.StreamNames.{packed_pair, packed_single, value_of as value_of_one};
 ghost use Rattle.msi_relation.specs.Refusals.{unless_refused};
 ghost use Rattle.msi_schema.specs.Keys.{is_stream_name as is_accepted, stream_key};
 ghost use Rattle.msi_text.specs.ErrorKind.TheVariants.{InvalidInput};
+ghost use Rattle.msi.specs.Packing.{added, waiting_after};
 
 use crate::reasons;
 use msi_compound::name::Name;

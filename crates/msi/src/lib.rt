@@ -2,12 +2,12 @@
 #![tactic(auto)]
 
 pub mod changes;
-mod keys;
-pub mod kinds;
-pub mod laws;
 mod creating;
 mod flushing;
 mod imaging;
+mod keys;
+pub mod kinds;
+pub mod laws;
 mod opening;
 pub mod package;
 mod reasons;

@@ -1,11 +1,11 @@
 //! The streams of a package that belong to no table.
 
-ghost use Rattle.std.specs.Prelude.{◌≡◌, ◌∷◌, ◌++◌, [], IfErr, IfOk, None, OnErr, OnOk, Some, not};
+ghost use Rattle.std.specs.Prelude.{◌≡◌, ◌⊎◌, ◌∷◌, ◌++◌, [], IfErr, IfOk, None, OnErr, OnOk, Some, not};
 ghost use Rattle.std.specs.Borrow.{sem};
 ghost use Rattle.std.specs.FinMap as finite;
 ghost use Rattle.std.specs.Option.{option_copied};
-ghost use Rattle.msi_text.specs.ErrorKind.TheVariants.{InvalidInput, NotFound};
-ghost use Rattle.msi_relation.specs.Refusals.{IsRefusal, first_refusal, unless_refused};
+ghost use Rattle.msi_text.specs.ErrorKind.TheVariants.{InvalidInput, NotFound, OutOfMemory};
+ghost use Rattle.msi_relation.specs.Refusals.{first_refusal, unless_refused};
 ghost use Rattle.msi_schema.specs.Keys.{is_stream_name, signature_key as signature_of, stream_key};
 ghost use Rattle.msi_database.specs.Streams.{has_stream_at, stream_at, without_stream};
 ghost use Rattle.msi_stream.specs.Cursor.{at_start};
@@ -77,8 +77,8 @@ impl<F: Source> Package<F> {
         ensures* writes_back { sem 𝓛 (LendsStream F.row F.Source name.now self.entry result) }
         ensures start { IfOk result (λ writer. writer.now ≡ at_start []) }
         ensures accepted { OnOk result (first_refusal (name_refusals (parts_of self.old.state) name.now) ≡ None) }
-        ensures kind { IfErr result
-            (IsRefusal (unless_refused (name_refusals (parts_of self.old.state) name.now) tt)) }
+        ensures kind { IfErr result (λ kind.
+            (kind ≡ OutOfMemory) ⊎ (first_refusal (name_refusals (parts_of self.old.state) name.now) ≡ Some kind)) }
     {
         self.check_storages()?;
         let key = checked_key(name)?;

@@ -1,8 +1,7 @@
 //! What a package needs beside the public calls: contents whose streams lie in a map of its own.
 
-use msi_compound::contents::StreamMap;
-
 pub use crate::writing::{image_of, image_to};
+use msi_compound::contents::StreamMap;
 
 /// Contents whose streams are borrowed.
 #[derive(Drop)]

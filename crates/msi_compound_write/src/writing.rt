@@ -14,11 +14,11 @@ ghost use Rattle.msi_compound_write.specs.Sectors.{IsLaidOut, file_of};
 use crate::extents::{large_part, mini_part, units};
 use crate::index::index;
 use crate::layout::{Extent, Layout, fill, layout_of};
+use crate::parts::BorrowedContents;
 use crate::reasons;
 use crate::totals::{
     MAX_SECTORS, directory_sectors, least_total, mini_fat_sectors, mini_stream_sectors,
 };
-use crate::parts::BorrowedContents;
 use msi_compound::contents::{Contents, StreamMap};
 use msi_compound::format::{MINI_SECTOR_SIZE, SECTOR_SIZE_3};
 use msi_device::Device;

@@ -8,7 +8,7 @@ use Rattle.msi.proofs.flushing.+write_with.Goals as goal
 pub returns-in_err-before-clause-device : goal.returns-in_err-before-clause-device
 returns-in_err-before-clause-device g t c =
     memory_early (root_contents c.args.root.kind c.args.root.has_storages (with_renewed (into_iter_items c.args.renewed) c.args.database.now.streams))
-        (told (g.F.Source.held c.args.device.now) (g.F.Source.failed c.args.device.now)) c.from_residual.result c.from_residual.ensures.0 (search rules)
+    (told (g.F.Source.held c.args.device.now) (g.F.Source.failed c.args.device.now)) c.from_residual.result c.from_residual.ensures.0 (search rules)
 
 pub returns-in-Err-clause-same : goal.returns-in-Err-clause-same
 returns-in-Err-clause-same g t c = restored c.args.database.now c.write_with.new.database c.put_back_stream.new.self c.in-Some.name c.duplicate.result c.in-Some.bytes c.in_ok-before.before

@@ -12,18 +12,18 @@ pub returns-in_err-renewed-clause-flushed : goal.returns-in_err-renewed-clause-f
 returns-in_err-renewed-clause-flushed g c =
     let s = unwritten_of c.args.root.kind c.args.root.has_storages c.args.summary.now c.args.is_summary_lent c.args.database.now c.args.is_pool_changed in
     flush_refused_as s (g.F.Source.held c.args.device.now) (g.F.Source.failed c.args.device.now) c.args.database.now c.from_residual.result c.in_err-renewed.field-0.0 (search rules) refl
-        (subst (λ (pool : Pool). IsRefusal (or_refused InvalidInput (renewed_over c.args.is_summary_lent c.args.summary.now c.args.is_pool_changed pool c.args.database.now.streams)) c.in_err-renewed.field-0.0)
-            c.pool.ensures (c.in_err-renewed.ensures.kind c.args.database.now.streams))
+    (subst (λ (pool : Pool). IsRefusal (or_refused InvalidInput (renewed_over c.args.is_summary_lent c.args.summary.now c.args.is_pool_changed pool c.args.database.now.streams)) c.in_err-renewed.field-0.0)
+    c.pool.ensures (c.in_err-renewed.ensures.kind c.args.database.now.streams))
 
 pub returns-clause-flushed : goal.returns-clause-flushed
 returns-clause-flushed g c =
     let s = unwritten_of c.args.root.kind c.args.root.has_storages c.args.summary.now c.args.is_summary_lent c.args.database.now c.args.is_pool_changed in
     flush_written s (with_renewed c.in_ok-renewed.renewed.items c.args.database.now.streams) c.write_with.new.database
-        (g.F.Source.held c.args.device.now) (g.F.Source.held c.write_with.new.device) (g.F.Source.failed c.args.device.now) (g.F.Source.failed c.write_with.new.device) c.write_with.result
-        refl
-        (subst (λ (pool : Pool). renewed_over c.args.is_summary_lent c.args.summary.now c.args.is_pool_changed pool c.args.database.now.streams
-            ≡ Some (with_renewed c.in_ok-renewed.renewed.items c.args.database.now.streams)) c.pool.ensures (c.in_ok-renewed.ensures.ok c.args.database.now.streams))
-        (left_streams c.write_with.result c.write_with.new.database c.args.database.now (into_iter_items c.into_iter.result) c.in_ok-renewed.renewed.items c.write_with.ensures.ok c.into_iter.ensures.rest)
-        (subst (λ (rs : Streams). Overwrites (root_contents c.args.root.kind c.args.root.has_storages (with_renewed rs c.args.database.now.streams))
-            (told (g.F.Source.held c.args.device.now) (g.F.Source.failed c.args.device.now)) c.write_with.result (told (g.F.Source.held c.write_with.new.device) (g.F.Source.failed c.write_with.new.device)))
-            c.into_iter.ensures.rest c.write_with.ensures.device)
+    (g.F.Source.held c.args.device.now) (g.F.Source.held c.write_with.new.device) (g.F.Source.failed c.args.device.now) (g.F.Source.failed c.write_with.new.device) c.write_with.result
+    refl
+    (subst (λ (pool : Pool). renewed_over c.args.is_summary_lent c.args.summary.now c.args.is_pool_changed pool c.args.database.now.streams
+    ≡ Some (with_renewed c.in_ok-renewed.renewed.items c.args.database.now.streams)) c.pool.ensures (c.in_ok-renewed.ensures.ok c.args.database.now.streams))
+    (left_streams c.write_with.result c.write_with.new.database c.args.database.now (into_iter_items c.into_iter.result) c.in_ok-renewed.renewed.items c.write_with.ensures.ok c.into_iter.ensures.rest)
+    (subst (λ (rs : Streams). Overwrites (root_contents c.args.root.kind c.args.root.has_storages (with_renewed rs c.args.database.now.streams))
+    (told (g.F.Source.held c.args.device.now) (g.F.Source.failed c.args.device.now)) c.write_with.result (told (g.F.Source.held c.write_with.new.device) (g.F.Source.failed c.write_with.new.device)))
+    c.into_iter.ensures.rest c.write_with.ensures.device)

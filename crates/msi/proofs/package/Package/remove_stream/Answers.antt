@@ -1,0 +1,22 @@
+use Rattle.std.proofs.Common.{◌≡◌, ◌∙◌, ap, refl}
+use Rattle.std.specs.Prelude.{Err, Result}
+use Rattle.msi_text.specs.ErrorKind.{ErrorKind}
+use Rattle.msi.proofs.StreamRefusalLemmas.{key_accepted, key_is, removal_missing, removal_passes}
+use Rattle.msi.proofs.StreamWriteLemmas.{stream_is_other}
+use Rattle.msi.proofs.package.Package.remove_stream.Goals as goal
+
+pub returns-then-not-contains-clause-answer : goal.returns-then-not-contains-clause-answer
+returns-then-not-contains-clause-answer g c =
+    let error : ErrorKind → Result (Unit {0}) ErrorKind = λ kind. Err kind in
+    ap error c.new.ensures
+    ∙ removal_missing c.args.self.now.state c.args.name.now c.in_ok-key.key c.in_ok-key.ensures c.in_ok-check_storages.ensures _ c.if-not-contains.ensures refl
+
+pub remove_stream-requires : goal.remove_stream-requires
+remove_stream-requires g c =
+    let s = c.args.self.now.state in
+    stream_is_other c.settle.new.database.database c.args.name.now c.in_ok-key.key
+    (key_accepted s c.args.name.now c.in_ok-key.key c.in_ok-key.ensures) (key_is s c.args.name.now c.in_ok-key.key c.in_ok-key.ensures)
+
+pub returns-clause-answer : goal.returns-clause-answer
+returns-clause-answer g c =
+    removal_passes c.args.self.now.state c.args.name.now c.in_ok-key.key c.in_ok-key.ensures c.in_ok-check_storages.ensures _ c.if-not-contains.ensures refl
