@@ -1,4 +1,4 @@
-//! A file behind a buffer.
+//! Files and writers behind buffers.
 
 use std::alloc::Global;
 use std::io;
@@ -44,4 +44,9 @@ impl<F: Read + Write + Seek + Drop> Seek for Buffered<F> {
     fn seek(&mut self, to: SeekFrom) -> io::Result<u64> {
         self.inner.seek(to)
     }
+}
+
+/// A writer whose pieces are collected likewise. It has to be flushed: a drop tells no fault.
+pub(crate) fn buffer<W: Write + Drop>(alloc: Global, writer: W) -> io::Result<BufWriter<W>> {
+    BufWriter::with_capacity(alloc, CAPACITY, writer)
 }

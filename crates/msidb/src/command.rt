@@ -1,7 +1,7 @@
 //! What the words on the command line ask for.
 
-ghost use Rattle.std.specs.Prelude.{◌≡◌, is_some};
-ghost use Rattle.msidb.specs.Commands.{fits_command};
+ghost use Rattle.std.specs.Prelude.{◌≡◌, ◌∷◌, [], IfSome, is_some};
+ghost use Rattle.msidb.specs.Commands.{fits_command, takes_file, takes_name, texts_of, words_of};
 
 /// A command with its operands.
 #[derive(Clone, Copy, Debug)]
@@ -10,21 +10,60 @@ pub enum Command<'a> {
     Raw { file: &'a str },
     /// Makes a container of one stream.
     Wrap { out: &'a str, name: &'a str },
+    /// Makes a package.
+    New { file: &'a str },
+    /// Prints the names of a package's tables.
+    Tables { file: &'a str },
+    /// Prints the rows of a table.
+    Rows { file: &'a str, table: &'a str },
+    /// Prints the summary of a package.
+    Summary { file: &'a str },
+    /// Prints the names of a package's streams.
+    Streams { file: &'a str },
+    /// Prints the bytes of a stream.
+    Cat { file: &'a str, name: &'a str },
+    /// Stores standard input as a stream.
+    Put { file: &'a str, name: &'a str },
 }
 
 impl<'a> Command<'a> {
     /// The command that the words fit, if there is one.
     pub(crate) fn parse(words: &'a [String]) -> Option<Command<'a>>
-        ensures { is_some result ≡ fits_command words.now }
+        ensures fits { is_some result ≡ fits_command words.now }
+        ensures asked { IfSome result (λ command. words_of command ≡ texts_of words.now) }
     {
         match words {
-            [verb, file] if verb.as_str() == "raw" => Some(Command::Raw {
-                file: file.as_str(),
-            }),
-            [verb, out, name] if verb.as_str() == "wrap" => Some(Command::Wrap {
-                out: out.as_str(),
-                name: name.as_str(),
-            }),
+            [verb, file] => Command::of_file(verb.as_str(), file.as_str()),
+            [verb, file, name] => Command::of_name(verb.as_str(), file.as_str(), name.as_str()),
+            _ => None,
+        }
+    }
+
+    /// The command of this verb on a file alone, if there is one.
+    fn of_file(verb: &str, file: &'a str) -> Option<Command<'a>>
+        ensures fits { is_some result ≡ takes_file verb.now }
+        ensures asked { IfSome result (λ command. words_of command ≡ verb.now ∷ file.now ∷ []) }
+    {
+        match verb {
+            "raw" => Some(Command::Raw { file }),
+            "new" => Some(Command::New { file }),
+            "tables" => Some(Command::Tables { file }),
+            "summary" => Some(Command::Summary { file }),
+            "streams" => Some(Command::Streams { file }),
+            _ => None,
+        }
+    }
+
+    /// The command of this verb on a file and a name, if there is one.
+    fn of_name(verb: &str, file: &'a str, name: &'a str) -> Option<Command<'a>>
+        ensures fits { is_some result ≡ takes_name verb.now }
+        ensures asked { IfSome result (λ command. words_of command ≡ verb.now ∷ file.now ∷ name.now ∷ []) }
+    {
+        match verb {
+            "wrap" => Some(Command::Wrap { out: file, name }),
+            "rows" => Some(Command::Rows { file, table: name }),
+            "cat" => Some(Command::Cat { file, name }),
+            "put" => Some(Command::Put { file, name }),
             _ => None,
         }
     }

@@ -6,7 +6,11 @@ ghost use Rattle.msidb.specs.Commands.{fits_command};
 
 mod buffered;
 mod command;
+mod packages;
 mod raw;
+mod streams;
+mod summary;
+mod tables;
 #[cfg(test)]
 mod tests;
 mod wrap;
@@ -61,6 +65,13 @@ where
     match command {
         Command::Raw { file } => raw::print_streams(rt, file, output),
         Command::Wrap { out, name } => wrap::wrap_input(rt, out, name, input),
+        Command::New { file } => packages::create(rt, file),
+        Command::Tables { file } => tables::print_tables(rt, file, output),
+        Command::Rows { file, table } => tables::print_rows(rt, file, table, output),
+        Command::Summary { file } => summary::print_summary(rt, file, output),
+        Command::Streams { file } => streams::print_names(rt, file, output),
+        Command::Cat { file, name } => streams::print_bytes(rt, file, name, output),
+        Command::Put { file, name } => streams::store_input(rt, file, name, input),
     }
 }
 

@@ -1,10 +1,15 @@
 //! The program as a whole, over a file in the folder for temporary ones.
 
 use crate::{USAGE, run};
+use msi::{Package, PackageType};
+use msi_device::Metered;
+use msi_summary::SummaryInfo;
+use msi_text::{CodePage, LanguageId, Timestamp};
 use std::alloc::Global;
 use std::io::{self, Read, Write};
 use std::test::Fail;
 use std::{env, fs, process};
+use uuid::Uuid;
 
 /// A reader and a writer that fail.
 #[derive(Drop)]
@@ -60,6 +65,18 @@ fn ends(
     ended == status && printed.as_slice() == output.as_bytes() && is_line(errors.as_slice(), line)
 }
 
+/// Whether a run with this input prints this, and succeeds.
+fn prints(
+    rt: &HostRuntime,
+    all: &[&str],
+    path: &str,
+    input: &[u8],
+    output: &str,
+) -> Result<bool, Fail> {
+    let words = words(rt.alloc(), all, path)?;
+    Ok(ends(rt, words.as_slice(), input, output, 0, None))
+}
+
 /// Whether the bytes are this line, or empty where there is none.
 fn is_line(bytes: &[u8], line: Option<&str>) -> bool {
     match line {
@@ -95,23 +112,165 @@ fn streams_are_wrapped_and_listed(rt: HostRuntime) -> Result<(), Fail> {
     Ok(fs::remove_file(&rt, path.as_str())?)
 }
 
-/// Words, the status, and the line of errors.
-const FAULTS: [(&[&str], u8, &str); 9] = [
+/// Words, and what is printed.
+const NEW: [(&[&str], &str); 6] = [
+    (&["new", "FILE"], ""),
+    (&["tables", "FILE"], "_Columns\n_Tables\n_Validation\n"),
+    (&["rows", "FILE", "_Tables"], "Name\n\"_Validation\"\n"),
+    (&["rows", "FILE", "_Columns"], COLUMNS),
+    (
+        &["summary", "FILE"],
+        "codepage: 65001\ntitle: Installation Database\n",
+    ),
+    (&["streams", "FILE"], ""),
+];
+
+/// The rows of a new package's columns. The types are those of MsiDefs.h: 0x2000 for a key, 0x1000 for what may be null,
+/// and 0x0D00, 0x0500 and 0x0100 for a text, a short number and a long one, with the length below.
+const COLUMNS: &str = "Table\tNumber\tName\tType
+\"_Validation\"\t1\t\"Table\"\t11552
+\"_Validation\"\t2\t\"Column\"\t11552
+\"_Validation\"\t3\t\"Nullable\"\t3332
+\"_Validation\"\t4\t\"MinValue\"\t4356
+\"_Validation\"\t5\t\"MaxValue\"\t4356
+\"_Validation\"\t6\t\"KeyTable\"\t7679
+\"_Validation\"\t7\t\"KeyColumn\"\t5378
+\"_Validation\"\t8\t\"Category\"\t7456
+\"_Validation\"\t9\t\"Set\"\t7679
+\"_Validation\"\t10\t\"Description\"\t7679
+";
+
+#[test]
+fn a_new_package_has_its_system_tables_and_a_title(rt: HostRuntime) -> Result<(), Fail> {
+    let path = path(&rt, "new")?;
+    for (all, output) in NEW {
+        let printed = prints(&rt, all, path.as_str(), b"", output)?;
+        assert!(rt; printed, "{all:?}");
+    }
+    Ok(fs::remove_file(&rt, path.as_str())?)
+}
+
+/// Whether this input, put as a stream, is the only one listed and comes back.
+fn stores(rt: &HostRuntime, path: &str, input: &str) -> Result<bool, Fail> {
+    let bytes = input.as_bytes();
+    Ok(
+        prints(rt, &["put", "FILE", "App.exe"], path, bytes, "")?
+            && prints(rt, &["streams", "FILE"], path, b"", "App.exe\n")?
+            && prints(rt, &["cat", "FILE", "App.exe"], path, b"", input)?,
+    )
+}
+
+#[test]
+fn what_is_put_is_listed_and_comes_back(rt: HostRuntime) -> Result<(), Fail> {
+    let path = path(&rt, "put")?;
+    let made = prints(&rt, &["new", "FILE"], path.as_str(), b"", "")?;
+    assert!(rt; made);
+    let input = "\n\"\tZ".repeat(rt.alloc(), 25_000)?;
+    for input in [input.as_str(), "less", "", "more than before"] {
+        let stored = stores(&rt, path.as_str(), input)?;
+        assert!(rt; stored, "{} bytes", input.len());
+    }
+    Ok(fs::remove_file(&rt, path.as_str())?)
+}
+
+/// All that a summary may tell.
+const SUMMARY: &str = "codepage: 1252
+title: Title
+subject: Subject
+author: Author
+keywords: one; two
+comments: Comments
+arch: x64
+languages: 1033,0
+last_saved_by: Saver
+uuid: 12345678-9abc-def0-1234-56789abcdef0
+last_printed: 1
+creation_time: 2
+last_saved_time: 18446744073709551615
+page_count: 200
+word_count: -2
+character_count: 0
+creating_application: Program
+doc_security: 4
+";
+
+/// Sets the texts of a summary.
+fn set_texts(alloc: Global, summary: &mut SummaryInfo) -> Result<(), Fail> {
+    summary.set_title("Title")?;
+    summary.set_subject("Subject")?;
+    summary.set_author("Author")?;
+    summary.set_comments("Comments")?;
+    summary.set_last_saved_by("Saver")?;
+    summary.set_creating_application("Program")?;
+    summary.set_arch("x64")?;
+    let keywords = words(alloc, &["one", "two"], "")?;
+    Ok(summary.set_keywords(keywords.as_slice())?)
+}
+
+/// Sets the numbers of a summary, its moments, and what else is no text.
+fn set_numbers(summary: &mut SummaryInfo) -> Result<(), Fail> {
+    summary.set_codepage(CodePage::Windows1252)?;
+    summary.set_languages(&[LanguageId::from_id(1033), LanguageId::from_id(0)])?;
+    summary.set_uuid(Uuid::from_u128(0x12345678_9ABC_DEF0_1234_56789ABCDEF0))?;
+    summary.set_last_printed(Timestamp::from_ticks(1))?;
+    summary.set_creation_time(Timestamp::from_ticks(2))?;
+    summary.set_last_save_time(Timestamp::from_ticks(u64::MAX))?;
+    summary.set_page_count(200)?;
+    summary.set_word_count(-2)?;
+    summary.set_character_count(0)?;
+    Ok(summary.set_doc_security(4)?)
+}
+
+#[test]
+fn all_that_a_summary_tells_is_printed_in_order(rt: HostRuntime) -> Result<(), Fail> {
+    let path = path(&rt, "summary")?;
+    let file = fs::create(&rt, path.as_str())?;
+    let mut package = Package::create(rt.alloc(), PackageType::Patch, Metered::new(file))?;
+    set_texts(rt.alloc(), package.summary_info_mut()?)?;
+    set_numbers(package.summary_info_mut()?)?;
+    package.flush()?;
+    let printed = prints(&rt, &["summary", "FILE"], path.as_str(), b"", SUMMARY)?;
+    assert!(rt; printed);
+    Ok(fs::remove_file(&rt, path.as_str())?)
+}
+
+/// Words, the status, and the line of errors. The file is no compound file.
+const FAULTS: [(&[&str], u8, &str); 29] = [
     (&["wrap", "FILE", "a/b"], 1, "InvalidInput"),
-    // The file is no compound file.
     (&["raw", "FILE"], 1, "InvalidData"),
+    (&["tables", "FILE"], 1, "InvalidData"),
+    (&["rows", "FILE", "_Tables"], 1, "InvalidData"),
+    (&["summary", "FILE"], 1, "InvalidData"),
+    (&["streams", "FILE"], 1, "InvalidData"),
+    (&["cat", "FILE", "a"], 1, "InvalidData"),
+    (&["put", "FILE", "a"], 1, "InvalidData"),
     (&["raw", "FILE-missing/file"], 1, "Io"),
     (&["wrap", "FILE-missing/file", "a"], 1, "Io"),
+    (&["new", "FILE-missing/file"], 1, "Io"),
+    (&["tables", "FILE-missing"], 1, "Io"),
+    (&["rows", "FILE-missing", "_Tables"], 1, "Io"),
+    (&["summary", "FILE-missing"], 1, "Io"),
+    (&["streams", "FILE-missing"], 1, "Io"),
+    (&["cat", "FILE-missing", "a"], 1, "Io"),
+    (&["put", "FILE-missing", "a"], 1, "Io"),
+    // A folder.
+    (&["tables", "."], 1, "Io"),
+    (&["new", "."], 1, "Io"),
+    (&["put", ".", "a"], 1, "Io"),
     (&[], 2, USAGE),
     (&["raw"], 2, USAGE),
     (&["raw", "a", "b"], 2, USAGE),
     (&["wrap", "a"], 2, USAGE),
-    (&["tables", "a"], 2, USAGE),
+    (&["rows", "a"], 2, USAGE),
+    (&["summary", "a", "b"], 2, USAGE),
+    (&["put", "a", "b", "c"], 2, USAGE),
+    (&["Tables", "a"], 2, USAGE),
+    (&["--help"], 2, USAGE),
 ];
 
 #[test]
 fn faults_are_told_and_leave_the_file_as_it_was(rt: HostRuntime) -> Result<(), Fail> {
-    let path = path(&rt, "refused")?;
+    let path = path(&rt, "faults")?;
     fs::write(&rt, path.as_str(), "as it was")?;
     for (all, status, line) in FAULTS {
         let words = words(rt.alloc(), all, path.as_str())?;
@@ -123,6 +282,38 @@ fn faults_are_told_and_leave_the_file_as_it_was(rt: HostRuntime) -> Result<(), F
     Ok(fs::remove_file(&rt, path.as_str())?)
 }
 
+/// The words that make the file, those of a run, and its line of errors.
+const REFUSED: [(&[&str], &[&str], &str); 7] = [
+    // A container without a summary.
+    (&["wrap", "FILE", "a"], &["tables", "FILE"], "NotFound"),
+    (&["wrap", "FILE", "a"], &["cat", "FILE", "a"], "NotFound"),
+    (&["wrap", "FILE", "a"], &["put", "FILE", "a/b"], "NotFound"),
+    (&["new", "FILE"], &["rows", "FILE", "Numbers"], "NotFound"),
+    (&["new", "FILE"], &["cat", "FILE", "a"], "NotFound"),
+    (&["new", "FILE"], &["cat", "FILE", "a/b"], "InvalidInput"),
+    (&["new", "FILE"], &["put", "FILE", "a/b"], "InvalidInput"),
+];
+
+/// Whether a run is refused with this line of errors, and leaves the file as it was.
+fn refuses(rt: &HostRuntime, all: &[&str], path: &str, line: &str) -> Result<bool, Fail> {
+    let before = fs::read(rt, path)?;
+    let words = words(rt.alloc(), all, path)?;
+    let told = ends(rt, words.as_slice(), b"", "", 1, Some(line));
+    let after = fs::read(rt, path)?;
+    Ok(told && before.as_slice() == after.as_slice())
+}
+
+#[test]
+fn what_a_package_refuses_leaves_the_file_as_it_was(rt: HostRuntime) -> Result<(), Fail> {
+    let path = path(&rt, "refused")?;
+    for (maker, all, line) in REFUSED {
+        let made = prints(&rt, maker, path.as_str(), b"", "")?;
+        let refused = refuses(&rt, all, path.as_str(), line)?;
+        assert!(rt; made && refused, "{all:?}");
+    }
+    Ok(fs::remove_file(&rt, path.as_str())?)
+}
+
 /// Whether a run whose reader and writer fail ends with status 1 and this line of errors.
 fn told_first(rt: &HostRuntime, all: &[&str], path: &str, line: &str) -> Result<bool, Fail> {
     let words = words(rt.alloc(), all, path)?;
@@ -131,22 +322,37 @@ fn told_first(rt: &HostRuntime, all: &[&str], path: &str, line: &str) -> Result<
     Ok(status == 1 && is_line(errors.as_slice(), Some(line)))
 }
 
-/// Words, and the fault that is told first where standard input and output fail.
-const FIRST: [(&[&str], &str); 3] = [
+/// The words that make the file, those of a run, and the fault that is told first where standard input and output fail.
+const FIRST: [(&[&str], &[&str], &str); 10] = [
     // The name comes before standard input, which comes before the file.
-    (&["wrap", "FILE-missing/file", "a/b"], "InvalidInput"),
-    (&["wrap", "FILE-missing/file", "a"], "Io"),
-    (&["raw", "FILE"], "Io"),
+    (
+        &["wrap", "FILE", "a"],
+        &["wrap", "FILE-missing/file", "a/b"],
+        "InvalidInput",
+    ),
+    (
+        &["wrap", "FILE", "a"],
+        &["wrap", "FILE-missing/file", "a"],
+        "Io",
+    ),
+    (&["wrap", "FILE", "a"], &["raw", "FILE"], "Io"),
+    // Standard input comes before what the file holds and before the name, and standard output comes last.
+    (&["wrap", "FILE", "a"], &["put", "FILE", "a"], "Io"),
+    (&["new", "FILE"], &["put", "FILE", "a/b"], "Io"),
+    (&["wrap", "FILE", "a"], &["tables", "FILE"], "NotFound"),
+    (&["new", "FILE"], &["rows", "FILE", "Numbers"], "NotFound"),
+    (&["new", "FILE"], &["tables", "FILE"], "Io"),
+    (&["new", "FILE"], &["rows", "FILE", "_Tables"], "Io"),
+    (&["new", "FILE"], &["summary", "FILE"], "Io"),
 ];
 
 #[test]
 fn the_first_fault_is_told(rt: HostRuntime) -> Result<(), Fail> {
     let path = path(&rt, "broken")?;
-    let wraps = wraps(&rt, path.as_str(), "a", 0, 1536)?;
-    assert!(rt; wraps);
-    for (all, line) in FIRST {
+    for (maker, all, line) in FIRST {
+        let made = prints(&rt, maker, path.as_str(), b"", "")?;
         let told = told_first(&rt, all, path.as_str(), line)?;
-        assert!(rt; told, "{all:?}");
+        assert!(rt; made && told, "{all:?}");
     }
     Ok(fs::remove_file(&rt, path.as_str())?)
 }

@@ -1,0 +1,87 @@
+//! `tables FILE` and `rows FILE TABLE`.
+
+use crate::buffered::buffer;
+use crate::packages;
+use msi::Package;
+use msi_device::Source;
+use msi_query::Select;
+use msi_table::{Column, Row, Table};
+use msi_text::Error;
+use std::alloc::Global;
+use std::io::{self, Read, Seek, Write};
+use std::rt::Files;
+
+/// Prints the names of a package's tables, each on a line.
+pub(crate) fn print_tables<R, O>(rt: &R, file: &str, output: &mut O) -> Result<(), Error>
+where
+    R: Files + AllocGlobal,
+    R::File: Read + Seek + Drop,
+    O: Write,
+{
+    let package = packages::open(rt, file)?;
+    let mut lines = buffer(rt.alloc(), output)?;
+    write_names(package.tables(), &mut lines)?;
+    lines.flush()?;
+    Ok(())
+}
+
+/// Writes the names of tables, each on a line.
+fn write_names<W: Write>(tables: &[Table], lines: &mut W) -> io::Result<()> {
+    for table in tables {
+        let name = table.name();
+        writeln!(lines, "{name}")?;
+    }
+    Ok(())
+}
+
+/// Prints the names of a table's columns on a line, and then each row on one of its own.
+pub(crate) fn print_rows<R, O>(rt: &R, file: &str, table: &str, output: &mut O) -> Result<(), Error>
+where
+    R: Files + AllocGlobal,
+    R::File: Read + Seek + Drop,
+    O: Write,
+{
+    let package = packages::open(rt, file)?;
+    let mut lines = buffer(rt.alloc(), output)?;
+    write_rows(rt.alloc(), &package, table, &mut lines)?;
+    lines.flush()?;
+    Ok(())
+}
+
+/// Writes the names of a table's columns and its rows. Each row is written as it is made, so that one alone has its texts
+/// in memory of its own.
+fn write_rows<F: Source, W: Write>(
+    alloc: Global,
+    package: &Package<F>,
+    table: &str,
+    lines: &mut W,
+) -> Result<(), Error> {
+    let rows = package.select_rows(Select::table(alloc, table)?)?;
+    write_columns(rows.columns(), lines)?;
+    for row in rows {
+        write_row(&row?, lines)?;
+    }
+    Ok(())
+}
+
+/// Writes the names of columns on a line, parted by tabs.
+fn write_columns<W: Write>(columns: &[Column], line: &mut W) -> io::Result<()> {
+    let mut separator = "";
+    for column in columns {
+        let name = column.name();
+        write!(line, "{separator}{name}")?;
+        separator = "\t";
+    }
+    writeln!(line)
+}
+
+/// Writes the values of a row on a line, parted by tabs.
+fn write_row<W: Write>(row: &Row, line: &mut W) -> io::Result<()> {
+    let mut separator = "";
+    for i in 0..row.len() {
+        let value = &row[i];
+        write!(line, "{separator}{value}")?;
+        separator = "\t";
+    }
+    writeln!(line)
+}
