@@ -1,13 +1,3 @@
-pub mod FoldingLemmas
-pub mod BuiltLemmas
-pub mod TreeLemmas
-pub mod NamesLemmas
-pub mod EquatedLemmas
-pub mod EvaluationRows
-pub mod ReaderLemmas
-pub mod TokenLemmas
-pub mod UnambiguousLemmas
-pub mod PrintingRows
 pub mod ListedLemmas
 pub mod QueryTextLemmas
 pub mod QueryTextRows

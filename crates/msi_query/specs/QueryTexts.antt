@@ -7,8 +7,8 @@ use Rattle.msi_table.specs.declared.value.Value.{Value}
 use Rattle.msi_table.specs.Values.{value_text}
 use Rattle.msi_query.specs.declared.query.JoinKind.{JoinKind}
 use Rattle.msi_query.specs.declared.query.JoinKind.TheVariants.{Inner, Left}
-use Rattle.msi_query.specs.Expressions.{Expression}
-use Rattle.msi_query.specs.Printing.{expression_text}
+use Rattle.msi_expression.specs.Expressions.{Expression}
+use Rattle.msi_expression.specs.Printing.{expression_text}
 use Rattle.msi_query.specs.Queries.{Query, Clauses, table, join, InsertQuery, UpdateQuery, DeleteQuery}
 
 -- texts with `, ` between them, where none is missing

@@ -1,10 +1,8 @@
-//! Expressions and queries as values.
+//! Queries as values; and the name under which expressions are found.
 #![tactic(auto)]
 
-pub mod expr;
-pub mod laws;
 pub mod parts;
 pub mod query;
 
-pub use expr::Expr;
+pub use msi_expression::{Expr, expr, laws};
 pub use query::{Delete, Insert, Select, Update};

@@ -11,9 +11,9 @@ mod printing;
 pub(crate) mod select;
 pub(crate) mod update;
 
-use crate::expr::Expr;
 pub use delete::Delete;
 pub use insert::Insert;
+use msi_expression::Expr;
 use msi_text::errors::Error;
 pub use select::Select;
 use std::alloc::Global;

@@ -5,7 +5,7 @@ ghost use Rattle.msi_text.specs.ErrorKind.TheVariants.{OutOfMemory};
 ghost use Rattle.msi_query.specs.Queries.{narrowed as narrowed_by, no_clauses};
 
 use super::narrowed;
-use crate::expr::Expr;
+use msi_expression::Expr;
 use msi_text::errors::Error;
 use msi_text::text::{Items, Text};
 use std::alloc::Global;
@@ -21,7 +21,7 @@ pub struct Clauses {
 
 impl Model for Clauses {
     ghost use Rattle.std.specs.Coded.{codes};
-    ghost use Rattle.msi_query.specs.ExpressionCode.{expression_code};
+    ghost use Rattle.msi_expression.specs.ExpressionCode.{expression_code};
     ghost use Rattle.msi_query.specs.Queries.{Clauses as Kept};
 
     ghost Value = { Kept };

@@ -7,7 +7,7 @@ ghost use Rattle.msi_query.specs.QueryTexts.{delete_text};
 
 use super::narrowed;
 use super::printing::write_condition;
-use crate::expr::Expr;
+use msi_expression::Expr;
 use msi_text::errors::Error;
 use msi_text::text::{IntoText, Text};
 use std::alloc::Global;
@@ -24,7 +24,7 @@ pub struct Delete {
 
 impl Model for Delete {
     ghost use Rattle.std.specs.Coded.{codes};
-    ghost use Rattle.msi_query.specs.ExpressionCode.{expression_code};
+    ghost use Rattle.msi_expression.specs.ExpressionCode.{expression_code};
     ghost use Rattle.msi_query.specs.Queries.{DeleteQuery};
 
     ghost Value = { DeleteQuery };

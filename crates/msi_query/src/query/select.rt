@@ -10,7 +10,7 @@ ghost use Rattle.msi_query.specs.QueryTrees.{query_of};
 use super::JoinKind;
 use super::clauses::Clauses;
 use super::printing::{write_condition, write_list};
-use crate::expr::Expr;
+use msi_expression::Expr;
 use msi_text::errors::Error;
 use msi_text::text::{IntoText, Items, Text};
 use std::alloc::Global;
@@ -46,7 +46,7 @@ pub struct Select {
 
 impl Model for Select {
     ghost use Rattle.std.specs.Coded.{codes};
-    ghost use Rattle.msi_query.specs.ExpressionCode.{expression_code};
+    ghost use Rattle.msi_expression.specs.ExpressionCode.{expression_code};
     ghost use Rattle.msi_query.specs.Queries.{Query};
     ghost use Rattle.msi_query.specs.QueryCode.{query_code};
 

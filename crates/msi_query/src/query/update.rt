@@ -8,7 +8,7 @@ ghost use Rattle.msi_query.specs.QueryTexts.{set_text, sets_text, update_text};
 
 use super::narrowed;
 use super::printing::{write_condition, write_list};
-use crate::expr::Expr;
+use msi_expression::Expr;
 use msi_table::value::Value;
 use msi_text::errors::Error;
 use msi_text::text::{IntoText, Items, Text};
@@ -68,7 +68,7 @@ pub struct Update {
 
 impl Model for Update {
     ghost use Rattle.std.specs.Coded.{codes};
-    ghost use Rattle.msi_query.specs.ExpressionCode.{expression_code};
+    ghost use Rattle.msi_expression.specs.ExpressionCode.{expression_code};
     ghost use Rattle.msi_query.specs.Queries.{UpdateQuery};
 
     ghost Value = { UpdateQuery };
