@@ -7,7 +7,7 @@ use Rattle.msi_text.specs.FirstFitLaws.{TakenPlacesHoldTheirText, GivenBackTakes
 use Rattle.msi_table.specs.declared.value.ValueRef.{ValueRef}
 use Rattle.msi_table.specs.StoredOrder.{row_values, row_cmp, in_stored_order}
 use Rattle.msi_query.specs.Queries.{DeleteQuery}
-use Rattle.msi_query.specs.Conditions.{meets}
+use Rattle.msi_expression.specs.Conditions.{meets}
 use Rattle.msi_relation.specs.Selection.{has_columns, condition_names}
 use Rattle.msi_relation.specs.Refusals.{Refusals, unless_refused, or_refused, ◌>>=◌}
 use Rattle.msi_schema.specs.System.{is_system_table}

@@ -8,7 +8,7 @@ use Rattle.msi_table.specs.declared.value.Value.{Value}
 use Rattle.msi_table.specs.declared.value.Value.TheVariants.{Null}
 use Rattle.msi_table.specs.Columns.{ColumnDef, begun_column, column_index, column_of_bits}
 use Rattle.msi_query.specs.Queries.{UpdateQuery}
-use Rattle.msi_query.specs.Conditions.{meets}
+use Rattle.msi_expression.specs.Conditions.{meets}
 use Rattle.msi_schema.specs.Keys.{is_pool_name}
 use Rattle.msi_schema.specs.System.{columns_columns, columns_name, tables_columns, tables_name, validation_columns}
 use Rattle.msi_relation.specs.Rows.{TableCells}

@@ -21,7 +21,7 @@ use Rattle.msi_schema.specs.Keys.{is_table_name}
 use Rattle.msi_schema.specs.System.{columns_name, tables_name, validation_columns, validation_name}
 use Rattle.std.specs.Str.{chars}
 use Rattle.msi_changes.specs.Database.{Database, table_at, rows_of, same_bool, is_sound}
-use Rattle.msi_query.specs.Conditions.{meets}
+use Rattle.msi_expression.specs.Conditions.{meets}
 use Rattle.msi_changes.specs.Changes.{Change, PoolInUse, no_change, pool_of, with_stored}
 use Rattle.msi_changes.specs.Create.{create_table}
 use Rattle.msi_changes.specs.Delete.{rows_meeting}

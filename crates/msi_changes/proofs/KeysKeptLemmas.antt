@@ -12,7 +12,7 @@ use Rattle.msi_table.specs.Columns.{ColumnDef, column_index, column_named}
 use Rattle.msi_table.specs.ValidValues.{is_valid_value}
 use Rattle.msi_table.specs.StoredOrder.{row_cmp, parts_where, in_stored_order}
 use Rattle.msi_query.specs.Queries.{UpdateQuery, DeleteQuery}
-use Rattle.msi_query.specs.Conditions.{meets}
+use Rattle.msi_expression.specs.Conditions.{meets}
 use Rattle.msi_changes.specs.Keyed.{key_of, same_key}
 use Rattle.msi_changes.specs.Database.{Database, table_at, rows_of, is_sound}
 use Rattle.msi_relation.specs.Rows.{TableCells}

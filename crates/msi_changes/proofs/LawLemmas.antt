@@ -8,7 +8,7 @@ use Rattle.std.proofs.lemmas.Option.{same_Some}
 use Rattle.msi_text.specs.FirstFitLaws.{TakenPlacesHoldTheirText, GivenBackTakesOne}
 use Rattle.msi_text.specs.Lists.{list_cmp}
 use Rattle.msi_query.specs.Queries.{InsertQuery, UpdateQuery, DeleteQuery}
-use Rattle.msi_query.specs.Conditions.{meets}
+use Rattle.msi_expression.specs.Conditions.{meets}
 use Rattle.msi_changes.specs.Database.{Database, table_at, is_sound, is_well_formed, CountsAreExact}
 use Rattle.msi_relation.specs.Rows.{TableCells}
 use Rattle.msi_changes.specs.Changes.{Change, no_change}

@@ -18,7 +18,7 @@ use Rattle.msi_table.specs.Columns.{ColumnDef, column_index}
 use Rattle.msi_table.specs.StoredOrder.{row_values, row_cmp, in_stored_order}
 use Rattle.msi_table.specs.ValidValues.{is_valid_value}
 use Rattle.msi_query.specs.Queries.{UpdateQuery}
-use Rattle.msi_query.specs.Conditions.{meets}
+use Rattle.msi_expression.specs.Conditions.{meets}
 use Rattle.msi_relation.specs.Selection.{has_columns, condition_names}
 use Rattle.msi_relation.specs.Refusals.{Refusals, unless_refused, or_refused, ◌>>=◌}
 use Rattle.msi_changes.specs.Keyed.{key_of, same_key}

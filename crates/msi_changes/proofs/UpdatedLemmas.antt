@@ -10,7 +10,7 @@ use Rattle.msi_table.specs.declared.value.ValueRef.{ValueRef}
 use Rattle.msi_table.specs.Columns.{ColumnDef}
 use Rattle.msi_table.specs.StoredOrder.{row_values}
 use Rattle.msi_query.specs.Queries.{UpdateQuery}
-use Rattle.msi_query.specs.Conditions.{meets}
+use Rattle.msi_expression.specs.Conditions.{meets}
 use Rattle.msi_changes.specs.Changes.{PoolInUse}
 use Rattle.msi_changes.specs.Update.{values_set, cells_set, row_updated}
 use Rattle.msi_changes.specs.Texts.{in_turn}

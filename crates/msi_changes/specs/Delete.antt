@@ -6,9 +6,9 @@ use Rattle.msi_text.specs.Pool.{Place}
 use Rattle.msi_relation.specs.Refusals.{unless_refused, or_refused, ◌>>=◌}
 use Rattle.msi_table.specs.declared.value.ValueRef.{ValueRef}
 use Rattle.msi_table.specs.StoredOrder.{row_values}
-use Rattle.msi_query.specs.Expressions.{Expression}
+use Rattle.msi_expression.specs.Expressions.{Expression}
 use Rattle.msi_query.specs.Queries.{DeleteQuery}
-use Rattle.msi_query.specs.Conditions.{meets}
+use Rattle.msi_expression.specs.Conditions.{meets}
 use Rattle.msi_relation.specs.Selection.{has_columns, condition_names}
 use Rattle.msi_schema.specs.System.{is_system_table}
 use Rattle.msi_changes.specs.Database.{Database, table_at, rows_of, same_bool}

@@ -16,7 +16,7 @@ use Rattle.msi_table.specs.Values.{value_cmp}
 use Rattle.msi_schema.specs.Schema.{SchemaRows, schema_of}
 use Rattle.msi_schema.specs.System.{columns_name, tables_name, validation_columns, validation_name}
 use Rattle.msi_query.specs.Queries.{InsertQuery, UpdateQuery, DeleteQuery}
-use Rattle.msi_query.specs.Conditions.{meets}
+use Rattle.msi_expression.specs.Conditions.{meets}
 use Rattle.msi_changes.specs.Keyed.{key_of, same_key}
 use Rattle.msi_changes.specs.Database.{Database, CountsAreExact, values_of, is_sound, is_well_formed, table_at, has_table, named_numbers}
 use Rattle.msi_relation.specs.Rows.{TableCells}

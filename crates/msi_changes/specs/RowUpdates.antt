@@ -5,7 +5,7 @@ use Rattle.msi_table.specs.declared.value.ValueRef.{ValueRef}
 use Rattle.msi_table.specs.Cells.{cell_of}
 use Rattle.msi_table.specs.Columns.{ColumnDef}
 use Rattle.msi_query.specs.declared.query.update.UpdateParts.{UpdateParts}
-use Rattle.msi_query.specs.Conditions.{meets}
+use Rattle.msi_expression.specs.Conditions.{meets}
 use Rattle.msi_query.specs.Queries.{UpdateQuery}
 use Rattle.msi_changes.specs.Changes.{PoolInUse}
 use Rattle.msi_changes.specs.Texts.{cell_put, cell_released}

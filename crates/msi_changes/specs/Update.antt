@@ -15,7 +15,7 @@ use Rattle.msi_table.specs.ValidValues.{is_valid_value}
 use Rattle.msi_table.specs.StoredOrder.{row_values}
 use Rattle.msi_changes.specs.Keyed.{key_of, same_key}
 use Rattle.msi_query.specs.Queries.{UpdateQuery}
-use Rattle.msi_query.specs.Conditions.{meets}
+use Rattle.msi_expression.specs.Conditions.{meets}
 use Rattle.msi_relation.specs.Selection.{has_columns, condition_names}
 use Rattle.msi_schema.specs.System.{validation_name, is_schema_table}
 use Rattle.msi_changes.specs.Database.{Database, table_at, rows_of}

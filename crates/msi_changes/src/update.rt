@@ -189,7 +189,7 @@ struct RowUpdate<'a> {
 impl<'a> Model for RowUpdate<'a> {
     ghost use Rattle.std.specs.Prelude.{◌≡◌, map};
     ghost use Rattle.std.specs.Coded.{codes};
-    ghost use Rattle.msi_query.specs.ExpressionCode.{expression_code};
+    ghost use Rattle.msi_expression.specs.ExpressionCode.{expression_code};
     ghost use Rattle.msi_changes.specs.RowUpdates.{RowUpdateDef, update_of};
     ghost use Rattle.msi_changes.specs.Update.{index_of};
 

@@ -17,7 +17,7 @@ use Rattle.msi_table.specs.ReadBack.{FitsColumn, FitsRow}
 use Rattle.msi_table.specs.StoredOrder.{row_values}
 use Rattle.msi_table.specs.ValidValues.{is_valid_value}
 use Rattle.msi_query.specs.Queries.{UpdateQuery}
-use Rattle.msi_query.specs.Conditions.{meets}
+use Rattle.msi_expression.specs.Conditions.{meets}
 use Rattle.msi_changes.specs.Changes.{PoolInUse}
 use Rattle.msi_changes.specs.Texts.{cell_put, cell_released, in_turn}
 use Rattle.msi_changes.specs.Update.{cells_set, index_of, row_updated, set_is_valid}

@@ -20,9 +20,9 @@ use Rattle.msi_table.specs.OrderLaws.{value_cmp-total, value_eq-Decides}
 use Rattle.msi_table.specs.StoredOrder.{row_values}
 use Rattle.msi_table.proofs.StableSortLemmas.{only_stable_sort}
 use Rattle.msi_query.specs.declared.query.JoinKind.{JoinKind}
-use Rattle.msi_query.specs.Conditions.{RowFilterDef, meets, value_at_place}
-use Rattle.msi_query.specs.Equated.{PassesWithEqual}
-use Rattle.msi_query.specs.Expressions.{Expression}
+use Rattle.msi_expression.specs.Conditions.{RowFilterDef, meets, value_at_place}
+use Rattle.msi_expression.specs.Equated.{PassesWithEqual}
+use Rattle.msi_expression.specs.Expressions.{Expression}
 use Rattle.msi_relation.specs.Index.{PassWithEqual, has_value, has_width, in_place_order, place_cmp, value_there}
 use Rattle.msi_relation.specs.Rows.{cell_at, rows_values}
 use Rattle.msi_relation.specs.Selection.{or_nulls, pairs_of, rows_of_row}

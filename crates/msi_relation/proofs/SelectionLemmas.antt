@@ -16,8 +16,8 @@ use Rattle.msi_table.specs.Columns.{ColumnDef, column_index, column_named}
 use Rattle.msi_table.specs.StoredOrder.{row_values}
 use Rattle.msi_query.specs.declared.query.JoinKind.{JoinKind}
 use Rattle.msi_query.specs.declared.query.JoinKind.TheVariants.{Inner, Left}
-use Rattle.msi_query.specs.Expressions.{Expression}
-use Rattle.msi_query.specs.Conditions.{meets, value_in}
+use Rattle.msi_expression.specs.Expressions.{Expression}
+use Rattle.msi_expression.specs.Conditions.{meets, value_in}
 use Rattle.msi_query.specs.Queries.{Clauses}
 use Rattle.msi_relation.specs.Selection.{is_left, or_nulls, projected_row, selected}
 use Rattle.msi_relation.specs.Rows.{RelationCells, cell_at, cells_at, column_at, projected_cells, relation_values, rows_values}

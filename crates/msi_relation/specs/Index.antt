@@ -11,9 +11,9 @@ use Rattle.msi_table.specs.Cells.{value_of_cell}
 use Rattle.msi_table.specs.Columns.{ColumnDef}
 use Rattle.msi_table.specs.StoredOrder.{row_values}
 use Rattle.msi_table.specs.Values.{value_cmp}
-use Rattle.msi_query.specs.Conditions.{value_at_place}
-use Rattle.msi_query.specs.Equated.{equated}
-use Rattle.msi_query.specs.Expressions.{Expression}
+use Rattle.msi_expression.specs.Conditions.{value_at_place}
+use Rattle.msi_expression.specs.Equated.{equated}
+use Rattle.msi_expression.specs.Expressions.{Expression}
 use Rattle.msi_relation.specs.Rows.{cell_at}
 
 -- the value at a place of a row of cells, or null

@@ -8,8 +8,8 @@ use Rattle.msi_table.specs.declared.value.Value.TheVariants.{Null}
 use Rattle.msi_table.specs.Columns.{ColumnDef, column_named, has_column}
 use Rattle.msi_query.specs.declared.query.JoinKind.{JoinKind}
 use Rattle.msi_query.specs.declared.query.JoinKind.TheVariants.{Inner, Left}
-use Rattle.msi_query.specs.Expressions.{Expression, names_in}
-use Rattle.msi_query.specs.Conditions.{meets, value_in}
+use Rattle.msi_expression.specs.Expressions.{Expression, names_in}
+use Rattle.msi_expression.specs.Conditions.{meets, value_in}
 use Rattle.msi_query.specs.Queries.{Query, Clauses, table, join}
 use Rattle.msi_relation.specs.Refusals.{Refusals, unless_refused, or_refused, ◌>>=◌}
 

@@ -4,7 +4,7 @@ ghost use Rattle.std.specs.Prelude.{◌≡◌, ◌++◌, IfOk, OnOk, Some, lengt
 ghost use Rattle.std.specs.List.{flat_map};
 ghost use Rattle.msi_text.specs.Results.{OnlyMemory};
 ghost use Rattle.msi_table.specs.StoredOrder.{row_values};
-ghost use Rattle.msi_query.specs.Conditions.{meets};
+ghost use Rattle.msi_expression.specs.Conditions.{meets};
 ghost use Rattle.msi_relation.specs.Index.{PassWithEqual};
 ghost use Rattle.msi_relation.specs.Rows.{rows_values};
 ghost use Rattle.msi_relation.specs.Selection.{pairs_of, rows_of_row};

@@ -2,7 +2,7 @@
 
 ghost use Rattle.std.specs.Prelude.{◌≡◌, map, filter, IfOk, IfErr, Ok, option_copied};
 ghost use Rattle.msi_text.specs.Results.{OnlyMemory};
-ghost use Rattle.msi_query.specs.Conditions.{meets};
+ghost use Rattle.msi_expression.specs.Conditions.{meets};
 ghost use Rattle.msi_relation.specs.Refusals.{IsRefusal, unless_refused};
 ghost use Rattle.msi_relation.specs.Rows.{cells_at, projected_cells, relation_values, rows_values};
 ghost use Rattle.msi_relation.specs.Selection.{clause_refusals, narrowed as narrowed_by, selected as selected_by};

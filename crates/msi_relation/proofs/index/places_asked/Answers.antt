@@ -1,5 +1,5 @@
 use Rattle.std.proofs.Common.{Some, sym, ◌∙◌, rules}
-use Rattle.msi_query.specs.Conditions.{meets}
+use Rattle.msi_expression.specs.Conditions.{meets}
 use Rattle.msi_relation.proofs.IndexLemmas.{asked_pass}
 use Rattle.msi_relation.proofs.index.places_asked.Goals as goal
 

@@ -1,6 +1,6 @@
 use Rattle.std.proofs.Common.{◌≡◌, ◌++◌, take}
 use Rattle.msi_table.specs.StoredOrder.{row_values}
-use Rattle.msi_query.specs.Conditions.{meets}
+use Rattle.msi_expression.specs.Conditions.{meets}
 use Rattle.msi_relation.specs.Rows.{rows_values}
 use Rattle.msi_relation.specs.Selection.{pairs_of}
 use Rattle.msi_relation.proofs.joining.add_pairs.Given as goal

@@ -1,5 +1,5 @@
 use Rattle.std.proofs.Common.{rules, ◌∙◌}
-use Rattle.msi_query.specs.Conditions.{meets}
+use Rattle.msi_expression.specs.Conditions.{meets}
 use Rattle.msi_relation.specs.Rows.{rows_values}
 use Rattle.msi_relation.proofs.IndexLemmas.{row_joined}
 use Rattle.msi_relation.proofs.joining.rows_by_index.Goals as goal

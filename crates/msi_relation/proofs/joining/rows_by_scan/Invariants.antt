@@ -1,6 +1,6 @@
 use Rattle.std.proofs.Common.{◌≡◌, take}
 use Rattle.std.specs.List.{flat_map}
-use Rattle.msi_query.specs.Conditions.{meets}
+use Rattle.msi_expression.specs.Conditions.{meets}
 use Rattle.msi_relation.specs.Rows.{rows_values}
 use Rattle.msi_relation.specs.Selection.{rows_of_row}
 use Rattle.msi_relation.proofs.joining.rows_by_scan.Given as goal
