@@ -3,7 +3,7 @@ use Rattle.std.proofs.Common.{◌≡◌, ℕ, Bool, true, false, List, [], ◌�
 use Rattle.std.specs.Prelude.{MatchBool, IsSomeAnd, option_map, option_and_then}
 use Rattle.std.specs.List.{list_any, AllByRecursion, enumerate_from}
 use Rattle.msi_text.specs.Pool.{Pool, Place, IsPool, forgotten}
-use Rattle.msi_summary.specs.Properties.{Properties}
+use Rattle.msi_property.specs.Properties.{Properties}
 use Rattle.msi_summary.specs.Summary.{SpellsSummary}
 use Rattle.msi_table.specs.declared.value.ValueRef.{ValueRef}
 use Rattle.msi_table.specs.declared.value.Value.{Value}

@@ -4,7 +4,7 @@ use Rattle.std.specs.Prelude.{IfErr, IfSome, IsErrAnd}
 use Rattle.std.proofs.lemmas.Option.{same_Some}
 use Rattle.msi_text.specs.ErrorKind.{ErrorKind}
 use Rattle.msi_text.specs.ErrorKind.TheVariants.{Io, OutOfMemory}
-use Rattle.msi_summary.specs.Properties.{Properties}
+use Rattle.msi_property.specs.Properties.{Properties}
 use Rattle.msi_summary.specs.Summary.{new_summary}
 use Rattle.msi_relation.specs.Refusals.{◌>>=◌}
 use Rattle.msi_device.specs.Held.{Held, bytes_told}

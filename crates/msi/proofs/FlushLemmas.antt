@@ -9,11 +9,11 @@ use Rattle.msi_text.specs.Pool as pools
 use Rattle.msi_text.specs.PoolWriting as pool_writing
 use Rattle.msi_pool.proofs.PoolReadBackLemmas.{pools_read_back}
 use Rattle.msi_pool.proofs.ForgottenLemmas.{empty_places}
-use Rattle.msi_summary.specs.PropertyStream.{property_stream}
-use Rattle.msi_summary.specs.PropertyStream as properties
-use Rattle.msi_summary.specs.PropertyWriting as property_writing
+use Rattle.msi_property.specs.PropertyStream.{property_stream}
+use Rattle.msi_property.specs.PropertyStream as properties
+use Rattle.msi_property.specs.PropertyWriting as property_writing
 use Rattle.msi_summary.specs.Summary.{SpellsSummary}
-use Rattle.msi_summary.proofs.ReadBackLemmas.{sets_read_back}
+use Rattle.msi_property.proofs.ReadBackLemmas.{sets_read_back}
 use Rattle.msi_compound_write.specs.LayoutLaw.{HaveNames}
 use Rattle.msi_schema.specs.Keys.{is_table_name, table_key, summary_key, string_pool_name, string_data_name}
 use Rattle.msi_schema.specs.System.{tables_name, columns_name, validation_name}

@@ -7,9 +7,9 @@ use Rattle.std.proofs.lemmas.Option.{same_Some}
 use Rattle.msi_text.specs.Pool.{Pool}
 use Rattle.msi_text.specs.Pool as pools
 use Rattle.msi_pool.proofs.ReadStreamLemmas.{one_pool}
-use Rattle.msi_summary.specs.Properties.{Properties}
+use Rattle.msi_property.specs.Properties.{Properties}
 use Rattle.msi_summary.specs.Summary.{SpellsSummary}
-use Rattle.msi_summary.proofs.ReadBackLemmas.{only_one_set}
+use Rattle.msi_property.proofs.ReadBackLemmas.{only_one_set}
 use Rattle.msi_table.specs.declared.value.ValueRef.{ValueRef}
 use Rattle.msi_table.specs.Columns.{ColumnDef}
 use Rattle.msi_relation.specs.Rows.{TableCells}

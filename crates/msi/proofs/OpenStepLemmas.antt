@@ -9,7 +9,7 @@ use Rattle.msi_text.specs.Pool.{Pool, PoolStream, Entry, IsPool, IsPoolStream, S
 use Rattle.msi_text.specs.Pool as pools
 use Rattle.msi_text.specs.Results.{FailsAs, Gives, IsUnlessFault, IsUnlessMemory}
 use Rattle.msi_device.specs.Held.{Held, all_bytes}
-use Rattle.msi_summary.specs.Properties.{Properties}
+use Rattle.msi_property.specs.Properties.{Properties}
 use Rattle.msi_summary.specs.Summary.{SpellsSummary}
 use Rattle.msi_compound.specs.declared.contents.Contents.{Contents}
 use Rattle.msi_compound.specs.Container.{Holds}

@@ -7,9 +7,9 @@ use Rattle.std.proofs.lemmas.Bool.{true≢false}
 use Rattle.std.proofs.lemmas.List.Elements.{All-from_recursion}
 use Rattle.msi_text.specs.CodePage.{CodePage}
 use Rattle.msi_text.specs.Pool.{Pool, Place, Entry, CountsFit, SpellsEntries, SpellsTexts, IsPool, with_named_texts}
-use Rattle.msi_summary.specs.Properties.{Properties}
+use Rattle.msi_property.specs.Properties.{Properties}
 use Rattle.msi_summary.specs.Summary.{SpellsSummary}
-use Rattle.msi_summary.proofs.KeptSetLemmas.{IsKept-spelled}
+use Rattle.msi_property.proofs.KeptSetLemmas.{IsKept-spelled}
 use Rattle.msi_table.specs.Columns.{ColumnDef, TableDef}
 use Rattle.msi_compound.specs.declared.contents.Contents.{Contents}
 use Rattle.msi_compound.specs.Container.{Holds}

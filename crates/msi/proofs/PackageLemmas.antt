@@ -5,7 +5,7 @@ use Rattle.std.proofs.lemmas.Bool.{true≢false, or_parts, and_from, lt-ltb, le-
 use Rattle.msi_text.specs.CodePage.{CodePage}
 use Rattle.msi_text.specs.ErrorKind.TheVariants.{InvalidData}
 use Rattle.msi_text.specs.Pool as pools
-use Rattle.msi_summary.specs.Properties.{Properties}
+use Rattle.msi_property.specs.Properties.{Properties}
 use Rattle.msi_compound.specs.Names.{is_name_length}
 use Rattle.msi_compound.specs.StreamNames.{is_marked}
 use Rattle.msi_compound_write.specs.LayoutLaw.{IsName, HaveNames}

@@ -6,15 +6,15 @@ use Rattle.msi_text.specs.CodePage.{CodePage}
 use Rattle.msi_text.specs.CodePage.TheVariants as page
 use Rattle.msi_text.specs.ErrorKind.{ErrorKind}
 use Rattle.msi_text.specs.Spellings.{language_list_text, braced_uuid_text}
-use Rattle.msi_summary.specs.declared.propset.PropertyValue.{PropertyValue}
-use Rattle.msi_summary.specs.declared.propset.PropertyValue.TheVariants.{I4, LpStr, FileTime}
-use Rattle.msi_summary.specs.declared.propset.OperatingSystem.TheVariants as os
-use Rattle.msi_summary.specs.Properties.{Properties, with_value, without_value, with_page, page_value, can_set, new_set}
-use Rattle.msi_summary.specs.PropertyStream.{FitsValue}
-use Rattle.msi_summary.specs.PropertyLaws.{IsKept}
+use Rattle.msi_property.specs.declared.propset.PropertyValue.{PropertyValue}
+use Rattle.msi_property.specs.declared.propset.PropertyValue.TheVariants.{I4, LpStr, FileTime}
+use Rattle.msi_property.specs.declared.propset.OperatingSystem.TheVariants as os
+use Rattle.msi_property.specs.Properties.{Properties, with_value, without_value, with_page, page_value, can_set, new_set}
+use Rattle.msi_property.specs.PropertyStream.{FitsValue}
+use Rattle.msi_property.specs.PropertyLaws.{IsKept}
 use Rattle.msi_summary.specs.Summary as summary
-use Rattle.msi_summary.proofs.KeptSetLemmas.{IsKept-with_value, IsKept-without_value}
-use Rattle.msi_summary.proofs.PropertiesLemmas.{page_in-page_value}
+use Rattle.msi_property.proofs.KeptSetLemmas.{IsKept-with_value, IsKept-without_value}
+use Rattle.msi_property.proofs.PropertiesLemmas.{page_in-page_value}
 use Rattle.msi.specs.Calls.{Clearing, SummaryCall, SummaryAnswer}
 use Rattle.msi.specs.Calls as calls
 use Rattle.msi.specs.Lent.{RunsTo, Gives, FitsSummaryCall, summary_cleared, summary_after, summary_outcome, summary_wants_memory}

@@ -5,7 +5,7 @@ use Rattle.std.specs.FinMap.{from_sorted}
 use Rattle.msi_text.specs.ErrorKind.{ErrorKind}
 use Rattle.msi_text.specs.ErrorKind.TheVariants.{InvalidInput, Io, OutOfMemory}
 use Rattle.msi_text.specs.Pool.{Pool}
-use Rattle.msi_summary.specs.Properties.{Properties}
+use Rattle.msi_property.specs.Properties.{Properties}
 use Rattle.msi_device.specs.Held.{Held, bytes_told}
 use Rattle.msi_compound.specs.declared.contents.Contents.{Contents}
 use Rattle.msi_compound_write.specs.Layout.{layout, refuses}

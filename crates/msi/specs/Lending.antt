@@ -4,7 +4,7 @@ use Rattle.std.specs.Borrow.{Fml, LendsIfOk, MutBor, RattleType}
 use Rattle.msi_text.specs.ErrorKind.{ErrorKind}
 use Rattle.msi_device.specs.declared.source.Source.{Ghosts}
 use Rattle.msi_schema.specs.Keys.{stream_key}
-use Rattle.msi_summary.specs.Properties.{Properties}
+use Rattle.msi_property.specs.Properties.{Properties}
 use Rattle.msi_summary.specs.contracts.summary.SummaryInfo as summary
 use Rattle.msi_database.specs.Streams.{with_stream}
 use Rattle.msi_stream.specs.Cursor.{Cursor}

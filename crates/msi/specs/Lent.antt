@@ -4,7 +4,7 @@ use Rattle.std.specs.Int.{w32}
 use Rattle.std.specs.Int.RustNames.{FitsSigned}
 use Rattle.msi_text.specs.ErrorKind.{ErrorKind}
 use Rattle.msi_text.specs.ErrorKind.TheVariants.{InvalidInput, OutOfMemory}
-use Rattle.msi_summary.specs.Properties.{Properties, without_value, with_page, page_of}
+use Rattle.msi_property.specs.Properties.{Properties, without_value, with_page, page_of}
 use Rattle.msi_summary.specs.Summary as summary
 use Rattle.msi.specs.Calls.{SummaryQuestion, Clearing, SummaryCall, SummaryAnswer, ReaderCall, WriterCall, StreamAnswer, SeekTo}
 use Rattle.msi.specs.Calls as calls

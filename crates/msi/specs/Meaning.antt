@@ -6,9 +6,9 @@ use Rattle.msi_text.specs.ErrorKind.{ErrorKind}
 use Rattle.msi_text.specs.ErrorKind.TheVariants.{InvalidData, NotFound}
 use Rattle.msi_text.specs.Pool.{Pool, Entry, IsPool, SpellsPool, with_named_texts}
 use Rattle.msi_text.specs.Pool as pools
-use Rattle.msi_summary.specs.Properties.{Properties}
-use Rattle.msi_summary.specs.PropertyStream as properties
-use Rattle.msi_summary.specs.PropertyLaws.{IsKept}
+use Rattle.msi_property.specs.Properties.{Properties}
+use Rattle.msi_property.specs.PropertyStream as properties
+use Rattle.msi_property.specs.PropertyLaws.{IsKept}
 use Rattle.msi_summary.specs.Summary.{SpellsSummary, summary_format}
 use Rattle.msi_compound.specs.declared.contents.Contents.{Contents}
 use Rattle.msi_compound.specs.Container.{Holds}

@@ -7,7 +7,7 @@ use Rattle.msi_text.specs.ErrorKind.{ErrorKind}
 use Rattle.msi_text.specs.ErrorKind.TheVariants.{Io, OutOfMemory}
 use Rattle.msi_text.specs.Pool as pools
 use Rattle.msi_summary.specs.Summary.{new_summary}
-use Rattle.msi_summary.specs.PropertyStream as properties
+use Rattle.msi_property.specs.PropertyStream as properties
 use Rattle.msi_compound_write.specs.Layout.{layout}
 use Rattle.msi_changes.specs.Database.{CountsAreExact}
 use Rattle.msi_changes.specs.Laws.{KeysAreDistinct}

@@ -1,7 +1,7 @@
 -- What a package is: the parts that its bytes mean, and what it keeps beside them.
 use Rattle.std.specs.Prelude.{ℕ, Bool, not, List, map, filter, ◌||◌, bytes_eq}
 use Rattle.std.specs.List.{list_any}
-use Rattle.msi_summary.specs.Properties.{Properties}
+use Rattle.msi_property.specs.Properties.{Properties}
 use Rattle.msi_schema.specs.Keys.{table_key, summary_key, string_pool_name, string_data_name}
 use Rattle.msi_schema.specs.System.{validation_name}
 use Rattle.msi_changes.specs.Database.{Database}

@@ -7,9 +7,9 @@ use Rattle.msi_text.specs.ErrorKind.{ErrorKind}
 use Rattle.msi_text.specs.ErrorKind.TheVariants.{InvalidInput, NotFound, Io, OutOfMemory}
 use Rattle.msi_text.specs.Pool.{Pool, pool_stream, data_stream}
 use Rattle.msi_text.specs.PoolWriting.{is_refused}
-use Rattle.msi_summary.specs.Properties.{Properties}
-use Rattle.msi_summary.specs.PropertyStream.{property_stream}
-use Rattle.msi_summary.specs.PropertyWriting as properties
+use Rattle.msi_property.specs.Properties.{Properties}
+use Rattle.msi_property.specs.PropertyStream.{property_stream}
+use Rattle.msi_property.specs.PropertyWriting as properties
 use Rattle.msi_compound.specs.declared.contents.Contents.{Contents}
 use Rattle.msi_compound.specs.StreamNames.{decoded_name, is_marked}
 use Rattle.msi_compound_write.specs.Layout.{layout, refuses}

@@ -2,7 +2,7 @@
 use Rattle.std.specs.Prelude.{◌≡◌, ℕ, Bool, true, List, Option, Some, None, Result, Ok, Err, IfSome}
 use Rattle.msi_text.specs.ErrorKind.{ErrorKind}
 use Rattle.msi_device.specs.Held.{Held}
-use Rattle.msi_summary.specs.Properties.{Properties}
+use Rattle.msi_property.specs.Properties.{Properties}
 use Rattle.msi_schema.specs.Keys.{is_stream_name, stream_key}
 use Rattle.msi_changes.specs.Database.{is_sound}
 use Rattle.msi_changes.specs.Changes.{Change}

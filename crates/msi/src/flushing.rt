@@ -5,7 +5,7 @@ ghost use Rattle.std.specs.Vec.Iter.{into_iter_items};
 ghost use Rattle.msi_text.specs.ErrorKind.TheVariants.{InvalidInput, Io};
 ghost use Rattle.msi_text.specs.PoolWriting.{is_refused as is_pool_refused};
 ghost use Rattle.msi_text.specs.Results.{OnlyMemory};
-ghost use Rattle.msi_summary.specs.PropertyWriting.{is_refused as is_summary_refused};
+ghost use Rattle.msi_property.specs.PropertyWriting.{is_refused as is_summary_refused};
 ghost use Rattle.msi_device.specs.Held.{at_start, bytes_told};
 ghost use Rattle.msi_compound_write.specs.Borrowed.{contents_of};
 ghost use Rattle.msi_relation.specs.Refusals.{IsRefusal, or_refused};

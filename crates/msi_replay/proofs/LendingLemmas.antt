@@ -1,7 +1,7 @@
 -- What calls on what a package lends, and what it selects, are to the package.
 use Rattle.std.proofs.Common.{◌≡◌, Some, None, List, [], ◌∷◌, map, Result, Ok, Err, refl, sym, ap, subst, ◌∙◌}
 use Rattle.msi_text.specs.ErrorKind.{ErrorKind}
-use Rattle.msi_summary.specs.Properties.{Properties}
+use Rattle.msi_property.specs.Properties.{Properties}
 use Rattle.msi_table.specs.declared.value.Value.{Value}
 use Rattle.msi_table.specs.Columns.{ColumnDef}
 use Rattle.msi_table.specs.Rows.{RowsDef}

@@ -3,7 +3,7 @@ use Rattle.std.proofs.Common.{◌≡◌, Result, Ok, Err, refl, sym, ap, ◌∙�
 use Rattle.std.specs.Prelude.{IfErr, IfOk, IsTrue, OnErr, OnOk}
 use Rattle.msi_text.specs.ErrorKind.{ErrorKind}
 use Rattle.msi_text.specs.ErrorKind.TheVariants.{OutOfMemory}
-use Rattle.msi_summary.specs.Properties.{Properties}
+use Rattle.msi_property.specs.Properties.{Properties}
 use Rattle.msi.specs.Calls.{Clearing, SummaryAnswer, SummaryCall, SummaryQuestion}
 use Rattle.msi.specs.Calls as calls
 use Rattle.msi.specs.Lent.{Gives, is_set_empty, question_wants_memory, said_of, summary_after, summary_cleared, summary_outcome, summary_wants_memory}

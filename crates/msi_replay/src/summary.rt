@@ -7,7 +7,7 @@ ghost use Rattle.std.specs.List.{AllByRecursion};
 ghost use Rattle.std.specs.Option.{option_copied};
 ghost use Rattle.msi_text.specs.Results.{OnlyMemory};
 ghost use Rattle.msi_text.specs.ErrorKind.TheVariants.{OutOfMemory};
-ghost use Rattle.msi_summary.specs.Properties.{without_value};
+ghost use Rattle.msi_property.specs.Properties.{without_value};
 ghost use Rattle.msi_summary.specs.Summary.{number_id, text_id, time_id};
 ghost use Rattle.msi_summary.specs.Summary.{number_with_id, text_with_id, time_with_id};
 ghost use Rattle.msi_summary.specs.Summary.{with_number, with_text, with_time};

@@ -1,19 +1,4 @@
-pub mod FieldLemmas
-pub mod ValueLemmas
-pub mod HeaderLemmas
-pub mod SpelledSetLemmas
-pub mod PairsLoopLemmas
-pub mod ValuesLoopLemmas
-pub mod SetPartsLemmas
-pub mod PlainValueLemmas
-pub mod SortedIdsLemmas
-pub mod PutInLemmas
-pub mod SetReadLemmas
-pub mod PlainSectionLemmas
-pub mod ReadBackLemmas
-pub mod PropertiesLemmas
-pub mod KeptSetLemmas
-mod PropertyStreamRows
+pub mod SummaryReadLemmas
 pub mod BraceLemmas
 pub mod KeywordLemmas
 pub mod NumeralLemmas

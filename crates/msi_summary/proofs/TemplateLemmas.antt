@@ -12,20 +12,12 @@ use Rattle.std.proofs.lemmas.List.Splits.{slice_split_none, slice_split_at}
 use Rattle.std.proofs.lemmas.Str.Parse.{digit_from_value, without_leading_plus_none}
 use Rattle.msi_text.specs.Numerals.{u16_in}
 use Rattle.msi_text.specs.Spellings.{language_list_text}
-use Rattle.msi_summary.specs.declared.propset.PropertyValue.TheVariants.{LpStr}
-use Rattle.msi_summary.specs.Properties.{Properties}
+use Rattle.msi_property.specs.declared.propset.PropertyValue.TheVariants.{LpStr}
+use Rattle.msi_property.specs.Properties.{Properties}
 use Rattle.msi_summary.specs.Summary.{as_text, is_comma, is_semicolon, nonempty, template_id, template_of, arch_text, languages_text, with_template}
-use Rattle.msi_summary.specs.SummaryLaws.{ArchKeepsLanguages, LanguagesKeepArch, RemovingChangesOne, SettingChangesOne}
+use Rattle.msi_summary.specs.SummaryLaws.{ArchKeepsLanguages, LanguagesKeepArch}
 use Rattle.msi_summary.proofs.NumeralLemmas.{u16_in-ok}
-use Rattle.msi_summary.proofs.PropertiesLemmas.{value_with_id-insert_entry, value_with_id-without}
-
--- ---- one value
-
-pub setting_changes_one : SettingChangesOne
-setting_changes_one id other value set = value_with_id-insert_entry other id value set.values
-
-pub removing_changes_one : RemovingChangesOne
-removing_changes_one id other set = value_with_id-without other id set.values
+use Rattle.msi_property.proofs.PropertiesLemmas.{value_with_id-insert_entry}
 
 -- ---- a text that is cut at its first mark
 

@@ -1,9 +1,3 @@
 -- The words of this crate.
-pub mod Properties
-pub mod PropertyStream
-pub mod PropertyWriting
-pub mod PropertyLaws
-pub mod Reading
 pub mod Summary
 pub mod SummaryLaws
-pub mod HeaderView

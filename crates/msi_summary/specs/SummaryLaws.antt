@@ -1,21 +1,8 @@
--- What the calls on a set and on a summary keep, and what they give back.
-use Rattle.std.specs.Prelude.{◌≡◌, ℕ, ◌^◌, ◌<◌, false, List, Some, None, ◌==◌, if◌then◌else◌}
+-- What the calls on a summary keep, and what they give back.
+use Rattle.std.specs.Prelude.{◌≡◌, ℕ, ◌^◌, ◌<◌, false, List}
 use Rattle.std.specs.List.{list_any, AllByRecursion}
-use Rattle.msi_summary.specs.declared.propset.PropertyValue.{PropertyValue}
-use Rattle.msi_summary.specs.Properties.{Properties, value_with_id, with_value, without_value}
+use Rattle.msi_property.specs.Properties.{Properties}
 use Rattle.msi_summary.specs.Summary.{is_semicolon, nonempty, arch_of, languages_of, with_arch, with_languages}
-
--- a value that is set is there, and every other stays
-abbrev pub SettingChangesOne : Type 0
-SettingChangesOne = (id other : ℕ) (value : PropertyValue) (set : Properties)
-    → value_with_id other (with_value id value set).values
-    ≡ (if id == other then Some value else value_with_id other set.values)
-
--- a value that is removed is gone, and every other stays
-abbrev pub RemovingChangesOne : Type 0
-RemovingChangesOne = (id other : ℕ) (set : Properties)
-    → value_with_id other (without_value id set).values
-    ≡ (if id == other then None else value_with_id other set.values)
 
 -- an architecture without a `;` is read back, and the languages stay
 abbrev pub ArchKeepsLanguages : Type 0

@@ -1,15 +1,11 @@
-//! Property sets, and the summary of a package.
+//! The summary of a package; and the name under which property sets are found too.
 #![tactic(auto)]
 
-mod header;
 pub mod laws;
 pub mod parts;
-pub mod propset;
-mod reading;
 mod reasons;
 pub mod summary;
-mod values;
-mod writing;
 
-pub use propset::{OperatingSystem, PropertySet, PropertyValue};
+pub use msi_property::propset;
+pub use msi_property::{OperatingSystem, PropertySet, PropertyValue};
 pub use summary::SummaryInfo;

@@ -3,15 +3,15 @@
 ghost use Rattle.std.specs.Prelude.{◌≡◌, ◌≢◌, ◌⊎◌, ◌↔◌, Some, IsTrue, IfOk, IfErr, OnOk, OnErr, IsErrOf};
 ghost use Rattle.msi_text.specs.Results.{Gives, OnlyMemory};
 ghost use Rattle.msi_text.specs.ErrorKind.TheVariants.{InvalidData, InvalidInput, OutOfMemory};
-ghost use Rattle.msi_summary.specs.Properties.{Properties};
-ghost use Rattle.msi_summary.specs.PropertyLaws.{IsKept};
-ghost use Rattle.msi_summary.specs.PropertyStream.{property_stream, AreWritable};
-ghost use Rattle.msi_summary.specs.PropertyWriting.{is_refused};
+ghost use Rattle.msi_property.specs.Properties.{Properties};
+ghost use Rattle.msi_property.specs.PropertyLaws.{IsKept};
+ghost use Rattle.msi_property.specs.PropertyStream.{property_stream, AreWritable};
+ghost use Rattle.msi_property.specs.PropertyWriting.{is_refused};
 ghost use Rattle.msi_summary.specs.Summary.{new_summary, summary_format, SpellsSummary};
 
-use crate::propset::PropertySet;
 use crate::summary::SummaryInfo;
-use crate::writing::stream_of;
+use msi_property::PropertySet;
+use msi_property::parts::stream_of;
 use msi_text::errors::Error;
 use std::alloc::Global;
 
@@ -63,7 +63,7 @@ pub fn kept(summary: &SummaryInfo)
     ensures set { IsKept summary.now }
     ensures format { summary.now.format_identifier ≡ summary_format }
 {
-    let _values = summary.properties().values();
+    msi_property::parts::kept(summary.properties());
 }
 
 /// The summary that a property set is.

@@ -5,7 +5,7 @@ ghost use Rattle.std.specs.Prelude.{◌≡◌, ◌≢◌, IfOk, IfErr, OnOk, OnE
 ghost use Rattle.std.specs.Option.{option_copied};
 ghost use Rattle.msi_text.specs.Results.{OnlyMemory};
 ghost use Rattle.msi_text.specs.ErrorKind.TheVariants.{InvalidData};
-ghost use Rattle.msi_summary.specs.Properties.{page_of, with_page, with_value, without_value};
+ghost use Rattle.msi_property.specs.Properties.{page_of, with_page, with_value, without_value};
 ghost use Rattle.msi_summary.specs.Summary.{new_summary, summary_format, number_with_id, text_with_id, time_with_id};
 ghost use Rattle.msi_summary.specs.Summary.{with_number, with_text, with_time};
 
@@ -16,8 +16,9 @@ mod template;
 mod texts;
 mod times;
 
-use crate::propset::{OperatingSystem, PropertySet, PropertyValue};
 use crate::reasons;
+use msi_property::parts::{allocator, put};
+use msi_property::{OperatingSystem, PropertySet, PropertyValue};
 use msi_text::codepage::CodePage;
 use msi_text::errors::{Error, ErrorKind};
 use msi_text::text::IntoText;
@@ -42,7 +43,7 @@ pub struct SummaryInfo {
 
 impl Model for SummaryInfo {
     ghost use Rattle.std.specs.Prelude.{◌≡◌};
-    ghost use Rattle.msi_summary.specs.Properties.{Properties};
+    ghost use Rattle.msi_property.specs.Properties.{Properties};
     ghost use Rattle.msi_summary.specs.Summary.{summary_format};
 
     ghost Value = { Properties };
@@ -117,6 +118,11 @@ impl SummaryInfo {
         self.properties.set_codepage(page)
     }
 
+    /// What new texts and lists take their memory from.
+    fn allocator(&self) -> Global {
+        allocator(&self.properties)
+    }
+
     /// The text of a property.
     fn text(&self, id: u32) -> Option<&str>
         ensures { option_copied result ≡ text_with_id id self.now }
@@ -154,7 +160,7 @@ impl SummaryInfo {
         ensures kind { OnlyMemory result }
         ensures err { OnErr result (self.new ≡ self.old) }
     {
-        self.properties.put(id, value)
+        put(&mut self.properties, id, value)
     }
 
     /// Sets the text of a property.
@@ -164,7 +170,7 @@ impl SummaryInfo {
         ensures kind { OnlyMemory result }
         ensures err { OnErr result (self.new ≡ self.old) }
     {
-        let text = text.into_text(self.properties.allocator())?;
+        let text = text.into_text(self.allocator())?;
         self.put(id, PropertyValue::LpStr(text))
     }
 

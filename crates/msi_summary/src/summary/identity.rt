@@ -3,12 +3,12 @@
 
 ghost use Rattle.std.specs.Prelude.{◌≡◌, OnOk, OnErr};
 ghost use Rattle.msi_text.specs.Results.{OnlyMemory};
-ghost use Rattle.msi_summary.specs.Properties.{without_value};
+ghost use Rattle.msi_property.specs.Properties.{without_value};
 ghost use Rattle.msi_summary.specs.Summary.{uuid_id, uuid_of, with_uuid, without_braces};
 ghost use Rattle.uuid.specs.Text.{parsed};
 
-use crate::propset::PropertyValue;
 use crate::summary::SummaryInfo;
+use msi_property::PropertyValue;
 use msi_text::errors::Error;
 use msi_text::parts::braced_uuid;
 use uuid::Uuid;
@@ -50,7 +50,7 @@ impl SummaryInfo {
         ensures kind { OnlyMemory result }
         ensures err { OnErr result (self.new ≡ self.old) }
     {
-        let text = braced_uuid(self.properties.allocator(), uuid)?;
+        let text = braced_uuid(self.allocator(), uuid)?;
         self.put(UUID, PropertyValue::LpStr(text))
     }
 

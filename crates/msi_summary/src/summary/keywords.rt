@@ -64,7 +64,7 @@ impl SummaryInfo {
         ensures kind { OnlyMemory result }
     {
         keywords_in(
-            self.properties.allocator(),
+            self.allocator(),
             self.text(KEYWORDS).unwrap_or(""),
         )
     }
@@ -80,7 +80,7 @@ impl SummaryInfo {
         ensures kind { OnlyMemory result }
         ensures err { OnErr result (self.new ≡ self.old) }
     {
-        let text = joined(self.properties.allocator(), keywords)?;
+        let text = joined(self.allocator(), keywords)?;
         self.set_text(KEYWORDS, text)
     }
 

@@ -108,7 +108,7 @@ impl SummaryInfo {
         ensures kind { OnlyMemory result }
         ensures err { OnErr result (self.new ≡ self.old) }
     {
-        let alloc = self.properties.allocator();
+        let alloc = self.allocator();
         let arch = arch.into_text(alloc)?.into_string();
         let languages = String::from_str(alloc, languages_part(self.template()))?;
         self.set_template(arch, languages.as_str())
@@ -137,7 +137,7 @@ impl SummaryInfo {
         ensures ok { IfOk result (λ languages. languages.items ≡ languages_of self.now) }
         ensures kind { OnlyMemory result }
     {
-        languages_in(self.properties.allocator(), languages_part(self.template()))
+        languages_in(self.allocator(), languages_part(self.template()))
     }
 
     /// Sets the languages, which the template (property 7) has behind its first `;`, as decimal numbers with
@@ -150,7 +150,7 @@ impl SummaryInfo {
         ensures kind { OnlyMemory result }
         ensures err { OnErr result (self.new ≡ self.old) }
     {
-        let alloc = self.properties.allocator();
+        let alloc = self.allocator();
         let arch = String::from_str(alloc, arch_part(self.template()))?;
         let ids = language_list(alloc, languages)?;
         self.set_template(arch, ids.as_str())

@@ -4,7 +4,7 @@
 ghost use Rattle.std.specs.Prelude.{◌≡◌, OnOk, OnErr};
 ghost use Rattle.std.specs.Option.{option_copied};
 ghost use Rattle.msi_text.specs.Results.{OnlyMemory};
-ghost use Rattle.msi_summary.specs.Properties.{without_value};
+ghost use Rattle.msi_property.specs.Properties.{without_value};
 ghost use Rattle.msi_summary.specs.Summary.{text_with_id, text_id, with_text};
 ghost use Rattle.msi_summary.specs.Summary as property;
 

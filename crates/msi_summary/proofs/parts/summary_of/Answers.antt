@@ -1,4 +1,4 @@
-use Rattle.msi_summary.proofs.SetReadLemmas.{is_only_summary}
+use Rattle.msi_summary.proofs.SummaryReadLemmas.{is_only_summary}
 use Rattle.msi_summary.proofs.parts.summary_of.Goals as goal
 
 pub returns-clause-only : goal.returns-clause-only
