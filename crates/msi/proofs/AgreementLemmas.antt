@@ -14,10 +14,10 @@ use Rattle.msi_schema.specs.Keys.{table_key, summary_key, string_pool_name, stri
 use Rattle.msi_schema.specs.System.{tables_name, columns_name, validation_name, tables_columns, columns_columns, validation_columns}
 use Rattle.msi_schema.specs.Schema.{SchemaRows, schema_of}
 use Rattle.msi_changes.specs.Database.{Database, Tables, named_numbers, numbers_of_rows, has_table}
-use Rattle.msi_database.specs.Streams.{Streams, stream_at, stored_rows}
-use Rattle.msi_database.specs.StreamNames as databases
+use Rattle.msi_kept.specs.Streams.{Streams, stream_at, stored_rows}
+use Rattle.msi_kept.specs.StreamNames as databases
+use Rattle.msi_kept.specs.Kept.{Kept}
 use Rattle.msi_database.specs.Agreement.{DatabaseIs, described_by, is_shown, schema_in}
-use Rattle.msi_database.specs.Kept.{Kept}
 use Rattle.msi_database.specs.Keeping.{IsKeptDatabase}
 use Rattle.msi_database.proofs.StreamLemmas.{AreSorted}
 use Rattle.msi.specs.Meaning.{SummaryIs, RawPoolIs, PoolIs, shown_pool}

@@ -6,7 +6,7 @@ use Rattle.msi_text.specs.ErrorKind.{ErrorKind}
 use Rattle.msi_text.specs.ErrorKind.TheVariants.{Io, OutOfMemory}
 use Rattle.msi_relation.specs.Refusals.{Refusals, IsRefusal, first_refusal, unless, unless_refused}
 use Rattle.msi_changes.specs.Changes.{Change}
-use Rattle.msi_database.specs.Streams.{Streams}
+use Rattle.msi_kept.specs.Streams.{Streams}
 use Rattle.msi.specs.State.{State}
 use Rattle.msi.specs.Calls.{Call, Answer}
 use Rattle.msi.specs.Calls as calls

@@ -15,7 +15,7 @@ use Rattle.msi_query.specs.Queries.{table}
 use Rattle.msi.specs.declared.kinds.PackageType.TheVariants as kind
 use Rattle.msi_schema.specs.System.{plain_column, key, nullable}
 use Rattle.msi.specs.State.{State}
-use Rattle.msi_database.specs.Streams.{stream_at}
+use Rattle.msi_kept.specs.Streams.{stream_at}
 use Rattle.msi.specs.Calls.{Call, Answer}
 use Rattle.msi.specs.Calls as calls
 use Rattle.msi.specs.Steps.{outcome}

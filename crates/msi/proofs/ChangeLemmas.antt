@@ -14,8 +14,8 @@ use Rattle.msi_changes.specs.Drop.{drop_table}
 use Rattle.msi_changes.specs.Insert.{insert_rows}
 use Rattle.msi_changes.specs.Laws.{IsChange, IsTableChange, inserted, updated, deleted, created, dropped}
 use Rattle.msi_changes.specs.Update.{update_rows}
+use Rattle.msi_kept.specs.Kept.{Kept}
 use Rattle.msi_database.specs.Keeping.{IsKeptDatabase}
-use Rattle.msi_database.specs.Kept.{Kept}
 use Rattle.msi_database.specs.Making as databases
 use Rattle.msi_database.specs.Making.{TellsUse}
 use Rattle.msi_database.proofs.KeepingLemmas.{change_comes}

@@ -23,7 +23,7 @@ use Rattle.msi_schema.specs.System.{tables_name, columns_name, validation_name, 
 use Rattle.msi_schema.specs.Schema.{SchemaRows, schema_of}
 use Rattle.msi_schema.proofs.SchemaLemmas.{table_of}
 use Rattle.msi_changes.specs.Database.{Database, Tables, table_at, rows_of, number_of_cell, numbers_of_rows, named_numbers}
-use Rattle.msi_database.specs.Streams.{Streams, stream_at, stored_rows}
+use Rattle.msi_kept.specs.Streams.{Streams, stream_at, stored_rows}
 use Rattle.msi_database.specs.Agreement.{TablesAre, numbers_stored, is_shown, schema_shown}
 use Rattle.msi_database.proofs.DescribedLemmas.{shown_table, table_rows}
 use Rattle.msi.proofs.ShownPoolLemmas.{IsNamed, AreNamed, OptionNamed, CoversSchema}

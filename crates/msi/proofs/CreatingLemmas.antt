@@ -10,9 +10,9 @@ use Rattle.msi_relation.specs.Refusals.{◌>>=◌}
 use Rattle.msi_device.specs.Held.{Held, bytes_told}
 use Rattle.msi_compound_write.specs.Layout.{layout}
 use Rattle.msi_changes.specs.Database.{is_sound}
-use Rattle.msi_database.specs.Kept.{Kept}
+use Rattle.msi_kept.specs.Kept.{Kept}
+use Rattle.msi_kept.specs.Streams.{Streams}
 use Rattle.msi_database.specs.Fresh as databases
-use Rattle.msi_database.specs.Streams.{Streams}
 use Rattle.msi_database.proofs.FreshLemmas.{fresh_is_kept}
 use Rattle.msi.specs.declared.kinds.PackageType.{PackageType}
 use Rattle.msi.specs.Kinds.{title_of}

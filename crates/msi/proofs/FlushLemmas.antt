@@ -18,7 +18,7 @@ use Rattle.msi_compound_write.specs.LayoutLaw.{HaveNames}
 use Rattle.msi_schema.specs.Keys.{is_table_name, table_key, summary_key, string_pool_name, string_data_name}
 use Rattle.msi_schema.specs.System.{tables_name, columns_name, validation_name}
 use Rattle.msi_changes.specs.Database.{Database, Tables}
-use Rattle.msi_database.specs.Streams.{Streams, stream_at, with_stream}
+use Rattle.msi_kept.specs.Streams.{Streams, stream_at, with_stream}
 use Rattle.msi_database.specs.Agreement.{is_shown}
 use Rattle.msi_database.proofs.KeyLemmas.{pool_keys_differ, table_key≢summary_key, table_key≢pool, tables_accepted, columns_accepted, validation_accepted}
 use Rattle.msi_database.proofs.SoundLemmas.{sound_names}

@@ -7,9 +7,9 @@ use Rattle.msi_text.specs.ErrorKind.TheVariants.{AlreadyExists, InvalidData, Inv
 use Rattle.msi_relation.specs.Refusals.{IsRefusal, or_refused, unless_refused, ◌>>=◌}
 use Rattle.msi_device.specs.Held.{Held, bytes_told}
 use Rattle.msi_compound_write.specs.Layout.{layout, refuses}
-use Rattle.msi_database.specs.Kept.{Kept}
+use Rattle.msi_kept.specs.Kept.{Kept}
+use Rattle.msi_kept.specs.Streams.{Streams}
 use Rattle.msi_database.specs.Others.{with_streams}
-use Rattle.msi_database.specs.Streams.{Streams}
 use Rattle.msi.specs.State.{State}
 use Rattle.msi.specs.Calls.{Answer}
 use Rattle.msi.specs.Calls as calls

@@ -15,7 +15,7 @@ use Rattle.msi_compound.specs.Trees.{members}
 use Rattle.msi_compound.specs.Container.{Plan, IsPlan, HasName, Holds, name, name_size, size, field, is_mini, sector_byte, mini_sector_byte, stream_byte, stream_bytes, stream_entries}
 use Rattle.msi_compound.proofs.NamesLemmas.{names_total}
 use Rattle.msi_compound_write.specs.LayoutLaw.{IsName, HaveNames}
-use Rattle.msi_database.specs.Streams.{Streams, stream_at}
+use Rattle.msi_kept.specs.Streams.{Streams, stream_at}
 use Rattle.msi_database.proofs.MapLemmas as maps
 use Rattle.msi.specs.Laws.{AreBytes}
 

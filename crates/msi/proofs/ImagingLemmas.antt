@@ -16,7 +16,7 @@ use Rattle.msi_compound.specs.declared.contents.Contents.{Contents}
 use Rattle.msi_compound.proofs.NamesLemmas.{names_total}
 use Rattle.msi_compound_write.specs.Layout.{layout, refuses}
 use Rattle.msi_compound_write.proofs.LayoutLemmas.{not_true}
-use Rattle.msi_database.specs.Streams.{Streams}
+use Rattle.msi_kept.specs.Streams.{Streams}
 use Rattle.msi.specs.State.{State}
 use Rattle.msi.specs.Steps.{contents_of, image_of, streams_written}
 use Rattle.msi.specs.Flushing.{with_renewed}

@@ -3,7 +3,7 @@ use Rattle.std.proofs.Common.{◌≡◌, Bool, true, false, ap, ◌∙◌, inl, 
 use Rattle.std.specs.Prelude.{MatchBool}
 use Rattle.std.proofs.lemmas.Bool.{true≢false}
 use Rattle.msi_schema.specs.Keys.{stream_key, signature_key, signature_ex_key}
-use Rattle.msi_database.specs.Streams.{Streams, without_stream}
+use Rattle.msi_kept.specs.Streams.{Streams, without_stream}
 use Rattle.msi.specs.State.{names_of, parts_of}
 use Rattle.msi.specs.Steps.{LendsOrRefuses, outcome, is_lending}
 use Rattle.msi.specs.Laws.{WritesItsStream, RemovesItsStream, RemovesSignature, FlushKeepsParts, StepsAreFixed, PassingMeans, with_others}

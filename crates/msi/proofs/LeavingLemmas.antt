@@ -6,7 +6,7 @@ use Rattle.msi_text.specs.ErrorKind.{ErrorKind}
 use Rattle.msi_changes.specs.Changes.{Change}
 use Rattle.msi_schema.specs.Keys.{stream_key}
 use Rattle.msi.specs.State.{State, parts_of}
-use Rattle.msi_database.specs.Streams.{with_stream}
+use Rattle.msi_kept.specs.Streams.{with_stream}
 use Rattle.msi_changes.specs.Insert.{insert_rows}
 use Rattle.msi_changes.specs.Update.{update_rows}
 use Rattle.msi_changes.specs.Delete.{delete_rows}

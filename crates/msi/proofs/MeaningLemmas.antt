@@ -7,7 +7,7 @@ use Rattle.msi_compound.specs.Container.{Holds}
 use Rattle.msi_compound_write.specs.Layout.{layout, refuses}
 use Rattle.msi_compound_write.specs.LayoutLaw.{IsContents, HaveNames}
 use Rattle.msi_compound_write.proofs.LayoutHeldLemmas.{layout_holds}
-use Rattle.msi_database.specs.Streams.{Streams}
+use Rattle.msi_kept.specs.Streams.{Streams}
 use Rattle.msi_database.specs.Agreement.{DatabaseIs}
 use Rattle.msi_database.proofs.StreamLemmas.{AreSorted}
 use Rattle.msi.specs.declared.kinds.PackageType.{PackageType}

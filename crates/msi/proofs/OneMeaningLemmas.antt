@@ -17,7 +17,7 @@ use Rattle.msi_compound.specs.declared.contents.Contents.{Contents}
 use Rattle.msi_schema.specs.Keys.{table_key, summary_key, string_pool_name, string_data_name}
 use Rattle.msi_schema.specs.System.{validation_name, validation_columns}
 use Rattle.msi_changes.specs.Database.{Database, Tables, has_table}
-use Rattle.msi_database.specs.Streams.{Streams, stream_at, stored_rows}
+use Rattle.msi_kept.specs.Streams.{Streams, stream_at, stored_rows}
 use Rattle.msi_database.specs.Agreement.{TablesAre, UnlistedIs, is_shown, schema_rows, schema_shown, schema_in}
 use Rattle.msi.specs.declared.kinds.PackageType.{PackageType}
 use Rattle.msi.specs.declared.kinds.PackageType.TheVariants as kind

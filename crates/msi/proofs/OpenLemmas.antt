@@ -5,7 +5,7 @@ use Rattle.msi_compound.specs.StreamNames.{is_marked}
 use Rattle.msi_schema.specs.Keys.{table_key, stream_key}
 use Rattle.msi_schema.specs.System.{columns_name, tables_name, validation_name}
 use Rattle.msi_changes.specs.Database.{Database}
-use Rattle.msi_database.specs.Kept.{Kept}
+use Rattle.msi_kept.specs.Kept.{Kept}
 use Rattle.msi_database.specs.Others.{IsOther}
 use Rattle.msi_database.proofs.KeyLemmas.{unmarked≢table_key, stream_key_unmarked}
 use Rattle.msi.specs.Whole.{IsOpen}

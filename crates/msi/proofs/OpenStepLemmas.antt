@@ -17,8 +17,8 @@ use Rattle.msi_compound.specs.Names.{is_name_length}
 use Rattle.msi_compound.specs.Streams as maps
 use Rattle.msi_relation.specs.Refusals.{IsRefusal, or_refused}
 use Rattle.msi_schema.specs.Keys.{table_key, summary_key, string_pool_name, string_data_name}
+use Rattle.msi_kept.specs.Streams.{stream_at}
 use Rattle.msi_database.specs.Agreement.{schema_in}
-use Rattle.msi_database.specs.Streams.{stream_at}
 use Rattle.msi.specs.declared.kinds.PackageType.{PackageType}
 use Rattle.msi.specs.Kinds.{clsid_of}
 use Rattle.msi.specs.State.{State}

@@ -15,10 +15,10 @@ use Rattle.msi_compound.specs.declared.contents.Contents.{Contents}
 use Rattle.msi_compound.specs.Container.{Holds}
 use Rattle.msi_schema.specs.Keys.{table_key, summary_key, string_pool_name, string_data_name}
 use Rattle.msi_changes.specs.Database.{Database, Tables, is_sound}
-use Rattle.msi_database.specs.Streams.{Streams, stream_at}
-use Rattle.msi_database.specs.StreamNames.{HoldBytes}
+use Rattle.msi_kept.specs.Streams.{Streams, stream_at}
+use Rattle.msi_kept.specs.StreamNames.{HoldBytes}
+use Rattle.msi_kept.specs.Kept.{AreAsLong, database_kept, schema_listed}
 use Rattle.msi_database.specs.Agreement.{DatabaseIs, is_shown}
-use Rattle.msi_database.specs.Kept.{AreAsLong, database_kept, schema_listed}
 use Rattle.msi_database.specs.Keeping.{IsKeptDatabase, AreKept}
 use Rattle.msi_database.specs.Listed.{tables_listed}
 use Rattle.msi_database.proofs.KeptLawLemmas.{read_is_kept}

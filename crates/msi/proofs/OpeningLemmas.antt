@@ -8,7 +8,7 @@ use Rattle.msi_text.specs.Pool.{Pool, Entry, IsPool, SpellsPool}
 use Rattle.msi_compound.specs.declared.contents.Contents.{Contents}
 use Rattle.msi_compound.proofs.PlanOnceLemmas.{held_once}
 use Rattle.msi_schema.specs.Keys.{table_key, summary_key, string_pool_name, string_data_name}
-use Rattle.msi_database.specs.Streams.{stream_at}
+use Rattle.msi_kept.specs.Streams.{stream_at}
 use Rattle.msi_database.specs.Agreement.{schema_in, schema_shown}
 use Rattle.msi.specs.State.{Parts, State, parts_of}
 use Rattle.msi.specs.Meaning.{ContentsMean, OpenStep, Passes, FailsFirst, OpensTo, Means, as_opened, open_steps}

@@ -12,7 +12,7 @@ use Rattle.msi_compound_write.specs.LayoutLaw.{IsName, HaveNames}
 use Rattle.msi_schema.specs.Keys.{is_stream_name, table_key, stream_key, summary_key, signature_key, signature_ex_key, string_pool_name, string_data_name}
 use Rattle.msi_schema.specs.System.{validation_name}
 use Rattle.msi_changes.specs.Database.{Database}
-use Rattle.msi_database.specs.Streams.{Streams, with_stream, without_stream}
+use Rattle.msi_kept.specs.Streams.{Streams, with_stream, without_stream}
 use Rattle.msi_database.proofs.KeyLemmas.{unmarked≢table_key, stream_key_unmarked, stream_key≢summary_key, signature≢summary, signature_ex≢summary}
 use Rattle.msi_database.proofs.MapLemmas as maps
 use Rattle.msi_database.proofs.StreamLemmas.{AreSorted}

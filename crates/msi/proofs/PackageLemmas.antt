@@ -20,8 +20,8 @@ use Rattle.msi_changes.proofs.DeleteLemmas.{delete_parts}
 use Rattle.msi_changes.proofs.RefusedLemmas.{first_fails, not_false}
 use Rattle.msi_changes.proofs.ShownLemmas as steps
 use Rattle.msi_changes.proofs.ShownChangesLemmas.{dropped_parts}
-use Rattle.msi_database.specs.Streams.{Streams, stream_at, with_stream, without_stream}
-use Rattle.msi_database.specs.StreamNames as databases
+use Rattle.msi_kept.specs.Streams.{Streams, stream_at, with_stream, without_stream}
+use Rattle.msi_kept.specs.StreamNames as databases
 use Rattle.msi_database.specs.Keeping.{IsKeptDatabase}
 use Rattle.msi_database.proofs.KeyLemmas.{unmarked≢table_key, stream_key_unmarked, stream_key≢summary_key, signature≢summary, signature_ex≢summary}
 use Rattle.msi_database.proofs.StreamLemmas.{AreSorted, sorted_put, sorted_removed, stream_at_other_put, stream_at_other_removed}

@@ -5,7 +5,7 @@ use Rattle.msi_schema.specs.Keys.{table_key, summary_key}
 use Rattle.msi_changes.specs.Database.{is_sound}
 use Rattle.msi.specs.declared.kinds.PackageType.TheVariants as kind
 use Rattle.msi.specs.State.{State}
-use Rattle.msi_database.specs.Streams.{stream_at}
+use Rattle.msi_kept.specs.Streams.{stream_at}
 use Rattle.msi.specs.Runs.{fresh}
 use Rattle.msi_database.specs.Agreement.{schema_in, schema_shown}
 use Rattle.std.specs.List.{flat_map}

@@ -9,7 +9,7 @@ use Rattle.msi_text.specs.FirstFit.{count_of}
 use Rattle.msi_text.specs.Pool.{Pool, Place, forgotten}
 use Rattle.msi_text.specs.Pool as pools
 use Rattle.msi_changes.specs.Database.{Database, is_sound, named_numbers, cells_naming}
-use Rattle.msi_database.specs.Streams.{Streams}
+use Rattle.msi_kept.specs.Streams.{Streams}
 use Rattle.msi_database.specs.Agreement.{DatabaseIs, is_shown}
 use Rattle.msi_database.proofs.SoundLemmas.{sound_is}
 use Rattle.msi_database.proofs.NamedLemmas.{shown_named}

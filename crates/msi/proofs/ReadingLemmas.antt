@@ -13,9 +13,9 @@ use Rattle.msi_compound.specs.declared.contents.Contents.{Contents}
 use Rattle.msi_compound.specs.Container.{Holds}
 use Rattle.msi_schema.specs.Keys.{table_key, string_pool_name, string_data_name}
 use Rattle.msi_changes.specs.Database.{Database}
-use Rattle.msi_database.specs.Streams.{Streams, stream_at, stored_rows}
+use Rattle.msi_kept.specs.Streams.{Streams, stream_at, stored_rows}
+use Rattle.msi_kept.specs.Kept.{Kept, database_kept, table_kept, schema_listed}
 use Rattle.msi_database.specs.Agreement.{DatabaseIs, is_shown, schema_rows, schema_in}
-use Rattle.msi_database.specs.Kept.{Kept, database_kept, table_kept, schema_listed}
 use Rattle.msi_database.proofs.PartsLemmas.{parts_spelled, schema_kept}
 use Rattle.msi.specs.declared.kinds.PackageType.{PackageType}
 use Rattle.msi.specs.Kinds.{clsid_of}

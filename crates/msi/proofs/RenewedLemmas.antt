@@ -14,9 +14,9 @@ use Rattle.msi_compound.proofs.StreamsLemmas.{put_back_same}
 use Rattle.msi_schema.specs.Keys.{is_table_name, named, string_data_name, string_pool_name, table_key}
 use Rattle.msi_schema.specs.System.{columns_name, tables_name, validation_name}
 use Rattle.msi_changes.specs.Database.{Database, Tables, is_sound}
-use Rattle.msi_database.specs.Kept.{Kept}
+use Rattle.msi_kept.specs.Kept.{Kept}
+use Rattle.msi_kept.specs.Streams.{Streams, stream_at, with_stream, with_stream_or_none}
 use Rattle.msi_database.specs.Others.{IsOther, with_streams}
-use Rattle.msi_database.specs.Streams.{Streams, stream_at, with_stream, with_stream_or_none}
 use Rattle.msi_database.proofs.EntriesLemmas.{entries_either}
 use Rattle.msi_database.proofs.KeyLemmas.{columns_accepted, table_key≢pool, tables_accepted, validation_accepted}
 use Rattle.msi_database.proofs.SoundLemmas.{sound_names}

@@ -8,7 +8,7 @@ use Rattle.msi_relation.specs.Refusals.{unless_refused, or_refused, ◌>>=◌}
 use Rattle.msi_compound.specs.Names.{name_cmp}
 use Rattle.msi_compound_write.specs.Image.{least_total}
 use Rattle.msi_compound_write.specs.Layout.{refuses, taken_by}
-use Rattle.msi_database.specs.Streams.{Streams}
+use Rattle.msi_kept.specs.Streams.{Streams}
 use Rattle.msi.specs.declared.kinds.PackageType.{PackageType}
 use Rattle.msi.specs.declared.kinds.PackageType.TheVariants as kind
 use Rattle.msi.specs.State.{State}

@@ -7,7 +7,7 @@ use Rattle.msi_text.specs.ErrorKind.TheVariants.{InvalidInput}
 use Rattle.msi_relation.specs.Refusals.{unless_refused, or_refused, ◌>>=◌}
 use Rattle.msi_changes.proofs.RefusedLemmas.{not_refused, first_fails}
 use Rattle.msi_compound_write.specs.Layout.{layout, refuses}
-use Rattle.msi_database.specs.Streams.{Streams}
+use Rattle.msi_kept.specs.Streams.{Streams}
 use Rattle.msi.specs.State.{State}
 use Rattle.msi.specs.Meaning.{IsPackage}
 use Rattle.msi.specs.Calls.{Call, Answer}

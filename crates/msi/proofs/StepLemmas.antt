@@ -18,7 +18,7 @@ use Rattle.msi_changes.specs.Create.{create_table}
 use Rattle.msi_changes.specs.Drop.{drop_table}
 use Rattle.msi_changes.specs.Laws.{IsChange, IsTableChange, inserted, updated, deleted, created, dropped}
 use Rattle.msi_changes.proofs.RefusedLemmas.{bind_ok, not_refused, value_there}
-use Rattle.msi_database.specs.Streams.{Streams, with_stream, without_stream}
+use Rattle.msi_kept.specs.Streams.{Streams, with_stream, without_stream}
 use Rattle.msi.specs.State.{Parts, State, parts_of}
 use Rattle.msi.specs.Meaning.{IsPackage}
 use Rattle.msi.specs.Calls.{Call, Answer}

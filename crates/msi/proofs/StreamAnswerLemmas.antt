@@ -7,8 +7,8 @@ use Rattle.msi_compound.specs.Names.{name_cmp}
 use Rattle.msi_compound.specs.StreamNames.{is_marked}
 use Rattle.msi_compound.proofs.NamesLemmas.{names_total, exact_names}
 use Rattle.msi_schema.specs.Keys.{is_stream_name, stream_key, summary_key, document_summary_key, signature_key, signature_ex_key}
-use Rattle.msi_database.specs.Kept.{Kept}
-use Rattle.msi_database.specs.Streams.{Streams, stream_at, has_stream_at}
+use Rattle.msi_kept.specs.Kept.{Kept}
+use Rattle.msi_kept.specs.Streams.{Streams, stream_at, has_stream_at}
 use Rattle.msi_database.proofs.KeyLemmas.{signature≢summary}
 use Rattle.msi_database.proofs.MapLemmas as maps
 use Rattle.msi.specs.State.{State, is_other_name, names_of, other_streams, parts_of}

@@ -8,8 +8,8 @@ use Rattle.msi_compound.specs.Streams as maps
 use Rattle.msi_compound.specs.StreamNames.{is_marked}
 use Rattle.msi_compound.proofs.NamesLemmas.{names_total}
 use Rattle.msi_schema.specs.Keys.{document_summary_key, signature_ex_key, signature_key, summary_key}
-use Rattle.msi_database.specs.Kept.{Kept}
-use Rattle.msi_database.specs.Streams.{Streams}
+use Rattle.msi_kept.specs.Kept.{Kept}
+use Rattle.msi_kept.specs.Streams.{Streams}
 use Rattle.msi_stream.specs.Listing.{is_listed, listed_names, text_of_key}
 use Rattle.msi_stream.proofs.DeskLemmas.{keys_settled}
 use Rattle.msi.specs.State.{is_other_name, names_of, others_among}

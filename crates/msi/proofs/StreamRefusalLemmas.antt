@@ -5,7 +5,7 @@ use Rattle.msi_text.specs.ErrorKind.{ErrorKind}
 use Rattle.msi_text.specs.ErrorKind.TheVariants.{InvalidInput, NotFound}
 use Rattle.msi_relation.specs.Refusals.{Refusals, first_refusal, unless, unless_refused}
 use Rattle.msi_schema.specs.Keys.{is_stream_name, stream_key}
-use Rattle.msi_database.specs.Streams.{has_stream_at, stream_at}
+use Rattle.msi_kept.specs.Streams.{has_stream_at, stream_at}
 use Rattle.msi.specs.State.{State, parts_of}
 use Rattle.msi.specs.Steps.{bytes_of_stream, has_stream, name_refusals, storage_refusal}
 use Rattle.msi.specs.Whole.{Whole}

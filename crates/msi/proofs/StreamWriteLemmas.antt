@@ -6,9 +6,9 @@ use Rattle.msi_compound.specs.Names.{name_cmp}
 use Rattle.msi_compound.proofs.NamesLemmas.{names_total, exact_names}
 use Rattle.msi_schema.specs.Keys.{is_stream_name, stream_key}
 use Rattle.msi_changes.specs.Database.{Database, is_sound}
-use Rattle.msi_database.specs.Kept.{Kept}
+use Rattle.msi_kept.specs.Kept.{Kept}
+use Rattle.msi_kept.specs.Streams.{Streams, has_stream_at, with_stream}
 use Rattle.msi_database.specs.Others.{IsOther, with_streams}
-use Rattle.msi_database.specs.Streams.{Streams, has_stream_at, with_stream}
 use Rattle.msi_database.proofs.KeyLemmas.{stream_key_unmarked}
 use Rattle.msi_database.proofs.StreamLemmas.{AreSorted, sorted_put}
 use Rattle.msi.specs.Steps as steps

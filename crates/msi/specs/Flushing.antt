@@ -11,8 +11,8 @@ use Rattle.msi_compound.specs.declared.contents.Contents.{Contents}
 use Rattle.msi_compound_write.specs.Layout.{layout, refuses}
 use Rattle.msi_schema.specs.Keys.{summary_key}
 use Rattle.msi_changes.specs.Database.{Database}
-use Rattle.msi_database.specs.Kept.{Kept}
-use Rattle.msi_database.specs.Streams.{Streams, with_stream}
+use Rattle.msi_kept.specs.Kept.{Kept}
+use Rattle.msi_kept.specs.Streams.{Streams, with_stream}
 use Rattle.msi_database.specs.Others.{IsOther}
 use Rattle.msi.specs.declared.kinds.PackageType.{PackageType}
 use Rattle.msi.specs.Kinds.{clsid_of}

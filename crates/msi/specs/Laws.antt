@@ -7,7 +7,7 @@ use Rattle.msi_compound.specs.declared.contents.Contents.{Contents}
 use Rattle.msi_schema.specs.Keys.{is_stream_name, stream_key}
 use Rattle.msi_changes.specs.Database.{Database, CountsAreExact, is_sound}
 use Rattle.msi_changes.specs.Laws.{KeysAreDistinct}
-use Rattle.msi_database.specs.Streams.{Streams, with_stream, without_stream}
+use Rattle.msi_kept.specs.Streams.{Streams, with_stream, without_stream}
 use Rattle.msi.specs.declared.kinds.PackageType.{PackageType}
 use Rattle.msi.specs.State.{Parts, State, parts_of}
 use Rattle.msi.specs.Meaning.{ContentsMean, IsPackage, Means, OpenStep, OpensTo, Passes}

@@ -6,7 +6,7 @@ use Rattle.msi_device.specs.declared.source.Source.{Ghosts}
 use Rattle.msi_schema.specs.Keys.{stream_key}
 use Rattle.msi_property.specs.Properties.{Properties}
 use Rattle.msi_summary.specs.contracts.summary.SummaryInfo as summary
-use Rattle.msi_database.specs.Streams.{with_stream}
+use Rattle.msi_kept.specs.Streams.{with_stream}
 use Rattle.msi_stream.specs.Cursor.{Cursor}
 use Rattle.msi_stream.specs.contracts.writer.OpenStream as stream
 use Rattle.msi.specs.Steps.{with_lent_summary, with_streams, with_summary_calls}

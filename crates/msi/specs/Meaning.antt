@@ -15,7 +15,7 @@ use Rattle.msi_compound.specs.Container.{Holds}
 use Rattle.msi_compound_write.specs.LayoutLaw.{HaveNames}
 use Rattle.msi_schema.specs.Keys.{table_key, summary_key, string_pool_name, string_data_name}
 use Rattle.msi_changes.specs.Database.{Database, is_sound}
-use Rattle.msi_database.specs.Streams.{Streams, stream_at}
+use Rattle.msi_kept.specs.Streams.{Streams, stream_at}
 use Rattle.msi_database.specs.Agreement.{DatabaseIs, is_shown, schema_in}
 use Rattle.msi_database.specs.Keeping.{IsKeptDatabase}
 use Rattle.msi.specs.declared.kinds.PackageType.{PackageType}

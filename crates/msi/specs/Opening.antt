@@ -7,7 +7,7 @@ use Rattle.msi_text.specs.Pool.{PoolStream, IsPoolStream}
 use Rattle.msi_compound.specs.declared.contents.Contents.{Contents}
 use Rattle.msi_device.specs.Held.{Held, all_bytes}
 use Rattle.msi_schema.specs.Keys.{table_key, string_pool_name}
-use Rattle.msi_database.specs.Streams.{Streams, stream_at}
+use Rattle.msi_kept.specs.Streams.{Streams, stream_at}
 use Rattle.msi.specs.State.{State, parts_of}
 use Rattle.msi.specs.Meaning.{ContentsMean, OpenStep, FailsFirst, OpensTo, as_opened}
 

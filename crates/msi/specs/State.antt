@@ -5,8 +5,8 @@ use Rattle.msi_property.specs.Properties.{Properties}
 use Rattle.msi_schema.specs.Keys.{table_key, summary_key, string_pool_name, string_data_name}
 use Rattle.msi_schema.specs.System.{validation_name}
 use Rattle.msi_changes.specs.Database.{Database}
-use Rattle.msi_database.specs.Streams.{Streams}
-use Rattle.msi_database.specs.Kept.{Kept}
+use Rattle.msi_kept.specs.Streams.{Streams}
+use Rattle.msi_kept.specs.Kept.{Kept}
 use Rattle.msi.specs.declared.kinds.PackageType.{PackageType}
 
 -- the meaning of a package's bytes; `streams` has the root's other streams

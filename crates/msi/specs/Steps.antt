@@ -23,8 +23,8 @@ use Rattle.msi_changes.specs.Update.{update_rows}
 use Rattle.msi_changes.specs.Delete.{delete_rows}
 use Rattle.msi_changes.specs.Create.{create_table}
 use Rattle.msi_changes.specs.Drop.{drop_table}
-use Rattle.msi_database.specs.Streams.{Streams, stream_at, has_stream_at, with_stream, without_stream}
-use Rattle.msi_database.specs.Kept as databases
+use Rattle.msi_kept.specs.Streams.{Streams, stream_at, has_stream_at, with_stream, without_stream}
+use Rattle.msi_kept.specs.Kept as databases
 use Rattle.msi_database.specs.Listed.{table_def_at, tables_listed}
 use Rattle.msi_database.specs.Listed as listed
 use Rattle.msi.specs.Kinds.{clsid_of}

@@ -6,9 +6,9 @@ use Rattle.msi_property.specs.Properties.{Properties}
 use Rattle.msi_schema.specs.Keys.{is_stream_name, stream_key}
 use Rattle.msi_changes.specs.Database.{is_sound}
 use Rattle.msi_changes.specs.Changes.{Change}
-use Rattle.msi_database.specs.Kept.{Kept}
+use Rattle.msi_kept.specs.Kept.{Kept}
+use Rattle.msi_kept.specs.Streams.{Streams, has_stream_at, with_stream}
 use Rattle.msi_database.specs.Others.{with_streams}
-use Rattle.msi_database.specs.Streams.{Streams, has_stream_at, with_stream}
 use Rattle.msi.specs.declared.kinds.PackageType.{PackageType}
 use Rattle.msi.specs.State.{State}
 use Rattle.msi.specs.Steps.{after_change}

@@ -11,7 +11,7 @@ ghost use Rattle.msi_compound_write.specs.Borrowed.{contents_of};
 ghost use Rattle.msi_relation.specs.Refusals.{IsRefusal, or_refused};
 ghost use Rattle.msi_schema.specs.Keys.{string_data_name, string_pool_name, table_key as key_of_table};
 ghost use Rattle.msi_changes.specs.Database.{Database as DatabaseValue, is_sound};
-ghost use Rattle.msi_database.specs.Streams.{Streams};
+ghost use Rattle.msi_kept.specs.Streams.{Streams};
 ghost use Rattle.msi_database.specs.Others.{with_streams};
 ghost use Rattle.msi.specs.Steps.{pool_put};
 ghost use Rattle.msi.specs.Flushing.{AreOthers, AreSoMany, FlushStep, IsUnwritten, Overwrites, flush_answer, left_by, over_device, renewed_over, root_contents, summary_over, told, unwritten_of, with_renewed};

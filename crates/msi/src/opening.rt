@@ -9,7 +9,7 @@ ghost use Rattle.msi_text.specs.Results.{IsUnlessMemory, OnlyMemory};
 ghost use Rattle.msi_compound.specs.Names.{is_name_length};
 ghost use Rattle.msi_device.specs.Held.{bytes_told};
 ghost use Rattle.msi_schema.specs.Keys.{table_key as key_of};
-ghost use Rattle.msi_database.specs.Streams.{stream_at};
+ghost use Rattle.msi_kept.specs.Streams.{stream_at};
 ghost use Rattle.msi.specs.Kinds.{clsid_of};
 ghost use Rattle.msi.specs.Meaning.{FailsFirst, OpensTo, RawPoolIs, SummaryIs, open_steps};
 ghost use Rattle.msi.specs.Meaning.{has_pool, has_summary, has_texts};

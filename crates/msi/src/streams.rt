@@ -7,7 +7,7 @@ ghost use Rattle.std.specs.Option.{option_copied};
 ghost use Rattle.msi_text.specs.ErrorKind.TheVariants.{InvalidInput, NotFound, OutOfMemory};
 ghost use Rattle.msi_relation.specs.Refusals.{first_refusal, unless_refused};
 ghost use Rattle.msi_schema.specs.Keys.{is_stream_name, signature_key as signature_of, stream_key};
-ghost use Rattle.msi_database.specs.Streams.{has_stream_at, stream_at, without_stream};
+ghost use Rattle.msi_kept.specs.Streams.{has_stream_at, stream_at, without_stream};
 ghost use Rattle.msi_stream.specs.Cursor.{at_start};
 ghost use Rattle.msi.specs.Lending.{LendsStream};
 ghost use Rattle.msi.specs.State.{parts_of};

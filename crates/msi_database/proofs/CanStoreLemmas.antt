@@ -1,7 +1,7 @@
 -- The rows that an accepted change writes can be stored.
 use Rattle.std.proofs.Common.{◌≡◌, ℕ, Bool, true, List, length, Some, sym, ap, subst, ◌∙◌, ◌⊎◌, arith}
 use Rattle.std.proofs.lemmas.List.Sorted.{IsPermutation-sym, length_permutation}
-use Rattle.msi_database.specs.Streams.{Streams}
+use Rattle.msi_kept.specs.Streams.{Streams}
 use Rattle.std.specs.FinMap.{entries}
 use Rattle.msi_compound.specs.Streams as maps
 use Rattle.msi_text.specs.Pool.{Pool}
@@ -14,7 +14,7 @@ use Rattle.msi_changes.specs.Database.{table_at}
 use Rattle.msi_changes.specs.Changes.{Change, PoolInUse, no_change, with_stored}
 use Rattle.msi_changes.specs.Laws.{IsChange, IsTableChange}
 use Rattle.msi_changes.proofs.KindsKeptLemmas.{all_permuted}
-use Rattle.msi_database.specs.Kept.{database_kept, kept_of}
+use Rattle.msi_kept.specs.Kept.{database_kept, kept_of}
 use Rattle.msi_database.specs.Keeping.{AreKept}
 use Rattle.msi_database.proofs.MapLemmas as lists
 use Rattle.msi_database.proofs.StreamLemmas.{list_cmp_total, list_cmp_exact}

@@ -11,15 +11,16 @@ use Rattle.msi_table.specs.Columns.{TableDef}
 use Rattle.msi_relation.specs.Refusals.{IsRefusal, or_refused}
 use Rattle.msi_changes.specs.Database.{is_sound, table_at}
 use Rattle.msi_changes.specs.Insert.{table_with}
-use Rattle.msi_database.specs.Streams.{Streams, stored_rows}
-use Rattle.msi_database.specs.declared.storing.Stored.{Stored}
-use Rattle.msi_database.specs.Storing.{stored_all, stored_in}
-use Rattle.msi_database.specs.Kept.{Kept, kept_of, table_kept, table_kept_at, database_kept, AreAsLong}
+use Rattle.msi_kept.specs.Streams.{Streams, stored_rows}
+use Rattle.msi_kept.specs.declared.storing.Stored.{Stored}
+use Rattle.msi_kept.specs.Storing.{stored_all, stored_in}
+use Rattle.msi_kept.specs.Kept.{Kept, kept_of, table_kept, table_kept_at, database_kept, AreAsLong}
+use Rattle.msi_kept.proofs.TableAtLemmas.{table_at_kept}
 use Rattle.msi_database.specs.Keeping.{AreKept}
 use Rattle.msi_database.specs.Listed.{table_def_at, tables_listed}
 use Rattle.msi_database.proofs.EntriesLemmas.{entries_stored}
 use Rattle.msi_database.proofs.SoundLemmas.{sound_rows}
-use Rattle.msi_database.proofs.TablesKeptLemmas.{listed_kept, table_at_kept, table_def_kept}
+use Rattle.msi_database.proofs.TablesKeptLemmas.{listed_kept, table_def_kept}
 use Rattle.msi_database.proofs.WholeLemmas.{found_holds, rows_found}
 
 -- ROWS OF A SOUND DATABASE

@@ -22,9 +22,9 @@ use Rattle.msi_changes.proofs.DescribingLemmas.{describing}
 use Rattle.msi_changes.proofs.PoolStepLemmas.{PlacesKept, kept_from, counts_from, freed_from}
 use Rattle.msi_changes.proofs.TracksLemmas.{Tracks}
 use Rattle.msi_changes.proofs.RegularLemmas.{IsRegular}
-use Rattle.msi_database.specs.Streams.{Streams, stored_rows, stored_streams}
+use Rattle.msi_kept.specs.Streams.{Streams, stored_rows, stored_streams}
+use Rattle.msi_kept.specs.Kept.{Kept, after_change}
 use Rattle.msi_database.specs.Agreement.{TablesAre, UnlistedIs}
-use Rattle.msi_database.specs.Kept.{Kept, after_change}
 use Rattle.msi_database.specs.Keeping.{IsKeptDatabase}
 use Rattle.msi_database.proofs.KeyLemmas.{validation_accepted, table_key_is_name}
 use Rattle.msi_database.proofs.StreamLemmas.{tables_found}

@@ -26,14 +26,14 @@ use Rattle.msi_changes.specs.Laws.{created}
 use Rattle.msi_changes.specs.Texts.{UsedPool, in_use}
 use Rattle.msi_changes.proofs.RefusedLemmas.{bind_ok, first_refused, not_refused, same_Ok, value_there}
 use Rattle.msi_changes.proofs.TurnLemmas.{map_some}
-use Rattle.msi_database.specs.declared.storing.Stored.{Stored}
+use Rattle.msi_kept.specs.declared.storing.Stored.{Stored}
+use Rattle.msi_kept.specs.Kept.{Kept, kept_of, database_kept, with_table_kept}
+use Rattle.msi_kept.specs.Storing.{HaveOwnNames, tables_stored}
+use Rattle.msi_kept.specs.Streams.{Streams, stream_of_rows}
 use Rattle.msi_database.specs.Creating.{new_table, stream_gone, stream_with, streams_described}
 use Rattle.msi_database.specs.Keeping.{AreKept, IsKeptDatabase}
-use Rattle.msi_database.specs.Kept.{Kept, kept_of, database_kept, with_table_kept}
 use Rattle.msi_database.specs.Listed.{IsKnown, tables_listed}
 use Rattle.msi_database.specs.Making.{Makes, TellsUse}
-use Rattle.msi_database.specs.Storing.{HaveOwnNames, tables_stored}
-use Rattle.msi_database.specs.Streams.{Streams, stream_of_rows}
 use Rattle.msi_database.proofs.ChainLemmas.{create_by_steps, stays_at, third}
 use Rattle.msi_database.proofs.ComesLemmas.{describes, regular}
 use Rattle.msi_database.proofs.EditLemmas.{created_stored}

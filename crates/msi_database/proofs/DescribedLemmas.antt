@@ -24,9 +24,9 @@ use Rattle.msi_changes.proofs.AlikeLemmas.{rows_alike}
 use Rattle.msi_changes.proofs.ShownLemmas.{find_shown, mapped_some, shown}
 use Rattle.msi_changes.proofs.StoredLemmas.{found_passes}
 use Rattle.msi_changes.proofs.DescribingLemmas.{describing, rows_at_is, validation_at}
-use Rattle.msi_database.specs.Streams.{Streams, stream_at}
+use Rattle.msi_kept.specs.Streams.{Streams, stream_at}
+use Rattle.msi_kept.specs.Streams.{stored_rows}
 use Rattle.msi_database.specs.Agreement.{TablesAre, UnlistedIs, SchemaIs, described_by, schema_rows}
-use Rattle.msi_database.specs.Streams.{stored_rows}
 use Rattle.msi_database.proofs.SoundLemmas.{sound_is}
 
 -- a table has the rows of its stream

@@ -18,10 +18,10 @@ use Rattle.msi_changes.specs.Drop.{drop_table, is_row_about}
 use Rattle.msi_changes.specs.Laws.{dropped}
 use Rattle.msi_changes.proofs.DescribingLemmas.{describing}
 use Rattle.msi_changes.proofs.ShownLemmas.{mapped_some}
-use Rattle.msi_database.specs.Streams.{Streams, stream_of_rows}
-use Rattle.msi_database.specs.declared.storing.Stored.{Stored}
-use Rattle.msi_database.specs.Storing.{HaveOwnNames, tables_stored}
-use Rattle.msi_database.specs.Kept.{Kept, kept_of, database_kept, without_table_kept}
+use Rattle.msi_kept.specs.Streams.{Streams, stream_of_rows}
+use Rattle.msi_kept.specs.declared.storing.Stored.{Stored}
+use Rattle.msi_kept.specs.Storing.{HaveOwnNames, tables_stored}
+use Rattle.msi_kept.specs.Kept.{Kept, kept_of, database_kept, without_table_kept}
 use Rattle.msi_database.specs.Keeping.{AreKept, IsKeptDatabase, HasFittingRows}
 use Rattle.msi_database.specs.Listed.{IsKnown, tables_listed}
 use Rattle.msi_database.specs.Making.{Makes, TellsUse}

@@ -19,9 +19,9 @@ use Rattle.msi_changes.specs.Database.{Database, Tables, table_at, with_table}
 use Rattle.msi_changes.specs.Changes.{Change, PoolInUse, no_change, with_stored}
 use Rattle.msi_changes.specs.Create.{with_new_table}
 use Rattle.msi_changes.specs.Drop.{table_released}
-use Rattle.msi_database.specs.Streams.{Streams, table_stream, stream_of_rows, stored_stream, stored_streams}
-use Rattle.msi_database.specs.declared.storing.Stored.{Stored}
-use Rattle.msi_database.specs.Storing.{stored_in, tables_stored, HaveOwnNames}
+use Rattle.msi_kept.specs.Streams.{Streams, table_stream, stream_of_rows, stored_stream, stored_streams}
+use Rattle.msi_kept.specs.declared.storing.Stored.{Stored}
+use Rattle.msi_kept.specs.Storing.{stored_in, tables_stored, HaveOwnNames}
 use Rattle.msi_database.proofs.MapLemmas as maps
 use Rattle.msi_database.proofs.KeyLemmas.{table_keys_tell_names}
 use Rattle.msi_database.proofs.StreamLemmas.{list_cmp_total, list_cmp_exact}

@@ -7,9 +7,9 @@ use Rattle.std.specs.Ordering.{eq_by_cmp, is_eq}
 use Rattle.msi_compound.specs.Names.{name_cmp}
 use Rattle.msi_compound.specs.Streams as maps
 use Rattle.msi_compound.proofs.NamesLemmas.{names_total, exact_names}
-use Rattle.msi_database.specs.Streams.{without_stream, with_stream_or_none}
-use Rattle.msi_database.specs.declared.storing.Stored.{Stored}
-use Rattle.msi_database.specs.Storing.{stored_all, stored_in}
+use Rattle.msi_kept.specs.Streams.{without_stream, with_stream_or_none}
+use Rattle.msi_kept.specs.declared.storing.Stored.{Stored}
+use Rattle.msi_kept.specs.Storing.{stored_all, stored_in}
 
 turned : (b : Bool) (x y : Option (List ℕ)) → cond (not b) x y ≡ cond b y x
 turned true x y = refl

@@ -17,11 +17,11 @@ use Rattle.msi_changes.proofs.ShownLemmas.{shown, shown_created}
 use Rattle.msi_changes.proofs.ShownLemmas as steps
 use Rattle.msi_changes.proofs.ShownChangesLemmas.{shown_changed, shown_dropped}
 use Rattle.msi_changes.proofs.DroppedLemmas.{without}
-use Rattle.msi_database.specs.Streams.{Streams, stream_of_rows, stored_streams}
-use Rattle.msi_database.specs.declared.storing.Stored.{Stored}
-use Rattle.msi_database.specs.Storing.{stored_all, stored_in, tables_stored}
+use Rattle.msi_kept.specs.Streams.{Streams, stream_of_rows, stored_streams}
+use Rattle.msi_kept.specs.declared.storing.Stored.{Stored}
+use Rattle.msi_kept.specs.Storing.{stored_all, stored_in, tables_stored}
+use Rattle.msi_kept.specs.Kept.{Kept, kept_of, database_kept, after_change, AreAsLong, schema_listed, table_kept_at, with_table_kept, without_table_kept}
 use Rattle.msi_database.specs.Agreement.{schema_shown}
-use Rattle.msi_database.specs.Kept.{Kept, kept_of, database_kept, after_change, AreAsLong, schema_listed, table_kept_at, with_table_kept, without_table_kept}
 use Rattle.msi_database.specs.Keeping.{IsKeptDatabase, AreKept, AreParts}
 use Rattle.msi_database.proofs.EntriesLemmas.{entries_stored}
 use Rattle.msi_database.proofs.SchemaLemmas.{shown_in_order}

@@ -26,9 +26,9 @@ use Rattle.msi_changes.specs.Insert.{cells_added, rows_added}
 use Rattle.msi_changes.specs.Keyed.{in_key_order}
 use Rattle.msi_changes.specs.Texts.{UsedPool, in_use, rows_put}
 use Rattle.msi_changes.proofs.FitTestLemmas.{cells_fit, each_fits}
-use Rattle.msi_database.specs.Streams.{stream_of_rows}
-use Rattle.msi_database.specs.declared.storing.Stored.{Stored}
-use Rattle.msi_database.specs.Storing.{HaveOwnNames, tables_stored}
+use Rattle.msi_kept.specs.Streams.{stream_of_rows}
+use Rattle.msi_kept.specs.declared.storing.Stored.{Stored}
+use Rattle.msi_kept.specs.Storing.{HaveOwnNames, tables_stored}
 use Rattle.msi_database.specs.Fresh.{empty_table}
 use Rattle.msi_database.specs.FreshParts.{Begins, CanBegin}
 use Rattle.msi_database.proofs.MapLemmas as maps

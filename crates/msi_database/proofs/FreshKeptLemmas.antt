@@ -7,11 +7,11 @@ use Rattle.msi_text.specs.Pool.{Pool}
 use Rattle.msi_table.specs.Columns.{ColumnDef, TableDef}
 use Rattle.msi_schema.specs.System.{columns_columns, columns_name, tables_columns, tables_name, validation_columns, validation_name}
 use Rattle.msi_changes.specs.Database.{is_sound}
+use Rattle.msi_kept.specs.declared.storing.Stored.{Stored}
+use Rattle.msi_kept.specs.Storing.{HaveOwnNames, stored_all, stored_in}
+use Rattle.msi_kept.specs.Streams.{Streams}
+use Rattle.msi_kept.specs.Kept.{AreAsLong, Kept, database_kept, kept_of, schema_listed}
 use Rattle.msi_database.specs.Agreement.{schema_shown}
-use Rattle.msi_database.specs.declared.storing.Stored.{Stored}
-use Rattle.msi_database.specs.Storing.{HaveOwnNames, stored_all, stored_in}
-use Rattle.msi_database.specs.Streams.{Streams}
-use Rattle.msi_database.specs.Kept.{AreAsLong, Kept, database_kept, kept_of, schema_listed}
 use Rattle.msi_database.specs.Keeping.{AreParts, IsKeptDatabase}
 use Rattle.msi_database.specs.Fresh.{fresh, fresh_change}
 use Rattle.msi_database.specs.FreshParts.{columns_table, fresh_pool, fresh_stored, tables_table, validation_table}

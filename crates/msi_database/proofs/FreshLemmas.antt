@@ -11,8 +11,8 @@ use Rattle.msi_schema.specs.Keys.{table_key}
 use Rattle.msi_schema.specs.System.{validation_columns, columns_name}
 use Rattle.msi_changes.specs.Database.{Database, CountsAreExact, cells_naming, is_sound}
 use Rattle.msi_changes.proofs.FitTestLemmas.{all_fit, all_fit_is, unlisted_fit, each_fits}
-use Rattle.msi_database.specs.Streams.{stream_at}
-use Rattle.msi_database.specs.StreamNames.{HaveNames}
+use Rattle.msi_kept.specs.Streams.{stream_at}
+use Rattle.msi_kept.specs.StreamNames.{HaveNames}
 use Rattle.msi_database.specs.Agreement.{TablesAre, UnlistedIs, SchemaIs}
 use Rattle.msi_database.specs.Fresh.{fresh, FreshIsKept}
 use Rattle.msi_database.proofs.StreamLemmas.{AreSorted, TablesSorted}

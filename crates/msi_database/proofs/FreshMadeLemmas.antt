@@ -12,8 +12,8 @@ use Rattle.msi_changes.specs.Changes.{PoolInUse, no_change, pool_of}
 use Rattle.msi_changes.specs.Create.{described_by_rows}
 use Rattle.msi_changes.specs.Insert.{cells_added}
 use Rattle.msi_changes.specs.Texts.{UsedPool, in_use}
-use Rattle.msi_database.specs.declared.storing.Stored.{Stored}
-use Rattle.msi_database.specs.Storing.{HaveOwnNames}
+use Rattle.msi_kept.specs.declared.storing.Stored.{Stored}
+use Rattle.msi_kept.specs.Storing.{HaveOwnNames}
 use Rattle.msi_database.specs.Fresh.{fresh_change}
 use Rattle.msi_database.specs.FreshParts.{Begins, CanBegin, columns_table, fresh_pool, fresh_stored, tables_table, unused_pool, validation_table}
 use Rattle.msi_database.proofs.FreshCallLemmas.{AreBare, Describes, begins_as, begun, can_as, describes, listing, stream_begun}

@@ -3,7 +3,7 @@ use Rattle.std.proofs.Common.{◌≡◌, true, ◌⊎◌, inl, inr}
 use Rattle.msi_changes.specs.Database.{is_sound}
 use Rattle.msi_changes.specs.Changes.{Change}
 use Rattle.msi_changes.specs.Laws.{IsChange, IsTableChange}
-use Rattle.msi_database.specs.Kept.{Kept}
+use Rattle.msi_kept.specs.Kept.{Kept}
 use Rattle.msi_database.specs.Keeping.{IsKeptDatabase, ChangesAreKept}
 use Rattle.msi_database.proofs.ComesLemmas.{Comes, comes_kept, regular, describes, kinds}
 use Rattle.msi_database.proofs.RowsComeLemmas.{rows_come}

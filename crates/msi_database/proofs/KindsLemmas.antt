@@ -17,7 +17,7 @@ use Rattle.msi_changes.proofs.KindsLemmas.{fits_alike, kinds_from_cells}
 use Rattle.msi_changes.proofs.ShownLemmas.{shown}
 use Rattle.msi_changes.proofs.DescribingLemmas.{describing, rows_at_is, validation_at}
 use Rattle.msi_changes.proofs.RegularLemmas.{IsRegular}
-use Rattle.msi_database.specs.Streams.{Streams}
+use Rattle.msi_kept.specs.Streams.{Streams}
 use Rattle.msi_database.proofs.DescribedLemmas.{Spelled, alike_there, shown_table}
 
 each_row : (long : Bool) (types : List ColumnType) (o : Option (List (List ValueRef))) → IsSomeAnd o (FitsTable long types) → AllByRecursion (FitsRow long types) (unwrap_or o [])

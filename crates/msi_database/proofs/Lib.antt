@@ -15,17 +15,13 @@ pub mod UpdateFitsLemmas
 pub mod RowsComeLemmas
 pub mod TablesComeLemmas
 pub mod KeepingLemmas
-pub mod PutBackLemmas
 pub mod EntriesLemmas
-pub mod StreamAtLemmas
 pub mod TablesKeptLemmas
 pub mod WholeLemmas
 pub mod PageLemmas
 pub mod AnswerLemmas
 pub mod PartsLemmas
 pub mod TableListLemmas
-pub mod SpendLemmas
-pub mod SoundnessLemmas
 pub mod EditLemmas
 pub mod FinishLemmas
 pub mod OwnNamesLemmas
@@ -46,7 +42,6 @@ pub mod InsertCallLemmas
 pub mod OtherLemmas
 pub mod DroppingCallLemmas
 pub mod ReadingLemmas
-pub mod MarkLemmas
 pub mod CreatingLemmas
 pub mod CreatingCallLemmas
 pub mod ShownTextLemmas

@@ -15,7 +15,7 @@ use Rattle.msi_schema.specs.Keys.{table_key}
 use Rattle.msi_schema.specs.System.{validation_name, validation_columns}
 use Rattle.msi_changes.specs.Database.{Database, Tables, rows_of, numbers_of_rows, named_numbers, are_alike, table_at, validation_is_standard}
 use Rattle.msi_changes.proofs.AlikeLemmas.{rows_alike}
-use Rattle.msi_database.specs.Streams.{Streams, stream_at, stored_rows}
+use Rattle.msi_kept.specs.Streams.{Streams, stream_at, stored_rows}
 use Rattle.msi_database.specs.Agreement.{TablesAre, UnlistedIs, numbers_stored, shown_numbers}
 use Rattle.msi_database.proofs.MapLemmas as maps
 use Rattle.msi_database.proofs.StreamLemmas.{list_cmp_total, list_cmp_exact}

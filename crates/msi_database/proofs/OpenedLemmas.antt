@@ -14,10 +14,10 @@ use Rattle.msi_table.specs.Columns.{TableDef, types_of}
 use Rattle.msi_table.specs.ReadBack.{FitsRow, FitsTable}
 use Rattle.msi_schema.specs.System.{validation_columns, validation_name}
 use Rattle.msi_changes.specs.Database.{Database, is_sound, named_numbers, cells_naming}
-use Rattle.msi_database.specs.Streams.{Streams, stored_rows}
-use Rattle.msi_database.specs.StreamNames.{HaveNames}
+use Rattle.msi_kept.specs.Streams.{Streams, stored_rows}
+use Rattle.msi_kept.specs.StreamNames.{HaveNames}
+use Rattle.msi_kept.specs.Kept.{database_kept, table_kept, table_kept_at, schema_listed, AreAsLong}
 use Rattle.msi_database.specs.Agreement.{DatabaseIs, schema_in, is_shown}
-use Rattle.msi_database.specs.Kept.{database_kept, table_kept, table_kept_at, schema_listed, AreAsLong}
 use Rattle.msi_database.specs.Keeping.{AreKept, HasFittingRows}
 use Rattle.msi_database.proofs.SoundLemmas.{sound_is}
 use Rattle.msi_database.proofs.NamedLemmas.{shown_named}

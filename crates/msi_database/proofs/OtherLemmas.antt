@@ -14,11 +14,11 @@ use Rattle.msi_schema.specs.Keys.{table_key}
 use Rattle.msi_schema.specs.Schema.{schema_of}
 use Rattle.msi_schema.specs.System.{columns_columns, columns_name, tables_columns, tables_name, validation_columns, validation_name}
 use Rattle.msi_changes.specs.Database.{Database, is_sound}
+use Rattle.msi_kept.specs.Kept.{Kept, database_kept, kept_of, schema_listed, table_kept, table_kept_at}
+use Rattle.msi_kept.specs.Streams.{Streams, has_stream_at, stored_rows, stream_at, with_stream_or_none}
 use Rattle.msi_database.specs.Agreement.{schema_in}
 use Rattle.msi_database.specs.Keeping.{AreKept, RowsFit, UnlistedFits}
-use Rattle.msi_database.specs.Kept.{Kept, database_kept, kept_of, schema_listed, table_kept, table_kept_at}
 use Rattle.msi_database.specs.Others.{IsOther, with_streams}
-use Rattle.msi_database.specs.Streams.{Streams, has_stream_at, stored_rows, stream_at, with_stream_or_none}
 use Rattle.msi_database.proofs.EntriesLemmas.{entries_either}
 use Rattle.msi_database.proofs.PartsLemmas.{parts_spelled, schema_kept}
 use Rattle.msi_database.proofs.StreamLemmas.{AreSorted, names_put, sorted_put, sorted_removed, stream_at_other_put, stream_at_other_removed, with_or_none_either}

@@ -26,8 +26,8 @@ use Rattle.msi_changes.proofs.ShownLemmas as steps
 use Rattle.msi_changes.proofs.ShownChangesLemmas.{dropped_parts}
 use Rattle.msi_changes.proofs.DescribingLemmas.{describing}
 use Rattle.msi_changes.proofs.DroppedLemmas.{flips}
-use Rattle.msi_database.specs.Storing.{HaveOwnNames, tables_stored}
-use Rattle.msi_database.specs.Kept.{Kept}
+use Rattle.msi_kept.specs.Storing.{HaveOwnNames, tables_stored}
+use Rattle.msi_kept.specs.Kept.{Kept}
 use Rattle.msi_database.specs.Keeping.{IsKeptDatabase}
 use Rattle.msi_database.proofs.DescribedLemmas.{shown_table}
 use Rattle.msi_database.proofs.RowsComeLemmas.{missing_apart}

@@ -3,7 +3,7 @@ use Rattle.std.proofs.Common.{Bool, List}
 use Rattle.msi_text.specs.CodePage.{CodePage}
 use Rattle.msi_text.specs.Pool.{Pool}
 use Rattle.msi_table.specs.Columns.{TableDef}
-use Rattle.msi_database.specs.Streams.{Streams}
+use Rattle.msi_kept.specs.Streams.{Streams}
 use Rattle.msi_database.specs.Keeping.{AreKept}
 
 pub kept_with_page : (pool : Pool) (tables : List TableDef) (streams : Streams) (sound : Bool) (page : CodePage) → AreKept pool tables streams sound → AreKept (record pool { page = page }) tables streams sound

@@ -14,10 +14,10 @@ use Rattle.msi_relation.specs.Rows.{TableCells}
 use Rattle.msi_schema.specs.System.{validation_name, validation_columns}
 use Rattle.msi_schema.specs.Schema.{SchemaRows, schema_of}
 use Rattle.msi_changes.specs.Database.{Database, Tables, has_table}
-use Rattle.msi_database.specs.Streams.{Streams, stored_rows}
+use Rattle.msi_kept.specs.Streams.{Streams, stored_rows}
+use Rattle.msi_kept.specs.Kept.{table_kept, table_kept_at, unlisted_kept, database_kept, schema_listed}
 use Rattle.msi_database.specs.Agreement.{DatabaseIs, schema_shown, schema_in}
 use Rattle.msi_database.proofs.TablesKeptLemmas.{has_table_kept}
-use Rattle.msi_database.specs.Kept.{table_kept, table_kept_at, unlisted_kept, database_kept, schema_listed}
 
 pub schema_kept : (pool : Pool) (tables : List TableDef) (streams : Streams) → schema_shown (database_kept pool tables streams) ≡ schema_listed tables
 schema_kept pool [] streams = refl

@@ -13,11 +13,11 @@ use Rattle.msi_table.specs.Cells.{rows_in}
 use Rattle.msi_table.specs.ReadBack.{FitsRow, FitsTable}
 use Rattle.msi_schema.specs.Keys.{table_key}
 use Rattle.msi_schema.specs.System.{tables_name, columns_name, validation_name, tables_columns, columns_columns, validation_columns}
-use Rattle.msi_database.specs.Streams.{Streams, stored_rows, stream_at}
-use Rattle.msi_database.specs.StreamNames.{HoldBytes}
+use Rattle.msi_kept.specs.Streams.{Streams, stored_rows, stream_at}
+use Rattle.msi_kept.specs.StreamNames.{HoldBytes}
+use Rattle.msi_kept.specs.Kept.{schema_listed}
 use Rattle.msi_database.proofs.OpenedLemmas.{HaveFittingRows}
 use Rattle.msi_database.specs.Agreement.{schema_in, schema_rows}
-use Rattle.msi_database.specs.Kept.{schema_listed}
 use Rattle.msi_schema.specs.Schema.{SchemaRows, schema_of, by_name, is_faulty, listed_names, columns_of, column_rows}
 use Rattle.msi_table.proofs.ReadRowsLemmas.{read_fits}
 use Rattle.msi_changes.proofs.TurnLemmas.{map_some}

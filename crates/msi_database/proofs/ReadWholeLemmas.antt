@@ -16,13 +16,14 @@ use Rattle.msi_relation.specs.Refusals.{IsRefusal, or_refused}
 use Rattle.msi_schema.specs.Schema.{table_with}
 use Rattle.msi_schema.specs.System.{validation_columns, validation_name}
 use Rattle.msi_changes.specs.Database.{Database, Tables, is_sound, names_are_numbers, numbers_of_rows}
-use Rattle.msi_database.specs.Streams.{Streams, stored_rows}
-use Rattle.msi_database.specs.StreamNames.{HaveNames, HoldBytes}
+use Rattle.msi_kept.specs.Streams.{Streams, stored_rows}
+use Rattle.msi_kept.specs.StreamNames.{HaveNames, HoldBytes}
+use Rattle.msi_kept.specs.Kept.{AreAsLong, Kept, database_kept, kept_of, schema_listed, table_kept, table_kept_at, unlisted_kept}
+use Rattle.msi_kept.specs.Marks.{numbers_named, numbers_of_tables, pool_shown}
 use Rattle.msi_database.specs.Agreement.{is_shown, schema_in}
-use Rattle.msi_database.specs.Kept.{AreAsLong, Kept, database_kept, kept_of, schema_listed, table_kept, table_kept_at, unlisted_kept}
 use Rattle.msi_database.specs.Keeping.{AreKept, IsRead}
 use Rattle.msi_database.specs.Listed.{tables_listed}
-use Rattle.msi_database.specs.Reading.{IsDatabaseOf, numbers_named, numbers_of_tables, pool_shown}
+use Rattle.msi_database.specs.Reading.{IsDatabaseOf}
 use Rattle.msi_database.proofs.FitLemmas.{well_formed}
 use Rattle.msi_database.proofs.KeptLawLemmas.{read_is_kept}
 use Rattle.msi_database.proofs.PartsLemmas.{parts_make, parts_spelled}

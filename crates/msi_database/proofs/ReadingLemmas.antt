@@ -26,10 +26,10 @@ use Rattle.msi_schema.specs.RowOrders.{rows_of}
 use Rattle.msi_schema.specs.Schema.{SchemaRows, by_name, columns_of, listed_names, has_long_number, has_null, has_odd_name, is_faulty, is_null, is_of_16_bits, is_text, number_of, schema_of, table_with, tables_of}
 use Rattle.msi_schema.proofs.SchemaLemmas.{no_fault}
 use Rattle.msi_schema.specs.System.{columns_columns, columns_name, tables_columns, tables_name, validation_columns, validation_name}
-use Rattle.msi_database.specs.Streams.{Streams, stored_rows}
-use Rattle.msi_database.specs.StreamNames.{HaveNames, HoldBytes}
+use Rattle.msi_kept.specs.Streams.{Streams, stored_rows}
+use Rattle.msi_kept.specs.StreamNames.{HaveNames, HoldBytes}
+use Rattle.msi_kept.specs.Kept.{AreAsLong, schema_listed}
 use Rattle.msi_database.specs.Agreement.{described_by, schema_in}
-use Rattle.msi_database.specs.Kept.{AreAsLong, schema_listed}
 use Rattle.msi_database.proofs.ReadLemmas.{rows_read_fit}
 
 -- ENTRIES

@@ -26,10 +26,10 @@ use Rattle.msi_changes.specs.Delete.{delete_rows, rows_meeting}
 use Rattle.msi_changes.specs.Texts.{UsedPool, in_turn, in_use, rows_put, rows_released}
 use Rattle.msi_changes.specs.Laws.{IsChange, inserted, updated, deleted}
 use Rattle.msi_changes.proofs.TurnLemmas.{map_some}
-use Rattle.msi_database.specs.Streams.{Streams, stream_of_rows}
-use Rattle.msi_database.specs.declared.storing.Stored.{Stored}
-use Rattle.msi_database.specs.Storing.{stored_all, stored_in}
-use Rattle.msi_database.specs.Kept.{Kept, kept_of, after_change}
+use Rattle.msi_kept.specs.Streams.{Streams, stream_of_rows}
+use Rattle.msi_kept.specs.declared.storing.Stored.{Stored}
+use Rattle.msi_kept.specs.Storing.{stored_all, stored_in}
+use Rattle.msi_kept.specs.Kept.{Kept, kept_of, after_change}
 use Rattle.msi_database.specs.Keeping.{AreKept, AreParts}
 use Rattle.msi_database.specs.Listed.{IsKnown, table_def_at, tables_listed}
 use Rattle.msi_database.specs.Making.{Leaves, Makes, MakesRows, TellsUse}

@@ -10,7 +10,7 @@ use Rattle.msi_table.specs.Columns.{ColumnDef}
 use Rattle.msi_schema.specs.System.{tables_name, columns_name, tables_columns, columns_columns}
 use Rattle.msi_schema.specs.Schema.{SchemaRows, schema_of, by_name, is_faulty, listed_names, columns_of}
 use Rattle.msi_changes.specs.Database.{Database, Tables}
-use Rattle.msi_database.specs.Streams.{Streams}
+use Rattle.msi_kept.specs.Streams.{Streams}
 use Rattle.msi_database.specs.Agreement.{SchemaIs, schema_rows, schema_shown}
 use Rattle.msi_database.proofs.MapLemmas as maps
 use Rattle.msi_database.proofs.StreamLemmas.{TablesSorted, list_cmp_total, list_cmp_exact}

@@ -25,11 +25,11 @@ use Rattle.msi_schema.specs.Schema.{schema_of}
 use Rattle.msi_schema.specs.System.{columns_columns, columns_name, tables_columns, tables_name, validation_columns, validation_name}
 use Rattle.msi_schema.proofs.SchemaLemmas.{describes_from, names_tie}
 use Rattle.msi_changes.specs.Database.{number_of_cell, numbers_of_rows, rows_of}
-use Rattle.msi_database.specs.Streams.{Streams, stored_rows}
-use Rattle.msi_database.specs.StreamNames.{HoldBytes}
+use Rattle.msi_kept.specs.Streams.{Streams, stored_rows}
+use Rattle.msi_kept.specs.StreamNames.{HoldBytes}
+use Rattle.msi_kept.specs.Kept.{schema_listed, table_kept}
+use Rattle.msi_kept.specs.Marks.{numbers_named, numbers_of_tables, pool_shown}
 use Rattle.msi_database.specs.Agreement.{schema_in, schema_rows}
-use Rattle.msi_database.specs.Kept.{schema_listed, table_kept}
-use Rattle.msi_database.specs.Reading.{numbers_named, numbers_of_tables, pool_shown}
 use Rattle.msi_database.proofs.ReadLemmas.{rows_read_fit, validation_read_fits}
 use Rattle.msi_database.proofs.ReadingLemmas.{schema_same}
 

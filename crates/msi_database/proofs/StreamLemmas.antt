@@ -10,7 +10,7 @@ use Rattle.msi_text.specs.Lists.{list_cmp}
 use Rattle.msi_compound.specs.Names.{name_cmp}
 use Rattle.msi_compound.proofs.NamesLemmas.{names_total, exact_names}
 use Rattle.msi_changes.specs.Database.{Tables}
-use Rattle.msi_database.specs.Streams.{Streams, stream_at, with_stream, without_stream, with_stream_or_none}
+use Rattle.msi_kept.specs.Streams.{Streams, stream_at, with_stream, without_stream, with_stream_or_none}
 use Rattle.msi_database.proofs.MapLemmas as maps
 
 -- streams by their names

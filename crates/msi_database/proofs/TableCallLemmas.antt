@@ -14,10 +14,10 @@ use Rattle.msi_changes.specs.Texts.{rows_released}
 use Rattle.msi_changes.specs.Insert.{cells_added, row_refusals}
 use Rattle.msi_changes.specs.Create.{create_table, table_refusals, with_new_table}
 use Rattle.msi_changes.specs.Drop.{drop_table, is_row_about}
-use Rattle.msi_database.specs.declared.storing.Stored.{Stored}
-use Rattle.msi_database.specs.Streams.{Streams, stream_of_rows}
-use Rattle.msi_database.specs.Storing.{tables_stored}
-use Rattle.msi_database.specs.Kept.{Kept, kept_of, database_kept, with_table_kept, without_table_kept}
+use Rattle.msi_kept.specs.declared.storing.Stored.{Stored}
+use Rattle.msi_kept.specs.Streams.{Streams, stream_of_rows}
+use Rattle.msi_kept.specs.Storing.{tables_stored}
+use Rattle.msi_kept.specs.Kept.{Kept, kept_of, database_kept, with_table_kept, without_table_kept}
 use Rattle.msi_database.specs.Keeping.{AreKept}
 use Rattle.msi_database.specs.Making.{Makes}
 use Rattle.msi_database.proofs.ComesLemmas.{describes}

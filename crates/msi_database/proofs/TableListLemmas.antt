@@ -15,7 +15,7 @@ use Rattle.msi_text.specs.Lists.{list_cmp}
 use Rattle.msi_table.specs.Columns.{TableDef}
 use Rattle.msi_schema.proofs.SchemaLemmas.{Described, names_tie, same_names}
 use Rattle.msi_changes.proofs.DroppedLemmas.{without}
-use Rattle.msi_database.specs.Kept.{table_kept_at, with_table_kept, without_table_kept, schema_listed, AreAsLong}
+use Rattle.msi_kept.specs.Kept.{table_kept_at, with_table_kept, without_table_kept, schema_listed, AreAsLong}
 use Rattle.msi_database.proofs.StreamLemmas.{list_cmp_total}
 
 both : (a b : Bool) → T (a && b) → T a × T b

@@ -2,22 +2,13 @@
 use Rattle.std.proofs.Common.{◌≡◌, ℕ, Bool, true, false, List, [], ◌∷◌, map, Some, None, refl, sym, ap₂, cond, option_map, is_some}
 use Rattle.std.specs.Prelude.{bytes_eq}
 use Rattle.std.proofs.lemmas.Slice.Eq.{bytes_eq-Decides}
-use Rattle.std.specs.FinMap.{find}
-use Rattle.std.proofs.lemmas.Map.Text.{is_eq-slice_cmp}
 use Rattle.msi_text.specs.Pool.{Pool}
-use Rattle.msi_text.specs.Lists.{list_cmp}
 use Rattle.msi_table.specs.Columns.{TableDef}
-use Rattle.msi_changes.specs.Database.{table_at, has_table}
-use Rattle.msi_database.specs.Streams.{Streams}
-use Rattle.msi_database.specs.Kept.{table_kept, table_kept_at, database_kept, AreAsLong}
+use Rattle.msi_changes.specs.Database.{has_table}
+use Rattle.msi_kept.specs.Streams.{Streams}
+use Rattle.msi_kept.specs.Kept.{table_kept, table_kept_at, database_kept, AreAsLong}
+use Rattle.msi_kept.proofs.TableAtLemmas.{find_kept}
 use Rattle.msi_database.specs.Listed.{table_def_at, tables_listed}
-
-find_kept : (streams : Streams) (long : Bool) (name : List ℕ) (tables : List TableDef)
-    → find list_cmp name (map (table_kept streams long) tables) ≡ option_map (λ t. (table_kept streams long t).1) (table_kept_at name tables)
-find_kept streams long name [] = refl
-find_kept streams long name (t ∷ ts) = rw (is_eq-slice_cmp name t.name)
-    (elim (bytes_eq name t.name) as (λ b. cond b (Some (table_kept streams long t).1) (find list_cmp name (map (table_kept streams long) ts)) ≡ option_map (λ t. (table_kept streams long t).1) (cond b (Some t) (table_kept_at name ts)))
-    [ true ↦ refl | false ↦ find_kept streams long name ts ])
 
 with_long : Bool → TableDef → TableDef
 with_long long t = record t { long = long }
@@ -53,8 +44,3 @@ pub has_table_kept : (pool : Pool) (tables : List TableDef) (streams : Streams) 
     → has_table name (database_kept pool tables streams) ≡ is_some (table_kept_at name tables)
 has_table_kept pool tables streams name = rw (find_kept streams pool.long name tables)
     (elim (table_kept_at name tables) as (λ o. is_some (option_map (λ t. (table_kept streams pool.long t).1) o) ≡ is_some o) [ None ↦ refl | Some t ↦ refl ])
-
--- the table of a name, as a database has it
-pub table_at_kept : (pool : Pool) (tables : List TableDef) (streams : Streams) (name : List ℕ)
-    → table_at name (database_kept pool tables streams) ≡ option_map (λ t. (table_kept streams pool.long t).1) (table_kept_at name tables)
-table_at_kept pool tables streams name = find_kept streams pool.long name tables

@@ -19,10 +19,10 @@ use Rattle.msi_relation.specs.Rows.{TableCells, RelationCells, whole_table}
 use Rattle.msi_relation.specs.Width.{AreWide}
 use Rattle.msi_relation.proofs.RefusalLemmas.{goes_on-Err}
 use Rattle.msi_changes.specs.Database.{table_at, Tables}
-use Rattle.msi_database.specs.Streams.{Streams, stored_rows}
-use Rattle.msi_database.specs.Kept.{Kept, table_kept, table_kept_at, database_kept, AreAsLong}
+use Rattle.msi_kept.specs.Streams.{Streams, stored_rows}
+use Rattle.msi_kept.specs.Kept.{Kept, table_kept, table_kept_at, database_kept, AreAsLong}
+use Rattle.msi_kept.proofs.TableAtLemmas.{table_at_kept}
 use Rattle.msi_database.specs.Keeping.{IsKeptDatabase, HasFittingRows}
-use Rattle.msi_database.proofs.TablesKeptLemmas.{table_at_kept}
 
 abbrev pub relation_at : List ℕ → List ColumnDef → List (List ValueRef) → RelationCells
 relation_at name columns rows = record { name = name; columns = columns; rows = rows }

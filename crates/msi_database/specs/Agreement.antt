@@ -8,7 +8,7 @@ use Rattle.msi_table.specs.StoredOrder.{row_values}
 use Rattle.msi_schema.specs.System.{tables_name, columns_name, validation_name, tables_columns, columns_columns, validation_columns}
 use Rattle.msi_schema.specs.Schema.{SchemaRows, schema_of}
 use Rattle.msi_changes.specs.Database.{Database, has_table, named_numbers, numbers_of_rows}
-use Rattle.msi_database.specs.Streams.{Streams, stored_rows}
+use Rattle.msi_kept.specs.Streams.{Streams, stored_rows}
 
 -- each table has the rows of its stream
 abbrev pub TablesAre : Streams → Database → Type 0

@@ -12,8 +12,8 @@ use Rattle.msi_changes.specs.Database.{Database, table_at, rows_of}
 use Rattle.msi_changes.specs.Changes.{PoolInUse, sound_refusal}
 use Rattle.msi_changes.specs.Create.{table_refusals}
 use Rattle.msi_changes.specs.Insert.{cells_added, row_refusals}
-use Rattle.msi_database.specs.declared.storing.Stored.{Stored}
-use Rattle.msi_database.specs.Streams.{stream_of_rows}
+use Rattle.msi_kept.specs.declared.storing.Stored.{Stored}
+use Rattle.msi_kept.specs.Streams.{stream_of_rows}
 
 -- why a database makes no table of a name and columns, before its rows are looked at
 abbrev pub create_refusals : Database → List ℕ → List ColumnDef → Refusals

@@ -9,8 +9,8 @@ use Rattle.msi_changes.specs.Database.{Database, table_at, rows_of}
 use Rattle.msi_changes.specs.Changes.{PoolInUse, sound_refusal}
 use Rattle.msi_changes.specs.Drop.{is_row_about}
 use Rattle.msi_changes.specs.Texts.{rows_released}
-use Rattle.msi_database.specs.declared.storing.Stored.{Stored}
-use Rattle.msi_database.specs.Streams.{stream_of_rows}
+use Rattle.msi_kept.specs.declared.storing.Stored.{Stored}
+use Rattle.msi_kept.specs.Streams.{stream_of_rows}
 
 -- what refuses a drop before its table is looked for
 abbrev pub drop_refusals : Database → List ℕ → Refusals

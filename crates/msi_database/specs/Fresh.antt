@@ -7,8 +7,8 @@ use Rattle.msi_schema.specs.System.{columns_columns, columns_name, tables_column
 use Rattle.msi_changes.specs.Database.{Database, CountsAreExact, is_sound}
 use Rattle.msi_changes.specs.Changes.{Change, no_change}
 use Rattle.msi_changes.specs.Create.{described_by_rows}
-use Rattle.msi_database.specs.Streams.{stored_streams}
-use Rattle.msi_database.specs.Kept.{Kept}
+use Rattle.msi_kept.specs.Streams.{stored_streams}
+use Rattle.msi_kept.specs.Kept.{Kept}
 use Rattle.msi_database.specs.Keeping.{IsKeptDatabase}
 
 abbrev pub empty_table : List ColumnDef → TableCells

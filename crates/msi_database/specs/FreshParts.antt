@@ -9,9 +9,9 @@ use Rattle.msi_schema.specs.System.{columns_columns, columns_name, tables_column
 use Rattle.msi_changes.specs.Changes.{PoolInUse}
 use Rattle.msi_changes.specs.Insert.{cells_added}
 use Rattle.msi_changes.specs.Texts.{UsedPool}
-use Rattle.msi_database.specs.declared.storing.Stored.{Stored}
-use Rattle.msi_database.specs.Storing.{tables_stored}
-use Rattle.msi_database.specs.Streams.{stream_of_rows}
+use Rattle.msi_kept.specs.declared.storing.Stored.{Stored}
+use Rattle.msi_kept.specs.Storing.{tables_stored}
+use Rattle.msi_kept.specs.Streams.{stream_of_rows}
 use Rattle.msi_database.specs.Fresh.{bare_database, fresh_change}
 
 -- the system tables

@@ -11,10 +11,10 @@ use Rattle.msi_schema.specs.System.{validation_columns}
 use Rattle.msi_changes.specs.Database.{Database, is_sound, is_well_formed}
 use Rattle.msi_changes.specs.Changes.{Change}
 use Rattle.msi_changes.specs.Laws.{IsChange, IsTableChange}
-use Rattle.msi_database.specs.Streams.{Streams}
-use Rattle.msi_database.specs.StreamNames.{HaveNames, HoldBytes}
+use Rattle.msi_kept.specs.Streams.{Streams}
+use Rattle.msi_kept.specs.StreamNames.{HaveNames, HoldBytes}
+use Rattle.msi_kept.specs.Kept.{Kept, kept_of, database_kept, after_change, AreAsLong, schema_listed}
 use Rattle.msi_database.specs.Agreement.{DatabaseIs, is_shown, schema_in}
-use Rattle.msi_database.specs.Kept.{Kept, kept_of, database_kept, after_change, AreAsLong, schema_listed}
 
 -- a table has a column, and its rows, where they can be read, have a cell for each column, which fits it
 abbrev pub HasFittingRows : Bool → TableCells → Type 0

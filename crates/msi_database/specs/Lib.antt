@@ -1,11 +1,6 @@
 -- The words of this crate.
-pub mod Streams
-pub mod StreamNames
 pub mod Agreement
-pub mod Kept
 pub mod Listed
-pub mod Storing
-pub mod Spending
 pub mod Keeping
 pub mod Making
 pub mod Dropping

@@ -5,7 +5,7 @@ use Rattle.msi_text.specs.CodePage.{CodePage}
 use Rattle.msi_table.specs.Columns.{TableDef}
 use Rattle.msi_schema.specs.Keys.{table_key}
 use Rattle.msi_changes.specs.Database.{Database, table_at}
-use Rattle.msi_database.specs.Kept.{Kept}
+use Rattle.msi_kept.specs.Kept.{Kept}
 
 -- the table of a name, and all of them in their order
 abbrev pub table_def_at : List ℕ → Database → Option TableDef

@@ -10,9 +10,9 @@ use Rattle.msi_query.specs.Queries.{InsertQuery, DeleteQuery}
 use Rattle.msi_relation.specs.Refusals.{Refusals}
 use Rattle.msi_changes.specs.Database.{Database, is_sound}
 use Rattle.msi_changes.specs.Changes.{Change, sound_refusal}
-use Rattle.msi_database.specs.declared.storing.Stored.{Stored}
-use Rattle.msi_database.specs.Storing.{stored_in}
-use Rattle.msi_database.specs.Kept.{Kept, after_change}
+use Rattle.msi_kept.specs.declared.storing.Stored.{Stored}
+use Rattle.msi_kept.specs.Storing.{stored_in}
+use Rattle.msi_kept.specs.Kept.{Kept, after_change}
 use Rattle.msi_database.specs.Keeping.{AreParts}
 use Rattle.msi_database.specs.Listed.{tables_listed}
 

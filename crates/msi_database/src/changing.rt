@@ -2,32 +2,26 @@
 
 ghost use Rattle.std.specs.Prelude.{◌≡◌, ◌∷◌, [], false, IfErr, IfOk, MatchOption, None, OnErr, OnOk, Some, length, option_copied, true};
 ghost use Rattle.std.specs.FinMap.{entries};
-ghost use Rattle.msi_compound.specs.Names.{is_name_length};
 ghost use Rattle.msi_text.specs.Results.{OnlyMemory};
-ghost use Rattle.msi_table.specs.Tables.{CanStore};
 ghost use Rattle.msi_relation.specs.Refusals.{IsRefusal, first_refusal, unless_refused};
-ghost use Rattle.msi_schema.specs.Keys.{table_key as key_of};
 ghost use Rattle.msi_changes.specs.Database.{is_sound as is_sound_one, table_at};
 ghost use Rattle.msi_changes.specs.Insert.{table_with};
+ghost use Rattle.msi_kept.specs.Kept.{kept_of, without_table_kept};
+ghost use Rattle.msi_kept.specs.Storing.{HaveOwnNames, stored_in};
 ghost use Rattle.msi_database.specs.Keeping.{AreKept};
-ghost use Rattle.msi_database.specs.Kept.{kept_of, without_table_kept};
 ghost use Rattle.msi_database.specs.Listed.{IsKnown, table_def_at, tables_listed};
 ghost use Rattle.msi_database.specs.Making.{early_refusals};
-ghost use Rattle.msi_database.specs.Storing.{HaveOwnNames, stored_in};
-ghost use Rattle.msi_database.specs.Streams.{stream_of_rows};
 
 use crate::database::Database;
-use crate::decoding::{stored_rows, table_key};
 use crate::reasons;
-use crate::storing::{Stored, store_all};
 use msi_changes::texts::PoolInUse;
-use msi_compound::contents::Bytes;
-use msi_table::parts::write_rows;
+use msi_kept::decoding::stored_rows;
+use msi_kept::listing::copies_without;
+use msi_kept::storing::{Stored, store_all};
 use msi_table::{Table, ValueRef};
 use msi_text::errors::{Error, ErrorKind};
 use msi_text::stringpool::StringPool;
 use msi_text::text::Items;
-use std::alloc::Global;
 
 /// A table's stream to be stored, the pool after the change of its rows, and whether a text was taken of the pool or
 /// given back.
@@ -44,34 +38,6 @@ pub(crate) struct TablesAnew {
     pub(crate) stored: Vec<Stored>,
     pub(crate) pool: StringPool,
     pub(crate) tables: Items<Table>,
-}
-
-/// The stream of a table whose rows become these: none where there is no row.
-///
-/// # Errors
-/// `OutOfMemory`.
-pub(crate) fn stream_of(
-    alloc: Global,
-    table: &Table,
-    rows: Vec<Items<ValueRef>>,
-) -> Result<Stored, Error>
-    requires named { is_name_length (length (key_of table.now.name)) ≡ true }
-    requires storable { CanStore table.now rows.items }
-    ensures name { IfOk result (λ stored. stored.name ≡ key_of table.now.name) }
-    ensures bytes { IfOk result (λ stored. stored.bytes ≡ stream_of_rows table.now.long table.now.columns rows.items) }
-    ensures kind { OnlyMemory result }
-{
-    let Some(name) = table_key(alloc, table.name())? else {
-        unreachable!()
-    };
-    if rows.is_empty() {
-        return Ok(Stored { name, bytes: None });
-    }
-    let bytes = write_rows(alloc, table, rows)?;
-    Ok(Stored {
-        name,
-        bytes: Some(Bytes::from_vec(bytes)),
-    })
 }
 
 impl Database {
@@ -177,21 +143,4 @@ impl Database {
     {
         copies_without(self.alloc, self.tables(), name)
     }
-}
-
-/// Tables once more, but for the one of a name.
-///
-/// # Errors
-/// `OutOfMemory`.
-fn copies_without(alloc: Global, tables: &[Table], name: &str) -> Result<Items<Table>, Error>
-    ensures ok { IfOk result (λ copies. copies ≡ without_table_kept name.now tables.now) }
-    ensures kind { OnlyMemory result }
-{
-    let mut copies = Vec::new(alloc);
-    for table in tables {
-        if name != table.name() {
-            copies.push(table.clone(alloc)?)?;
-        }
-    }
-    Ok(Items::from_vec(copies))
 }

@@ -1,10 +1,7 @@
 //! Creating a table: it is described in the system tables, and put in among the others.
 
-ghost use Rattle.std.specs.Prelude.{◌≡◌, ◌≤◌, ◌++◌, IfErr, IfOk, IsTrue, Ok, OnErr, OnOk, length, true};
-ghost use Rattle.std.specs.List.{prefix_len};
-ghost use Rattle.std.specs.Ordering.{is_lt};
+ghost use Rattle.std.specs.Prelude.{◌≡◌, ◌≤◌, IfErr, IfOk, IsTrue, Ok, OnErr, OnOk, length, true};
 ghost use Rattle.msi_text.specs.FirstFit.{most_places};
-ghost use Rattle.msi_text.specs.Lists.{list_cmp};
 ghost use Rattle.msi_text.specs.Results.{OnlyMemory};
 ghost use Rattle.msi_table.specs.Columns.{most_columns};
 ghost use Rattle.msi_relation.specs.Refusals.{IsRefusal, unless_refused};
@@ -14,22 +11,22 @@ ghost use Rattle.msi_changes.specs.Create as creates;
 ghost use Rattle.msi_changes.specs.Create.{new_table_refusals};
 ghost use Rattle.msi_changes.specs.Database.{is_sound as is_sound_one};
 ghost use Rattle.msi_changes.specs.Texts.{in_use};
+ghost use Rattle.msi_kept.specs.Kept.{with_table_kept};
+ghost use Rattle.msi_kept.specs.Storing.{HaveOwnNames};
 ghost use Rattle.msi_database.specs.Creating.{create_refusals, new_table, stream_gone, stream_with, streams_described};
-ghost use Rattle.msi_database.specs.Kept.{with_table_kept};
 ghost use Rattle.msi_database.specs.Listed.{tables_listed};
 ghost use Rattle.msi_database.specs.Making.{Leaves, Makes, TellsUse};
-ghost use Rattle.msi_database.specs.Storing.{HaveOwnNames};
 
-use crate::changing::{TablesAnew, stream_of};
+use crate::changing::TablesAnew;
 use crate::database::Database;
-use crate::decoding::table_key;
 use crate::reasons;
-use crate::storing::Stored;
 use msi_changes::create::refuse_columns;
 use msi_changes::insert::{add_rows, refuse_rows};
 use msi_changes::texts::PoolInUse;
+use msi_kept::listing::copies_with;
+use msi_kept::storing::{Stored, stream_of};
 use msi_schema::description::{column_rows, tables_row, validation_rows};
-use msi_schema::names::is_table_name;
+use msi_schema::names::{is_table_name, table_key};
 use msi_schema::system::{COLUMNS, TABLES, VALIDATION};
 use msi_table::column::Column;
 use msi_table::parts::table;
@@ -74,56 +71,6 @@ fn no_stream(alloc: Global, name: &str) -> Result<Stored, Error>
         unreachable!()
     };
     Ok(Stored { name, bytes: None })
-}
-
-/// Whether a table's name stands before a name in order.
-fn is_before(table: &Table, name: &str) -> bool
-    ensures { result ≡ is_lt (list_cmp table.now.name name.now) }
-{
-    table.name() < name
-}
-
-/// How many of the first of these tables stand before a name in order.
-fn place_of(tables: &[Table], name: &str) -> usize
-    ensures value { result ≡ prefix_len (λ t. is_lt (list_cmp t.name name.now)) tables.now }
-    ensures within { result ≤ length tables.now }
-{
-    for (i, table) in tables.iter().enumerate() {
-        if !is_before(table, name) {
-            return i;
-        }
-    }
-    tables.len()
-}
-
-/// Puts copies of tables behind others.
-///
-/// # Errors
-/// `OutOfMemory`.
-fn push_copies(alloc: Global, copies: &mut Vec<Table>, tables: &[Table]) -> Result<(), Error>
-    ensures ok { OnOk result (copies.new.items ≡ copies.old.items ++ tables.now) }
-    ensures kind { OnlyMemory result }
-{
-    for table in tables {
-        copies.push(table.clone(alloc)?)?;
-    }
-    Ok(())
-}
-
-/// Tables once more, with a new one in the order of their names.
-///
-/// # Errors
-/// `OutOfMemory`.
-fn copies_with(alloc: Global, tables: &[Table], new: Table) -> Result<Items<Table>, Error>
-    ensures ok { IfOk result (λ copies. copies ≡ with_table_kept new tables.now) }
-    ensures kind { OnlyMemory result }
-{
-    let (before, behind) = tables.split_at(place_of(tables, new.name()));
-    let mut copies = Vec::new(alloc);
-    push_copies(alloc, &mut copies, before)?;
-    copies.push(new)?;
-    push_copies(alloc, &mut copies, behind)?;
-    Ok(Items::from_vec(copies))
 }
 
 impl Database {

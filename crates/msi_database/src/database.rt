@@ -1,6 +1,6 @@
 //! A database: tables over one pool of texts, whose rows stand in the streams of a container.
 
-ghost use Rattle.std.specs.Prelude.{◌≡◌, IfErr, IfOk, Ok, OnErr, OnOk, is_some, option_copied};
+ghost use Rattle.std.specs.Prelude.{◌≡◌, IfErr, IfOk, Ok, OnErr, OnOk, option_copied};
 ghost use Rattle.std.specs.FinMap.{entries};
 ghost use Rattle.msi_text.specs.ErrorKind.TheVariants.{InvalidData};
 ghost use Rattle.msi_table.specs.Rows.{AreAsWide};
@@ -9,14 +9,14 @@ ghost use Rattle.msi_relation.specs.Rows.{relation_values, whole_table};
 ghost use Rattle.msi_relation.specs.Selection.{relation_of};
 ghost use Rattle.msi_changes.specs.Changes.{sound_refusal};
 ghost use Rattle.msi_changes.specs.Database.{has_table as has_one, is_sound as is_sound_one, table_at, values_of};
+ghost use Rattle.msi_kept.specs.Streams.{stored_rows as rows_stored};
 ghost use Rattle.msi_database.specs.Keeping.{IsKeptDatabase};
-ghost use Rattle.msi_database.specs.Kept.{table_kept_at};
 ghost use Rattle.msi_database.specs.Listed.{table_def_at, tables_listed, with_page};
-ghost use Rattle.msi_database.specs.Streams.{stored_rows as rows_stored};
 
-use crate::decoding::stored_rows;
 use crate::reasons;
 use msi_compound::contents::StreamMap;
+use msi_kept::decoding::stored_rows;
+use msi_kept::listing::table_named;
 use msi_query::Select;
 use msi_relation::{Relation, Tables, select};
 use msi_table::parts::copied_columns;
@@ -40,7 +40,7 @@ pub struct Database {
 
 impl Model for Database {
     ghost use Rattle.std.specs.FinMap.{entries};
-    ghost use Rattle.msi_database.specs.Kept.{Kept, kept_of};
+    ghost use Rattle.msi_kept.specs.Kept.{Kept, kept_of};
     ghost use Rattle.msi_database.specs.Keeping.{AreKept};
 
     ghost Value = { Kept };
@@ -188,17 +188,4 @@ impl Tables for Database {
     fn find(&self, alloc: Global, name: &str) -> Result<Relation, Error> {
         self.whole(alloc, name)
     }
-}
-
-/// The table of this name among these.
-pub(crate) fn table_named<'a>(tables: &'a [Table], name: &str) -> Option<&'a Table>
-    ensures known { is_some result ≡ is_some (table_kept_at name.now tables.now) }
-    ensures found { option_copied result ≡ table_kept_at name.now tables.now }
-{
-    for table in tables {
-        if name == table.name() {
-            return Some(table);
-        }
-    }
-    None
 }

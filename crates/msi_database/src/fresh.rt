@@ -10,12 +10,11 @@ ghost use Rattle.msi_changes.specs.Texts.{in_use};
 ghost use Rattle.msi_database.specs.Fresh.{fresh};
 ghost use Rattle.msi_database.specs.FreshParts.{Begins, CanBegin, columns_table, fresh_pool, fresh_stored, tables_table, unused_pool, validation_table};
 
-use crate::changing::stream_of;
 use crate::database::Database;
-use crate::storing::{Stored, store_all};
 use msi_changes::insert::add_rows;
 use msi_changes::texts::PoolInUse;
 use msi_compound::contents::StreamMap;
+use msi_kept::storing::{Stored, store_all, stream_of};
 use msi_schema::description::{column_rows, tables_row, validation_rows};
 use msi_schema::system::{
     COLUMNS, TABLES, VALIDATION, columns_columns, tables_columns, validation_columns,

@@ -4,7 +4,6 @@
 mod changing;
 mod creating;
 pub mod database;
-mod decoding;
 mod dropping;
 mod fresh;
 pub mod laws;
@@ -12,7 +11,6 @@ pub mod others;
 mod reading;
 mod reasons;
 mod rows;
-mod soundness;
-pub mod storing;
 
 pub use database::Database;
+pub use msi_kept::storing;

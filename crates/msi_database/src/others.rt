@@ -3,8 +3,8 @@
 ghost use Rattle.std.specs.Prelude.{◌≡◌, IfOk, OnErr, OnOk, false, length, true};
 ghost use Rattle.msi_compound.specs.Names.{is_name_length};
 ghost use Rattle.msi_text.specs.Results.{OnlyMemory};
+ghost use Rattle.msi_kept.specs.Streams.{has_stream_at, stream_at, with_stream, with_stream_or_none, without_stream};
 ghost use Rattle.msi_database.specs.Others.{IsOther, with_streams};
-ghost use Rattle.msi_database.specs.Streams.{has_stream_at, stream_at, with_stream, with_stream_or_none, without_stream};
 
 use crate::database::Database;
 use msi_compound::contents::Bytes;

@@ -10,13 +10,14 @@ ghost use Rattle.msi_changes.specs.RowUpdates.{update_of};
 ghost use Rattle.msi_changes.specs.Update as updates;
 ghost use Rattle.msi_database.specs.Making.{Leaves, MakesRows, TellsUse, delete_of, insert_of};
 
-use crate::changing::{RowsAnew, stream_of};
+use crate::changing::RowsAnew;
 use crate::database::Database;
 use crate::reasons;
 use msi_changes::delete::{refuse_delete, remaining_rows};
 use msi_changes::insert::{add_rows, refuse_rows};
 use msi_changes::texts::PoolInUse;
 use msi_changes::update::{refuse_update, updated_rows};
+use msi_kept::storing::stream_of;
 use msi_query::parts::{
     Assignment, DeleteParts, InsertParts, NewRow, UpdateParts, delete_parts, insert_parts,
     update_parts,

@@ -4,7 +4,7 @@ use Rattle.std.specs.Prelude.{IfErr, IfSome, is_some, unwrap_or, if◌then◌els
 use Rattle.std.specs.List.{AllByRecursion}
 use Rattle.msi_text.specs.ErrorKind.{ErrorKind}
 use Rattle.msi_device.specs.Held.{Held, bytes_told}
-use Rattle.msi_database.specs.Streams.{Streams}
+use Rattle.msi_kept.specs.Streams.{Streams}
 use Rattle.msi.specs.declared.kinds.PackageType.{PackageType}
 use Rattle.msi.specs.State.{State}
 use Rattle.msi.specs.Calls.{Call, Answer}

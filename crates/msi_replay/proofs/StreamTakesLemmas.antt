@@ -11,7 +11,7 @@ use Rattle.msi_relation.specs.Refusals.{Refusals, first_refusal}
 use Rattle.msi_compound.specs.Names.{name_cmp}
 use Rattle.msi_compound.proofs.NamesLemmas.{names_total}
 use Rattle.msi_schema.specs.Keys.{is_stream_name, stream_key}
-use Rattle.msi_database.specs.Streams.{Streams, with_stream}
+use Rattle.msi_kept.specs.Streams.{Streams, with_stream}
 use Rattle.msi_stream.specs.Cursor as streams
 use Rattle.msi.specs.State.{State, parts_of}
 use Rattle.msi.specs.Calls.{StreamAnswer, ReaderCall, WriterCall}

@@ -1,7 +1,7 @@
 use Rattle.std.proofs.Common.{◌≡◌, ◌∙◌, ap, sym, [], ◌∷◌, None}
 use Rattle.std.specs.FinMap.{entries}
 use Rattle.msi_schema.specs.Keys.{string_data_name, table_key}
-use Rattle.msi_database.specs.Streams.{stream_at}
+use Rattle.msi_kept.specs.Streams.{stream_at}
 use Rattle.msi.specs.Meaning.{has_pool, has_texts, reads_pool, reads_texts}
 use Rattle.msi.specs.Opening.{StopsAmong}
 use Rattle.msi.proofs.OpenStepLemmas.{memory_passed, no_pool_stream, no_pool_texts, no_texts_stops, passed_on, pool_found, pool_only, text_name_short, texts_stop}

@@ -2,7 +2,7 @@ use Rattle.std.proofs.Common.{◌≡◌, ◌∙◌, ap, sym, [], ◌∷◌, None
 use Rattle.std.specs.FinMap.{entries}
 use Rattle.msi_text.specs.Pool.{IsPoolStream}
 use Rattle.msi_schema.specs.Keys.{string_pool_name, table_key}
-use Rattle.msi_database.specs.Streams.{stream_at}
+use Rattle.msi_kept.specs.Streams.{stream_at}
 use Rattle.msi.specs.Meaning.{has_pool, reads_pool}
 use Rattle.msi.specs.Opening.{StopsAmong}
 use Rattle.msi.proofs.OpenStepLemmas.{missing_stops, no_bytes, none_there, of_bytes, passed_on, pool_name_short, pool_stream_found, pool_stream_stops}

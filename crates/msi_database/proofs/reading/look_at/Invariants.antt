@@ -1,5 +1,5 @@
 use Rattle.std.specs.FinMap.{entries}
-use Rattle.msi_database.specs.StreamNames.{HaveNames, HoldBytes}
+use Rattle.msi_kept.specs.StreamNames.{HaveNames, HoldBytes}
 use Rattle.msi_database.proofs.reading.look_at.Given as goal
 
 abbrev pub invariant-loop-name : goal.invariant-loop-name

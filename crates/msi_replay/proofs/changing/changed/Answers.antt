@@ -11,7 +11,7 @@ use Rattle.std.specs.Prelude.{◌++◌, [], ◌∷◌, not, string_bytes}
 use Rattle.msi_text.specs.ErrorKind.TheVariants.{NotFound}
 use Rattle.msi_relation.specs.Refusals.{Refusals}
 use Rattle.msi_schema.specs.Keys.{stream_key}
-use Rattle.msi_database.specs.Streams.{without_stream}
+use Rattle.msi_kept.specs.Streams.{without_stream}
 use Rattle.msi.specs.State.{State, parts_of}
 use Rattle.msi.specs.Calls as calls
 use Rattle.msi.specs.Steps.{changed, changing, has_stream, leaving, name_refusals, storage_refusal, with_page, with_streams, without_signature}

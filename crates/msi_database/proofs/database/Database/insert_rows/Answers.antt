@@ -2,10 +2,10 @@ use Rattle.std.proofs.Common.{◌≡◌, ◌∷◌, [], subst, sym}
 use Rattle.std.proofs.lemmas.Result.{IfOk-weaker}
 use Rattle.msi_query.specs.Queries.{InsertQuery}
 use Rattle.msi_changes.specs.Insert.{insert_rows}
-use Rattle.msi_database.specs.Kept.{kept_of}
+use Rattle.msi_kept.specs.Kept.{kept_of}
+use Rattle.msi_kept.specs.Storing.{stored_in}
 use Rattle.msi_database.specs.Listed.{tables_listed}
 use Rattle.msi_database.specs.Making.{Leaves, TellsUse, insert_of}
-use Rattle.msi_database.specs.Storing.{stored_in}
 use Rattle.msi_database.proofs.RowCallLemmas.{makes_kept, makes_leaves, on_ok}
 use Rattle.msi_database.proofs.database.Database.insert_rows.Goals as goal
 

@@ -3,7 +3,7 @@ use Rattle.msi_table.specs.declared.value.Value.{Value}
 use Rattle.msi_table.specs.declared.value.ValueRef.{ValueRef}
 use Rattle.msi_relation.specs.Refusals.{first_refusal}
 use Rattle.msi_changes.specs.Insert.{row_refusals, table_with}
-use Rattle.msi_database.specs.Kept.{Kept}
+use Rattle.msi_kept.specs.Kept.{Kept}
 use Rattle.msi_database.specs.Making.{insert_of}
 use Rattle.msi_database.proofs.AnswerLemmas.{err_passed}
 use Rattle.msi_database.proofs.InsertCallLemmas.{insert_full}

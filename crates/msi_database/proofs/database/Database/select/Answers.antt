@@ -4,7 +4,7 @@ use Rattle.std.specs.FinMap.{entries}
 use Rattle.msi_table.specs.Rows.{AreAsWide}
 use Rattle.msi_relation.specs.Width.{AreWide}
 use Rattle.msi_changes.specs.Database.{table_at}
-use Rattle.msi_database.specs.Kept.{Kept, kept_of}
+use Rattle.msi_kept.specs.Kept.{Kept, kept_of}
 use Rattle.msi_database.proofs.WholeLemmas.{kept_wide}
 use Rattle.msi_database.proofs.database.Database.select.Goals as goal
 

@@ -1,8 +1,8 @@
 use Rattle.std.proofs.Common.{◌≡◌, subst}
 use Rattle.msi_schema.specs.Keys.{table_key}
 use Rattle.msi_changes.proofs.RefusedLemmas.{refusal_passed}
+use Rattle.msi_kept.specs.Streams.{stream_of_rows}
 use Rattle.msi_database.specs.Keeping.{IsKeptDatabase}
-use Rattle.msi_database.specs.Streams.{stream_of_rows}
 use Rattle.msi_database.proofs.CreatingCallLemmas.{always_ok, both_ok, rows_full, rows_stored}
 use Rattle.msi_database.proofs.database.Database.stream_with.Goals as goal
 

@@ -4,8 +4,8 @@ use Rattle.msi_changes.specs.Drop.{drop_table}
 use Rattle.msi_changes.specs.Changes.{no_change, pool_of}
 use Rattle.msi_schema.specs.System.{tables_name, columns_name, validation_name}
 use Rattle.msi_changes.proofs.RefusedLemmas.{refusal_passed}
+use Rattle.msi_kept.specs.Kept.{Kept}
 use Rattle.msi_database.specs.Dropping.{about_given_back, rows_given_back, own_stream, system_stream}
-use Rattle.msi_database.specs.Kept.{Kept}
 use Rattle.msi_database.proofs.RefusedCallLemmas.{drop_barred}
 use Rattle.msi_database.proofs.DroppingCallLemmas.{DropMade, began_by, drop_called, went_on}
 use Rattle.msi_database.proofs.database.Database.table_dropped.Goals as goal

@@ -3,10 +3,10 @@ use Rattle.std.proofs.lemmas.Result.{IfOk-weaker}
 use Rattle.msi_query.specs.Queries.{UpdateQuery}
 use Rattle.msi_changes.specs.RowUpdates.{update_of}
 use Rattle.msi_changes.specs.Update.{update_rows}
-use Rattle.msi_database.specs.Kept.{kept_of}
+use Rattle.msi_kept.specs.Kept.{kept_of}
+use Rattle.msi_kept.specs.Storing.{stored_in}
 use Rattle.msi_database.specs.Listed.{tables_listed}
 use Rattle.msi_database.specs.Making.{Leaves, TellsUse}
-use Rattle.msi_database.specs.Storing.{stored_in}
 use Rattle.msi_database.proofs.RowCallLemmas.{makes_kept, makes_leaves, on_ok}
 use Rattle.msi_database.proofs.database.Database.update_rows.Goals as goal
 

@@ -1,6 +1,6 @@
 use Rattle.std.proofs.Common.{◌≡◌, ap, sym, ◌∙◌, inr, Some, None, option_copied}
 use Rattle.std.specs.FinMap.{entries}
-use Rattle.msi_database.specs.Kept.{table_kept_at}
+use Rattle.msi_kept.specs.Kept.{table_kept_at}
 use Rattle.msi_database.proofs.AnswerLemmas.{err_passed}
 use Rattle.msi_database.proofs.WholeLemmas.{whole_none, whole_ok, whole_refused}
 use Rattle.msi_database.proofs.database.Database.whole.Goals as goal

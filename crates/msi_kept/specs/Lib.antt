@@ -1,0 +1,7 @@
+-- The words of this crate.
+pub mod Streams
+pub mod StreamNames
+pub mod Kept
+pub mod Storing
+pub mod Spending
+pub mod Marks

@@ -1,0 +1,88 @@
+//! Streams of tables that are to be stored, and that are stored together, or not at all.
+
+ghost use Rattle.std.specs.Prelude.{◌≡◌, IfOk, OnErr, OnOk, length, true};
+ghost use Rattle.std.specs.Vec.Iter.{into_iter_items};
+ghost use Rattle.msi_compound.specs.Names.{is_name_length};
+ghost use Rattle.msi_text.specs.Results.{OnlyMemory};
+ghost use Rattle.msi_table.specs.Tables.{CanStore};
+ghost use Rattle.msi_schema.specs.Keys.{table_key as key_of};
+ghost use Rattle.msi_kept.specs.Storing.{stored_all, HaveOwnNames};
+ghost use Rattle.msi_kept.specs.Streams.{stream_of_rows};
+
+use msi_compound::contents::{Bytes, StreamMap};
+use msi_compound::name::Name;
+use msi_schema::names::table_key;
+use msi_table::parts::write_rows;
+use msi_table::{Table, ValueRef};
+use msi_text::errors::Error;
+use msi_text::text::Items;
+use std::alloc::Global;
+use std::vec::IntoIter;
+
+/// What a stream becomes: these bytes, or no stream.
+#[derive(Drop)]
+pub struct Stored {
+    pub name: Name,
+    pub bytes: Option<Bytes>,
+}
+
+/// The stream of a table whose rows become these: none where there is no row.
+///
+/// # Errors
+/// `OutOfMemory`.
+pub fn stream_of(
+    alloc: Global,
+    table: &Table,
+    rows: Vec<Items<ValueRef>>,
+) -> Result<Stored, Error>
+    requires named { is_name_length (length (key_of table.now.name)) ≡ true }
+    requires storable { CanStore table.now rows.items }
+    ensures name { IfOk result (λ stored. stored.name ≡ key_of table.now.name) }
+    ensures bytes { IfOk result (λ stored. stored.bytes ≡ stream_of_rows table.now.long table.now.columns rows.items) }
+    ensures kind { OnlyMemory result }
+{
+    let Some(name) = table_key(alloc, table.name())? else {
+        unreachable!()
+    };
+    if rows.is_empty() {
+        return Ok(Stored { name, bytes: None });
+    }
+    let bytes = write_rows(alloc, table, rows)?;
+    Ok(Stored {
+        name,
+        bytes: Some(Bytes::from_vec(bytes)),
+    })
+}
+
+/// Stores each of these. Streams are put first, and what goes is removed only when all are put, since that takes no
+/// memory.
+///
+/// # Errors
+/// `OutOfMemory`; then nothing is changed.
+pub fn store_all(streams: &mut StreamMap, mut changes: IntoIter<Stored>) -> Result<(), Error>
+    requires { HaveOwnNames (into_iter_items changes) }
+    ensures ok { OnOk result (streams.new ≡ stored_all streams.old (into_iter_items changes)) }
+    ensures err { OnErr result (streams.new ≡ streams.old) }
+    ensures kind { OnlyMemory result }
+{
+    let Some(Stored { name, bytes }) = changes.next() else {
+        return Ok(());
+    };
+    match bytes {
+        Some(bytes) => {
+            let before = streams.replace(name.duplicate(), bytes)?;
+            match store_all(streams, changes) {
+                Ok(()) => Ok(()),
+                Err(error) => {
+                    streams.put_back(&name, before);
+                    Err(error)
+                }
+            }
+        }
+        None => {
+            store_all(streams, changes)?;
+            streams.remove(&name);
+            Ok(())
+        }
+    }
+}
