@@ -6,7 +6,7 @@ use Rattle.std.proofs.lemmas.List.Quantifiers.{position-Some}
 use Rattle.std.proofs.lemmas.Iterator.Adapters.{position_from-zero}
 use Rattle.std.proofs.lemmas.Bool.Decides.{nat_tests}
 use Rattle.std.proofs.lemmas.List as lists
-use Rattle.msi_table.specs.Columns.{ColumnDef, begun_column, column_index, has_column, key_places_from}
+use Rattle.msi_value.specs.Columns.{ColumnDef, begun_column, column_index, has_column, key_places_from}
 
 -- a key column is listed
 pub key_listed : (columns : List ColumnDef) (places more : List ℕ) (i : ℕ) (d : ColumnDef) → i < length columns → (slice_index_or columns i d).is_primary_key ≡ true → more ≡ places ++ i ∷ []

@@ -7,9 +7,5 @@ pub mod RowOrderLemmas
 pub mod SortedFitsLemmas
 pub mod SortedRowsLemmas
 pub mod ReadRowsLemmas
-pub mod StoredValuesLemmas
-pub mod FittingLemmas
 pub mod ColumnLemmas
-pub mod TypeBitsLemmas
 pub mod WorkedRows
-pub mod ValidValuesLemmas

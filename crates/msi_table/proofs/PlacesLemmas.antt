@@ -7,24 +7,14 @@ use Rattle.std.proofs.lemmas.List.Sums.{sum_by_more, sum_by_more_le}
 use Rattle.std.proofs.lemmas.Nat.{row_fits}
 use Rattle.std.proofs.Math.Nat as nat
 use Rattle.msi_text.specs.Lists.{tabulated}
-use Rattle.msi_table.specs.declared.column.ColumnType.{ColumnType}
-use Rattle.msi_table.specs.declared.column.ColumnType.TheVariants as coltype
-use Rattle.msi_table.specs.declared.value.ValueRef.{ValueRef}
-use Rattle.msi_table.specs.Columns.{ColumnDef, types_of}
+use Rattle.msi_value.specs.declared.column.ColumnType.{ColumnType}
+use Rattle.msi_value.specs.declared.column.ColumnType.TheVariants as coltype
+use Rattle.msi_value.specs.declared.value.ValueRef.{ValueRef}
+use Rattle.msi_value.specs.Columns.{ColumnDef, types_of}
 use Rattle.msi_table.specs.Cells.{width, widths, row_count, cell_in, cell_at}
 use Rattle.msi_table.proofs.ReadBackLemmas.{cell_at_is}
 use Rattle.std.proofs.lemmas.Option.{slice_get-get_or}
 use Rattle.msi_table.proofs.PiecesLemmas.{numbers_from_is}
-
-pub length-types_of : (columns : List ColumnDef) → length (types_of columns) ≡ length columns
-length-types_of columns = lists.length-map columns (λ c. c.coltype)
-
-pub below_types : (columns : List ColumnDef) (j : ℕ) → j < length columns → j < length (types_of columns)
-below_types columns j h = omega (arith, length-types_of columns)
-
--- a column's type stands where the column does
-pub type_at : (columns : List ColumnDef) (j : ℕ) (type : ColumnType) (d : ColumnDef) → j < length columns → type ≡ (slice_index_or columns j d).coltype → type ≡ slice_index_or (types_of columns) j coltype.Int16
-type_at columns j type d h e = e ∙ sym (lists.get_or-map (λ c. c.coltype) columns j d coltype.Int16 h)
 
 -- one more element
 pub tabulated_more : {X : Type 0} (n : ℕ) (f : ℕ → X) → tabulated (n + 1) f ≡ tabulated n f ++ f n ∷ []

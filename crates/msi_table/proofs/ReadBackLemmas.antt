@@ -9,12 +9,12 @@ use Rattle.std.proofs.lemmas.Option.{slice_get-get_or, unwrap_or-slice_get, same
 use Rattle.std.proofs.lemmas.Bool.Decides.{nat_tests}
 use Rattle.std.proofs.Math.Nat as nat
 use Rattle.msi_text.specs.Lists.{tabulated}
-use Rattle.msi_table.specs.declared.column.ColumnType.{ColumnType}
-use Rattle.msi_table.specs.declared.column.ColumnType.TheVariants as coltype
-use Rattle.msi_table.specs.declared.value.ValueRef.{ValueRef}
-use Rattle.msi_table.specs.declared.value.ValueRef.TheVariants as cell
-use Rattle.msi_table.specs.Cells.{cell_in, cell_bytes, width, widths, row_count, cell_at, rows_in, cell_of, column_bytes, table_bytes}
-use Rattle.msi_table.specs.ReadBack.{FitsColumn, FitsRow, FitsTable}
+use Rattle.msi_value.specs.declared.column.ColumnType.{ColumnType}
+use Rattle.msi_value.specs.declared.column.ColumnType.TheVariants as coltype
+use Rattle.msi_value.specs.declared.value.ValueRef.{ValueRef}
+use Rattle.msi_value.specs.declared.value.ValueRef.TheVariants as cell
+use Rattle.msi_table.specs.Cells.{cell_in, cell_bytes, width, widths, row_count, cell_at, rows_in, column_bytes, table_bytes}
+use Rattle.msi_value.specs.Fitting.{cell_of, FitsColumn, FitsRow, FitsTable}
 use Rattle.msi_table.proofs.RoundTripLemmas.{length-cell_bytes, cell_in-cell_bytes}
 use Rattle.msi_table.proofs.PiecesLemmas.{numbers_from_is, length-pieces, piece_at}
 
@@ -36,19 +36,6 @@ if_few n o h = grind (arith, nat_tests)
 
 if_many : {X : Type 0} (n : ℕ) (o : Option X) → 65536 < n → (if nat_le n 65536 then o else None) ≡ None
 if_many n o h = grind (arith, nat_tests)
-
--- what fits: lengths and cells
-pub fits_length : (long : Bool) (types : List ColumnType) (row : List ValueRef) → FitsRow long types row → length row ≡ length types
-fits_length long [] [] h = refl
-fits_length long [] (c ∷ cs) h = absurd h
-fits_length long (t ∷ ts) [] h = absurd h
-fits_length long (t ∷ ts) (c ∷ cs) h = ap suc (fits_length long ts cs h.1)
-
-pub fits_at : (long : Bool) (types : List ColumnType) (row : List ValueRef) (j : ℕ) (t : ColumnType) → FitsRow long types row → slice_get types j ≡ Some t → FitsColumn long t (cell_of row j)
-fits_at long [] row j t h e = none_is e
-fits_at long (s ∷ ts) [] j t h e = absurd h
-fits_at long (s ∷ ts) (c ∷ cs) zero t h e = subst (λ x. FitsColumn long x c) (same_Some s t e) h.0
-fits_at long (s ∷ ts) (c ∷ cs) (suc j) t h e = fits_at long ts cs j t h.1 e
 
 pub all_at : {X : Type 0} (P : X → Type 0) (xs : List X) (i : ℕ) (d : X) → AllByRecursion P xs → i < length xs → P (slice_index_or xs i d)
 all_at P [] i d h l = absurd (omega arith)

@@ -9,16 +9,16 @@ use Rattle.std.specs.List.{slice_get, AllByRecursion}
 use Rattle.std.specs.Prelude.{slice_index, slice_index_or, All, nat_le, ◌==◌, if◌then◌else◌}
 use Rattle.msi_text.specs.Lists.{numbers_from, tabulated}
 use Rattle.msi_text.specs.References.{number_of}
-use Rattle.msi_table.specs.declared.column.ColumnType.{ColumnType}
-use Rattle.msi_table.specs.declared.column.ColumnType.TheVariants as coltype
-use Rattle.msi_table.specs.declared.value.ValueRef.TheVariants as cell
+use Rattle.msi_value.specs.declared.column.ColumnType.{ColumnType}
+use Rattle.msi_value.specs.declared.column.ColumnType.TheVariants as coltype
+use Rattle.msi_value.specs.declared.value.ValueRef.TheVariants as cell
 use Rattle.msi_table.specs.Cells.{width, row_count, cell_in, cell_of_number, cell_at, cell_place, row_in}
-use Rattle.msi_table.specs.Columns.{types_of}
-use Rattle.msi_table.specs.ReadBack.{FitsColumn, FitsRow, FitsTable}
+use Rattle.msi_value.specs.Columns.{types_of}
+use Rattle.msi_value.specs.Fitting.{FitsColumn, FitsRow, FitsTable}
 use Rattle.msi_table.specs.Rows.{AreAsWide}
-use Rattle.msi_table.specs.StoredValues.{ReadRowsFit}
-use Rattle.msi_table.proofs.FittingLemmas.{fits_by_cells}
-use Rattle.msi_table.proofs.PlacesLemmas.{length-types_of}
+use Rattle.msi_table.specs.Tables.{ReadRowsFit}
+use Rattle.msi_value.proofs.FittingLemmas.{fits_by_cells}
+use Rattle.msi_value.proofs.ColumnTypesLemmas.{length-types_of}
 use Rattle.msi_table.proofs.ReadBackLemmas.{all_at}
 
 -- lists by index

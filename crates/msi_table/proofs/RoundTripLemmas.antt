@@ -4,13 +4,13 @@ use Rattle.std.specs.Prelude.{ℤ, pos, negsuc, ◌+ℤ◌, ◌-ℤ◌, neg_ℤ,
 use Rattle.std.specs.Int.{w16, w32, to_le_bytes, bytes_low_first, cast_unsigned}
 use Rattle.std.proofs.lemmas.Int.{ints}
 use Rattle.std.proofs.lemmas.Bool.Decides.{nat_tests}
-use Rattle.msi_table.specs.declared.column.ColumnType.{ColumnType}
-use Rattle.msi_table.specs.declared.column.ColumnType.TheVariants as coltype
-use Rattle.msi_table.specs.declared.value.ValueRef.{ValueRef}
-use Rattle.msi_table.specs.declared.value.ValueRef.TheVariants as cell
-use Rattle.msi_table.specs.Cells.{cell_of_number, cell_in, cell_bytes, width}
+use Rattle.msi_value.specs.declared.column.ColumnType.{ColumnType}
+use Rattle.msi_value.specs.declared.column.ColumnType.TheVariants as coltype
+use Rattle.msi_value.specs.declared.value.ValueRef.{ValueRef}
+use Rattle.msi_value.specs.declared.value.ValueRef.TheVariants as cell
+use Rattle.msi_table.specs.Cells.{cell_of_number, cell_in, cell_bytes, width, stored_number}
 use Rattle.msi_text.specs.References.{number_of, reference_width}
-use Rattle.msi_table.specs.ReadBack.{FitsColumn, reference_bound, stored_number}
+use Rattle.msi_value.specs.Fitting.{FitsColumn, reference_bound}
 
 pub number_of-to_le_bytes_16 : (m : ℕ) → m < 65536 → number_of (to_le_bytes w16 m) ≡ m
 number_of-to_le_bytes_16 m h = omega arith

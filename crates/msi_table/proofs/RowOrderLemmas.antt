@@ -11,12 +11,13 @@ use Rattle.std.proofs.lemmas.List as lists
 use Rattle.std.proofs.lemmas.List.Sorted.{ranks_by}
 use Rattle.std.proofs.lemmas.Option.{slice_get_cases, slice_get-map}
 use Rattle.msi_text.specs.Pool.{Place}
-use Rattle.msi_table.specs.Columns.{ColumnDef}
-use Rattle.msi_table.specs.OrderLaws.{cell_cmp-total, value_cmp-total}
-use Rattle.msi_table.specs.declared.value.ValueRef.{ValueRef}
-use Rattle.msi_table.specs.Cells.{value_of_cell}
-use Rattle.msi_table.specs.Values.{value_cmp}
-use Rattle.msi_table.specs.StoredOrder.{parts_where, cell_cmp, ordering_cells, row_cmp, row_values, is_of_category_binary}
+use Rattle.msi_value.specs.Columns.{ColumnDef, is_of_category_binary}
+use Rattle.msi_value.specs.OrderLaws.{cell_cmp-total, value_cmp-total}
+use Rattle.msi_value.specs.declared.value.ValueRef.{ValueRef}
+use Rattle.msi_value.specs.CellValues.{value_of_cell, row_values}
+use Rattle.msi_value.specs.Values.{value_cmp}
+use Rattle.msi_table.specs.StoredOrder.{parts_where, ordering_cells, row_cmp}
+use Rattle.msi_value.specs.CellOrder.{cell_cmp}
 use Rattle.msi_table.specs.KeyOrder.{key_of, key_cmp}
 
 -- both orders compare the parts of rows as lists

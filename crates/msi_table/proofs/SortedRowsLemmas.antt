@@ -6,17 +6,18 @@ use Rattle.std.specs.List.Sorted.{IsSortedByKey}
 use Rattle.std.specs.Ordering.{is_lt, ordering_then}
 use Rattle.std.specs.declared.cmp.Ordering.TheVariants.{Less, Equal, Greater}
 use Rattle.msi_text.specs.Pool.{Place}
-use Rattle.msi_table.specs.declared.column.ColumnType.{ColumnType}
-use Rattle.msi_table.specs.declared.column.ColumnType.TheVariants as coltype
-use Rattle.msi_table.specs.declared.value.ValueRef.{ValueRef}
-use Rattle.msi_table.specs.declared.value.ValueRef.TheVariants as cell
-use Rattle.msi_table.specs.Cells.{cell_of, value_of_cell}
-use Rattle.msi_table.specs.Columns.{ColumnDef, types_of}
+use Rattle.msi_value.specs.declared.column.ColumnType.{ColumnType}
+use Rattle.msi_value.specs.declared.column.ColumnType.TheVariants as coltype
+use Rattle.msi_value.specs.declared.value.ValueRef.{ValueRef}
+use Rattle.msi_value.specs.declared.value.ValueRef.TheVariants as cell
+use Rattle.msi_value.specs.Fitting.{cell_of, FitsColumn, FitsRow}
+use Rattle.msi_value.specs.CellValues.{value_of_cell}
+use Rattle.msi_value.specs.Columns.{ColumnDef, types_of, is_of_category_binary}
 use Rattle.msi_table.specs.KeyOrder.{key_cmp}
-use Rattle.msi_table.specs.ReadBack.{FitsColumn, FitsRow}
 use Rattle.msi_table.specs.SortedRows.{HoldsNumbers, LeadingNumbersAscend, RowsAreSortedByKeys, StoredRowsAreSorted}
-use Rattle.msi_table.specs.StoredOrder.{cell_cmp, in_stored_order, is_of_category_binary, ordering_cells, row_cmp}
-use Rattle.msi_table.specs.Values.{value_cmp}
+use Rattle.msi_value.specs.CellOrder.{cell_cmp}
+use Rattle.msi_table.specs.StoredOrder.{in_stored_order, ordering_cells, row_cmp}
+use Rattle.msi_value.specs.Values.{value_cmp}
 use Rattle.msi_table.proofs.ReadBackLemmas.{all_at}
 use Rattle.msi_table.proofs.RowOrderLemmas.{row_cmp-weak, key_cmp-weak}
 use Rattle.msi_table.proofs.StableSortLemmas.{all_sorted, only_stable_sort}

@@ -1,18 +1,15 @@
 -- The streams of tables: cells by their positions.
-use Rattle.std.specs.Prelude.{ℕ, ◌+◌, ◌*◌, ◌/◌, Bool, List, [], ◌∷◌, ◌++◌, map, length, take, drop, Option, Some, None, ◌^◌, nat_le, ◌==◌, if◌then◌else◌, pos, ◌+ℤ◌, ◌-ℤ◌, sum, slice_get, unwrap_or}
+use Rattle.std.specs.Prelude.{ℕ, ◌+◌, ◌*◌, ◌/◌, Bool, List, [], ◌∷◌, ◌++◌, map, length, take, drop, Option, Some, None, ◌^◌, nat_le, ◌==◌, if◌then◌else◌, pos, ◌+ℤ◌, ◌-ℤ◌, sum, slice_get}
 use Rattle.std.specs.Option as options
 use Rattle.std.specs.List.{flat_map}
 use Rattle.std.specs.Int.{w16, w32, to_le_bytes, bytes_low_first, cast_unsigned}
 use Rattle.msi_text.specs.Lists.{tabulated}
-use Rattle.msi_text.specs.FirstFitLaws.{text_at}
-use Rattle.msi_text.specs.Pool.{Place}
 use Rattle.msi_text.specs.References.{reference_width, number_of}
-use Rattle.msi_table.specs.declared.column.ColumnType.{ColumnType}
-use Rattle.msi_table.specs.declared.column.ColumnType.TheVariants as coltype
-use Rattle.msi_table.specs.declared.value.ValueRef.{ValueRef}
-use Rattle.msi_table.specs.declared.value.ValueRef.TheVariants as cell
-use Rattle.msi_table.specs.declared.value.Value.{Value}
-use Rattle.msi_table.specs.declared.value.Value.TheVariants as value
+use Rattle.msi_value.specs.declared.column.ColumnType.{ColumnType}
+use Rattle.msi_value.specs.declared.column.ColumnType.TheVariants as coltype
+use Rattle.msi_value.specs.declared.value.ValueRef.{ValueRef}
+use Rattle.msi_value.specs.declared.value.ValueRef.TheVariants as cell
+use Rattle.msi_value.specs.Fitting.{cell_of}
 
 abbrev pub width : Bool → ColumnType → ℕ
 width long coltype.Int16 = 2
@@ -37,6 +34,14 @@ cell_bytes long coltype.Int32 (cell.Int n) = to_le_bytes w32 (cast_unsigned w32 
 cell_bytes long (coltype.Str n) (cell.Str number) = bytes_low_first 0 (reference_width long) number
 cell_bytes long coltype.Binary _ = 1 ∷ 0 ∷ []
 cell_bytes long type _ = bytes_low_first 0 (width long type) 0
+
+-- the number whose bytes a cell takes
+abbrev pub stored_number : ColumnType → ValueRef → ℕ
+stored_number coltype.Int16 (cell.Int n) = cast_unsigned w16 (n +ℤ pos (2 ^ 15))
+stored_number coltype.Int32 (cell.Int n) = cast_unsigned w32 (n +ℤ pos (2 ^ 31))
+stored_number (coltype.Str k) (cell.Str number) = number
+stored_number coltype.Binary _ = 1
+stored_number type _ = 0
 
 -- With these widths and n rows, cell (i, j) stands at n * (w[0] + .. + w[j-1]) + i * w[j]
 abbrev pub widths : Bool → List ColumnType → List ℕ
@@ -64,9 +69,6 @@ rows_in long types bytes = if nat_le (row_count long types bytes) 65536
     else None
 
 -- how rows are spelled: each column's cells in a row
-abbrev pub cell_of : List ValueRef → ℕ → ValueRef
-cell_of row j = unwrap_or (slice_get row j) cell.Null
-
 abbrev pub column_bytes : Bool → List (List ValueRef) → ℕ → List ColumnType → List ℕ
 column_bytes long rows j [] = []
 column_bytes long rows j (type ∷ types) = flat_map (λ row. cell_bytes long type (cell_of row j)) rows
@@ -74,10 +76,3 @@ column_bytes long rows j (type ∷ types) = flat_map (λ row. cell_bytes long ty
 
 abbrev pub table_bytes : Bool → List ColumnType → List (List ValueRef) → List ℕ
 table_bytes long types rows = column_bytes long rows 0 types
-
--- what a cell stands for: a text past the pool is empty
-abbrev pub value_of_cell : List Place → ValueRef → Value
-value_of_cell places cell.Null = value.Null
-value_of_cell places (cell.Int n) = value.Int n
-value_of_cell places (cell.Str number) = value.Str (text_at places number)
-value_of_cell places cell.Binary = value.Binary

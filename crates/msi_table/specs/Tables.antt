@@ -1,10 +1,27 @@
 -- Tables and the bytes of their streams.
-use Rattle.std.specs.Prelude.{ℕ, Bool, List, Option}
-use Rattle.msi_table.specs.declared.value.ValueRef.{ValueRef}
+use Rattle.std.specs.Prelude.{◌≡◌, ℕ, ◌<◌, Bool, List, length, Option, Some, None, All, nat_le, if◌then◌else◌}
+use Rattle.msi_value.specs.declared.value.ValueRef.{ValueRef}
 use Rattle.msi_table.specs.Cells.{rows_in, table_bytes}
-use Rattle.msi_table.specs.Columns.{ColumnDef, TableDef, types_of}
-use Rattle.msi_table.specs.ReadBack.{FitsTable}
+use Rattle.msi_value.specs.Columns.{ColumnDef, greatest_16, types_of}
+use Rattle.msi_value.specs.Fitting.{FitsTable}
+use Rattle.msi_table.specs.Rows.{AreAsWide}
 use Rattle.msi_table.specs.StoredOrder.{in_stored_order}
+
+-- a table: its references to texts are long where those of the pool are
+pub record TableDef : Type 0 where
+  pub name : List ℕ
+  pub columns : List ColumnDef
+  pub long : Bool
+
+-- the numbers of a table's columns are stored in 16 bits
+abbrev pub most_columns : ℕ
+most_columns = greatest_16
+
+-- a table of its parts, where its columns are few enough
+abbrev pub table_of : List ℕ → List ColumnDef → Bool → Option TableDef
+table_of name columns long = if nat_le (length columns) most_columns
+    then Some (record { name = name; columns = columns; long = long })
+    else None
 
 -- the bytes of rows in their stored order
 abbrev pub stored_bytes : Bool → List ColumnDef → List (List ValueRef) → List ℕ
@@ -16,3 +33,9 @@ rows_spelled t bytes = rows_in t.long (types_of t.columns) bytes
 
 abbrev pub CanStore : TableDef → List (List ValueRef) → Type 0
 CanStore t rows = FitsTable t.long (types_of t.columns) rows
+
+-- rows that are read have a cell for each column, and can be stored again
+abbrev pub ReadRowsFit : Type 0
+ReadRowsFit = (long : Bool) (columns : List ColumnDef) (bytes : List ℕ) (rows : List (List ValueRef))
+    → rows_in long (types_of columns) bytes ≡ Some rows
+    → AreAsWide columns rows × (0 < length columns → All (λ b. b < 256) bytes → FitsTable long (types_of columns) rows)

@@ -3,10 +3,10 @@
 ghost use Rattle.std.specs.Prelude.{◌≡◌, ◌<◌, ◌≤◌, ◌+◌, ◌^◌, length, take, drop};
 ghost use Rattle.msi_table.specs.Cells.{width as width_of, cell_of_number, cell_in};
 
-use crate::column::ColumnType;
-use crate::value::ValueRef;
 use msi_text::fields::number_of;
 use msi_text::parts::string_ref;
+use msi_value::column::ColumnType;
+use msi_value::value::ValueRef;
 
 /// How many bytes a cell of a column takes.
 pub(crate) fn width(long: bool, coltype: ColumnType) -> usize

@@ -4,16 +4,17 @@ ghost use Rattle.std.specs.Prelude.{◌≡◌, OnOk, OnErr, option_map};
 ghost use Rattle.std.specs.List.{slice_get};
 ghost use Rattle.std.specs.Option.{option_cmp};
 ghost use Rattle.msi_text.specs.Results.{OnlyMemory};
-ghost use Rattle.msi_table.specs.Cells.{value_of_cell};
+ghost use Rattle.msi_value.specs.CellValues.{value_of_cell};
 ghost use Rattle.msi_table.specs.KeyOrder.{key_cmp, in_key_order};
 ghost use Rattle.msi_table.specs.StoredOrder.{row_cmp, in_stored_order};
-ghost use Rattle.msi_table.specs.Values.{value_cmp};
+ghost use Rattle.msi_value.specs.Values.{value_cmp};
 
-use crate::column::Column;
-use crate::value::ValueRef;
 use msi_text::errors::Error;
 use msi_text::stringpool::StringPool;
 use msi_text::text::Items;
+use msi_value::column::Column;
+use msi_value::parts::{compare_values, is_of_category_binary};
+use msi_value::value::ValueRef;
 use std::alloc::AllocError;
 use std::cmp::Ordering;
 
@@ -30,7 +31,7 @@ fn compare_rows(columns: &[Column], row: &[ValueRef], other: &[ValueRef]) -> Ord
     ensures { result ≡ row_cmp columns.now row.now other.now }
 {
     for i in 0..columns.len() {
-        if columns[i].is_of_category_binary() {
+        if is_of_category_binary(&columns[i]) {
             continue;
         }
         let order = cell_of(row, i).cmp(&cell_of(other, i));
@@ -50,19 +51,6 @@ pub(crate) fn sort_rows(
     ensures err { OnErr result (rows.new.items ≡ rows.old.items) }
 {
     rows.sort_by(|row, other| compare_rows(columns, row.as_slice(), other.as_slice()))
-}
-
-/// How the values of two cells stand to one another. No text is copied.
-pub fn compare_values(pool: &StringPool, cell: ValueRef, other: ValueRef) -> Ordering
-    ensures { result ≡ value_cmp (value_of_cell pool.now.places cell) (value_of_cell pool.now.places other) }
-{
-    match cell {
-        ValueRef::Str(text) => match other {
-            ValueRef::Str(other_text) => pool.get(text).cmp(pool.get(other_text)),
-            _ => cell.cmp(&other),
-        },
-        _ => cell.cmp(&other),
-    }
 }
 
 /// How the values of two cells stand to one another, where a missing cell comes first. No text is copied.

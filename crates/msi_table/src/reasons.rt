@@ -3,5 +3,3 @@
 use msi_text::Reason;
 
 pub(crate) const ROWS_MANY: Reason = Reason("a table has too many rows");
-
-pub(crate) const TYPE_BITS: Reason = Reason("the bits name no type of a column");

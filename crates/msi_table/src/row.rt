@@ -3,16 +3,16 @@
 ghost use Rattle.std.specs.Prelude.{◌≡◌, ◌<◌, ◌==◌, IsTrue, IfOk, Some, is_some, length, slice_get, option_copied};
 ghost use Rattle.std.specs.Iterator.{at_most};
 ghost use Rattle.msi_text.specs.Results.{OnlyMemory};
-ghost use Rattle.msi_table.specs.Columns.{has_column as has_one};
+ghost use Rattle.msi_value.specs.Columns.{has_column as has_one};
 ghost use Rattle.msi_table.specs.Rows.{AreAsWide, GivesRow, value_named};
-ghost use Rattle.msi_table.specs.StoredOrder.{row_values};
+ghost use Rattle.msi_value.specs.CellValues.{row_values};
 
-use crate::column::Column;
-use crate::columns::{column_index, has_column};
-use crate::value::{Value, ValueRef};
 use msi_text::errors::Error;
 use msi_text::stringpool::StringPool;
 use msi_text::text::Items;
+use msi_value::column::Column;
+use msi_value::parts::{column_index, has_column};
+use msi_value::value::{Value, ValueRef};
 use std::alloc::Global;
 use std::marker::Model;
 use std::ops::Index;

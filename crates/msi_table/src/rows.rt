@@ -4,15 +4,16 @@ ghost use Rattle.std.specs.Prelude.{◌≡◌, ◌<◌, ◌≤◌, length, sum, 
 ghost use Rattle.msi_text.specs.Results.{OnlyMemory};
 ghost use Rattle.msi_text.specs.ErrorKind.TheVariants.{InvalidData};
 ghost use Rattle.msi_table.specs.Cells.{widths, row_count as count_of, row_in, rows_in};
-ghost use Rattle.msi_table.specs.Columns.{most_columns, types_of};
-ghost use Rattle.msi_table.specs.Refusals.{FailsWith};
+ghost use Rattle.msi_table.specs.Tables.{most_columns};
+ghost use Rattle.msi_value.specs.Columns.{types_of};
+ghost use Rattle.msi_value.specs.Refusals.{FailsWith};
 
 use crate::cells::{read_cell, width};
-use crate::column::Column;
 use crate::reasons;
-use crate::value::ValueRef;
 use msi_text::errors::{Error, ErrorKind};
 use msi_text::text::Items;
+use msi_value::column::Column;
+use msi_value::value::ValueRef;
 use std::alloc::Global;
 
 /// The most rows that are read.

@@ -2,12 +2,13 @@
 
 ghost use Rattle.std.specs.Prelude.{◌≡◌, ◌≤◌, IfOk, length, option_copied};
 ghost use Rattle.msi_text.specs.Results.{OnlyMemory};
-ghost use Rattle.msi_table.specs.Columns.{column_named, has_column as has_one, key_places, most_columns, table_of};
+ghost use Rattle.msi_value.specs.Columns.{column_named, has_column as has_one, key_places};
+ghost use Rattle.msi_table.specs.Tables.{most_columns, table_of};
 
-use crate::column::Column;
-use crate::columns::{column_index, copied_columns, has_column};
 use msi_text::errors::Error;
 use msi_text::text::{Items, Text};
+use msi_value::column::Column;
+use msi_value::parts::{column_index, copied_columns, has_column};
 use std::alloc::Global;
 use std::marker::Model;
 
@@ -24,7 +25,7 @@ pub struct Table {
 
 impl Model for Table {
     ghost use Rattle.std.specs.Prelude.{◌≤◌, length};
-    ghost use Rattle.msi_table.specs.Columns.{TableDef, most_columns};
+    ghost use Rattle.msi_table.specs.Tables.{TableDef, most_columns};
 
     ghost Value = { TableDef };
 

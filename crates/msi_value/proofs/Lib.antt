@@ -1,0 +1,6 @@
+pub mod ColumnTypesLemmas
+pub mod FittingLemmas
+pub mod StoredValuesLemmas
+pub mod TypeBitsLemmas
+pub mod ValidValuesLemmas
+pub mod WorkedRows

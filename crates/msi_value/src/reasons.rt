@@ -1,0 +1,5 @@
+//! Why the bits of a column are refused: a sentence for each rule.
+
+use msi_text::Reason;
+
+pub(crate) const TYPE_BITS: Reason = Reason("the bits name no type of a column");
