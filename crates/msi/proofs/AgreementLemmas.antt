@@ -5,11 +5,11 @@ use Rattle.std.specs.List.{list_any, AllByRecursion, enumerate_from}
 use Rattle.msi_text.specs.Pool.{Pool, Place, IsPool, forgotten}
 use Rattle.msi_property.specs.Properties.{Properties}
 use Rattle.msi_summary.specs.Summary.{SpellsSummary}
-use Rattle.msi_table.specs.declared.value.ValueRef.{ValueRef}
-use Rattle.msi_table.specs.declared.value.Value.{Value}
-use Rattle.msi_table.specs.Columns.{ColumnDef, types_of}
+use Rattle.msi_value.specs.declared.value.ValueRef.{ValueRef}
+use Rattle.msi_value.specs.declared.value.Value.{Value}
+use Rattle.msi_value.specs.Columns.{ColumnDef, types_of}
 use Rattle.msi_table.specs.Cells.{rows_in}
-use Rattle.msi_table.specs.StoredOrder.{row_values}
+use Rattle.msi_value.specs.CellValues.{row_values}
 use Rattle.msi_schema.specs.Keys.{table_key, summary_key, string_pool_name, string_data_name}
 use Rattle.msi_schema.specs.System.{tables_name, columns_name, validation_name, tables_columns, columns_columns, validation_columns}
 use Rattle.msi_schema.specs.Schema.{SchemaRows, schema_of}

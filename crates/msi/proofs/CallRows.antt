@@ -4,11 +4,11 @@ use Rattle.msi_text.specs.ErrorKind.{ErrorKind}
 use Rattle.msi_text.specs.ErrorKind.TheVariants.{AlreadyExists, InvalidInput}
 use Rattle.msi_text.specs.Pool.{Place, pool_stream}
 use Rattle.msi_text.specs.FirstFit.{taken}
-use Rattle.msi_table.specs.declared.value.Value.{Value}
-use Rattle.msi_table.specs.declared.value.Value.TheVariants.{Int, Str}
-use Rattle.msi_table.specs.declared.column.ColumnType.TheVariants.{Int16, Int32}
-use Rattle.msi_table.specs.declared.column.ColumnType.TheVariants as coltype
-use Rattle.msi_table.specs.Columns.{ColumnDef}
+use Rattle.msi_value.specs.declared.value.Value.{Value}
+use Rattle.msi_value.specs.declared.value.Value.TheVariants.{Int, Str}
+use Rattle.msi_value.specs.declared.column.ColumnType.TheVariants.{Int16, Int32}
+use Rattle.msi_value.specs.declared.column.ColumnType.TheVariants as coltype
+use Rattle.msi_value.specs.Columns.{ColumnDef}
 use Rattle.msi_schema.specs.Keys.{table_key}
 use Rattle.msi_changes.specs.Database.{is_sound}
 use Rattle.msi_query.specs.Queries.{table}

@@ -3,7 +3,7 @@ use Rattle.std.proofs.Common.{◌≡◌, ℕ, true, false, not, ◌||◌, List, 
 use Rattle.std.specs.Prelude.{Result, Ok, Err}
 use Rattle.msi_text.specs.ErrorKind.{ErrorKind}
 use Rattle.msi_text.specs.ErrorKind.TheVariants.{InvalidData, InvalidInput}
-use Rattle.msi_table.specs.Columns.{ColumnDef}
+use Rattle.msi_value.specs.Columns.{ColumnDef}
 use Rattle.msi_query.specs.Queries.{InsertQuery, UpdateQuery, DeleteQuery}
 use Rattle.msi_relation.specs.Refusals.{IsRefusal, unless_refused, ◌>>=◌}
 use Rattle.msi_changes.specs.Changes.{Change, sound_refusal}

@@ -3,8 +3,8 @@ use Rattle.std.proofs.Common.{◌≡◌, true, false, List, [], Option, Some, No
 use Rattle.std.specs.List.{AllByRecursion}
 use Rattle.std.proofs.lemmas.Bool.{true≢false}
 use Rattle.msi_text.specs.Lists.{has_pair}
-use Rattle.msi_table.specs.declared.value.Value.{Value}
-use Rattle.msi_table.specs.StoredOrder.{row_values}
+use Rattle.msi_value.specs.declared.value.Value.{Value}
+use Rattle.msi_value.specs.CellValues.{row_values}
 use Rattle.msi_compound_write.specs.LayoutLaw.{IsName}
 use Rattle.msi_changes.specs.Database.{CountsAreExact, is_sound, rows_of}
 use Rattle.msi_changes.specs.Keyed.{key_of, same_key}

@@ -10,8 +10,8 @@ use Rattle.msi_pool.proofs.ReadStreamLemmas.{one_pool}
 use Rattle.msi_property.specs.Properties.{Properties}
 use Rattle.msi_summary.specs.Summary.{SpellsSummary}
 use Rattle.msi_property.proofs.ReadBackLemmas.{only_one_set}
-use Rattle.msi_table.specs.declared.value.ValueRef.{ValueRef}
-use Rattle.msi_table.specs.Columns.{ColumnDef}
+use Rattle.msi_value.specs.declared.value.ValueRef.{ValueRef}
+use Rattle.msi_value.specs.Columns.{ColumnDef}
 use Rattle.msi_relation.specs.Rows.{TableCells}
 use Rattle.msi_compound.specs.declared.contents.Contents.{Contents}
 use Rattle.msi_schema.specs.Keys.{table_key, summary_key, string_pool_name, string_data_name}

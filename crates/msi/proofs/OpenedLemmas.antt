@@ -10,7 +10,8 @@ use Rattle.msi_text.specs.Pool.{Pool, Place, Entry, CountsFit, SpellsEntries, Sp
 use Rattle.msi_property.specs.Properties.{Properties}
 use Rattle.msi_summary.specs.Summary.{SpellsSummary}
 use Rattle.msi_property.proofs.KeptSetLemmas.{IsKept-spelled}
-use Rattle.msi_table.specs.Columns.{ColumnDef, TableDef}
+use Rattle.msi_value.specs.Columns.{ColumnDef}
+use Rattle.msi_table.specs.Tables.{TableDef}
 use Rattle.msi_compound.specs.declared.contents.Contents.{Contents}
 use Rattle.msi_compound.specs.Container.{Holds}
 use Rattle.msi_schema.specs.Keys.{table_key, summary_key, string_pool_name, string_data_name}

@@ -8,7 +8,8 @@ use Rattle.msi_text.specs.ErrorKind.{ErrorKind}
 use Rattle.msi_text.specs.ErrorKind.TheVariants.{InvalidData, NotFound}
 use Rattle.msi_text.specs.Pool.{Pool, with_named_texts}
 use Rattle.msi_property.specs.Properties.{Properties}
-use Rattle.msi_table.specs.Columns.{ColumnDef, TableDef}
+use Rattle.msi_value.specs.Columns.{ColumnDef}
+use Rattle.msi_table.specs.Tables.{TableDef}
 use Rattle.msi_compound.specs.declared.contents.Contents.{Contents}
 use Rattle.msi_compound.specs.Container.{Holds}
 use Rattle.msi_schema.specs.Keys.{table_key, string_pool_name, string_data_name}

@@ -6,10 +6,10 @@ use Rattle.msi_text.specs.Categories.{all_categories, category_name}
 use Rattle.std.specs.List.{list_all}
 use Rattle.std.specs.Option.{option_map_or}
 use Rattle.std.specs.Ordering.{int_cmp, is_eq}
-use Rattle.msi_table.specs.declared.value.Value.TheVariants.{Str}
-use Rattle.msi_table.specs.declared.column.ColumnType.TheVariants.{Int16, Int32}
-use Rattle.msi_table.specs.declared.column.ColumnType.TheVariants as coltype
-use Rattle.msi_table.specs.Columns.{ColumnDef, type_bits}
+use Rattle.msi_value.specs.declared.value.Value.TheVariants.{Str}
+use Rattle.msi_value.specs.declared.column.ColumnType.TheVariants.{Int16, Int32}
+use Rattle.msi_value.specs.declared.column.ColumnType.TheVariants as coltype
+use Rattle.msi_value.specs.Columns.{ColumnDef, type_bits}
 use Rattle.msi_changes.specs.Database.{has_table}
 use Rattle.msi.specs.declared.kinds.PackageType.TheVariants as kind
 use Rattle.msi_schema.specs.System.{plain_column, key, nullable, one_of, in_range, of_category}

@@ -3,8 +3,9 @@ use Rattle.std.specs.Prelude.{ℕ, Bool, List, Option, ℤ, Result}
 use Rattle.msi_text.specs.CodePage.{CodePage}
 use Rattle.msi_text.specs.ErrorKind.{ErrorKind}
 use Rattle.msi_summary.specs.Summary.{TextProperty, NumberProperty, TimeProperty}
-use Rattle.msi_table.specs.declared.value.Value.{Value}
-use Rattle.msi_table.specs.Columns.{TableDef, ColumnDef}
+use Rattle.msi_value.specs.declared.value.Value.{Value}
+use Rattle.msi_table.specs.Tables.{TableDef}
+use Rattle.msi_value.specs.Columns.{ColumnDef}
 use Rattle.msi_query.specs.Queries.{Query, InsertQuery, UpdateQuery, DeleteQuery}
 use Rattle.msi.specs.declared.kinds.PackageType.{PackageType}
 

@@ -12,12 +12,12 @@ use Rattle.msi_text.specs.ErrorKind.{ErrorKind}
 use Rattle.msi_text.specs.ErrorKind.TheVariants.{AlreadyExists, InvalidData, InvalidInput}
 use Rattle.msi_text.specs.Lists.{has_pair, list_cmp}
 use Rattle.msi_text.specs.Pool.{Place}
-use Rattle.msi_table.specs.declared.value.Value.{Value}
-use Rattle.msi_table.specs.declared.value.Value.TheVariants.{Null, Str}
-use Rattle.msi_table.specs.declared.column.ColumnType.{ColumnType}
-use Rattle.msi_table.specs.declared.column.ColumnType.TheVariants as coltype
-use Rattle.msi_table.specs.Columns.{ColumnDef, HasShortLength, IsPlainIfBinary}
-use Rattle.msi_table.specs.OrderLaws.{value_cmp-total}
+use Rattle.msi_value.specs.declared.value.Value.{Value}
+use Rattle.msi_value.specs.declared.value.Value.TheVariants.{Null, Str}
+use Rattle.msi_value.specs.declared.column.ColumnType.{ColumnType}
+use Rattle.msi_value.specs.declared.column.ColumnType.TheVariants as coltype
+use Rattle.msi_value.specs.Columns.{ColumnDef, HasShortLength, IsPlainIfBinary}
+use Rattle.msi_value.specs.OrderLaws.{value_cmp-total}
 use Rattle.msi_relation.specs.Refusals.{Refusals, first_refusal}
 use Rattle.msi_changes.specs.Database.{Database, are_alike, rows_of, same_bool}
 use Rattle.msi_relation.specs.Rows.{TableCells}

@@ -4,12 +4,13 @@ use Rattle.std.specs.Prelude.{◌*◌, ◌/◌, nat_le, if◌then◌else◌, Opt
 use Rattle.std.specs.Option.{option_map_or}
 use Rattle.std.specs.List.{flat_map}
 use Rattle.msi_text.specs.Lists.{tabulated}
-use Rattle.msi_table.specs.declared.column.ColumnType.{ColumnType}
-use Rattle.msi_table.specs.declared.column.ColumnType.TheVariants as coltype
-use Rattle.msi_table.specs.declared.value.ValueRef.{ValueRef}
-use Rattle.msi_table.specs.declared.value.ValueRef.TheVariants as cell
-use Rattle.msi_table.specs.Cells.{cell_at, cell_bytes, cell_in, cell_of, cell_place, column_bytes, row_count, rows_in, table_bytes, width, widths}
-use Rattle.msi_table.specs.Columns.{ColumnDef, types_of}
+use Rattle.msi_value.specs.declared.column.ColumnType.{ColumnType}
+use Rattle.msi_value.specs.declared.column.ColumnType.TheVariants as coltype
+use Rattle.msi_value.specs.declared.value.ValueRef.{ValueRef}
+use Rattle.msi_value.specs.declared.value.ValueRef.TheVariants as cell
+use Rattle.msi_table.specs.Cells.{cell_at, cell_bytes, cell_in, cell_place, column_bytes, row_count, rows_in, table_bytes, width, widths}
+use Rattle.msi_value.specs.Fitting.{cell_of}
+use Rattle.msi_value.specs.Columns.{ColumnDef, types_of}
 use Rattle.msi_changes.specs.Database.{are_alike, same_kind}
 use Rattle.msi_schema.proofs.ListLemmas.{and_true}
 use Rattle.std.proofs.lemmas.Option.{slice_get-map}

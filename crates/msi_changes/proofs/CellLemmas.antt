@@ -7,11 +7,11 @@ use Rattle.std.proofs.lemmas.Option.{same_Some, cond_some}
 use Rattle.msi_text.specs.Pool.{Place}
 use Rattle.msi_text.specs.FirstFit.{most_places, first_fit, with_text_at, taken, given_back, count_of, lowered}
 use Rattle.msi_text.specs.FirstFitLaws.{TakenPlacesHoldTheirText, GivenBackTakesOne}
-use Rattle.msi_table.specs.declared.value.Value.{Value}
-use Rattle.msi_table.specs.declared.value.Value.TheVariants.{Null, Int, Str, Binary}
-use Rattle.msi_table.specs.declared.value.ValueRef.{ValueRef}
-use Rattle.msi_table.specs.declared.value.ValueRef.TheVariants as cell
-use Rattle.msi_table.specs.Cells.{value_of_cell}
+use Rattle.msi_value.specs.declared.value.Value.{Value}
+use Rattle.msi_value.specs.declared.value.Value.TheVariants.{Null, Int, Str, Binary}
+use Rattle.msi_value.specs.declared.value.ValueRef.{ValueRef}
+use Rattle.msi_value.specs.declared.value.ValueRef.TheVariants as cell
+use Rattle.msi_value.specs.CellValues.{value_of_cell}
 use Rattle.msi_changes.specs.Changes.{PoolInUse}
 use Rattle.msi_changes.specs.Texts.{cell_put, cell_released}
 use Rattle.msi_schema.proofs.AccountLemmas.{Uses, none, once, ◌⊕◌, Enough, Moved, unmoved, taken_moved, taken_text, back_moved, room_at, named_pos}

@@ -6,9 +6,9 @@ use Rattle.std.proofs.lemmas.Bool.Decides.{nat_tests}
 use Rattle.msi_text.specs.FirstFit.{most_places}
 use Rattle.msi_text.specs.FirstFitLaws.{TakenPlacesHoldTheirText, GivenBackTakesOne}
 use Rattle.msi_text.specs.ErrorKind.TheVariants.{InvalidInput}
-use Rattle.msi_table.specs.declared.value.Value.{Value}
-use Rattle.msi_table.specs.declared.value.Value.TheVariants.{Str}
-use Rattle.msi_table.specs.Columns.{ColumnDef}
+use Rattle.msi_value.specs.declared.value.Value.{Value}
+use Rattle.msi_value.specs.declared.value.Value.TheVariants.{Str}
+use Rattle.msi_value.specs.Columns.{ColumnDef}
 use Rattle.msi_relation.specs.Refusals.{first_refusal}
 use Rattle.msi_schema.specs.Keys.{is_table_name}
 use Rattle.msi_changes.specs.Keyed.{in_key_order}

@@ -1,7 +1,7 @@
 -- What follows for columns from their being accepted.
 use Rattle.std.proofs.Common.{◌≡◌, false, List, [], ◌∷◌}
 use Rattle.std.specs.List.{AllByRecursion, list_any}
-use Rattle.msi_table.specs.Columns.{ColumnDef, HasShortLength}
+use Rattle.msi_value.specs.Columns.{ColumnDef, HasShortLength}
 use Rattle.msi_schema.proofs.ListLemmas.{or_false}
 use Rattle.msi_changes.specs.Create.{is_too_long}
 use Rattle.msi_changes.proofs.AcceptedLemmas.{short_length}

@@ -4,8 +4,9 @@ use Rattle.std.proofs.lemmas.Bool.{cases_Bool}
 use Rattle.msi_text.specs.ErrorKind.{ErrorKind}
 use Rattle.msi_text.specs.ErrorKind.TheVariants.{InvalidData, InvalidInput, NotFound}
 use Rattle.msi_text.specs.FirstFitLaws.{TakenPlacesHoldTheirText, GivenBackTakesOne}
-use Rattle.msi_table.specs.declared.value.ValueRef.{ValueRef}
-use Rattle.msi_table.specs.StoredOrder.{row_values, row_cmp, in_stored_order}
+use Rattle.msi_value.specs.declared.value.ValueRef.{ValueRef}
+use Rattle.msi_value.specs.CellValues.{row_values}
+use Rattle.msi_table.specs.StoredOrder.{row_cmp, in_stored_order}
 use Rattle.msi_query.specs.Queries.{DeleteQuery}
 use Rattle.msi_expression.specs.Conditions.{meets}
 use Rattle.msi_relation.specs.Selection.{has_columns, condition_names}

@@ -4,9 +4,9 @@ use Rattle.std.specs.Prelude.{nat_lt, ◌==◌, zip, codes, position, set, optio
 use Rattle.std.specs.List.{AllByRecursion, prefix_len, list_all, list_any}
 use Rattle.std.proofs.lemmas.List.{take-set-le}
 use Rattle.msi_text.specs.Lists.{all_present, has_pair, tabulated}
-use Rattle.msi_table.specs.declared.value.Value.{Value}
-use Rattle.msi_table.specs.declared.value.Value.TheVariants.{Null}
-use Rattle.msi_table.specs.Columns.{ColumnDef, begun_column, column_index, column_of_bits}
+use Rattle.msi_value.specs.declared.value.Value.{Value}
+use Rattle.msi_value.specs.declared.value.Value.TheVariants.{Null}
+use Rattle.msi_value.specs.Columns.{ColumnDef, begun_column, column_index, column_of_bits}
 use Rattle.msi_query.specs.Queries.{UpdateQuery}
 use Rattle.msi_expression.specs.Conditions.{meets}
 use Rattle.msi_schema.specs.Keys.{is_pool_name}

@@ -8,10 +8,10 @@ use Rattle.std.proofs.lemmas.Bool.{cases_Bool}
 use Rattle.std.proofs.lemmas.Option.{same_Some}
 use Rattle.msi_text.specs.Pool.{Place}
 use Rattle.msi_text.specs.Lists.{list_cmp, has_pair, stable_sort}
-use Rattle.msi_table.specs.declared.value.Value.{Value}
-use Rattle.msi_table.specs.declared.value.ValueRef.{ValueRef}
-use Rattle.msi_table.specs.Columns.{ColumnDef}
-use Rattle.msi_table.specs.StoredOrder.{row_values}
+use Rattle.msi_value.specs.declared.value.Value.{Value}
+use Rattle.msi_value.specs.declared.value.ValueRef.{ValueRef}
+use Rattle.msi_value.specs.Columns.{ColumnDef}
+use Rattle.msi_value.specs.CellValues.{row_values}
 use Rattle.msi_relation.specs.Selection.{TableValues}
 use Rattle.msi_changes.specs.Keyed.{key_of, same_key}
 use Rattle.msi_changes.specs.Database.{Database, table_at}

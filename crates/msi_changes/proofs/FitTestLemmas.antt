@@ -4,13 +4,13 @@ use Rattle.std.specs.Prelude.{IsSomeAnd}
 use Rattle.std.specs.List.{AllByRecursion, list_all}
 use Rattle.std.proofs.lemmas.Bool.{and_parts}
 use Rattle.std.proofs.lemmas.Bool.Decides.{nat_tests}
-use Rattle.msi_table.specs.declared.column.ColumnType.{ColumnType}
-use Rattle.msi_table.specs.declared.value.Value.TheVariants.{Int, Str, Binary}
-use Rattle.msi_table.specs.declared.value.ValueRef.{ValueRef}
-use Rattle.msi_table.specs.declared.value.ValueRef.TheVariants as cell
-use Rattle.msi_table.specs.Columns.{types_of}
-use Rattle.msi_table.specs.ReadBack.{FitsColumn, FitsRow, FitsTable, reference_bound}
-use Rattle.msi_table.specs.ValidValues.{fits_type}
+use Rattle.msi_value.specs.declared.column.ColumnType.{ColumnType}
+use Rattle.msi_value.specs.declared.value.Value.TheVariants.{Int, Str, Binary}
+use Rattle.msi_value.specs.declared.value.ValueRef.{ValueRef}
+use Rattle.msi_value.specs.declared.value.ValueRef.TheVariants as cell
+use Rattle.msi_value.specs.Columns.{types_of}
+use Rattle.msi_value.specs.Fitting.{FitsColumn, FitsRow, FitsTable, reference_bound}
+use Rattle.msi_value.specs.ValidValues.{fits_type}
 use Rattle.msi_changes.specs.Database.{Database}
 use Rattle.msi_relation.specs.Rows.{TableCells}
 use Rattle.msi_schema.specs.System.{validation_columns}

@@ -8,11 +8,12 @@ use Rattle.std.proofs.lemmas.List.Sorted.{IsPermutation-trans}
 use Rattle.msi_text.specs.ErrorKind.TheVariants.{InvalidData, InvalidInput, NotFound}
 use Rattle.msi_text.specs.FirstFitLaws.{TakenPlacesHoldTheirText, GivenBackTakesOne}
 use Rattle.msi_text.specs.Lists.{has_pair}
-use Rattle.msi_table.specs.declared.value.Value.{Value}
-use Rattle.msi_table.specs.declared.value.ValueRef.{ValueRef}
-use Rattle.msi_table.specs.Columns.{ColumnDef}
-use Rattle.msi_table.specs.ValidValues.{is_valid_value}
-use Rattle.msi_table.specs.StoredOrder.{row_values, row_cmp, in_stored_order}
+use Rattle.msi_value.specs.declared.value.Value.{Value}
+use Rattle.msi_value.specs.declared.value.ValueRef.{ValueRef}
+use Rattle.msi_value.specs.Columns.{ColumnDef}
+use Rattle.msi_value.specs.ValidValues.{is_valid_value}
+use Rattle.msi_value.specs.CellValues.{row_values}
+use Rattle.msi_table.specs.StoredOrder.{row_cmp, in_stored_order}
 use Rattle.msi_relation.specs.Refusals.{Refusals, first_refusal, unless_refused, or_refused, ◌>>=◌}
 use Rattle.msi_changes.specs.Keyed.{key_of, same_key, key_cmp, in_key_order}
 use Rattle.msi_changes.specs.Database.{Database, table_at, rows_of, is_sound, CountsAreExact}

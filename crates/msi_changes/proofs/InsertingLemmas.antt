@@ -7,9 +7,9 @@ use Rattle.msi_text.specs.ErrorKind.TheVariants.{InvalidInput}
 use Rattle.msi_text.specs.Pool.{Place}
 use Rattle.msi_relation.specs.Refusals.{Refusals, IsRefusal, first_refusal, or_refused, unless_refused}
 use Rattle.msi_relation.specs.Rows.{TableCells}
-use Rattle.msi_table.specs.declared.value.Value.{Value}
-use Rattle.msi_table.specs.declared.value.ValueRef.{ValueRef}
-use Rattle.msi_table.specs.Columns.{ColumnDef}
+use Rattle.msi_value.specs.declared.value.Value.{Value}
+use Rattle.msi_value.specs.declared.value.ValueRef.{ValueRef}
+use Rattle.msi_value.specs.Columns.{ColumnDef}
 use Rattle.msi_changes.specs.Changes.{Change, PoolInUse, pool_of, with_stored}
 use Rattle.msi_changes.specs.Database.{rows_of, table_at}
 use Rattle.msi_changes.specs.Insert.{cells_added, row_refusals, rows_added, rows_inserted}

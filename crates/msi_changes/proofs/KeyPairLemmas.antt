@@ -5,9 +5,9 @@ use Rattle.std.specs.Ordering.{is_lt, is_eq, ordering_reverse}
 use Rattle.std.specs.Cmp.Lexicographic.{slice_cmp, lists_total}
 use Rattle.std.proofs.lemmas.Bool.{cases_Bool, or_parts, or_from}
 use Rattle.msi_text.specs.Lists.{has_pair, placed, stable_sort}
-use Rattle.msi_table.specs.declared.value.Value.{Value}
-use Rattle.msi_table.specs.Values.{value_cmp}
-use Rattle.msi_table.specs.OrderLaws.{value_cmp-total}
+use Rattle.msi_value.specs.declared.value.Value.{Value}
+use Rattle.msi_value.specs.Values.{value_cmp}
+use Rattle.msi_value.specs.OrderLaws.{value_cmp-total}
 use Rattle.msi_changes.specs.Keyed.{same_key}
 
 turned_eq : (r : Ordering) → is_eq (ordering_reverse r) ≡ is_eq r

@@ -10,9 +10,9 @@ use Rattle.msi_text.specs.ErrorKind.{ErrorKind}
 use Rattle.msi_text.specs.ErrorKind.TheVariants.{AlreadyExists, InvalidInput}
 use Rattle.msi_text.specs.Lists.{has_pair}
 use Rattle.msi_relation.specs.Refusals.{IsRefusal, Refusals, first_refusal, unless, unless_refused}
-use Rattle.msi_table.specs.declared.value.Value.{Value}
-use Rattle.msi_table.specs.Columns.{ColumnDef}
-use Rattle.msi_table.specs.Values.{value_cmp}
+use Rattle.msi_value.specs.declared.value.Value.{Value}
+use Rattle.msi_value.specs.Columns.{ColumnDef}
+use Rattle.msi_value.specs.Values.{value_cmp}
 use Rattle.msi_changes.specs.Insert.{key_refusals}
 use Rattle.msi_changes.specs.Keyed.{key_of, same_key}
 use Rattle.msi_changes.specs.KeySets.{HasKeys}

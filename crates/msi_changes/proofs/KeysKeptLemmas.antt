@@ -6,10 +6,10 @@ use Rattle.std.proofs.lemmas.Bool.{cases_Bool, or_parts, and_parts}
 use Rattle.std.proofs.lemmas.Option.{none-some, same_Some}
 use Rattle.msi_text.specs.FirstFitLaws.{TakenPlacesHoldTheirText, GivenBackTakesOne}
 use Rattle.msi_text.specs.Lists.{has_pair}
-use Rattle.msi_table.specs.declared.value.Value.{Value}
-use Rattle.msi_table.specs.declared.value.ValueRef.{ValueRef}
-use Rattle.msi_table.specs.Columns.{ColumnDef, column_index, column_named}
-use Rattle.msi_table.specs.ValidValues.{is_valid_value}
+use Rattle.msi_value.specs.declared.value.Value.{Value}
+use Rattle.msi_value.specs.declared.value.ValueRef.{ValueRef}
+use Rattle.msi_value.specs.Columns.{ColumnDef, column_index, column_named}
+use Rattle.msi_value.specs.ValidValues.{is_valid_value}
 use Rattle.msi_table.specs.StoredOrder.{row_cmp, parts_where, in_stored_order}
 use Rattle.msi_query.specs.Queries.{UpdateQuery, DeleteQuery}
 use Rattle.msi_expression.specs.Conditions.{meets}

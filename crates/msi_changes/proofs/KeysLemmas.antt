@@ -6,9 +6,10 @@ use Rattle.std.proofs.lemmas.List.{map-append}
 use Rattle.msi_text.specs.ErrorKind.TheVariants.{AlreadyExists, InvalidData, InvalidInput}
 use Rattle.msi_text.specs.FirstFitLaws.{TakenPlacesHoldTheirText, GivenBackTakesOne}
 use Rattle.msi_text.specs.Lists.{has_pair}
-use Rattle.msi_table.specs.declared.value.Value.{Value}
-use Rattle.msi_table.specs.declared.value.ValueRef.{ValueRef}
-use Rattle.msi_table.specs.StoredOrder.{row_values, row_cmp, in_stored_order}
+use Rattle.msi_value.specs.declared.value.Value.{Value}
+use Rattle.msi_value.specs.declared.value.ValueRef.{ValueRef}
+use Rattle.msi_value.specs.CellValues.{row_values}
+use Rattle.msi_table.specs.StoredOrder.{row_cmp, in_stored_order}
 use Rattle.msi_relation.specs.Refusals.{first_refusal}
 use Rattle.msi_changes.specs.Keyed.{key_of, same_key, key_cmp, in_key_order}
 use Rattle.msi_changes.specs.Database.{rows_of, is_sound}

@@ -18,7 +18,7 @@ use Rattle.msi_changes.specs.Delete.{delete_rows}
 use Rattle.msi_changes.specs.Create.{create_table}
 use Rattle.msi_changes.specs.Drop.{drop_table}
 use Rattle.msi_changes.specs.Laws.{rows_at, OthersStay, KeysAreDistinct, IsChange, inserted, updated, deleted, created, dropped, Keeps, InsertAddsItsRows, UpdateSetsItsRows, DeleteRemovesItsRows, ChangesKeep, TableChangesKeep, CountsTellTexts, RowsFit}
-use Rattle.msi_table.specs.Columns.{ColumnDef}
+use Rattle.msi_value.specs.Columns.{ColumnDef}
 use Rattle.msi_changes.proofs.KeysLemmas.{inserted_distinct}
 use Rattle.msi_changes.proofs.KeysKeptLemmas.{delete_distinct, update_distinct}
 use Rattle.msi_changes.proofs.CreateLemmas.{create_keeps}

@@ -12,16 +12,16 @@ use Rattle.std.proofs.lemmas.List.Sorted.{IsPermutation-sym}
 use Rattle.std.proofs.lemmas.Option.{same_Some}
 use Rattle.msi_text.specs.Lists.{list_cmp}
 use Rattle.msi_text.specs.Pool.{Place}
-use Rattle.msi_table.specs.declared.value.Value.{Value}
-use Rattle.msi_table.specs.declared.value.Value.TheVariants.{Null}
-use Rattle.msi_table.specs.declared.value.ValueRef.{ValueRef}
-use Rattle.msi_table.specs.Cells.{cell_of, value_of_cell}
-use Rattle.msi_table.specs.Columns.{ColumnDef, types_of}
-use Rattle.msi_table.specs.ReadBack.{FitsRow, FitsTable}
+use Rattle.msi_value.specs.declared.value.Value.{Value}
+use Rattle.msi_value.specs.declared.value.Value.TheVariants.{Null}
+use Rattle.msi_value.specs.declared.value.ValueRef.{ValueRef}
+use Rattle.msi_value.specs.Fitting.{cell_of, FitsRow, FitsTable}
+use Rattle.msi_value.specs.CellValues.{value_of_cell, row_values}
+use Rattle.msi_value.specs.Columns.{ColumnDef, types_of, is_of_category_binary}
 use Rattle.msi_table.specs.SortedRows.{HoldsNumbers}
 use Rattle.msi_table.specs.SortedRows as sorted
-use Rattle.msi_table.specs.StoredOrder.{in_stored_order, is_of_category_binary, row_cmp, row_values}
-use Rattle.msi_table.specs.Values.{value_cmp}
+use Rattle.msi_table.specs.StoredOrder.{in_stored_order, row_cmp}
+use Rattle.msi_value.specs.Values.{value_cmp}
 use Rattle.msi_relation.specs.Rows.{TableCells}
 use Rattle.msi_schema.proofs.SortLemmas.{sort_moves}
 use Rattle.msi_changes.specs.Database.{Database, table_at, rows_of}

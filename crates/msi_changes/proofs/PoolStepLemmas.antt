@@ -8,10 +8,10 @@ use Rattle.std.proofs.lemmas.Option.{same_Some, option_and_then_some}
 use Rattle.msi_text.specs.Pool.{Place, PlacesWritten}
 use Rattle.msi_text.specs.FirstFit.{count_of, taken, given_back}
 use Rattle.msi_text.specs.FirstFitLaws.{TakenPlacesHoldTheirText, GivenBackTakesOne, Takes, GivesBack, count_at, text_at, place_at}
-use Rattle.msi_table.specs.declared.value.Value.{Value}
-use Rattle.msi_table.specs.declared.value.Value.TheVariants.{Null, Int, Str, Binary}
-use Rattle.msi_table.specs.declared.value.ValueRef.{ValueRef}
-use Rattle.msi_table.specs.declared.value.ValueRef.TheVariants as cell
+use Rattle.msi_value.specs.declared.value.Value.{Value}
+use Rattle.msi_value.specs.declared.value.Value.TheVariants.{Null, Int, Str, Binary}
+use Rattle.msi_value.specs.declared.value.ValueRef.{ValueRef}
+use Rattle.msi_value.specs.declared.value.ValueRef.TheVariants as cell
 use Rattle.msi_changes.specs.Changes.{PoolInUse}
 use Rattle.msi_changes.specs.Texts.{cell_put, cell_released, in_turn, rows_put, rows_released}
 use Rattle.msi_schema.proofs.AccountLemmas.{by_number}

@@ -11,16 +11,16 @@ use Rattle.std.proofs.lemmas.Option.{same_Some, option_and_then_some}
 use Rattle.msi_text.specs.FirstFit.{most_places, taken}
 use Rattle.msi_text.specs.FirstFitLaws.{TakenPlacesHoldTheirText}
 use Rattle.msi_text.specs.Pool.{Place}
-use Rattle.msi_table.specs.declared.column.ColumnType.{ColumnType}
-use Rattle.msi_table.specs.declared.column.ColumnType.TheVariants as coltype
-use Rattle.msi_table.specs.declared.value.Value.{Value}
-use Rattle.msi_table.specs.declared.value.Value.TheVariants.{Null, Int, Str, Binary}
-use Rattle.msi_table.specs.declared.value.ValueRef.{ValueRef}
-use Rattle.msi_table.specs.declared.value.ValueRef.TheVariants as cell
-use Rattle.msi_table.specs.Columns.{ColumnDef, types_of}
-use Rattle.msi_table.specs.ReadBack.{FitsColumn, FitsRow, FitsTable, reference_bound}
+use Rattle.msi_value.specs.declared.column.ColumnType.{ColumnType}
+use Rattle.msi_value.specs.declared.column.ColumnType.TheVariants as coltype
+use Rattle.msi_value.specs.declared.value.Value.{Value}
+use Rattle.msi_value.specs.declared.value.Value.TheVariants.{Null, Int, Str, Binary}
+use Rattle.msi_value.specs.declared.value.ValueRef.{ValueRef}
+use Rattle.msi_value.specs.declared.value.ValueRef.TheVariants as cell
+use Rattle.msi_value.specs.Columns.{ColumnDef, types_of}
+use Rattle.msi_value.specs.Fitting.{FitsColumn, FitsRow, FitsTable, reference_bound}
 use Rattle.msi_table.specs.StoredOrder.{in_stored_order}
-use Rattle.msi_table.specs.ValidValues.{fits_type, is_valid_value}
+use Rattle.msi_value.specs.ValidValues.{fits_type, is_valid_value}
 use Rattle.msi_table.proofs.SortedFitsLemmas.{sorted_fits}
 use Rattle.msi_changes.specs.Keyed.{in_key_order, key_cmp}
 use Rattle.msi_changes.specs.Changes.{PoolInUse}

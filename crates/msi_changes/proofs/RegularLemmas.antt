@@ -1,7 +1,7 @@
 -- What a database keeps beside its soundness.
 use Rattle.std.specs.List.{AllByRecursion}
-use Rattle.msi_table.specs.Columns.{types_of}
-use Rattle.msi_table.specs.ReadBack.{FitsRow}
+use Rattle.msi_value.specs.Columns.{types_of}
+use Rattle.msi_value.specs.Fitting.{FitsRow}
 use Rattle.msi_schema.specs.System.{validation_columns}
 use Rattle.msi_changes.specs.Database.{Database}
 use Rattle.msi_changes.proofs.StoredLemmas.{WellFormed}

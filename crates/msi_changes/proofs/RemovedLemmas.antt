@@ -4,8 +4,9 @@ use Rattle.std.specs.List.{list_all}
 use Rattle.std.proofs.lemmas.Bool.{cases_Bool, and_parts, and_from}
 use Rattle.msi_text.specs.FirstFit.{most_places}
 use Rattle.msi_text.specs.FirstFitLaws.{TakenPlacesHoldTheirText, GivenBackTakesOne}
-use Rattle.msi_table.specs.declared.value.ValueRef.{ValueRef}
-use Rattle.msi_table.specs.StoredOrder.{row_values, row_cmp, in_stored_order}
+use Rattle.msi_value.specs.declared.value.ValueRef.{ValueRef}
+use Rattle.msi_value.specs.CellValues.{row_values}
+use Rattle.msi_table.specs.StoredOrder.{row_cmp, in_stored_order}
 use Rattle.msi_changes.specs.Database.{Database, table_at, rows_of, is_sound, CountsAreExact}
 use Rattle.msi_relation.specs.Rows.{TableCells}
 use Rattle.msi_changes.specs.Changes.{Change, PoolInUse, pool_of}

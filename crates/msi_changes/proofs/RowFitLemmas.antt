@@ -2,9 +2,9 @@
 use Rattle.std.proofs.Common.{◌≡◌, ℕ, ◌+◌, ◌<◌, Bool, ◌&&◌, List, length, get_or, drop, zip, refl, add-one}
 use Rattle.std.proofs.Math.Seq.{drop-cons}
 use Rattle.std.specs.List.{list_all}
-use Rattle.msi_table.specs.declared.value.Value.{Value}
-use Rattle.msi_table.specs.Columns.{ColumnDef}
-use Rattle.msi_table.specs.ValidValues.{is_valid_value}
+use Rattle.msi_value.specs.declared.value.Value.{Value}
+use Rattle.msi_value.specs.Columns.{ColumnDef}
+use Rattle.msi_value.specs.ValidValues.{is_valid_value}
 
 abbrev pub fits_from : List ColumnDef → List Value → ℕ → Bool
 fits_from columns row i = list_all (λ e. is_valid_value e.0 e.1) (zip (drop i columns) (drop i row))

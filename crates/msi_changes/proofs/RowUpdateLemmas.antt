@@ -9,10 +9,10 @@ use Rattle.msi_text.specs.Lists.{has_pair}
 use Rattle.msi_text.specs.Pool.{Place}
 use Rattle.msi_relation.specs.Refusals.{IsRefusal, Refusals, first_refusal, unless_refused}
 use Rattle.msi_relation.specs.Selection.{condition_names, has_columns}
-use Rattle.msi_table.specs.declared.value.Value.{Value}
-use Rattle.msi_table.specs.declared.value.ValueRef.{ValueRef}
-use Rattle.msi_table.specs.Columns.{ColumnDef}
-use Rattle.msi_table.specs.StoredOrder.{row_values}
+use Rattle.msi_value.specs.declared.value.Value.{Value}
+use Rattle.msi_value.specs.declared.value.ValueRef.{ValueRef}
+use Rattle.msi_value.specs.Columns.{ColumnDef}
+use Rattle.msi_value.specs.CellValues.{row_values}
 use Rattle.msi_query.specs.Queries.{UpdateQuery}
 use Rattle.msi_changes.specs.Insert.{table_with}
 use Rattle.msi_changes.specs.Keyed.{key_of, same_key}

@@ -5,12 +5,12 @@ use Rattle.std.proofs.lemmas.Option.{same_Some, option_and_then_some}
 use Rattle.msi_text.specs.Pool.{Place}
 use Rattle.msi_text.specs.FirstFit.{most_places}
 use Rattle.msi_text.specs.FirstFitLaws.{TakenPlacesHoldTheirText, GivenBackTakesOne}
-use Rattle.msi_table.specs.declared.value.Value.{Value}
-use Rattle.msi_table.specs.declared.value.ValueRef.{ValueRef}
-use Rattle.msi_table.specs.declared.value.ValueRef.TheVariants as cell
-use Rattle.msi_table.specs.Columns.{ColumnDef}
-use Rattle.msi_table.specs.Cells.{value_of_cell, cell_of}
-use Rattle.msi_table.specs.StoredOrder.{row_values}
+use Rattle.msi_value.specs.declared.value.Value.{Value}
+use Rattle.msi_value.specs.declared.value.ValueRef.{ValueRef}
+use Rattle.msi_value.specs.declared.value.ValueRef.TheVariants as cell
+use Rattle.msi_value.specs.Columns.{ColumnDef}
+use Rattle.msi_value.specs.CellValues.{value_of_cell, row_values}
+use Rattle.msi_value.specs.Fitting.{cell_of}
 use Rattle.msi_changes.specs.Changes.{PoolInUse}
 use Rattle.msi_changes.specs.Texts.{cell_put, cell_released}
 use Rattle.msi_changes.specs.Update.{index_of, values_set, cells_set}

@@ -12,10 +12,10 @@ use Rattle.msi_text.specs.ErrorKind.{ErrorKind}
 use Rattle.msi_text.specs.ErrorKind.TheVariants.{InvalidInput, NotFound}
 use Rattle.msi_text.specs.Lists.{list_cmp}
 use Rattle.msi_relation.specs.Refusals.{Refusals, first_refusal, or_refused, unless_refused, ◌>>=◌}
-use Rattle.msi_table.specs.declared.value.Value.{Value}
-use Rattle.msi_table.specs.declared.value.Value.TheVariants.{Str}
-use Rattle.msi_table.specs.declared.value.ValueRef.{ValueRef}
-use Rattle.msi_table.specs.Columns.{ColumnDef}
+use Rattle.msi_value.specs.declared.value.Value.{Value}
+use Rattle.msi_value.specs.declared.value.Value.TheVariants.{Str}
+use Rattle.msi_value.specs.declared.value.ValueRef.{ValueRef}
+use Rattle.msi_value.specs.Columns.{ColumnDef}
 use Rattle.msi_schema.specs.System.{columns_name, tables_name, validation_name}
 use Rattle.msi_changes.specs.Keyed.{in_key_order}
 use Rattle.msi_changes.specs.Database.{Database, rows_of, table_at}

@@ -6,8 +6,8 @@ use Rattle.std.specs.FinMap.Entries.{find-where_key}
 use Rattle.msi_text.specs.FirstFitLaws.{TakenPlacesHoldTheirText, GivenBackTakesOne}
 use Rattle.msi_text.specs.Pool.{Place}
 use Rattle.msi_text.specs.Lists.{list_cmp}
-use Rattle.msi_table.specs.declared.value.ValueRef.{ValueRef}
-use Rattle.msi_table.specs.StoredOrder.{row_values}
+use Rattle.msi_value.specs.declared.value.ValueRef.{ValueRef}
+use Rattle.msi_value.specs.CellValues.{row_values}
 use Rattle.msi_relation.specs.Selection.{TableValues}
 use Rattle.msi_changes.specs.Database.{Database, table_at, values_of, is_sound}
 use Rattle.msi_relation.specs.Rows.{TableCells, table_values}

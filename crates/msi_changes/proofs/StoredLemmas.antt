@@ -13,8 +13,8 @@ use Rattle.std.proofs.lemmas.Option.{none-some, same_Some}
 use Rattle.msi_text.specs.Pool.{Place}
 use Rattle.msi_text.specs.FirstFit.{most_places}
 use Rattle.msi_text.specs.Lists.{list_cmp}
-use Rattle.msi_table.specs.declared.value.ValueRef.{ValueRef}
-use Rattle.msi_table.specs.Columns.{ColumnDef}
+use Rattle.msi_value.specs.declared.value.ValueRef.{ValueRef}
+use Rattle.msi_value.specs.Columns.{ColumnDef}
 use Rattle.msi_schema.specs.Keys.{is_table_name}
 use Rattle.msi_schema.specs.System.{validation_name, validation_columns}
 use Rattle.msi_changes.specs.Database.{Database, table_at, with_table, with_places, rows_of, are_alike, CountsAreExact, counts_suffice, names_stay_in_pool, pool_fits_width, tables_are_readable, validation_is_standard, is_sound}

@@ -8,8 +8,8 @@ use Rattle.std.proofs.lemmas.Bool.{cases_Bool}
 use Rattle.std.proofs.lemmas.List.Sums.{sum_by-cons, sum_by-append}
 use Rattle.std.proofs.lemmas.Option.{none-some, same_Some}
 use Rattle.msi_text.specs.Lists.{placed, stable_sort}
-use Rattle.msi_table.specs.declared.value.ValueRef.{ValueRef}
-use Rattle.msi_table.specs.declared.value.ValueRef.TheVariants as cell
+use Rattle.msi_value.specs.declared.value.ValueRef.{ValueRef}
+use Rattle.msi_value.specs.declared.value.ValueRef.TheVariants as cell
 use Rattle.msi_changes.specs.Database.{Database, Tables, rows_of, number_of_cell, numbers_of_rows, cells_naming}
 use Rattle.msi_relation.specs.Rows.{TableCells}
 use Rattle.msi_schema.proofs.AccountLemmas.{Uses, once}

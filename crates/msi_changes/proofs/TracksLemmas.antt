@@ -10,9 +10,9 @@ use Rattle.std.proofs.lemmas.Option.{same_Some, none-some}
 use Rattle.msi_text.specs.FirstFitLaws.{TakenPlacesHoldTheirText, GivenBackTakesOne}
 use Rattle.msi_text.specs.Pool.{Place}
 use Rattle.msi_text.specs.Lists.{list_cmp}
-use Rattle.msi_table.specs.declared.value.ValueRef.{ValueRef}
-use Rattle.msi_table.specs.Columns.{ColumnDef, types_of}
-use Rattle.msi_table.specs.ReadBack.{FitsRow, FitsTable}
+use Rattle.msi_value.specs.declared.value.ValueRef.{ValueRef}
+use Rattle.msi_value.specs.Columns.{ColumnDef, types_of}
+use Rattle.msi_value.specs.Fitting.{FitsRow, FitsTable}
 use Rattle.msi_table.specs.StoredOrder.{in_stored_order}
 use Rattle.msi_table.proofs.SortedFitsLemmas.{sorted_fits}
 use Rattle.msi_schema.specs.Keys.{is_table_name}

@@ -2,7 +2,7 @@
 use Rattle.std.proofs.Common.{◌≡◌, ℕ, true, false, List, [], ◌∷◌, length, refl, ap, ◌∙◌, Some}
 use Rattle.std.specs.Prelude.{◌&&◌, filter, find, bytes_eq}
 use Rattle.std.specs.List.{list_any}
-use Rattle.msi_table.specs.declared.value.Value.{Value}
+use Rattle.msi_value.specs.declared.value.Value.{Value}
 use Rattle.msi_schema.specs.System.{columns_columns, columns_name, is_schema_table, tables_columns, tables_name, validation_columns, validation_name}
 use Rattle.msi_schema.specs.Schema.{SchemaRows, by_name, column_rows, columns_of, describes_column, has_number, is_about, is_null, lacks_value, schema_of, text_at, value_at}
 use Rattle.msi_schema.proofs.ListLemmas.{all_from, all_kept, filter_none, by_test, or_both, or_false}

@@ -12,11 +12,12 @@ use Rattle.msi_text.specs.ErrorKind.TheVariants.{InvalidData, InvalidInput, NotF
 use Rattle.msi_text.specs.Pool.{Place}
 use Rattle.msi_text.specs.FirstFitLaws.{TakenPlacesHoldTheirText, GivenBackTakesOne}
 use Rattle.msi_text.specs.Lists.{has_pair}
-use Rattle.msi_table.specs.declared.value.Value.{Value}
-use Rattle.msi_table.specs.declared.value.ValueRef.{ValueRef}
-use Rattle.msi_table.specs.Columns.{ColumnDef, column_index}
-use Rattle.msi_table.specs.StoredOrder.{row_values, row_cmp, in_stored_order}
-use Rattle.msi_table.specs.ValidValues.{is_valid_value}
+use Rattle.msi_value.specs.declared.value.Value.{Value}
+use Rattle.msi_value.specs.declared.value.ValueRef.{ValueRef}
+use Rattle.msi_value.specs.Columns.{ColumnDef, column_index}
+use Rattle.msi_value.specs.CellValues.{row_values}
+use Rattle.msi_table.specs.StoredOrder.{row_cmp, in_stored_order}
+use Rattle.msi_value.specs.ValidValues.{is_valid_value}
 use Rattle.msi_query.specs.Queries.{UpdateQuery}
 use Rattle.msi_expression.specs.Conditions.{meets}
 use Rattle.msi_relation.specs.Selection.{has_columns, condition_names}

@@ -7,9 +7,9 @@ use Rattle.std.specs.FinMap.{is_sorted, slice_cmp-IsAntisymmetric, nat_cmp-IsAnt
 use Rattle.std.proofs.lemmas.Bool.{cases_Bool}
 use Rattle.msi_text.specs.Pool.{Place}
 use Rattle.msi_text.specs.Lists.{list_cmp}
-use Rattle.msi_table.specs.declared.value.Value.{Value}
-use Rattle.msi_table.specs.declared.value.ValueRef.{ValueRef}
-use Rattle.msi_table.specs.StoredOrder.{row_values}
+use Rattle.msi_value.specs.declared.value.Value.{Value}
+use Rattle.msi_value.specs.declared.value.ValueRef.{ValueRef}
+use Rattle.msi_value.specs.CellValues.{row_values}
 use Rattle.msi_relation.specs.Selection.{TableValues}
 use Rattle.msi_changes.specs.Database.{Database, table_at, rows_of}
 use Rattle.msi_relation.specs.Rows.{TableCells, table_values}

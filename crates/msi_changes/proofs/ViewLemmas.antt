@@ -3,11 +3,11 @@ use Rattle.std.proofs.Common.{◌≡◌, ℕ, ◌+◌, ◌<◌, ◌≤◌, ◌�
 use Rattle.std.specs.Ordering.{ordering_index, ordering_then}
 use Rattle.std.specs.Cmp.Lexicographic.{slice_cmp}
 use Rattle.std.proofs.lemmas.List.{append_assoc, drop_all, drop_more, get_or-map, length-map, map_push}
-use Rattle.msi_table.specs.declared.value.Value.{Value}
-use Rattle.msi_table.specs.declared.value.Value.TheVariants as value
-use Rattle.msi_table.specs.Columns.{ColumnDef}
+use Rattle.msi_value.specs.declared.value.Value.{Value}
+use Rattle.msi_value.specs.declared.value.Value.TheVariants as value
+use Rattle.msi_value.specs.Columns.{ColumnDef}
 use Rattle.msi_table.specs.StoredOrder.{parts_where}
-use Rattle.msi_table.specs.Values.{value_cmp}
+use Rattle.msi_value.specs.Values.{value_cmp}
 use Rattle.msi_changes.specs.declared.views.ValueView.{ValueView}
 use Rattle.msi_changes.specs.declared.views.ValueView.TheVariants as view
 use Rattle.msi_changes.specs.Views.{seen_row, seen_value}

@@ -6,17 +6,17 @@ use Rattle.msi_text.specs.ErrorKind.TheVariants.{AlreadyExists, InvalidInput, No
 use Rattle.msi_text.specs.CategoryRules.{is_identifier}
 use Rattle.msi_text.specs.Lists.{has_pair}
 use Rattle.msi_relation.specs.Refusals.{Refusals, unless_refused, ◌>>=◌}
-use Rattle.msi_table.specs.declared.value.Value.{Value}
-use Rattle.msi_table.specs.declared.value.Value.TheVariants.{Str}
-use Rattle.msi_table.specs.declared.column.ColumnType.{ColumnType}
-use Rattle.msi_table.specs.Columns.{ColumnDef}
+use Rattle.msi_value.specs.declared.value.Value.{Value}
+use Rattle.msi_value.specs.declared.value.Value.TheVariants.{Str}
+use Rattle.msi_value.specs.declared.column.ColumnType.{ColumnType}
+use Rattle.msi_value.specs.Columns.{ColumnDef}
 use Rattle.msi_schema.specs.Keys.{is_table_name}
 use Rattle.msi_schema.specs.System.{tables_name, columns_name, validation_name}
 use Rattle.msi_changes.specs.Database.{Database, table_at, has_table, with_table}
 use Rattle.msi_changes.specs.Changes.{Change, no_change, sound_refusal}
 use Rattle.msi_changes.specs.Insert.{rows_added, rows_inserted}
 use Rattle.msi_schema.specs.Description.{column_rows, validation_rows}
-use Rattle.msi_table.specs.declared.column.ColumnType.TheVariants as coltype
+use Rattle.msi_value.specs.declared.column.ColumnType.TheVariants as coltype
 
 -- the new table has no rows, and its stream is stored anew, so that one that was left over goes
 abbrev pub with_new_table : List ℕ → List ColumnDef → Change → Change

@@ -6,16 +6,16 @@ use Rattle.std.specs.Ordering.{eq_by_cmp}
 use Rattle.msi_text.specs.Pool.{Pool, Place}
 use Rattle.msi_text.specs.FirstFit.{most_places, count_of}
 use Rattle.msi_text.specs.Lists.{list_cmp, tabulated}
-use Rattle.msi_table.specs.declared.value.ValueRef.{ValueRef}
-use Rattle.msi_table.specs.declared.column.ColumnType.{ColumnType}
-use Rattle.msi_table.specs.Columns.{ColumnDef}
+use Rattle.msi_value.specs.declared.value.ValueRef.{ValueRef}
+use Rattle.msi_value.specs.declared.column.ColumnType.{ColumnType}
+use Rattle.msi_value.specs.Columns.{ColumnDef}
 use Rattle.msi_relation.specs.Selection.{TableValues}
 use Rattle.msi_schema.specs.Keys.{is_table_name}
 use Rattle.msi_schema.specs.System.{validation_name, validation_columns}
 use Rattle.msi_relation.specs.Rows.{table_values, TableCells}
 use Rattle.std.specs.Option as options
-use Rattle.msi_table.specs.declared.value.ValueRef.TheVariants as cell
-use Rattle.msi_table.specs.declared.column.ColumnType.TheVariants as coltype
+use Rattle.msi_value.specs.declared.value.ValueRef.TheVariants as cell
+use Rattle.msi_value.specs.declared.column.ColumnType.TheVariants as coltype
 
 -- tables stand in the order of their names
 abbrev pub Tables : Type 0

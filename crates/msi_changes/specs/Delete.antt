@@ -4,8 +4,8 @@ use Rattle.msi_text.specs.ErrorKind.{ErrorKind}
 use Rattle.msi_text.specs.ErrorKind.TheVariants.{InvalidInput, NotFound}
 use Rattle.msi_text.specs.Pool.{Place}
 use Rattle.msi_relation.specs.Refusals.{unless_refused, or_refused, ◌>>=◌}
-use Rattle.msi_table.specs.declared.value.ValueRef.{ValueRef}
-use Rattle.msi_table.specs.StoredOrder.{row_values}
+use Rattle.msi_value.specs.declared.value.ValueRef.{ValueRef}
+use Rattle.msi_value.specs.CellValues.{row_values}
 use Rattle.msi_expression.specs.Expressions.{Expression}
 use Rattle.msi_query.specs.Queries.{DeleteQuery}
 use Rattle.msi_expression.specs.Conditions.{meets}

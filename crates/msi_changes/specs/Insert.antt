@@ -6,11 +6,11 @@ use Rattle.msi_text.specs.ErrorKind.TheVariants.{AlreadyExists, InvalidData, Inv
 use Rattle.msi_text.specs.Lists.{has_pair}
 use Rattle.msi_text.specs.Pool.{Place}
 use Rattle.msi_relation.specs.Refusals.{Refusals, unless_refused, or_refused, ◌>>=◌}
-use Rattle.msi_table.specs.declared.value.Value.{Value}
-use Rattle.msi_table.specs.declared.value.ValueRef.{ValueRef}
-use Rattle.msi_table.specs.Columns.{ColumnDef}
-use Rattle.msi_table.specs.ValidValues.{is_valid_value}
-use Rattle.msi_table.specs.StoredOrder.{row_values}
+use Rattle.msi_value.specs.declared.value.Value.{Value}
+use Rattle.msi_value.specs.declared.value.ValueRef.{ValueRef}
+use Rattle.msi_value.specs.Columns.{ColumnDef}
+use Rattle.msi_value.specs.ValidValues.{is_valid_value}
+use Rattle.msi_value.specs.CellValues.{row_values}
 use Rattle.msi_changes.specs.Keyed.{key_of, same_key, in_key_order}
 use Rattle.msi_query.specs.Queries.{InsertQuery}
 use Rattle.msi_schema.specs.System.{is_system_table}

@@ -6,8 +6,8 @@ use Rattle.std.specs.List.{list_any}
 use Rattle.msi_text.specs.ErrorKind.TheVariants.{InvalidData}
 use Rattle.msi_text.specs.Lists.{has_pair}
 use Rattle.msi_relation.specs.Refusals.{Refusals}
-use Rattle.msi_table.specs.declared.value.Value.{Value}
-use Rattle.msi_table.specs.Values.{value_cmp}
+use Rattle.msi_value.specs.declared.value.Value.{Value}
+use Rattle.msi_value.specs.Values.{value_cmp}
 use Rattle.msi_changes.specs.Insert.{key_refusals}
 use Rattle.msi_changes.specs.Keyed.{same_key}
 

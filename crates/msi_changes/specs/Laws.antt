@@ -6,13 +6,13 @@ use Rattle.std.specs.Ordering.{eq_by_cmp}
 use Rattle.std.specs.List.{sum_by, AllByRecursion}
 use Rattle.msi_text.specs.FirstFitLaws.{text_at}
 use Rattle.msi_text.specs.Lists.{has_pair, list_cmp}
-use Rattle.msi_table.specs.declared.value.Value.{Value}
-use Rattle.msi_table.specs.declared.value.Value.TheVariants.{Null}
-use Rattle.msi_table.specs.Columns.{ColumnDef, types_of}
-use Rattle.msi_table.specs.ReadBack.{FitsRow, FitsTable}
+use Rattle.msi_value.specs.declared.value.Value.{Value}
+use Rattle.msi_value.specs.declared.value.Value.TheVariants.{Null}
+use Rattle.msi_value.specs.Columns.{ColumnDef, types_of, is_of_category_binary}
+use Rattle.msi_value.specs.Fitting.{FitsRow, FitsTable}
 use Rattle.msi_table.specs.SortedRows.{HoldsNumbers}
-use Rattle.msi_table.specs.StoredOrder.{is_of_category_binary, row_values}
-use Rattle.msi_table.specs.Values.{value_cmp}
+use Rattle.msi_value.specs.CellValues.{row_values}
+use Rattle.msi_value.specs.Values.{value_cmp}
 use Rattle.msi_schema.specs.Schema.{SchemaRows, schema_of}
 use Rattle.msi_schema.specs.System.{columns_name, tables_name, validation_columns, validation_name}
 use Rattle.msi_query.specs.Queries.{InsertQuery, UpdateQuery, DeleteQuery}

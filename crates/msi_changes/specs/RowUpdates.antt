@@ -1,9 +1,9 @@
 -- An update of a table's rows, of its parts.
 use Rattle.std.specs.Prelude.{ℕ, Bool, List, Option, option_map, set, if◌then◌else◌}
-use Rattle.msi_table.specs.declared.value.Value.{Value}
-use Rattle.msi_table.specs.declared.value.ValueRef.{ValueRef}
-use Rattle.msi_table.specs.Cells.{cell_of}
-use Rattle.msi_table.specs.Columns.{ColumnDef}
+use Rattle.msi_value.specs.declared.value.Value.{Value}
+use Rattle.msi_value.specs.declared.value.ValueRef.{ValueRef}
+use Rattle.msi_value.specs.Fitting.{cell_of}
+use Rattle.msi_value.specs.Columns.{ColumnDef}
 use Rattle.msi_query.specs.declared.query.update.UpdateParts.{UpdateParts}
 use Rattle.msi_expression.specs.Conditions.{meets}
 use Rattle.msi_query.specs.Queries.{UpdateQuery}

@@ -3,11 +3,11 @@ use Rattle.std.specs.Prelude.{Bool, true, List, [], ◌∷◌, Option, Some, opt
 use Rattle.std.specs.List.{fold}
 use Rattle.msi_text.specs.FirstFit.{taken, given_back}
 use Rattle.msi_text.specs.Pool.{Pool}
-use Rattle.msi_table.specs.declared.value.Value.{Value}
-use Rattle.msi_table.specs.declared.value.Value.TheVariants.{Null, Int, Str, Binary}
-use Rattle.msi_table.specs.declared.value.ValueRef.{ValueRef}
+use Rattle.msi_value.specs.declared.value.Value.{Value}
+use Rattle.msi_value.specs.declared.value.Value.TheVariants.{Null, Int, Str, Binary}
+use Rattle.msi_value.specs.declared.value.ValueRef.{ValueRef}
 use Rattle.msi_changes.specs.Changes.{PoolInUse}
-use Rattle.msi_table.specs.declared.value.ValueRef.TheVariants as cell
+use Rattle.msi_value.specs.declared.value.ValueRef.TheVariants as cell
 
 -- a pool while a change goes on, whole
 pub record UsedPool : Type 0 where

@@ -7,12 +7,12 @@ use Rattle.msi_text.specs.ErrorKind.TheVariants.{AlreadyExists, InvalidInput, No
 use Rattle.msi_text.specs.Lists.{has_pair}
 use Rattle.msi_text.specs.Pool.{Place}
 use Rattle.msi_relation.specs.Refusals.{Refusals, unless_refused, or_refused, ◌>>=◌}
-use Rattle.msi_table.specs.declared.value.Value.{Value}
-use Rattle.msi_table.specs.declared.value.ValueRef.{ValueRef}
-use Rattle.msi_table.specs.Columns.{ColumnDef, column_index, column_named}
-use Rattle.msi_table.specs.Cells.{cell_of}
-use Rattle.msi_table.specs.ValidValues.{is_valid_value}
-use Rattle.msi_table.specs.StoredOrder.{row_values}
+use Rattle.msi_value.specs.declared.value.Value.{Value}
+use Rattle.msi_value.specs.declared.value.ValueRef.{ValueRef}
+use Rattle.msi_value.specs.Columns.{ColumnDef, column_index, column_named}
+use Rattle.msi_value.specs.Fitting.{cell_of}
+use Rattle.msi_value.specs.ValidValues.{is_valid_value}
+use Rattle.msi_value.specs.CellValues.{row_values}
 use Rattle.msi_changes.specs.Keyed.{key_of, same_key}
 use Rattle.msi_query.specs.Queries.{UpdateQuery}
 use Rattle.msi_expression.specs.Conditions.{meets}

@@ -1,7 +1,7 @@
 -- Values that are seen where they lie.
 use Rattle.std.specs.Prelude.{List, map}
-use Rattle.msi_table.specs.declared.value.Value.{Value}
-use Rattle.msi_table.specs.declared.value.Value.TheVariants as value
+use Rattle.msi_value.specs.declared.value.Value.{Value}
+use Rattle.msi_value.specs.declared.value.Value.TheVariants as value
 use Rattle.msi_changes.specs.declared.views.ValueView.{ValueView}
 use Rattle.msi_changes.specs.declared.views.ValueView.TheVariants.{Null, Int, Str, Binary}
 

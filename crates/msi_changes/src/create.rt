@@ -6,7 +6,7 @@ ghost use Rattle.msi_text.specs.CategoryRules.{is_identifier};
 ghost use Rattle.msi_text.specs.ErrorKind.TheVariants.{InvalidInput};
 ghost use Rattle.msi_text.specs.Lists.{has_pair};
 ghost use Rattle.msi_relation.specs.Refusals.{unless_refused};
-ghost use Rattle.msi_table.specs.Columns.{HasShortLength};
+ghost use Rattle.msi_value.specs.Columns.{HasShortLength};
 ghost use Rattle.msi_changes.specs.Create.{column_refusals, columns_are_named, is_binary, is_too_long};
 
 use crate::reasons;

@@ -8,10 +8,10 @@ ghost use Rattle.std.proofs.Common.{refl};
 ghost use Rattle.msi_text.specs.Lists.{has_pair};
 ghost use Rattle.msi_text.specs.Results.{OnlyMemory};
 ghost use Rattle.msi_relation.specs.Refusals.{IsRefusal, first_refusal, unless_refused};
-ghost use Rattle.msi_table.specs.declared.value.Value.{Value as ValueOf};
-ghost use Rattle.msi_table.specs.OrderLaws.{value_cmp-total};
-ghost use Rattle.msi_table.specs.StoredOrder.{row_values};
-ghost use Rattle.msi_table.specs.Values.{value_cmp};
+ghost use Rattle.msi_value.specs.declared.value.Value.{Value as ValueOf};
+ghost use Rattle.msi_value.specs.OrderLaws.{value_cmp-total};
+ghost use Rattle.msi_value.specs.CellValues.{row_values};
+ghost use Rattle.msi_value.specs.Values.{value_cmp};
 ghost use Rattle.msi_changes.specs.Insert.{key_refusals, keys_of as keys_held, table_with};
 ghost use Rattle.msi_changes.specs.Keyed.{key_of, same_key};
 ghost use Rattle.msi_changes.specs.KeySets.{HasKeys, clash_refusals};
@@ -37,7 +37,7 @@ pub(crate) struct Key<'a> {
 
 impl<'a> Model for Key<'a> {
     ghost use Rattle.std.specs.Prelude.{List};
-    ghost use Rattle.msi_table.specs.declared.value.Value.{Value as ValueOf};
+    ghost use Rattle.msi_value.specs.declared.value.Value.{Value as ValueOf};
 
     ghost Value = { List ValueOf };
 

@@ -6,7 +6,7 @@ ghost use Rattle.msi_text.specs.FirstFit.{given_back};
 ghost use Rattle.msi_text.specs.Results.{OnlyMemory};
 ghost use Rattle.msi_text.specs.ErrorKind.TheVariants.{InvalidInput};
 ghost use Rattle.msi_relation.specs.Refusals.{IsRefusal, or_refused};
-ghost use Rattle.msi_table.specs.Refusals.{FailsWith};
+ghost use Rattle.msi_value.specs.Refusals.{FailsWith};
 ghost use Rattle.msi_changes.specs.Texts.{cell_put, cell_released, in_turn, in_use, rows_put, rows_released};
 
 use msi_table::value::{Value, ValueRef};

@@ -3,9 +3,8 @@
 ghost use Rattle.std.specs.Prelude.{◌≡◌, IfOk};
 ghost use Rattle.std.specs.Cmp.Lexicographic.{slice_cmp};
 ghost use Rattle.msi_text.specs.Results.{OnlyMemory};
-ghost use Rattle.msi_table.specs.Cells.{value_of_cell};
-ghost use Rattle.msi_table.specs.StoredOrder.{row_values};
-ghost use Rattle.msi_table.specs.Values.{value_cmp};
+ghost use Rattle.msi_value.specs.CellValues.{value_of_cell, row_values};
+ghost use Rattle.msi_value.specs.Values.{value_cmp};
 ghost use Rattle.msi_changes.specs.Views.{seen_row, seen_value};
 
 use msi_table::value::{Value, ValueRef};

@@ -5,9 +5,10 @@ use Rattle.msi_kept.specs.Streams.{Streams}
 use Rattle.std.specs.FinMap.{entries}
 use Rattle.msi_compound.specs.Streams as maps
 use Rattle.msi_text.specs.Pool.{Pool}
-use Rattle.msi_table.specs.declared.value.ValueRef.{ValueRef}
-use Rattle.msi_table.specs.Columns.{ColumnDef, TableDef, types_of}
-use Rattle.msi_table.specs.ReadBack.{FitsRow, FitsTable}
+use Rattle.msi_value.specs.declared.value.ValueRef.{ValueRef}
+use Rattle.msi_value.specs.Columns.{ColumnDef, types_of}
+use Rattle.msi_table.specs.Tables.{TableDef}
+use Rattle.msi_value.specs.Fitting.{FitsRow, FitsTable}
 use Rattle.msi_table.specs.StoredOrder.{row_cmp, in_stored_order}
 use Rattle.msi_schema.proofs.SortLemmas.{sort_moves}
 use Rattle.msi_changes.specs.Database.{table_at}

@@ -6,8 +6,8 @@ use Rattle.msi_text.specs.ErrorKind.{ErrorKind}
 use Rattle.msi_text.specs.ErrorKind.TheVariants.{InvalidData}
 use Rattle.msi_text.specs.Results.{OnlyMemory}
 use Rattle.msi_text.specs.Pool.{Pool}
-use Rattle.msi_table.specs.declared.value.ValueRef.{ValueRef}
-use Rattle.msi_table.specs.Columns.{TableDef}
+use Rattle.msi_value.specs.declared.value.ValueRef.{ValueRef}
+use Rattle.msi_table.specs.Tables.{TableDef}
 use Rattle.msi_relation.specs.Refusals.{IsRefusal, or_refused}
 use Rattle.msi_changes.specs.Database.{is_sound, table_at}
 use Rattle.msi_changes.specs.Insert.{table_with}

@@ -6,9 +6,9 @@ use Rattle.std.specs.FinMap.{find}
 use Rattle.std.proofs.lemmas.Bool.{and_parts}
 use Rattle.msi_text.specs.Lists.{list_cmp}
 use Rattle.msi_compound.specs.Names.{is_name_length}
-use Rattle.msi_table.specs.declared.value.ValueRef.{ValueRef}
-use Rattle.msi_table.specs.Columns.{types_of}
-use Rattle.msi_table.specs.ReadBack.{FitsRow}
+use Rattle.msi_value.specs.declared.value.ValueRef.{ValueRef}
+use Rattle.msi_value.specs.Columns.{types_of}
+use Rattle.msi_value.specs.Fitting.{FitsRow}
 use Rattle.msi_relation.specs.Rows.{TableCells}
 use Rattle.msi_schema.specs.Keys.{is_table_name}
 use Rattle.msi_schema.specs.System.{validation_name, validation_columns}

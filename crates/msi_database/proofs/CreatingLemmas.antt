@@ -4,9 +4,9 @@ use Rattle.std.specs.Prelude.{IsErrAnd, IsTrue}
 use Rattle.std.specs.List.{AllByRecursion}
 use Rattle.std.proofs.lemmas.Bool.{lt-ltb}
 use Rattle.msi_text.specs.ErrorKind.{ErrorKind}
-use Rattle.msi_table.specs.declared.column.ColumnType.{ColumnType}
-use Rattle.msi_table.specs.declared.column.ColumnType.TheVariants as coltype
-use Rattle.msi_table.specs.Columns.{ColumnDef, HasShortLength}
+use Rattle.msi_value.specs.declared.column.ColumnType.{ColumnType}
+use Rattle.msi_value.specs.declared.column.ColumnType.TheVariants as coltype
+use Rattle.msi_value.specs.Columns.{ColumnDef, HasShortLength}
 use Rattle.msi_relation.specs.Refusals.{Refusals, unless_refused}
 use Rattle.msi_schema.specs.Description.{have_short_lengths, is_short}
 use Rattle.msi_changes.proofs.RefusedLemmas.{first_refused, front_holds, refused_first}

@@ -3,10 +3,10 @@ use Rattle.std.proofs.Common.{◌≡◌, ℕ, Bool, true, false, not, List, [], 
 use Rattle.std.specs.Option.{option_map_or}
 use Rattle.msi_text.specs.ErrorKind.{ErrorKind}
 use Rattle.msi_text.specs.Pool.{Pool}
-use Rattle.msi_table.specs.declared.value.ValueRef.{ValueRef}
-use Rattle.msi_table.specs.Columns.{TableDef, types_of}
-use Rattle.msi_table.specs.Tables.{CanStore}
-use Rattle.msi_table.specs.ReadBack.{FitsTable}
+use Rattle.msi_value.specs.declared.value.ValueRef.{ValueRef}
+use Rattle.msi_table.specs.Tables.{TableDef, CanStore}
+use Rattle.msi_value.specs.Columns.{types_of}
+use Rattle.msi_value.specs.Fitting.{FitsTable}
 use Rattle.msi_relation.specs.Rows.{TableCells}
 use Rattle.msi_schema.specs.Keys.{is_table_name, table_key}
 use Rattle.msi_schema.specs.System.{is_system_table, tables_name, columns_name, validation_name, tables_columns, columns_columns}

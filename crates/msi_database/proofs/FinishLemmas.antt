@@ -4,8 +4,9 @@ use Rattle.std.specs.FinMap.{entries, put}
 use Rattle.msi_compound.specs.Streams as maps
 use Rattle.msi_text.specs.Lists.{list_cmp}
 use Rattle.msi_text.specs.Pool.{Pool}
-use Rattle.msi_table.specs.declared.value.ValueRef.{ValueRef}
-use Rattle.msi_table.specs.Columns.{ColumnDef, TableDef}
+use Rattle.msi_value.specs.declared.value.ValueRef.{ValueRef}
+use Rattle.msi_value.specs.Columns.{ColumnDef}
+use Rattle.msi_table.specs.Tables.{TableDef}
 use Rattle.msi_schema.specs.Keys.{table_key}
 use Rattle.msi_changes.specs.Database.{Database, is_sound}
 use Rattle.msi_changes.specs.Changes.{Change, PoolInUse, no_change, with_stored}

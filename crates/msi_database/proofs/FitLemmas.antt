@@ -8,13 +8,13 @@ use Rattle.std.proofs.lemmas.Bool.Decides.{nat_tests}
 use Rattle.std.proofs.lemmas.List.{length-map}
 use Rattle.std.proofs.lemmas.List.Folds.{list_all-append}
 use Rattle.msi_text.specs.Lists.{list_cmp}
-use Rattle.msi_table.specs.declared.column.ColumnType.{ColumnType}
-use Rattle.msi_table.specs.declared.column.ColumnType.TheVariants as coltype
-use Rattle.msi_table.specs.declared.value.ValueRef.{ValueRef}
-use Rattle.msi_table.specs.declared.value.ValueRef.TheVariants as cell
-use Rattle.msi_table.specs.Columns.{types_of}
-use Rattle.msi_table.specs.ReadBack.{FitsColumn, FitsRow, FitsTable}
-use Rattle.msi_table.proofs.ReadBackLemmas.{fits_length}
+use Rattle.msi_value.specs.declared.column.ColumnType.{ColumnType}
+use Rattle.msi_value.specs.declared.column.ColumnType.TheVariants as coltype
+use Rattle.msi_value.specs.declared.value.ValueRef.{ValueRef}
+use Rattle.msi_value.specs.declared.value.ValueRef.TheVariants as cell
+use Rattle.msi_value.specs.Columns.{types_of}
+use Rattle.msi_value.specs.Fitting.{FitsColumn, FitsRow, FitsTable}
+use Rattle.msi_value.proofs.FittingLemmas.{fits_length}
 use Rattle.msi_relation.specs.Rows.{TableCells}
 use Rattle.msi_schema.specs.System.{validation_columns}
 use Rattle.msi_changes.specs.Database.{Database, Tables, number_of_cell, numbers_of_rows, rows_of, is_sound}

@@ -4,7 +4,8 @@ use Rattle.std.specs.FinMap.{empty, entries, len, len-empty, len-entries}
 use Rattle.msi_compound.specs.Names.{name_cmp}
 use Rattle.msi_compound.specs.Streams as maps
 use Rattle.msi_text.specs.Pool.{Pool}
-use Rattle.msi_table.specs.Columns.{ColumnDef, TableDef}
+use Rattle.msi_value.specs.Columns.{ColumnDef}
+use Rattle.msi_table.specs.Tables.{TableDef}
 use Rattle.msi_schema.specs.System.{columns_columns, columns_name, tables_columns, tables_name, validation_columns, validation_name}
 use Rattle.msi_changes.specs.Database.{is_sound}
 use Rattle.msi_kept.specs.declared.storing.Stored.{Stored}

@@ -6,7 +6,7 @@ use Rattle.std.proofs.lemmas.Bool.{and_parts, ltb-true, eqb-true, cases_eq}
 use Rattle.msi_text.specs.Lists.{numbers_from, numbers_below}
 use Rattle.msi_text.specs.FirstFit.{count_of}
 use Rattle.msi_text.specs.Pool.{Place, CountsFit, PlacesWritten}
-use Rattle.msi_table.specs.Columns.{types_of}
+use Rattle.msi_value.specs.Columns.{types_of}
 use Rattle.msi_schema.specs.Keys.{table_key}
 use Rattle.msi_schema.specs.System.{validation_columns, columns_name}
 use Rattle.msi_changes.specs.Database.{Database, CountsAreExact, cells_naming, is_sound}

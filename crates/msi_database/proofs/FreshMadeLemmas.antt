@@ -3,8 +3,9 @@ use Rattle.std.proofs.Common.{◌≡◌, true, false, List, [], ◌∷◌, lengt
 use Rattle.std.specs.Prelude.{IsTrue, unwrap_or}
 use Rattle.msi_compound.specs.Names.{is_name_length}
 use Rattle.msi_text.specs.Pool.{Pool}
-use Rattle.msi_table.specs.declared.value.Value.{Value}
-use Rattle.msi_table.specs.Columns.{ColumnDef, TableDef}
+use Rattle.msi_value.specs.declared.value.Value.{Value}
+use Rattle.msi_value.specs.Columns.{ColumnDef}
+use Rattle.msi_table.specs.Tables.{TableDef}
 use Rattle.msi_schema.specs.Description.{column_rows, have_short_lengths, tables_row, validation_rows}
 use Rattle.msi_schema.specs.Keys.{table_key}
 use Rattle.msi_schema.specs.System.{validation_name}

@@ -2,7 +2,7 @@
 use Rattle.std.proofs.Common.{◌≡◌, true, false, List, [], length, Some, refl}
 use Rattle.std.specs.Prelude.{IsTrue}
 use Rattle.msi_compound.specs.Names.{is_name_length}
-use Rattle.msi_table.specs.declared.value.Value.{Value}
+use Rattle.msi_value.specs.declared.value.Value.{Value}
 use Rattle.msi_schema.specs.Description.{column_rows, have_short_lengths, validation_rows}
 use Rattle.msi_schema.specs.Keys.{table_key}
 use Rattle.msi_schema.specs.System.{columns_name, tables_name, validation_columns, validation_name}

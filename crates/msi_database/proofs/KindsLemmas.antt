@@ -2,11 +2,11 @@
 use Rattle.std.proofs.Common.{◌≡◌, Bool, true, false, List, [], ◌∷◌, map, Option, Some, None, is_some, refl, sym, ap, subst, ◌∙◌}
 use Rattle.std.specs.Prelude.{IsSomeAnd, unwrap_or}
 use Rattle.std.specs.List.{AllByRecursion}
-use Rattle.msi_table.specs.declared.column.ColumnType.{ColumnType}
-use Rattle.msi_table.specs.declared.value.ValueRef.{ValueRef}
-use Rattle.msi_table.specs.Columns.{ColumnDef, types_of}
-use Rattle.msi_table.specs.ReadBack.{FitsRow, FitsTable}
-use Rattle.msi_table.specs.StoredOrder.{row_values}
+use Rattle.msi_value.specs.declared.column.ColumnType.{ColumnType}
+use Rattle.msi_value.specs.declared.value.ValueRef.{ValueRef}
+use Rattle.msi_value.specs.Columns.{ColumnDef, types_of}
+use Rattle.msi_value.specs.Fitting.{FitsRow, FitsTable}
+use Rattle.msi_value.specs.CellValues.{row_values}
 use Rattle.msi_relation.specs.Rows.{TableCells}
 use Rattle.msi_schema.specs.System.{columns_name, validation_name, columns_columns, validation_columns}
 use Rattle.msi_schema.specs.Schema.{schema_of}

@@ -9,9 +9,10 @@ use Rattle.msi_compound.specs.Names.{name_cmp}
 use Rattle.msi_text.specs.Lists.{numbers_from}
 use Rattle.msi_text.specs.FirstFit.{count_of}
 use Rattle.msi_text.specs.Pool.{Pool, Place, CountsFit, PlacesWritten, forgotten, with_named_texts}
-use Rattle.msi_table.specs.declared.value.ValueRef.{ValueRef}
-use Rattle.msi_table.specs.Columns.{TableDef, types_of}
-use Rattle.msi_table.specs.ReadBack.{FitsRow, FitsTable}
+use Rattle.msi_value.specs.declared.value.ValueRef.{ValueRef}
+use Rattle.msi_table.specs.Tables.{TableDef}
+use Rattle.msi_value.specs.Columns.{types_of}
+use Rattle.msi_value.specs.Fitting.{FitsRow, FitsTable}
 use Rattle.msi_schema.specs.System.{validation_columns, validation_name}
 use Rattle.msi_changes.specs.Database.{Database, is_sound, named_numbers, cells_naming}
 use Rattle.msi_kept.specs.Streams.{Streams, stored_rows}

@@ -8,8 +8,9 @@ use Rattle.msi_text.specs.ErrorKind.{ErrorKind}
 use Rattle.msi_compound.specs.Names.{is_name_length}
 use Rattle.msi_compound.specs.Streams as maps
 use Rattle.msi_table.specs.Cells.{rows_in}
-use Rattle.msi_table.specs.StoredOrder.{row_values}
-use Rattle.msi_table.specs.Columns.{ColumnDef, TableDef, types_of}
+use Rattle.msi_value.specs.CellValues.{row_values}
+use Rattle.msi_value.specs.Columns.{ColumnDef, types_of}
+use Rattle.msi_table.specs.Tables.{TableDef}
 use Rattle.msi_schema.specs.Keys.{table_key}
 use Rattle.msi_schema.specs.Schema.{schema_of}
 use Rattle.msi_schema.specs.System.{columns_columns, columns_name, tables_columns, tables_name, validation_columns, validation_name}

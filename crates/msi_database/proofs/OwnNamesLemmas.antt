@@ -3,9 +3,9 @@ use Rattle.std.proofs.Common.{◌≡◌, ℕ, true, false, List, [], ◌∷◌, 
 use Rattle.std.specs.List.{list_any}
 use Rattle.std.proofs.lemmas.Bool.{or_parts, or_from}
 use Rattle.msi_text.specs.Pool.{Place}
-use Rattle.msi_table.specs.declared.value.Value.{Value}
-use Rattle.msi_table.specs.declared.value.Value.TheVariants.{Str}
-use Rattle.msi_table.specs.Columns.{ColumnDef}
+use Rattle.msi_value.specs.declared.value.Value.{Value}
+use Rattle.msi_value.specs.declared.value.Value.TheVariants.{Str}
+use Rattle.msi_value.specs.Columns.{ColumnDef}
 use Rattle.msi_relation.specs.Rows.{TableCells}
 use Rattle.msi_schema.specs.System.{is_schema_table, tables_name, columns_name, validation_name, tables_columns}
 use Rattle.msi_schema.specs.Schema.{schema_of}

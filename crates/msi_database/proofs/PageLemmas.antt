@@ -2,7 +2,7 @@
 use Rattle.std.proofs.Common.{Bool, List}
 use Rattle.msi_text.specs.CodePage.{CodePage}
 use Rattle.msi_text.specs.Pool.{Pool}
-use Rattle.msi_table.specs.Columns.{TableDef}
+use Rattle.msi_table.specs.Tables.{TableDef}
 use Rattle.msi_kept.specs.Streams.{Streams}
 use Rattle.msi_database.specs.Keeping.{AreKept}
 

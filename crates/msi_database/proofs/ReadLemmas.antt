@@ -7,10 +7,11 @@ use Rattle.std.proofs.lemmas.Option.{same_Some, none-some}
 use Rattle.std.proofs.lemmas.Bool.{eqb-false}
 use Rattle.msi_text.specs.Lists.{all_present, tabulated, list_cmp}
 use Rattle.msi_compound.specs.Names.{name_cmp}
-use Rattle.msi_table.specs.declared.value.ValueRef.{ValueRef}
-use Rattle.msi_table.specs.Columns.{ColumnDef, TableDef, types_of}
+use Rattle.msi_value.specs.declared.value.ValueRef.{ValueRef}
+use Rattle.msi_value.specs.Columns.{ColumnDef, types_of}
+use Rattle.msi_table.specs.Tables.{TableDef}
 use Rattle.msi_table.specs.Cells.{rows_in}
-use Rattle.msi_table.specs.ReadBack.{FitsRow, FitsTable}
+use Rattle.msi_value.specs.Fitting.{FitsRow, FitsTable}
 use Rattle.msi_schema.specs.Keys.{table_key}
 use Rattle.msi_schema.specs.System.{tables_name, columns_name, validation_name, tables_columns, columns_columns, validation_columns}
 use Rattle.msi_kept.specs.Streams.{Streams, stored_rows, stream_at}

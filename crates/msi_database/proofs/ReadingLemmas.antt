@@ -13,14 +13,14 @@ use Rattle.msi_text.specs.ErrorKind.TheVariants as kinds
 use Rattle.msi_text.specs.Results.{FailsAs, Gives}
 use Rattle.msi_text.specs.Pool.{Place, Pool}
 use Rattle.msi_compound.specs.Names.{is_name_length}
-use Rattle.msi_table.specs.declared.column.ColumnType.TheVariants as coltype
-use Rattle.msi_table.specs.declared.value.Value.{Value}
-use Rattle.msi_table.specs.declared.value.ValueRef.{ValueRef}
-use Rattle.msi_table.specs.declared.value.ValueRef.TheVariants as cell
-use Rattle.msi_table.specs.Cells.{value_of_cell}
-use Rattle.msi_table.specs.Columns.{ColumnDef, TableDef, greatest_16, types_of}
-use Rattle.msi_table.specs.ReadBack.{FitsColumn, FitsRow, FitsTable}
-use Rattle.msi_table.specs.StoredOrder.{row_values}
+use Rattle.msi_value.specs.declared.column.ColumnType.TheVariants as coltype
+use Rattle.msi_value.specs.declared.value.Value.{Value}
+use Rattle.msi_value.specs.declared.value.ValueRef.{ValueRef}
+use Rattle.msi_value.specs.declared.value.ValueRef.TheVariants as cell
+use Rattle.msi_value.specs.CellValues.{value_of_cell, row_values}
+use Rattle.msi_value.specs.Columns.{ColumnDef, greatest_16, types_of}
+use Rattle.msi_table.specs.Tables.{TableDef}
+use Rattle.msi_value.specs.Fitting.{FitsColumn, FitsRow, FitsTable}
 use Rattle.msi_relation.specs.Refusals.{IsRefusal, or_refused}
 use Rattle.msi_schema.specs.RowOrders.{rows_of}
 use Rattle.msi_schema.specs.Schema.{SchemaRows, by_name, columns_of, listed_names, has_long_number, has_null, has_odd_name, is_faulty, is_null, is_of_16_bits, is_text, number_of, schema_of, table_with, tables_of}

@@ -6,11 +6,11 @@ use Rattle.msi_compound.specs.Streams as maps
 use Rattle.msi_text.specs.ErrorKind.{ErrorKind}
 use Rattle.msi_text.specs.ErrorKind.TheVariants.{InvalidInput}
 use Rattle.msi_text.specs.Pool.{Place, Pool}
-use Rattle.msi_table.specs.declared.value.ValueRef.{ValueRef}
-use Rattle.msi_table.specs.declared.value.Value.{Value}
-use Rattle.msi_table.specs.Columns.{ColumnDef, TableDef, types_of}
-use Rattle.msi_table.specs.Tables.{CanStore}
-use Rattle.msi_table.specs.ReadBack.{FitsTable}
+use Rattle.msi_value.specs.declared.value.ValueRef.{ValueRef}
+use Rattle.msi_value.specs.declared.value.Value.{Value}
+use Rattle.msi_value.specs.Columns.{ColumnDef, types_of}
+use Rattle.msi_table.specs.Tables.{TableDef, CanStore}
+use Rattle.msi_value.specs.Fitting.{FitsTable}
 use Rattle.msi_query.specs.Queries.{InsertQuery, UpdateQuery, DeleteQuery}
 use Rattle.msi_relation.specs.Refusals.{first_refusal, unless_refused}
 use Rattle.msi_relation.specs.Rows.{TableCells}

@@ -7,7 +7,7 @@ use Rattle.msi_text.specs.ErrorKind.{ErrorKind}
 use Rattle.msi_text.specs.ErrorKind.TheVariants.{InvalidInput, NotFound}
 use Rattle.msi_relation.specs.Refusals.{Refusals, first_refusal, or_refused, unless_refused, ◌>>=◌}
 use Rattle.msi_query.specs.Queries.{DeleteQuery, InsertQuery, UpdateQuery}
-use Rattle.msi_table.specs.StoredOrder.{row_values}
+use Rattle.msi_value.specs.CellValues.{row_values}
 use Rattle.msi_schema.specs.System.{is_schema_table, is_system_table, validation_name}
 use Rattle.msi_changes.specs.Database.{Database, table_at}
 use Rattle.msi_relation.specs.Rows.{TableCells}

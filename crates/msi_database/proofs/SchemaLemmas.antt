@@ -6,7 +6,7 @@ use Rattle.std.specs.FinMap.Entries.{below_all}
 use Rattle.std.specs.Ordering.{is_lt}
 use Rattle.std.proofs.lemmas.Option.{same_Some}
 use Rattle.msi_text.specs.Lists.{list_cmp, all_present}
-use Rattle.msi_table.specs.Columns.{ColumnDef}
+use Rattle.msi_value.specs.Columns.{ColumnDef}
 use Rattle.msi_schema.specs.System.{tables_name, columns_name, tables_columns, columns_columns}
 use Rattle.msi_schema.specs.Schema.{SchemaRows, schema_of, by_name, is_faulty, listed_names, columns_of}
 use Rattle.msi_changes.specs.Database.{Database, Tables}

@@ -9,10 +9,10 @@ use Rattle.msi_text.specs.FirstFit.{most_places}
 use Rattle.msi_text.specs.Lists.{has_pair}
 use Rattle.msi_text.specs.Pool.{Place}
 use Rattle.msi_pool.proofs.TakenLemmas.{taken_takes}
-use Rattle.msi_table.specs.declared.value.Value.{Value}
-use Rattle.msi_table.specs.declared.value.ValueRef.{ValueRef}
-use Rattle.msi_table.specs.Columns.{ColumnDef, types_of}
-use Rattle.msi_table.specs.ReadBack.{FitsTable}
+use Rattle.msi_value.specs.declared.value.Value.{Value}
+use Rattle.msi_value.specs.declared.value.ValueRef.{ValueRef}
+use Rattle.msi_value.specs.Columns.{ColumnDef, types_of}
+use Rattle.msi_value.specs.Fitting.{FitsTable}
 use Rattle.msi_query.specs.Queries.{UpdateQuery}
 use Rattle.msi_relation.specs.Refusals.{Refusals, first_refusal}
 use Rattle.msi_relation.specs.Rows.{TableCells}

@@ -6,11 +6,11 @@ use Rattle.std.specs.FinMap.{find}
 use Rattle.std.proofs.lemmas.Bool.{or_parts, true≢false, ne_eqb, cases_Bool}
 use Rattle.std.proofs.lemmas.Slice.Eq.{bytes_eq-Decides}
 use Rattle.msi_text.specs.Lists.{list_cmp}
-use Rattle.msi_table.specs.declared.value.ValueRef.{ValueRef}
-use Rattle.msi_table.specs.declared.column.ColumnType.{ColumnType}
-use Rattle.msi_table.specs.Columns.{ColumnDef, types_of}
+use Rattle.msi_value.specs.declared.value.ValueRef.{ValueRef}
+use Rattle.msi_value.specs.declared.column.ColumnType.{ColumnType}
+use Rattle.msi_value.specs.Columns.{ColumnDef, types_of}
 use Rattle.msi_table.specs.Cells.{rows_in, table_bytes, widths}
-use Rattle.msi_table.specs.ReadBack.{FitsTable}
+use Rattle.msi_value.specs.Fitting.{FitsTable}
 use Rattle.msi_table.proofs.ReadBackLemmas.{rows_in-table_bytes}
 use Rattle.msi_relation.specs.Rows.{TableCells}
 use Rattle.msi_schema.specs.Keys.{is_table_name, table_key, summary_key, string_pool_name, string_data_name}

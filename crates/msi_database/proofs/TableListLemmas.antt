@@ -12,7 +12,7 @@ use Rattle.std.proofs.lemmas.Bool.{true≢false}
 use Rattle.std.proofs.lemmas.Option.{same_Some, none-some}
 use Rattle.std.proofs.lemmas.Slice.Eq.{bytes_eq-Decides}
 use Rattle.msi_text.specs.Lists.{list_cmp}
-use Rattle.msi_table.specs.Columns.{TableDef}
+use Rattle.msi_table.specs.Tables.{TableDef}
 use Rattle.msi_schema.proofs.SchemaLemmas.{Described, names_tie, same_names}
 use Rattle.msi_changes.proofs.DroppedLemmas.{without}
 use Rattle.msi_kept.specs.Kept.{table_kept_at, with_table_kept, without_table_kept, schema_listed, AreAsLong}

@@ -3,7 +3,7 @@ use Rattle.std.proofs.Common.{◌≡◌, ℕ, Bool, true, false, List, [], ◌�
 use Rattle.std.specs.Prelude.{bytes_eq}
 use Rattle.std.proofs.lemmas.Slice.Eq.{bytes_eq-Decides}
 use Rattle.msi_text.specs.Pool.{Pool}
-use Rattle.msi_table.specs.Columns.{TableDef}
+use Rattle.msi_table.specs.Tables.{TableDef}
 use Rattle.msi_changes.specs.Database.{has_table}
 use Rattle.msi_kept.specs.Streams.{Streams}
 use Rattle.msi_kept.specs.Kept.{table_kept, table_kept_at, database_kept, AreAsLong}

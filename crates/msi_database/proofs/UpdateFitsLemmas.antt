@@ -8,14 +8,13 @@ use Rattle.std.proofs.lemmas.Option.{same_Some, none-some, option_and_then_some}
 use Rattle.msi_text.specs.Pool.{Place}
 use Rattle.msi_text.specs.FirstFit.{most_places, given_back}
 use Rattle.msi_text.specs.FirstFitLaws.{TakenPlacesHoldTheirText, GivenBackTakesOne}
-use Rattle.msi_table.specs.declared.value.Value.{Value}
-use Rattle.msi_table.specs.declared.value.ValueRef.{ValueRef}
-use Rattle.msi_table.specs.declared.value.ValueRef.TheVariants as cell
-use Rattle.msi_table.specs.Columns.{ColumnDef, types_of, column_index}
-use Rattle.msi_table.specs.Cells.{cell_of}
-use Rattle.msi_table.specs.ReadBack.{FitsColumn, FitsRow}
-use Rattle.msi_table.specs.StoredOrder.{row_values}
-use Rattle.msi_table.specs.ValidValues.{is_valid_value}
+use Rattle.msi_value.specs.declared.value.Value.{Value}
+use Rattle.msi_value.specs.declared.value.ValueRef.{ValueRef}
+use Rattle.msi_value.specs.declared.value.ValueRef.TheVariants as cell
+use Rattle.msi_value.specs.Columns.{ColumnDef, types_of, column_index}
+use Rattle.msi_value.specs.Fitting.{cell_of, FitsColumn, FitsRow}
+use Rattle.msi_value.specs.CellValues.{row_values}
+use Rattle.msi_value.specs.ValidValues.{is_valid_value}
 use Rattle.msi_query.specs.Queries.{UpdateQuery}
 use Rattle.msi_expression.specs.Conditions.{meets}
 use Rattle.msi_changes.specs.Changes.{PoolInUse}

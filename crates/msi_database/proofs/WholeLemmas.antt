@@ -8,12 +8,13 @@ use Rattle.msi_text.specs.ErrorKind.{ErrorKind}
 use Rattle.msi_text.specs.ErrorKind.TheVariants.{InvalidData, NotFound}
 use Rattle.msi_text.specs.Pool.{Pool}
 use Rattle.msi_text.specs.Lists.{list_cmp}
-use Rattle.msi_table.specs.declared.value.ValueRef.{ValueRef}
-use Rattle.msi_table.specs.Columns.{ColumnDef, TableDef, types_of}
-use Rattle.msi_table.specs.ReadBack.{FitsRow, FitsTable}
+use Rattle.msi_value.specs.declared.value.ValueRef.{ValueRef}
+use Rattle.msi_value.specs.Columns.{ColumnDef, types_of}
+use Rattle.msi_table.specs.Tables.{TableDef}
+use Rattle.msi_value.specs.Fitting.{FitsRow, FitsTable}
 use Rattle.msi_table.specs.Rows.{AreAsWide}
-use Rattle.msi_table.proofs.PlacesLemmas.{length-types_of}
-use Rattle.msi_table.proofs.ReadBackLemmas.{fits_length}
+use Rattle.msi_value.proofs.ColumnTypesLemmas.{length-types_of}
+use Rattle.msi_value.proofs.FittingLemmas.{fits_length}
 use Rattle.msi_relation.specs.Refusals.{IsRefusal, or_refused, ◌>>=◌}
 use Rattle.msi_relation.specs.Rows.{TableCells, RelationCells, whole_table}
 use Rattle.msi_relation.specs.Width.{AreWide}

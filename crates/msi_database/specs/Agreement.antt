@@ -2,9 +2,9 @@
 use Rattle.std.specs.Prelude.{◌≡◌, ℕ, ◌==◌, Bool, List, [], ◌++◌, map, Option, Some, option_map, option_and_then, unwrap_or, MatchBool}
 use Rattle.std.specs.List.{AllByRecursion, list_any}
 use Rattle.msi_text.specs.Pool.{Pool}
-use Rattle.msi_table.specs.declared.value.Value.{Value}
-use Rattle.msi_table.specs.Columns.{ColumnDef}
-use Rattle.msi_table.specs.StoredOrder.{row_values}
+use Rattle.msi_value.specs.declared.value.Value.{Value}
+use Rattle.msi_value.specs.Columns.{ColumnDef}
+use Rattle.msi_value.specs.CellValues.{row_values}
 use Rattle.msi_schema.specs.System.{tables_name, columns_name, validation_name, tables_columns, columns_columns, validation_columns}
 use Rattle.msi_schema.specs.Schema.{SchemaRows, schema_of}
 use Rattle.msi_changes.specs.Database.{Database, has_table, named_numbers, numbers_of_rows}

@@ -2,8 +2,9 @@
 use Rattle.std.specs.Prelude.{ℕ, List, [], ◌∷◌, ◌++◌, None, option_map, Result, Ok}
 use Rattle.msi_text.specs.ErrorKind.{ErrorKind}
 use Rattle.msi_text.specs.ErrorKind.TheVariants.{InvalidInput, NotFound}
-use Rattle.msi_table.specs.declared.value.Value.{Value}
-use Rattle.msi_table.specs.Columns.{ColumnDef, TableDef}
+use Rattle.msi_value.specs.declared.value.Value.{Value}
+use Rattle.msi_value.specs.Columns.{ColumnDef}
+use Rattle.msi_table.specs.Tables.{TableDef}
 use Rattle.msi_relation.specs.Refusals.{Refusals, or_refused, unless_refused, ◌>>=◌}
 use Rattle.msi_schema.specs.Description.{column_rows, tables_row, validation_rows}
 use Rattle.msi_schema.specs.Keys.{table_key}

@@ -1,7 +1,7 @@
 -- A new database: `_Validation`, described by itself.
 use Rattle.std.specs.Prelude.{◌≡◌, false, true, List, [], ◌∷◌, Some, unwrap_or}
 use Rattle.msi_text.specs.CodePage.TheVariants as page
-use Rattle.msi_table.specs.Columns.{ColumnDef}
+use Rattle.msi_value.specs.Columns.{ColumnDef}
 use Rattle.msi_relation.specs.Rows.{TableCells}
 use Rattle.msi_schema.specs.System.{columns_columns, columns_name, tables_columns, tables_name, validation_columns, validation_name}
 use Rattle.msi_changes.specs.Database.{Database, CountsAreExact, is_sound}

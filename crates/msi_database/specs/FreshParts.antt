@@ -1,9 +1,8 @@
 -- The parts of a new database, and the first rows of a table.
 use Rattle.std.specs.Prelude.{◌≡◌, false, List, [], IsSomeAnd}
 use Rattle.msi_text.specs.Pool.{Pool}
-use Rattle.msi_table.specs.declared.value.Value.{Value}
-use Rattle.msi_table.specs.Columns.{TableDef}
-use Rattle.msi_table.specs.Tables.{CanStore}
+use Rattle.msi_value.specs.declared.value.Value.{Value}
+use Rattle.msi_table.specs.Tables.{TableDef, CanStore}
 use Rattle.msi_schema.specs.Keys.{table_key}
 use Rattle.msi_schema.specs.System.{columns_columns, columns_name, tables_columns, tables_name, validation_columns, validation_name}
 use Rattle.msi_changes.specs.Changes.{PoolInUse}

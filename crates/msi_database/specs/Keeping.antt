@@ -4,8 +4,9 @@ use Rattle.std.specs.List.{AllByRecursion}
 use Rattle.std.specs.FinMap.{is_sorted}
 use Rattle.msi_compound.specs.Names.{name_cmp}
 use Rattle.msi_text.specs.Pool.{Pool, CountsFit, PlacesWritten, with_named_texts}
-use Rattle.msi_table.specs.Columns.{TableDef, types_of}
-use Rattle.msi_table.specs.ReadBack.{FitsRow, FitsTable}
+use Rattle.msi_table.specs.Tables.{TableDef}
+use Rattle.msi_value.specs.Columns.{types_of}
+use Rattle.msi_value.specs.Fitting.{FitsRow, FitsTable}
 use Rattle.msi_relation.specs.Rows.{TableCells}
 use Rattle.msi_schema.specs.System.{validation_columns}
 use Rattle.msi_changes.specs.Database.{Database, is_sound, is_well_formed}

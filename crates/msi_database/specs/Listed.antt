@@ -2,7 +2,7 @@
 use Rattle.std.specs.Prelude.{◌≡◌, ℕ, true, List, length, map, Option, Some, option_map}
 use Rattle.msi_compound.specs.Names.{is_name_length}
 use Rattle.msi_text.specs.CodePage.{CodePage}
-use Rattle.msi_table.specs.Columns.{TableDef}
+use Rattle.msi_table.specs.Tables.{TableDef}
 use Rattle.msi_schema.specs.Keys.{table_key}
 use Rattle.msi_changes.specs.Database.{Database, table_at}
 use Rattle.msi_kept.specs.Kept.{Kept}

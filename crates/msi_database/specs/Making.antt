@@ -3,7 +3,7 @@ use Rattle.std.specs.Prelude.{◌≡◌, ◌++◌, Bool, true, List, [], ◌∷�
 use Rattle.msi_text.specs.ErrorKind.{ErrorKind}
 use Rattle.msi_text.specs.ErrorKind.TheVariants.{InvalidInput}
 use Rattle.msi_text.specs.Pool.{Pool}
-use Rattle.msi_table.specs.Columns.{TableDef}
+use Rattle.msi_table.specs.Tables.{TableDef}
 use Rattle.msi_query.specs.declared.query.insert.InsertParts.{InsertParts}
 use Rattle.msi_query.specs.declared.query.delete.DeleteParts.{DeleteParts}
 use Rattle.msi_query.specs.Queries.{InsertQuery, DeleteQuery}

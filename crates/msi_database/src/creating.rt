@@ -3,7 +3,7 @@
 ghost use Rattle.std.specs.Prelude.{◌≡◌, ◌≤◌, IfErr, IfOk, IsTrue, Ok, OnErr, OnOk, length, true};
 ghost use Rattle.msi_text.specs.FirstFit.{most_places};
 ghost use Rattle.msi_text.specs.Results.{OnlyMemory};
-ghost use Rattle.msi_table.specs.Columns.{most_columns};
+ghost use Rattle.msi_table.specs.Tables.{most_columns};
 ghost use Rattle.msi_relation.specs.Refusals.{IsRefusal, unless_refused};
 ghost use Rattle.msi_schema.specs.Description.{have_short_lengths};
 ghost use Rattle.msi_schema.specs.Keys.{is_table_name as is_name_of_table};

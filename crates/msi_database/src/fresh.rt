@@ -3,7 +3,7 @@
 ghost use Rattle.std.specs.Prelude.{◌≡◌, ◌≤◌, [], IfOk, OnOk, Some, false, is_some, length, true};
 ghost use Rattle.msi_compound.specs.Names.{is_name_length};
 ghost use Rattle.msi_text.specs.Results.{OnlyMemory};
-ghost use Rattle.msi_table.specs.Columns.{most_columns};
+ghost use Rattle.msi_table.specs.Tables.{most_columns};
 ghost use Rattle.msi_schema.specs.Keys.{table_key as key_of};
 ghost use Rattle.msi_changes.specs.Insert.{cells_added};
 ghost use Rattle.msi_changes.specs.Texts.{in_use};

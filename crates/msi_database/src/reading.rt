@@ -4,8 +4,8 @@ ghost use Rattle.std.specs.Prelude.{◌≡◌, [], ◌<◌, ◌≤◌, All, IfEr
 ghost use Rattle.std.specs.FinMap.{entries};
 ghost use Rattle.msi_text.specs.ErrorKind.TheVariants.{InvalidData};
 ghost use Rattle.msi_text.specs.Results.{OnlyMemory};
-ghost use Rattle.msi_table.specs.Columns.{most_columns};
-ghost use Rattle.msi_table.specs.StoredOrder.{row_values};
+ghost use Rattle.msi_table.specs.Tables.{most_columns};
+ghost use Rattle.msi_value.specs.CellValues.{row_values};
 ghost use Rattle.msi_relation.specs.Refusals.{IsRefusal, or_refused};
 ghost use Rattle.msi_schema.specs.Schema.{table_with};
 ghost use Rattle.msi_schema.specs.System.{validation_columns as columns_of_validation, validation_name};

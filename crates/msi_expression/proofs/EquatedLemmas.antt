@@ -3,11 +3,11 @@ use Rattle.std.proofs.Common.{◌≡◌, ℕ, zero, suc, ◌-◌, ◌<◌, ◌�
 use Rattle.std.specs.Prelude.{option_and_then, unwrap_or, slice_get, nat_lt, if◌then◌else◌, ◌&&◌, IfSome, IsTrue}
 use Rattle.std.specs.Option.{option_or}
 use Rattle.std.specs.Ordering.{is_eq}
-use Rattle.msi_table.specs.declared.value.Value.{Value}
-use Rattle.msi_table.specs.declared.value.Value.TheVariants.{Null}
-use Rattle.msi_table.specs.Values.{is_true, value_cmp}
-use Rattle.msi_table.specs.Columns.{ColumnDef}
-use Rattle.msi_table.specs.OrderLaws.{value_eq-Decides}
+use Rattle.msi_value.specs.declared.value.Value.{Value}
+use Rattle.msi_value.specs.declared.value.Value.TheVariants.{Null}
+use Rattle.msi_value.specs.Values.{is_true, value_cmp}
+use Rattle.msi_value.specs.Columns.{ColumnDef}
+use Rattle.msi_value.specs.OrderLaws.{value_eq-Decides}
 use Rattle.msi_expression.specs.declared.expr.BinaryOp.TheVariants as two
 use Rattle.msi_expression.specs.Expressions.{Expression, literal, column, unary, binary, both, either}
 use Rattle.msi_expression.specs.Evaluation.{truth, value_of}

@@ -1,8 +1,8 @@
 -- Folding keeps values, and what the constructors make is folded.
 use Rattle.std.proofs.Common.{◌≡◌, ℕ, List, Bool, true, false, refl, ap, ◌∙◌, ◌&&◌, ◌||◌}
 use Rattle.std.specs.Prelude.{IsTrue}
-use Rattle.msi_table.specs.declared.value.Value.{Value}
-use Rattle.msi_table.specs.Values.{is_true}
+use Rattle.msi_value.specs.declared.value.Value.{Value}
+use Rattle.msi_value.specs.Values.{is_true}
 use Rattle.msi_expression.specs.declared.expr.UnaryOp.{UnaryOp}
 use Rattle.msi_expression.specs.declared.expr.BinaryOp.{BinaryOp}
 use Rattle.msi_expression.specs.Expressions.{Expression, literal, column, unary, binary, both, either}

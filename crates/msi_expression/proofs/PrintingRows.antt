@@ -1,6 +1,6 @@
 -- Worked rows of printed expressions, by computation.
 use Rattle.std.proofs.Common.{◌≡◌, ℕ, true, List, [], ◌∷◌, Some, refl, codes, map, pos, negsuc, ℤ}
-use Rattle.msi_table.specs.declared.value.Value.TheVariants.{Null, Int, Str}
+use Rattle.msi_value.specs.declared.value.Value.TheVariants.{Null, Int, Str}
 use Rattle.msi_expression.specs.declared.expr.UnaryOp.TheVariants as one
 use Rattle.msi_expression.specs.declared.expr.BinaryOp.TheVariants as two
 use Rattle.msi_expression.specs.Expressions.{Expression, literal, column, unary, binary, both, either}

@@ -4,7 +4,7 @@
 use Rattle.std.proofs.Common.{ℕ, suc, ◌+◌, ◌-◌, ◌*◌, Bool, true, false, not, List, [], ◌∷◌, ◌++◌, drop, nat_lt, ◌==◌, if◌then◌else◌, codes, bytes_eq, pos, negsuc}
 use Rattle.std.specs.Char.{is_ascii_digit}
 use Rattle.msi_text.specs.CategoryRules.{starts_name, continues_name}
-use Rattle.msi_table.specs.declared.value.Value.TheVariants.{Null, Int, Str}
+use Rattle.msi_value.specs.declared.value.Value.TheVariants.{Null, Int, Str}
 use Rattle.msi_expression.specs.declared.expr.UnaryOp.{UnaryOp}
 use Rattle.msi_expression.specs.declared.expr.UnaryOp.TheVariants as one
 use Rattle.msi_expression.specs.declared.expr.BinaryOp.{BinaryOp}

@@ -7,7 +7,7 @@ use Rattle.std.proofs.lemmas.Fmt.{decimal_by_steps}
 use Rattle.std.proofs.lemmas.Bool.{and_parts, ltb-true, not-true, cond-true, cond-false}
 use Rattle.std.proofs.lemmas.Bool.Decides.{nat_tests}
 use Rattle.msi_text.specs.CategoryRules.{starts_name, continues_name, is_identifier}
-use Rattle.msi_table.specs.declared.value.Value.TheVariants.{Str}
+use Rattle.msi_value.specs.declared.value.Value.TheVariants.{Str}
 use Rattle.msi_expression.specs.declared.expr.BinaryOp.TheVariants as two
 use Rattle.msi_expression.specs.Expressions.{literal}
 use Rattle.msi_expression.proofs.ReaderLemmas.{Link, by, link_level, link_text, Frame, Place, place, settle, State, wanting, word, number, quote, after, right_of, step, step_after, run, is_ready, place_of}

@@ -1,7 +1,7 @@
 -- A tree in which columns stand as their names is worth what its expression is.
 use Rattle.std.proofs.Common.{◌≡◌, ℕ, List, Bool, ◌&&◌, ◌||◌, refl, ap, ap₂}
-use Rattle.msi_table.specs.declared.value.Value.{Value}
-use Rattle.msi_table.specs.Values.{is_true}
+use Rattle.msi_value.specs.declared.value.Value.{Value}
+use Rattle.msi_value.specs.Values.{is_true}
 use Rattle.msi_expression.specs.declared.expr.Tree.{Tree, Literal, Column, Unary', Binary', And', Or'}
 use Rattle.msi_expression.specs.Conditions.{has_sum, is_sum}
 use Rattle.msi_expression.specs.Evaluation.{truth, unary_value, binary_value, value_of}

@@ -1,9 +1,9 @@
 -- Conditions on rows, and what takes memory to evaluate.
 use Rattle.std.specs.Prelude.{ℕ, Bool, true, false, List, ◌||◌, Option, Some, None, option_and_then, unwrap_or, is_some, slice_get}
-use Rattle.msi_table.specs.declared.value.Value.{Value}
-use Rattle.msi_table.specs.declared.value.Value.TheVariants.{Null}
-use Rattle.msi_table.specs.Values.{is_true, text_of}
-use Rattle.msi_table.specs.Columns.{ColumnDef, column_index}
+use Rattle.msi_value.specs.declared.value.Value.{Value}
+use Rattle.msi_value.specs.declared.value.Value.TheVariants.{Null}
+use Rattle.msi_value.specs.Values.{is_true, text_of}
+use Rattle.msi_value.specs.Columns.{ColumnDef, column_index}
 use Rattle.msi_expression.specs.declared.expr.BinaryOp.{BinaryOp}
 use Rattle.msi_expression.specs.declared.expr.BinaryOp.TheVariants as two
 use Rattle.msi_expression.specs.Expressions.{Expression, literal, column, unary, binary, both, either}

@@ -2,9 +2,9 @@
 use Rattle.std.specs.Prelude.{◌≡◌, ℕ, ◌-◌, Bool, List, ◌++◌, length, Option, Some, None, option_and_then, nat_lt, if◌then◌else◌, IsTrue}
 use Rattle.std.specs.Option.{option_or}
 use Rattle.std.specs.Ordering.{is_eq}
-use Rattle.msi_table.specs.declared.value.Value.{Value}
-use Rattle.msi_table.specs.Columns.{ColumnDef, column_index}
-use Rattle.msi_table.specs.Values.{value_cmp}
+use Rattle.msi_value.specs.declared.value.Value.{Value}
+use Rattle.msi_value.specs.Columns.{ColumnDef, column_index}
+use Rattle.msi_value.specs.Values.{value_cmp}
 use Rattle.msi_expression.specs.declared.expr.BinaryOp.TheVariants as two
 use Rattle.msi_expression.specs.Expressions.{Expression, column, binary, both}
 use Rattle.msi_expression.specs.Conditions.{value_at_place}

@@ -4,10 +4,10 @@ use Rattle.std.specs.Prelude.{int_le, int_div, IsTrue, unwrap_or}
 use Rattle.std.specs.List.{list_all}
 use Rattle.std.specs.Ordering.{is_eq, is_lt, is_le, int_cmp}
 use Rattle.std.specs.Int.{w32, int_bit_and, int_bit_or, int_bit_xor, int_shl, int_shr}
-use Rattle.msi_table.specs.declared.value.Value.{Value}
-use Rattle.msi_table.specs.declared.value.Value.TheVariants.{Null, Int, Str}
-use Rattle.msi_table.specs.Values.{value_cmp, is_true}
-use Rattle.msi_table.specs.Columns.{ColumnDef, has_column}
+use Rattle.msi_value.specs.declared.value.Value.{Value}
+use Rattle.msi_value.specs.declared.value.Value.TheVariants.{Null, Int, Str}
+use Rattle.msi_value.specs.Values.{value_cmp, is_true}
+use Rattle.msi_value.specs.Columns.{ColumnDef, has_column}
 use Rattle.msi_table.specs.Rows.{RowDef, value_named}
 use Rattle.msi_expression.specs.declared.expr.UnaryOp.{UnaryOp}
 use Rattle.msi_expression.specs.declared.expr.UnaryOp.TheVariants as one

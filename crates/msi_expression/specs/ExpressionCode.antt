@@ -2,8 +2,8 @@
 use Rattle.std.specs.Prelude.{◌≡◌, ℕ, List, [], ◌∷◌, refl}
 use Rattle.std.proofs.Common.{◌∙◌, ap}
 use Rattle.std.specs.Coded.{Coded, code_by}
-use Rattle.msi_table.specs.declared.value.Value.{Value}
-use Rattle.msi_table.specs.declared.value.Value.TheVariants as values
+use Rattle.msi_value.specs.declared.value.Value.{Value}
+use Rattle.msi_value.specs.declared.value.Value.TheVariants as values
 use Rattle.msi_expression.specs.declared.expr.UnaryOp.{UnaryOp}
 use Rattle.msi_expression.specs.declared.expr.BinaryOp.{BinaryOp}
 use Rattle.msi_expression.specs.Expressions.{Expression, literal, column, unary, binary, both, either}

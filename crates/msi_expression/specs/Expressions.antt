@@ -1,6 +1,6 @@
 -- Expressions as values.
 use Rattle.std.specs.Prelude.{ℕ, List, [], ◌∷◌, ◌++◌}
-use Rattle.msi_table.specs.declared.value.Value.{Value}
+use Rattle.msi_value.specs.declared.value.Value.{Value}
 use Rattle.msi_expression.specs.declared.expr.UnaryOp.{UnaryOp}
 use Rattle.msi_expression.specs.declared.expr.BinaryOp.{BinaryOp}
 

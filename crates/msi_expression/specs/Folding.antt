@@ -1,7 +1,7 @@
 -- What the constructors of expressions make.
 use Rattle.std.specs.Prelude.{◌≡◌, ℕ, Bool, true, false, not, List, ◌&&◌, IsTrue}
-use Rattle.msi_table.specs.declared.value.Value.{Value}
-use Rattle.msi_table.specs.declared.value.Value.TheVariants.{Null, Int, Str, Binary}
+use Rattle.msi_value.specs.declared.value.Value.{Value}
+use Rattle.msi_value.specs.declared.value.Value.TheVariants.{Null, Int, Str, Binary}
 use Rattle.msi_expression.specs.declared.expr.UnaryOp.{UnaryOp}
 use Rattle.msi_expression.specs.declared.expr.BinaryOp.{BinaryOp}
 use Rattle.msi_expression.specs.Expressions.{Expression, literal, column, unary, binary, both, either}

@@ -1,7 +1,7 @@
 -- Operands of operators, as values.
 use Rattle.std.specs.Prelude.{ℤ, Option, Some, None}
-use Rattle.msi_table.specs.declared.value.Value.{Value}
-use Rattle.msi_table.specs.declared.value.Value.TheVariants.{Null, Int}
+use Rattle.msi_value.specs.declared.value.Value.{Value}
+use Rattle.msi_value.specs.declared.value.Value.TheVariants.{Null, Int}
 use Rattle.msi_expression.specs.Views.{seen_value}
 use Rattle.msi_expression.specs.declared.expr.operands.Operand.{Operand}
 use Rattle.msi_expression.specs.declared.expr.operands.Operand.TheVariants.{Borrowed, Computed}

@@ -1,7 +1,7 @@
 -- How expressions print: the loosest operators have level 1, what needs no brackets level 10.
 use Rattle.std.specs.Prelude.{ℕ, ◌+◌, List, Option, Some, nat_lt, if◌then◌else◌, codes}
 use Rattle.std.specs.Fmt.{◌++?◌}
-use Rattle.msi_table.specs.Values.{value_text}
+use Rattle.msi_value.specs.Values.{value_text}
 use Rattle.msi_expression.specs.declared.expr.UnaryOp.{UnaryOp}
 use Rattle.msi_expression.specs.declared.expr.UnaryOp.TheVariants as one
 use Rattle.msi_expression.specs.declared.expr.BinaryOp.{BinaryOp}

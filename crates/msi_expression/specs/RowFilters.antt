@@ -1,9 +1,9 @@
 -- Conditions whose columns' places were looked up.
 use Rattle.std.specs.Prelude.{◌≡◌, ℕ, false, List, Option}
 use Rattle.std.specs.Option.{option_map_or}
-use Rattle.msi_table.specs.declared.value.Value.{Value}
-use Rattle.msi_table.specs.Values.{is_true}
-use Rattle.msi_table.specs.Columns.{ColumnDef}
+use Rattle.msi_value.specs.declared.value.Value.{Value}
+use Rattle.msi_value.specs.Values.{is_true}
+use Rattle.msi_value.specs.Columns.{ColumnDef}
 use Rattle.msi_expression.specs.declared.expr.Tree.{Tree}
 use Rattle.msi_expression.specs.Expressions.{Expression}
 use Rattle.msi_expression.specs.Conditions.{has_sum, meets, value_at_place}

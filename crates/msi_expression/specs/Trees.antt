@@ -1,7 +1,7 @@
 -- What a tree stands for, and what it is worth.
 use Rattle.std.specs.Prelude.{ℕ, Bool, false, List, ◌&&◌, ◌||◌}
-use Rattle.msi_table.specs.declared.value.Value.{Value}
-use Rattle.msi_table.specs.Values.{is_true}
+use Rattle.msi_value.specs.declared.value.Value.{Value}
+use Rattle.msi_value.specs.Values.{is_true}
 use Rattle.msi_expression.specs.declared.expr.Tree.{Tree, Literal, Column, Unary', Binary', And', Or'}
 use Rattle.msi_expression.specs.Expressions.{Expression, literal, column, unary, binary, both, either}
 use Rattle.msi_expression.specs.Evaluation.{truth, unary_value, binary_value}

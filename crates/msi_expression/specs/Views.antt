@@ -1,6 +1,6 @@
 -- Values that are seen where they lie.
-use Rattle.msi_table.specs.declared.value.Value.{Value}
-use Rattle.msi_table.specs.declared.value.Value.TheVariants as value
+use Rattle.msi_value.specs.declared.value.Value.{Value}
+use Rattle.msi_value.specs.declared.value.Value.TheVariants as value
 use Rattle.msi_expression.specs.declared.expr.views.ValueView.{ValueView}
 use Rattle.msi_expression.specs.declared.expr.views.ValueView.TheVariants.{Null, Int, Str, Binary}
 

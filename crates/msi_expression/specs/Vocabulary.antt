@@ -2,8 +2,8 @@
 use Rattle.std.specs.Prelude.{◌≡◌, ℕ, Bool, true, false, not, List, ◌&&◌, ◌||◌, IsTrue, bytes_eq, codes}
 use Rattle.msi_text.specs.CategoryRules.{is_identifier}
 use Rattle.msi_text.specs.Pages.{is_ascii}
-use Rattle.msi_table.specs.declared.value.Value.{Value}
-use Rattle.msi_table.specs.declared.value.Value.TheVariants.{Str}
+use Rattle.msi_value.specs.declared.value.Value.{Value}
+use Rattle.msi_value.specs.declared.value.Value.TheVariants.{Str}
 use Rattle.msi_expression.specs.Expressions.{Expression, literal, column, unary, binary, both, either}
 use Rattle.msi_expression.specs.Folding.{is_built}
 use Rattle.msi_expression.specs.Printing.{expression_text}

@@ -2,7 +2,7 @@
 
 ghost use Rattle.std.specs.Prelude.{◌≡◌, ◌||◌, IfOk, IfErr, IsErr, IsTrue, ◌↔◌, Contains, ℕ, List};
 ghost use Rattle.msi_text.specs.ErrorKind.TheVariants.{OutOfMemory};
-ghost use Rattle.msi_table.specs.declared.value.Value.TheVariants.{Null, Int, Str};
+ghost use Rattle.msi_value.specs.declared.value.Value.TheVariants.{Null, Int, Str};
 ghost use Rattle.msi_expression.specs.Expressions.{literal, column, both, either, names_in};
 ghost use Rattle.msi_expression.specs.Conditions.{has_sum, is_text};
 ghost use Rattle.msi_expression.specs.Equated.{equated as equated_in};

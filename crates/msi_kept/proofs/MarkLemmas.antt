@@ -6,8 +6,8 @@ use Rattle.std.proofs.lemmas.Bool.{cases_eq, eq-eqb, ne_eqb}
 use Rattle.std.proofs.lemmas.List.{length-set, length-replicate, get_or-replicate}
 use Rattle.msi_text.specs.Pool.{Place, Pool, without_unnamed_texts, with_named_texts}
 use Rattle.msi_pool.proofs.ForgottenLemmas.{marks_stand}
-use Rattle.msi_table.specs.declared.value.ValueRef.{ValueRef}
-use Rattle.msi_table.specs.Columns.{TableDef}
+use Rattle.msi_value.specs.declared.value.ValueRef.{ValueRef}
+use Rattle.msi_table.specs.Tables.{TableDef}
 use Rattle.msi_changes.specs.Database.{number_of_cell, numbers_of_rows, rows_of}
 use Rattle.msi_kept.specs.Streams.{Streams, stored_rows}
 use Rattle.msi_kept.specs.Kept.{AreAsLong, table_kept}

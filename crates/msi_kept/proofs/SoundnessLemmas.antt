@@ -5,8 +5,9 @@ use Rattle.std.specs.Option as options
 use Rattle.std.specs.List.{AllByRecursion}
 use Rattle.msi_text.specs.Pool.{Pool, Place}
 use Rattle.msi_text.specs.FirstFit.{count_of, most_places}
-use Rattle.msi_table.specs.declared.value.ValueRef.{ValueRef}
-use Rattle.msi_table.specs.Columns.{ColumnDef, TableDef}
+use Rattle.msi_value.specs.declared.value.ValueRef.{ValueRef}
+use Rattle.msi_value.specs.Columns.{ColumnDef}
+use Rattle.msi_table.specs.Tables.{TableDef}
 use Rattle.msi_relation.specs.Rows.{TableCells}
 use Rattle.msi_schema.specs.System.{validation_columns, validation_name}
 use Rattle.msi_changes.specs.Database.{Database, are_alike, is_sound, names_are_numbers, numbers_of_rows, pool_fits_width, validation_is_standard}

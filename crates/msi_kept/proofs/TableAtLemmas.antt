@@ -5,7 +5,7 @@ use Rattle.std.specs.FinMap.{find}
 use Rattle.std.proofs.lemmas.Map.Text.{is_eq-slice_cmp}
 use Rattle.msi_text.specs.Pool.{Pool}
 use Rattle.msi_text.specs.Lists.{list_cmp}
-use Rattle.msi_table.specs.Columns.{TableDef}
+use Rattle.msi_table.specs.Tables.{TableDef}
 use Rattle.msi_changes.specs.Database.{table_at}
 use Rattle.msi_kept.specs.Streams.{Streams}
 use Rattle.msi_kept.specs.Kept.{table_kept, table_kept_at, database_kept}

@@ -2,9 +2,9 @@
 use Rattle.std.specs.Prelude.{ℕ, zero, suc, ◌==◌, Bool, true, List, [], ◌∷◌, ◌++◌, map, set}
 use Rattle.std.specs.List.{flat_map, list_any}
 use Rattle.msi_text.specs.Pool.{Pool, with_named_texts}
-use Rattle.msi_table.specs.declared.value.ValueRef.{ValueRef}
-use Rattle.msi_table.specs.declared.value.ValueRef.TheVariants as cell
-use Rattle.msi_table.specs.Columns.{TableDef}
+use Rattle.msi_value.specs.declared.value.ValueRef.{ValueRef}
+use Rattle.msi_value.specs.declared.value.ValueRef.TheVariants as cell
+use Rattle.msi_table.specs.Tables.{TableDef}
 use Rattle.msi_changes.specs.Database.{Tables, numbers_of_rows, rows_of}
 use Rattle.msi_kept.specs.Streams.{Streams}
 use Rattle.msi_kept.specs.Kept.{table_kept}

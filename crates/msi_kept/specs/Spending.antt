@@ -1,7 +1,7 @@
 -- Counts of places, of which each cell that names a place takes one.
 use Rattle.std.specs.Prelude.{ℕ, zero, suc, ◌-◌, Bool, List, [], ◌∷◌, Option, Some, None, option_and_then, is_some, nat_lt, ◌&&◌, if◌then◌else◌, set, slice_index}
-use Rattle.msi_table.specs.declared.value.ValueRef.{ValueRef}
-use Rattle.msi_table.specs.declared.value.ValueRef.TheVariants as cell
+use Rattle.msi_value.specs.declared.value.ValueRef.{ValueRef}
+use Rattle.msi_value.specs.declared.value.ValueRef.TheVariants as cell
 use Rattle.msi_relation.specs.Rows.{TableCells}
 use Rattle.msi_schema.specs.Keys.{is_table_name}
 use Rattle.msi_changes.specs.Database.{Tables, rows_of, numbers_of_rows}

@@ -4,8 +4,8 @@ use Rattle.std.specs.List.{fold}
 use Rattle.std.specs.FinMap.{find, put}
 use Rattle.std.specs.Ordering.{eq_by_cmp}
 use Rattle.msi_compound.specs.Names.{name_cmp}
-use Rattle.msi_table.specs.declared.value.ValueRef.{ValueRef}
-use Rattle.msi_table.specs.Columns.{ColumnDef, types_of}
+use Rattle.msi_value.specs.declared.value.ValueRef.{ValueRef}
+use Rattle.msi_value.specs.Columns.{ColumnDef, types_of}
 use Rattle.msi_table.specs.Cells.{rows_in, table_bytes}
 use Rattle.msi_table.specs.Tables.{stored_bytes}
 use Rattle.msi_relation.specs.Rows.{TableCells}

@@ -1,6 +1,6 @@
 -- Worked texts of queries.
 use Rattle.std.proofs.Common.{◌≡◌, ℕ, pos, List, [], ◌∷◌, Some, None, codes, refl}
-use Rattle.msi_table.specs.declared.value.Value.TheVariants.{Null, Int, Str}
+use Rattle.msi_value.specs.declared.value.Value.TheVariants.{Null, Int, Str}
 use Rattle.msi_expression.specs.declared.expr.BinaryOp.TheVariants as two
 use Rattle.msi_query.specs.declared.query.JoinKind.TheVariants.{Inner, Left}
 use Rattle.msi_expression.specs.Expressions.{Expression, literal, column, binary, either}

@@ -3,8 +3,8 @@ use Rattle.std.specs.Prelude.{ℕ, List, [], ◌∷◌, ◌++◌, map, length, O
 use Rattle.std.specs.List.{join_by}
 use Rattle.std.specs.Fmt.{◌++?◌}
 use Rattle.msi_text.specs.Lists.{all_present}
-use Rattle.msi_table.specs.declared.value.Value.{Value}
-use Rattle.msi_table.specs.Values.{value_text}
+use Rattle.msi_value.specs.declared.value.Value.{Value}
+use Rattle.msi_value.specs.Values.{value_text}
 use Rattle.msi_query.specs.declared.query.JoinKind.{JoinKind}
 use Rattle.msi_query.specs.declared.query.JoinKind.TheVariants.{Inner, Left}
 use Rattle.msi_expression.specs.Expressions.{Expression}

@@ -11,13 +11,12 @@ use Rattle.std.proofs.lemmas.List.Concat.{flat_map-append}
 use Rattle.std.proofs.lemmas.List.Sorted.{IsNonDecreasingBy-drop, ranks_by, searchable_from_sorted}
 use Rattle.msi_text.specs.Lists.{placed, stable_sort}
 use Rattle.msi_text.specs.Pool.{Place}
-use Rattle.msi_table.specs.declared.value.ValueRef.{ValueRef}
-use Rattle.msi_table.specs.declared.value.Value.{Value}
-use Rattle.msi_table.specs.Cells.{value_of_cell}
-use Rattle.msi_table.specs.Columns.{ColumnDef}
-use Rattle.msi_table.specs.Values.{value_cmp}
-use Rattle.msi_table.specs.OrderLaws.{value_cmp-total, value_eq-Decides}
-use Rattle.msi_table.specs.StoredOrder.{row_values}
+use Rattle.msi_value.specs.declared.value.ValueRef.{ValueRef}
+use Rattle.msi_value.specs.declared.value.Value.{Value}
+use Rattle.msi_value.specs.CellValues.{value_of_cell, row_values}
+use Rattle.msi_value.specs.Columns.{ColumnDef}
+use Rattle.msi_value.specs.Values.{value_cmp}
+use Rattle.msi_value.specs.OrderLaws.{value_cmp-total, value_eq-Decides}
 use Rattle.msi_table.proofs.StableSortLemmas.{only_stable_sort}
 use Rattle.msi_query.specs.declared.query.JoinKind.{JoinKind}
 use Rattle.msi_expression.specs.Conditions.{RowFilterDef, meets, value_at_place}

@@ -5,12 +5,11 @@ use Rattle.std.specs.Ordering.{is_eq}
 use Rattle.std.specs.declared.cmp.Ordering.{Ordering}
 use Rattle.msi_text.specs.Lists.{stable_sort}
 use Rattle.msi_text.specs.Pool.{Place}
-use Rattle.msi_table.specs.declared.value.ValueRef.{ValueRef}
-use Rattle.msi_table.specs.declared.value.Value.{Value}
-use Rattle.msi_table.specs.Cells.{value_of_cell}
-use Rattle.msi_table.specs.Columns.{ColumnDef}
-use Rattle.msi_table.specs.StoredOrder.{row_values}
-use Rattle.msi_table.specs.Values.{value_cmp}
+use Rattle.msi_value.specs.declared.value.ValueRef.{ValueRef}
+use Rattle.msi_value.specs.declared.value.Value.{Value}
+use Rattle.msi_value.specs.CellValues.{value_of_cell, row_values}
+use Rattle.msi_value.specs.Columns.{ColumnDef}
+use Rattle.msi_value.specs.Values.{value_cmp}
 use Rattle.msi_expression.specs.Conditions.{value_at_place}
 use Rattle.msi_expression.specs.Equated.{equated}
 use Rattle.msi_expression.specs.Expressions.{Expression}

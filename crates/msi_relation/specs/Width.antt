@@ -1,8 +1,8 @@
 -- Rows that have a cell for each column.
 use Rattle.std.specs.Prelude.{◌≡◌, ℕ, List, length, Option, Some}
 use Rattle.std.specs.List.{AllByRecursion}
-use Rattle.msi_table.specs.declared.value.ValueRef.{ValueRef}
-use Rattle.msi_table.specs.declared.value.Value.{Value}
+use Rattle.msi_value.specs.declared.value.ValueRef.{ValueRef}
+use Rattle.msi_value.specs.declared.value.Value.{Value}
 use Rattle.msi_table.specs.Rows.{AreAsWide}
 use Rattle.msi_relation.specs.Rows.{TableCells}
 use Rattle.msi_relation.specs.Selection.{Relation, TableValues}

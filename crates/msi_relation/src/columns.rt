@@ -4,7 +4,7 @@ ghost use Rattle.std.specs.Prelude.{◌≡◌, ◌++◌, ◌∷◌, ◌==◌, ma
 ghost use Rattle.std.specs.List.{filter_map};
 ghost use Rattle.msi_text.specs.Pool.{Place};
 ghost use Rattle.msi_text.specs.Results.{OnlyMemory};
-ghost use Rattle.msi_table.specs.Columns.{column_index as index_of};
+ghost use Rattle.msi_value.specs.Columns.{column_index as index_of};
 ghost use Rattle.msi_relation.specs.Rows.{column_at as column_there, relation_values};
 ghost use Rattle.msi_relation.specs.Selection.{condition_names, has_columns as has_each, is_left as keeps_left, joined_columns as joined_by, nullable_if, prefixed as prefixed_by};
 

@@ -3,9 +3,9 @@
 ghost use Rattle.std.specs.Prelude.{◌≡◌, List, Some, IfSome, OnOk, filter};
 ghost use Rattle.msi_text.specs.Pool.{Place};
 ghost use Rattle.msi_text.specs.Results.{OnlyMemory};
-ghost use Rattle.msi_table.specs.Cells.{value_of_cell};
-ghost use Rattle.msi_table.specs.declared.value.ValueRef.{ValueRef as Cell};
-ghost use Rattle.msi_table.specs.Values.{value_cmp};
+ghost use Rattle.msi_value.specs.CellValues.{value_of_cell};
+ghost use Rattle.msi_value.specs.declared.value.ValueRef.{ValueRef as Cell};
+ghost use Rattle.msi_value.specs.Values.{value_cmp};
 ghost use Rattle.msi_expression.specs.Conditions.{meets};
 ghost use Rattle.msi_relation.specs.Index.{PassWithEqual, has_value, has_width as have_width, in_place_order, place_cmp, places_asked as asked, value_there};
 

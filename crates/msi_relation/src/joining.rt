@@ -3,7 +3,7 @@
 ghost use Rattle.std.specs.Prelude.{◌≡◌, ◌++◌, IfOk, OnOk, Some, length};
 ghost use Rattle.std.specs.List.{flat_map};
 ghost use Rattle.msi_text.specs.Results.{OnlyMemory};
-ghost use Rattle.msi_table.specs.StoredOrder.{row_values};
+ghost use Rattle.msi_value.specs.CellValues.{row_values};
 ghost use Rattle.msi_expression.specs.Conditions.{meets};
 ghost use Rattle.msi_relation.specs.Index.{PassWithEqual};
 ghost use Rattle.msi_relation.specs.Rows.{rows_values};

@@ -2,7 +2,7 @@
 
 ghost use Rattle.std.specs.Prelude.{◌≡◌, ◌++◌, IfOk, replicate};
 ghost use Rattle.msi_text.specs.Results.{OnlyMemory};
-ghost use Rattle.msi_table.specs.declared.value.ValueRef.TheVariants as cell;
+ghost use Rattle.msi_value.specs.declared.value.ValueRef.TheVariants as cell;
 ghost use Rattle.msi_relation.specs.Rows.{cell_at, cells_at};
 
 use msi_table::value::ValueRef;

@@ -2,8 +2,8 @@
 use Rattle.std.proofs.Common.{◌≡◌, Some, None, List, [], ◌∷◌, map, Result, Ok, Err, refl, sym, ap, subst, ◌∙◌}
 use Rattle.msi_text.specs.ErrorKind.{ErrorKind}
 use Rattle.msi_property.specs.Properties.{Properties}
-use Rattle.msi_table.specs.declared.value.Value.{Value}
-use Rattle.msi_table.specs.Columns.{ColumnDef}
+use Rattle.msi_value.specs.declared.value.Value.{Value}
+use Rattle.msi_value.specs.Columns.{ColumnDef}
 use Rattle.msi_table.specs.Rows.{RowsDef}
 use Rattle.msi_query.specs.Queries.{Query}
 use Rattle.msi_relation.specs.Refusals.{IsRefusal, first_refusal}

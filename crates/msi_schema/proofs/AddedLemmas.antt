@@ -8,10 +8,10 @@ use Rattle.std.specs.Cmp.{nat_cmp_total}
 use Rattle.std.specs.Cmp.Lexicographic.{lists_total}
 use Rattle.std.proofs.lemmas.List.Elements.{filter-append}
 use Rattle.msi_text.specs.Lists.{has_pair, list_cmp}
-use Rattle.msi_table.specs.declared.value.Value.{Value}
-use Rattle.msi_table.specs.declared.value.Value.TheVariants.{Int, Str}
-use Rattle.msi_table.specs.Columns.{ColumnDef}
-use Rattle.msi_table.specs.OrderLaws.{value_eq-Decides}
+use Rattle.msi_value.specs.declared.value.Value.{Value}
+use Rattle.msi_value.specs.declared.value.Value.TheVariants.{Int, Str}
+use Rattle.msi_value.specs.Columns.{ColumnDef}
+use Rattle.msi_value.specs.OrderLaws.{value_eq-Decides}
 use Rattle.msi_schema.specs.Description as description
 use Rattle.msi_schema.specs.Keys.{is_pool_name}
 use Rattle.msi_schema.specs.System.{columns_columns, columns_name, is_schema_table, tables_columns, tables_name}

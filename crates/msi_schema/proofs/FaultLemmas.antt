@@ -6,7 +6,7 @@ use Rattle.std.proofs.lemmas.List.Sorted.{IsPermutation-refl}
 use Rattle.std.proofs.lemmas.Slice.Eq.{bytes_eq-Decides}
 use denote.Ref.{Bor}
 use Rattle.msi_text.specs.Lists.{has_pair, stable_sort}
-use Rattle.msi_table.specs.declared.value.Value.{Value}
+use Rattle.msi_value.specs.declared.value.Value.{Value}
 use Rattle.msi_schema.specs.Keys.{is_pool_name}
 use Rattle.msi_schema.specs.RowOrders.{by_texts, has_faulty_row, rows_of, shares_key, texts_at, texts_cmp}
 use Rattle.msi_schema.specs.Schema.{SchemaRows, counted, describes_column, has_null, is_about, is_faulty, lacks_value, listed_names, share_key, text_at}

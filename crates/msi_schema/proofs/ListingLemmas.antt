@@ -4,8 +4,8 @@ use Rattle.std.specs.Prelude.{◌||◌, Option, option_map, slice_index_or}
 use Rattle.std.proofs.lemmas.List.{take_more}
 use Rattle.std.proofs.lemmas.List.Sorted.{IsPermutation-refl, list_any-IsPermutation}
 use Rattle.msi_text.specs.Lists.{all_present, stable_sort}
-use Rattle.msi_table.specs.declared.value.Value.{Value}
-use Rattle.msi_table.specs.Columns.{TableDef}
+use Rattle.msi_value.specs.declared.value.Value.{Value}
+use Rattle.msi_table.specs.Tables.{TableDef}
 use Rattle.msi_schema.specs.ListedTables.{by_names, listed_table, listed_tables, with_system}
 use Rattle.msi_schema.specs.RowOrders.{by_numbers, by_texts, describing, number_in, numbers_cmp, rows_of, texts_at, texts_cmp}
 use Rattle.msi_schema.specs.Schema.{SchemaRows, counted, has_long_number, has_odd_name, is_faulty, tables_of, text_at}

@@ -9,11 +9,11 @@ use Rattle.std.proofs.lemmas.List.Sorted.{list_any-IsPermutation, sum_by-IsPermu
 use Rattle.std.proofs.lemmas.List.Sums.{length-filter}
 use Rattle.std.proofs.lemmas.Slice.Eq.{bytes_eq-Decides}
 use Rattle.msi_text.specs.Lists.{all_present, has_pair, tabulated}
-use Rattle.msi_table.specs.declared.value.Value.{Value}
-use Rattle.msi_table.specs.declared.value.Value.TheVariants.{Int, Str}
-use Rattle.msi_table.specs.Values.{value_cmp}
-use Rattle.msi_table.specs.OrderLaws.{value_eq-Decides}
-use Rattle.msi_table.specs.Columns.{ColumnDef, begun_column, column_of_bits}
+use Rattle.msi_value.specs.declared.value.Value.{Value}
+use Rattle.msi_value.specs.declared.value.Value.TheVariants.{Int, Str}
+use Rattle.msi_value.specs.Values.{value_cmp}
+use Rattle.msi_value.specs.OrderLaws.{value_eq-Decides}
+use Rattle.msi_value.specs.Columns.{ColumnDef, begun_column, column_of_bits}
 use Rattle.msi_schema.specs.Keys.{is_pool_name}
 use Rattle.msi_schema.specs.System.{columns_columns, columns_name, is_schema_table, tables_columns, tables_name}
 use Rattle.msi_schema.specs.Schema.{SchemaRows, bits_in, column_rows, columns_of, counted, described, describes_column, has_number, is_about, is_null, lacks_value, listed_names, number_of, numbered_row, share_key, text_at, validation_row, value_at}

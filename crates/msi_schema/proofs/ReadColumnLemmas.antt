@@ -10,9 +10,9 @@ use Rattle.msi_text.specs.ErrorKind.TheVariants as kind
 use Rattle.msi_text.specs.declared.category.Category.{Category}
 use Rattle.msi_text.specs.declared.category.Category.TheVariants as category
 use Rattle.msi_text.specs.Categories.{all_categories, category_in, category_name, other_name}
-use Rattle.msi_table.specs.declared.value.Value.{Value}
-use Rattle.msi_table.specs.declared.column.ColumnType.{ColumnType}
-use Rattle.msi_table.specs.Columns.{ColumnDef, begun_column, column_of_bits, has_bit, type_of_bits, with_bits}
+use Rattle.msi_value.specs.declared.value.Value.{Value}
+use Rattle.msi_value.specs.declared.column.ColumnType.{ColumnType}
+use Rattle.msi_value.specs.Columns.{ColumnDef, begun_column, column_of_bits, has_bit, type_of_bits, with_bits}
 use Rattle.msi_schema.specs.Schema.{both_set, category_named, described, has_long_number, is_of_16_bits, number_of, text_at, text_of, value_at, values_in}
 use Rattle.msi_schema.proofs.ListLemmas.{by_test, find_same, or_false, yes_is_no}
 

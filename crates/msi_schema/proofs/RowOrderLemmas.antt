@@ -8,9 +8,9 @@ use Rattle.std.specs.Ordering.{int_cmp, is_eq, is_lt, ordering_then}
 use Rattle.std.specs.declared.cmp.Ordering.TheVariants.{Less, Equal, Greater}
 use Rattle.std.proofs.lemmas.Map.Text.{is_eq-slice_cmp}
 use Rattle.msi_text.specs.Lists.{list_cmp}
-use Rattle.msi_table.specs.declared.value.Value.{Value}
-use Rattle.msi_table.specs.OrderLaws.{value_cmp-total}
-use Rattle.msi_table.specs.Values.{value_cmp}
+use Rattle.msi_value.specs.declared.value.Value.{Value}
+use Rattle.msi_value.specs.OrderLaws.{value_cmp-total}
+use Rattle.msi_value.specs.Values.{value_cmp}
 use Rattle.msi_schema.specs.RowOrders.{by_numbers, by_values, number_in, numbers_cmp, pair_cmp, texts_at, texts_cmp, values_cmp}
 use Rattle.msi_schema.specs.Schema.{has_number, is_about, number_of, share_key, text_at, value_at}
 

@@ -11,7 +11,7 @@ use Rattle.std.specs.Cmp.Lexicographic.{lists_total}
 use Rattle.std.proofs.lemmas.Map.Text.{is_eq-slice_cmp}
 use Rattle.std.proofs.lemmas.Slice.Eq.{bytes_eq-Decides}
 use Rattle.msi_text.specs.Lists.{all_present, has_pair, list_cmp}
-use Rattle.msi_table.specs.Columns.{ColumnDef}
+use Rattle.msi_value.specs.Columns.{ColumnDef}
 use Rattle.msi_schema.specs.Keys.{is_pool_name}
 use Rattle.msi_schema.specs.System.{columns_columns, columns_name, tables_columns, tables_name}
 use Rattle.msi_schema.specs.Schema.{SchemaRows, by_name, columns_of, counted, has_null, is_faulty, lacks_value, listed_names, schema_of, share_key, text_at}

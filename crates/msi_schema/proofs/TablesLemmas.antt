@@ -10,10 +10,10 @@ use Rattle.std.proofs.lemmas.List.Sorted.{IsPermutation-sym, sum_by-IsPermutatio
 use Rattle.std.proofs.lemmas.Bool.{eqb-true}
 use Rattle.std.proofs.lemmas.Map.Text.{is_eq-slice_cmp}
 use Rattle.msi_text.specs.Lists.{all_present, has_pair, list_cmp, numbers_from, placed, stable_sort, tabulated}
-use Rattle.msi_table.specs.declared.value.Value.{Value}
-use Rattle.msi_table.specs.declared.value.Value.TheVariants.{Null, Int, Str, Binary}
-use Rattle.msi_table.specs.Columns.{ColumnDef}
-use Rattle.msi_table.specs.OrderLaws.{value_eq-Decides}
+use Rattle.msi_value.specs.declared.value.Value.{Value}
+use Rattle.msi_value.specs.declared.value.Value.TheVariants.{Null, Int, Str, Binary}
+use Rattle.msi_value.specs.Columns.{ColumnDef}
+use Rattle.msi_value.specs.OrderLaws.{value_eq-Decides}
 use Rattle.msi_table.proofs.PlacesLemmas.{tabulated_more}
 use Rattle.msi_table.proofs.StableSortLemmas.{all_sorted}
 use Rattle.msi_schema.specs.ListedTables.{by_names, listed_table, listed_tables, with_system}

@@ -2,11 +2,11 @@
 use Rattle.std.specs.Prelude.{if◌then◌else◌, ℕ, Bool, true, nat_lt, List, [], ◌∷◌, map, Option, Some, None, option_map, codes, ℤ, pos}
 use Rattle.std.specs.List.{enumerate_from, join_with_byte, list_all}
 use Rattle.msi_text.specs.Categories.{category_name}
-use Rattle.msi_table.specs.declared.value.Value.{Value}
-use Rattle.msi_table.specs.declared.value.Value.TheVariants.{Null, Int, Str}
-use Rattle.msi_table.specs.declared.column.ColumnType.{ColumnType}
-use Rattle.msi_table.specs.declared.column.ColumnType.TheVariants as coltype
-use Rattle.msi_table.specs.Columns.{ColumnDef, type_bits}
+use Rattle.msi_value.specs.declared.value.Value.{Value}
+use Rattle.msi_value.specs.declared.value.Value.TheVariants.{Null, Int, Str}
+use Rattle.msi_value.specs.declared.column.ColumnType.{ColumnType}
+use Rattle.msi_value.specs.declared.column.ColumnType.TheVariants as coltype
+use Rattle.msi_value.specs.Columns.{ColumnDef, type_bits}
 
 -- The rows that describe a table: in `_Columns`, in `_Tables` and in `_Validation`
 abbrev pub column_row : List ℕ → ℕ × ColumnDef → List Value

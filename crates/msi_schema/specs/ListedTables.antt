@@ -2,7 +2,7 @@
 use Rattle.std.specs.Prelude.{ℕ, Bool, List, [], ◌∷◌, ◌++◌, map, Option, option_map}
 use Rattle.std.specs.declared.cmp.Ordering.{Ordering}
 use Rattle.msi_text.specs.Lists.{all_present, list_cmp}
-use Rattle.msi_table.specs.Columns.{TableDef}
+use Rattle.msi_table.specs.Tables.{TableDef}
 use Rattle.msi_schema.specs.Schema.{SchemaRows, columns_of, listed_names, table_with}
 use Rattle.msi_schema.specs.System.{columns_columns, columns_name, tables_columns, tables_name}
 

@@ -7,10 +7,11 @@ use Rattle.std.specs.Int.{w16, cast_unsigned}
 use Rattle.msi_text.specs.declared.category.Category.{Category}
 use Rattle.msi_text.specs.Categories.{category_name, all_categories}
 use Rattle.msi_text.specs.Lists.{all_present, tabulated, has_pair, list_cmp}
-use Rattle.msi_table.specs.declared.value.Value.{Value}
-use Rattle.msi_table.specs.declared.value.Value.TheVariants.{Null, Int, Str}
-use Rattle.msi_table.specs.Values.{value_cmp}
-use Rattle.msi_table.specs.Columns.{ColumnDef, TableDef, begun_column, column_of_bits, greatest_16}
+use Rattle.msi_value.specs.declared.value.Value.{Value}
+use Rattle.msi_value.specs.declared.value.Value.TheVariants.{Null, Int, Str}
+use Rattle.msi_value.specs.Values.{value_cmp}
+use Rattle.msi_value.specs.Columns.{ColumnDef, begun_column, column_of_bits, greatest_16}
+use Rattle.msi_table.specs.Tables.{TableDef}
 use Rattle.msi_schema.specs.Keys.{is_pool_name}
 use Rattle.msi_schema.specs.System.{tables_name, columns_name, is_schema_table, tables_columns, columns_columns}
 use Rattle.msi_text.specs.declared.category.Category.TheVariants as category

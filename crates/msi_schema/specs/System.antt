@@ -2,9 +2,9 @@
 use Rattle.std.specs.Prelude.{ℕ, Bool, true, false, List, [], ◌∷◌, ◌++◌, map, Some, None, codes, ◌||◌, bytes_eq, ℤ, pos, negsuc}
 use Rattle.msi_text.specs.declared.category.Category.{Category}
 use Rattle.msi_text.specs.Categories.{category_name, all_categories}
-use Rattle.msi_table.specs.declared.column.ColumnType.{ColumnType}
-use Rattle.msi_table.specs.declared.column.ColumnType.TheVariants.{Int16, Int32, Str}
-use Rattle.msi_table.specs.Columns.{ColumnDef}
+use Rattle.msi_value.specs.declared.column.ColumnType.{ColumnType}
+use Rattle.msi_value.specs.declared.column.ColumnType.TheVariants.{Int16, Int32, Str}
+use Rattle.msi_value.specs.Columns.{ColumnDef}
 use Rattle.msi_text.specs.declared.category.Category.TheVariants as category
 
 abbrev pub tables_name : List ℕ

@@ -3,7 +3,8 @@
 ghost use Rattle.std.specs.Prelude.{◌≡◌, ◌≤◌, IfOk, IsTrue, length, option_map};
 ghost use Rattle.msi_text.specs.Categories.{category_name};
 ghost use Rattle.msi_text.specs.Results.{OnlyMemory};
-ghost use Rattle.msi_table.specs.Columns.{HasShortLength, most_columns, type_bits as bits_of};
+ghost use Rattle.msi_value.specs.Columns.{HasShortLength, type_bits as bits_of};
+ghost use Rattle.msi_table.specs.Tables.{most_columns};
 ghost use Rattle.msi_schema.specs.Description.{column_row as row_of_column, column_rows as rows_of_columns, has_short_length as is_of_short_length, have_short_lengths as are_of_short_lengths, int_or_null, joined_values, tables_row as row_of_table, text_or_null, validation_row as validating_row, validation_rows as validating_rows};
 
 use msi_table::column::{Column, ColumnType};

@@ -1,7 +1,7 @@
 //! The values of a row of a system table, by their places. A missing value reads as null.
 
 ghost use Rattle.std.specs.Prelude.{◌≡◌};
-ghost use Rattle.msi_table.specs.Values.{value_cmp};
+ghost use Rattle.msi_value.specs.Values.{value_cmp};
 ghost use Rattle.msi_schema.specs.Schema.{is_null, is_text, number_of, text_at as text_in, value_at};
 
 use msi_table::value::Value;

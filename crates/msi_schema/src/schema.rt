@@ -4,7 +4,7 @@ ghost use Rattle.std.specs.Prelude.{◌≡◌, ◌≤◌, false, IfOk, OnOk, len
 ghost use Rattle.std.specs.List.Sorted.{IsSorted};
 ghost use Rattle.msi_text.specs.Lists.{stable_sort};
 ghost use Rattle.msi_text.specs.Results.{Gives, OnlyMemory};
-ghost use Rattle.msi_table.specs.Columns.{most_columns};
+ghost use Rattle.msi_table.specs.Tables.{most_columns};
 ghost use Rattle.msi_schema.specs.ListedTables.{by_names, listed_table as table_listed, listed_tables as tables_listed, system_tables as tables_of_system, with_system};
 ghost use Rattle.msi_schema.specs.RowOrders.{by_numbers, by_texts, describing, rows_of};
 ghost use Rattle.msi_schema.specs.Schema.{has_long_number as has_long, table_with, tables_of};

@@ -4,7 +4,7 @@ ghost use Rattle.std.specs.Prelude.{◌≡◌, IfOk, List, [], ◌∷◌, codes,
 ghost use Rattle.msi_text.specs.Categories.{all_categories, category_name};
 ghost use Rattle.msi_text.specs.Results.{OnlyMemory};
 ghost use Rattle.msi_text.specs.declared.category.Category.TheVariants as categories;
-ghost use Rattle.msi_table.specs.declared.column.ColumnType.TheVariants as types;
+ghost use Rattle.msi_value.specs.declared.column.ColumnType.TheVariants as types;
 ghost use Rattle.msi_schema.specs.System.{columns_columns as columns_of_columns, describing_columns, is_schema_table as is_of_schema, in_range, is_system_table as is_of_system, key, naming_columns, nullable, of_category, one_of, plain_column, referring_columns, tables_columns as columns_of_tables, validation_columns as columns_of_validation};
 
 use msi_table::column::Column;

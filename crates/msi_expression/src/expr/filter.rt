@@ -3,10 +3,9 @@
 ghost use Rattle.std.specs.Prelude.{◌≡◌, ◌++◌, List, IfOk, IfErr, IsErr, IsTrue, false, unwrap_or, slice_get, option_copied};
 ghost use Rattle.std.specs.Option.{option_map_or};
 ghost use Rattle.msi_text.specs.ErrorKind.TheVariants.{OutOfMemory};
-ghost use Rattle.msi_table.specs.declared.value.Value.{Value as ValueOf};
-ghost use Rattle.msi_table.specs.declared.value.ValueRef.TheVariants as cell;
-ghost use Rattle.msi_table.specs.Cells.{value_of_cell};
-ghost use Rattle.msi_table.specs.StoredOrder.{row_values};
+ghost use Rattle.msi_value.specs.declared.value.Value.{Value as ValueOf};
+ghost use Rattle.msi_value.specs.declared.value.ValueRef.TheVariants as cell;
+ghost use Rattle.msi_value.specs.CellValues.{value_of_cell, row_values};
 ghost use Rattle.msi_expression.specs.Conditions.{has_sum, meets as meets_one, value_in, value_at_place};
 ghost use Rattle.msi_expression.specs.Evaluation.{value_of};
 ghost use Rattle.msi_expression.specs.RowFilters.{StandsFor};

@@ -2,7 +2,7 @@
 
 ghost use Rattle.std.specs.Prelude.{◌≡◌, ◌++◌, IfOk, IfErr, IsErr, IsTrue, None};
 ghost use Rattle.msi_text.specs.ErrorKind.TheVariants.{OutOfMemory};
-ghost use Rattle.msi_table.specs.Values.{int_of};
+ghost use Rattle.msi_value.specs.Values.{int_of};
 ghost use Rattle.msi_expression.specs.declared.expr.BinaryOp.TheVariants.{Add, Shl, Shr};
 ghost use Rattle.msi_expression.specs.Conditions.{is_sum};
 ghost use Rattle.msi_expression.specs.Evaluation.{of_numbers, of_operands};

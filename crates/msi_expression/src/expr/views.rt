@@ -2,8 +2,8 @@
 
 ghost use Rattle.std.specs.Prelude.{◌≡◌, IfOk, IfErr, IsErr, IsTrue};
 ghost use Rattle.msi_text.specs.ErrorKind.TheVariants.{OutOfMemory};
-ghost use Rattle.msi_table.specs.declared.value.Value.{Value as ValueOf};
-ghost use Rattle.msi_table.specs.Values.{value_cmp, is_true as counts};
+ghost use Rattle.msi_value.specs.declared.value.Value.{Value as ValueOf};
+ghost use Rattle.msi_value.specs.Values.{value_cmp, is_true as counts};
 ghost use Rattle.msi_expression.specs.Conditions.{is_text};
 ghost use Rattle.msi_expression.specs.Evaluation.{value_at as value_in_row};
 ghost use Rattle.msi_expression.specs.Views.{seen_value};

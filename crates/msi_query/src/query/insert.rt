@@ -21,7 +21,7 @@ pub struct NewRow {
 
 impl Model for NewRow {
     ghost use Rattle.std.specs.Prelude.{List};
-    ghost use Rattle.msi_table.specs.declared.value.Value.{Value as ValueOf};
+    ghost use Rattle.msi_value.specs.declared.value.Value.{Value as ValueOf};
 
     ghost Value = { List ValueOf };
 

@@ -25,7 +25,7 @@ pub struct Assignment {
 
 impl Model for Assignment {
     ghost use Rattle.std.specs.Prelude.{List, ℕ};
-    ghost use Rattle.msi_table.specs.declared.value.Value.{Value as ValueOf};
+    ghost use Rattle.msi_value.specs.declared.value.Value.{Value as ValueOf};
 
     ghost Value = { List ℕ × ValueOf };
 

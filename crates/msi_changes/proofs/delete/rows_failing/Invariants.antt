@@ -1,5 +1,5 @@
 use Rattle.std.proofs.Common.{◌≡◌, true, false, filter}
-use Rattle.msi_table.specs.StoredOrder.{row_values}
+use Rattle.msi_value.specs.CellValues.{row_values}
 use Rattle.msi_expression.specs.Conditions.{meets}
 use Rattle.msi_changes.specs.Database.{same_bool}
 use Rattle.msi_changes.specs.Texts.{in_use, rows_released}

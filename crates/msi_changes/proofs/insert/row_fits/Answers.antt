@@ -1,5 +1,5 @@
 use Rattle.std.proofs.Common.{◌≡◌, true, ◌+◌, ◌&&◌, sym, ap, ◌∙◌, arith}
-use Rattle.msi_table.specs.ValidValues.{is_valid_value}
+use Rattle.msi_value.specs.ValidValues.{is_valid_value}
 use Rattle.msi_changes.proofs.RowFitLemmas.{fits_from, fits_next}
 use Rattle.msi_changes.proofs.insert.row_fits.Goals as goal
 

@@ -2,7 +2,7 @@ use Rattle.std.proofs.Common.{[], ◌≡◌, ◌∙◌, ◌<◌, get_or, length,
 use Rattle.std.proofs.lemmas.Bool.{not-true, not-false}
 use Rattle.std.proofs.lemmas.List.{length-map}
 use Rattle.msi_text.specs.ErrorKind.TheVariants.{AlreadyExists, InvalidInput}
-use Rattle.msi_table.specs.declared.value.Value.{Value}
+use Rattle.msi_value.specs.declared.value.Value.{Value}
 use Rattle.msi_changes.specs.Insert.{key_refusals}
 use Rattle.msi_changes.specs.Keyed.{key_of}
 use Rattle.msi_changes.proofs.KeySetLemmas.{again_refused, held_refused, key_at, key_passes, keys_more, keys_to, refused}

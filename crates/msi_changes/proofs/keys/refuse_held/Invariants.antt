@@ -1,5 +1,5 @@
 use Rattle.std.proofs.Common.{◌≡◌, List, map, take}
-use Rattle.msi_table.specs.declared.value.Value.{Value}
+use Rattle.msi_value.specs.declared.value.Value.{Value}
 use Rattle.msi_changes.specs.Keyed.{key_of}
 use Rattle.msi_changes.specs.KeySets.{HasKeys}
 use Rattle.msi_changes.proofs.KeySetLemmas.{refusal_from}

@@ -1,5 +1,5 @@
 use Rattle.std.proofs.Common.{◌≡◌, List, drop, map}
-use Rattle.msi_table.specs.Columns.{ColumnDef}
+use Rattle.msi_value.specs.Columns.{ColumnDef}
 use Rattle.msi_changes.specs.Texts.{in_use}
 use Rattle.msi_changes.specs.Update.{cells_set, index_of}
 use Rattle.msi_changes.proofs.update.set_cells.Given as goal

@@ -1,6 +1,6 @@
 use Rattle.std.proofs.Common.{◌∙◌, ℕ, List, set, sym, ap, arith}
 use Rattle.std.proofs.lemmas.List.{map-set}
-use Rattle.msi_table.specs.declared.value.Value.{Value}
+use Rattle.msi_value.specs.declared.value.Value.{Value}
 use Rattle.msi_changes.specs.Update.{index_of}
 use Rattle.msi_changes.specs.Views.{seen_row, seen_value}
 use Rattle.msi_changes.proofs.RowUpdateLemmas.{place_at, values_set_more}

@@ -1,5 +1,5 @@
 use Rattle.std.proofs.Common.{◌≡◌, List, map, take}
-use Rattle.msi_table.specs.Columns.{ColumnDef}
+use Rattle.msi_value.specs.Columns.{ColumnDef}
 use Rattle.msi_changes.specs.Update.{index_of, values_set}
 use Rattle.msi_changes.specs.Views.{seen_row}
 use Rattle.msi_changes.proofs.update.set_views.Given as goal

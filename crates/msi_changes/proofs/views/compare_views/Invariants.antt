@@ -1,6 +1,6 @@
 use Rattle.std.proofs.Common.{◌≡◌}
 use Rattle.std.specs.Cmp.Lexicographic.{slice_cmp}
-use Rattle.msi_table.specs.Values.{value_cmp}
+use Rattle.msi_value.specs.Values.{value_cmp}
 use Rattle.msi_changes.specs.Views.{seen_row}
 use Rattle.msi_changes.proofs.ViewLemmas.{order_from}
 use Rattle.msi_changes.proofs.views.compare_views.Given as goal

@@ -1,5 +1,5 @@
 use Rattle.std.proofs.Common.{◌≡◌, take}
-use Rattle.msi_table.specs.StoredOrder.{row_values}
+use Rattle.msi_value.specs.CellValues.{row_values}
 use Rattle.msi_changes.specs.Views.{seen_row}
 use Rattle.msi_changes.proofs.views.views_of_cells.Given as goal
 

@@ -1,5 +1,5 @@
 use Rattle.std.specs.List.{AllByRecursion}
-use Rattle.msi_table.specs.Columns.{HasShortLength}
+use Rattle.msi_value.specs.Columns.{HasShortLength}
 use Rattle.msi_database.proofs.CreatingLemmas.{short_by}
 use Rattle.msi_database.proofs.RowCallLemmas.{on_ok}
 use Rattle.msi_database.proofs.creating.refuse_table.Goals as goal

@@ -1,5 +1,5 @@
 use Rattle.std.proofs.Common.{◌++◌, ap, ◌∙◌, List}
-use Rattle.msi_table.specs.Columns.{TableDef}
+use Rattle.msi_table.specs.Tables.{TableDef}
 use Rattle.msi_kept.proofs.ListingLemmas.{copied_in_place}
 use Rattle.msi_kept.proofs.listing.copies_with.Goals as goal
 

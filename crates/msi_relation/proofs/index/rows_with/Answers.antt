@@ -1,8 +1,8 @@
 use Rattle.std.proofs.Common.{rules}
 use Rattle.std.proofs.lemmas.List.Sorted.{IsPartitionPoint-from_clause}
 use Rattle.std.specs.Ordering.{is_le, is_lt}
-use Rattle.msi_table.specs.Cells.{value_of_cell}
-use Rattle.msi_table.specs.Values.{value_cmp}
+use Rattle.msi_value.specs.CellValues.{value_of_cell}
+use Rattle.msi_value.specs.Values.{value_cmp}
 use Rattle.msi_relation.specs.Index.{value_there}
 use Rattle.msi_relation.proofs.IndexLemmas.{found_rows, parted_above, parted_below, rest_is}
 use Rattle.msi_relation.proofs.index.rows_with.Goals as goal

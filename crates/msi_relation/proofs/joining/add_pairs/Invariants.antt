@@ -1,5 +1,5 @@
 use Rattle.std.proofs.Common.{◌≡◌, ◌++◌, take}
-use Rattle.msi_table.specs.StoredOrder.{row_values}
+use Rattle.msi_value.specs.CellValues.{row_values}
 use Rattle.msi_expression.specs.Conditions.{meets}
 use Rattle.msi_relation.specs.Rows.{rows_values}
 use Rattle.msi_relation.specs.Selection.{pairs_of}

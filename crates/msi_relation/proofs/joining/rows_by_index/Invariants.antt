@@ -1,6 +1,6 @@
 use Rattle.std.proofs.Common.{◌≡◌, List, take}
 use Rattle.std.specs.List.{flat_map}
-use Rattle.msi_table.specs.declared.value.ValueRef.{ValueRef}
+use Rattle.msi_value.specs.declared.value.ValueRef.{ValueRef}
 use Rattle.msi_expression.specs.Conditions.{meets}
 use Rattle.msi_relation.specs.Index.{in_place_order}
 use Rattle.msi_relation.specs.Rows.{rows_values}

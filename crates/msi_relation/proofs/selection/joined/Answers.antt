@@ -1,6 +1,6 @@
 use Rattle.std.proofs.Common.{◌≡◌, List, Some, length, ap, ◌∙◌, rules}
 use Rattle.std.specs.List.{flat_map}
-use Rattle.msi_table.specs.Columns.{ColumnDef}
+use Rattle.msi_value.specs.Columns.{ColumnDef}
 use Rattle.msi_expression.specs.Conditions.{meets}
 use Rattle.msi_relation.specs.Rows.{RelationCells, relation_values, rows_values}
 use Rattle.msi_relation.specs.Selection.{joined_columns, rows_of_row}

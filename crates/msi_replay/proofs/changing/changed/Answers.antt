@@ -1,6 +1,6 @@
 use Rattle.std.proofs.Common.{◌≡◌, ◌∙◌, ℕ, List, Result, ap, refl, sym}
 use Rattle.msi_text.specs.ErrorKind.{ErrorKind}
-use Rattle.msi_table.specs.Columns.{ColumnDef}
+use Rattle.msi_value.specs.Columns.{ColumnDef}
 use Rattle.msi_changes.specs.Changes.{Change, sound_refusal}
 use Rattle.msi_changes.specs.Create as creates
 use Rattle.msi_changes.specs.Delete as deletes

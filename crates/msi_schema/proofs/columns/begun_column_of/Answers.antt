@@ -1,6 +1,6 @@
 use Rattle.std.proofs.Common.{◌≡◌, List, Option, subst, IfOk}
-use Rattle.msi_table.specs.declared.value.Value.{Value}
-use Rattle.msi_table.specs.Columns.{begun_column}
+use Rattle.msi_value.specs.declared.value.Value.{Value}
+use Rattle.msi_value.specs.Columns.{begun_column}
 use Rattle.msi_schema.specs.Schema.{described}
 use Rattle.msi_schema.proofs.columns.begun_column_of.Goals as goal
 

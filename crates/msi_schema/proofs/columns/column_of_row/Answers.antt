@@ -1,6 +1,6 @@
 use Rattle.std.proofs.Common.{◌∙◌, [], ℕ, List, Option, ap, subst, option_map}
 use Rattle.msi_text.specs.Results.{Gives}
-use Rattle.msi_table.specs.Columns.{ColumnDef, begun_column, column_of_bits}
+use Rattle.msi_value.specs.Columns.{ColumnDef, begun_column, column_of_bits}
 use Rattle.msi_schema.specs.RowOrders.{describing}
 use Rattle.msi_schema.specs.Schema.{bits_in, described, validation_row}
 use Rattle.msi_schema.proofs.ReadColumnLemmas.{bits_give, described_bits}

@@ -1,5 +1,5 @@
 use Rattle.std.proofs.Common.{◌≡◌, ◌∙◌, ap, subst, IfOk, bytes_eq, codes}
-use Rattle.msi_table.specs.Columns.{ColumnDef}
+use Rattle.msi_value.specs.Columns.{ColumnDef}
 use Rattle.msi_schema.specs.Schema.{both_set, category_named, number_of, text_at, text_of, value_at, values_in}
 use Rattle.msi_schema.proofs.ReadColumnLemmas.{row_describes, row_lacks_values, row_parts, with_category, with_foreign_key, with_nullable, with_range}
 use Rattle.msi_schema.proofs.columns.described_column.Goals as goal

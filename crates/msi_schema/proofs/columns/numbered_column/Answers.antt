@@ -1,6 +1,6 @@
 use Rattle.std.proofs.Common.{◌∙◌, List, Option, ap, option_and_then, subst, sym}
 use Rattle.msi_text.specs.Results.{Gives}
-use Rattle.msi_table.specs.declared.value.Value.{Value}
+use Rattle.msi_value.specs.declared.value.Value.{Value}
 use Rattle.msi_schema.specs.RowOrders.{describing}
 use Rattle.msi_schema.specs.Schema.{column_of_row}
 use Rattle.msi_schema.proofs.ReadColumnLemmas.{fails_plainly, short_row}

@@ -2,7 +2,7 @@ use Rattle.std.proofs.Common.{◌≡◌, ◌+◌, List, rules, subst, IfOk}
 use Rattle.std.proofs.lemmas.List.Elements.{filter_from_retain}
 use borrow.Author.Tests.{tests}
 use Rattle.msi_text.specs.Lists.{has_pair}
-use Rattle.msi_table.specs.declared.value.Value.{Value}
+use Rattle.msi_value.specs.declared.value.Value.{Value}
 use Rattle.msi_schema.specs.Schema.{counted, share_key}
 use Rattle.msi_schema.proofs.OrderlessLemmas.{is_counted}
 use Rattle.msi_schema.proofs.faults.repeats_counted.Goals as goal

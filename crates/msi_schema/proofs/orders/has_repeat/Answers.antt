@@ -1,7 +1,7 @@
 use Rattle.std.proofs.Common.{◌≡◌, ◌∙◌, ◌+◌, sym, subst, List}
 use Rattle.std.specs.Ordering.{is_eq, is_lt}
 use Rattle.std.specs.List.{IsAllAdjacentAnswer}
-use Rattle.msi_table.specs.declared.value.Value.{Value}
+use Rattle.msi_value.specs.declared.value.Value.{Value}
 use Rattle.msi_schema.specs.RowOrders.{by_values, values_at, values_cmp}
 use Rattle.msi_schema.specs.Schema.{share_key}
 use Rattle.msi_schema.proofs.OrderLemmas.{pairs_alike, repeats_told}

@@ -1,7 +1,7 @@
 use Rattle.std.proofs.Common.{◌≡◌, ◌∙◌, ◌||◌, Bool, List, Some, ap, false, sym}
 use Rattle.std.specs.Prelude.{option_map}
 use Rattle.std.proofs.lemmas.Result.{err_from_is_err_and}
-use Rattle.msi_table.specs.declared.value.Value.{Value}
+use Rattle.msi_value.specs.declared.value.Value.{Value}
 use Rattle.msi_schema.specs.ListedTables.{listed_tables, with_system}
 use Rattle.msi_schema.specs.RowOrders.{number_in, numbers_cmp, rows_of, texts_at, texts_cmp}
 use Rattle.msi_schema.specs.Schema.{has_long_number, has_odd_name, tables_of}

@@ -5,7 +5,7 @@ use Rattle.std.specs.Ordering.{is_lt}
 use Rattle.msi_text.specs.Lists.{stable_sort}
 use Rattle.msi_table.proofs.StableSortLemmas.{sorted_by_closure}
 use Rattle.msi_text.specs.Lists.{list_cmp}
-use Rattle.msi_table.specs.Columns.{TableDef}
+use Rattle.msi_table.specs.Tables.{TableDef}
 use Rattle.msi_schema.specs.ListedTables.{by_names}
 use Rattle.msi_schema.proofs.OrderLemmas.{order-weak}
 use Rattle.msi_schema.proofs.RowOrderLemmas.{names_total}

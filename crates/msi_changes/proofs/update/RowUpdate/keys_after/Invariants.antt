@@ -1,5 +1,5 @@
 use Rattle.std.proofs.Common.{◌≡◌, map, take}
-use Rattle.msi_table.specs.StoredOrder.{row_values}
+use Rattle.msi_value.specs.CellValues.{row_values}
 use Rattle.msi_changes.specs.Keyed.{key_of}
 use Rattle.msi_changes.specs.RowUpdates.{row_set}
 use Rattle.msi_changes.proofs.update.RowUpdate.keys_after.Given as goal

@@ -1,8 +1,8 @@
 use Rattle.std.proofs.Common.{◌≡◌, ◌∙◌, ap, sym, subst, List, Some}
 use Rattle.std.specs.FinMap.{entries}
 use Rattle.msi_text.specs.Pool.{Pool}
-use Rattle.msi_table.specs.declared.value.ValueRef.{ValueRef}
-use Rattle.msi_table.specs.Columns.{TableDef}
+use Rattle.msi_value.specs.declared.value.ValueRef.{ValueRef}
+use Rattle.msi_table.specs.Tables.{TableDef}
 use Rattle.msi_kept.specs.Kept.{kept_of}
 use Rattle.msi_kept.specs.Marks.{numbers_named, pool_shown}
 use Rattle.msi_database.specs.Keeping.{AreKept}

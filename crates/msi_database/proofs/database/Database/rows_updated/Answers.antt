@@ -1,5 +1,5 @@
 use Rattle.std.proofs.Common.{◌∙◌, ap, sym, List}
-use Rattle.msi_table.specs.declared.value.ValueRef.{ValueRef}
+use Rattle.msi_value.specs.declared.value.ValueRef.{ValueRef}
 use Rattle.msi_relation.specs.Refusals.{first_refusal}
 use Rattle.msi_changes.specs.Insert.{table_with}
 use Rattle.msi_changes.specs.Update.{update_refusals}

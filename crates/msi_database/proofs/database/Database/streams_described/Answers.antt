@@ -1,5 +1,5 @@
 use Rattle.std.proofs.Common.{List, subst}
-use Rattle.msi_table.specs.declared.value.Value.{Value}
+use Rattle.msi_value.specs.declared.value.Value.{Value}
 use Rattle.msi_relation.specs.Refusals.{IsRefusal}
 use Rattle.msi_relation.proofs.RefusalLemmas.{goes_on-Err}
 use Rattle.msi_schema.specs.Description.{column_rows}

@@ -1,5 +1,5 @@
 use Rattle.std.proofs.Common.{List, subst, sym}
-use Rattle.msi_table.specs.Columns.{TableDef}
+use Rattle.msi_table.specs.Tables.{TableDef}
 use Rattle.msi_changes.specs.Create.{create_table}
 use Rattle.msi_changes.specs.Texts.{in_use}
 use Rattle.msi_changes.proofs.RefusedLemmas.{refusal_passed}
