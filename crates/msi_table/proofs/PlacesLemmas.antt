@@ -11,6 +11,7 @@ use Rattle.msi_value.specs.declared.column.ColumnType.{ColumnType}
 use Rattle.msi_value.specs.declared.column.ColumnType.TheVariants as coltype
 use Rattle.msi_value.specs.declared.value.ValueRef.{ValueRef}
 use Rattle.msi_value.specs.Columns.{ColumnDef, types_of}
+use Rattle.msi_value.proofs.ColumnTypesLemmas.{length-types_of, below_types, type_at}
 use Rattle.msi_table.specs.Cells.{width, widths, row_count, cell_in, cell_at}
 use Rattle.msi_table.proofs.ReadBackLemmas.{cell_at_is}
 use Rattle.std.proofs.lemmas.Option.{slice_get-get_or}

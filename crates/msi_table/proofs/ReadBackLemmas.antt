@@ -14,7 +14,8 @@ use Rattle.msi_value.specs.declared.column.ColumnType.TheVariants as coltype
 use Rattle.msi_value.specs.declared.value.ValueRef.{ValueRef}
 use Rattle.msi_value.specs.declared.value.ValueRef.TheVariants as cell
 use Rattle.msi_table.specs.Cells.{cell_in, cell_bytes, width, widths, row_count, cell_at, rows_in, column_bytes, table_bytes}
-use Rattle.msi_value.specs.Fitting.{cell_of, FitsColumn, FitsRow, FitsTable}
+use Rattle.msi_value.specs.Fitting.{cell_of, FitsRow, FitsTable}
+use Rattle.msi_value.proofs.FittingLemmas.{fits_at, fits_length}
 use Rattle.msi_table.proofs.RoundTripLemmas.{length-cell_bytes, cell_in-cell_bytes}
 use Rattle.msi_table.proofs.PiecesLemmas.{numbers_from_is, length-pieces, piece_at}
 

@@ -1,5 +1,5 @@
 -- Worked examples, by computation.
-use Rattle.std.specs.Prelude.{◌≡◌, ℕ, true, false, List, [], ◌∷◌, Some, None, refl, codes, map, pos, negsuc}
+use Rattle.std.specs.Prelude.{◌≡◌, true, false, List, [], ◌∷◌, Some, refl, codes, map, pos, negsuc}
 use Rattle.msi_value.specs.declared.column.ColumnType.{ColumnType}
 use Rattle.msi_value.specs.declared.column.ColumnType.TheVariants as coltype
 use Rattle.msi_value.specs.declared.value.ValueRef.{ValueRef}

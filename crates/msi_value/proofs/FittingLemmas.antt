@@ -1,7 +1,8 @@
 -- A row fits its columns where each of its cells does.
-use Rattle.std.proofs.Common.{◌≡◌, ℕ, suc, ◌<◌, Bool, List, [], ◌∷◌, length, sym, ap, ◌∙◌, arith, subst, Some, Option}
+use Rattle.std.proofs.Common.{◌≡◌, ℕ, zero, suc, ◌<◌, Bool, List, [], ◌∷◌, length, refl, sym, ap, ◌∙◌, arith, subst, Some, None, Option}
+use Rattle.std.specs.List.{slice_get}
 use Rattle.std.specs.Prelude.{slice_index_or, unwrap_or}
-use Rattle.std.proofs.lemmas.Option.{slice_get-get_or}
+use Rattle.std.proofs.lemmas.Option.{slice_get-get_or, same_Some}
 use Rattle.msi_value.specs.declared.column.ColumnType.{ColumnType}
 use Rattle.msi_value.specs.declared.column.ColumnType.TheVariants as coltype
 use Rattle.msi_value.specs.declared.value.ValueRef.{ValueRef}
