@@ -1,0 +1,19 @@
+//! Tests of the crate `msi`.
+#![tactic(auto)]
+
+#[cfg(test)]
+mod containers;
+#[cfg(test)]
+mod counting;
+#[cfg(test)]
+mod creating;
+#[cfg(test)]
+mod flushing;
+#[cfg(test)]
+mod looking;
+#[cfg(test)]
+mod samples;
+#[cfg(test)]
+mod steps;
+#[cfg(test)]
+mod tables;

@@ -1,0 +1,224 @@
+//! Tables of packages: rows, places of the pool, and what is refused.
+
+use crate::containers::{stream_of, with_full_pool};
+use crate::samples::Change::{Create, Delete, DeleteWhere, Drop, Insert, Update};
+use crate::samples::Given::{Int, Null, Str};
+use crate::steps::Step::{self, Made, Refused};
+use crate::steps::{WORDS, changed, gone, holds, numbers, opened};
+use msi::{Error, ErrorKind};
+use std::alloc::Global;
+use std::test::Fail;
+
+/// Whether the table `Numbers` is there whole in these bytes: its rows, and its stream.
+fn is_whole(alloc: Global, bytes: &[u8]) -> Result<bool, Error> {
+    let stream = stream_of(alloc, bytes, "Numbers")?;
+    let is_stored = stream.as_slice() == [1, 0x80, 2, 0x80, 4, 0x80, 23, 0, 21, 0, 22, 0].as_slice();
+    Ok(is_stored && holds(alloc, bytes, WORDS)?)
+}
+
+/// The pool's stream once `Numbers` is dropped.
+fn pool_without(alloc: Global, bytes: &[u8]) -> Result<Vec<u8>, Error> {
+    let bytes = changed(alloc, opened(alloc, bytes), &[Drop("Numbers")])?;
+    stream_of(alloc, bytes.as_slice(), "_StringPool")
+}
+
+#[test]
+fn rows_come_back_in_order_and_places_fall_free(rt: HostRuntime) -> Result<(), Fail> {
+    let bytes = numbers(rt.alloc())?;
+    assert!(rt; is_whole(rt.alloc(), bytes.as_slice())?);
+    // Places 18 to 23 are free: those of the table's name, its columns' names and its texts.
+    let pool = pool_without(rt.alloc(), bytes.as_slice())?;
+    assert_eq!(rt; pool.len(), 96);
+    assert!(rt; pool.ends_with(&[0; 24]));
+    assert!(rt; !pool.ends_with(&[0; 25]));
+    Ok(())
+}
+
+/// The steps of the package of `Numbers`, and whether they leave its pool as it was.
+const STEPS: [(&[Step], bool); 4] = [
+    (
+        &[
+            // The key of an earlier new row, and a key that is stored.
+            Refused(
+                Insert("Numbers", &[&[Int(6), Str("Six")], &[Int(6), Str("Six")]]),
+                ErrorKind::InvalidInput,
+            ),
+            Refused(
+                Insert("Numbers", &[&[Int(2), Str("x")]]),
+                ErrorKind::AlreadyExists,
+            ),
+            // System tables.
+            Refused(Delete("_Validation"), ErrorKind::InvalidInput),
+            Refused(
+                Insert("_Tables", &[&[Str("Other")]]),
+                ErrorKind::InvalidInput,
+            ),
+            Refused(Drop("_Columns"), ErrorKind::InvalidInput),
+            // A column that isn't there, in a condition.
+            Refused(
+                Update("Numbers", ("Word", Str("x")), ("Letter", Int(1))),
+                ErrorKind::InvalidInput,
+            ),
+            Refused(
+                DeleteWhere("Numbers", ("Letter", Int(1))),
+                ErrorKind::InvalidInput,
+            ),
+            // A table that is there, and one that isn't.
+            Refused(Create("Numbers"), ErrorKind::AlreadyExists),
+            Refused(Drop("Other"), ErrorKind::NotFound),
+        ],
+        true,
+    ),
+    (
+        &[
+            Made(
+                Insert("Numbers", &[&[Int(7), Null]]),
+                (
+                    "Numbers",
+                    &[
+                        &[Int(1), Str("One")],
+                        &[Int(2), Str("Two")],
+                        &[Int(4), Str("Four")],
+                        &[Int(7), Null],
+                    ],
+                ),
+            ),
+            // Null equals null.
+            Made(DeleteWhere("Numbers", ("Word", Null)), ("Numbers", WORDS)),
+        ],
+        true,
+    ),
+    (
+        &[Made(
+            Update("Numbers", ("Word", Str("Five")), ("Number", Int(2))),
+            (
+                "Numbers",
+                &[
+                    &[Int(1), Str("One")],
+                    &[Int(2), Str("Five")],
+                    &[Int(4), Str("Four")],
+                ],
+            ),
+        )],
+        false,
+    ),
+    (
+        &[
+            Made(Create("Other"), ("Other", &[])),
+            Made(Delete("Numbers"), ("Numbers", &[])),
+        ],
+        false,
+    ),
+];
+
+/// How many steps a package goes as they are told, and whether its pool is as before.
+fn gone_with_pool(alloc: Global, bytes: &[u8], steps: &[Step]) -> Result<(usize, bool), Error> {
+    let (count, after) = gone(alloc, opened(alloc, bytes), steps)?;
+    let before = stream_of(alloc, bytes, "_StringPool")?;
+    let after = stream_of(alloc, after.as_slice(), "_StringPool")?;
+    Ok((count, after.as_slice() == before.as_slice()))
+}
+
+#[test]
+fn changes_are_made_or_refused_whole(rt: HostRuntime) -> Result<(), Fail> {
+    let bytes = numbers(rt.alloc())?;
+    for (steps, is_kept) in STEPS {
+        let found = gone_with_pool(rt.alloc(), bytes.as_slice(), steps)?;
+        assert_eq!(rt; found, (steps.len(), is_kept));
+    }
+    Ok(())
+}
+
+/// The bytes of the package with `Numbers` and 65535 places.
+fn full(alloc: Global) -> Result<Vec<u8>, Error> {
+    let bytes = numbers(alloc)?;
+    with_full_pool(alloc, bytes.as_slice())
+}
+
+/// Steps of the package of a full pool; and the length and the count of place 21 then, and its text, which stands behind
+/// 356 bytes of a new package and the 17 of `NumbersNumberWord`.
+const IN_FULL: [(&[Step], [u8; 4], &[u8]); 3] = [
+    (
+        &[
+            Refused(
+                Insert("Numbers", &[&[Int(5), Str("Five")]]),
+                ErrorKind::InvalidInput,
+            ),
+            // The first row's text is known, the second one's is new.
+            Refused(
+                Insert("Numbers", &[&[Int(5), Str("Two")], &[Int(6), Str("Six")]]),
+                ErrorKind::InvalidInput,
+            ),
+            Refused(Create("Other"), ErrorKind::InvalidInput),
+        ],
+        [3, 0, 1, 0],
+        b"TwoFourOnexxx",
+    ),
+    (
+        &[Made(
+            Insert("Numbers", &[&[Int(5), Str("Two")]]),
+            (
+                "Numbers",
+                &[
+                    &[Int(1), Str("One")],
+                    &[Int(2), Str("Two")],
+                    &[Int(4), Str("Four")],
+                    &[Int(5), Str("Two")],
+                ],
+            ),
+        )],
+        [3, 0, 2, 0],
+        b"TwoFourOnexxx",
+    ),
+    // The old text falls free before the new one is taken.
+    (
+        &[Made(
+            Update("Numbers", ("Word", Str("Five")), ("Number", Int(2))),
+            (
+                "Numbers",
+                &[
+                    &[Int(1), Str("One")],
+                    &[Int(2), Str("Five")],
+                    &[Int(4), Str("Four")],
+                ],
+            ),
+        )],
+        [4, 0, 1, 0],
+        b"FiveFourOnexxx",
+    ),
+];
+
+/// Whether steps go as they are told, and leave this at place 21 of 65535.
+fn leave(
+    alloc: Global,
+    bytes: &[u8],
+    steps: &[Step],
+    entry: &[u8],
+    texts: &[u8],
+) -> Result<bool, Error> {
+    let (count, image) = gone(alloc, opened(alloc, bytes), steps)?;
+    let pool = stream_of(alloc, image.as_slice(), "_StringPool")?;
+    let data = stream_of(alloc, image.as_slice(), "_StringData")?;
+    Ok(count == steps.len()
+        && pool.len() == 262_144
+        && pool.as_slice().get(84..88) == Some(entry)
+        && has_at(data.as_slice(), 373, texts))
+}
+
+/// Whether these bytes stand at a place.
+fn has_at(bytes: &[u8], at: usize, piece: &[u8]) -> bool {
+    match bytes.get(at..) {
+        Some(rest) => rest.starts_with(piece),
+        None => false,
+    }
+}
+
+#[test]
+fn a_full_pool_takes_no_new_text(rt: HostRuntime) -> Result<(), Fail> {
+    let bytes = full(rt.alloc())?;
+    for (steps, entry, texts) in IN_FULL {
+        let is_left = leave(rt.alloc(), bytes.as_slice(), steps, &entry, texts)?;
+        assert!(rt; is_left, "{entry:?}");
+    }
+    Ok(())
+}
