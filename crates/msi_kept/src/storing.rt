@@ -30,11 +30,7 @@ pub struct Stored {
 ///
 /// # Errors
 /// `OutOfMemory`.
-pub fn stream_of(
-    alloc: Global,
-    table: &Table,
-    rows: Vec<Items<ValueRef>>,
-) -> Result<Stored, Error>
+pub fn stream_of(alloc: Global, table: &Table, rows: Vec<Items<ValueRef>>) -> Result<Stored, Error>
     requires named { is_name_length (length (key_of table.now.name)) ≡ true }
     requires storable { CanStore table.now rows.items }
     ensures name { IfOk result (λ stored. stored.name ≡ key_of table.now.name) }

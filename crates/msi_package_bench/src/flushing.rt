@@ -197,7 +197,10 @@ fn each_way_gives_the_same_bytes(rt: HostRuntime) -> Result<(), Fail> {
         assert!(rt; is_filled_up(image.as_slice(), len), "over {under}");
         for way in [Way::IntoInner, Way::FlushIntoReader] {
             let bytes = bytes_by(way, lengthened(rt.alloc(), more), 0)?;
-            assert!(rt; bytes.as_slice() == image.as_slice(), "{way:?} over {under}");
+            assert!(rt;
+                bytes.as_slice() == image.as_slice(),
+                "{way:?} over {under}"
+            );
         }
         assert!(rt; !has_table(rt.alloc(), image, "Numbers")?);
     }

@@ -47,11 +47,7 @@ pub(crate) fn new_bytes(alloc: Global) -> Result<Vec<u8>, Error> {
 }
 
 /// Makes changes, and writes them.
-fn make_all(
-    alloc: Global,
-    package: &mut Package<Memory>,
-    changes: &[Change],
-) -> Result<(), Error> {
+fn make_all(alloc: Global, package: &mut Package<Memory>, changes: &[Change]) -> Result<(), Error> {
     for change in changes {
         make(alloc, package, change)?;
     }

@@ -12,7 +12,8 @@ use std::test::Fail;
 /// Whether the table `Numbers` is there whole in these bytes: its rows, and its stream.
 fn is_whole(alloc: Global, bytes: &[u8]) -> Result<bool, Error> {
     let stream = stream_of(alloc, bytes, "Numbers")?;
-    let is_stored = stream.as_slice() == [1, 0x80, 2, 0x80, 4, 0x80, 23, 0, 21, 0, 22, 0].as_slice();
+    let is_stored = stream.as_slice()
+        == [1, 0x80, 2, 0x80, 4, 0x80, 23, 0, 21, 0, 22, 0].as_slice();
     Ok(is_stored && holds(alloc, bytes, WORDS)?)
 }
 
@@ -199,10 +200,12 @@ fn leave(
     let (count, image) = gone(alloc, opened(alloc, bytes), steps)?;
     let pool = stream_of(alloc, image.as_slice(), "_StringPool")?;
     let data = stream_of(alloc, image.as_slice(), "_StringData")?;
-    Ok(count == steps.len()
-        && pool.len() == 262_144
-        && pool.as_slice().get(84..88) == Some(entry)
-        && has_at(data.as_slice(), 373, texts))
+    Ok(
+        count == steps.len()
+            && pool.len() == 262_144
+            && pool.as_slice().get(84..88) == Some(entry)
+            && has_at(data.as_slice(), 373, texts),
+    )
 }
 
 /// Whether these bytes stand at a place.

@@ -6,6 +6,5 @@ pub mod parts;
 mod reasons;
 pub mod summary;
 
-pub use msi_property::propset;
-pub use msi_property::{OperatingSystem, PropertySet, PropertyValue};
+pub use msi_property::{OperatingSystem, PropertySet, PropertyValue, propset};
 pub use summary::SummaryInfo;

@@ -63,10 +63,7 @@ impl SummaryInfo {
         ensures ok { IfOk result (λ words. map string_bytes words.items ≡ keywords_of self.now) }
         ensures kind { OnlyMemory result }
     {
-        keywords_in(
-            self.allocator(),
-            self.text(KEYWORDS).unwrap_or(""),
-        )
+        keywords_in(self.allocator(), self.text(KEYWORDS).unwrap_or(""))
     }
 
     /// Sets the keywords (property 5): their text is the keywords with `; ` between each two. A keyword that
