@@ -12,8 +12,6 @@ mod listings;
 #[cfg(test)]
 mod names;
 #[cfg(test)]
-mod readme;
-#[cfg(test)]
 mod samples;
 #[cfg(test)]
 mod steps;

@@ -12,6 +12,8 @@ mod flushing;
 #[cfg(test)]
 mod looking;
 #[cfg(test)]
+mod readme;
+#[cfg(test)]
 mod samples;
 #[cfg(test)]
 mod steps;
