@@ -34,7 +34,9 @@ fn each_sector_of_a_new_package_is_a_write(rt: HostRuntime) -> Result<(), Fail> 
 
 /// The end of a chain, a sector of the FAT, and a free sector.
 const END: u32 = 0xFFFF_FFFE;
+
 const FAT: u32 = 0xFFFF_FFFD;
+
 const FREE: u32 = 0xFFFF_FFFF;
 
 /// Where numbers of 32 bits stand in the file of a new package: those of the header; of the FAT, which stands in sector
@@ -217,11 +219,15 @@ const FLAWS: [(Flaw, Option<ErrorKind>); 10] = [
     // One of no package, and that of products spelled as text has it.
     (Flaw::Clsid([0; 16]), Some(ErrorKind::InvalidData)),
     (
-        Flaw::Clsid([0, 0x0C, 0x10, 0x84, 0, 0, 0, 0, 0xC0, 0, 0, 0, 0, 0, 0, 0x46]),
+        Flaw::Clsid([
+            0, 0x0C, 0x10, 0x84, 0, 0, 0, 0, 0xC0, 0, 0, 0, 0, 0, 0, 0x46,
+        ]),
         Some(ErrorKind::InvalidData),
     ),
     (
-        Flaw::Clsid([0x84, 0x10, 0x0C, 0, 0, 0, 0, 0, 0xC0, 0, 0, 0, 0, 0, 0, 0x46]),
+        Flaw::Clsid([
+            0x84, 0x10, 0x0C, 0, 0, 0, 0, 0, 0xC0, 0, 0, 0, 0, 0, 0, 0x46,
+        ]),
         None,
     ),
 ];

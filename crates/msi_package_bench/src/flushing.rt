@@ -4,7 +4,7 @@ use crate::counting::Counting;
 use crate::samples::Change::{self, Insert, Page};
 use crate::samples::Given::{Int, Str};
 use crate::samples::{Lines, both, gives, make};
-use crate::steps::{holds, new_bytes, numbers, opened};
+use crate::steps::{holds, is_refused, new_bytes, numbers, opened};
 use msi::{CodePage, Error, ErrorKind, Memory, Package, PackageType, Select};
 use std::alloc::Global;
 use std::test::Fail;
@@ -89,14 +89,6 @@ fn is_accented(alloc: Global, package: &Package<Memory>) -> Result<bool, Error> 
     Ok(is_page && gives(package, Select::table(alloc, "Numbers"), ACCENTS)?)
 }
 
-/// Whether an answer is a refusal of the input.
-fn is_refused(answer: Result<(), Error>) -> bool {
-    match answer {
-        Ok(()) => false,
-        Err(error) => error.kind() == ErrorKind::InvalidInput,
-    }
-}
-
 /// The package that is handed back where `into_inner` is refused as it ought to be.
 fn handed_back(package: Package<Memory>) -> Option<Package<Memory>> {
     match package.into_inner() {
@@ -114,7 +106,7 @@ fn handed_back(package: Package<Memory>) -> Option<Package<Memory>> {
 /// The bytes under a package that refuses to be written, both ways, and is as before; none where it isn't.
 fn refusing(alloc: Global, package: Result<Package<Memory>, Error>) -> Result<Vec<u8>, Error> {
     let mut package = package?;
-    let is_first = is_refused(package.flush()) && is_accented(alloc, &package)?;
+    let is_first = is_refused(package.flush(), ErrorKind::InvalidInput) && is_accented(alloc, &package)?;
     let Some(package) = handed_back(package) else {
         return Ok(Vec::new(alloc));
     };
@@ -197,7 +189,10 @@ fn each_way_gives_the_same_bytes(rt: HostRuntime) -> Result<(), Fail> {
         assert!(rt; is_filled_up(image.as_slice(), len), "over {under}");
         for way in [Way::IntoInner, Way::FlushIntoReader] {
             let bytes = bytes_by(way, lengthened(rt.alloc(), more), 0)?;
-            assert!(rt; bytes.as_slice() == image.as_slice(), "{way:?} over {under}");
+            assert!(rt;
+                bytes.as_slice() == image.as_slice(),
+                "{way:?} over {under}"
+            );
         }
         assert!(rt; !has_table(rt.alloc(), image, "Numbers")?);
     }

