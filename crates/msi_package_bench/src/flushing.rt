@@ -106,7 +106,8 @@ fn handed_back(package: Package<Memory>) -> Option<Package<Memory>> {
 /// The bytes under a package that refuses to be written, both ways, and is as before; none where it isn't.
 fn refusing(alloc: Global, package: Result<Package<Memory>, Error>) -> Result<Vec<u8>, Error> {
     let mut package = package?;
-    let is_first = is_refused(package.flush(), ErrorKind::InvalidInput) && is_accented(alloc, &package)?;
+    let is_first = is_refused(package.flush(), ErrorKind::InvalidInput)
+        && is_accented(alloc, &package)?;
     let Some(package) = handed_back(package) else {
         return Ok(Vec::new(alloc));
     };

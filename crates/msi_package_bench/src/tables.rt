@@ -4,8 +4,8 @@ use crate::containers::{pool_streams, stream_of, with_full_pool};
 use crate::samples::Change::{Create, Delete, DeleteWhere, Drop, Insert, Update};
 use crate::samples::Given::{Int, Null, Str};
 use crate::steps::Step::{self, Made, Refused};
-use crate::steps::{WORDS, changed, gone, holds, numbers, opened};
-use msi::{Error, ErrorKind};
+use crate::steps::{WORDS, all_go, changed, gone, holds, numbers, opened};
+use msi::{Error, ErrorKind, Memory, Package};
 use std::alloc::Global;
 use std::test::Fail;
 
@@ -149,8 +149,8 @@ const REFUSED: [Step; 3] = [
     Refused(Create("Other"), ErrorKind::InvalidInput),
 ];
 
-/// What isn't; and the length and the count of place 21 then, and the texts from its own on, which stand behind the 356
-/// bytes of a new package and the 17 of the table's name and those of its columns.
+/// What isn't, one behind the other; and the length and the count of place 21 then, and the texts from its own on, which
+/// stand behind the 356 bytes of a new package and the 17 of the table's name and those of its columns.
 const TAKEN: [(&[Step], [u8; 4], &[u8]); 2] = [
     (
         &[Made(
@@ -170,31 +170,42 @@ const TAKEN: [(&[Step], [u8; 4], &[u8]); 2] = [
     ),
     // The old text falls free before the new one is taken.
     (
-        &[Made(
-            Update("Numbers", ("Word", Str("Five")), ("Number", Int(2))),
-            (
-                "Numbers",
-                &[
-                    &[Int(1), Str("One")],
-                    &[Int(2), Str("Five")],
-                    &[Int(4), Str("Four")],
-                ],
+        &[
+            Made(DeleteWhere("Numbers", ("Number", Int(5))), ("Numbers", WORDS)),
+            Made(
+                Update("Numbers", ("Word", Str("Five")), ("Number", Int(2))),
+                (
+                    "Numbers",
+                    &[
+                        &[Int(1), Str("One")],
+                        &[Int(2), Str("Five")],
+                        &[Int(4), Str("Four")],
+                    ],
+                ),
             ),
-        )],
+        ],
         [4, 0, 1, 0],
         b"FiveFourOnexxx",
     ),
 ];
 
+/// Whether a package refuses what it ought to, and has these bytes then.
+fn refuses(alloc: Global, package: &mut Package<Memory>, bytes: &[u8]) -> Result<bool, Error> {
+    let count = all_go(alloc, package, &REFUSED)?;
+    let image = package.image(0)?;
+    Ok(count == REFUSED.len() && image.as_slice() == bytes)
+}
+
 /// Whether steps go as they are told, and leave this at place 21 of 65535.
 fn leave(
     alloc: Global,
-    bytes: &[u8],
+    package: &mut Package<Memory>,
     steps: &[Step],
     entry: &[u8],
     texts: &[u8],
 ) -> Result<bool, Error> {
-    let (count, image) = gone(alloc, opened(alloc, bytes), steps)?;
+    let count = all_go(alloc, package, steps)?;
+    let image = package.image(0)?;
     let (pool, data) = pool_streams(alloc, image.as_slice())?;
     Ok(
         count == steps.len()
@@ -215,10 +226,10 @@ fn has_at(bytes: &[u8], at: usize, piece: &[u8]) -> bool {
 #[test]
 fn a_full_pool_takes_no_new_text(rt: HostRuntime) -> Result<(), Fail> {
     let bytes = full(rt.alloc())?;
-    let found = gone_from(rt.alloc(), bytes.as_slice(), &REFUSED)?;
-    assert_eq!(rt; found, (REFUSED.len(), true));
+    let mut package = opened(rt.alloc(), bytes.as_slice())?;
+    assert!(rt; refuses(rt.alloc(), &mut package, bytes.as_slice())?);
     for (steps, entry, texts) in TAKEN {
-        let is_left = leave(rt.alloc(), bytes.as_slice(), steps, &entry, texts)?;
+        let is_left = leave(rt.alloc(), &mut package, steps, &entry, texts)?;
         assert!(rt; is_left, "{entry:?}");
     }
     Ok(())
