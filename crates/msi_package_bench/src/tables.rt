@@ -136,14 +136,9 @@ fn full(alloc: Global) -> Result<Vec<u8>, Error> {
 }
 
 /// What is refused where the pool is full.
-const REFUSED: [Step; 3] = [
+const REFUSED: [Step; 2] = [
     Refused(
         Insert("Numbers", &[&[Int(5), Str("Five")]]),
-        ErrorKind::InvalidInput,
-    ),
-    // The first row's text is known, the second one's is new.
-    Refused(
-        Insert("Numbers", &[&[Int(5), Str("Two")], &[Int(6), Str("Six")]]),
         ErrorKind::InvalidInput,
     ),
     Refused(Create("Other"), ErrorKind::InvalidInput),
