@@ -102,7 +102,11 @@ fn goes(alloc: Global, package: &mut Package<Memory>, step: &Step) -> Result<boo
 }
 
 /// How many steps a package goes as they are told.
-pub(crate) fn all_go(alloc: Global, package: &mut Package<Memory>, steps: &[Step]) -> Result<usize, Error> {
+pub(crate) fn all_go(
+    alloc: Global,
+    package: &mut Package<Memory>,
+    steps: &[Step],
+) -> Result<usize, Error> {
     for (number, step) in steps.iter().enumerate() {
         if !goes(alloc, package, step)? {
             return Ok(number);

@@ -166,7 +166,10 @@ const TAKEN: [(&[Step], [u8; 4], &[u8]); 2] = [
     // The old text falls free before the new one is taken.
     (
         &[
-            Made(DeleteWhere("Numbers", ("Number", Int(5))), ("Numbers", WORDS)),
+            Made(
+                DeleteWhere("Numbers", ("Number", Int(5))),
+                ("Numbers", WORDS),
+            ),
             Made(
                 Update("Numbers", ("Word", Str("Five")), ("Number", Int(2))),
                 (
