@@ -10,8 +10,8 @@ use msi_compound::parts::number32;
 use std::alloc::Global;
 use std::test::Fail;
 
-/// How many calls of a device, and how many writes, a new package takes over one that takes at most so many bytes a write;
-/// and the bytes that it holds then.
+/// How many calls, and how many writes of these, a new package takes over a device that takes at most so many bytes a
+/// write; and the bytes that it holds then.
 fn written(alloc: Global, most: usize) -> Result<(usize, usize, Vec<u8>), Error> {
     let device = Counting::new(Vec::new(alloc), most, 0);
     let package = Package::create(alloc, PackageType::Installer, device)?;

@@ -9,8 +9,8 @@ use msi::{CodePage, Error, ErrorKind, Memory, Package, PackageType, Select};
 use std::alloc::Global;
 use std::test::Fail;
 
-/// The package of `Numbers`, over a device whose sixth call fails. Three read it: a rewind, one that gives all bytes, and
-/// one at the end. A flush goes to the end, then to the start, and then writes.
+/// The package of `Numbers`, over a device whose sixth call fails. Three calls read it: a rewind, one that gives all
+/// bytes, and one at the end. A flush goes to the end, then to the start, and then writes.
 fn failing(alloc: Global) -> Result<Package<Counting>, Error> {
     let bytes = numbers(alloc)?;
     Package::open(alloc, Counting::new(bytes, 512, 6))
