@@ -1,5 +1,6 @@
 //! The containers of packages, read and changed from outside.
 
+use crate::samples::both;
 use msi::Error;
 use msi_compound::contents::{Bytes, Contents};
 use msi_compound::name::Name;
@@ -32,6 +33,18 @@ pub(crate) fn stream_of(alloc: Global, image: &[u8], table: &str) -> Result<Vec<
     let key = table_key(alloc, table)?;
     let mut contents = read(alloc, image)?;
     Ok(taken(alloc, &mut contents, &key))
+}
+
+/// The bytes of the pool's two streams in a container: those of its entries, and those of its texts.
+pub(crate) fn pool_streams(alloc: Global, image: &[u8]) -> Result<(Vec<u8>, Vec<u8>), Error> {
+    let (entries, texts) = both(
+        table_key(alloc, "_StringPool"),
+        table_key(alloc, "_StringData"),
+    )?;
+    let mut contents = read(alloc, image)?;
+    let entries = taken(alloc, &mut contents, &entries);
+    let texts = taken(alloc, &mut contents, &texts);
+    Ok((entries, texts))
 }
 
 /// A container without a stream.

@@ -10,8 +10,8 @@ use msi_compound::parts::number32;
 use std::alloc::Global;
 use std::test::Fail;
 
-/// How many calls of a device, and how many writes, a new package takes over one that takes at most so many bytes a write;
-/// and the bytes that it holds then.
+/// How many calls, and how many writes of these, a new package takes over a device that takes at most so many bytes a
+/// write; and the bytes that it holds then.
 fn written(alloc: Global, most: usize) -> Result<(usize, usize, Vec<u8>), Error> {
     let device = Counting::new(Vec::new(alloc), most, 0);
     let package = Package::create(alloc, PackageType::Installer, device)?;
@@ -129,8 +129,8 @@ fn the_streams_of_a_new_package_have_their_places(rt: HostRuntime) -> Result<(),
         assert_eq!(rt; number_at(image, at), Some(number), "at {at}");
     }
     for (at, table, size, start) in STREAMS {
-        let is_told = is_entry(rt.alloc(), image, at, (table, size, start))?;
-        assert!(rt; is_told, "{table}");
+        let is_there = is_entry(rt.alloc(), image, at, (table, size, start))?;
+        assert!(rt; is_there, "{table}");
     }
     let pool = stream_of(rt.alloc(), image, "_StringPool")?;
     assert!(rt; pool.starts_with(&[0xE9, 0xFD, 0, 0, 0x0B, 0, 0x15, 0]));
@@ -170,11 +170,17 @@ fn packages_tell_what_they_are_for(rt: HostRuntime) -> Result<(), Fail> {
     Ok(())
 }
 
-/// Whether the package that bytes hold is the new one, or why it isn't opened.
-fn opens(alloc: Global, bytes: Result<Vec<u8>, Error>) -> Result<bool, Error> {
-    let package = opened(alloc, bytes?.as_slice())?;
+/// Whether a package is the new one.
+fn is_new(alloc: Global, package: &Package<Memory>) -> Result<bool, Error> {
     let (image, new) = both(package.image(0), new_bytes(alloc))?;
     Ok(image.as_slice() == new.as_slice())
+}
+
+/// Whether the package that bytes hold is the new one, or why it isn't opened.
+fn opens(alloc: Global, bytes: Result<Vec<u8>, Error>) -> Result<bool, Error> {
+    let bytes = bytes?;
+    let package = opened(alloc, bytes.as_slice())?;
+    is_new(alloc, &package)
 }
 
 /// The front of the bytes of a new package.
@@ -232,12 +238,17 @@ const FLAWS: [(Flaw, Option<ErrorKind>); 10] = [
     ),
 ];
 
+/// Whether a package with a flaw is refused for this, or else is the new one.
+fn is_told(alloc: Global, flaw: Flaw, kind: Option<ErrorKind>) -> bool {
+    match opens(alloc, flawed(alloc, flaw)) {
+        Ok(is_new) => is_new && kind.is_none(),
+        Err(error) => Some(error.kind()) == kind,
+    }
+}
+
 #[test]
 fn packages_with_flaws_are_told_apart(rt: HostRuntime) {
     for (flaw, kind) in FLAWS {
-        match opens(rt.alloc(), flawed(rt.alloc(), flaw)) {
-            Ok(is_new) => assert!(rt; is_new && kind.is_none(), "{flaw:?}"),
-            Err(error) => assert_eq!(rt; Some(error.kind()), kind, "{flaw:?}"),
-        }
+        assert!(rt; is_told(rt.alloc(), flaw, kind), "{flaw:?}");
     }
 }

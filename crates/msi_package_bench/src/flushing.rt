@@ -1,16 +1,16 @@
 //! Packages that are written, and those that can't be.
 
 use crate::counting::Counting;
-use crate::samples::Change::{self, Insert, Page};
+use crate::samples::Change::{self, Drop, Insert, Page};
 use crate::samples::Given::{Int, Str};
 use crate::samples::{Lines, both, gives, make};
-use crate::steps::{holds, new_bytes, numbers, opened};
+use crate::steps::{changed, holds, is_refused, new_bytes, numbers, opened};
 use msi::{CodePage, Error, ErrorKind, Memory, Package, PackageType, Select};
 use std::alloc::Global;
 use std::test::Fail;
 
-/// The package of `Numbers`, over a device whose sixth call fails. Three read it: a rewind, one that gives all bytes, and
-/// one at the end. A flush goes to the end, then to the start, and then writes.
+/// The package of `Numbers`, over a device whose sixth call fails. Three calls read it: a rewind, one that gives all
+/// bytes, and one at the end. A flush goes to the end, then to the start, and then writes.
 fn failing(alloc: Global) -> Result<Package<Counting>, Error> {
     let bytes = numbers(alloc)?;
     Package::open(alloc, Counting::new(bytes, 512, 6))
@@ -34,18 +34,23 @@ fn recovers(package: &mut Package<Counting>) -> Result<bool, Error> {
     Ok(!package.device_failed())
 }
 
-/// Whether a flush fails and the next one doesn't; and the device then.
+/// Whether a flush of a changed package fails, and the next one doesn't.
+fn fails_once(package: &mut Package<Counting>) -> Result<bool, Error> {
+    package.drop_table("Numbers")?;
+    Ok(fails(package)? && recovers(package)?)
+}
+
+/// Whether it is so where a device fails once; and the device then.
 fn failed_once(alloc: Global) -> Result<(bool, Counting), Error> {
     let mut package = failing(alloc)?;
-    package.drop_table("Numbers")?;
-    let is_so = fails(&mut package)? && recovers(&mut package)?;
+    let is_so = fails_once(&mut package)?;
     Ok((is_so, package.into_reader()))
 }
 
-/// Whether the package that bytes hold has a table of this name.
-fn has_table(alloc: Global, bytes: Vec<u8>, table: &str) -> Result<bool, Error> {
-    let package = Package::open(alloc, Memory::from_vec(bytes))?;
-    Ok(package.has_table(table))
+/// The package of `Numbers` without this table.
+fn dropped(alloc: Global) -> Result<Vec<u8>, Error> {
+    let bytes = numbers(alloc)?;
+    changed(alloc, opened(alloc, bytes.as_slice()), &[Drop("Numbers")])
 }
 
 #[test]
@@ -55,8 +60,7 @@ fn a_failed_flush_is_made_good_by_the_next(rt: HostRuntime) -> Result<(), Fail> 
     // Three calls read, three were those of the first flush, and 11 those of the second; a third flush makes none.
     assert_eq!(rt; (device.calls, device.writes), (17, 8));
     let bytes = device.memory.into_vec();
-    assert_eq!(rt; bytes.len(), 4096);
-    assert!(rt; !has_table(rt.alloc(), bytes, "Numbers")?);
+    assert!(rt; bytes.as_slice() == dropped(rt.alloc())?.as_slice());
     Ok(())
 }
 
@@ -89,51 +93,50 @@ fn is_accented(alloc: Global, package: &Package<Memory>) -> Result<bool, Error> 
     Ok(is_page && gives(package, Select::table(alloc, "Numbers"), ACCENTS)?)
 }
 
-/// Whether an answer is a refusal of the input.
-fn is_refused(answer: Result<(), Error>) -> bool {
-    match answer {
-        Ok(()) => false,
-        Err(error) => error.kind() == ErrorKind::InvalidInput,
+/// Whether a package isn't flushed, and is as before.
+fn keeps_back(alloc: Global, package: &mut Package<Memory>) -> Result<bool, Error> {
+    let is_refused = is_refused(package.flush(), ErrorKind::InvalidInput);
+    Ok(is_refused && is_accented(alloc, package)?)
+}
+
+/// The package that is handed back where `into_inner` is refused, and the error's kind.
+fn handed_back(package: Package<Memory>) -> Option<(ErrorKind, Package<Memory>)> {
+    match package.into_inner() {
+        Ok(_device) => None,
+        Err((error, package)) => Some((error.kind(), package)),
     }
 }
 
-/// The package that is handed back where `into_inner` is refused as it ought to be.
-fn handed_back(package: Package<Memory>) -> Option<Package<Memory>> {
-    match package.into_inner() {
-        Ok(_device) => None,
-        Err((error, package)) => {
-            if error.kind() == ErrorKind::InvalidInput {
-                Some(package)
-            } else {
-                None
-            }
-        }
+/// The bytes under a package that ends refused and is as before; none where it isn't.
+fn ended(alloc: Global, package: Package<Memory>) -> Result<Vec<u8>, Error> {
+    let Some((kind, package)) = handed_back(package) else {
+        return Ok(Vec::new(alloc));
+    };
+    if kind == ErrorKind::InvalidInput && is_accented(alloc, &package)? {
+        return Ok(package.into_reader().into_vec());
     }
+    Ok(Vec::new(alloc))
 }
 
 /// The bytes under a package that refuses to be written, both ways, and is as before; none where it isn't.
 fn refusing(alloc: Global, package: Result<Package<Memory>, Error>) -> Result<Vec<u8>, Error> {
     let mut package = package?;
-    let is_first = is_refused(package.flush()) && is_accented(alloc, &package)?;
-    let Some(package) = handed_back(package) else {
+    if !keeps_back(alloc, &mut package)? {
         return Ok(Vec::new(alloc));
-    };
-    if is_first && is_accented(alloc, &package)? {
-        return Ok(package.into_reader().into_vec());
     }
-    Ok(Vec::new(alloc))
+    ended(alloc, package)
 }
 
 /// The bytes of a package once it has a page that carries its texts.
 fn carried(alloc: Global, package: Result<Package<Memory>, Error>) -> Result<Vec<u8>, Error> {
     let mut package = package?;
     package.set_database_codepage(CodePage::Windows1252)?;
-    inner_bytes(package)
+    inner_bytes(Ok(package))
 }
 
 /// The bytes of a package that is written as it ends.
-fn inner_bytes(package: Package<Memory>) -> Result<Vec<u8>, Error> {
-    match package.into_inner() {
+fn inner_bytes(package: Result<Package<Memory>, Error>) -> Result<Vec<u8>, Error> {
+    match package?.into_inner() {
         Ok(device) => Ok(device.into_vec()),
         Err((error, _package)) => Err(error),
     }
@@ -150,33 +153,32 @@ fn a_text_that_the_page_lacks_is_kept_and_not_written(rt: HostRuntime) -> Result
     Ok(())
 }
 
-/// The ways to the bytes of a package that is changed, over a device of so many bytes.
-#[derive(Clone, Copy, Debug)]
-enum Way {
-    Image,
-    IntoInner,
-    FlushIntoReader,
-}
-
-/// The bytes of a changed package, in one of these ways.
-fn bytes_by(way: Way, package: Result<Package<Memory>, Error>, len: u64) -> Result<Vec<u8>, Error> {
+/// The bytes of a package that is flushed.
+fn flushed_bytes(package: Result<Package<Memory>, Error>) -> Result<Vec<u8>, Error> {
     let mut package = package?;
-    package.drop_table("Numbers")?;
-    match way {
-        Way::Image => package.image(len),
-        Way::IntoInner => inner_bytes(package),
-        Way::FlushIntoReader => {
-            package.flush()?;
-            Ok(package.into_reader().into_vec())
-        }
-    }
+    package.flush()?;
+    Ok(package.into_reader().into_vec())
 }
 
-/// The package of `Numbers` in a device with so many bytes behind it.
-fn lengthened(alloc: Global, more: usize) -> Result<Package<Memory>, Error> {
+/// The bytes that a package would write over so many.
+fn image_bytes(package: Result<Package<Memory>, Error>, len: u64) -> Result<Vec<u8>, Error> {
+    let package = package?;
+    package.image(len)
+}
+
+/// The bytes of the package of `Numbers`, with so many behind them.
+fn longer(alloc: Global, more: usize) -> Result<Vec<u8>, Error> {
     let (mut bytes, tail) = both(numbers(alloc), sevens(alloc, more))?;
     bytes.extend_from_slice(tail.as_slice())?;
-    Package::open(alloc, Memory::from_vec(bytes))
+    Ok(bytes)
+}
+
+/// The package that they hold, without this table.
+fn lengthened(alloc: Global, more: usize) -> Result<Package<Memory>, Error> {
+    let bytes = longer(alloc, more)?;
+    let mut package = Package::open(alloc, Memory::from_vec(bytes))?;
+    package.drop_table("Numbers")?;
+    Ok(package)
 }
 
 /// So many bytes.
@@ -189,20 +191,23 @@ fn is_filled_up(bytes: &[u8], len: usize) -> bool {
     bytes.len() == len && bytes.iter().skip(4096).all(|byte| *byte == 0)
 }
 
+/// Whether both ways to write that package give these bytes.
+fn are_written(alloc: Global, more: usize, image: &[u8]) -> Result<bool, Error> {
+    let (inner, flushed) = both(
+        inner_bytes(lengthened(alloc, more)),
+        flushed_bytes(lengthened(alloc, more)),
+    )?;
+    Ok(inner.as_slice() == image && flushed.as_slice() == image)
+}
+
 #[test]
 fn each_way_gives_the_same_bytes(rt: HostRuntime) -> Result<(), Fail> {
     // A file is never cut shorter; whole sectors fill it up.
     for (more, under, len) in [(0, 4096, 4096), (1, 4097, 4608), (5904, 10_000, 10_240)] {
-        let image = bytes_by(Way::Image, lengthened(rt.alloc(), more), under)?;
+        let image = image_bytes(lengthened(rt.alloc(), more), under)?;
         assert!(rt; is_filled_up(image.as_slice(), len), "over {under}");
-        for way in [Way::IntoInner, Way::FlushIntoReader] {
-            let bytes = bytes_by(way, lengthened(rt.alloc(), more), 0)?;
-            assert!(rt;
-                bytes.as_slice() == image.as_slice(),
-                "{way:?} over {under}"
-            );
-        }
-        assert!(rt; !has_table(rt.alloc(), image, "Numbers")?);
+        let same = are_written(rt.alloc(), more, image.as_slice())?;
+        assert!(rt; same, "over {under}");
     }
     Ok(())
 }

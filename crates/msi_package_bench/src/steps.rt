@@ -10,7 +10,7 @@ use std::alloc::Global;
 pub(crate) enum Step {
     /// The change is made, and leaves these rows in a table.
     Made(Change, (&'static str, Lines)),
-    /// The change is refused, and changes nothing.
+    /// The change is refused.
     Refused(Change, ErrorKind),
 }
 
@@ -82,19 +82,12 @@ pub(crate) fn holds(alloc: Global, bytes: &[u8], lines: Lines) -> Result<bool, E
     gives(&package, Select::table(alloc, "Numbers"), lines)
 }
 
-/// Whether a change is refused so, and changes nothing.
-fn is_refused(
-    alloc: Global,
-    package: &mut Package<Memory>,
-    change: &Change,
-    kind: ErrorKind,
-) -> Result<bool, Error> {
-    let before = package.image(0)?;
-    let Err(error) = make(alloc, package, change) else {
-        return Ok(false);
-    };
-    let after = package.image(0)?;
-    Ok(error.kind() == kind && after.as_slice() == before.as_slice())
+/// Whether an answer is a refusal of this kind.
+pub(crate) fn is_refused(answer: Result<(), Error>, kind: ErrorKind) -> bool {
+    match answer {
+        Ok(()) => false,
+        Err(error) => error.kind() == kind,
+    }
 }
 
 /// Whether a step goes as it is told.
@@ -104,12 +97,16 @@ fn goes(alloc: Global, package: &mut Package<Memory>, step: &Step) -> Result<boo
             make(alloc, package, change)?;
             gives(package, Select::table(alloc, *table), *lines)
         }
-        Step::Refused(change, kind) => is_refused(alloc, package, change, *kind),
+        Step::Refused(change, kind) => Ok(is_refused(make(alloc, package, change), *kind)),
     }
 }
 
 /// How many steps a package goes as they are told.
-fn all_go(alloc: Global, package: &mut Package<Memory>, steps: &[Step]) -> Result<usize, Error> {
+pub(crate) fn all_go(
+    alloc: Global,
+    package: &mut Package<Memory>,
+    steps: &[Step],
+) -> Result<usize, Error> {
     for (number, step) in steps.iter().enumerate() {
         if !goes(alloc, package, step)? {
             return Ok(number);

@@ -1,11 +1,11 @@
 //! Tables of packages: rows, places of the pool, and what is refused.
 
-use crate::containers::{stream_of, with_full_pool};
+use crate::containers::{pool_streams, stream_of, with_full_pool};
 use crate::samples::Change::{Create, Delete, DeleteWhere, Drop, Insert, Update};
 use crate::samples::Given::{Int, Null, Str};
 use crate::steps::Step::{self, Made, Refused};
-use crate::steps::{WORDS, changed, gone, holds, numbers, opened};
-use msi::{Error, ErrorKind};
+use crate::steps::{WORDS, all_go, changed, gone, holds, numbers, opened};
+use msi::{Error, ErrorKind, Memory, Package};
 use std::alloc::Global;
 use std::test::Fail;
 
@@ -31,11 +31,12 @@ fn rows_come_back_in_order_and_places_fall_free(rt: HostRuntime) -> Result<(), F
     let pool = pool_without(rt.alloc(), bytes.as_slice())?;
     assert_eq!(rt; pool.len(), 96);
     assert!(rt; pool.ends_with(&[0; 24]));
-    assert!(rt; !pool.ends_with(&[0; 25]));
+    // The count of place 17 has one more zero, above what isn't.
+    assert!(rt; !pool.ends_with(&[0; 26]));
     Ok(())
 }
 
-/// The steps of the package of `Numbers`, and whether they leave its pool as it was.
+/// Steps of the package of `Numbers`, and whether they leave it as it was.
 const STEPS: [(&[Step], bool); 4] = [
     (
         &[
@@ -112,19 +113,17 @@ const STEPS: [(&[Step], bool); 4] = [
     ),
 ];
 
-/// How many steps a package goes as they are told, and whether its pool is as before.
-fn gone_with_pool(alloc: Global, bytes: &[u8], steps: &[Step]) -> Result<(usize, bool), Error> {
+/// How many steps the package that bytes hold goes as they are told, and whether it is as before then.
+fn gone_from(alloc: Global, bytes: &[u8], steps: &[Step]) -> Result<(usize, bool), Error> {
     let (count, after) = gone(alloc, opened(alloc, bytes), steps)?;
-    let before = stream_of(alloc, bytes, "_StringPool")?;
-    let after = stream_of(alloc, after.as_slice(), "_StringPool")?;
-    Ok((count, after.as_slice() == before.as_slice()))
+    Ok((count, after.as_slice() == bytes))
 }
 
 #[test]
 fn changes_are_made_or_refused_whole(rt: HostRuntime) -> Result<(), Fail> {
     let bytes = numbers(rt.alloc())?;
     for (steps, is_kept) in STEPS {
-        let found = gone_with_pool(rt.alloc(), bytes.as_slice(), steps)?;
+        let found = gone_from(rt.alloc(), bytes.as_slice(), steps)?;
         assert_eq!(rt; found, (steps.len(), is_kept));
     }
     Ok(())
@@ -136,25 +135,18 @@ fn full(alloc: Global) -> Result<Vec<u8>, Error> {
     with_full_pool(alloc, bytes.as_slice())
 }
 
-/// Steps of the package of a full pool; and the length and the count of place 21 then, and its text, which stands behind
-/// 356 bytes of a new package and the 17 of `NumbersNumberWord`.
-const IN_FULL: [(&[Step], [u8; 4], &[u8]); 3] = [
-    (
-        &[
-            Refused(
-                Insert("Numbers", &[&[Int(5), Str("Five")]]),
-                ErrorKind::InvalidInput,
-            ),
-            // The first row's text is known, the second one's is new.
-            Refused(
-                Insert("Numbers", &[&[Int(5), Str("Two")], &[Int(6), Str("Six")]]),
-                ErrorKind::InvalidInput,
-            ),
-            Refused(Create("Other"), ErrorKind::InvalidInput),
-        ],
-        [3, 0, 1, 0],
-        b"TwoFourOnexxx",
+/// What is refused where the pool is full.
+const REFUSED: [Step; 2] = [
+    Refused(
+        Insert("Numbers", &[&[Int(5), Str("Five")]]),
+        ErrorKind::InvalidInput,
     ),
+    Refused(Create("Other"), ErrorKind::InvalidInput),
+];
+
+/// What isn't, one behind the other; and the length and the count of place 21 then, and the texts from its own on, which
+/// stand behind the 356 bytes of a new package and the 17 of the table's name and those of its columns.
+const TAKEN: [(&[Step], [u8; 4], &[u8]); 2] = [
     (
         &[Made(
             Insert("Numbers", &[&[Int(5), Str("Two")]]),
@@ -173,33 +165,46 @@ const IN_FULL: [(&[Step], [u8; 4], &[u8]); 3] = [
     ),
     // The old text falls free before the new one is taken.
     (
-        &[Made(
-            Update("Numbers", ("Word", Str("Five")), ("Number", Int(2))),
-            (
-                "Numbers",
-                &[
-                    &[Int(1), Str("One")],
-                    &[Int(2), Str("Five")],
-                    &[Int(4), Str("Four")],
-                ],
+        &[
+            Made(
+                DeleteWhere("Numbers", ("Number", Int(5))),
+                ("Numbers", WORDS),
             ),
-        )],
+            Made(
+                Update("Numbers", ("Word", Str("Five")), ("Number", Int(2))),
+                (
+                    "Numbers",
+                    &[
+                        &[Int(1), Str("One")],
+                        &[Int(2), Str("Five")],
+                        &[Int(4), Str("Four")],
+                    ],
+                ),
+            ),
+        ],
         [4, 0, 1, 0],
         b"FiveFourOnexxx",
     ),
 ];
 
+/// Whether a package refuses what it ought to, and has these bytes then.
+fn refuses(alloc: Global, package: &mut Package<Memory>, bytes: &[u8]) -> Result<bool, Error> {
+    let count = all_go(alloc, package, &REFUSED)?;
+    let image = package.image(0)?;
+    Ok(count == REFUSED.len() && image.as_slice() == bytes)
+}
+
 /// Whether steps go as they are told, and leave this at place 21 of 65535.
 fn leave(
     alloc: Global,
-    bytes: &[u8],
+    package: &mut Package<Memory>,
     steps: &[Step],
     entry: &[u8],
     texts: &[u8],
 ) -> Result<bool, Error> {
-    let (count, image) = gone(alloc, opened(alloc, bytes), steps)?;
-    let pool = stream_of(alloc, image.as_slice(), "_StringPool")?;
-    let data = stream_of(alloc, image.as_slice(), "_StringData")?;
+    let count = all_go(alloc, package, steps)?;
+    let image = package.image(0)?;
+    let (pool, data) = pool_streams(alloc, image.as_slice())?;
     Ok(
         count == steps.len()
             && pool.len() == 262_144
@@ -216,12 +221,29 @@ fn has_at(bytes: &[u8], at: usize, piece: &[u8]) -> bool {
     }
 }
 
+/// How many rows go as they are told, behind what is refused; none where that isn't.
+fn rows_gone(alloc: Global, package: &mut Package<Memory>, bytes: &[u8]) -> Result<usize, Error> {
+    if !refuses(alloc, package, bytes)? {
+        return Ok(0);
+    }
+    for (number, (steps, entry, texts)) in TAKEN.iter().enumerate() {
+        if !leave(alloc, package, *steps, entry, *texts)? {
+            return Ok(number);
+        }
+    }
+    Ok(TAKEN.len())
+}
+
+/// How many go so over the package of a full pool.
+fn full_gone(alloc: Global) -> Result<usize, Error> {
+    let bytes = full(alloc)?;
+    let mut package = opened(alloc, bytes.as_slice())?;
+    rows_gone(alloc, &mut package, bytes.as_slice())
+}
+
 #[test]
 fn a_full_pool_takes_no_new_text(rt: HostRuntime) -> Result<(), Fail> {
-    let bytes = full(rt.alloc())?;
-    for (steps, entry, texts) in IN_FULL {
-        let is_left = leave(rt.alloc(), bytes.as_slice(), steps, &entry, texts)?;
-        assert!(rt; is_left, "{entry:?}");
-    }
+    let count = full_gone(rt.alloc())?;
+    assert_eq!(rt; count, TAKEN.len());
     Ok(())
 }
