@@ -102,6 +102,7 @@ fn many_bytes(alloc: Global) -> Result<Vec<u8>, Error> {
 fn in_pieces(alloc: Global, stream: &mut StreamReader<'_>, size: usize) -> Result<Vec<u8>, Error> {
     let mut all = Vec::new(alloc);
     let mut piece = vec![in alloc; 0; size]?;
+    // Each read gives a byte at least, until none is left.
     for _ in 0..=100_000 {
         let count = stream.read(piece.as_mut_slice())?;
         all.extend_from_slice(&piece.as_slice()[..count])?;
@@ -144,13 +145,13 @@ fn long_streams_are_read_in_pieces(rt: HostRuntime) -> Result<(), Fail> {
         package.read_stream("App.exe")?,
         bytes.as_slice(),
     )?;
-    assert_eq!(rt; count, 6);
+    assert_eq!(rt; count, READS.len());
     let package = opened(rt.alloc(), written(package)?)?;
     let count = reads_gone(
         rt.alloc(),
         package.read_stream("App.exe")?,
         bytes.as_slice(),
     )?;
-    assert_eq!(rt; count, 6);
+    assert_eq!(rt; count, READS.len());
     Ok(())
 }

@@ -20,8 +20,8 @@ fn with_storage(alloc: Global) -> Result<Vec<u8>, Error> {
     Ok(bytes)
 }
 
-/// What a package with a storage answers and refuses. A sound one without storages would make the changes, but for the
-/// insert and the first removal, which would be `NotFound`.
+/// What a package with a storage answers and refuses. Without storages each change would be made, but for the insert,
+/// which would be `NotFound`.
 const WITH_STORAGE: [Step; 10] = [
     Asked(HasTable("_Validation", true)),
     Asked(Selects("_Tables", Ok(1))),
@@ -35,8 +35,8 @@ const WITH_STORAGE: [Step; 10] = [
     Asked(Lists(&[])),
 ];
 
-/// How many steps a package over these bytes goes as they are told, and how many calls its device got then, a flush
-/// behind the steps counted.
+/// How many steps a package over these bytes goes as they are told, and how many calls its device gets until it is
+/// flushed behind them.
 fn gone_and_calls(alloc: Global, bytes: Vec<u8>, steps: &[Step]) -> Result<(usize, u32), Error> {
     let mut package = Package::open(alloc, Counted::new(bytes))?;
     let count = gone(alloc, &mut package, steps)?;
@@ -49,13 +49,14 @@ fn a_package_with_storages_is_read_and_never_changed(rt: HostRuntime) -> Result<
     let bytes = with_storage(rt.alloc())?;
     let found = gone_and_calls(rt.alloc(), bytes, &WITH_STORAGE)?;
     // To open it the device is rewound, read, and read at its end.
-    assert_eq!(rt; found, (10, 3));
+    assert_eq!(rt; found, (WITH_STORAGE.len(), 3));
     Ok(())
 }
 
-/// The container's names of the signature, and of what extends it.
+/// The container's name of the signature.
 const SIGNATURE: &str = "\u{5}DigitalSignature";
 
+/// The container's name of what extends the signature.
 const SIGNATURE_EX: &str = "\u{5}MsiDigitalSignatureEx";
 
 /// The names of streams in the container beside the six of a new package, whether they are a signature, and how many.
@@ -77,7 +78,7 @@ fn unsigned(alloc: Global, bytes: Vec<u8>, is_signed: bool) -> Result<Option<Vec
         Asked(Lists(&[])),
     ];
     let mut package = opened(alloc, bytes)?;
-    if gone(alloc, &mut package, &steps)? != 6 {
+    if gone(alloc, &mut package, &steps)? != steps.len() {
         return Ok(None);
     }
     Ok(Some(written(package)?))
@@ -107,9 +108,10 @@ fn a_signature_is_told_and_taken_out(rt: HostRuntime) -> Result<(), Fail> {
     Ok(())
 }
 
-/// The container's names of the streams of `_StringPool` and `_Validation`.
+/// The container's name of the stream of `_StringPool`.
 const STRING_POOL: &str = "\u{4840}\u{3F3F}\u{4577}\u{446C}\u{3E6A}\u{44B2}\u{482F}";
 
+/// The container's name of the stream of `_Validation`.
 const VALIDATION: &str = "\u{4840}\u{3FFF}\u{43E4}\u{41EC}\u{45E4}\u{44AC}\u{4831}";
 
 /// A byte that is put into a stream of a new package's container, and why an insert into a table that isn't there is

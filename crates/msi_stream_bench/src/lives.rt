@@ -136,7 +136,7 @@ fn is_no_name(
         Refused(Write(name, b"1"), ErrorKind::InvalidInput),
         Refused(Remove(name), ErrorKind::InvalidInput),
     ];
-    Ok(gone(alloc, package, &steps)? == 4)
+    Ok(gone(alloc, package, &steps)? == steps.len())
 }
 
 /// Whether each call takes this name.
@@ -154,7 +154,7 @@ fn is_name(
         Asked(Reads(name, Ok(b"1"))),
         Asked(IsSigned(false)),
     ];
-    Ok(gone(alloc, package, &steps)? == 7)
+    Ok(gone(alloc, package, &steps)? == steps.len())
 }
 
 #[test]

@@ -66,11 +66,7 @@ fn lend_summary<F: Source>(package: &mut Package<F>) -> Result<(), Error> {
 }
 
 /// Makes the change that is told.
-pub(crate) fn make<F: Source>(
-    alloc: Global,
-    package: &mut Package<F>,
-    change: &Change,
-) -> Result<(), Error> {
+fn make<F: Source>(alloc: Global, package: &mut Package<F>, change: &Change) -> Result<(), Error> {
     match change {
         Change::Write(name, bytes) => fill(package, *name, *bytes),
         Change::Remove(name) => package.remove_stream(*name),
@@ -177,8 +173,8 @@ pub(crate) fn gone<F: Source>(
     Ok(steps.len())
 }
 
-/// Where a package doesn't go as it is told: the part of its life, and the step. After each part it is written, and opened
-/// of what was written.
+/// Where a package doesn't go as it is told: the part of its life, and the step. After each part it is written, and
+/// opened of what was written.
 pub(crate) fn strays(
     alloc: Global,
     mut package: Package<Memory>,
