@@ -35,7 +35,8 @@ fn stream_bytes<'a>(alloc: Global, streams: &'a StreamMap, name: &str) -> Result
     }
 }
 
-/// The rows that the stream of a table spells, unless it can't be read. A table without a stream has no rows.
+/// The rows that the stream of a table spells, unless it can't be read. A table without a stream has no rows. The
+/// streams' names are a container's, as each `Name` is.
 ///
 /// # Errors
 /// `OutOfMemory`.
@@ -58,7 +59,8 @@ pub fn readable_rows(
     }
 }
 
-/// The rows that the stream of a table spells. A table without a stream has none.
+/// The rows that the stream of a table spells. A table without a stream has none. The streams' names are a container's,
+/// as each `Name` is.
 ///
 /// # Errors
 /// `InvalidData` where the stream can't be read; `OutOfMemory`.

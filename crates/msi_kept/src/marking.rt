@@ -119,7 +119,8 @@ impl Marks {
     }
 }
 
-/// The pool without the texts of free places that no cell names: of tables, and of rows beside them.
+/// The pool without the texts of free places that no cell names: of tables, and of rows beside them. The tables
+/// refer to texts in the pool's width.
 ///
 /// # Errors
 /// `OutOfMemory`.

@@ -213,7 +213,7 @@ impl Unspent {
 }
 
 /// Whether a database of these parts is sound. The rows are those of the stream of `_Validation` where it is no table,
-/// and `standard` its standard columns.
+/// and `standard` its standard columns. The tables refer to texts in the pool's width, and cells name places from 1 on.
 ///
 /// # Errors
 /// `OutOfMemory`.

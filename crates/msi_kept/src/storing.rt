@@ -26,7 +26,8 @@ pub struct Stored {
     pub bytes: Option<Bytes>,
 }
 
-/// The stream of a table whose rows become these: none where there is no row.
+/// The stream of a table whose rows become these: none where there is no row. The table has a name that a stream can
+/// have, as `table_key` tells, and the rows fit it, as `fits_table` tells.
 ///
 /// # Errors
 /// `OutOfMemory`.
@@ -51,7 +52,7 @@ pub fn stream_of(alloc: Global, table: &Table, rows: Vec<Items<ValueRef>>) -> Re
 }
 
 /// Stores each of these. Streams are put first, and what goes is removed only when all are put, since that takes no
-/// memory.
+/// memory. No two of them have one name.
 ///
 /// # Errors
 /// `OutOfMemory`; then nothing is changed.
