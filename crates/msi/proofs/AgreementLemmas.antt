@@ -2,24 +2,24 @@
 use Rattle.std.proofs.Common.{◌≡◌, ℕ, Bool, true, false, List, [], ◌∷◌, ◌++◌, map, Option, Some, unwrap_or, refl, sym, ap, subst, ◌∙◌, ◌==◌, ◌+◌}
 use Rattle.std.specs.Prelude.{MatchBool, IsSomeAnd, option_map, option_and_then}
 use Rattle.std.specs.List.{list_any, AllByRecursion, enumerate_from}
-use Rattle.msi_text.specs.Pool.{Pool, Place, IsPool, forgotten}
-use Rattle.msi_property.specs.Properties.{Properties}
+use Rattle.msi_text_pool.specs.Pool.{Pool, Place, IsPool, forgotten}
+use Rattle.msi_summary_properties.specs.Properties.{Properties}
 use Rattle.msi_summary.specs.Summary.{SpellsSummary}
-use Rattle.msi_value.specs.declared.value.ValueRef.{ValueRef}
-use Rattle.msi_value.specs.declared.value.Value.{Value}
-use Rattle.msi_value.specs.Columns.{ColumnDef, types_of}
+use Rattle.msi_table_values.specs.declared.value.ValueRef.{ValueRef}
+use Rattle.msi_table_values.specs.Columns.{ColumnDef, types_of}
 use Rattle.msi_table.specs.Cells.{rows_in}
-use Rattle.msi_value.specs.CellValues.{row_values}
-use Rattle.msi_schema.specs.Keys.{table_key, summary_key, string_pool_name, string_data_name}
-use Rattle.msi_schema.specs.System.{tables_name, columns_name, validation_name, tables_columns, columns_columns, validation_columns}
-use Rattle.msi_schema.specs.Schema.{SchemaRows, schema_of}
-use Rattle.msi_changes.specs.Database.{Database, Tables, named_numbers, numbers_of_rows, has_table}
-use Rattle.msi_kept.specs.Streams.{Streams, stream_at, stored_rows}
-use Rattle.msi_kept.specs.StreamNames as databases
-use Rattle.msi_kept.specs.Kept.{Kept}
+use Rattle.msi_table_values.specs.CellValues.{row_values}
+use Rattle.msi_database_schema.specs.Keys.{table_key, summary_key, string_pool_name, string_data_name}
+use Rattle.msi_database_schema.specs.System.{tables_name, columns_name, validation_name, tables_columns, columns_columns, validation_columns}
+use Rattle.msi_database_schema.specs.Schema.{schema_of}
+use Rattle.msi_database_changes.specs.Database.{Database, Tables, named_numbers, numbers_of_rows, has_table}
+use Rattle.msi_database_storage.specs.Streams.{Streams, stream_at, stored_rows}
+use Rattle.msi_database_storage.specs.StreamNames as databases
+use Rattle.msi_database_storage.specs.Kept.{Kept}
 use Rattle.msi_database.specs.Agreement.{DatabaseIs, described_by, is_shown, schema_in}
 use Rattle.msi_database.specs.Keeping.{IsKeptDatabase}
 use Rattle.msi_database.proofs.StreamLemmas.{AreSorted}
+use Rattle.msi_database.proofs.ReadingLemmas.{joined}
 use Rattle.msi.specs.Meaning.{SummaryIs, RawPoolIs, PoolIs, shown_pool}
 
 -- THE SUMMARY AND THE POOL
@@ -82,12 +82,9 @@ pub record SameDescription (before after : Streams) (pool other : Pool) : Type 0
   pub columns : described_by after other columns_columns columns_name ≡ described_by before pool columns_columns columns_name
   pub validation : described_by after other validation_columns validation_name ≡ described_by before pool validation_columns validation_name
 
-rows_joined : Option (List (List Value)) → Option (List (List Value)) → Option (List (List Value)) → Option SchemaRows
-rows_joined tables columns validation = option_and_then (λ t. option_and_then (λ c. option_map (λ v. record { tables = t; columns = c; validation = v }) validation) columns) tables
-
 pub schema_same : (before after : Streams) (pool other : Pool) → SameDescription before after pool other → schema_in after other ≡ schema_in before pool
-unfolding rows_joined
-schema_same before after pool other same = λ k. option_and_then schema_of (rows_joined (same.tables k) (same.columns k) (same.validation k))
+unfolding joined
+schema_same before after pool other same = λ k. option_and_then schema_of (joined (same.tables k) (same.columns k) (same.validation k))
 
 described_same : (before after : Streams) (pool : Pool) (columns : List ColumnDef) (name : List ℕ) → SameStream before after name → described_by after pool columns name ≡ described_by before pool columns name
 described_same before after pool columns name e = ap (option_map (map (row_values pool.places))) (stored_same before after pool.long columns name e)
@@ -119,7 +116,7 @@ pub all_same : (before after : Streams) (d : Database) → ((name : List ℕ) �
 all_same before after d same = record { each = every_same before after same d.tables; tables = same tables_name; columns = same columns_name; validation = same validation_name }
 
 -- a kept database goes on to be kept where the streams of its tables stay
-pub kept_same : (k : Kept) (after : Streams) → AreSorted after → databases.HaveNames after → SameTables k.streams after k.database → IsKeptDatabase k
+pub kept_same : (k : Kept) (after : Streams) → AreSorted after → databases.HaveShortNames after → SameTables k.streams after k.database → IsKeptDatabase k
     → IsKeptDatabase (record k { streams = after })
 kept_same k after sorted names same h = record {
   in_order = sorted;

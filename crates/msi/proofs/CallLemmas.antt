@@ -1,31 +1,24 @@
 -- Answers of calls are steps: what a call answers and leaves, or why it is refused, is what a step says of it.
 use Rattle.std.proofs.Common.{◌≡◌, ℕ, Bool, true, false, Option, Some, None, Result, Ok, Err, refl, sym, ap, subst, ◌∙◌, inl, inr, length}
-use Rattle.std.specs.Prelude.{MatchBool, IsTrue, if◌then◌else◌}
+use Rattle.std.specs.Prelude.{IsTrue}
 use Rattle.std.proofs.lemmas.Bool.{true≢false}
-use Rattle.msi_text.specs.ErrorKind.{ErrorKind}
-use Rattle.msi_text.specs.ErrorKind.TheVariants.{Io, OutOfMemory}
-use Rattle.msi_relation.specs.Refusals.{Refusals, IsRefusal, first_refusal, unless, unless_refused}
-use Rattle.msi_changes.specs.Changes.{Change}
-use Rattle.msi_kept.specs.Streams.{Streams}
+use Rattle.msi_text_base.specs.declared.errors.ErrorKind.{ErrorKind}
+use Rattle.msi_text_base.specs.declared.errors.ErrorKind.TheVariants.{OutOfMemory}
+use Rattle.msi_query_rows.specs.Refusals.{Refusals, IsRefusal, first_refusal, unless, unless_refused}
+use Rattle.msi_database_changes.specs.Changes.{Change}
+use Rattle.msi_database_changes.proofs.RefusedLemmas.{unless_err}
 use Rattle.msi.specs.State.{State}
 use Rattle.msi.specs.Calls.{Call, Answer}
 use Rattle.msi.specs.Calls as calls
-use Rattle.msi.specs.Steps.{Step, outcome, after_change, changed, leaving, leaving_or, answer_of, flushed, written_for, as_written, is_lending, may_want_memory, Lends, LendsOrRefuses}
+use Rattle.msi.specs.Steps.{Step, outcome, after_change, changed, leaving, leaving_or, answer_of, is_lending, may_want_memory, Lends, LendsOrRefuses}
 use Rattle.msi.specs.Runs.{Session, SessionStep, SameDevice}
 use Rattle.msi.proofs.LeavingLemmas.{is_flush}
-
-to_match : (b : Bool) (P Q : Type 0) → b ≡ false → Q → MatchBool b P Q
-to_match true P Q e q = absurd (true≢false e)
-to_match false P Q e q = q
-
-to_first : (b : Bool) (P Q : Type 0) → b ≡ true → P → MatchBool b P Q
-to_first true P Q e p = p
-to_first false P Q e p = absurd (true≢false (sym e))
+use Rattle.msi.proofs.FlushStepLemmas.{when_false, when_true}
 
 module _ (n : ℕ) (s : State) (call : Call) where
   -- a call that takes no memory, or was given it
   pub step_is : (answer : Result Answer ErrorKind) (new : State) → is_lending call ≡ false → outcome n s call ≡ (answer, new) → Step n s call answer new
-  step_is answer new plain is = inl (to_match (is_lending call) _ (outcome n s call ≡ (answer, new)) plain is)
+  step_is answer new plain is = inl (when_false (is_lending call) _ (outcome n s call ≡ (answer, new)) plain is)
 
   -- one that was refused it
   pub step_unfed : IsTrue (may_want_memory s call) → (new : State) → new ≡ s → Step n s call (Err OutOfMemory) new
@@ -47,10 +40,6 @@ module _ (n : ℕ) (s : State) (call : Call) where
   no_refusal x y None e = refl
   no_refusal x y (Some kind) e = absurd cc
 
-  the_refusal : {X : Type 0} (x : X) (o : Option ErrorKind) (kind : ErrorKind) → unless o x ≡ Err kind → o ≡ Some kind
-  the_refusal x None kind e = absurd cc
-  the_refusal x (Some other) kind e = cc
-
   module _ {X : Type 0} (x : X) (refusals : Refusals) (next : State) (plain : is_lending call ≡ false) (is : outcome n s call ≡ leaving s refusals next) (new : State) where
     pub left_done : (y : X) → unless_refused refusals x ≡ Ok y → new ≡ next → Step n s call (Ok calls.done) new
     left_done y e after = step_is (Ok calls.done) new plain
@@ -58,12 +47,7 @@ module _ (n : ℕ) (s : State) (call : Call) where
 
     pub left_refused : (kind : ErrorKind) → unless_refused refusals x ≡ Err kind → new ≡ s → Step n s call (Err kind) new
     left_refused kind e same = step_is (Err kind) new plain
-        (is ∙ ap (λ (o : Option ErrorKind). leaving_or o s next) (the_refusal x (first_refusal refusals) kind e) ∙ ap (λ (t : State). (Err kind, t)) (sym same))
-
-    -- where memory is taken too
-    pub left_unfed : IsTrue (may_want_memory s call) → (kind : ErrorKind) → IsRefusal (unless_refused refusals x) kind → new ≡ s → Step n s call (Err kind) new
-    left_unfed wants kind (inl memory) same = subst (λ (k : ErrorKind). Step n s call (Err k) new) (sym memory) (step_unfed wants new same)
-    left_unfed wants kind (inr e) same = left_refused kind e same
+        (is ∙ ap (λ (o : Option ErrorKind). leaving_or o s next) (unless_err (first_refusal refusals) x kind e) ∙ ap (λ (t : State). (Err kind, t)) (sym same))
 
   -- WHAT ONLY ANSWERS
 
@@ -78,32 +62,8 @@ module _ (n : ℕ) (s : State) (call : Call) where
   -- WHAT LENDS
 
   pub lent : (next new : State) (a : Answer) → is_lending call ≡ true → outcome n s call ≡ (Ok calls.done, next) → Lends next call a new → Step n s call (Ok a) new
-  lent next new a lends is l = inl (to_first (is_lending call) (LendsOrRefuses s call (outcome n s call) (Ok a) new) _ lends
+  lent next new a lends is l = inl (when_true (is_lending call) (LendsOrRefuses s call (outcome n s call) (Ok a) new) _ lends
       (subst (λ (r : Result Answer ErrorKind × State). LendsOrRefuses s call r (Ok a) new) (sym is) l))
-
-  pub not_lent : (next : State) (kind : ErrorKind) → is_lending call ≡ true → outcome n s call ≡ (Err kind, next) → Step n s call (Err kind) s
-  not_lent next kind lends is = inl (to_first (is_lending call) (LendsOrRefuses s call (outcome n s call) (Err kind) s) _ lends
-      (subst (λ (r : Result Answer ErrorKind × State). LendsOrRefuses s call r (Err kind) s) (sym is) (refl, refl)))
-
--- A FLUSH
-
-module _ (n : ℕ) (s : State) where
-  pub flush_idle : s.is_unwritten ≡ false → Step n s calls.flush (Ok calls.done) s
-  flush_idle clean = inl (ap (λ b. if b then flushed s (written_for s n) else (Ok calls.done, s)) clean)
-
-  module _ (unwritten : s.is_unwritten ≡ true) where
-    flush_by : (r : Result Streams ErrorKind) → written_for s n ≡ r → outcome n s calls.flush ≡ flushed s r
-    flush_by r e = ap (λ b. if b then flushed s (written_for s n) else (Ok calls.done, s)) unwritten ∙ ap (flushed s) e
-
-    pub flush_done : (streams : Streams) → written_for s n ≡ Ok streams → Step n s calls.flush (Ok calls.done) (as_written s streams)
-    flush_done streams e = inl (flush_by (Ok streams) e)
-
-    pub flush_refused : (kind : ErrorKind) → IsRefusal (written_for s n) kind → Step n s calls.flush (Err kind) s
-    flush_refused kind (inl memory) = subst (λ (k : ErrorKind). Step n s calls.flush (Err k) s) (sym memory) (inr (inl (unwritten, refl, refl)))
-    flush_refused kind (inr e) = inl (flush_by (Err kind) e)
-
-    pub flush_fails : Step n s calls.flush (Err Io) s
-    flush_fails = inr (inr (unwritten, refl, refl))
 
 -- OVER A DEVICE
 

@@ -1,20 +1,20 @@
 -- What a change of a package's tables leaves is sound.
 use Rattle.std.proofs.Common.{◌≡◌, ℕ, true, false, not, ◌||◌, List, [], ◌∷◌, Option, None, IfSome, Bool, ◌⊎◌, inl, inr, refl, sym, ap, subst, ◌∙◌}
 use Rattle.std.specs.Prelude.{Result, Ok, Err}
-use Rattle.msi_text.specs.ErrorKind.{ErrorKind}
-use Rattle.msi_text.specs.ErrorKind.TheVariants.{InvalidData, InvalidInput}
-use Rattle.msi_value.specs.Columns.{ColumnDef}
+use Rattle.msi_text_base.specs.declared.errors.ErrorKind.{ErrorKind}
+use Rattle.msi_text_base.specs.declared.errors.ErrorKind.TheVariants.{InvalidData, InvalidInput}
+use Rattle.msi_table_values.specs.Columns.{ColumnDef}
 use Rattle.msi_query.specs.Queries.{InsertQuery, UpdateQuery, DeleteQuery}
-use Rattle.msi_relation.specs.Refusals.{IsRefusal, unless_refused, ◌>>=◌}
-use Rattle.msi_changes.specs.Changes.{Change, sound_refusal}
-use Rattle.msi_changes.specs.Create.{create_table}
-use Rattle.msi_changes.specs.Database.{Database, is_sound}
-use Rattle.msi_changes.specs.Delete.{delete_rows}
-use Rattle.msi_changes.specs.Drop.{drop_table}
-use Rattle.msi_changes.specs.Insert.{insert_rows}
-use Rattle.msi_changes.specs.Laws.{IsChange, IsTableChange, inserted, updated, deleted, created, dropped}
-use Rattle.msi_changes.specs.Update.{update_rows}
-use Rattle.msi_kept.specs.Kept.{Kept}
+use Rattle.msi_query_rows.specs.Refusals.{IsRefusal, unless_refused, ◌>>=◌}
+use Rattle.msi_database_changes.specs.Changes.{Change, sound_refusal}
+use Rattle.msi_database_changes.specs.Create.{create_table}
+use Rattle.msi_database_changes.specs.Database.{Database, is_sound}
+use Rattle.msi_database_changes.specs.Delete.{delete_rows}
+use Rattle.msi_database_changes.specs.Drop.{drop_table}
+use Rattle.msi_database_changes.specs.Insert.{insert_rows}
+use Rattle.msi_database_changes.specs.Laws.{IsChange, IsTableChange, inserted, updated, deleted, created, dropped}
+use Rattle.msi_database_changes.specs.Update.{update_rows}
+use Rattle.msi_database_storage.specs.Kept.{Kept}
 use Rattle.msi_database.specs.Keeping.{IsKeptDatabase}
 use Rattle.msi_database.specs.Making as databases
 use Rattle.msi_database.specs.Making.{TellsUse}
@@ -30,6 +30,11 @@ held_sound k name used none sound = record {
   current = subst (λ (o : Option (List ℕ)). IfSome o (IsOpen k)) (sym none) tt;
   changed = λ _. sound;
 }
+
+-- a pool is in use of sound tables alone, also once a change was noted
+pub noted_sound : {S : Type 0} (before used : Bool) → (before ≡ true → S) → (used ≡ true → S) → (before || used) ≡ true → S
+noted_sound true used was is either = was refl
+noted_sound false used was is either = is either
 
 passes : (b : Bool) → ◌≡◌ {A = Result (Unit {0}) ErrorKind} (Ok tt) (unless_refused ((not b, InvalidData) ∷ []) tt) → b ≡ true
 passes true e = refl

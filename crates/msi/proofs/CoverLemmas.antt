@@ -1,31 +1,33 @@
 -- Each number of the three tables that describe tables is named, so the texts that they tell are shown.
-use Rattle.std.proofs.Common.{◌≡◌, ℕ, ◌<◌, ◌^◌, Bool, true, false, cond, ◌==◌, nat_le, List, [], ◌∷◌, ◌++◌, map, Option, Some, None, unwrap_or, slice_get, refl, sym, subst, ◌∙◌, arith}
+use Rattle.std.proofs.Common.{◌≡◌, ℕ, ◌<◌, ◌^◌, Bool, true, false, ◌==◌, nat_le, List, [], ◌∷◌, Option, Some, None, unwrap_or, slice_get, refl, sym, subst, ◌∙◌, arith}
 use Rattle.std.specs.Prelude.{ℤ, pos, ◌-ℤ◌, option_and_then, if◌then◌else◌}
 use Rattle.std.specs.Option.{option_map_or}
 use Rattle.std.specs.List.{list_any, flat_map, filter_map, AllByRecursion}
-use Rattle.std.specs.Ordering.{eq_by_cmp}
-use Rattle.std.specs.FinMap.{find}
 use Rattle.std.proofs.lemmas.Bool.{or_left, or_right, eq-eqb, eqb-false}
 use Rattle.std.proofs.lemmas.List.Folds.{list_any-append}
-use Rattle.std.proofs.lemmas.Option.{same_Some, option_and_then_some}
-use Rattle.msi_text.specs.Lists.{list_cmp, tabulated, numbers_below}
-use Rattle.msi_text.specs.Pool.{Pool}
-use Rattle.msi_text.specs.References.{number_of}
-use Rattle.msi_value.specs.declared.column.ColumnType.{ColumnType}
-use Rattle.msi_value.specs.declared.column.ColumnType.TheVariants as coltype
-use Rattle.msi_value.specs.declared.value.ValueRef.{ValueRef}
-use Rattle.msi_value.specs.declared.value.ValueRef.TheVariants as cell
-use Rattle.msi_value.specs.Columns.{ColumnDef, types_of}
+use Rattle.std.proofs.lemmas.Option.{option_and_then_some}
+use Rattle.msi_text_base.specs.Lists.{tabulated, numbers_below}
+use Rattle.msi_text_base.proofs.ListLemmas.{all_mapped}
+use Rattle.msi_text_pool.specs.Pool.{Pool}
+use Rattle.msi_text_pool.specs.References.{number_of}
+use Rattle.msi_table_values.specs.declared.column.ColumnType.{ColumnType}
+use Rattle.msi_table_values.specs.declared.column.ColumnType.TheVariants as coltype
+use Rattle.msi_table_values.specs.declared.value.ValueRef.{ValueRef}
+use Rattle.msi_table_values.specs.declared.value.ValueRef.TheVariants as cell
+use Rattle.msi_table_values.specs.Columns.{ColumnDef, types_of}
 use Rattle.msi_table.specs.Cells.{cell_in, row_count, row_in, rows_in}
-use Rattle.msi_relation.specs.Rows.{TableCells}
-use Rattle.msi_schema.specs.Keys.{table_key}
-use Rattle.msi_schema.specs.System.{tables_name, columns_name, validation_name, tables_columns, columns_columns, validation_columns}
-use Rattle.msi_schema.specs.Schema.{SchemaRows, schema_of}
-use Rattle.msi_schema.proofs.SchemaLemmas.{table_of}
-use Rattle.msi_changes.specs.Database.{Database, Tables, table_at, rows_of, number_of_cell, numbers_of_rows, named_numbers}
-use Rattle.msi_kept.specs.Streams.{Streams, stream_at, stored_rows}
-use Rattle.msi_database.specs.Agreement.{TablesAre, numbers_stored, is_shown, schema_shown}
-use Rattle.msi_database.proofs.DescribedLemmas.{shown_table, table_rows}
+use Rattle.msi_query_rows.specs.Rows.{TableCells}
+use Rattle.msi_database_schema.specs.Keys.{table_key}
+use Rattle.msi_database_schema.specs.System.{tables_name, columns_name, validation_name, tables_columns, columns_columns, validation_columns}
+use Rattle.msi_database_schema.specs.Schema.{SchemaRows, schema_of}
+use Rattle.msi_database_schema.proofs.SchemaLemmas.{table_of}
+use Rattle.msi_database_changes.specs.Database.{Database, table_at, rows_of, number_of_cell, numbers_of_rows}
+use Rattle.msi_database_changes.specs.Database.{named_numbers, columns_by_name}
+use Rattle.msi_database_changes.proofs.SchemaKeptLemmas.{shown_table}
+use Rattle.msi_database_storage.specs.Streams.{Streams, stream_at, stored_rows}
+use Rattle.msi_database.specs.Agreement.{TablesAre, numbers_stored, is_shown}
+use Rattle.msi_database.proofs.DescribedLemmas.{table_rows}
+use Rattle.msi_database.proofs.NamedLemmas.{found_any, numbers_of}
 use Rattle.msi.proofs.ShownPoolLemmas.{IsNamed, AreNamed, OptionNamed, CoversSchema}
 
 -- A CELL THAT IS READ NAMES NO PLACE, OR ONE OF A NUMBER ABOVE 0
@@ -48,16 +50,12 @@ cell_above coltype.Int32 bytes = number_above (number_of bytes == 0) (pos (numbe
 cell_above (coltype.Str n) bytes = text_above (number_of bytes) (number_of bytes == 0) refl
 cell_above coltype.Binary bytes = tt
 
-each_of : {X : Type 0} (P : X → Type 0) (f : ℕ → X) → ((k : ℕ) → P (f k)) → (ks : List ℕ) → AllByRecursion P (map f ks)
-each_of P f h [] = tt
-each_of P f h (k ∷ ks) = (h k, each_of P f h ks)
-
 option_above : (f : ColumnType → ValueRef) → ((t : ColumnType) → IsAbove (f t)) → (o : Option ColumnType) → IsAbove (option_map_or f o cell.Null)
 option_above f h None = tt
 option_above f h (Some t) = h t
 
 row_above : (long : Bool) (types : List ColumnType) (bytes : List ℕ) (i : ℕ) → AllByRecursion IsAbove (row_in long types bytes i)
-row_above long types bytes i = each_of IsAbove _ (λ j. option_above _ (λ t. cell_above t _) (slice_get types j)) _
+row_above long types bytes i = all_mapped IsAbove _ (λ j. option_above _ (λ t. cell_above t _) (slice_get types j)) _
 
 abbrev AreAbove : Option (List (List ValueRef)) → Type 0
 AreAbove None = Unit {0}
@@ -65,7 +63,7 @@ AreAbove (Some rows) = AllByRecursion (AllByRecursion IsAbove) rows
 
 rows_above : (long : Bool) (types : List ColumnType) (bytes : List ℕ) → AreAbove (rows_in long types bytes)
 rows_above long types bytes = elim (nat_le (row_count long types bytes) 65536) as (λ b. AreAbove (if b then Some (tabulated (row_count long types bytes) (row_in long types bytes)) else None)) [
-  | true ↦ each_of (AllByRecursion IsAbove) (row_in long types bytes) (row_above long types bytes) (numbers_below (row_count long types bytes))
+  | true ↦ all_mapped (AllByRecursion IsAbove) (row_in long types bytes) (row_above long types bytes) (numbers_below (row_count long types bytes))
   | false ↦ tt
 ]
 
@@ -97,26 +95,13 @@ stored_above streams long columns name = rows_above long (types_of columns) (unw
 
 -- WHAT A TABLE THAT IS FOUND NAMES
 
-abbrev numbers_of : List ℕ × TableCells → List ℕ
-numbers_of t = numbers_of_rows (rows_of t.1)
-
-found_by : (p : ℕ → Bool) (t u : TableCells) (b : Bool) (others : Option TableCells) (rest : List ℕ) → cond b (Some u) others ≡ Some t → list_any p (numbers_of_rows (rows_of t)) ≡ true
-    → (others ≡ Some t → list_any p rest ≡ true) → list_any p (numbers_of_rows (rows_of u) ++ rest) ≡ true
-found_by p t u true others rest e h later = list_any-append p (numbers_of_rows (rows_of u)) rest
-    ∙ or_left _ _ (subst (λ (x : TableCells). list_any p (numbers_of_rows (rows_of x)) ≡ true) (sym (same_Some u t e)) h)
-found_by p t u false others rest e h later = list_any-append p (numbers_of_rows (rows_of u)) rest ∙ or_right _ _ (later e)
-
-found_any : (p : ℕ → Bool) (name : List ℕ) (t : TableCells) (ts : Tables) → find list_cmp name ts ≡ Some t → list_any p (numbers_of_rows (rows_of t)) ≡ true → list_any p (flat_map numbers_of ts) ≡ true
-found_any p name t [] e h = absurd cc
-found_any p name t (u ∷ us) e h = found_by p t u.1 (eq_by_cmp list_cmp name u.0) (find list_cmp name us) (flat_map numbers_of us) e h (λ f. found_any p name t us f h)
-
 -- THE TWO TABLES THAT ARE ALWAYS THERE
 
-system_found : (d : Database) (o : Option SchemaRows) → option_and_then schema_of o ≡ Some (schema_shown d) → (name : List ℕ) (columns : List ColumnDef)
+system_found : (d : Database) (o : Option SchemaRows) → option_and_then schema_of o ≡ Some (columns_by_name d) → (name : List ℕ) (columns : List ColumnDef)
     → ((s : SchemaRows) → table_of s name ≡ Some columns) → (t : TableCells) × (table_at name d ≡ Some t) × (t.columns ≡ columns)
-system_found d o e name columns is = option_and_then_some schema_of o (schema_shown d) e (λ s s_is f. shown_table d s f name columns (is s))
+system_found d o e name columns is = option_and_then_some schema_of o (columns_by_name d) e (λ s s_is f. shown_table d s f name columns (is s))
 
-module _ (streams : Streams) (d : Database) (tables : TablesAre streams d) (o : Option SchemaRows) (read : option_and_then schema_of o ≡ Some (schema_shown d)) where
+module _ (streams : Streams) (d : Database) (tables : TablesAre streams d) (o : Option SchemaRows) (read : option_and_then schema_of o ≡ Some (columns_by_name d)) where
   -- a number that a found table's stream names is shown
   stream_shown : (name : List ℕ) (t : TableCells) → table_at name d ≡ Some t → (n : ℕ) → passes (numbers_of_rows (unwrap_or (stored_rows streams d.pool.long t.columns name) [])) n → is_shown streams d n ≡ true
   stream_shown name t found n h =

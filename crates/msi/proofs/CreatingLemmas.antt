@@ -1,17 +1,17 @@
 -- What a new package is once it is flushed.
 use Rattle.std.proofs.Common.{◌≡◌, ℕ, Bool, true, false, List, length, Option, Some, None, Result, Ok, Err, refl, sym, ap, subst, ◌∙◌, inl, inr}
-use Rattle.std.specs.Prelude.{IfErr, IfSome, IsErrAnd}
+use Rattle.std.specs.Prelude.{IfErr, IfSome}
 use Rattle.std.proofs.lemmas.Option.{same_Some}
-use Rattle.msi_text.specs.ErrorKind.{ErrorKind}
-use Rattle.msi_text.specs.ErrorKind.TheVariants.{Io, OutOfMemory}
-use Rattle.msi_property.specs.Properties.{Properties}
+use Rattle.msi_text_base.specs.declared.errors.ErrorKind.{ErrorKind}
+use Rattle.msi_text_base.specs.declared.errors.ErrorKind.TheVariants.{Io, OutOfMemory}
+use Rattle.msi_summary_properties.specs.Properties.{Properties}
 use Rattle.msi_summary.specs.Summary.{new_summary}
-use Rattle.msi_relation.specs.Refusals.{◌>>=◌}
-use Rattle.msi_device.specs.Held.{Held, bytes_told}
-use Rattle.msi_compound_write.specs.Layout.{layout}
-use Rattle.msi_changes.specs.Database.{is_sound}
-use Rattle.msi_kept.specs.Kept.{Kept}
-use Rattle.msi_kept.specs.Streams.{Streams}
+use Rattle.msi_query_rows.specs.Refusals.{◌>>=◌}
+use Rattle.msi_container_device.specs.Held.{Held, bytes_told}
+use Rattle.msi_container_write.specs.Layout.{layout}
+use Rattle.msi_database_changes.specs.Database.{is_sound}
+use Rattle.msi_database_storage.specs.Kept.{Kept}
+use Rattle.msi_database_storage.specs.Streams.{Streams}
 use Rattle.msi_database.specs.Fresh as databases
 use Rattle.msi_database.proofs.FreshLemmas.{fresh_is_kept}
 use Rattle.msi.specs.declared.kinds.PackageType.{PackageType}
@@ -90,9 +90,6 @@ module _ (k : PackageType) (held : Option Held) (failed : Bool) (new : Whole) wh
           let s = flush_session before new bytes (Ok calls.done) is w in
           (s.0, s.1, created_from k bytes failed (session_of new s.0) s.2)
 
-  pub made_failed : FlushStep before (Ok calls.done) new → new.failed ≡ false
-  made_failed w = w.device.1
-
   pub made_refused : (error : ErrorKind) → FlushStep before (Err error) new → IsCreateRefused k (told held failed) error
   made_refused error w = step_failed k w.earlier_len new.state error (bytes_told held) failed w.are_so_many w.step
 
@@ -107,7 +104,3 @@ made_from k summary database bytes summary_is database_is = λ i. state_of k (su
 
 pub err_as : {A : Type 0} (r : Result A ErrorKind) (P : ErrorKind → Type 0) (kind : ErrorKind) → P kind → r ≡ Err kind → IfErr r P
 err_as {A} r P kind p is = subst (λ (a : Result A ErrorKind). IfErr a P) (sym is) p
-
-pub is_err_of : {A : Type 0} (r : Result A ErrorKind) (kind : ErrorKind) → IsErrAnd r (λ k. k ≡ kind) → r ≡ Err kind
-is_err_of (Ok x) kind h = absurd h
-is_err_of (Err k) kind h = ap Err h

@@ -2,13 +2,13 @@
 use Rattle.std.proofs.Common.{◌≡◌, ℕ, Bool, true, false, List, [], ◌∷◌, length, Option, Some, None, Result, Ok, Err, refl, sym, ap, subst, ◌∙◌, inl, inr}
 use Rattle.std.specs.Prelude.{IfSome, MatchBool, OnOk, if◌then◌else◌, option_map}
 use Rattle.std.proofs.lemmas.Bool.{true≢false}
-use Rattle.msi_text.specs.ErrorKind.{ErrorKind}
-use Rattle.msi_text.specs.ErrorKind.TheVariants.{AlreadyExists, InvalidData, InvalidInput, Io, NotFound, OutOfMemory}
-use Rattle.msi_relation.specs.Refusals.{IsRefusal, or_refused, unless_refused, ◌>>=◌}
-use Rattle.msi_device.specs.Held.{Held, bytes_told}
-use Rattle.msi_compound_write.specs.Layout.{layout, refuses}
-use Rattle.msi_kept.specs.Kept.{Kept}
-use Rattle.msi_kept.specs.Streams.{Streams}
+use Rattle.msi_text_base.specs.declared.errors.ErrorKind.{ErrorKind}
+use Rattle.msi_text_base.specs.declared.errors.ErrorKind.TheVariants.{AlreadyExists, InvalidData, InvalidInput, Io, NotFound, OutOfMemory}
+use Rattle.msi_query_rows.specs.Refusals.{IsRefusal, or_refused, unless_refused, ◌>>=◌}
+use Rattle.msi_container_device.specs.Held.{Held, bytes_told}
+use Rattle.msi_container_write.specs.Layout.{layout, refuses}
+use Rattle.msi_database_storage.specs.Kept.{Kept}
+use Rattle.msi_database_storage.specs.Streams.{Streams}
 use Rattle.msi_database.specs.Others.{with_streams}
 use Rattle.msi.specs.State.{State}
 use Rattle.msi.specs.Calls.{Answer}
@@ -76,7 +76,7 @@ module _ (s : State) (streams : Streams) (n : ℕ) (written : streams_written s 
     tells old new before after (Err InvalidData) k is w = absurd w
     tells old new before after (Err NotFound) k is w = absurd w
 
-when_true : (b : Bool) (P Q : Type 0) → b ≡ true → P → MatchBool b P Q
+pub when_true : (b : Bool) (P Q : Type 0) → b ≡ true → P → MatchBool b P Q
 when_true true P Q is p = p
 when_true false P Q is p = absurd (true≢false (sym is))
 
@@ -132,7 +132,7 @@ left_streams (Ok done) new old items renewed is same e = ap (λ (k : Kept). k.st
 left_streams (Err kind) new old items renewed is same e = absurd cc
 
 -- with nothing unwritten
-when_false : (b : Bool) (P Q : Type 0) → b ≡ false → Q → MatchBool b P Q
+pub when_false : (b : Bool) (P Q : Type 0) → b ≡ false → Q → MatchBool b P Q
 when_false true P Q is q = absurd (true≢false is)
 when_false false P Q is q = q
 

@@ -1,20 +1,22 @@
 -- A new package: before its first write and after it.
-use Rattle.std.proofs.Common.{◌≡◌, true, false, List, [], Option, Some, None, unwrap_or, is_some, map, refl, sym, ap, ◌∙◌}
+use Rattle.std.proofs.Common.{◌≡◌, true, false, List, [], Some, is_some, map, refl, ap, ◌∙◌}
 use Rattle.std.specs.List.{AllByRecursion}
 use Rattle.std.proofs.lemmas.Bool.{true≢false}
-use Rattle.msi_text.specs.Lists.{has_pair}
-use Rattle.msi_value.specs.declared.value.Value.{Value}
-use Rattle.msi_value.specs.CellValues.{row_values}
-use Rattle.msi_compound_write.specs.LayoutLaw.{IsName}
-use Rattle.msi_changes.specs.Database.{CountsAreExact, is_sound, rows_of}
-use Rattle.msi_changes.specs.Keyed.{key_of, same_key}
-use Rattle.msi_changes.specs.Laws.{KeysAreDistinct}
-use Rattle.msi_changes.proofs.DescribingLemmas.{rows_at_is}
+use Rattle.msi_text_base.specs.Lists.{has_pair}
+use Rattle.msi_text_base.proofs.OptionLemmas.{some_there}
+use Rattle.msi_table_values.specs.declared.value.Value.{Value}
+use Rattle.msi_table_values.specs.CellValues.{row_values}
+use Rattle.msi_container_write.specs.LayoutLaw.{IsName}
+use Rattle.msi_database_schema.proofs.RowOrderLemmas.{names_total}
+use Rattle.msi_database_changes.specs.Database.{CountsAreExact, is_sound, rows_of}
+use Rattle.msi_database_changes.specs.Keyed.{key_of, same_key}
+use Rattle.msi_database_changes.specs.Laws.{KeysAreDistinct}
+use Rattle.msi_database_changes.proofs.DescribingLemmas.{rows_at_is}
 use Rattle.msi_database.specs.Fresh as databases
 use Rattle.msi_database.proofs.FreshLemmas.{fresh_is_kept}
 use Rattle.msi_database.proofs.MapLemmas as maps
 use Rattle.msi_database.proofs.StoredLemmas.{AreNames, all_names}
-use Rattle.msi_database.proofs.StreamLemmas.{list_cmp_total, list_cmp_exact}
+use Rattle.msi_database.proofs.StreamLemmas.{list_cmp_exact}
 use Rattle.msi.specs.declared.kinds.PackageType.{PackageType}
 use Rattle.msi.specs.declared.kinds.PackageType.TheVariants as kind
 use Rattle.msi.specs.Kinds.{title_of}
@@ -50,12 +52,8 @@ is_written kind.Installer = refl
 is_written kind.Patch = refl
 is_written kind.Transform = refl
 
-some_or : {A : Type 0} (o : Option A) (d : A) → is_some o ≡ true → o ≡ Some (unwrap_or o d)
-some_or None d e = absurd (true≢false (sym e))
-some_or (Some x) d e = refl
-
 pub fresh_written : (k : PackageType) → streams_written (unwritten k) ≡ Some (fresh k).kept.streams
-fresh_written k = some_or (streams_written (unwritten k)) [] (is_written k)
+fresh_written k = some_there (streams_written (unwritten k)) [] (is_written k)
 
 -- after it
 pub fresh_package : (k : PackageType) → IsPackage (fresh k)
@@ -75,5 +73,5 @@ keys_apart = (refl, (refl, (refl, tt)))
 pub fresh_keys : (k : PackageType) → KeysAreDistinct (fresh k).kept.database
 fresh_keys k name t found =
     ap (λ (rows : List (List Value)). has_pair same_key (map (key_of t.columns) rows)) (rows_at_is name databases.fresh.database t found)
-    ∙ maps.found_has list_cmp_total list_cmp_exact (λ e. has_pair same_key (map (key_of e.1.columns) (map (row_values databases.fresh.database.pool.places) (rows_of e.1))) ≡ false)
+    ∙ maps.found_has names_total list_cmp_exact (λ e. has_pair same_key (map (key_of e.1.columns) (map (row_values databases.fresh.database.pool.places) (rows_of e.1))) ≡ false)
     name t databases.fresh.database.tables keys_apart found

@@ -1,5 +1,5 @@
 -- The streams that bytes hold: their names are names, and each holds bytes.
-use Rattle.std.proofs.Common.{◌≡◌, ℕ, zero, suc, ◌+◌, ◌-◌, ◌*◌, ◌/◌, ◌<◌, ◌^◌, Bool, true, false, cond, List, [], ◌∷◌, map, length, filter, slice_index, Some, unwrap_or, refl, sym, ◌∙◌, subst, lit<, arith}
+use Rattle.std.proofs.Common.{◌≡◌, ℕ, zero, suc, ◌+◌, ◌-◌, ◌*◌, ◌/◌, ◌<◌, ◌^◌, Bool, true, false, cond, List, [], ◌∷◌, map, length, slice_index, Some, unwrap_or, sym, ◌∙◌, subst, lit<, arith}
 use Rattle.std.specs.Prelude.{if◌then◌else◌}
 use Rattle.std.specs.List.{AllByRecursion, range_with_len, zip}
 use Rattle.std.specs.Ordering.{eq_by_cmp}
@@ -7,31 +7,25 @@ use Rattle.std.specs.declared.cmp.Ordering.TheVariants.{Less, Equal, Greater}
 use Rattle.std.specs.FinMap.{put, empty, entries, from_entries, entries-insert, len-entries, len-empty}
 use Rattle.std.specs.FinMap.Entries.{by_order}
 use Rattle.std.proofs.lemmas.List.FromFn.{length-map-range_with_len}
-use Rattle.msi_compound.specs.declared.contents.Contents.{Contents}
-use Rattle.msi_compound.specs.Bytes.{number16}
-use Rattle.msi_compound.specs.Chains.{AreBelow}
-use Rattle.msi_compound.specs.Names.{name_cmp}
-use Rattle.msi_compound.specs.Trees.{members}
-use Rattle.msi_compound.specs.Container.{Plan, IsPlan, HasName, Holds, name, name_size, size, field, is_mini, sector_byte, mini_sector_byte, stream_byte, stream_bytes, stream_entries}
-use Rattle.msi_compound.proofs.NamesLemmas.{names_total}
-use Rattle.msi_compound_write.specs.LayoutLaw.{IsName, HaveNames}
-use Rattle.msi_kept.specs.Streams.{Streams, stream_at}
+use Rattle.std.proofs.lemmas.List.{nil_from_length}
+use Rattle.msi_text_base.proofs.ListLemmas.{all_mapped, all_kept}
+use Rattle.msi_container_format.specs.declared.contents.Contents.{Contents}
+use Rattle.msi_container_format.specs.Bytes.{number16}
+use Rattle.msi_container_format.specs.Chains.{AreBelow}
+use Rattle.msi_container_format.specs.Names.{name_cmp}
+use Rattle.msi_container_format.specs.Trees.{members}
+use Rattle.msi_container_format.specs.Container.{Plan, IsPlan, HasName, Holds, name, name_size, size, field, is_mini, sector_byte, mini_sector_byte, stream_byte, stream_bytes, stream_entries}
+use Rattle.msi_container_format.proofs.NamesLemmas.{names_total}
+use Rattle.msi_container_write.specs.LayoutLaw.{IsName, HaveNames}
+use Rattle.msi_database_storage.specs.Streams.{Streams, stream_at}
 use Rattle.msi_database.proofs.MapLemmas as maps
 use Rattle.msi.specs.Laws.{AreBytes}
 
 -- WHAT HOLDS OF EACH ELEMENT
 
-each_of : {X : Type 0} (P : X → Type 0) (f : ℕ → X) → ((k : ℕ) → P (f k)) → (ks : List ℕ) → AllByRecursion P (map f ks)
-each_of P f h [] = tt
-each_of P f h (k ∷ ks) = (h k, each_of P f h ks)
-
 by_index : (P : ℕ → Type 0) (xs : List ℕ) → ((i : ℕ) → i < length xs → P (slice_index xs i)) → AllByRecursion P xs
 by_index P [] h = tt
 by_index P (x ∷ xs) h = (h 0 (omega arith), by_index P xs (λ i l. h (suc i) (omega (arith, l))))
-
-each_filtered : {X : Type 0} (P : X → Type 0) (p : X → Bool) (xs : List X) → AllByRecursion P xs → AllByRecursion P (filter p xs)
-each_filtered P p [] h = tt
-each_filtered P p (x ∷ xs) h = elim (p x) as (λ b. AllByRecursion P (cond b (x ∷ filter p xs) (filter p xs))) [ true ↦ (h.0, each_filtered P p xs h.1) | false ↦ each_filtered P p xs h.1 ]
 
 each_zipped : {X Y : Type 0} (P : X → Type 0) (xs : List X) (ys : List Y) → AllByRecursion P xs → AllByRecursion (λ e. P e.0) (zip xs ys)
 each_zipped P [] ys h = tt
@@ -54,13 +48,8 @@ values_put P k v (e ∷ es) here h = elim (name_cmp k e.0) as (λ o. AllByRecurs
   | Greater ↦ (h.0, values_put P k v es here h.1)
 ]
 
--- a map of a list has its keys and its values
-no_entry : (es : Streams) → length es ≡ 0 → es ≡ []
-no_entry [] h = refl
-no_entry (e ∷ es) h = absurd (omega (arith, h))
-
 no_entries : entries (from_entries {X = List ℕ} {R = name_cmp} []) ≡ []
-no_entries = no_entry (entries (empty {X = List ℕ} {R = name_cmp})) (sym (len-entries (empty {X = List ℕ} {R = name_cmp})) ∙ len-empty name_cmp (List ℕ))
+no_entries = nil_from_length (entries (empty {X = List ℕ} {R = name_cmp})) (sym (len-entries (empty {X = List ℕ} {R = name_cmp})) ∙ len-empty name_cmp (List ℕ))
 
 keys_from : (P : List ℕ → Type 0) (es : Streams) → AllByRecursion (λ e. P e.0) es → AllByRecursion (λ e. P e.0) (entries (from_entries {R = name_cmp} es))
 keys_from P [] h = subst (λ (x : Streams). AllByRecursion (λ f. P f.0) x) (sym no_entries) tt
@@ -101,7 +90,7 @@ module _ (bytes : List ℕ) (small : AreBytes bytes) where
       }
 
   bytes_small : (plan : Plan) (k : ℕ) (c : List ℕ) → AreBytes (stream_bytes bytes plan.mini_stream plan.directory k c)
-  bytes_small plan k c = each_of (λ b. b < 2 ^ 8) (stream_byte bytes plan.mini_stream plan.directory k c)
+  bytes_small plan k c = all_mapped (λ b. b < 2 ^ 8) (stream_byte bytes plan.mini_stream plan.directory k c)
       (λ i. either_below (is_mini (size bytes plan.directory k)) (mini_sector_byte bytes plan.mini_stream c i) (sector_byte bytes c i) (2 ^ 8) (index_small bytes small _) (index_small bytes small _)) _
 
   abbrev held_stream : Plan → ℕ × List ℕ → List ℕ × List ℕ
@@ -115,7 +104,7 @@ module _ (bytes : List ℕ) (small : AreBytes bytes) where
       let all : AllByRecursion (λ k. IsName (name bytes plan.directory k)) (members plan.tree) =
       by_index (λ k. IsName (name bytes plan.directory k)) (members plan.tree) (λ i l. name_is plan.directory (slice_index (members plan.tree) i) (is.listing.entries i l).named) in
       each_mapped (λ e. IsName e.0) (held_stream plan) (members_of plan)
-      (each_zipped (λ k. IsName (name bytes plan.directory k)) (stream_entries bytes plan) plan.chains (each_filtered (λ k. IsName (name bytes plan.directory k)) _ (members plan.tree) all))
+      (each_zipped (λ k. IsName (name bytes plan.directory k)) (stream_entries bytes plan) plan.chains (all_kept (λ k. IsName (name bytes plan.directory k)) _ (members plan.tree) all))
 
   pub held_names : (c : Contents) → Holds bytes c → HaveNames (entries c.streams)
   held_names c (plan, is, e) = subst (λ (x : Contents). HaveNames (entries x.streams)) (sym e) (keys_from IsName (map (held_stream plan) (members_of plan)) (plan_names plan is))

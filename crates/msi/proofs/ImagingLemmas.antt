@@ -1,22 +1,23 @@
 -- Streams copied in their order, and the image that they give.
-use Rattle.std.proofs.Common.{◌≡◌, ℕ, Bool, true, false, List, [], ◌∷◌, ◌++◌, Option, Some, None, Result, Ok, Err, refl, sym, ap, subst, ◌∙◌, ◌⊎◌, inl, inr, append_assoc, arith, length}
+use Rattle.std.proofs.Common.{◌≡◌, ℕ, Bool, true, false, List, [], ◌∷◌, ◌++◌, Option, Some, None, Result, Ok, Err, refl, sym, ap, subst, ◌∙◌, ◌⊎◌, inl, inr, append_assoc}
 use Rattle.std.specs.Prelude.{IfErr, IfOk, IsErrOf, IsTrue, T, ◌&&◌, ◌↔◌, if◌then◌else◌}
 use Rattle.std.specs.FinMap.{entries, entries_sorted, entries-insert, empty, insert, is_sorted, len-empty, len-entries, put, same_entries_map}
 use Rattle.std.specs.FinMap.Entries.{below_all, by_order}
 use Rattle.std.specs.Ordering.{is_lt, ordering_reverse}
 use Rattle.std.specs.declared.cmp.Ordering.{Ordering}
 use Rattle.std.specs.declared.cmp.Ordering.TheVariants.{Less, Equal, Greater}
-use Rattle.std.proofs.lemmas.List.{append-nil}
-use Rattle.msi_text.specs.ErrorKind.{ErrorKind}
-use Rattle.msi_text.specs.ErrorKind.TheVariants.{InvalidInput, OutOfMemory}
-use Rattle.msi_relation.specs.Refusals.{IsRefusal, or_refused, ◌>>=◌}
-use Rattle.msi_compound.specs.Names.{name_cmp}
-use Rattle.msi_compound.specs.Streams as maps
-use Rattle.msi_compound.specs.declared.contents.Contents.{Contents}
-use Rattle.msi_compound.proofs.NamesLemmas.{names_total}
-use Rattle.msi_compound_write.specs.Layout.{layout, refuses}
-use Rattle.msi_compound_write.proofs.LayoutLemmas.{not_true}
-use Rattle.msi_kept.specs.Streams.{Streams}
+use Rattle.std.proofs.lemmas.List.{append-nil, nil_from_length}
+use Rattle.msi_text_base.specs.declared.errors.ErrorKind.{ErrorKind}
+use Rattle.msi_text_base.specs.declared.errors.ErrorKind.TheVariants.{InvalidInput, OutOfMemory}
+use Rattle.msi_text_base.proofs.BoolLemmas.{T_second}
+use Rattle.msi_query_rows.specs.Refusals.{IsRefusal, or_refused, ◌>>=◌}
+use Rattle.msi_container_format.specs.Names.{name_cmp}
+use Rattle.msi_container_format.specs.Streams as maps
+use Rattle.msi_container_format.specs.declared.contents.Contents.{Contents}
+use Rattle.msi_container_format.proofs.NamesLemmas.{names_total}
+use Rattle.msi_container_write.specs.Layout.{layout, refuses}
+use Rattle.msi_container_write.proofs.LayoutLemmas.{not_true}
+use Rattle.msi_database_storage.specs.Streams.{Streams}
 use Rattle.msi.specs.State.{State}
 use Rattle.msi.specs.Steps.{contents_of, image_of, streams_written}
 use Rattle.msi.specs.Flushing.{with_renewed}
@@ -29,10 +30,6 @@ front : (a b : Bool) → T (a && b) → T a
 front true b h = tt
 front false b h = h
 
-rest : (a b : Bool) → T (a && b) → T b
-rest true b h = h
-rest false b h = absurd h
-
 turned : (o : Ordering) → T (is_lt o) → ordering_reverse o ≡ Greater
 turned Less h = refl
 turned Equal h = absurd h
@@ -41,7 +38,7 @@ turned Greater h = absurd h
 below_one : (name key bytes : List ℕ) (before behind : Streams) → T (below_all name_cmp name (before ++ (key, bytes) ∷ behind)) → T (is_lt (name_cmp name key))
 below_one name key bytes [] behind h = front (is_lt (name_cmp name key)) (below_all name_cmp name behind) h
 below_one name key bytes (s ∷ ss) behind h =
-    below_one name key bytes ss behind (rest (is_lt (name_cmp name s.0)) (below_all name_cmp name (ss ++ (key, bytes) ∷ behind)) h)
+    below_one name key bytes ss behind (T_second (is_lt (name_cmp name s.0)) (below_all name_cmp name (ss ++ (key, bytes) ∷ behind)) h)
 
 -- what comes behind all others is put behind them
 put_last : (key bytes : List ℕ) (before behind : Streams) → T (is_sorted name_cmp (before ++ (key, bytes) ∷ behind)) → put name_cmp key bytes before ≡ before ++ (key, bytes) ∷ []
@@ -50,7 +47,7 @@ put_last key bytes (s ∷ ss) behind h =
     let others : Streams = ss ++ (key, bytes) ∷ behind in
     let below : T (is_lt (name_cmp s.0 key)) = below_one s.0 key bytes ss behind (front (below_all name_cmp s.0 others) (is_sorted name_cmp others) h) in
     ap (λ (o : Ordering). by_order o ((key, bytes) ∷ s ∷ ss) ((s.0, bytes) ∷ ss) (s ∷ put name_cmp key bytes ss)) (names_total.antisymm key s.0 ∙ turned (name_cmp s.0 key) below)
-    ∙ ap (λ (all : Streams). s ∷ all) (put_last key bytes ss behind (rest (below_all name_cmp s.0 others) (is_sorted name_cmp others) h))
+    ∙ ap (λ (all : Streams). s ∷ all) (put_last key bytes ss behind (T_second (below_all name_cmp s.0 others) (is_sorted name_cmp others) h))
 
 pub copied_more : (copy new streams : maps.Streams) (key held name bytes : List ℕ) (left behind : Streams) → entries copy ++ left ≡ entries streams → left ≡ (name, bytes) ∷ behind
     → new ≡ insert copy key held → key ≡ name → held ≡ bytes → entries new ++ behind ≡ entries streams
@@ -99,12 +96,8 @@ module _ (s : State) (streams : Streams) (n : ℕ) (written : streams_written s 
 
 -- the streams that are copied
 
-no_items : (es : Streams) → length es ≡ 0 → es ≡ []
-no_items [] none = refl
-no_items (e ∷ es) none = absurd (omega arith)
-
 no_entries : entries (empty {X = List ℕ} {R = name_cmp}) ≡ []
-no_entries = no_items (entries empty) (sym (len-entries empty) ∙ len-empty name_cmp (List ℕ))
+no_entries = nil_from_length (entries empty) (sym (len-entries empty) ∙ len-empty name_cmp (List ℕ))
 
 pub nothing_copied : (copy streams : maps.Streams) (left : Streams) → copy ≡ empty → left ≡ entries streams → entries copy ++ left ≡ entries streams
 nothing_copied copy streams left none is = ap (λ (m : maps.Streams). entries m ++ left) none ∙ ap (λ (es : Streams). es ++ left) no_entries ∙ is

@@ -1,57 +1,26 @@
 -- Keys are names of a container.
-use Rattle.std.proofs.Common.{◌≡◌, ℕ, zero, suc, ◌+◌, ◌-◌, ◌/◌, ◌%◌, ◌<◌, ◌≤◌, Bool, true, false, nat_lt, List, [], ◌∷◌, length, chars, Option, Some, None, IfSome, refl, sym, subst, ◌∙◌, arith, inl, inr, lit≤, lit<}
+use Rattle.std.proofs.Common.{◌≡◌, ℕ, zero, suc, ◌+◌, ◌-◌, ◌/◌, ◌%◌, ◌<◌, ◌≤◌, Bool, true, false, nat_lt, List, [], ◌∷◌, length, chars, refl, sym, subst, ◌∙◌, arith, inl, inr, lit≤, lit<}
 use Rattle.std.specs.List.{list_all, AllByRecursion}
 use Rattle.std.specs.Str.{IsUtf8}
 use Rattle.std.specs.Char.Escape.{encode_utf16}
-use Rattle.std.proofs.Math.Utf8.{scalar, scalars, encodes}
+use Rattle.std.proofs.Math.Utf8.{scalar, scalars}
 use Rattle.std.proofs.lemmas.Bool.{and_parts, and_from, ltb-true, leb-true, lt-ltb, le-ltb, cases_lt}
 use Rattle.std.proofs.lemmas.Bool.Decides.{nat_tests}
 use Rattle.std.proofs.lemmas.List.Folds.{list_all-append}
-use Rattle.std.proofs.lemmas.Str.{scalars-chars, chars-encodes}
-use Rattle.msi_compound.specs.Chains.{AreBelow}
-use Rattle.msi_compound.specs.Names.{utf16_units, is_text}
-use Rattle.msi_compound.specs.StreamNames.{value_of, packed, packed_pair, packed_single, encoded_name, encoded_units}
-use Rattle.msi_compound_write.specs.LayoutLaw.{IsName}
-use Rattle.msi_compound.proofs.CharacterValueLemmas.{value_below}
-use Rattle.msi_compound.proofs.PackingLemmas.{packed_from, packed_is}
-use Rattle.msi_compound.proofs.AcceptedNamesLemmas.{accepted_is}
-use Rattle.msi_compound.proofs.EncodedUnitsLemmas.{some_units}
-use Rattle.msi_compound.proofs.Utf16Lemmas.{is_text_of_text}
+use Rattle.std.proofs.lemmas.Str.{scalars-chars}
+use Rattle.msi_container_format.specs.Chains.{AreBelow}
+use Rattle.msi_container_format.specs.Names.{utf16_units}
+use Rattle.msi_container_format.specs.StreamNames.{encoded_name, encoded_units}
+use Rattle.msi_container_write.specs.LayoutLaw.{IsName}
+use Rattle.msi_container_format.proofs.PackedNamesLemmas.{encoded_scalars, low_scalar}
+use Rattle.msi_container_format.proofs.AcceptedNamesLemmas.{accepted_is}
+use Rattle.msi_container_format.proofs.EncodedUnitsLemmas.{some_units}
+use Rattle.msi_container_format.proofs.Utf16Lemmas.{is_text_of_chars}
 use Rattle.msi_text.specs.CategoryRules.{is_identifier}
-use Rattle.msi_schema.specs.Keys.{is_table_name, is_stream_name, table_key, stream_key, summary_key, string_pool_name, string_data_name}
+use Rattle.msi_database_schema.specs.Keys.{is_table_name, is_stream_name, table_key, stream_key, summary_key, string_pool_name, string_data_name}
 use Rattle.msi_database.proofs.KeyLemmas.{identifier_chars, identifier_ascii}
 
-low_scalar : (c : ℕ) → c < 0xD800 → scalar c ≡ true
-low_scalar c h = grind (arith, nat_tests)
-
--- a packed name of characters has characters
-module _ (value : ℕ → Option ℕ) (below : (c v : ℕ) → value c ≡ Some v → v < 64) where
-  scalars_at : (c : ℕ) (cs : List ℕ) (waiting own : Option ℕ) → value c ≡ own → scalar c ≡ true → IfSome waiting (λ v. v < 64)
-      → ((next : Option ℕ) → IfSome next (λ v. v < 64) → scalars (packed_from value next cs) ≡ true) → scalars (packed_from value waiting (c ∷ cs)) ≡ true
-  scalars_at c cs None None o one w h = rw o (and_from _ _ one (h None tt))
-  scalars_at c cs None (Some u) o one w h = rw o (h (Some u) (below c u o))
-  scalars_at c cs (Some v) None o one w h = rw o (and_from _ _ (low_scalar (packed_single v) (omega arith)) (and_from _ _ one (h None tt)))
-  scalars_at c cs (Some v) (Some u) o one w h =
-      let u_small = below c u o in
-      rw o (and_from _ _ (low_scalar (packed_pair v u) (omega arith)) (h None tt))
-
-  packed_scalars : (cs : List ℕ) (waiting : Option ℕ) → IfSome waiting (λ v. v < 64) → scalars cs ≡ true → scalars (packed_from value waiting cs) ≡ true
-  packed_scalars [] None w h = refl
-  packed_scalars [] (Some v) w h = and_from _ _ (low_scalar (packed_single v) (omega arith)) refl
-  packed_scalars (c ∷ cs) waiting w h = let parts = and_parts (scalar c) (scalars cs) h in
-      scalars_at c cs waiting (value c) refl parts.0 w (λ next n. packed_scalars cs next n parts.1)
-
-plain_scalars : (cs : List ℕ) → scalars cs ≡ true → scalars (packed cs) ≡ true
-plain_scalars cs h = rw (← packed_is) (packed_scalars value_of value_below cs None tt h)
-
-encoded_scalars : (is_table : Bool) (cs : List ℕ) → scalars cs ≡ true → scalars (encoded_name is_table cs) ≡ true
-encoded_scalars true cs h = and_from _ _ refl (plain_scalars cs h)
-encoded_scalars false cs h = plain_scalars cs h
-
--- units of characters are well formed, and have 16 bits
-text_of_scalars : (cs : List ℕ) → scalars cs ≡ true → is_text (utf16_units cs) ≡ true
-text_of_scalars cs h = subst (λ (ds : List ℕ). is_text (utf16_units ds) ≡ true) (chars-encodes cs h) (is_text_of_text (encodes cs) (cs, (h, refl)))
-
+-- units of characters have 16 bits
 abbrev is_unit : ℕ → Bool
 is_unit u = nat_lt u 65536
 
@@ -82,7 +51,7 @@ key_is_name is_table cs h filled short = record {
   some = some_units is_table cs filled;
   most = short;
   units = below_each (utf16_units (encoded_name is_table cs)) (are_units (encoded_name is_table cs) (encoded_scalars is_table cs h));
-  text = text_of_scalars (encoded_name is_table cs) (encoded_scalars is_table cs h);
+  text = is_text_of_chars (encoded_name is_table cs) (encoded_scalars is_table cs h);
 }
 
 pub stream_key_is_name : (name : List ℕ) → IsUtf8 name → is_stream_name name ≡ true → IsName (stream_key name)
@@ -115,5 +84,5 @@ summary_key_is_name = record {
   some = lit< tt;
   most = lit≤ tt;
   units = below_each summary_key refl;
-  text = text_of_scalars summary_key refl;
+  text = is_text_of_chars summary_key refl;
 }

@@ -1,11 +1,10 @@
 -- The laws of calls on streams, of flushes, and of answers.
-use Rattle.std.proofs.Common.{◌≡◌, Bool, true, false, ap, ◌∙◌, inl, inr}
-use Rattle.std.specs.Prelude.{MatchBool}
-use Rattle.std.proofs.lemmas.Bool.{true≢false}
-use Rattle.msi_schema.specs.Keys.{stream_key, signature_key, signature_ex_key}
-use Rattle.msi_kept.specs.Streams.{Streams, without_stream}
+use Rattle.std.proofs.Common.{◌≡◌, ap, ◌∙◌, inl, inr}
+use Rattle.std.proofs.lemmas.Bool.{MatchBool-at_false}
+use Rattle.msi_database_schema.specs.Keys.{stream_key, signature_key, signature_ex_key}
+use Rattle.msi_database_storage.specs.Streams.{Streams, without_stream}
 use Rattle.msi.specs.State.{names_of, parts_of}
-use Rattle.msi.specs.Steps.{LendsOrRefuses, outcome, is_lending}
+use Rattle.msi.specs.Steps.{LendsOrRefuses, outcome}
 use Rattle.msi.specs.Laws.{WritesItsStream, RemovesItsStream, RemovesSignature, FlushKeepsParts, StepsAreFixed, PassingMeans, with_others}
 use Rattle.msi.proofs.FlushLemmas.{flush_parts}
 use Rattle.msi.proofs.OtherStreamLemmas.{others_with, others_without, stream_key_is_other}
@@ -31,11 +30,7 @@ passing_means = reading.passing_means
 
 -- ANSWERS
 
-from_match : (b : Bool) (P Q : Type 0) → b ≡ false → MatchBool b P Q → Q
-from_match true P Q e p = absurd (true≢false e)
-from_match false P Q e q = q
-
 pub steps_are_fixed : StepsAreFixed
-steps_are_fixed n old call e answer new (inl is) = inl (from_match (is_lending call) (LendsOrRefuses old call (outcome n old call) answer new) (outcome n old call ≡ (answer, new)) e is)
+steps_are_fixed n old call e answer new (inl is) = inl (MatchBool-at_false (LendsOrRefuses old call (outcome n old call) answer new) (outcome n old call ≡ (answer, new)) e is)
 steps_are_fixed n old call e answer new (inr (inl memory)) = inr (inl memory.1, memory.2)
 steps_are_fixed n old call e answer new (inr (inr fault)) = inr (inr fault.1, fault.2)

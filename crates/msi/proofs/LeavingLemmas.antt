@@ -2,16 +2,16 @@
 use Rattle.std.proofs.Common.{◌≡◌, ℕ, Bool, true, false, List, [], Option, Some, None, Result, Ok, Err, ◌⊎◌, refl, sym, ap, subst, ◌∙◌, inl, inr}
 use Rattle.std.specs.Prelude.{MatchBool}
 use Rattle.std.proofs.lemmas.Bool.{true≢false}
-use Rattle.msi_text.specs.ErrorKind.{ErrorKind}
-use Rattle.msi_changes.specs.Changes.{Change}
-use Rattle.msi_schema.specs.Keys.{stream_key}
+use Rattle.msi_text_base.specs.declared.errors.ErrorKind.{ErrorKind}
+use Rattle.msi_database_changes.specs.Changes.{Change}
+use Rattle.msi_database_schema.specs.Keys.{stream_key}
 use Rattle.msi.specs.State.{State, parts_of}
-use Rattle.msi_kept.specs.Streams.{with_stream}
-use Rattle.msi_changes.specs.Insert.{insert_rows}
-use Rattle.msi_changes.specs.Update.{update_rows}
-use Rattle.msi_changes.specs.Delete.{delete_rows}
-use Rattle.msi_changes.specs.Create.{create_table}
-use Rattle.msi_changes.specs.Drop.{drop_table}
+use Rattle.msi_database_storage.specs.Streams.{with_stream}
+use Rattle.msi_database_changes.specs.Insert.{insert_rows}
+use Rattle.msi_database_changes.specs.Update.{update_rows}
+use Rattle.msi_database_changes.specs.Delete.{delete_rows}
+use Rattle.msi_database_changes.specs.Create.{create_table}
+use Rattle.msi_database_changes.specs.Drop.{drop_table}
 use Rattle.msi.specs.Calls.{Call, Answer}
 use Rattle.msi.specs.Calls as calls
 use Rattle.msi.specs.Steps.{Step, outcome, changed, changing, leaving_or, is_lending, with_streams, Lends, LendsOrRefuses}

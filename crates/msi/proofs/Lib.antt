@@ -6,7 +6,6 @@ pub mod RangeRows
 pub mod KeyNameLemmas
 pub mod OpenLemmas
 pub mod ChangeLemmas
-pub mod PackedKeyLemmas
 pub mod StreamCallLemmas
 pub mod StreamNameLemmas
 pub mod StreamRefusalLemmas
@@ -32,9 +31,7 @@ pub mod OpeningLemmas
 pub mod OpenedLemmas
 pub mod ReadingLemmas
 pub mod LawLemmas
-pub mod StreamAnswerLemmas
 pub mod CallLemmas
-pub mod DeviceLemmas
 pub mod RenewedLemmas
 pub mod OverwritingLemmas
 pub mod FlushStepLemmas

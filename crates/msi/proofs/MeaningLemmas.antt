@@ -2,12 +2,12 @@
 use Rattle.std.proofs.Common.{◌≡◌, ℕ, false, length, refl, sym, ap, subst}
 use Rattle.std.specs.Prelude.{Ok}
 use Rattle.std.specs.FinMap.{entries, from_sorted, entries-from_sorted}
-use Rattle.msi_compound.specs.Names.{name_cmp}
-use Rattle.msi_compound.specs.Container.{Holds}
-use Rattle.msi_compound_write.specs.Layout.{layout, refuses}
-use Rattle.msi_compound_write.specs.LayoutLaw.{IsContents, HaveNames}
-use Rattle.msi_compound_write.proofs.LayoutHeldLemmas.{layout_holds}
-use Rattle.msi_kept.specs.Streams.{Streams}
+use Rattle.msi_container_format.specs.Names.{name_cmp}
+use Rattle.msi_container_format.specs.Container.{Holds}
+use Rattle.msi_container_write.specs.Layout.{layout, refuses}
+use Rattle.msi_container_write.specs.LayoutLaw.{IsContents, HaveNames}
+use Rattle.msi_container_write.proofs.LayoutHeldLemmas.{layout_holds}
+use Rattle.msi_database_storage.specs.Streams.{Streams}
 use Rattle.msi_database.specs.Agreement.{DatabaseIs}
 use Rattle.msi_database.proofs.StreamLemmas.{AreSorted}
 use Rattle.msi.specs.declared.kinds.PackageType.{PackageType}

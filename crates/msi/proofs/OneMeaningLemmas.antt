@@ -4,21 +4,23 @@ use Rattle.std.specs.Prelude.{MatchBool, IsSomeAnd}
 use Rattle.std.specs.List.{AllByRecursion}
 use Rattle.std.specs.FinMap.{entries}
 use Rattle.std.proofs.lemmas.Option.{same_Some}
-use Rattle.msi_text.specs.Pool.{Pool}
-use Rattle.msi_text.specs.Pool as pools
-use Rattle.msi_pool.proofs.ReadStreamLemmas.{one_pool}
-use Rattle.msi_property.specs.Properties.{Properties}
+use Rattle.msi_text_base.proofs.ListLemmas.{same_head, same_tail}
+use Rattle.msi_text_pool.specs.Pool.{Pool}
+use Rattle.msi_text_pool.specs.Pool as pools
+use Rattle.msi_text_pool.proofs.ReadStreamLemmas.{one_pool}
+use Rattle.msi_summary_properties.specs.Properties.{Properties}
 use Rattle.msi_summary.specs.Summary.{SpellsSummary}
-use Rattle.msi_property.proofs.ReadBackLemmas.{only_one_set}
-use Rattle.msi_value.specs.declared.value.ValueRef.{ValueRef}
-use Rattle.msi_value.specs.Columns.{ColumnDef}
-use Rattle.msi_relation.specs.Rows.{TableCells}
-use Rattle.msi_compound.specs.declared.contents.Contents.{Contents}
-use Rattle.msi_schema.specs.Keys.{table_key, summary_key, string_pool_name, string_data_name}
-use Rattle.msi_schema.specs.System.{validation_name, validation_columns}
-use Rattle.msi_changes.specs.Database.{Database, Tables, has_table}
-use Rattle.msi_kept.specs.Streams.{Streams, stream_at, stored_rows}
-use Rattle.msi_database.specs.Agreement.{TablesAre, UnlistedIs, is_shown, schema_rows, schema_shown, schema_in}
+use Rattle.msi_summary_properties.proofs.ReadBackLemmas.{only_one_set}
+use Rattle.msi_table_values.specs.declared.value.ValueRef.{ValueRef}
+use Rattle.msi_table_values.specs.Columns.{ColumnDef}
+use Rattle.msi_query_rows.specs.Rows.{TableCells}
+use Rattle.msi_container_format.specs.declared.contents.Contents.{Contents}
+use Rattle.msi_database_schema.specs.Keys.{table_key, summary_key, string_pool_name, string_data_name}
+use Rattle.msi_database_schema.specs.System.{validation_name, validation_columns}
+use Rattle.msi_database_changes.specs.Database.{Database, Tables, has_table, columns_by_name}
+use Rattle.msi_database_changes.proofs.ShownLemmas.{columns_shown}
+use Rattle.msi_database_storage.specs.Streams.{Streams, stream_at, stored_rows}
+use Rattle.msi_database.specs.Agreement.{TablesAre, UnlistedIs, is_shown, schema_rows, schema_in}
 use Rattle.msi.specs.declared.kinds.PackageType.{PackageType}
 use Rattle.msi.specs.declared.kinds.PackageType.TheVariants as kind
 use Rattle.msi.specs.Kinds.{clsid_of}
@@ -56,34 +58,25 @@ one_raw (Some written) (Some texts) a b h k = one_pool written texts a b h k
 
 -- TABLES with the same columns over the same streams are the same
 
-abbrev shown : List ℕ × TableCells → List ℕ × List ColumnDef
-shown t = (t.0, t.1.columns)
-
 no_head : {A : Type 0} {P : Type 0} (x : A) (xs : List A) → ◌≡◌ {A = List A} [] (x ∷ xs) → P
 no_head x xs e = absurd cc
 
-heads : {A : Type 0} (x y : A) (xs ys : List A) → x ∷ xs ≡ y ∷ ys → x ≡ y
-heads x y xs ys e = cc
+heads_name : (t u : List ℕ × TableCells) (ts us : List (List ℕ × List ColumnDef)) → columns_shown t ∷ ts ≡ columns_shown u ∷ us → t.0 ≡ u.0
+heads_name t u ts us e = ap (λ (s : List ℕ × List ColumnDef). s.0) (same_head (columns_shown t) (columns_shown u) ts us e)
 
-tails : {A : Type 0} (x y : A) (xs ys : List A) → x ∷ xs ≡ y ∷ ys → xs ≡ ys
-tails x y xs ys e = cc
+heads_columns : (t u : List ℕ × TableCells) (ts us : List (List ℕ × List ColumnDef)) → columns_shown t ∷ ts ≡ columns_shown u ∷ us → t.1.columns ≡ u.1.columns
+heads_columns t u ts us e = ap (λ (s : List ℕ × List ColumnDef). s.1) (same_head (columns_shown t) (columns_shown u) ts us e)
 
-heads_name : (t u : List ℕ × TableCells) (ts us : List (List ℕ × List ColumnDef)) → shown t ∷ ts ≡ shown u ∷ us → t.0 ≡ u.0
-heads_name t u ts us e = ap (λ (s : List ℕ × List ColumnDef). s.0) (heads (shown t) (shown u) ts us e)
-
-heads_columns : (t u : List ℕ × TableCells) (ts us : List (List ℕ × List ColumnDef)) → shown t ∷ ts ≡ shown u ∷ us → t.1.columns ≡ u.1.columns
-heads_columns t u ts us e = ap (λ (s : List ℕ × List ColumnDef). s.1) (heads (shown t) (shown u) ts us e)
-
-tables_one : (streams : Streams) (long other : Bool) → long ≡ other → (ts us : Tables) → map shown ts ≡ map shown us
+tables_one : (streams : Streams) (long other : Bool) → long ≡ other → (ts us : Tables) → map columns_shown ts ≡ map columns_shown us
     → AllByRecursion (λ t. t.1.rows ≡ stored_rows streams long t.1.columns t.0) ts → AllByRecursion (λ t. t.1.rows ≡ stored_rows streams other t.1.columns t.0) us → ts ≡ us
 tables_one streams long other same [] [] e h k = refl
-tables_one streams long other same [] (u ∷ us) e h k = no_head (shown u) (map shown us) e
-tables_one streams long other same (t ∷ ts) [] e h k = no_head (shown t) (map shown ts) (sym e)
+tables_one streams long other same [] (u ∷ us) e h k = no_head (columns_shown u) (map columns_shown us) e
+tables_one streams long other same (t ∷ ts) [] e h k = no_head (columns_shown t) (map columns_shown ts) (sym e)
 tables_one streams long other same (t ∷ ts) (u ∷ us) e h k =
-    let name : t.0 ≡ u.0 = heads_name t u (map shown ts) (map shown us) e in
-    let columns : t.1.columns ≡ u.1.columns = heads_columns t u (map shown ts) (map shown us) e in
+    let name : t.0 ≡ u.0 = heads_name t u (map columns_shown ts) (map columns_shown us) e in
+    let columns : t.1.columns ≡ u.1.columns = heads_columns t u (map columns_shown ts) (map columns_shown us) e in
     let rows : t.1.rows ≡ u.1.rows = h.0 ∙ (λ i. stored_rows streams (same i) (columns i) (name i)) ∙ sym k.0 in
-    λ i. (name i, record { columns = columns i; rows = rows i }) ∷ tables_one streams long other same ts us (tails (shown t) (shown u) (map shown ts) (map shown us) e) h.1 k.1 i
+    λ i. (name i, record { columns = columns i; rows = rows i }) ∷ tables_one streams long other same ts us (same_tail (columns_shown t) (columns_shown u) (map columns_shown ts) (map columns_shown us) e) h.1 k.1 i
 
 unlisted_one : (b : Bool) (rows others : List (List ValueRef)) (o p : Option (List (List ValueRef))) → o ≡ p
     → MatchBool b (rows ≡ []) (o ≡ Some rows) → MatchBool b (others ≡ []) (p ≡ Some others) → rows ≡ others
@@ -91,7 +84,7 @@ unlisted_one true rows others o p e h k = h ∙ sym k
 unlisted_one false rows others o p e h k = same_Some rows others (sym h ∙ e ∙ k)
 
 database_one : (streams : Streams) (d e : Database) → PoolIs streams d → PoolIs streams e → TablesAre streams d → TablesAre streams e → UnlistedIs streams d → UnlistedIs streams e
-    → schema_shown d ≡ schema_shown e → d ≡ e
+    → columns_by_name d ≡ columns_by_name e → d ≡ e
 database_one streams d e p q t u v w shown_same =
     let raw : p.0 ≡ q.0 = one_raw (stream_at (table_key string_pool_name) streams) (stream_at (table_key string_data_name) streams) p.0 q.0 p.1 q.1 in
     let long : d.pool.long ≡ e.pool.long = ap (λ (x : Pool). x.long) p.2 ∙ ap (λ (x : Pool). x.long) raw ∙ ap (λ (x : Pool). x.long) (sym q.2) in
@@ -106,7 +99,7 @@ database_one streams d e p q t u v w shown_same =
 -- THE WHOLE
 
 -- the schema is that which is read by the places as they are stored
-pub schema_raw : (c : Contents) (p : Parts) (h : ContentsMean c p) → schema_in (entries c.streams) h.pool.0 ≡ Some (schema_shown p.database)
+pub schema_raw : (c : Contents) (p : Parts) (h : ContentsMean c p) → schema_in (entries c.streams) h.pool.0 ≡ Some (columns_by_name p.database)
 schema_raw c p h =
     let covers : CoversSchema (entries c.streams) (is_shown (entries c.streams) p.database) h.pool.0 =
     covers_schema (entries c.streams) p.database h.database.tables (schema_rows (entries c.streams) p.database.pool) h.database.schema h.pool.0 (ap (λ (x : Pool). x.long) h.pool.2) in
@@ -115,7 +108,7 @@ schema_raw c p h =
 pub meaning_one : (c : Contents) (p q : Parts) → AreBytes (unwrap_or (stream_at summary_key (entries c.streams)) []) → ContentsMean c p → ContentsMean c q → p ≡ q
 meaning_one c p q small h k =
     let raw : h.pool.0 ≡ k.pool.0 = one_raw (stream_at (table_key string_pool_name) (entries c.streams)) (stream_at (table_key string_data_name) (entries c.streams)) h.pool.0 k.pool.0 h.pool.1 k.pool.1 in
-    let same : schema_shown p.database ≡ schema_shown q.database = same_Some (schema_shown p.database) (schema_shown q.database)
+    let same : columns_by_name p.database ≡ columns_by_name q.database = same_Some (columns_by_name p.database) (columns_by_name q.database)
     (sym (schema_raw c p h) ∙ ap (schema_in (entries c.streams)) raw ∙ schema_raw c q k) in
     let kind : p.kind ≡ q.kind = kinds_tell p.kind q.kind (sym h.kind ∙ k.kind) in
     let summary : p.summary ≡ q.summary = one_summary (stream_at summary_key (entries c.streams)) p.summary q.summary small h.summary k.summary in

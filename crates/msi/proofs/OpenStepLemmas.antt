@@ -1,30 +1,31 @@
 -- What the steps of opening give is what opening answers.
-use Rattle.std.proofs.Common.{◌≡◌, ℕ, List, [], ◌∷◌, ◌++◌, Option, Some, None, Result, Ok, Err, refl, sym, ap, subst, ◌∙◌, inl, inr}
-use Rattle.std.specs.Prelude.{◌⊎◌, IfErr, IfOk, IfSome, IsErrAnd, IsSome, IsSomeAnd, IsTrue, MatchResult, length}
+use Rattle.std.proofs.Common.{◌≡◌, ℕ, List, [], ◌∷◌, ◌++◌, Option, Some, None, Result, Ok, Err, refl, sym, subst, ◌∙◌}
+use Rattle.std.proofs.Common.{inl, inr}
+use Rattle.std.specs.Prelude.{◌⊎◌, IfErr, IfOk, IfSome, IsErrAnd, IsSome, IsSomeAnd}
 use Rattle.std.specs.List.{AllByRecursion}
 use Rattle.std.specs.FinMap.{entries, get, get-entries}
-use Rattle.msi_text.specs.ErrorKind.{ErrorKind}
-use Rattle.msi_text.specs.ErrorKind.TheVariants.{InvalidData, Io, NotFound, OutOfMemory}
-use Rattle.msi_text.specs.Pool.{Pool, PoolStream, Entry, IsPool, IsPoolStream, SpellsPool, SpellsTexts, pool_with}
-use Rattle.msi_text.specs.Pool as pools
-use Rattle.msi_text.specs.Results.{FailsAs, Gives, IsUnlessFault, IsUnlessMemory}
-use Rattle.msi_device.specs.Held.{Held, all_bytes}
-use Rattle.msi_property.specs.Properties.{Properties}
+use Rattle.msi_text_base.specs.declared.errors.ErrorKind.{ErrorKind}
+use Rattle.msi_text_base.specs.declared.errors.ErrorKind.TheVariants.{InvalidData, NotFound, OutOfMemory}
+use Rattle.msi_text_pool.specs.Pool.{Pool, PoolStream, Entry, IsPool, IsPoolStream, SpellsPool, SpellsTexts, pool_with}
+use Rattle.msi_text_pool.specs.Pool as pools
+use Rattle.msi_text_base.specs.Results.{FailsAs, Gives, IsUnlessMemory}
+use Rattle.msi_text_base.proofs.OptionLemmas.{is_some_by, none_not, some_of}
+use Rattle.msi_container_device.specs.Held.{Held, all_bytes}
+use Rattle.msi_summary_properties.specs.Properties.{Properties}
 use Rattle.msi_summary.specs.Summary.{SpellsSummary}
-use Rattle.msi_compound.specs.declared.contents.Contents.{Contents}
-use Rattle.msi_compound.specs.Container.{Holds}
-use Rattle.msi_compound.specs.Names.{is_name_length}
-use Rattle.msi_compound.specs.Streams as maps
-use Rattle.msi_relation.specs.Refusals.{IsRefusal, or_refused}
-use Rattle.msi_schema.specs.Keys.{table_key, summary_key, string_pool_name, string_data_name}
-use Rattle.msi_kept.specs.Streams.{stream_at}
+use Rattle.msi_container_format.specs.declared.contents.Contents.{Contents}
+use Rattle.msi_container_format.specs.Container.{Holds}
+use Rattle.msi_container_format.specs.Streams as maps
+use Rattle.msi_query_rows.specs.Refusals.{IsRefusal, or_refused}
+use Rattle.msi_database_schema.specs.Keys.{table_key, summary_key, string_pool_name, string_data_name}
+use Rattle.msi_database_storage.specs.Streams.{stream_at}
 use Rattle.msi_database.specs.Agreement.{schema_in}
 use Rattle.msi.specs.declared.kinds.PackageType.{PackageType}
 use Rattle.msi.specs.Kinds.{clsid_of}
 use Rattle.msi.specs.State.{State}
-use Rattle.msi.specs.Meaning.{ContentsMean, OpenStep, Passes, FailsFirst, OpensTo, PoolIs, RawPoolIs, SummaryIs, as_opened, open_steps, shown_pool, step_kind}
+use Rattle.msi.specs.Meaning.{OpenStep, Passes, FailsFirst, OpensTo, RawPoolIs, SummaryIs, open_steps, step_kind}
 use Rattle.msi.specs.Meaning as step
-use Rattle.msi.specs.Opening.{IsOpenRefusal, IsOpened, OpensSource, StopsAmong, without_io}
+use Rattle.msi.specs.Opening.{IsOpenRefusal, IsOpened, OpensSource, StopsAmong}
 
 -- STEPS IN TURN
 
@@ -59,18 +60,6 @@ passed_on P (Err k) kind e h = subst P (sym e) h
 
 -- STREAMS THAT ARE THERE OR NOT
 
-pub none_there : (o : Option (List ℕ)) → o ≡ None → IsSome o → ⊥
-none_there None e h = absurd cc
-none_there (Some x) e h = absurd cc
-
-pub there : {X : Type 0} (o : Option X) (x : X) → o ≡ Some x → IsSome o
-there None x e = absurd cc
-there (Some y) x e = refl
-
-is_there : (P : List ℕ → Type 0) (o : Option (List ℕ)) → IsSomeAnd o P → IsSome o
-is_there P None h = absurd h
-is_there P (Some x) h = refl
-
 -- nothing holds of bytes that aren't there
 pub no_bytes : {A : Type 0} (P : List ℕ → Type 0) (o : Option (List ℕ)) → o ≡ None → IsSomeAnd o P → A
 no_bytes P None e h = absurd h
@@ -93,28 +82,9 @@ pub stream_got : (m : maps.Streams) (name : List ℕ) (o : Option (List ℕ)) �
 stream_got m name o e = sym (get-entries m name) ∙ sym e
 
 -- the names of the pool's streams are short enough
-pub pool_name_short : IsTrue (is_name_length (length (table_key string_pool_name)))
-unfolding Rattle.std.specs.Str.chars
-pool_name_short = refl
-
-pub text_name_short : IsTrue (is_name_length (length (table_key string_data_name)))
-unfolding Rattle.std.specs.Str.chars
-text_name_short = refl
-
 -- a step whose stream is missing
 pub missing_stops : (c : Contents) (kind : ErrorKind) (s : OpenStep) (steps : List OpenStep) → (Passes c s → ⊥) × (kind ≡ step_kind s) → StopsAmong c (s ∷ steps) kind
 missing_stops c kind s steps fails = inr (inl fails)
-
--- THE FAULTS OF A READER OF BYTES IN MEMORY
-
-unless_io : (kind other : ErrorKind) → other ≡ without_io kind → (kind ≡ OutOfMemory) ⊎ (kind ≡ Io) → other ≡ OutOfMemory
-unless_io kind other e (inl memory) = e ∙ ap without_io memory
-unless_io kind other e (inr io) = e ∙ ap without_io io
-
-pub only_memory : {X : Type 0} (r told : Result X ErrorKind) (x : X) → MatchResult r (λ y. told ≡ Ok y) (λ kind. IsErrAnd told (λ other. other ≡ without_io kind)) → IsUnlessFault r x → IsUnlessMemory told x
-only_memory (Ok y) told x e is = subst (λ t. IsUnlessMemory t x) (sym e) is
-only_memory (Err kind) (Ok y) x e is = absurd e
-only_memory (Err kind) (Err other) x e is = unless_io kind other e is
 
 -- THE SUMMARY
 
@@ -126,7 +96,7 @@ unspelled_stops : (c : Contents) (kind : ErrorKind) (bytes : List ℕ) → strea
     → ((set : Properties) → SpellsSummary bytes set → FailsAs kind (Some set)) → (kind ≡ InvalidData) ⊎ (kind ≡ OutOfMemory)
     → StopsAmong c (step.has_summary ∷ step.reads_summary ∷ []) kind
 unspelled_stops c kind bytes held only kinds =
-    stops_after c kind (step.has_summary ∷ []) (step.reads_summary ∷ []) (there (stream_at summary_key (entries c.streams)) bytes held, tt)
+    stops_after c kind (step.has_summary ∷ []) (step.reads_summary ∷ []) (is_some_by (stream_at summary_key (entries c.streams)) bytes held, tt)
     (stops_at c kind step.reads_summary kinds (λ is (set, spelled).
     given_none kind set is (only set (of_bytes (λ b. SpellsSummary b set) (stream_at summary_key (entries c.streams)) bytes held spelled))))
 
@@ -149,7 +119,7 @@ formless_stops : (c : Contents) (kind : ErrorKind) (bytes : List ℕ) → stream
     → StopsAmong c (step.has_pool ∷ step.reads_pool ∷ []) kind
 formless_stops c kind bytes held only kinds =
     let at : Option (List ℕ) = stream_at (table_key string_pool_name) (entries c.streams) in
-    stops_after c kind (step.has_pool ∷ []) (step.reads_pool ∷ []) (there at bytes held, tt)
+    stops_after c kind (step.has_pool ∷ []) (step.reads_pool ∷ []) (is_some_by at bytes held, tt)
     (stops_at c kind step.reads_pool kinds (λ is (page, long, listed, spelled).
     not_memory kind is (only (record { page = page; long = long; entries = listed }) (of_bytes (λ b. SpellsPool b page long listed) at bytes held spelled))))
 
@@ -219,21 +189,21 @@ module _ (c : Contents) where
       subst (λ (s : PoolStream). SpellsTexts s.page texts s.entries raw.places → IsUnlessMemory r (pool_with s raw.places)) (all (record { page = raw.page; long = raw.long; entries = parts.0 }) parts.1) (only raw.places) parts.2
 
   passes_first : (stream : PoolStream) → IsSomeAnd pool_bytes (λ bytes. IsPoolStream bytes stream) → AllByRecursion (Passes c) (step.has_pool ∷ step.reads_pool ∷ [])
-  passes_first stream form = (is_there (λ bytes. IsPoolStream bytes stream) pool_bytes form, ((stream.page, stream.long, stream.entries, form), tt))
+  passes_first stream form = (some_of (λ bytes. IsPoolStream bytes stream) pool_bytes form, ((stream.page, stream.long, stream.entries, form), tt))
 
   -- a pool whose texts are missing, and one that doesn't have them
   pub no_texts_stops : (kind : ErrorKind) (stream : PoolStream) → IsSomeAnd pool_bytes (λ bytes. IsPoolStream bytes stream) → (text_bytes ≡ None) × (kind ≡ NotFound)
       → StopsAmong c (step.has_pool ∷ step.reads_pool ∷ step.has_texts ∷ step.reads_texts ∷ []) kind
   no_texts_stops kind stream form (none, is) =
       stops_after c kind (step.has_pool ∷ step.reads_pool ∷ []) (step.has_texts ∷ step.reads_texts ∷ []) (passes_first stream form)
-      (inr (inl (none_there text_bytes none, is)))
+      (inr (inl (none_not text_bytes none, is)))
 
   textless_stops : (kind : ErrorKind) (texts : List ℕ) (stream : PoolStream) → IsSomeAnd pool_bytes (λ bytes. IsPoolStream bytes stream) → IsAllThatIsSaid stream → text_bytes ≡ Some texts
       → ((places : List pools.Place) → SpellsTexts stream.page texts stream.entries places → kind ≡ OutOfMemory) → (kind ≡ InvalidData) ⊎ (kind ≡ OutOfMemory)
       → StopsAmong c (step.has_pool ∷ step.reads_pool ∷ step.has_texts ∷ step.reads_texts ∷ []) kind
   textless_stops kind texts stream form all e only kinds =
       stops_after c kind (step.has_pool ∷ step.reads_pool ∷ []) (step.has_texts ∷ step.reads_texts ∷ []) (passes_first stream form)
-      (stops_after c kind (step.has_texts ∷ []) (step.reads_texts ∷ []) (there text_bytes texts e, tt)
+      (stops_after c kind (step.has_texts ∷ []) (step.reads_texts ∷ []) (is_some_by text_bytes texts e, tt)
       (stops_at c kind step.reads_texts kinds (λ is (raw, held).
       not_memory kind is (pool_only texts stream (Err kind) raw all e only held))))
 
@@ -261,10 +231,6 @@ refused_none : {X : Type 0} (o : Option X) (kind : ErrorKind) → or_refused Inv
 refused_none None kind e = (refl, cc)
 refused_none (Some x) kind e = absurd cc
 
-none_not : {X : Type 0} (o : Option X) → o ≡ None → IsSome o → ⊥
-none_not None e h = absurd cc
-none_not (Some x) e h = absurd cc
-
 -- where the system tables of the one pool aren't read, nor are those of any
 pub schema_stops : (c : Contents) (kind : ErrorKind) (raw : Pool) → ((other : Pool) → RawPoolIs (entries c.streams) other → raw ≡ other)
     → IsRefusal (or_refused InvalidData (schema_in (entries c.streams) raw)) kind → StopsAmong c (step.reads_schema ∷ []) kind
@@ -284,7 +250,7 @@ module _ (c : Contents) (kind : PackageType) (clsid : c.clsid ≡ clsid_of kind)
   pool_steps = step.has_pool ∷ step.reads_pool ∷ step.has_texts ∷ step.reads_texts ∷ []
 
   passes_start : AllByRecursion (Passes c) first_steps
-  passes_start = ((kind, clsid), (is_there (λ bytes. SpellsSummary bytes summary) (stream_at summary_key (entries c.streams)) spelled, ((summary, spelled), tt)))
+  passes_start = ((kind, clsid), (some_of (λ bytes. SpellsSummary bytes summary) (stream_at summary_key (entries c.streams)) spelled, ((summary, spelled), tt)))
 
   pub pool_stops : (why : ErrorKind) → StopsAmong c pool_steps why → StopsAmong c open_steps why
   pool_stops why stops = stops_among c why (first_steps ++ pool_steps) (step.reads_schema ∷ []) (stops_after c why first_steps pool_steps passes_start stops)

@@ -1,25 +1,23 @@
 -- Opening gives one answer for given bytes.
-use Rattle.std.proofs.Common.{◌≡◌, ℕ, Bool, List, [], ◌∷◌, Option, Some, None, Ok, Err, refl, sym, ap, subst, ◌∙◌, inl, inr}
+use Rattle.std.proofs.Common.{◌≡◌, ℕ, Bool, List, [], ◌∷◌, Option, Some, None, Ok, Err, sym, ap, subst, ◌∙◌, inl, inr}
 use Rattle.std.specs.Prelude.{IsSome, IsSomeAnd}
 use Rattle.std.specs.FinMap.{entries}
-use Rattle.msi_text.specs.ErrorKind.{ErrorKind}
-use Rattle.msi_text.specs.CodePage.{CodePage}
-use Rattle.msi_text.specs.Pool.{Pool, Entry, IsPool, SpellsPool}
-use Rattle.msi_compound.specs.declared.contents.Contents.{Contents}
-use Rattle.msi_compound.proofs.PlanOnceLemmas.{held_once}
-use Rattle.msi_schema.specs.Keys.{table_key, summary_key, string_pool_name, string_data_name}
-use Rattle.msi_kept.specs.Streams.{stream_at}
-use Rattle.msi_database.specs.Agreement.{schema_in, schema_shown}
+use Rattle.msi_text_base.specs.declared.errors.ErrorKind.{ErrorKind}
+use Rattle.msi_text_base.specs.declared.codepage.CodePage.{CodePage}
+use Rattle.msi_text_base.proofs.OptionLemmas.{is_some_by, some_of}
+use Rattle.msi_text_pool.specs.Pool.{Pool, Entry, IsPool, SpellsPool}
+use Rattle.msi_container_format.specs.declared.contents.Contents.{Contents}
+use Rattle.msi_container_format.proofs.PlanOnceLemmas.{held_once}
+use Rattle.msi_database_schema.specs.Keys.{table_key, summary_key, string_pool_name, string_data_name}
+use Rattle.msi_database_storage.specs.Streams.{stream_at}
+use Rattle.msi_database_changes.specs.Database.{columns_by_name}
+use Rattle.msi_database.specs.Agreement.{schema_in}
 use Rattle.msi.specs.State.{Parts, State, parts_of}
-use Rattle.msi.specs.Meaning.{ContentsMean, OpenStep, Passes, FailsFirst, OpensTo, Means, as_opened, open_steps}
+use Rattle.msi.specs.Meaning.{ContentsMean, OpenStep, Passes, FailsFirst, OpensTo, as_opened, open_steps}
 use Rattle.msi.specs.Meaning as step
 use Rattle.msi.specs.Laws.{AreBytes, BytesMeanOne, BytesOpenToOne, RefusedMeanNothing}
 use Rattle.msi.proofs.HeldLemmas.{held_small}
 use Rattle.msi.proofs.OneMeaningLemmas.{schema_raw, meaning_one}
-
-some_of : {X : Type 0} (P : X → Type 0) (o : Option X) → IsSomeAnd o P → IsSome o
-some_of P None h = absurd h
-some_of P (Some x) h = refl
 
 inner_some : {X Y : Type 0} (P : X → Y → Type 0) (o : Option X) (p : Option Y) → IsSomeAnd o (λ x. IsSomeAnd p (P x)) → IsSome p
 inner_some P None p h = absurd h
@@ -31,10 +29,6 @@ pool_spelled None p raw h = absurd h
 pool_spelled (Some written) None raw h = absurd h
 pool_spelled (Some written) (Some texts) raw h = (raw.page, raw.long, h.0, h.1)
 
-is_some_by : {X : Type 0} (o : Option X) (x : X) → o ≡ Some x → IsSome o
-is_some_by None x e = absurd cc
-is_some_by (Some y) x e = refl
-
 -- contents that mean a package pass each step
 pub means_passes : (c : Contents) (p : Parts) → ContentsMean c p → (s : OpenStep) → Passes c s
 means_passes c p h step.knows_kind = (p.kind, h.kind)
@@ -44,7 +38,7 @@ means_passes c p h step.has_pool = some_of _ (stream_at (table_key string_pool_n
 means_passes c p h step.reads_pool = pool_spelled (stream_at (table_key string_pool_name) (entries c.streams)) (stream_at (table_key string_data_name) (entries c.streams)) h.pool.0 h.pool.1
 means_passes c p h step.has_texts = inner_some _ (stream_at (table_key string_pool_name) (entries c.streams)) (stream_at (table_key string_data_name) (entries c.streams)) h.pool.1
 means_passes c p h step.reads_texts = (h.pool.0, h.pool.1)
-means_passes c p h step.reads_schema = (h.pool.0, h.pool.1, is_some_by (schema_in (entries c.streams) h.pool.0) (schema_shown p.database) (schema_raw c p h))
+means_passes c p h step.reads_schema = (h.pool.0, h.pool.1, is_some_by (schema_in (entries c.streams) h.pool.0) (columns_by_name p.database) (schema_raw c p h))
 
 -- so none of them fails first
 never_fails : (c : Contents) (kind : ErrorKind) → ((s : OpenStep) → Passes c s) → (ss : List OpenStep) → FailsFirst c ss kind → ⊥

@@ -5,15 +5,15 @@ use Rattle.std.specs.Ordering.{eq_by_cmp}
 use Rattle.std.proofs.lemmas.Bool.{not_from_false, or_left, or_right, or_from, false_from_ne_true}
 use Rattle.std.proofs.lemmas.Slice.Eq.{bytes_eq-Decides}
 use Rattle.std.specs.Prelude.{bytes_eq}
-use Rattle.msi_compound.specs.Names.{name_cmp}
-use Rattle.msi_compound.specs.StreamNames.{is_marked}
-use Rattle.msi_compound.proofs.NamesLemmas.{names_total, exact_names}
-use Rattle.msi_compound_write.specs.LayoutLaw.{IsName, HaveNames}
-use Rattle.msi_schema.specs.Keys.{is_stream_name, table_key, stream_key, summary_key, signature_key, signature_ex_key, string_pool_name, string_data_name}
-use Rattle.msi_schema.specs.System.{validation_name}
-use Rattle.msi_changes.specs.Database.{Database}
-use Rattle.msi_kept.specs.Streams.{Streams, with_stream, without_stream}
-use Rattle.msi_database.proofs.KeyLemmas.{unmarked≢table_key, stream_key_unmarked, stream_key≢summary_key, signature≢summary, signature_ex≢summary}
+use Rattle.msi_container_format.specs.Names.{name_cmp}
+use Rattle.msi_container_format.specs.StreamNames.{is_marked}
+use Rattle.msi_container_format.proofs.NamesLemmas.{names_total, exact_names}
+use Rattle.msi_container_write.specs.LayoutLaw.{IsName, HaveNames}
+use Rattle.msi_database_schema.specs.Keys.{is_stream_name, table_key, stream_key, summary_key, signature_key, string_pool_name, string_data_name}
+use Rattle.msi_database_schema.specs.System.{validation_name}
+use Rattle.msi_database_changes.specs.Database.{Database}
+use Rattle.msi_database_storage.specs.Streams.{Streams, with_stream, without_stream}
+use Rattle.msi_database.proofs.KeyLemmas.{unmarked≢table_key, stream_key_unmarked, stream_key≢summary_key, signature≢summary}
 use Rattle.msi_database.proofs.MapLemmas as maps
 use Rattle.msi_database.proofs.StreamLemmas.{AreSorted}
 use Rattle.msi.specs.State.{is_other_name, names_of, others_among}
@@ -93,6 +93,3 @@ stream_key_is_other tables name h = other_key tables (stream_key name) (stream_k
 
 pub signature_is_other : (tables : List (List ℕ)) → is_other_name tables signature_key ≡ true
 signature_is_other tables = other_key tables signature_key refl signature≢summary
-
-pub signature_ex_is_other : (tables : List (List ℕ)) → is_other_name tables signature_ex_key ≡ true
-signature_ex_is_other tables = other_key tables signature_ex_key refl signature_ex≢summary

@@ -7,14 +7,14 @@ use Rattle.std.proofs.Math.Bool.{or-true}
 use Rattle.std.proofs.Math.Seq.{take-length}
 use Rattle.std.proofs.lemmas.List.{append-nil, drop_all, length-take-le}
 use Rattle.std.proofs.lemmas.List.FromFn.{length-map-range_with_len}
-use Rattle.msi_text.specs.ErrorKind.{ErrorKind}
-use Rattle.msi_text.specs.ErrorKind.TheVariants.{AlreadyExists, InvalidData, InvalidInput, Io, NotFound, OutOfMemory}
-use Rattle.msi_device.specs.Held.{Held, StandsInPart, at_start, bytes_told, from_first, with_piece}
-use Rattle.msi_compound.specs.declared.contents.Contents.{Contents}
-use Rattle.msi_compound_write.specs.Image.{image_byte}
-use Rattle.msi_compound_write.specs.Layout.{layout, mini_fat_run, parts, refuses, taken_by, total}
-use Rattle.msi_compound_write.proofs.LayoutLemmas.{not_true}
-use Rattle.msi_compound_write.proofs.TotalsLemmas.{total_suffices}
+use Rattle.msi_text_base.specs.declared.errors.ErrorKind.{ErrorKind}
+use Rattle.msi_text_base.specs.declared.errors.ErrorKind.TheVariants.{AlreadyExists, InvalidData, InvalidInput, Io, NotFound, OutOfMemory}
+use Rattle.msi_container_device.specs.Held.{Held, StandsInPart, at_start, bytes_told, from_first, with_piece}
+use Rattle.msi_container_format.specs.declared.contents.Contents.{Contents}
+use Rattle.msi_container_write.specs.Image.{image_byte}
+use Rattle.msi_container_write.specs.Layout.{layout, mini_fat_run, parts, refuses, taken_by, total}
+use Rattle.msi_container_write.proofs.LayoutLemmas.{not_true}
+use Rattle.msi_container_write.proofs.TotalsLemmas.{total_suffices}
 use Rattle.msi.specs.Flushing.{AreSoMany, Overwrites, Told, Writes, begun_over, told}
 
 -- an image is no shorter than what it takes the place of

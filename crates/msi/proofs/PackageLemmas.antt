@@ -1,27 +1,27 @@
 -- What each change of a package keeps: of its other streams, its summary, its page, and its tables.
 use Rattle.std.proofs.Common.{◌≡◌, ◌≢◌, ℕ, true, false, List, [], ◌∷◌, length, ◌⊎◌, refl, sym, subst, ◌∙◌, inl, inr}
 use Rattle.std.specs.Str.{IsUtf8}
-use Rattle.std.proofs.lemmas.Bool.{true≢false, or_parts, and_from, lt-ltb, le-leb}
-use Rattle.msi_text.specs.CodePage.{CodePage}
-use Rattle.msi_text.specs.ErrorKind.TheVariants.{InvalidData}
-use Rattle.msi_text.specs.Pool as pools
-use Rattle.msi_property.specs.Properties.{Properties}
-use Rattle.msi_compound.specs.Names.{is_name_length}
-use Rattle.msi_compound.specs.StreamNames.{is_marked}
-use Rattle.msi_compound_write.specs.LayoutLaw.{IsName, HaveNames}
-use Rattle.msi_schema.specs.Keys.{is_stream_name, table_key, stream_key, summary_key, signature_key, signature_ex_key, string_pool_name, string_data_name}
-use Rattle.msi_schema.specs.System.{validation_name}
-use Rattle.msi_changes.specs.Database.{Database, is_sound}
-use Rattle.msi_changes.specs.Changes.{Change}
-use Rattle.msi_changes.specs.Laws.{IsChange, IsTableChange, inserted, updated, deleted, created, dropped}
-use Rattle.msi_changes.proofs.InsertLemmas.{insert_parts}
-use Rattle.msi_changes.proofs.UpdateLemmas.{update_parts}
-use Rattle.msi_changes.proofs.DeleteLemmas.{delete_parts}
-use Rattle.msi_changes.proofs.RefusedLemmas.{first_fails, not_false}
-use Rattle.msi_changes.proofs.ShownLemmas as steps
-use Rattle.msi_changes.proofs.ShownChangesLemmas.{dropped_parts}
-use Rattle.msi_kept.specs.Streams.{Streams, stream_at, with_stream, without_stream}
-use Rattle.msi_kept.specs.StreamNames as databases
+use Rattle.std.proofs.lemmas.Bool.{true≢false, or_parts, and_from, lt-ltb, le-leb, not-false}
+use Rattle.msi_text_base.specs.declared.codepage.CodePage.{CodePage}
+use Rattle.msi_text_base.specs.declared.errors.ErrorKind.TheVariants.{InvalidData}
+use Rattle.msi_text_pool.specs.Pool as pools
+use Rattle.msi_summary_properties.specs.Properties.{Properties}
+use Rattle.msi_container_format.specs.Names.{is_name_length}
+use Rattle.msi_container_format.specs.StreamNames.{is_marked}
+use Rattle.msi_container_write.specs.LayoutLaw.{IsName, HaveNames}
+use Rattle.msi_database_schema.specs.Keys.{is_stream_name, table_key, stream_key, summary_key, signature_key, signature_ex_key, string_pool_name, string_data_name}
+use Rattle.msi_database_schema.specs.System.{validation_name}
+use Rattle.msi_database_changes.specs.Database.{Database, is_sound}
+use Rattle.msi_database_changes.specs.Changes.{Change}
+use Rattle.msi_database_changes.specs.Laws.{IsChange, IsTableChange, inserted, updated, deleted, created, dropped}
+use Rattle.msi_database_changes.proofs.InsertLemmas.{insert_parts}
+use Rattle.msi_database_changes.proofs.UpdateLemmas.{update_parts}
+use Rattle.msi_database_changes.proofs.DeleteLemmas.{delete_parts}
+use Rattle.msi_database_changes.proofs.RefusedLemmas.{first_fails}
+use Rattle.msi_database_changes.proofs.ShownLemmas as steps
+use Rattle.msi_database_changes.proofs.ShownChangesLemmas.{dropped_parts}
+use Rattle.msi_database_storage.specs.Streams.{Streams, stream_at, with_stream, without_stream}
+use Rattle.msi_database_storage.specs.StreamNames as databases
 use Rattle.msi_database.specs.Keeping.{IsKeptDatabase}
 use Rattle.msi_database.proofs.KeyLemmas.{unmarked≢table_key, stream_key_unmarked, stream_key≢summary_key, signature≢summary, signature_ex≢summary}
 use Rattle.msi_database.proofs.StreamLemmas.{AreSorted, sorted_put, sorted_removed, stream_at_other_put, stream_at_other_removed}
@@ -44,7 +44,7 @@ package_summary s h = record { kept = h.summary; format = h.format }
 name_length : (name : List ℕ) → IsName name → is_name_length (length name) ≡ true
 name_length name is = and_from _ _ (lt-ltb 0 (length name) is.some) (le-leb (length name) 31 is.most)
 
-pub short_names : (streams : Streams) → HaveNames streams → databases.HaveNames streams
+pub short_names : (streams : Streams) → HaveNames streams → databases.HaveShortNames streams
 short_names [] h = tt
 short_names (s ∷ ss) h = (name_length s.0 h.0, short_names ss h.1)
 
@@ -143,8 +143,8 @@ pub change_sound : (d : Database) (c : Change) → IsChange d c ⊎ IsTableChang
 change_sound d c (inl (inserted q e)) = (insert_parts d q c e).0
 change_sound d c (inl (updated q e)) = (update_parts d q c e).sound
 change_sound d c (inl (deleted q e)) = (delete_parts d q c e).sound
-change_sound d c (inr (created name columns e)) = not_false (is_sound d) (first_fails _ InvalidData [] (steps.created d name columns c e).sound).0
-change_sound d c (inr (dropped name e)) = not_false (is_sound d) (first_fails _ InvalidData [] (dropped_parts d name c e).sound).0
+change_sound d c (inr (created name columns e)) = not-false (is_sound d) (first_fails _ InvalidData [] (steps.created d name columns c e).sound).0
+change_sound d c (inr (dropped name e)) = not-false (is_sound d) (first_fails _ InvalidData [] (dropped_parts d name c e).sound).0
 
 module _ (s : State) (c : Change) (h : IsPackage s) (change : IsChange s.kept.database c ⊎ IsTableChange s.kept.database c) where
   abbrev sound : is_sound s.kept.database ≡ true

@@ -1,15 +1,15 @@
 -- Worked examples, by computation.
 use Rattle.std.specs.Prelude.{◌≡◌, true, [], ◌∷◌, ◌++◌, Some, refl, codes, map, length, sum_by, take, option_map, ◌+◌}
-use Rattle.msi_text.specs.Pool.{pool_stream, data_stream}
-use Rattle.msi_schema.specs.Keys.{table_key, summary_key}
-use Rattle.msi_changes.specs.Database.{is_sound}
+use Rattle.msi_text_pool.specs.Pool.{pool_stream, data_stream}
+use Rattle.msi_database_schema.specs.Keys.{table_key, summary_key}
+use Rattle.msi_database_changes.specs.Database.{is_sound, columns_by_name}
 use Rattle.msi.specs.declared.kinds.PackageType.TheVariants as kind
 use Rattle.msi.specs.State.{State}
-use Rattle.msi_kept.specs.Streams.{stream_at}
+use Rattle.msi_database_storage.specs.Streams.{stream_at}
 use Rattle.msi.specs.Runs.{fresh}
-use Rattle.msi_database.specs.Agreement.{schema_in, schema_shown}
+use Rattle.msi_database.specs.Agreement.{schema_in}
 use Rattle.std.specs.List.{flat_map}
-use Rattle.msi_text.specs.Lists.{numbers_below}
+use Rattle.msi_text_base.specs.Lists.{numbers_below}
 
 abbrev new : State
 new = fresh kind.Installer
@@ -43,6 +43,6 @@ sound : is_sound new.kept.database ≡ true
 unfolding Rattle.std.specs.Str.chars
 sound = refl
 
-schema : schema_in new.kept.streams new.kept.database.pool ≡ Some (schema_shown new.kept.database)
+schema : schema_in new.kept.streams new.kept.database.pool ≡ Some (columns_by_name new.kept.database)
 unfolding Rattle.std.specs.Str.chars
 schema = refl

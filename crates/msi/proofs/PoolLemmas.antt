@@ -1,37 +1,20 @@
 -- The pool of a sound package: none of its free places is named, so the streams of the pool spell it with all of them empty.
-use Rattle.std.proofs.Common.{◌≡◌, ℕ, zero, suc, ◌+◌, ◌<◌, ◌≤◌, Bool, true, false, cond, not, ◌&&◌, ◌||◌, ◌==◌, nat_le, List, [], ◌∷◌, map, filter, length, count_by, slice_get, refl, sym, ap, subst, ◌∙◌, arith}
+use Rattle.std.proofs.Common.{◌≡◌, ℕ, zero, suc, ◌+◌, ◌<◌, ◌≤◌, Bool, true, false, not, ◌&&◌, ◌==◌, nat_le, List, [], ◌∷◌, map, length, slice_get, refl, sym, ap, subst, ◌∙◌, arith}
 use Rattle.std.specs.Prelude.{if◌then◌else◌}
-use Rattle.std.specs.List.{list_any, list_all, enumerate_from}
-use Rattle.std.proofs.lemmas.Bool.{and_parts, leb-true, eqb-true}
-use Rattle.std.proofs.lemmas.List.Sums.{length-filter}
-use Rattle.msi_text.specs.Lists.{numbers_from}
-use Rattle.msi_text.specs.FirstFit.{count_of}
-use Rattle.msi_text.specs.Pool.{Pool, Place, forgotten}
-use Rattle.msi_text.specs.Pool as pools
-use Rattle.msi_changes.specs.Database.{Database, is_sound, named_numbers, cells_naming}
-use Rattle.msi_kept.specs.Streams.{Streams}
+use Rattle.std.specs.List.{list_any, enumerate_from}
+use Rattle.std.proofs.lemmas.Bool.{leb-true, eqb-true}
+use Rattle.msi_text_pool.specs.FirstFit.{count_of}
+use Rattle.msi_text_pool.specs.Pool.{Pool, Place, forgotten}
+use Rattle.msi_text_pool.specs.Pool as pools
+use Rattle.msi_database_changes.specs.Database.{Database, is_sound, named_numbers, cells_naming}
+use Rattle.msi_database_storage.specs.Streams.{Streams}
 use Rattle.msi_database.specs.Agreement.{DatabaseIs, is_shown}
 use Rattle.msi_database.proofs.SoundLemmas.{sound_is}
 use Rattle.msi_database.proofs.NamedLemmas.{shown_named}
+use Rattle.msi_database.proofs.OpenedLemmas.{none_counted, each_tabulated, forgotten_count_at, forgotten_length}
 use Rattle.msi.specs.Meaning.{PoolIs, RawPoolIs, shown_pool}
 
 -- FREE PLACES ARE NOT NAMED
-
-none_by : (b : Bool) (x : ℕ) (others : List ℕ) (rest : Bool) → length (cond b (x ∷ others) others) ≡ 0 → (length others ≡ 0 → rest ≡ false) → (b || rest) ≡ false
-none_by true x others rest e later = absurd (omega (arith, e))
-none_by false x others rest e later = later e
-
-none_filtered : (p : ℕ → Bool) (xs : List ℕ) → length (filter p xs) ≡ 0 → list_any p xs ≡ false
-none_filtered p [] e = refl
-none_filtered p (x ∷ xs) e = none_by (p x) x (filter p xs) (list_any p xs) e (none_filtered p xs)
-
-none_counted : (p : ℕ → Bool) (xs : List ℕ) → count_by p xs ≡ 0 → list_any p xs ≡ false
-none_counted p xs e = none_filtered p xs (length-filter p xs ∙ e)
-
-each_tabulated : (f : ℕ → Bool) (k n : ℕ) → list_all (λ enough. enough) (map f (numbers_from k n)) ≡ true → (i : ℕ) → i < n → f (k + i) ≡ true
-each_tabulated f k zero h i l = absurd (omega (arith, l))
-each_tabulated f k (suc n) h zero l = ap f (omega arith) ∙ (and_parts (f k) _ h).0
-each_tabulated f k (suc n) h (suc i) l = ap f (omega arith) ∙ each_tabulated f (k + 1) n (and_parts (f k) _ h).1 i (omega (arith, l))
 
 -- no cell names a free place of a sound database
 abbrev pub FreeUnnamed : (ℕ → Bool) → List Place → Type 0
@@ -48,15 +31,6 @@ sound_unnamed streams d spelled sound i l zeroed =
     shown_named streams d spelled.tables spelled.unlisted tests.standard (i + 1) ∙ none
 
 -- A POOL WHOSE FREE PLACES ARE EMPTY
-
-forgotten_counts : (is_named : ℕ → Bool) (k : ℕ) (ps : List Place) (i : ℕ) → count_of (slice_get (map (λ e. forgotten (is_named e.0) e.1) (enumerate_from k ps)) i) ≡ count_of (slice_get ps i)
-forgotten_counts is_named k [] i = refl
-forgotten_counts is_named k (p ∷ ps) zero = refl
-forgotten_counts is_named k (p ∷ ps) (suc i) = forgotten_counts is_named (k + 1) ps i
-
-forgotten_length : (is_named : ℕ → Bool) (k : ℕ) (ps : List Place) → length (map (λ e. forgotten (is_named e.0) e.1) (enumerate_from k ps)) ≡ length ps
-forgotten_length is_named k [] = refl
-forgotten_length is_named k (p ∷ ps) = ap suc (forgotten_length is_named (k + 1) ps)
 
 -- where no free place is named, each loses its text
 lost_by : (p : Place) (named free : Bool) → (p.count == 0) ≡ free → (p.count ≡ 0 → named ≡ false) → (if free && not named then [] else p.text) ≡ (if free && not false then [] else p.text)
@@ -75,7 +49,7 @@ lost_each is_named k (p ∷ ps) h = λ i. record {
 pub shown_is_written : (is_named : ℕ → Bool) (raw : Pool) → FreeUnnamed is_named (shown_pool is_named raw).places → shown_pool is_named raw ≡ pools.as_written raw
 shown_is_written is_named raw free = λ i. record raw {
   places = lost_each is_named 1 raw.places (λ j l zeroed.
-      ap is_named (omega arith) ∙ free j (omega (arith, l, forgotten_length is_named 1 raw.places)) (forgotten_counts is_named 1 raw.places j ∙ zeroed)) i;
+      ap is_named (omega arith) ∙ free j (omega (arith, l, forgotten_length is_named 1 raw.places)) (forgotten_count_at is_named 1 raw.places j ∙ zeroed)) i;
 }
 
 module _ (streams : Streams) (d : Database) (spelled : DatabaseIs streams d) (sound : is_sound d ≡ true) where

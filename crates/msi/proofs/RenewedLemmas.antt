@@ -1,21 +1,21 @@
 -- Streams that are put among others, one after another, and put back.
-use Rattle.std.proofs.Common.{◌≡◌, ◌≢◌, ℕ, Bool, true, false, List, [], ◌∷◌, ◌++◌, map, Option, Some, None, refl, sym, ap, subst, ◌∙◌, ◌⊎◌, inl, inr}
-use Rattle.std.specs.Prelude.{if◌then◌else◌, is_some, option_and_then, option_map}
+use Rattle.std.proofs.Common.{◌≡◌, ◌≢◌, ℕ, Bool, true, false, List, [], ◌∷◌, ◌++◌, map, Option, Some, None, refl, sym, ap, subst, ◌∙◌}
+use Rattle.std.specs.Prelude.{if◌then◌else◌, option_and_then, option_map}
 use Rattle.std.specs.List.{AllByRecursion}
 use Rattle.std.specs.FinMap.{entries, entries_sorted, entries-from_sorted, entries-insert, from_sorted, get, get-entries, insert, same_entries_map}
-use Rattle.std.proofs.lemmas.Bool.{true≢false}
-use Rattle.msi_text.specs.Pool.{Pool, data_stream, pool_stream}
-use Rattle.msi_text.specs.PoolWriting.{is_refused}
-use Rattle.msi_compound.specs.Names.{name_cmp}
-use Rattle.msi_compound.specs.Streams as maps
-use Rattle.msi_compound.specs.declared.contents.Contents.{Contents}
-use Rattle.msi_compound.proofs.NamesLemmas.{names_total}
-use Rattle.msi_compound.proofs.StreamsLemmas.{put_back_same}
-use Rattle.msi_schema.specs.Keys.{is_table_name, named, string_data_name, string_pool_name, table_key}
-use Rattle.msi_schema.specs.System.{columns_name, tables_name, validation_name}
-use Rattle.msi_changes.specs.Database.{Database, Tables, is_sound}
-use Rattle.msi_kept.specs.Kept.{Kept}
-use Rattle.msi_kept.specs.Streams.{Streams, stream_at, with_stream, with_stream_or_none}
+use Rattle.msi_text_pool.specs.Pool.{Pool, data_stream, pool_stream}
+use Rattle.msi_text_pool.specs.PoolWriting.{is_refused}
+use Rattle.msi_container_format.specs.Names.{name_cmp}
+use Rattle.msi_container_format.specs.Streams as maps
+use Rattle.msi_container_format.specs.declared.contents.Contents.{Contents}
+use Rattle.msi_container_format.proofs.NamesLemmas.{names_total}
+use Rattle.msi_container_format.proofs.StreamsLemmas.{put_back_same}
+use Rattle.msi_container_format.specs.Names.{named}
+use Rattle.msi_database_schema.specs.Keys.{is_table_name, string_data_name, string_pool_name, table_key}
+use Rattle.msi_database_schema.specs.System.{columns_name, tables_name, validation_name}
+use Rattle.msi_database_changes.specs.Database.{Database, Tables, is_sound}
+use Rattle.msi_database_storage.specs.Kept.{Kept}
+use Rattle.msi_database_storage.specs.Streams.{Streams, stream_at, with_stream, with_stream_or_none}
 use Rattle.msi_database.specs.Others.{IsOther, with_streams}
 use Rattle.msi_database.proofs.EntriesLemmas.{entries_either}
 use Rattle.msi_database.proofs.KeyLemmas.{columns_accepted, table_key≢pool, tables_accepted, validation_accepted}
@@ -82,22 +82,6 @@ pool_others old new entries texts data_key pool_key data_is pool_is new_is d sou
     (others_last d (old ++ (data_key, texts) ∷ []) pool_key entries
     (others_last d old data_key texts all (subst (IsOther d) (sym data_is) (texts_are_other d sound)))
     (subst (IsOther d) (sym pool_is) (pool_is_other d sound)))
-
--- the pool's streams have names
-pool_is_named : is_some (named (table_key string_pool_name)) ≡ true
-unfolding Rattle.std.specs.Str.chars
-pool_is_named = refl
-
-texts_are_named : is_some (named (table_key string_data_name)) ≡ true
-unfolding Rattle.std.specs.Str.chars
-texts_are_named = refl
-
-nothing_named : (key : List ℕ) (o : Option (List ℕ)) → is_some (named key) ≡ true → o ≡ named key → o ≡ None → ⊥
-nothing_named key o some is none = true≢false (sym some ∙ ap is_some (sym is ∙ none))
-
-pub pool_has_name : (name : List ℕ) (o : Option (List ℕ)) → (name ≡ string_pool_name) ⊎ (name ≡ string_data_name) → o ≡ named (table_key name) → o ≡ None → ⊥
-pool_has_name name o (inl e) is none = nothing_named (table_key string_pool_name) o pool_is_named (is ∙ ap (λ n. named (table_key n)) e) none
-pool_has_name name o (inr e) is none = nothing_named (table_key string_data_name) o texts_are_named (is ∙ ap (λ n. named (table_key n)) e) none
 
 -- PUT BACK
 

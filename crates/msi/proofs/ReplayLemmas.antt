@@ -1,25 +1,25 @@
 -- What a new package's bytes mean after calls and a flush.
 use Rattle.std.proofs.Common.{◌≡◌, ℕ, ◌+◌, ◌*◌, ◌^◌, Bool, false, ◌||◌, nat_lt, [], ◌∷◌, Option, Some, Result, Ok, refl, ap, subst, ◌∙◌}
-use Rattle.std.specs.List.{AllByRecursion}
 use Rattle.std.specs.FinMap.{entries-from_sorted}
-use Rattle.msi_text.specs.ErrorKind.{ErrorKind}
-use Rattle.msi_text.specs.ErrorKind.TheVariants.{InvalidInput}
-use Rattle.msi_relation.specs.Refusals.{unless_refused, or_refused, ◌>>=◌}
-use Rattle.msi_compound.specs.Names.{name_cmp}
-use Rattle.msi_compound_write.specs.Image.{least_total}
-use Rattle.msi_compound_write.specs.Layout.{refuses, taken_by}
-use Rattle.msi_kept.specs.Streams.{Streams}
+use Rattle.msi_text_base.specs.declared.errors.ErrorKind.{ErrorKind}
+use Rattle.msi_text_base.specs.declared.errors.ErrorKind.TheVariants.{InvalidInput}
+use Rattle.msi_query_rows.specs.Refusals.{unless_refused, or_refused, ◌>>=◌}
+use Rattle.msi_container_format.specs.Names.{name_cmp}
+use Rattle.msi_container_write.specs.Image.{least_total}
+use Rattle.msi_container_write.specs.Layout.{refuses, taken_by}
+use Rattle.msi_database_changes.proofs.RefusedLemmas.{same_Ok}
+use Rattle.msi_database_changes.proofs.ShownLemmas.{ok_first}
+use Rattle.msi_database_storage.specs.Streams.{Streams}
 use Rattle.msi.specs.declared.kinds.PackageType.{PackageType}
 use Rattle.msi.specs.declared.kinds.PackageType.TheVariants as kind
 use Rattle.msi.specs.State.{State}
-use Rattle.msi.specs.Calls.{Call, Answer}
 use Rattle.msi.specs.Calls as calls
 use Rattle.msi.specs.Steps.{streams_written, image_refusals, contents_of, written_for}
 use Rattle.msi.specs.Runs.{Session, IsSession, created, created_over, fresh, unwritten}
 use Rattle.msi.specs.Laws.{CreatedIsSession, ReplaysMean, IsExact}
 use Rattle.msi.proofs.FreshLemmas.{unwritten_package, fresh_package, fresh_written, fresh_sound, fresh_counts, fresh_keys}
 use Rattle.msi.proofs.FlushLemmas.{flush_package}
-use Rattle.msi.proofs.StepLemmas.{bound_is, written_is}
+use Rattle.msi.proofs.StepLemmas.{written_is}
 use Rattle.msi.proofs.RunLemmas.{runs_keep, session_keeps}
 use Rattle.msi.proofs.SessionLemmas.{left_by, laid_out, runs_keep_sessions, session_step, flushed_clean}
 
@@ -48,10 +48,6 @@ pub created_over_nothing : (k : PackageType) → created_over k 0 ≡ Ok (create
 created_over_nothing k = ap (λ (r : Result Streams ErrorKind). r >>= λ streams. Ok (laid_out (unwritten k) streams 0))
     (accepted_written (unwritten k) 0 (streams_written (unwritten k)) (fresh k).kept.streams (fresh_written k) (fresh_accepted k))
 
--- over any device it is a session
-ok_same : {A : Type 0} {x y : A} → ◌≡◌ {A = Result A ErrorKind} (Ok x) (Ok y) → x ≡ y
-ok_same e = cc
-
 fresh_exact : (k : PackageType) → IsExact (fresh k).kept.database
 fresh_exact k = record { sound = fresh_sound k; counts = fresh_counts k; keys = fresh_keys k }
 
@@ -63,8 +59,8 @@ made_session k n streams e = record {
 
 pub created_is_session : CreatedIsSession
 created_is_session k n x e =
-    let made = bound_is (written_for (unwritten k) n) (λ streams. Ok (laid_out (unwritten k) streams n)) x e in
-    subst (λ (x : Session). IsSession x × IsExact x.state.kept.database) (ok_same made.2) (made_session k n made.0 made.1, fresh_exact k)
+    let made = ok_first (written_for (unwritten k) n) (λ streams. Ok (laid_out (unwritten k) streams n)) x e in
+    subst (λ (x : Session). IsSession x × IsExact x.state.kept.database) (same_Ok _ _ made.2) (made_session k n made.0 made.1, fresh_exact k)
 
 -- THE RUN OF CALLS, and a last flush
 

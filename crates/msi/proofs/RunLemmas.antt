@@ -1,13 +1,13 @@
 -- What steps and runs keep: packages, soundness, exact counts and distinct keys.
 use Rattle.std.proofs.Common.{◌≡◌, true, [], ◌∷◌, length, Result, sym, ap, subst, ◌∙◌, inl, inr}
-use Rattle.msi_text.specs.CodePage.{CodePage}
-use Rattle.msi_text.specs.ErrorKind.{ErrorKind}
-use Rattle.msi_pool.proofs.TakenLemmas.{taken_takes}
-use Rattle.msi_changes.specs.Database.{Database, CountsAreExact, is_sound, is_well_formed}
-use Rattle.msi_changes.specs.Changes.{Change}
-use Rattle.msi_changes.specs.Laws as databases
-use Rattle.msi_changes.specs.Laws.{KeysAreDistinct}
-use Rattle.msi_changes.proofs.LawLemmas.{changes_keep, table_changes_keep}
+use Rattle.msi_text_base.specs.declared.codepage.CodePage.{CodePage}
+use Rattle.msi_text_base.specs.declared.errors.ErrorKind.{ErrorKind}
+use Rattle.msi_text_pool.proofs.TakenLemmas.{taken_takes}
+use Rattle.msi_database_changes.specs.Database.{Database, CountsAreExact, is_sound, is_well_formed}
+use Rattle.msi_database_changes.specs.Changes.{Change}
+use Rattle.msi_database_changes.specs.Laws as databases
+use Rattle.msi_database_changes.specs.Laws.{KeysAreDistinct}
+use Rattle.msi_database_changes.proofs.LawLemmas.{changes_keep, table_changes_keep}
 use Rattle.msi_database.proofs.GivenBackLemmas.{given_back_gives}
 use Rattle.msi_database.proofs.KeptLawLemmas.{kept_is_well_formed}
 use Rattle.msi.specs.State.{State}

@@ -6,19 +6,19 @@ use Rattle.msi_text.specs.Categories.{all_categories, category_name}
 use Rattle.std.specs.List.{list_all}
 use Rattle.std.specs.Option.{option_map_or}
 use Rattle.std.specs.Ordering.{int_cmp, is_eq}
-use Rattle.msi_value.specs.declared.value.Value.TheVariants.{Str}
-use Rattle.msi_value.specs.declared.column.ColumnType.TheVariants.{Int16, Int32}
-use Rattle.msi_value.specs.declared.column.ColumnType.TheVariants as coltype
-use Rattle.msi_value.specs.Columns.{ColumnDef, type_bits}
-use Rattle.msi_changes.specs.Database.{has_table}
+use Rattle.msi_table_values.specs.declared.value.Value.TheVariants.{Str}
+use Rattle.msi_table_values.specs.declared.column.ColumnType.TheVariants.{Int16, Int32}
+use Rattle.msi_table_values.specs.declared.column.ColumnType.TheVariants as coltype
+use Rattle.msi_table_values.specs.Columns.{ColumnDef, type_bits}
+use Rattle.msi_database_changes.specs.Database.{has_table, columns_by_name}
 use Rattle.msi.specs.declared.kinds.PackageType.TheVariants as kind
-use Rattle.msi_schema.specs.System.{plain_column, key, nullable, one_of, in_range, of_category}
+use Rattle.msi_database_schema.specs.System.{plain_column, key, nullable, one_of, in_range, of_category}
 use Rattle.msi.specs.State.{State}
 use Rattle.msi.specs.Calls.{Call, Answer}
 use Rattle.msi.specs.Calls as calls
 use Rattle.msi.specs.Steps.{outcome}
 use Rattle.msi.specs.Runs.{fresh}
-use Rattle.msi_database.specs.Agreement.{schema_in, schema_shown}
+use Rattle.msi_database.specs.Agreement.{schema_in}
 
 abbrev state_after : State → Call → State
 state_after s c = (outcome 0 s c).1
@@ -69,7 +69,7 @@ column_same a b = bytes_eq a.name b.name && (type_bits a == type_bits b) && flag
     && foreign_same a.foreign_key b.foreign_key && category_same a.category b.category && all_same bytes_eq a.enum_values b.enum_values
 
 abbrev schema_same : State → Bool
-schema_same s = option_map_or (λ ts. all_same (λ a b. bytes_eq a.0 b.0 && all_same column_same a.1 b.1) ts (schema_shown s.kept.database)) (schema_in s.kept.streams s.kept.database.pool) false
+schema_same s = option_map_or (λ ts. all_same (λ a b. bytes_eq a.0 b.0 && all_same column_same a.1 b.1) ts (columns_by_name s.kept.database)) (schema_in s.kept.streams s.kept.database.pool) false
 
 schema : schema_same made ≡ true
 unfolding Rattle.std.specs.Str.chars

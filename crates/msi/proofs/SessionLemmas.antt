@@ -2,12 +2,13 @@
 use Rattle.std.proofs.Common.{◌≡◌, ℕ, Bool, true, false, List, [], ◌∷◌, length, Result, Ok, Err, refl, sym, ap, subst, ◌∙◌, inl, inr}
 use Rattle.std.specs.Prelude.{MatchBool, if◌then◌else◌}
 use Rattle.std.proofs.lemmas.Bool.{true≢false}
-use Rattle.msi_text.specs.ErrorKind.{ErrorKind}
-use Rattle.msi_text.specs.ErrorKind.TheVariants.{InvalidInput}
-use Rattle.msi_relation.specs.Refusals.{unless_refused, or_refused, ◌>>=◌}
-use Rattle.msi_changes.proofs.RefusedLemmas.{not_refused, first_fails}
-use Rattle.msi_compound_write.specs.Layout.{layout, refuses}
-use Rattle.msi_kept.specs.Streams.{Streams}
+use Rattle.msi_text_base.specs.declared.errors.ErrorKind.{ErrorKind}
+use Rattle.msi_text_base.specs.declared.errors.ErrorKind.TheVariants.{InvalidInput}
+use Rattle.msi_query_rows.specs.Refusals.{unless_refused, or_refused, ◌>>=◌}
+use Rattle.msi_database_changes.proofs.RefusedLemmas.{not_refused, first_fails}
+use Rattle.msi_container_write.specs.Layout.{layout, refuses}
+use Rattle.msi_database_changes.proofs.ShownLemmas.{ok_first}
+use Rattle.msi_database_storage.specs.Streams.{Streams}
 use Rattle.msi.specs.State.{State}
 use Rattle.msi.specs.Meaning.{IsPackage}
 use Rattle.msi.specs.Calls.{Call, Answer}
@@ -17,7 +18,7 @@ use Rattle.msi.specs.Runs.{Session, SessionStep, FlushLeaves, SameDevice, FitsCa
 use Rattle.msi.specs.Laws.{RunsKeepSessions, FlushedIsHeld, FlushHoldsImage}
 use Rattle.msi.proofs.FlushLemmas.{flush_package}
 use Rattle.msi.proofs.MeaningLemmas.{image_means, image_opens}
-use Rattle.msi.proofs.StepLemmas.{bound_is, written_is}
+use Rattle.msi.proofs.StepLemmas.{written_is}
 use Rattle.msi.proofs.RunLemmas.{session_keeps}
 use Rattle.msi.proofs.LeavingLemmas.{Leaves, is_flush, step_leaves}
 
@@ -30,7 +31,7 @@ HeldClean x = x.state.is_unwritten ≡ false → TextsAreWritable x.state → Ho
 -- the streams that are written can be laid out
 pub accepted_is : (s : State) (n : ℕ) (streams : Streams) → written_for s n ≡ Ok streams → refuses (contents_of s streams) n ≡ false
 accepted_is s n streams e =
-    let first = bound_is (or_refused InvalidInput (streams_written s)) (λ streams. unless_refused (image_refusals s n streams) streams) streams e in
+    let first = ok_first (or_refused InvalidInput (streams_written s)) (λ streams. unless_refused (image_refusals s n streams) streams) streams e in
     let passed = not_refused (image_refusals s n first.0) first.0 streams first.2 in
     subst (λ (x : Streams). refuses (contents_of s x) n ≡ false) passed.1 (first_fails (refuses (contents_of s first.0) n) InvalidInput [] passed.0).0
 

@@ -4,21 +4,22 @@ use Rattle.std.specs.Prelude.{MatchBool, if◌then◌else◌}
 use Rattle.std.specs.List.{AllByRecursion}
 use Rattle.std.specs.Str.{IsUtf8}
 use Rattle.std.proofs.lemmas.Bool.{true≢false}
-use Rattle.msi_text.specs.CodePage.{CodePage}
-use Rattle.msi_text.specs.ErrorKind.{ErrorKind}
-use Rattle.msi_text.specs.ErrorKind.TheVariants.{InvalidInput, InvalidData, NotFound}
-use Rattle.msi_relation.specs.Refusals.{Refusals, first_refusal, unless_refused, or_refused, ◌>>=◌}
-use Rattle.msi_schema.specs.Keys.{is_stream_name, stream_key}
-use Rattle.msi_changes.specs.Database.{Database, is_sound}
-use Rattle.msi_changes.specs.Changes.{Change, sound_refusal}
-use Rattle.msi_changes.specs.Insert.{insert_rows}
-use Rattle.msi_changes.specs.Update.{update_rows}
-use Rattle.msi_changes.specs.Delete.{delete_rows}
-use Rattle.msi_changes.specs.Create.{create_table}
-use Rattle.msi_changes.specs.Drop.{drop_table}
-use Rattle.msi_changes.specs.Laws.{IsChange, IsTableChange, inserted, updated, deleted, created, dropped}
-use Rattle.msi_changes.proofs.RefusedLemmas.{bind_ok, not_refused, value_there}
-use Rattle.msi_kept.specs.Streams.{Streams, with_stream, without_stream}
+use Rattle.msi_text_base.specs.declared.codepage.CodePage.{CodePage}
+use Rattle.msi_text_base.specs.declared.errors.ErrorKind.{ErrorKind}
+use Rattle.msi_text_base.specs.declared.errors.ErrorKind.TheVariants.{InvalidInput, InvalidData, NotFound}
+use Rattle.msi_query_rows.specs.Refusals.{Refusals, first_refusal, unless_refused, or_refused}
+use Rattle.msi_database_schema.specs.Keys.{is_stream_name, stream_key}
+use Rattle.msi_database_changes.specs.Database.{Database, is_sound}
+use Rattle.msi_database_changes.specs.Changes.{Change, sound_refusal}
+use Rattle.msi_database_changes.specs.Insert.{insert_rows}
+use Rattle.msi_database_changes.specs.Update.{update_rows}
+use Rattle.msi_database_changes.specs.Delete.{delete_rows}
+use Rattle.msi_database_changes.specs.Create.{create_table}
+use Rattle.msi_database_changes.specs.Drop.{drop_table}
+use Rattle.msi_database_changes.specs.Laws.{IsChange, IsTableChange, inserted, updated, deleted, created, dropped}
+use Rattle.msi_database_changes.proofs.RefusedLemmas.{not_refused, value_there}
+use Rattle.msi_database_changes.proofs.ShownLemmas.{ok_first}
+use Rattle.msi_database_storage.specs.Streams.{Streams, with_stream, without_stream}
 use Rattle.msi.specs.State.{Parts, State, parts_of}
 use Rattle.msi.specs.Meaning.{IsPackage}
 use Rattle.msi.specs.Calls.{Call, Answer}
@@ -35,13 +36,9 @@ use Rattle.msi.proofs.FlushLemmas.{flush_package}
 abbrev pub AnyChange : Database → Change → Type 0
 AnyChange d c = IsChange d c ⊎ IsTableChange d c
 
--- where a chain gives something, its first part did
-pub bound_is : {A B : Type 0} (r : Result A ErrorKind) (f : A → Result B ErrorKind) (y : B) → (r >>= f) ≡ Ok y → (x : A) × (r ≡ Ok x) × (f x ≡ Ok y)
-bound_is r f y e = bind_ok r f y e (λ x is rest. (x, is, rest))
-
 changing_is : (p : Parts) (change : Database → Result Change ErrorKind) (c : Change) → changing p change ≡ Ok c → change p.database ≡ Ok c
 changing_is p change c e =
-    let first = bound_is (unless_refused (storage_refusal p) p.database) change c e in
+    let first = ok_first (unless_refused (storage_refusal p) p.database) change c e in
     ap change (not_refused (storage_refusal p) p.database first.0 first.1).1 ∙ first.2
 
 second_passes : (a b : Bool) (k l : ErrorKind) (rest : Option ErrorKind) → (if a then Some k else if not b then Some l else rest) ≡ None → b ≡ true
@@ -55,7 +52,7 @@ accepted_name p name others e = second_passes p.has_storages (is_stream_name nam
 
 pub written_is : (s : State) (earlier_len : ℕ) (streams : Streams) → written_for s earlier_len ≡ Ok streams → streams_written s ≡ Some streams
 written_is s earlier_len streams e =
-    let first = bound_is (or_refused InvalidInput (streams_written s)) (λ streams. unless_refused (image_refusals s earlier_len streams) streams) streams e in
+    let first = ok_first (or_refused InvalidInput (streams_written s)) (λ streams. unless_refused (image_refusals s earlier_len streams) streams) streams e in
     value_there InvalidInput (streams_written s) first.0 first.1 ∙ ap Some (not_refused (image_refusals s earlier_len first.0) first.0 streams first.2).1
 
 -- WHAT IS KEPT

@@ -5,12 +5,12 @@ use Rattle.std.specs.FinMap.{contains_key, entries, get, get-entries}
 use Rattle.std.specs.FinMap.Entries.{find, find-put}
 use Rattle.std.specs.Ordering.{eq_by_cmp}
 use Rattle.std.proofs.lemmas.Option.{same_Some}
-use Rattle.msi_compound.specs.Names.{name_cmp}
-use Rattle.msi_compound.specs.Streams as maps
-use Rattle.msi_compound.proofs.NamesLemmas.{names_total, exact_names}
-use Rattle.msi_schema.specs.Keys.{is_stream_name, signature_key, stream_key}
-use Rattle.msi_kept.specs.Kept.{Kept}
-use Rattle.msi_kept.specs.Streams.{Streams, has_stream_at, stream_at}
+use Rattle.msi_container_format.specs.Names.{name_cmp}
+use Rattle.msi_container_format.specs.Streams as maps
+use Rattle.msi_container_format.proofs.NamesLemmas.{names_total, exact_names}
+use Rattle.msi_database_schema.specs.Keys.{is_stream_name, signature_key, stream_key}
+use Rattle.msi_database_storage.specs.Kept.{Kept}
+use Rattle.msi_database_storage.specs.Streams.{Streams, has_stream_at, stream_at}
 use Rattle.msi_database.proofs.MapLemmas as lookups
 use Rattle.msi.specs.State.{State, is_other_name, names_of, other_streams, parts_of}
 use Rattle.msi.specs.Steps.{bytes_of_stream, has_stream}

@@ -1,11 +1,11 @@
 -- In which order calls on streams are refused.
 use Rattle.std.proofs.Common.{◌≡◌, ℕ, Bool, true, false, not, List, [], ◌∷◌, Option, Some, None, is_some, refl, sym, ap, subst, ◌∙◌}
 use Rattle.std.specs.Prelude.{Result, Ok, Err, unwrap_or}
-use Rattle.msi_text.specs.ErrorKind.{ErrorKind}
-use Rattle.msi_text.specs.ErrorKind.TheVariants.{InvalidInput, NotFound}
-use Rattle.msi_relation.specs.Refusals.{Refusals, first_refusal, unless, unless_refused}
-use Rattle.msi_schema.specs.Keys.{is_stream_name, stream_key}
-use Rattle.msi_kept.specs.Streams.{has_stream_at, stream_at}
+use Rattle.msi_text_base.specs.declared.errors.ErrorKind.{ErrorKind}
+use Rattle.msi_text_base.specs.declared.errors.ErrorKind.TheVariants.{InvalidInput, NotFound}
+use Rattle.msi_query_rows.specs.Refusals.{Refusals, first_refusal, unless, unless_refused}
+use Rattle.msi_database_schema.specs.Keys.{is_stream_name, stream_key}
+use Rattle.msi_database_storage.specs.Streams.{has_stream_at, stream_at}
 use Rattle.msi.specs.State.{State, parts_of}
 use Rattle.msi.specs.Steps.{bytes_of_stream, has_stream, name_refusals, storage_refusal}
 use Rattle.msi.specs.Whole.{Whole}
@@ -25,19 +25,12 @@ name_passes : (a : Bool) (key k : List ℕ) → ◌≡◌ {A = Result (List ℕ)
 name_passes true key k e = (refl, cc)
 name_passes false key k e = absurd cc
 
-name_fails : (a : Bool) (kind : ErrorKind) (k : List ℕ) → ◌≡◌ {A = Result (List ℕ) ErrorKind} (Err kind) (unless_refused (refuse_name a) k) → (a ≡ false) × (kind ≡ InvalidInput)
-name_fails true kind k e = absurd cc
-name_fails false kind k e = (refl, cc)
-
 storages_pass : (b : Bool) → ◌≡◌ {A = Result (Unit {0}) ErrorKind} (Ok tt) (unless_refused ((b, InvalidInput) ∷ []) tt) → b ≡ false
 storages_pass true e = absurd cc
 storages_pass false e = refl
 
 two_pass : (a h : Bool) → a ≡ true → h ≡ true → first_refusal (refuse_two a h) ≡ None
 two_pass a h x y = rw (x, y) refl
-
-two_name : (a h : Bool) → a ≡ false → first_refusal (refuse_two a h) ≡ Some InvalidInput
-two_name a h x = rw x refl
 
 two_missing : (a h : Bool) → a ≡ true → h ≡ false → first_refusal (refuse_two a h) ≡ Some NotFound
 two_missing a h x y = rw (x, y) refl
@@ -50,9 +43,6 @@ first_name s a x = rw x refl
 
 accepted_passes : (a : Bool) → a ≡ true → first_refusal (refuse_name a) ≡ None
 accepted_passes a x = rw x refl
-
-not_accepted : (a : Bool) → a ≡ false → first_refusal (refuse_name a) ≡ Some InvalidInput
-not_accepted a x = rw x refl
 
 module _ (s : State) (name : List ℕ) where
   abbrev is_accepted : Bool
@@ -99,22 +89,6 @@ module _ (s : State) (name : List ℕ) where
       removal_missing b told absent =
           sym (ap (λ (o : Option ErrorKind). unless o tt) (three_pass s.has_storages is_accepted is_there (storages_pass s.has_storages passes)
           ∙ two_missing is_accepted is_there key_accepted (sym (there_told b told) ∙ absent)))
-
-  module _ (kind : ErrorKind) (checked : ◌≡◌ {A = Result (List ℕ) ErrorKind} (Err kind) (unless_refused (refuse_name is_accepted) (stream_key name))) where
-    pub read_refused : first_refusal (refuse_two is_accepted is_there) ≡ Some kind
-    read_refused = let is = name_fails is_accepted kind (stream_key name) checked in two_name is_accepted is_there is.0 ∙ ap Some (sym is.1)
-
-    module _ (passes : ◌≡◌ {A = Result (Unit {0}) ErrorKind} (Ok tt) (unless_refused (storage_refusal (parts_of s)) tt)) where
-      pub write_refused : first_refusal (name_refusals (parts_of s) name) ≡ Some kind
-      write_refused =
-          let is = name_fails is_accepted kind (stream_key name) checked in
-          first_name s.has_storages is_accepted (storages_pass s.has_storages passes) ∙ not_accepted is_accepted is.0 ∙ ap Some (sym is.1)
-
-      pub removal_refused : ◌≡◌ {A = Result (Unit {0}) ErrorKind} (Err kind) (unless_refused (refuse_three s.has_storages is_accepted is_there) tt)
-      removal_refused =
-          let is = name_fails is_accepted kind (stream_key name) checked in
-          ap Err is.1 ∙ sym (ap (λ (o : Option ErrorKind). unless o tt) (three_pass s.has_storages is_accepted is_there (storages_pass s.has_storages passes)
-          ∙ two_name is_accepted is_there is.0))
 
 -- what the view of a package passes, the package passes
 abbrev PassesStorages : Whole → Type 0

@@ -1,13 +1,14 @@
 -- A stream that is made and then written.
-use Rattle.std.proofs.Common.{◌≡◌, ℕ, Bool, true, false, cond, List, Option, Some, refl, sym, ap, subst, ◌∙◌}
+use Rattle.std.proofs.Common.{◌≡◌, ℕ, Bool, true, cond, List, Some, sym, ap, subst, ◌∙◌, ◌⊎◌, inl}
 use Rattle.std.specs.FinMap.Entries.{find, find-put, same_entries}
 use Rattle.std.specs.Ordering.{eq_by_cmp}
-use Rattle.msi_compound.specs.Names.{name_cmp}
-use Rattle.msi_compound.proofs.NamesLemmas.{names_total, exact_names}
-use Rattle.msi_schema.specs.Keys.{is_stream_name, stream_key}
-use Rattle.msi_changes.specs.Database.{Database, is_sound}
-use Rattle.msi_kept.specs.Kept.{Kept}
-use Rattle.msi_kept.specs.Streams.{Streams, has_stream_at, with_stream}
+use Rattle.msi_text_base.proofs.BoolLemmas.{cond_twice}
+use Rattle.msi_container_format.specs.Names.{name_cmp}
+use Rattle.msi_container_format.proofs.NamesLemmas.{names_total, exact_names}
+use Rattle.msi_database_schema.specs.Keys.{is_stream_name, stream_key}
+use Rattle.msi_database_changes.specs.Database.{Database, is_sound}
+use Rattle.msi_database_storage.specs.Kept.{Kept}
+use Rattle.msi_database_storage.specs.Streams.{Streams, has_stream_at, with_stream}
 use Rattle.msi_database.specs.Others.{IsOther, with_streams}
 use Rattle.msi_database.proofs.KeyLemmas.{stream_key_unmarked}
 use Rattle.msi_database.proofs.StreamLemmas.{AreSorted, sorted_put}
@@ -18,9 +19,9 @@ use Rattle.msi.proofs.OpenLemmas.{unmarked_is_other}
 pub stream_is_other : (d : Database) (name key : List ℕ) → is_stream_name name ≡ true → key ≡ stream_key name → IsOther d key
 stream_is_other d name key accepted is = subst (IsOther d) (sym is) (unmarked_is_other d (stream_key name) (stream_key_unmarked name accepted))
 
-twice : (b : Bool) (v w x : Option (List ℕ)) → cond b w (cond b v x) ≡ cond b w x
-twice true v w x = refl
-twice false v w x = refl
+-- what is lent ends alike where its values do
+pub lent_same : {G L R : Type 0} {g : G} {f h : L → R} → ((w : L) → f w ≡ h w) → ◌≡◌ {A = (G × (L → R)) ⊎ R} (inl (g, f)) (inl (g, h))
+lent_same {g = g} same i = inl (g, λ w. same w i)
 
 -- a stream put twice is what was put last
 pub put_twice : (key v w : List ℕ) (streams : Streams) → AreSorted streams → with_stream key w (with_stream key v streams) ≡ with_stream key w streams
@@ -29,7 +30,7 @@ put_twice key v w streams sorted =
     (sorted_put key w (with_stream key v streams) (sorted_put key v streams sorted)) (sorted_put key w streams sorted)
     (λ q. find-put name_cmp names_total q key w (with_stream key v streams)
     ∙ ap (cond (eq_by_cmp name_cmp q key) (Some w)) (find-put name_cmp names_total q key v streams)
-    ∙ twice (eq_by_cmp name_cmp q key) (Some v) (Some w) (find name_cmp q streams)
+    ∙ cond_twice (eq_by_cmp name_cmp q key) (Some v) (Some w) (find name_cmp q streams)
     ∙ sym (find-put name_cmp names_total q key w streams))
 
 -- the stream that was made lies open

@@ -2,19 +2,19 @@
 use Rattle.std.proofs.Common.{◌≡◌, ℕ, ◌<◌, ◌^◌, true, List, [], ◌∷◌, ◌++◌, refl, sym, ap, subst, lit<, inl, inr}
 use Rattle.std.specs.Prelude.{is_some, Result}
 use Rattle.std.specs.List.{AllByRecursion}
-use Rattle.msi_text.specs.CodePage.{CodePage}
-use Rattle.msi_text.specs.CodePage.TheVariants as page
-use Rattle.msi_text.specs.ErrorKind.{ErrorKind}
+use Rattle.msi_text_base.specs.declared.codepage.CodePage.{CodePage}
+use Rattle.msi_text_base.specs.declared.codepage.CodePage.TheVariants as page
+use Rattle.msi_text_base.specs.declared.errors.ErrorKind.{ErrorKind}
 use Rattle.msi_text.specs.Spellings.{language_list_text, braced_uuid_text}
-use Rattle.msi_property.specs.declared.propset.PropertyValue.{PropertyValue}
-use Rattle.msi_property.specs.declared.propset.PropertyValue.TheVariants.{I4, LpStr, FileTime}
-use Rattle.msi_property.specs.declared.propset.OperatingSystem.TheVariants as os
-use Rattle.msi_property.specs.Properties.{Properties, with_value, without_value, with_page, page_value, can_set, new_set}
-use Rattle.msi_property.specs.PropertyStream.{FitsValue}
-use Rattle.msi_property.specs.PropertyLaws.{IsKept}
+use Rattle.msi_summary_properties.specs.declared.propset.PropertyValue.{PropertyValue}
+use Rattle.msi_summary_properties.specs.declared.propset.PropertyValue.TheVariants.{I4, LpStr, FileTime}
+use Rattle.msi_summary_properties.specs.declared.propset.OperatingSystem.TheVariants as os
+use Rattle.msi_summary_properties.specs.Properties.{Properties, with_value, without_value, with_page, page_value, can_set, new_set}
+use Rattle.msi_summary_properties.specs.PropertyStream.{FitsValue}
+use Rattle.msi_summary_properties.specs.PropertyLaws.{IsKept}
 use Rattle.msi_summary.specs.Summary as summary
-use Rattle.msi_property.proofs.KeptSetLemmas.{IsKept-with_value, IsKept-without_value}
-use Rattle.msi_property.proofs.PropertiesLemmas.{page_in-page_value}
+use Rattle.msi_summary_properties.proofs.KeptSetLemmas.{IsKept-with_value, IsKept-without_value}
+use Rattle.msi_summary_properties.proofs.PropertiesLemmas.{page_in-page_value}
 use Rattle.msi.specs.Calls.{Clearing, SummaryCall, SummaryAnswer}
 use Rattle.msi.specs.Calls as calls
 use Rattle.msi.specs.Lent.{RunsTo, Gives, FitsSummaryCall, summary_cleared, summary_after, summary_outcome, summary_wants_memory}

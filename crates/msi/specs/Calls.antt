@@ -1,11 +1,11 @@
 -- The calls on a package, as values, and what they answer.
 use Rattle.std.specs.Prelude.{ℕ, Bool, List, Option, ℤ, Result}
-use Rattle.msi_text.specs.CodePage.{CodePage}
-use Rattle.msi_text.specs.ErrorKind.{ErrorKind}
+use Rattle.msi_text_base.specs.declared.codepage.CodePage.{CodePage}
+use Rattle.msi_text_base.specs.declared.errors.ErrorKind.{ErrorKind}
 use Rattle.msi_summary.specs.Summary.{TextProperty, NumberProperty, TimeProperty}
-use Rattle.msi_value.specs.declared.value.Value.{Value}
+use Rattle.msi_table_values.specs.declared.value.Value.{Value}
 use Rattle.msi_table.specs.Tables.{TableDef}
-use Rattle.msi_value.specs.Columns.{ColumnDef}
+use Rattle.msi_table_values.specs.Columns.{ColumnDef}
 use Rattle.msi_query.specs.Queries.{Query, InsertQuery, UpdateQuery, DeleteQuery}
 use Rattle.msi.specs.declared.kinds.PackageType.{PackageType}
 

@@ -1,18 +1,19 @@
 -- What a flush does to the streams of a package, and to what its device holds.
-use Rattle.std.specs.Prelude.{◌≡◌, ℕ, ◌⊎◌, Bool, true, false, List, [], ◌∷◌, ◌++◌, length, take, drop, Option, Some, option_and_then, option_map, IfSome, Result, Ok, Err, MatchBool, if◌then◌else◌}
+use Rattle.std.specs.Prelude.{◌≡◌, ℕ, ◌⊎◌, Bool, true, false, List, [], ◌∷◌, ◌++◌, length, take, drop, Option, Some}
+use Rattle.std.specs.Prelude.{option_and_then, option_map, IfSome, Result, Ok, Err, MatchBool, if◌then◌else◌}
 use Rattle.std.specs.List.{AllByRecursion}
 use Rattle.std.specs.FinMap.{from_sorted}
-use Rattle.msi_text.specs.ErrorKind.{ErrorKind}
-use Rattle.msi_text.specs.ErrorKind.TheVariants.{InvalidInput, Io, OutOfMemory}
-use Rattle.msi_text.specs.Pool.{Pool}
-use Rattle.msi_property.specs.Properties.{Properties}
-use Rattle.msi_device.specs.Held.{Held, bytes_told}
-use Rattle.msi_compound.specs.declared.contents.Contents.{Contents}
-use Rattle.msi_compound_write.specs.Layout.{layout, refuses}
-use Rattle.msi_schema.specs.Keys.{summary_key}
-use Rattle.msi_changes.specs.Database.{Database}
-use Rattle.msi_kept.specs.Kept.{Kept}
-use Rattle.msi_kept.specs.Streams.{Streams, with_stream}
+use Rattle.msi_text_base.specs.declared.errors.ErrorKind.{ErrorKind}
+use Rattle.msi_text_base.specs.declared.errors.ErrorKind.TheVariants.{InvalidInput, Io, OutOfMemory}
+use Rattle.msi_text_pool.specs.Pool.{Pool}
+use Rattle.msi_summary_properties.specs.Properties.{Properties}
+use Rattle.msi_container_device.specs.Held.{Held, bytes_told}
+use Rattle.msi_container_format.specs.declared.contents.Contents.{Contents}
+use Rattle.msi_container_write.specs.Layout.{layout, refuses}
+use Rattle.msi_database_schema.specs.Keys.{summary_key}
+use Rattle.msi_database_changes.specs.Database.{Database}
+use Rattle.msi_database_storage.specs.Kept.{Kept}
+use Rattle.msi_database_storage.specs.Streams.{Streams, with_stream}
 use Rattle.msi_database.specs.Others.{IsOther}
 use Rattle.msi.specs.declared.kinds.PackageType.{PackageType}
 use Rattle.msi.specs.Kinds.{clsid_of}

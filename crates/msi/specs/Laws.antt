@@ -1,20 +1,22 @@
 -- What holds of every step, of runs, and of what bytes mean: statements that public contracts name.
 use Rattle.std.specs.Prelude.{◌≡◌, ℕ, ◌<◌, ◌^◌, ◌⊎◌, true, false, List, length, Some, Result, Ok, Err}
 use Rattle.std.specs.List.{AllByRecursion}
-use Rattle.msi_text.specs.ErrorKind.{ErrorKind}
-use Rattle.msi_text.specs.ErrorKind.TheVariants.{Io, OutOfMemory}
-use Rattle.msi_compound.specs.declared.contents.Contents.{Contents}
-use Rattle.msi_schema.specs.Keys.{is_stream_name, stream_key}
-use Rattle.msi_changes.specs.Database.{Database, CountsAreExact, is_sound}
-use Rattle.msi_changes.specs.Laws.{KeysAreDistinct}
-use Rattle.msi_kept.specs.Streams.{Streams, with_stream, without_stream}
+use Rattle.msi_text_base.specs.declared.errors.ErrorKind.{ErrorKind}
+use Rattle.msi_text_base.specs.declared.errors.ErrorKind.TheVariants.{Io, OutOfMemory}
+use Rattle.msi_container_format.specs.declared.contents.Contents.{Contents}
+use Rattle.msi_database_schema.specs.Keys.{is_stream_name, stream_key}
+use Rattle.msi_database_changes.specs.Database.{Database, CountsAreExact, is_sound}
+use Rattle.msi_database_changes.specs.Laws.{KeysAreDistinct}
+use Rattle.msi_database_storage.specs.Streams.{Streams, with_stream, without_stream}
 use Rattle.msi.specs.declared.kinds.PackageType.{PackageType}
 use Rattle.msi.specs.State.{Parts, State, parts_of}
 use Rattle.msi.specs.Meaning.{ContentsMean, IsPackage, Means, OpenStep, OpensTo, Passes}
 use Rattle.msi.specs.Calls.{Call, Answer}
 use Rattle.msi.specs.Calls as calls
-use Rattle.msi.specs.Steps.{Step, outcome, is_lending, image_of, streams_written, as_written, with_streams, without_signature}
-use Rattle.msi.specs.Runs.{Session, SessionStep, Run, FitsCall, TextsAreWritable, HoldsPackage, IsSession, IsReplay, created, created_over, opened}
+use Rattle.msi.specs.Steps.{Step, outcome, is_lending, image_of, streams_written, as_written, with_streams}
+use Rattle.msi.specs.Steps.{without_signature}
+use Rattle.msi.specs.Runs.{Session, SessionStep, Run, FitsCall, TextsAreWritable, HoldsPackage, IsSession, IsReplay}
+use Rattle.msi.specs.Runs.{created, created_over, opened}
 
 -- each of them is a byte
 abbrev pub AreBytes : List ℕ → Type 0

@@ -1,12 +1,14 @@
 -- The calls on what a package lends: its summary, and the bytes of a stream with a place.
-use Rattle.std.specs.Prelude.{◌≡◌, ℕ, ◌+◌, ◌^◌, ◌<◌, ◌⊎◌, Bool, true, false, List, [], ◌∷◌, ◌++◌, length, take, drop, ◌&&◌, if◌then◌else◌, IsTrue, ℤ, pos, ◌+ℤ◌, int_le, nat_abs, Result, Ok, Err}
+use Rattle.std.specs.Prelude.{◌≡◌, ℕ, ◌+◌, ◌^◌, ◌<◌, ◌⊎◌, Bool, true, false, List, [], ◌∷◌, ◌++◌, length, take, drop}
+use Rattle.std.specs.Prelude.{◌&&◌, if◌then◌else◌, IsTrue, ℤ, pos, ◌+ℤ◌, int_le, nat_abs, Result, Ok, Err}
 use Rattle.std.specs.Int.{w32}
 use Rattle.std.specs.Int.RustNames.{FitsSigned}
-use Rattle.msi_text.specs.ErrorKind.{ErrorKind}
-use Rattle.msi_text.specs.ErrorKind.TheVariants.{InvalidInput, OutOfMemory}
-use Rattle.msi_property.specs.Properties.{Properties, without_value, with_page, page_of}
+use Rattle.msi_text_base.specs.declared.errors.ErrorKind.{ErrorKind}
+use Rattle.msi_text_base.specs.declared.errors.ErrorKind.TheVariants.{InvalidInput, OutOfMemory}
+use Rattle.msi_summary_properties.specs.Properties.{Properties, without_value, with_page, page_of}
 use Rattle.msi_summary.specs.Summary as summary
-use Rattle.msi.specs.Calls.{SummaryQuestion, Clearing, SummaryCall, SummaryAnswer, ReaderCall, WriterCall, StreamAnswer, SeekTo}
+use Rattle.msi.specs.Calls.{SummaryQuestion, Clearing, SummaryCall, SummaryAnswer, ReaderCall, WriterCall, StreamAnswer}
+use Rattle.msi.specs.Calls.{SeekTo}
 use Rattle.msi.specs.Calls as calls
 
 -- what a call gives: its outcome; or it is refused for want of memory, and changes nothing

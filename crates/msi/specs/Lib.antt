@@ -10,6 +10,13 @@ pub mod Whole
 pub mod Laws
 pub mod Selected
 pub mod Lending
-pub mod Packing
 pub mod Flushing
 pub mod Opening
+-- The words of the families below, which public clauses cite.
+pub mod Text
+pub mod Container
+pub mod Summary
+pub mod Table
+pub mod Query
+pub mod Database
+pub mod Streams

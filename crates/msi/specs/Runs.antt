@@ -1,16 +1,17 @@
 -- Runs of calls on a package, and what its bytes mean in the end.
-use Rattle.std.specs.Prelude.{◌≡◌, ℕ, ◌⊎◌, Bool, true, false, List, [], ◌∷◌, ◌++◌, length, take, drop, unwrap_or, Result, Ok, Err, MatchBool}
+use Rattle.std.specs.Prelude.{◌≡◌, ℕ, ◌⊎◌, Bool, true, false, List, [], ◌∷◌, ◌++◌, length, take, drop, unwrap_or}
+use Rattle.std.specs.Prelude.{Result, Ok, Err, MatchBool}
 use Rattle.std.specs.List.{AllByRecursion}
 use Rattle.std.specs.Str.{IsUtf8}
-use Rattle.msi_relation.specs.Refusals.{◌>>=◌}
-use Rattle.msi_text.specs.ErrorKind.{ErrorKind}
-use Rattle.msi_text.specs.ErrorKind.TheVariants.{Io, OutOfMemory}
-use Rattle.msi_text.specs.Pool as pools
+use Rattle.msi_query_rows.specs.Refusals.{◌>>=◌}
+use Rattle.msi_text_base.specs.declared.errors.ErrorKind.{ErrorKind}
+use Rattle.msi_text_base.specs.declared.errors.ErrorKind.TheVariants.{Io, OutOfMemory}
+use Rattle.msi_text_pool.specs.Pool as pools
 use Rattle.msi_summary.specs.Summary.{new_summary}
-use Rattle.msi_property.specs.PropertyStream as properties
-use Rattle.msi_compound_write.specs.Layout.{layout}
-use Rattle.msi_changes.specs.Database.{CountsAreExact}
-use Rattle.msi_changes.specs.Laws.{KeysAreDistinct}
+use Rattle.msi_summary_properties.specs.PropertyStream as properties
+use Rattle.msi_container_write.specs.Layout.{layout}
+use Rattle.msi_database_changes.specs.Database.{CountsAreExact}
+use Rattle.msi_database_changes.specs.Laws.{KeysAreDistinct}
 use Rattle.msi_database.specs.Fresh as databases
 use Rattle.msi.specs.declared.kinds.PackageType.{PackageType}
 use Rattle.msi.specs.Kinds.{title_of}

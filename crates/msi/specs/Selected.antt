@@ -1,9 +1,9 @@
 -- The rows that a query gives, as callers see them.
 use Rattle.std.specs.Prelude.{◌≡◌, Result, Ok, Err}
-use Rattle.msi_text.specs.ErrorKind.{ErrorKind}
+use Rattle.msi_text_base.specs.declared.errors.ErrorKind.{ErrorKind}
 use Rattle.msi_table.specs.Rows.{RowsDef}
-use Rattle.msi_relation.specs.Rows.{rows_values}
-use Rattle.msi_relation.specs.Selection.{Relation}
+use Rattle.msi_query_rows.specs.Rows.{rows_values}
+use Rattle.msi_query_rows.specs.Selection.{Relation}
 
 -- columns and rows of what is selected; its name is not told
 abbrev pub Selects : Result Relation ErrorKind → RowsDef → Type 0

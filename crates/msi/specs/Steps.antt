@@ -1,37 +1,40 @@
 -- What each call on a package answers and leaves.
-use Rattle.std.specs.Prelude.{◌≡◌, ℕ, ◌⊎◌, Bool, true, false, not, List, [], ◌∷◌, ◌++◌, map, filter, Option, Some, None, option_map, option_and_then, unwrap_or, ◌&&◌, ◌||◌, if◌then◌else◌, IsTrue, bytes_eq, encode_utf8_all, Result, Ok, Err, MatchBool}
+use Rattle.std.specs.Prelude.{◌≡◌, ℕ, ◌⊎◌, Bool, true, false, not, List, [], ◌∷◌, ◌++◌, map, filter, Option, Some, None}
+use Rattle.std.specs.Prelude.{option_map, option_and_then, unwrap_or, ◌&&◌, ◌||◌, if◌then◌else◌, IsTrue, Result, Ok}
+use Rattle.std.specs.Prelude.{Err, MatchBool}
 use Rattle.std.specs.FinMap.{from_sorted}
-use Rattle.std.specs.Char.Utf16.{utf16_lossy_chars}
-use Rattle.msi_text.specs.CodePage.{CodePage}
-use Rattle.msi_text.specs.ErrorKind.{ErrorKind}
-use Rattle.msi_text.specs.ErrorKind.TheVariants.{InvalidInput, NotFound, Io, OutOfMemory}
-use Rattle.msi_text.specs.Pool.{Pool, pool_stream, data_stream}
-use Rattle.msi_text.specs.PoolWriting.{is_refused}
-use Rattle.msi_property.specs.Properties.{Properties}
-use Rattle.msi_property.specs.PropertyStream.{property_stream}
-use Rattle.msi_property.specs.PropertyWriting as properties
-use Rattle.msi_compound.specs.declared.contents.Contents.{Contents}
-use Rattle.msi_compound.specs.StreamNames.{decoded_name, is_marked}
-use Rattle.msi_compound_write.specs.Layout.{layout, refuses}
-use Rattle.msi_relation.specs.Refusals.{Refusals, first_refusal, unless_refused, or_refused, ◌>>=◌}
-use Rattle.msi_relation.specs.Selection.{relation_of}
-use Rattle.msi_schema.specs.Keys.{is_stream_name, stream_key, table_key, summary_key, document_summary_key, signature_key, signature_ex_key, string_pool_name, string_data_name}
-use Rattle.msi_changes.specs.Database.{Database, has_table, values_of}
-use Rattle.msi_changes.specs.Changes.{Change, sound_refusal}
-use Rattle.msi_changes.specs.Insert.{insert_rows}
-use Rattle.msi_changes.specs.Update.{update_rows}
-use Rattle.msi_changes.specs.Delete.{delete_rows}
-use Rattle.msi_changes.specs.Create.{create_table}
-use Rattle.msi_changes.specs.Drop.{drop_table}
-use Rattle.msi_kept.specs.Streams.{Streams, stream_at, has_stream_at, with_stream, without_stream}
-use Rattle.msi_kept.specs.Kept as databases
+use Rattle.msi_text_base.specs.declared.codepage.CodePage.{CodePage}
+use Rattle.msi_text_base.specs.declared.errors.ErrorKind.{ErrorKind}
+use Rattle.msi_text_base.specs.declared.errors.ErrorKind.TheVariants.{InvalidInput, NotFound, Io, OutOfMemory}
+use Rattle.msi_text_pool.specs.Pool.{Pool, pool_stream, data_stream}
+use Rattle.msi_text_pool.specs.PoolWriting.{is_refused}
+use Rattle.msi_summary_properties.specs.Properties.{Properties}
+use Rattle.msi_summary_properties.specs.PropertyStream.{property_stream}
+use Rattle.msi_summary_properties.specs.PropertyWriting as properties
+use Rattle.msi_container_format.specs.declared.contents.Contents.{Contents}
+use Rattle.msi_container_write.specs.Layout.{layout, refuses}
+use Rattle.msi_query_rows.specs.Refusals.{Refusals, first_refusal, unless_refused, or_refused, ◌>>=◌}
+use Rattle.msi_query_rows.specs.Selection.{relation_of}
+use Rattle.msi_database_schema.specs.Keys.{is_stream_name, stream_key, table_key, summary_key, signature_key}
+use Rattle.msi_database_schema.specs.Keys.{signature_ex_key, string_pool_name, string_data_name}
+use Rattle.msi_database_changes.specs.Database.{Database, has_table, values_of}
+use Rattle.msi_database_changes.specs.Changes.{Change, sound_refusal}
+use Rattle.msi_database_changes.specs.Insert.{insert_rows}
+use Rattle.msi_database_changes.specs.Update.{update_rows}
+use Rattle.msi_database_changes.specs.Delete.{delete_rows}
+use Rattle.msi_database_changes.specs.Create.{create_table}
+use Rattle.msi_database_changes.specs.Drop.{drop_table}
+use Rattle.msi_database_storage.specs.Streams.{Streams, stream_at, has_stream_at, with_stream, without_stream}
+use Rattle.msi_database_storage.specs.Kept as databases
 use Rattle.msi_database.specs.Listed.{table_def_at, tables_listed}
 use Rattle.msi_database.specs.Listed as listed
+use Rattle.msi_streams.specs.Listing.{is_listed, text_of_key}
 use Rattle.msi.specs.Kinds.{clsid_of}
 use Rattle.msi.specs.State.{Parts, State, parts_of}
 use Rattle.msi.specs.Calls.{Call, Answer}
 use Rattle.msi.specs.Calls as calls
-use Rattle.msi.specs.Lent.{RunsTo, summary_outcome, summary_wants_memory, reader_outcome, reader_wants_memory, writer_outcome, writer_wants_memory, Cursor, at_start}
+use Rattle.msi.specs.Lent.{RunsTo, summary_outcome, summary_wants_memory, reader_outcome, reader_wants_memory}
+use Rattle.msi.specs.Lent.{writer_outcome, writer_wants_memory, Cursor, at_start}
 
 -- what a change of tables leaves
 abbrev pub after_change : State → Change → State
@@ -59,15 +62,8 @@ with_streams edit s = record s { kept = record s.kept { streams = edit s.kept.st
 abbrev pub without_signature : Streams → Streams
 without_signature streams = without_stream signature_key (without_stream signature_ex_key streams)
 
-abbrev pub is_listed_stream : List ℕ → Bool
-is_listed_stream name = not (is_marked name || bytes_eq name summary_key || bytes_eq name document_summary_key
-    || bytes_eq name signature_key || bytes_eq name signature_ex_key)
-
-abbrev pub text_of_key : List ℕ → List ℕ
-text_of_key name = encode_utf8_all (decoded_name (utf16_lossy_chars name)).0
-
 abbrev pub stream_names : Parts → List (List ℕ)
-stream_names p = map (λ s. text_of_key s.0) (filter (λ s. is_listed_stream s.0) p.streams)
+stream_names p = map (λ s. text_of_key s.0) (filter (λ s. is_listed s.0) p.streams)
 
 abbrev pub has_stream : Parts → List ℕ → Bool
 has_stream p name = is_stream_name name && has_stream_at (stream_key name) p.streams

@@ -1,19 +1,19 @@
 //! Changes of a package's tables.
 
 ghost use Rattle.std.specs.Prelude.{◌≡◌, ◌++◌, IfErr, OnErr, OnOk};
-ghost use Rattle.msi_relation.specs.Refusals.{IsRefusal, unless_refused};
-ghost use Rattle.msi_changes.specs.Changes.{sound_refusal};
-ghost use Rattle.msi_changes.specs.Create as creates;
-ghost use Rattle.msi_changes.specs.Delete as deletes;
-ghost use Rattle.msi_changes.specs.Drop as drops;
-ghost use Rattle.msi_changes.specs.Insert as inserts;
-ghost use Rattle.msi_changes.specs.Update as updates;
+ghost use Rattle.msi_query_rows.specs.Refusals.{IsRefusal, unless_refused};
+ghost use Rattle.msi_database_changes.specs.Changes.{sound_refusal};
+ghost use Rattle.msi_database_changes.specs.Create as creates;
+ghost use Rattle.msi_database_changes.specs.Delete as deletes;
+ghost use Rattle.msi_database_changes.specs.Drop as drops;
+ghost use Rattle.msi_database_changes.specs.Insert as inserts;
+ghost use Rattle.msi_database_changes.specs.Update as updates;
 ghost use Rattle.msi.specs.State.{parts_of};
 ghost use Rattle.msi.specs.Steps.{changing, storage_refusal, with_page};
 ghost use Rattle.msi.specs.Whole.{Leaves, with_state};
 
 use crate::package::{Package, settle};
-use msi_device::Source;
+use msi_container_device::Source;
 use msi_query::{Delete, Insert, Update};
 use msi_table::column::Column;
 use msi_text::codepage::CodePage;
@@ -21,11 +21,11 @@ use msi_text::errors::Error;
 use msi_text::text::{IntoText, Items};
 
 impl<F: Source> Package<F> {
-    /// Sets the page in which the texts of the database are written. It takes no memory.
+    /// Sets the code page of the texts of the database. It takes no memory.
     ///
     /// # Errors
-    /// `InvalidInput` with storages below the root, else `InvalidData` where the package isn't sound. Then nothing is
-    /// changed.
+    /// Fails with `InvalidInput` if storages lie below the root, and otherwise with `InvalidData` if the package
+    /// isn't sound. Then nothing has changed.
     pub fn set_database_codepage(&mut self, page: CodePage) -> Result<(), Error>
         ensures answer { let s = self.old.state in
             result ≡ unless_refused (storage_refusal (parts_of s) ++ sound_refusal s.kept.database) tt }
@@ -33,27 +33,22 @@ impl<F: Source> Package<F> {
         ensures same { OnErr result (self.new ≡ self.old) }
     {
         self.check_storages()?;
-        settle(
-            self.alloc,
-            &mut self.database,
-            &mut self.open,
-            &mut self.current,
-        );
+        settle(&mut self.database, &mut self.open, &mut self.current);
         self.database.set_codepage(page)?;
         self.is_unwritten = true;
         self.is_pool_changed = true;
         Ok(())
     }
 
-    /// Puts rows into a table.
+    /// Inserts rows into a table.
     ///
     /// # Errors
-    /// The first that holds: `InvalidInput` with storages below the root; `InvalidData` where the package isn't sound;
-    /// `InvalidInput` for a system table; `NotFound` where there is none; row by row `InvalidInput` for a wrong number
-    /// of values and for an invalid one; `InvalidData` where two stored rows share a key; row by row `AlreadyExists`
-    /// where the key is stored, and `InvalidInput` where an earlier new row has it; `InvalidInput` above 65536 rows,
-    /// and where the pool has no place left. Where none holds, `OutOfMemory`, which also may come before. Then nothing
-    /// is changed.
+    /// Fails with the first of these that applies: `InvalidInput` if storages lie below the root; `InvalidData` if
+    /// the package isn't sound; `InvalidInput` for a system table; `NotFound` if there is none; row by row
+    /// `InvalidInput` for a wrong number of values and for an invalid one; `InvalidData` if two stored rows share a
+    /// key; row by row `AlreadyExists` if the key is stored, and `InvalidInput` if an earlier new row has it;
+    /// `InvalidInput` above 65536 rows, and if the pool has no place left. If none applies, it fails with
+    /// `OutOfMemory`, which may also come in place of the others. Then nothing has changed.
     pub fn insert_rows(&mut self, query: Insert) -> Result<(), Error>
         ensures ok { let change = changing (parts_of self.old.state) (λ d. inserts.insert_rows d query) in
             OnOk result (Leaves self.old change self.new) }
@@ -62,26 +57,21 @@ impl<F: Source> Package<F> {
             IfErr result (IsRefusal change) }
     {
         self.check_storages()?;
-        settle(
-            self.alloc,
-            &mut self.database,
-            &mut self.open,
-            &mut self.current,
-        );
+        settle(&mut self.database, &mut self.open, &mut self.current);
         let is_pool_used = self.database.insert_rows(query)?;
-        self.is_unwritten = true;
-        self.is_pool_changed |= is_pool_used;
+        self.note_change(is_pool_used);
         Ok(())
     }
 
     /// Sets columns in the rows of a table that meet a condition.
     ///
     /// # Errors
-    /// The first that holds: `InvalidInput` with storages below the root; `InvalidData` where the package isn't sound;
-    /// `InvalidInput` for a system table, but for Description in `_Validation`; `NotFound` where there is none;
-    /// `InvalidInput` where a column that is set isn't there or doesn't take its value, and where one of the condition
-    /// isn't there; `AlreadyExists` where two rows would share a key; `InvalidInput` where the pool has no place left.
-    /// Where none holds, `OutOfMemory`, which also may come before. Then nothing is changed.
+    /// Fails with the first of these that applies: `InvalidInput` if storages lie below the root; `InvalidData` if
+    /// the package isn't sound; `InvalidInput` for a system table, but for Description in `_Validation`; `NotFound`
+    /// if there is none; `InvalidInput` if a column that is set isn't there or doesn't take its value, and if one of
+    /// the condition isn't there; `AlreadyExists` if two rows would share a key; `InvalidInput` if the pool has no
+    /// place left. If none applies, it fails with `OutOfMemory`, which may also come in place of the others. Then
+    /// nothing has changed.
     pub fn update_rows(&mut self, query: Update) -> Result<(), Error>
         ensures ok { let change = changing (parts_of self.old.state) (λ d. updates.update_rows d query) in
             OnOk result (Leaves self.old change self.new) }
@@ -90,24 +80,19 @@ impl<F: Source> Package<F> {
             IfErr result (IsRefusal change) }
     {
         self.check_storages()?;
-        settle(
-            self.alloc,
-            &mut self.database,
-            &mut self.open,
-            &mut self.current,
-        );
+        settle(&mut self.database, &mut self.open, &mut self.current);
         let is_pool_used = self.database.update_rows(query)?;
-        self.is_unwritten = true;
-        self.is_pool_changed |= is_pool_used;
+        self.note_change(is_pool_used);
         Ok(())
     }
 
-    /// Takes out the rows of a table that meet a condition.
+    /// Deletes the rows of a table that meet a condition.
     ///
     /// # Errors
-    /// The first that holds: `InvalidInput` with storages below the root; `InvalidData` where the package isn't sound;
-    /// `InvalidInput` for a system table; `NotFound` where there is none; `InvalidInput` where a column of the
-    /// condition isn't there. Where none holds, `OutOfMemory`, which also may come before. Then nothing is changed.
+    /// Fails with the first of these that applies: `InvalidInput` if storages lie below the root; `InvalidData` if
+    /// the package isn't sound; `InvalidInput` for a system table; `NotFound` if there is none; `InvalidInput` if a
+    /// column of the condition isn't there. If none applies, it fails with `OutOfMemory`, which may also come in
+    /// place of the others. Then nothing has changed.
     pub fn delete_rows(&mut self, query: Delete) -> Result<(), Error>
         ensures ok { let change = changing (parts_of self.old.state) (λ d. deletes.delete_rows d query) in
             OnOk result (Leaves self.old change self.new) }
@@ -116,28 +101,22 @@ impl<F: Source> Package<F> {
             IfErr result (IsRefusal change) }
     {
         self.check_storages()?;
-        settle(
-            self.alloc,
-            &mut self.database,
-            &mut self.open,
-            &mut self.current,
-        );
+        settle(&mut self.database, &mut self.open, &mut self.current);
         let is_pool_used = self.database.delete_rows(query)?;
-        self.is_unwritten = true;
-        self.is_pool_changed |= is_pool_used;
+        self.note_change(is_pool_used);
         Ok(())
     }
 
-    /// Makes a table without rows.
+    /// Creates a table without rows.
     ///
     /// # Errors
-    /// The first that holds: `InvalidInput` with storages below the root; `InvalidData` where the package isn't sound;
-    /// `InvalidInput` for a name that no table may have, for no columns or more than 32 of them, where none is of the
-    /// key, where a column's name is no identifier or repeated, where a length is above 255, where a binary column is
-    /// of the key or localizable, and where one of a column's values has a `;`; `AlreadyExists` where there is a table
-    /// of this name; `NotFound` where `_Validation` isn't there; then as for the rows that describe the table, put
-    /// into `_Columns`, `_Tables` and `_Validation` in turn. Where none holds, `OutOfMemory`, which also may come
-    /// before. Then nothing is changed.
+    /// Fails with the first of these that applies: `InvalidInput` if storages lie below the root; `InvalidData` if
+    /// the package isn't sound; `InvalidInput` for a name that no table may have, for no columns or more than 32 of
+    /// them, if none is of the key, if a column's name is no identifier or repeated, if a length is above 255, if a
+    /// binary column is of the key or localizable, and if one of a column's values has a `;`; `AlreadyExists` if
+    /// there is a table of this name; `NotFound` if `_Validation` isn't there; then as for the rows that describe the
+    /// table, put into `_Columns`, `_Tables` and `_Validation` in turn. If none applies, it fails with `OutOfMemory`,
+    /// which may also come in place of the others. Then nothing has changed.
     pub fn create_table<S: IntoText>(&mut self, name: S, columns: Vec<Column>) -> Result<(), Error>
         ensures ok { let change = changing (parts_of self.old.state)
             (λ d. creates.create_table d (S.text name) columns.items) in
@@ -151,7 +130,7 @@ impl<F: Source> Package<F> {
         self.make_table(name.as_str(), Items::from_vec(columns))
     }
 
-    /// Makes a table without rows.
+    /// Creates a table without rows.
     ///
     /// # Errors
     /// Those of `create_table`.
@@ -165,24 +144,19 @@ impl<F: Source> Package<F> {
             IfErr result (IsRefusal change) }
     {
         self.check_storages()?;
-        settle(
-            self.alloc,
-            &mut self.database,
-            &mut self.open,
-            &mut self.current,
-        );
+        settle(&mut self.database, &mut self.open, &mut self.current);
         let is_pool_used = self.database.create_table(name, columns)?;
-        self.is_unwritten = true;
-        self.is_pool_changed |= is_pool_used;
+        self.note_change(is_pool_used);
         Ok(())
     }
 
-    /// Takes a table out, with its rows and all that describes it.
+    /// Drops a table, with its rows and all that describes it.
     ///
     /// # Errors
-    /// The first that holds: `InvalidInput` with storages below the root; `InvalidData` where the package isn't sound;
-    /// `InvalidInput` for a system table and for a name that no table may have; `NotFound` where there is none. Where
-    /// none holds, `OutOfMemory`, which also may come before. Then nothing is changed.
+    /// Fails with the first of these that applies: `InvalidInput` if storages lie below the root; `InvalidData` if
+    /// the package isn't sound; `InvalidInput` for a system table and for a name that no table may have; `NotFound`
+    /// if there is none. If none applies, it fails with `OutOfMemory`, which may also come in place of the others.
+    /// Then nothing has changed.
     pub fn drop_table(&mut self, name: &str) -> Result<(), Error>
         ensures ok { let change = changing (parts_of self.old.state) (λ d. drops.drop_table d name.now) in
             OnOk result (Leaves self.old change self.new) }
@@ -191,15 +165,9 @@ impl<F: Source> Package<F> {
             IfErr result (IsRefusal change) }
     {
         self.check_storages()?;
-        settle(
-            self.alloc,
-            &mut self.database,
-            &mut self.open,
-            &mut self.current,
-        );
+        settle(&mut self.database, &mut self.open, &mut self.current);
         let is_pool_used = self.database.drop_table(name)?;
-        self.is_unwritten = true;
-        self.is_pool_changed |= is_pool_used;
+        self.note_change(is_pool_used);
         Ok(())
     }
 }

@@ -1,4 +1,4 @@
-//! New packages, and packages given back as their devices.
+//! Creating packages, and turning them back into their devices.
 
 ghost use Rattle.std.specs.Prelude.{◌≡◌, IfErr, IfOk, false};
 ghost use Rattle.msi.specs.Runs.{fresh};
@@ -7,20 +7,20 @@ ghost use Rattle.msi.specs.Whole.{Whole};
 
 use crate::kinds::PackageType;
 use crate::package::Package;
+use msi_container_device::Device;
 use msi_database::Database;
-use msi_device::Device;
-use msi_stream::OpenStream;
+use msi_streams::OpenStream;
 use msi_summary::parts::new_summary;
 use msi_text::errors::Error;
 use std::alloc::Global;
 
 impl<F: Device + Drop> Package<F> {
-    /// A new package, written over all that a device holds. It has no table but the system's, and a summary with a
-    /// title.
+    /// Creates a package and writes it over all that a device has. It has the system tables alone, and a summary with
+    /// a title.
     ///
     /// # Errors
-    /// `OutOfMemory`. `Io` where a call of the device failed. `InvalidInput` where the device holds so many bytes that
-    /// the file would pass 2^31.
+    /// Fails with `OutOfMemory`, with `Io` if a call of the device failed, or with `InvalidInput` if the device holds
+    /// so many bytes that the file would pass 2^31.
     pub fn create(alloc: Global, kind: PackageType, inner: F) -> Result<Package<F>, Error>
         ensures state { IfOk result (λ made. made.state ≡ fresh kind) }
         ensures held { IfOk result (λ made. IsCreated kind (told (F.held inner) (F.failed inner)) made) }
@@ -46,10 +46,11 @@ impl<F: Device + Drop> Package<F> {
 }
 
 impl<F: Device> Package<F> {
-    /// The device, after a flush. Where that fails, the package is handed back as the flush leaves it.
+    /// Flushes the package and returns its device. If the flush fails, the package is returned as the flush leaves
+    /// it.
     ///
     /// # Errors
-    /// Those of `flush`.
+    /// Fails as `flush` does.
     pub fn into_inner(mut self) -> Result<F, (Error, Package<F>)>
         ensures ok { IfOk result (λ inner. (left : Whole) × FlushStep self (flush_answer (Ok tt)) left
             × (F.held inner ≡ left.held) × (F.failed inner ≡ left.failed)) }

@@ -1,20 +1,20 @@
-//! Packages in files.
+//! Opening packages in files.
 
 ghost use Rattle.std.specs.Prelude.{◌≡◌, ◌⊎◌, Err, IfErr, IfOk, None, Ok};
-ghost use Rattle.msi_text.specs.ErrorKind.TheVariants.{Io, OutOfMemory};
+ghost use Rattle.msi_text_base.specs.declared.errors.ErrorKind.TheVariants.{Io, OutOfMemory};
 ghost use Rattle.msi.specs.Opening.{OpensSource};
 
 use crate::package::Package;
-use msi_device::Metered;
+use msi_container_device::Metered;
 use msi_text::errors::Error;
 use std::fs::{self, OpenOptions};
 use std::io::{Read, Seek, Write};
 use std::rt::Files;
 
-/// The package in a file, which is opened for reading alone.
+/// Opens the package in a file, for reading alone.
 ///
 /// # Errors
-/// `Io` where the path can't be opened; else those of [`Package::open`].
+/// Fails with `Io` if the path can't be opened, and otherwise as [`Package::open`] does.
 pub fn open<R>(rt: &R, path: &str) -> Result<Package<Metered<R::File>>, Error>
 where
     R: Files + AllocGlobal,
@@ -26,10 +26,10 @@ where
     Package::open(rt.alloc(), Metered::new(file))
 }
 
-/// The package in a file, which is opened for reading and writing. It has to be there; `Package::create` makes new ones.
+/// Opens the package in a file, for reading and writing. The file has to be there; `Package::create` makes new ones.
 ///
 /// # Errors
-/// `Io` where the path can't be opened; else those of [`Package::open`].
+/// Fails with `Io` if the path can't be opened, and otherwise as [`Package::open`] does.
 pub fn open_rw<R>(rt: &R, path: &str) -> Result<Package<Metered<R::File>>, Error>
 where
     R: Files + AllocGlobal,

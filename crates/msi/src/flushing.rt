@@ -1,34 +1,34 @@
 //! Writing a package to its device.
 
-ghost use Rattle.std.specs.Prelude.{◌≡◌, ◌⊎◌, ◌||◌, IfErr, IfOk, OnErr, OnOk, Some, is_err, option_map, true};
+ghost use Rattle.std.specs.Prelude.{◌≡◌, ◌||◌, IfErr, IfOk, OnErr, OnOk, Some, is_err, option_map, true};
 ghost use Rattle.std.specs.Vec.Iter.{into_iter_items};
-ghost use Rattle.msi_text.specs.ErrorKind.TheVariants.{InvalidInput, Io};
-ghost use Rattle.msi_text.specs.PoolWriting.{is_refused as is_pool_refused};
-ghost use Rattle.msi_text.specs.Results.{OnlyMemory};
-ghost use Rattle.msi_property.specs.PropertyWriting.{is_refused as is_summary_refused};
-ghost use Rattle.msi_device.specs.Held.{at_start, bytes_told};
-ghost use Rattle.msi_compound_write.specs.Borrowed.{contents_of};
-ghost use Rattle.msi_relation.specs.Refusals.{IsRefusal, or_refused};
-ghost use Rattle.msi_schema.specs.Keys.{string_data_name, string_pool_name, table_key as key_of_table};
-ghost use Rattle.msi_changes.specs.Database.{Database as DatabaseValue, is_sound};
-ghost use Rattle.msi_kept.specs.Streams.{Streams};
+ghost use Rattle.msi_text_base.specs.declared.errors.ErrorKind.TheVariants.{InvalidInput, Io};
+ghost use Rattle.msi_text_pool.specs.PoolWriting.{is_refused as is_pool_refused};
+ghost use Rattle.msi_summary_properties.specs.PropertyWriting.{is_refused as is_summary_refused};
+ghost use Rattle.msi_container_device.specs.Held.{at_start, bytes_told};
+ghost use Rattle.msi_container_write.specs.Borrowed.{contents_of};
+ghost use Rattle.msi_query_rows.specs.Refusals.{IsRefusal, or_refused};
+ghost use Rattle.msi_database_changes.specs.Database.{Database as DatabaseValue, is_sound};
+ghost use Rattle.msi_database_storage.specs.Streams.{Streams};
 ghost use Rattle.msi_database.specs.Others.{with_streams};
 ghost use Rattle.msi.specs.Steps.{pool_put};
-ghost use Rattle.msi.specs.Flushing.{AreOthers, AreSoMany, FlushStep, IsUnwritten, Overwrites, flush_answer, left_by, over_device, renewed_over, root_contents, summary_over, told, unwritten_of, with_renewed};
+ghost use Rattle.msi.specs.Flushing.{AreOthers, AreSoMany, FlushStep, IsUnwritten, Overwrites, flush_answer, left_by};
+ghost use Rattle.msi.specs.Flushing.{over_device, renewed_over, root_contents, summary_over, told, unwritten_of};
+ghost use Rattle.msi.specs.Flushing.{with_renewed};
 
 use crate::kinds::PackageType;
 use crate::package::{Package, settle};
-use msi_compound::contents::Bytes;
-use msi_compound::name::Name;
-use msi_compound_write::parts::{BorrowedContents, image_to};
+use msi_container_device::Device;
+use msi_container_device::parts::fault;
+use msi_container_format::contents::Bytes;
+use msi_container_format::name::Name;
+use msi_container_write::parts::{BorrowedContents, image_to};
 use msi_database::Database;
-use msi_device::Device;
-use msi_device::faults::fault;
-use msi_pool::parts::{data_stream_of, pool_stream_of};
-use msi_schema::names::{STRING_DATA, STRING_POOL, summary_key, table_key};
+use msi_database_schema::names::{string_data_key, string_pool_key, summary_key};
 use msi_summary::SummaryInfo;
 use msi_summary::parts::summary_bytes;
 use msi_text::errors::Error;
+use msi_text::parts::{data_stream_of, pool_stream_of};
 use msi_text::stringpool::StringPool;
 use std::alloc::Global;
 use std::vec::IntoIter;
@@ -61,26 +61,11 @@ fn renewed_summary(
     Ok(Vec::from_array(alloc, [(summary_key(), bytes)])?)
 }
 
-/// The container's name of one of the pool's streams.
-///
-/// # Errors
-/// `OutOfMemory`.
-fn pool_key(alloc: Global, name: &str) -> Result<Name, Error>
-    requires { (name.now ≡ string_pool_name) ⊎ (name.now ≡ string_data_name) }
-    ensures ok { IfOk result (λ key. key ≡ key_of_table name.now) }
-    ensures kind { OnlyMemory result }
-{
-    match table_key(alloc, name)? {
-        Some(key) => Ok(key),
-        None => unreachable!(),
-    }
-}
-
 /// Adds the pool's two streams, that of the texts first.
 ///
 /// # Errors
 /// `InvalidInput` where the database's page doesn't carry a text. Else `OutOfMemory`.
-fn add_pool(alloc: Global, pool: &StringPool, renewed: &mut Vec<(Name, Bytes)>) -> Result<(), Error>
+fn add_pool(pool: &StringPool, renewed: &mut Vec<(Name, Bytes)>) -> Result<(), Error>
     ensures ok { OnOk result ((streams : Streams)
         → pool_put pool.now (with_renewed renewed.old.items streams) ≡ Some (with_renewed renewed.new.items streams)) }
     ensures others { OnOk result ((d : DatabaseValue) → is_sound d ≡ true
@@ -89,12 +74,13 @@ fn add_pool(alloc: Global, pool: &StringPool, renewed: &mut Vec<(Name, Bytes)>) 
 {
     let texts = Bytes::from_vec(data_stream_of(pool)?);
     let entries = Bytes::from_vec(pool_stream_of(pool)?);
-    renewed.push((pool_key(alloc, STRING_DATA)?, texts))?;
-    renewed.push((pool_key(alloc, STRING_POOL)?, entries))?;
+    renewed.push((string_data_key(), texts))?;
+    renewed.push((string_pool_key(), entries))?;
     Ok(())
 }
 
-/// The streams that are to be written anew: the summary's where it was lent, the pool's where it was changed.
+/// Returns the streams that are to be written anew: the summary's if it was borrowed for writing, the pool's if it
+/// was changed.
 ///
 /// # Errors
 /// `InvalidInput` where a page doesn't carry a text. Else `OutOfMemory`.
@@ -115,12 +101,12 @@ pub(crate) fn renewed_streams(
 {
     let mut renewed = renewed_summary(alloc, summary, is_summary_lent)?;
     if is_pool_changed {
-        add_pool(alloc, pool, &mut renewed)?;
+        add_pool(pool, &mut renewed)?;
     }
     Ok(renewed)
 }
 
-/// Goes to the first byte of a device, and tells how many there are. It clears the device's flag first.
+/// Goes to the first byte of a device, and returns how many there are. It clears the device's flag first.
 ///
 /// # Errors
 /// `Io` where a call of the device fails.
@@ -152,8 +138,8 @@ fn hand_on<F: Device>(device: &mut F) -> Result<(), Error>
 /// Puts the image of these contents over all that a device holds.
 ///
 /// # Errors
-/// `InvalidInput` where storages lie below the root, or the image would pass 2^31 bytes; `OutOfMemory`; both before the
-/// first byte is written. `Io` where a call of the device fails: then a beginning of the image may stand there.
+/// `InvalidInput` where storages lie below the root, or the image would pass 2^31 bytes; `OutOfMemory`; both before
+/// the first byte is written. `Io` where a call of the device fails: then a beginning of the image may stand there.
 fn write_image<F: Device>(
     alloc: Global,
     contents: &BorrowedContents,
@@ -170,7 +156,7 @@ fn write_image<F: Device>(
 /// Puts the image of these streams under a root over all that a device holds.
 ///
 /// # Errors
-/// Those of `write_image`.
+/// Fails as `write_image` does.
 fn write_streams<F: Device>(
     alloc: Global,
     root: Root,
@@ -188,11 +174,11 @@ fn write_streams<F: Device>(
     write_image(alloc, &contents, device)
 }
 
-/// Puts the image of a database's streams, with these anew, over all that a device holds. No stream is copied. After an
-/// error the database is as it was.
+/// Puts the image of a database's streams, with these anew, over all that a device holds. No stream is copied. After
+/// an error the database is as it was.
 ///
 /// # Errors
-/// Those of `write_image`.
+/// Fails as `write_image` does.
 pub(crate) fn write_with<F: Device>(
     alloc: Global,
     root: Root,
@@ -253,25 +239,20 @@ fn write_parts<F: Device>(
 }
 
 impl<F: Device> Package<F> {
-    /// Writes what was changed: the whole file anew, over all that the device holds. With nothing unwritten it does
-    /// nothing, and calls no device. After an error the package is as it was, and is still unwritten.
+    /// Writes the whole file anew, over all that the device has. If nothing is unwritten it does nothing, and makes
+    /// no call of the device. If it fails, the package is as it was, and is still unwritten.
     ///
     /// # Errors
-    /// `InvalidInput` where a page doesn't carry a text, or the file would pass 2^31 bytes; `OutOfMemory`; both before
-    /// anything is written. `Io` where a call of the device failed, which `device_failed` then tells: a beginning of
-    /// the new bytes may stand over the old ones.
+    /// Fails with `InvalidInput` if a page can't encode a text, or if the file would pass 2^31 bytes, or with
+    /// `OutOfMemory`, both before anything is written. Fails with `Io` if a call of the device failed, which
+    /// `device_failed` then reports: a prefix of the new bytes may have been written over the old ones.
     pub fn flush(&mut self) -> Result<(), Error>
         ensures { FlushStep self.old (flush_answer result) self.new }
     {
         if !self.is_unwritten {
             return Ok(());
         }
-        settle(
-            self.alloc,
-            &mut self.database,
-            &mut self.open,
-            &mut self.current,
-        );
+        settle(&mut self.database, &mut self.open, &mut self.current);
         let root = Root {
             kind: self.kind,
             has_storages: self.has_storages,

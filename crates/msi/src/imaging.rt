@@ -3,19 +3,19 @@
 ghost use Rattle.std.specs.Prelude.{◌≡◌, IfErr, IfOk, Ok, OnOk};
 ghost use Rattle.std.specs.FinMap.{entries};
 ghost use Rattle.std.specs.Vec.Iter.{into_iter_items};
-ghost use Rattle.msi_text.specs.Results.{OnlyMemory};
-ghost use Rattle.msi_relation.specs.Refusals.{IsRefusal};
+ghost use Rattle.msi_text_base.specs.Results.{OnlyMemory};
+ghost use Rattle.msi_query_rows.specs.Refusals.{IsRefusal};
 ghost use Rattle.msi.specs.Flushing.{with_renewed};
 ghost use Rattle.msi.specs.Steps.{image_of as image_of_state};
 ghost use Rattle.msi.specs.Whole.{opened};
 
 use crate::flushing::renewed_streams;
 use crate::package::Package;
-use msi_compound::contents::{Bytes, StreamMap};
-use msi_compound::name::Name;
-use msi_compound_write::parts::{BorrowedContents, image_of};
-use msi_device::Source;
-use msi_stream::OpenStream;
+use msi_container_device::Source;
+use msi_container_format::contents::{Bytes, StreamMap};
+use msi_container_format::name::Name;
+use msi_container_write::parts::{BorrowedContents, image_of};
+use msi_streams::OpenStream;
 use msi_text::errors::Error;
 use std::alloc::{AllocError, Global};
 use std::vec::IntoIter;
@@ -79,11 +79,12 @@ fn put_all(streams: &mut StreamMap, renewed: IntoIter<(Name, Bytes)>) -> Result<
 }
 
 impl<F: Source> Package<F> {
-    /// The bytes that a flush would write over `earlier_len` bytes. It copies the streams, and changes nothing.
+    /// Returns the bytes that a flush would write over `earlier_len` bytes. It copies the streams, and changes
+    /// nothing.
     ///
     /// # Errors
-    /// `InvalidInput` where a page doesn't carry a text, storages lie below the root, or the file would pass 2^31
-    /// bytes. Else `OutOfMemory`, which also may come before.
+    /// Fails with `InvalidInput` if a page can't encode a text, storages lie below the root, or the file would pass
+    /// 2^31 bytes. Otherwise it fails with `OutOfMemory`, which may also come in place of that.
     pub fn image(&self, earlier_len: u64) -> Result<Vec<u8>, Error>
         ensures ok { IfOk result (λ bytes. image_of_state self.now.state earlier_len ≡ Ok bytes.items) }
         ensures kind { IfErr result (IsRefusal (image_of_state self.now.state earlier_len)) }

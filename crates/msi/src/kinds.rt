@@ -1,16 +1,16 @@
-//! What packages are for.
+//! The types of packages.
 
 ghost use Rattle.std.specs.Prelude.{◌≡◌, IfSome, Some};
 ghost use Rattle.msi.specs.Kinds.{clsid_of, clsid_of_number, title_of};
 
-/// What a package is for.
+/// The type of a package.
 #[derive(Clone, Copy, PartialEq, Eq, Hash, Debug, Drop)]
 pub enum PackageType {
-    /// Products to install.
+    /// A package that installs a product.
     Installer,
-    /// Changes of installed products.
+    /// A package that changes installed products.
     Patch,
-    /// Changes of another package.
+    /// A package that changes another package.
     Transform,
 }
 
@@ -24,7 +24,7 @@ fn clsid_with(first: u8) -> [u8; 16]
 }
 
 impl PackageType {
-    /// The type of a package whose root has this CLSID, as it is stored. Any other is that of no package.
+    /// Returns the type of a package whose root has this CLSID, as it is stored. It is none for any other CLSID.
     pub fn from_clsid(clsid: &[u8; 16]) -> Option<PackageType>
         ensures found { IfSome result (λ kind. clsid.now ≡ clsid_of kind) }
         ensures only { (kind : PackageType) → clsid.now ≡ clsid_of kind → result ≡ Some kind }
@@ -41,7 +41,7 @@ impl PackageType {
         None
     }
 
-    /// The root's CLSID of a package of this type, as it is stored.
+    /// Returns the root's CLSID of a package of this type, as it is stored.
     pub fn clsid(self) -> [u8; 16]
         ensures { result ≡ clsid_of self }
     {
@@ -52,7 +52,7 @@ impl PackageType {
         }
     }
 
-    /// The title of a new package's summary.
+    /// Returns the title of a new package's summary.
     pub fn title(self) -> &'static str
         ensures { result.now ≡ title_of self }
     {

@@ -1,4 +1,4 @@
-//! What holds of the definitions themselves: each law is what a function that does nothing ensures.
+//! Laws of the definitions themselves: each is the contract of a function that does nothing.
 
 ghost use Rattle.msi.specs.Laws.{BytesMeanOne, BytesOpenToOne, OpenedArePackages, PassingMeans, RefusedMeanNothing};
 ghost use Rattle.msi.specs.Laws.{FlushKeepsParts, RemovesItsStream, RemovesSignature, WritesItsStream};
@@ -6,17 +6,17 @@ ghost use Rattle.msi.specs.Laws.{RunsKeepPackages, StepsAreFixed, StepsKeepPacka
 ghost use Rattle.msi.specs.Laws.{CreatedIsSession, FlushHoldsImage, FlushedIsHeld, OpenedIsSession, RunsKeepSessions};
 ghost use Rattle.msi.specs.Laws.{ReplaysMean};
 
-/// Bytes mean one package at most.
+/// Bytes mean at most one package.
 pub fn bytes_mean_one()
     ensures { BytesMeanOne }
 {}
 
-/// Opening gives one answer for given bytes: one package, or one kind of refusal.
+/// Opening has one result for given bytes: one package, or one kind of error.
 pub fn bytes_open_to_one()
     ensures { BytesOpenToOne }
 {}
 
-/// Bytes that aren't opened mean no package.
+/// Bytes that opening refuses mean no package.
 pub fn refused_mean_nothing()
     ensures { RefusedMeanNothing }
 {}
@@ -26,74 +26,80 @@ pub fn passing_means()
     ensures { PassingMeans }
 {}
 
-/// What is opened is a package of the parts that its bytes mean, sound or not, with nothing unwritten.
+/// An opened package has the parts that its bytes mean, whether it is sound or not, and nothing unwritten.
 pub fn opened_are_packages()
     ensures { OpenedArePackages }
 {}
 
-/// Answer and state are fixed by the state and the call, want of memory and faults of the device apart.
+/// The state and the call determine the result and the new state, except that a call may fail with `OutOfMemory` or
+/// `Io`, which leaves the state as it was. The law leaves out the four calls that return a borrow of the summary or
+/// of a stream: `summary_info`, `summary_info_mut`, `read_stream` and `write_stream`.
 pub fn steps_are_fixed()
     ensures { StepsAreFixed }
 {}
 
-/// A call leaves a package; a sound one stays sound, exact counts stay exact, and distinct keys distinct.
+/// A call leaves a package: a sound one stays sound, and then exact counts stay exact and distinct keys stay
+/// distinct.
 pub fn steps_keep_packages()
     ensures { StepsKeepPackages }
 {}
 
-/// So do calls one after another, from any package, opened or new.
+/// Calls one after another keep what `steps_keep_packages` says of each, from any package, opened or new.
 pub fn runs_keep_packages()
     ensures { RunsKeepPackages }
 {}
 
-/// What is written to a stream changes that stream alone.
+/// Writing to a stream changes that stream alone.
 pub fn writes_its_stream()
     ensures { WritesItsStream }
 {}
 
-/// A stream that is removed is gone, and nothing else.
+/// Removing a stream changes nothing else.
 pub fn removes_its_stream()
     ensures { RemovesItsStream }
 {}
 
-/// Signatures that are removed are gone, and nothing else.
+/// Removing the signatures changes nothing else.
 pub fn removes_signature()
     ensures { RemovesSignature }
 {}
 
-/// A flush changes nothing that the bytes mean.
+/// A flush changes no part of a package.
 pub fn flush_keeps_parts()
     ensures { FlushKeepsParts }
 {}
 
-/// A new package, over a device of any length, is held by its device; it is sound, with exact counts and distinct keys.
+/// A new package, over a device of any length, is sound, with exact counts and distinct keys. If each text can be
+/// written in its page, the device's bytes mean it.
 pub fn created_is_session()
     ensures { CreatedIsSession }
 {}
 
-/// A package that was opened is held by the bytes that it was opened from.
+/// A package that was opened is the one that the bytes it was opened from mean.
 pub fn opened_is_session()
     ensures { OpenedIsSession }
 {}
 
-/// Calls leave a package that is held by its device, wherever nothing is unwritten.
+/// Calls keep this of a package over its device: if nothing is unwritten and each text can be written in its page,
+/// the device's bytes mean the package, and opening them gives it.
 pub fn runs_keep_sessions()
     ensures { RunsKeepSessions }
 {}
 
-/// After a flush that is done the bytes mean the package that is left, and opening them gives it, where each text can
-/// be written in its page.
+/// After a flush that succeeds nothing is unwritten; if each text can be written in its page, the bytes mean the
+/// package that is left, and opening them gives it.
 pub fn flushed_is_held()
     ensures { FlushedIsHeld }
 {}
 
-/// What a flush writes is what `image` answers for the earlier length.
+/// A flush writes the bytes that `image` returns for the earlier length.
 pub fn flush_holds_image()
     ensures { FlushHoldsImage }
 {}
 
-/// After any calls on a new package and a last flush the bytes mean what the accepted calls define, opening them gives
-/// the package that was left, and each count is the number of its cells.
+/// After any calls on a new package and a last flush that succeeds, each count is the number of its cells, and no two
+/// rows of a table share a key. If each text can be written in its page, that is if it reads back as it was, the
+/// bytes mean what the accepted calls define, and opening them gives the package that was left.
 pub fn replays_mean()
     ensures { ReplaysMean }
 {}

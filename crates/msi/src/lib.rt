@@ -1,4 +1,7 @@
-//! Packages of Windows Installer: a database, its summary and its streams in one container.
+//! Reads, queries, changes and writes Windows Installer packages: a database, a summary and streams in one file.
+//!
+//! A [`Package`] is opened from a [`Source`] or created over a [`Device`]. Changes stay in memory until
+//! [`Package::flush`] writes the file anew. `docs/GUIDE.md` shows the tasks of a user, each with its code.
 #![tactic(auto)]
 
 pub mod changes;
@@ -16,12 +19,14 @@ pub mod streams;
 
 pub use files::{open, open_rw};
 pub use kinds::PackageType;
-pub use msi_device::{Device, Memory, Metered, Source};
+pub use msi_container::{compound, streamname};
+pub use msi_container_device::{Device, Memory, Metered, Source};
 pub use msi_query::{Delete, Expr, Insert, Select, Update};
-pub use msi_stream::{StreamReader, StreamWriter, Streams};
-pub use msi_summary::SummaryInfo;
-pub use msi_table::{Column, ColumnBuilder, ColumnType, Row, Rows, Table, Value};
+pub use msi_streams::{StreamReader, StreamWriter, Streams};
+pub use msi_summary::{OperatingSystem, PropertySet, PropertyValue, SummaryInfo};
+pub use msi_table::{Column, ColumnBuilder, ColumnType, Row, Rows, Table, Value, ValueRef};
 pub use msi_text::{
-    Category, CodePage, Error, ErrorKind, IntoText, LanguageId, StringPool, Timestamp,
+    Category, CodePage, Error, ErrorKind, IntoText, Items, LanguageId, StringPool,
+    StringPoolBuilder, StringRef, Text, Timestamp,
 };
 pub use package::Package;

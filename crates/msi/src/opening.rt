@@ -1,37 +1,33 @@
 //! Opening packages.
 
-ghost use Rattle.std.specs.Prelude.{◌≡◌, ◌⊎◌, ◌∷◌, [], Err, IfErr, IfOk, IsTrue, List, None, Ok, Some, false, length};
+ghost use Rattle.std.specs.Prelude.{◌≡◌, ◌⊎◌, ◌∷◌, [], Err, IfErr, IfOk, None, Ok, Some, false};
 ghost use Rattle.std.specs.FinMap.{entries};
-ghost use Rattle.msi_text.specs.ErrorKind.TheVariants.{InvalidData, Io, NotFound, OutOfMemory};
-ghost use Rattle.msi_text.specs.Pool.{IsPoolStream, Pool, PoolStream, SpellsTexts, pool_with};
-ghost use Rattle.msi_text.specs.Pool as pools;
-ghost use Rattle.msi_text.specs.Results.{IsUnlessMemory, OnlyMemory};
-ghost use Rattle.msi_compound.specs.Names.{is_name_length};
-ghost use Rattle.msi_device.specs.Held.{bytes_told};
-ghost use Rattle.msi_schema.specs.Keys.{table_key as key_of};
-ghost use Rattle.msi_kept.specs.Streams.{stream_at};
+ghost use Rattle.msi_text_base.specs.declared.errors.ErrorKind.TheVariants.{InvalidData, Io, NotFound, OutOfMemory};
+ghost use Rattle.msi_text_pool.specs.Pool.{Pool, PoolStream};
+ghost use Rattle.msi_text_base.specs.Results.{IsUnlessMemory};
+ghost use Rattle.msi_container_device.specs.Held.{bytes_told};
+ghost use Rattle.msi_database_storage.specs.Streams.{stream_at};
 ghost use Rattle.msi.specs.Kinds.{clsid_of};
 ghost use Rattle.msi.specs.Meaning.{FailsFirst, OpensTo, RawPoolIs, SummaryIs, open_steps};
 ghost use Rattle.msi.specs.Meaning.{has_pool, has_summary, has_texts};
 ghost use Rattle.msi.specs.Meaning.{knows_kind, reads_pool, reads_summary, reads_texts};
 ghost use Rattle.msi.specs.Opening.{IsOpenRefusal, IsOpened, OpensSource, PoolStreamIs, StopsAmong};
-ghost use Rattle.msi.specs.Opening.{without_io as kind_without_io};
 
 use crate::kinds::PackageType;
 use crate::package::Package;
 use crate::reasons;
-use msi_base::reasons::MEMORY;
-use msi_compound::contents::{Contents, StreamMap};
-use msi_compound::name::Name;
-use msi_compound_read::read;
+use msi_container_device::Source;
+use msi_container_device::parts::read_all;
+use msi_container_format::contents::{Contents, StreamMap};
+use msi_container_format::name::Name;
+use msi_container_read::read;
 use msi_database::Database;
-use msi_device::Source;
-use msi_device::parts::read_all;
-use msi_schema::names::{STRING_DATA, STRING_POOL, summary_key, table_key};
-use msi_stream::OpenStream;
+use msi_database_schema::names::{string_data_key, string_pool_key, summary_key};
+use msi_streams::OpenStream;
 use msi_summary::SummaryInfo;
 use msi_summary::parts::summary_of;
 use msi_text::errors::{Error, ErrorKind, Reason};
+use msi_text::parts::{pool_builder_of, pool_of};
 use msi_text::stringpool::{StringPool, StringPoolBuilder};
 use std::alloc::Global;
 use std::marker::Model;
@@ -86,65 +82,13 @@ fn bytes_at<'a>(streams: &'a StreamMap, name: &Name, missing: Reason) -> Result<
 /// The summary, read of its stream.
 ///
 /// # Errors
-/// `NotFound` where there is no such stream, `InvalidData` where it spells no summary; `OutOfMemory`.
+/// `NotFound` where there is no such stream, `InvalidData` where it encodes no summary; `OutOfMemory`.
 fn summary_in(alloc: Global, contents: &Contents) -> Result<SummaryInfo, Error>
     ensures ok { IfOk result (SummaryIs (entries contents.now.streams)) }
     ensures kind { IfErr result (StopsAmong contents.now (has_summary ∷ reads_summary ∷ [])) }
 {
     let bytes = bytes_at(&contents.streams, &summary_key(), reasons::NO_SUMMARY)?;
     summary_of(alloc, bytes)
-}
-
-/// The container's name of the stream of a table whose name isn't too long for one.
-///
-/// # Errors
-/// `OutOfMemory`.
-fn short_table_key(alloc: Global, name: &str) -> Result<Name, Error>
-    requires { IsTrue (is_name_length (length (key_of name.now))) }
-    ensures ok { IfOk result (λ key. key ≡ key_of name.now) }
-    ensures kind { OnlyMemory result }
-{
-    match table_key(alloc, name)? {
-        Some(key) => Ok(key),
-        None => unreachable!(),
-    }
-}
-
-/// Why bytes in memory aren't read, whose reader fails for want of memory alone.
-fn without_io(error: Error) -> Error
-    ensures { result ≡ kind_without_io error }
-{
-    if error.kind() == ErrorKind::InvalidData {
-        error
-    } else {
-        Error::new(ErrorKind::OutOfMemory, MEMORY)
-    }
-}
-
-/// What the bytes of the pool's first stream say.
-///
-/// # Errors
-/// `InvalidData` where they don't have its form; `OutOfMemory`.
-fn pool_stream_of(alloc: Global, bytes: &[u8]) -> Result<StringPoolBuilder, Error>
-    ensures found { IfOk result (λ stream. IsPoolStream bytes.now stream) }
-    ensures only { (stream : PoolStream) → IsPoolStream bytes.now stream → IsUnlessMemory result stream }
-    ensures kinds { IfErr result (λ kind. (kind ≡ InvalidData) ⊎ (kind ≡ OutOfMemory)) }
-{
-    StringPoolBuilder::read_from_pool(alloc, bytes).map_err(without_io)
-}
-
-/// The pool of what its first stream says, with the texts that these bytes spell.
-///
-/// # Errors
-/// `InvalidData` where they spell no such texts; `OutOfMemory`.
-fn with_texts(alloc: Global, stream: StringPoolBuilder, bytes: &[u8]) -> Result<StringPool, Error>
-    ensures found { IfOk result (λ pool.
-        (pool ≡ pool_with stream pool.places) × SpellsTexts stream.page bytes.now stream.entries pool.places) }
-    ensures only { (places : List pools.Place) → SpellsTexts stream.page bytes.now stream.entries places
-        → IsUnlessMemory result (pool_with stream places) }
-    ensures kinds { IfErr result (λ kind. (kind ≡ InvalidData) ⊎ (kind ≡ OutOfMemory)) }
-{
-    stream.build_from_data(alloc, bytes).map_err(without_io)
 }
 
 /// What the pool's first stream says.
@@ -157,9 +101,8 @@ fn pool_stream_in(alloc: Global, contents: &Contents) -> Result<StringPoolBuilde
         → PoolStreamIs (entries contents.now.streams) stream → IsUnlessMemory result stream }
     ensures kind { IfErr result (StopsAmong contents.now (has_pool ∷ reads_pool ∷ [])) }
 {
-    let key = short_table_key(alloc, STRING_POOL)?;
-    let bytes = bytes_at(&contents.streams, &key, reasons::NO_POOL)?;
-    pool_stream_of(alloc, bytes)
+    let bytes = bytes_at(&contents.streams, &string_pool_key(), reasons::NO_POOL)?;
+    pool_builder_of(alloc, bytes)
 }
 
 /// The pool, read of its two streams.
@@ -174,9 +117,8 @@ fn pool_in(alloc: Global, contents: &Contents) -> Result<StringPool, Error>
         (StopsAmong contents.now (has_pool ∷ reads_pool ∷ has_texts ∷ reads_texts ∷ [])) }
 {
     let stream = pool_stream_in(alloc, contents)?;
-    let key = short_table_key(alloc, STRING_DATA)?;
-    let bytes = bytes_at(&contents.streams, &key, reasons::NO_POOL)?;
-    with_texts(alloc, stream, bytes)
+    let bytes = bytes_at(&contents.streams, &string_data_key(), reasons::NO_POOL)?;
+    pool_of(alloc, stream, bytes)
 }
 
 /// What a container's contents say, as a package has it.
@@ -212,15 +154,16 @@ pub(crate) fn open_bytes(alloc: Global, bytes: &[u8]) -> Result<Opened, Error>
 }
 
 impl<F: Source + Drop> Package<F> {
-    /// The package whose bytes a source holds, which are read from the first to the end. Nothing is unwritten.
+    /// Opens the package that a source holds: all its bytes are read, from the first to the end. Nothing is
+    /// unwritten.
     ///
     /// # Errors
-    /// `Io` where a call of the source fails. Else the first that holds: `InvalidData` where the bytes are no compound
-    /// file, or the root's CLSID is that of no package; `NotFound` where the summary's stream is missing, `InvalidData`
-    /// where it spells no summary; `NotFound` where the stream of the pool is missing, `InvalidData` where it doesn't
-    /// have its form; `NotFound` where that of its texts is missing, `InvalidData` where it has no such texts;
-    /// `InvalidData` where a system table can't be read, or they describe no tables. Where none holds, `OutOfMemory`,
-    /// which also may come before. The source is dropped.
+    /// Fails with `Io` if a call of the source fails, and otherwise with the first of these that applies:
+    /// `InvalidData` if the bytes are no compound file, or the root's CLSID is that of no package; `NotFound` if the
+    /// summary's stream is missing, `InvalidData` if it encodes no summary; `NotFound` if the stream of the pool is
+    /// missing, `InvalidData` if it doesn't have its form; `NotFound` if that of its texts is missing, `InvalidData`
+    /// if it has no such texts; `InvalidData` if a system table can't be read, or they describe no tables. If none
+    /// applies, it fails with `OutOfMemory`, which may also come in place of the others. The source is dropped.
     pub fn open(alloc: Global, inner: F) -> Result<Package<F>, Error>
         ensures ok { IfOk result (λ opened. OpensSource (F.held inner) (Ok opened.state)) }
         ensures bytes { IfOk result (λ opened. bytes_told opened.held ≡ bytes_told (F.held inner)) }

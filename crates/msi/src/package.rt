@@ -1,36 +1,35 @@
 //! Packages over a source or a device.
 
-ghost use Rattle.std.specs.Prelude.{◌≡◌, IfErr, IfOk, IfSome, None, OnOk, Some};
+ghost use Rattle.std.specs.Prelude.{◌≡◌, ◌||◌, IfErr, IfOk, IfSome, None, OnOk, Some, true};
 ghost use Rattle.std.specs.Borrow.{sem};
 ghost use Rattle.std.specs.Option.{option_copied};
-ghost use Rattle.msi_relation.specs.Refusals.{IsRefusal, first_refusal, unless_refused};
-ghost use Rattle.msi_relation.specs.Selection.{relation_of};
-ghost use Rattle.msi_changes.specs.Database.{has_table as has_one, values_of};
+ghost use Rattle.msi_query_rows.specs.Refusals.{IsRefusal, first_refusal, unless_refused};
+ghost use Rattle.msi_query_rows.specs.Selection.{relation_of};
+ghost use Rattle.msi_database_changes.specs.Database.{has_table as has_one, is_sound, values_of};
 ghost use Rattle.msi_database.specs.Keeping.{IsKeptDatabase};
 ghost use Rattle.msi_database.specs.Listed.{table_def_at, tables_listed};
 ghost use Rattle.msi.specs.Lending.{LendsSummary};
 ghost use Rattle.msi.specs.Selected.{Selects};
 ghost use Rattle.msi.specs.State.{parts_of};
 ghost use Rattle.msi.specs.Steps.{storage_refusal};
-ghost use Rattle.msi.specs.Whole.{IsOpen, with_open};
+ghost use Rattle.msi.specs.Whole.{IsOpen, with_open, with_state};
 
 use crate::kinds::PackageType;
 use crate::reasons;
-use msi_compound::name::Name;
+use msi_container_device::Source;
+use msi_container_format::name::Name;
 use msi_database::Database;
-use msi_device::Source;
 use msi_query::Select;
-use msi_stream::OpenStream;
+use msi_streams::OpenStream;
 use msi_summary::SummaryInfo;
 use msi_table::{Rows, Table};
 use msi_text::codepage::CodePage;
 use msi_text::errors::{Error, ErrorKind};
 use std::alloc::Global;
 use std::marker::Model;
-use std::mem;
 
-/// A package over a source, or over a device. It holds what the file held, and what was changed since; the file is
-/// written by `flush` alone.
+/// A package over a source or a device: a database, a summary and streams. It has what the file had, and what was
+/// changed since; only `flush` writes the file.
 #[derive(Drop)]
 pub struct Package<F: Source> {
     pub(crate) device: F,
@@ -62,50 +61,50 @@ impl<F: Source> Model for Package<F> {
 }
 
 impl<F: Source> Package<F> {
-    /// What the package is for.
+    /// Returns the type of the package.
     pub fn package_type(&self) -> PackageType
         ensures { result ≡ self.now.state.kind }
     {
         self.kind
     }
 
-    /// The page in which the texts of the database are written.
+    /// Returns the code page of the texts of the database.
     pub fn database_codepage(&self) -> CodePage
         ensures { result ≡ self.now.state.kept.database.pool.page }
     {
         self.database.codepage()
     }
 
-    /// Whether there is a table of this name.
+    /// Returns whether there is a table of this name.
     pub fn has_table(&self, name: &str) -> bool
         ensures { result ≡ has_one name.now self.now.state.kept.database }
     {
         self.database.has_table(name)
     }
 
-    /// The table of this name.
+    /// Returns the table of this name, if there is one.
     pub fn get_table(&self, name: &str) -> Option<&Table>
         ensures { option_copied result ≡ table_def_at name.now self.now.state.kept.database }
     {
         self.database.get_table(name)
     }
 
-    /// The tables, by name.
+    /// Returns the tables, by name.
     pub fn tables(&self) -> &[Table]
         ensures { result.now ≡ tables_listed self.now.state.kept.database }
     {
         self.database.tables()
     }
 
-    /// Whether a call of the device failed since the flag was last cleared, which a call of the package does before its
-    /// first call of the device.
+    /// Returns whether a call of the device failed since the flag was last cleared; a call of the package clears it
+    /// before its first call of the device.
     pub fn device_failed(&self) -> bool
         ensures { result ≡ self.now.failed }
     {
         self.device.failed()
     }
 
-    /// The device. Nothing is written. It takes no memory.
+    /// Returns the device, and writes nothing. It takes no memory.
     pub fn into_reader(self) -> F
         ensures held { F.held result ≡ self.held }
         ensures failed { F.failed result ≡ self.failed }
@@ -114,17 +113,18 @@ impl<F: Source> Package<F> {
         device
     }
 
-    /// The summary.
+    /// Returns the summary.
     pub fn summary_info(&self) -> &SummaryInfo
         ensures { result.now ≡ self.now.state.summary }
     {
         &self.summary
     }
 
-    /// The summary, to be changed: what is left in it is the summary, and a `flush` writes it. It takes no memory.
+    /// Returns a mutable borrow of the summary: what the caller leaves in it is the summary, and a `flush` writes it.
+    /// It takes no memory.
     ///
     /// # Errors
-    /// `InvalidInput` with storages below the root; then nothing is changed.
+    /// Fails with `InvalidInput` if storages lie below the root; then nothing has changed.
     pub fn summary_info_mut(&mut self) -> Result<&mut SummaryInfo, Error>
         ensures* writes_back { sem 𝓛 (LendsSummary F.row F.Source self.entry result) }
         ensures value { IfOk result (λ summary. summary.now ≡ self.old.state.summary) }
@@ -137,13 +137,13 @@ impl<F: Source> Package<F> {
         Ok(&mut self.summary)
     }
 
-    /// The rows that a query selects.
+    /// Returns the rows that a query selects.
     ///
     /// # Errors
-    /// The first that holds, for a join those of the left query, then those of the right: `NotFound` where a table
-    /// isn't there, `InvalidData` where it can't be read; then `InvalidInput` where a column isn't there, in a join's
-    /// condition, then one that is to be kept, then in the condition. Where none holds, `OutOfMemory`, which also may
-    /// come before.
+    /// Fails with the first of these that applies, for a join those of the left query, then those of the right:
+    /// `NotFound` if a table isn't there, `InvalidData` if it can't be read; then `InvalidInput` if a column isn't
+    /// there, in a join's condition, then one that is selected, then in the condition. If none applies, it fails with
+    /// `OutOfMemory`, which may also come in place of the others.
     pub fn select_rows(&self, query: Select) -> Result<Rows<'_>, Error>
         ensures ok { IfOk result (Selects (relation_of (values_of self.now.state.kept.database) query)) }
         ensures kind { IfErr result (IsRefusal (relation_of (values_of self.now.state.kept.database) query)) }
@@ -164,23 +164,29 @@ impl<F: Source> Package<F> {
         }
         Ok(())
     }
+
+    /// Notes that tables were changed: the file is to be written, and the pool too if a text was taken or given back.
+    pub(crate) fn note_change(&mut self, is_pool_used: bool)
+        requires { is_pool_used ≡ true → is_sound self.old.state.kept.database ≡ true }
+        ensures { let s = self.old.state in self.new ≡ with_state (record s {
+          is_unwritten = true;
+          is_pool_changed = s.is_pool_changed || is_pool_used;
+        }) self.old }
+    {
+        self.is_unwritten = true;
+        self.is_pool_changed |= is_pool_used;
+    }
 }
 
-/// Puts the stream that lies open where it belongs, and tells what the database keeps to. It takes no memory.
-pub(crate) fn settle(
-    alloc: Global,
-    database: &mut Database,
-    name: &mut Option<Name>,
-    current: &mut OpenStream,
-)
+/// Puts the open stream in its place. Its clause `kept` says what every database satisfies. It takes no memory.
+pub(crate) fn settle(database: &mut Database, name: &mut Option<Name>, current: &mut OpenStream)
     requires { IfSome name.old (IsOpen database.old) }
     ensures database { database.new ≡ with_open name.old current.old.bytes database.old }
     ensures taken { name.new ≡ None }
     ensures kept { IsKeptDatabase database.new }
 {
     if let Some(name) = name.take() {
-        let left = mem::replace(current, OpenStream::new(alloc));
-        database.put_back_stream(&name, Some(left.into_bytes()));
+        database.put_back_stream(&name, Some(current.take_bytes()));
     }
     database.kept();
 }

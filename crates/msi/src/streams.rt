@@ -4,28 +4,29 @@ ghost use Rattle.std.specs.Prelude.{◌≡◌, ◌⊎◌, ◌∷◌, ◌++◌, [
 ghost use Rattle.std.specs.Borrow.{sem};
 ghost use Rattle.std.specs.FinMap as finite;
 ghost use Rattle.std.specs.Option.{option_copied};
-ghost use Rattle.msi_text.specs.ErrorKind.TheVariants.{InvalidInput, NotFound, OutOfMemory};
-ghost use Rattle.msi_relation.specs.Refusals.{first_refusal, unless_refused};
-ghost use Rattle.msi_schema.specs.Keys.{is_stream_name, signature_key as signature_of, stream_key};
-ghost use Rattle.msi_kept.specs.Streams.{has_stream_at, stream_at, without_stream};
-ghost use Rattle.msi_stream.specs.Cursor.{at_start};
+ghost use Rattle.msi_text_base.specs.declared.errors.ErrorKind.TheVariants.{InvalidInput, NotFound, OutOfMemory};
+ghost use Rattle.msi_query_rows.specs.Refusals.{first_refusal, unless_refused};
+ghost use Rattle.msi_database_schema.specs.Keys.{is_stream_name, signature_key as signature_of, stream_key};
+ghost use Rattle.msi_database_storage.specs.Streams.{has_stream_at, stream_at, without_stream};
+ghost use Rattle.msi_streams.specs.Cursor.{at_start};
 ghost use Rattle.msi.specs.Lending.{LendsStream};
 ghost use Rattle.msi.specs.State.{parts_of};
-ghost use Rattle.msi.specs.Steps.{bytes_of_stream, has_stream as has_one, name_refusals, storage_refusal, stream_names, with_streams, without_signature};
+ghost use Rattle.msi.specs.Steps.{bytes_of_stream, has_stream as has_one, name_refusals, storage_refusal, stream_names};
+ghost use Rattle.msi.specs.Steps.{with_streams, without_signature};
 ghost use Rattle.msi.specs.Whole.{with_state};
 
 use crate::keys::{accepted_key, checked_key};
 use crate::package::{Package, settle};
 use crate::reasons;
-use msi_compound::contents::{Bytes, StreamMap};
-use msi_compound::name::Name;
-use msi_device::Source;
-use msi_schema::names::{signature_ex_key, signature_key};
-use msi_stream::{OpenStream, StreamReader, StreamWriter, Streams};
+use msi_container_device::Source;
+use msi_container_format::contents::{Bytes, StreamMap};
+use msi_container_format::name::Name;
+use msi_database_schema::names::{signature_ex_key, signature_key};
+use msi_streams::{OpenStream, StreamReader, StreamWriter, Streams};
 use msi_text::errors::{Error, ErrorKind};
 
 impl<F: Source> Package<F> {
-    /// Whether there is a stream of this name. It takes no memory.
+    /// Returns whether there is a stream of this name. It takes no memory.
     pub fn has_stream(&self, name: &str) -> bool
         ensures { result ≡ has_one (parts_of self.now.state) name.now }
     {
@@ -35,24 +36,24 @@ impl<F: Source> Package<F> {
         }
     }
 
-    /// The names of the streams, in the container's order: of those that hold no table, summary or signature.
+    /// Returns the names of the streams, in the container's order: of those that hold no table, summary or signature.
     pub fn streams(&self) -> Streams<'_>
         ensures { result ≡ stream_names (parts_of self.now.state) }
     {
         Streams::new(self.alloc, self.database.streams())
     }
 
-    /// Whether the package has a digital signature. It isn't judged.
+    /// Returns whether the package has a digital signature. It isn't checked.
     pub fn has_digital_signature(&self) -> bool
         ensures { result ≡ has_stream_at signature_of (parts_of self.now.state).streams }
     {
         self.contains(&signature_key())
     }
 
-    /// The stream of this name, to be read from its first byte on. It takes no memory.
+    /// Returns a reader of the stream of this name, at its first byte. It takes no memory.
     ///
     /// # Errors
-    /// `InvalidInput` where no stream may have this name, and else `NotFound` where there is none.
+    /// Fails with `InvalidInput` if no stream may have this name, and otherwise with `NotFound` if there is none.
     pub fn read_stream(&self, name: &str) -> Result<StreamReader<'_>, Error>
         ensures start { IfOk result (λ reader. reader ≡ at_start (bytes_of_stream (parts_of self.now.state) name.now)) }
         ensures accepted { OnOk result (first_refusal ((not (is_stream_name name.now), InvalidInput)
@@ -67,12 +68,12 @@ impl<F: Source> Package<F> {
         }
     }
 
-    /// Makes the stream of this name, or empties it, and lends it for writing from its first byte on. What is left in
-    /// it is the stream.
+    /// Creates the stream of this name, or empties it, and returns a writer at its first byte. What the caller leaves
+    /// in it is the stream.
     ///
     /// # Errors
-    /// `InvalidInput` with storages below the root, and where no stream may have this name; `OutOfMemory`. Then nothing
-    /// is changed.
+    /// Fails with `InvalidInput` if storages lie below the root, and if no stream may have this name, or with
+    /// `OutOfMemory`. Then nothing has changed.
     pub fn write_stream(&mut self, name: &str) -> Result<StreamWriter<'_>, Error>
         ensures* writes_back { sem 𝓛 (LendsStream F.row F.Source name.now self.entry result) }
         ensures start { IfOk result (λ writer. writer.now ≡ at_start []) }
@@ -82,12 +83,7 @@ impl<F: Source> Package<F> {
     {
         self.check_storages()?;
         let key = checked_key(name)?;
-        settle(
-            self.alloc,
-            &mut self.database,
-            &mut self.open,
-            &mut self.current,
-        );
+        settle(&mut self.database, &mut self.open, &mut self.current);
         let empty = Bytes::from_vec(Vec::new(self.alloc));
         self.database.replace_stream(key.duplicate(), empty)?;
         self.is_unwritten = true;
@@ -96,11 +92,11 @@ impl<F: Source> Package<F> {
         Ok(&mut self.current)
     }
 
-    /// Takes the stream of this name out. It takes no memory.
+    /// Removes the stream of this name. It takes no memory.
     ///
     /// # Errors
-    /// `InvalidInput` with storages below the root, and where no stream may have this name; else `NotFound` where there
-    /// is none. Then nothing is changed.
+    /// Fails with `InvalidInput` if storages lie below the root, and if no stream may have this name, and otherwise
+    /// with `NotFound` if there is none. Then nothing has changed.
     pub fn remove_stream(&mut self, name: &str) -> Result<(), Error>
         ensures answer { let p = parts_of self.old.state in result ≡ unless_refused
             (name_refusals p name.now ++ (not (has_one p name.now), NotFound) ∷ []) tt }
@@ -113,33 +109,23 @@ impl<F: Source> Package<F> {
         if !self.contains(&key) {
             return Err(Error::new(ErrorKind::NotFound, reasons::NO_STREAM));
         }
-        settle(
-            self.alloc,
-            &mut self.database,
-            &mut self.open,
-            &mut self.current,
-        );
+        settle(&mut self.database, &mut self.open, &mut self.current);
         self.database.remove_stream(&key);
         self.is_unwritten = true;
         Ok(())
     }
 
-    /// Takes the digital signature out, with what extends it, where they are there. It takes no memory.
+    /// Removes the digital signature, with the stream that extends it, if they are there. It takes no memory.
     ///
     /// # Errors
-    /// `InvalidInput` with storages below the root; then nothing is changed.
+    /// Fails with `InvalidInput` if storages lie below the root; then nothing has changed.
     pub fn remove_digital_signature(&mut self) -> Result<(), Error>
         ensures answer { result ≡ unless_refused (storage_refusal (parts_of self.old.state)) tt }
         ensures ok { OnOk result (self.new ≡ with_state (with_streams without_signature self.old.state) self.old) }
         ensures same { OnErr result (self.new ≡ self.old) }
     {
         self.check_storages()?;
-        settle(
-            self.alloc,
-            &mut self.database,
-            &mut self.open,
-            &mut self.current,
-        );
+        settle(&mut self.database, &mut self.open, &mut self.current);
         self.database.remove_stream(&signature_ex_key());
         self.database.remove_stream(&signature_key());
         self.is_unwritten = true;

@@ -1,7 +1,8 @@
-//! The container of an installer package: one compound file, and the names of its streams.
+//! Reads and writes compound files (MS-CFB), the container of an installer package, and packs the names of their
+//! streams.
 #![tactic(auto)]
 
 pub mod compound;
 pub mod laws;
 
-pub use msi_compound::streamname;
+pub use msi_container_format::streamname;

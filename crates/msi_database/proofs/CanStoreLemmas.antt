@@ -1,24 +1,25 @@
 -- The rows that an accepted change writes can be stored.
 use Rattle.std.proofs.Common.{◌≡◌, ℕ, Bool, true, List, length, Some, sym, ap, subst, ◌∙◌, ◌⊎◌, arith}
 use Rattle.std.proofs.lemmas.List.Sorted.{IsPermutation-sym, length_permutation}
-use Rattle.msi_kept.specs.Streams.{Streams}
+use Rattle.msi_database_storage.specs.Streams.{Streams}
 use Rattle.std.specs.FinMap.{entries}
-use Rattle.msi_compound.specs.Streams as maps
-use Rattle.msi_text.specs.Pool.{Pool}
-use Rattle.msi_value.specs.declared.value.ValueRef.{ValueRef}
-use Rattle.msi_value.specs.Columns.{ColumnDef, types_of}
+use Rattle.msi_container_format.specs.Streams as maps
+use Rattle.msi_text_pool.specs.Pool.{Pool}
+use Rattle.msi_table_values.specs.declared.value.ValueRef.{ValueRef}
+use Rattle.msi_table_values.specs.Columns.{ColumnDef, types_of}
 use Rattle.msi_table.specs.Tables.{TableDef}
-use Rattle.msi_value.specs.Fitting.{FitsRow, FitsTable}
+use Rattle.msi_table_values.specs.Fitting.{FitsRow, FitsTable}
 use Rattle.msi_table.specs.StoredOrder.{row_cmp, in_stored_order}
-use Rattle.msi_schema.proofs.SortLemmas.{sort_moves}
-use Rattle.msi_changes.specs.Database.{table_at}
-use Rattle.msi_changes.specs.Changes.{Change, PoolInUse, no_change, with_stored}
-use Rattle.msi_changes.specs.Laws.{IsChange, IsTableChange}
-use Rattle.msi_changes.proofs.KindsKeptLemmas.{all_permuted}
-use Rattle.msi_kept.specs.Kept.{database_kept, kept_of}
+use Rattle.msi_table.proofs.StableSortLemmas.{sort_moves}
+use Rattle.msi_database_schema.proofs.RowOrderLemmas.{names_total}
+use Rattle.msi_database_changes.specs.Database.{table_at}
+use Rattle.msi_database_changes.specs.Changes.{Change, PoolInUse, no_change, with_stored}
+use Rattle.msi_database_changes.specs.Laws.{IsChange, IsTableChange}
+use Rattle.msi_database_changes.proofs.KindsKeptLemmas.{all_permuted}
+use Rattle.msi_database_storage.specs.Kept.{database_kept, kept_of}
 use Rattle.msi_database.specs.Keeping.{AreKept}
 use Rattle.msi_database.proofs.MapLemmas as lists
-use Rattle.msi_database.proofs.StreamLemmas.{list_cmp_total, list_cmp_exact}
+use Rattle.msi_database.proofs.StreamLemmas.{list_cmp_exact}
 use Rattle.msi_database.proofs.ComesLemmas.{regular}
 use Rattle.msi_database.proofs.KeepingLemmas.{change_comes}
 use Rattle.msi_database.proofs.FinishLemmas.{known_sound}
@@ -49,7 +50,7 @@ module _ (pool : Pool) (tables : List TableDef) (streams : Streams) (kept : AreK
   pub stored_can_store : (name : List ℕ) (columns : List ColumnDef) (rows : List (List ValueRef)) (used : PoolInUse) → with_stored name columns rows used (no_change (database_kept pool tables streams)) ≡ c
       → FitsTable pool.long (types_of columns) rows
   stored_can_store name columns rows used is = can_store name columns rows (ap (λ (x : Change). table_at name x.database) (sym is)
-      ∙ lists.find_put_same list_cmp_total list_cmp_exact name (record { columns = columns; rows = Some (in_stored_order columns rows) }) (database_kept pool tables streams).tables)
+      ∙ lists.find_put_same names_total list_cmp_exact name (record { columns = columns; rows = Some (in_stored_order columns rows) }) (database_kept pool tables streams).tables)
 
 -- the same over a map of streams
 pub rows_can_store : (pool : Pool) (tables : List TableDef) (m : maps.Streams) → AreKept pool tables (entries m) true → (c : Change) → IsChange (database_kept pool tables (entries m)) c ⊎ IsTableChange (database_kept pool tables (entries m)) c

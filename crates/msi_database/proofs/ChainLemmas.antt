@@ -2,30 +2,31 @@
 use Rattle.std.proofs.Common.{◌≡◌, ℕ, true, false, not, List, [], ◌∷◌, ◌++◌, filter, Some, None, Ok, refl, ap, ◌∙◌, bytes_eq}
 use Rattle.std.specs.Prelude.{Result}
 use Rattle.std.specs.List.{fold}
-use Rattle.msi_text.specs.ErrorKind.{ErrorKind}
-use Rattle.msi_text.specs.ErrorKind.TheVariants.{InvalidInput, NotFound}
-use Rattle.msi_text.specs.Pool.{Place}
-use Rattle.msi_value.specs.declared.value.Value.{Value}
-use Rattle.msi_value.specs.declared.value.Value.TheVariants.{Str}
-use Rattle.msi_value.specs.declared.value.ValueRef.{ValueRef}
-use Rattle.msi_value.specs.Columns.{ColumnDef}
+use Rattle.std.proofs.lemmas.Bool.{or_parts}
+use Rattle.msi_text_base.specs.declared.errors.ErrorKind.{ErrorKind}
+use Rattle.msi_text_base.specs.declared.errors.ErrorKind.TheVariants.{InvalidInput, NotFound}
+use Rattle.msi_text_pool.specs.Pool.{Place}
+use Rattle.msi_table_values.specs.declared.value.Value.{Value}
+use Rattle.msi_table_values.specs.declared.value.Value.TheVariants.{Str}
+use Rattle.msi_table_values.specs.declared.value.ValueRef.{ValueRef}
+use Rattle.msi_table_values.specs.Columns.{ColumnDef}
 use Rattle.msi_table.specs.StoredOrder.{in_stored_order}
-use Rattle.msi_relation.specs.Refusals.{first_refusal, or_refused, ◌>>=◌}
-use Rattle.msi_relation.specs.Rows.{TableCells}
-use Rattle.msi_schema.specs.Keys.{is_table_name}
-use Rattle.msi_schema.specs.System.{is_schema_table, is_system_table, tables_name, columns_name, validation_name}
-use Rattle.msi_schema.specs.Description.{column_rows, validation_rows}
-use Rattle.msi_schema.proofs.ListLemmas.{or_false}
-use Rattle.msi_changes.specs.Database.{Database, is_sound, table_at, rows_of}
-use Rattle.msi_changes.specs.Changes.{Change, PoolInUse, no_change, pool_of, with_stored, sound_refusal}
-use Rattle.msi_changes.specs.Texts.{rows_released}
-use Rattle.msi_changes.specs.Insert.{cells_added, rows_inserted, row_refusals}
-use Rattle.msi_changes.specs.Create.{create_table, table_refusals, with_new_table}
-use Rattle.msi_changes.specs.Drop.{drop_table, is_row_about, rows_forgotten, table_released}
-use Rattle.msi_changes.proofs.DescribingLemmas.{put_elsewhere}
-use Rattle.msi_changes.proofs.DroppedLemmas.{flips}
+use Rattle.msi_query_rows.specs.Refusals.{first_refusal, or_refused, ◌>>=◌}
+use Rattle.msi_query_rows.specs.Rows.{TableCells}
+use Rattle.msi_database_schema.specs.Keys.{is_table_name}
+use Rattle.msi_database_schema.specs.System.{is_schema_table, is_system_table, tables_name, columns_name, validation_name}
+use Rattle.msi_database_schema.specs.Description.{column_rows, validation_rows}
+use Rattle.msi_database_schema.proofs.RowOrderLemmas.{names_total}
+use Rattle.msi_database_schema.proofs.FaultLemmas.{texts_flip}
+use Rattle.msi_database_changes.specs.Database.{Database, is_sound, table_at, rows_of}
+use Rattle.msi_database_changes.specs.Changes.{Change, PoolInUse, no_change, pool_of, with_stored, sound_refusal}
+use Rattle.msi_database_changes.specs.Texts.{rows_released}
+use Rattle.msi_database_changes.specs.Insert.{cells_added, rows_inserted, row_refusals}
+use Rattle.msi_database_changes.specs.Create.{create_table, table_refusals, with_new_table}
+use Rattle.msi_database_changes.specs.Drop.{drop_table, is_row_about, rows_forgotten, table_released}
+use Rattle.msi_database_changes.proofs.DescribingLemmas.{put_elsewhere}
 use Rattle.msi_database.proofs.MapLemmas as maps
-use Rattle.msi_database.proofs.StreamLemmas.{list_cmp_total, list_cmp_exact}
+use Rattle.msi_database.proofs.StreamLemmas.{list_cmp_exact}
 use Rattle.msi_database.proofs.EditLemmas.{apart_names}
 use Rattle.msi_database.proofs.MadeLemmas.{goes_on, found, inserted_by_cells, create_made}
 
@@ -76,13 +77,6 @@ module _ (d : Database) (name : List ℕ) (columns : List ColumnDef) (c t v : Ta
     pub third_inserted : first_refusal (row_refusals two.1.places v v_rows) ≡ None → cells_added d.pool.long v.columns two.1 (rows_of v) v_rows ≡ Some three → rows_inserted validation_name v_rows second ≡ Ok third
     third_inserted passed put = inserted_by_cells second validation_name v v_rows three.0 three.1 v_there passed put
 
-    -- the tables that are found in between
-    pub second_at : table_at tables_name first.database ≡ Some t
-    second_at = t_there
-
-    pub third_at : table_at validation_name second.database ≡ Some v
-    third_at = v_there
-
     pub create_by_steps : first_refusal (sound_refusal d ++ table_refusals d name columns) ≡ None
         → first_refusal (row_refusals d.pool.places c c_rows) ≡ None → cells_added d.pool.long c.columns (pool_of (no_change d)) (rows_of c) c_rows ≡ Some one
         → first_refusal (row_refusals one.1.places t t_rows) ≡ None → cells_added d.pool.long t.columns one.1 (rows_of t) t_rows ≡ Some two
@@ -122,17 +116,17 @@ module _ (d : Database) (name : List ℕ) (gone c t : TableCells) (passed : firs
 
   -- a system table is as it was
   released_at : (system : List ℕ) → bytes_eq name system ≡ false → table_at system released.database ≡ table_at system d
-  released_at system apart = maps.find_without_other list_cmp_total list_cmp_exact system name d.tables (apart_names name system apart)
+  released_at system apart = maps.find_without_other names_total list_cmp_exact system name d.tables (apart_names name system apart)
 
   abbrev parts : (is_schema_table name ≡ false) × (bytes_eq name validation_name ≡ false)
-  parts = or_false (is_schema_table name) (bytes_eq name validation_name) free
+  parts = or_parts (is_schema_table name) (bytes_eq name validation_name) free
 
   abbrev names : (bytes_eq name tables_name ≡ false) × (bytes_eq name columns_name ≡ false)
-  names = or_false (bytes_eq name tables_name) (bytes_eq name columns_name) parts.0
+  names = or_parts (bytes_eq name tables_name) (bytes_eq name columns_name) parts.0
 
   -- the name is none of a system table
   pub dropped_apart : (bytes_eq validation_name name ≡ false) × (bytes_eq columns_name name ≡ false) × (bytes_eq tables_name name ≡ false)
-  dropped_apart = (flips validation_name name ∙ parts.1, flips columns_name name ∙ names.1, flips tables_name name ∙ names.0)
+  dropped_apart = (texts_flip validation_name name ∙ parts.1, texts_flip columns_name name ∙ names.1, texts_flip tables_name name ∙ names.0)
 
   -- with `_Validation`
   module _ (v : TableCells) (v_at : table_at validation_name d ≡ Some v) where
@@ -171,18 +165,3 @@ module _ (d : Database) (name : List ℕ) (gone c t : TableCells) (passed : firs
         ∙ released_at tables_name names.0 ∙ t_at) in
         dropped_is ∙ ap Ok (ap (λ (b : Change). rows_forgotten name d.pool.places tables_name (rows_forgotten name d.pool.places columns_name b)) v_now
         ∙ ap (λ (b : Change). rows_forgotten name d.pool.places tables_name b) c_now ∙ t_now)
-
-  -- the pool after the table's own rows
-  pub released_pool : pool_of released ≡ rows_released (pool_of (no_change d)) (rows_of gone)
-  released_pool = refl
-
--- WHAT A CREATE AND A DROP LEAVE OF THE SYSTEM TABLES
-
--- a table that is stored is there
-pub stored_there : (name : List ℕ) (columns : List ColumnDef) (rows : List (List ValueRef)) (pool : PoolInUse) (b : Change)
-    → table_at name (with_stored name columns rows pool b).database ≡ Some (record { columns = columns; rows = Some (in_stored_order columns rows) })
-stored_there name columns rows pool b = maps.find_put_same list_cmp_total list_cmp_exact name (record { columns = columns; rows = Some (in_stored_order columns rows) }) b.database.tables
-
--- also behind a new table
-pub new_stays_at : (name other : List ℕ) (columns : List ColumnDef) (b : Change) → bytes_eq name other ≡ false → table_at other (with_new_table name columns b).database ≡ table_at other b.database
-new_stays_at name other columns b apart = put_elsewhere name other (record { columns = columns; rows = Some [] }) b.database apart

@@ -1,21 +1,21 @@
 -- Rows of a table of a sound database, and the end of a change.
 use Rattle.std.proofs.Common.{◌≡◌, Bool, true, List, map, Option, Some, None, is_some, Result, Ok, Err, sym, ap, subst, ◌∙◌, option_map, inl, inr, IfErr}
 use Rattle.std.specs.FinMap.{entries}
-use Rattle.msi_compound.specs.Streams as maps
-use Rattle.msi_text.specs.ErrorKind.{ErrorKind}
-use Rattle.msi_text.specs.ErrorKind.TheVariants.{InvalidData}
-use Rattle.msi_text.specs.Results.{OnlyMemory}
-use Rattle.msi_text.specs.Pool.{Pool}
-use Rattle.msi_value.specs.declared.value.ValueRef.{ValueRef}
+use Rattle.msi_container_format.specs.Streams as maps
+use Rattle.msi_text_base.specs.declared.errors.ErrorKind.{ErrorKind}
+use Rattle.msi_text_base.specs.declared.errors.ErrorKind.TheVariants.{InvalidData}
+use Rattle.msi_text_base.specs.Results.{OnlyMemory}
+use Rattle.msi_text_pool.specs.Pool.{Pool}
+use Rattle.msi_table_values.specs.declared.value.ValueRef.{ValueRef}
 use Rattle.msi_table.specs.Tables.{TableDef}
-use Rattle.msi_relation.specs.Refusals.{IsRefusal, or_refused}
-use Rattle.msi_changes.specs.Database.{is_sound, table_at}
-use Rattle.msi_changes.specs.Insert.{table_with}
-use Rattle.msi_kept.specs.Streams.{Streams, stored_rows}
-use Rattle.msi_kept.specs.declared.storing.Stored.{Stored}
-use Rattle.msi_kept.specs.Storing.{stored_all, stored_in}
-use Rattle.msi_kept.specs.Kept.{Kept, kept_of, table_kept, table_kept_at, database_kept, AreAsLong}
-use Rattle.msi_kept.proofs.TableAtLemmas.{table_at_kept}
+use Rattle.msi_query_rows.specs.Refusals.{IsRefusal, or_refused}
+use Rattle.msi_database_changes.specs.Database.{is_sound, table_at}
+use Rattle.msi_database_changes.specs.Insert.{table_with}
+use Rattle.msi_database_storage.specs.Streams.{Streams, stored_rows}
+use Rattle.msi_database_storage.specs.declared.storing.Stored.{Stored}
+use Rattle.msi_database_storage.specs.Storing.{stored_all, stored_in}
+use Rattle.msi_database_storage.specs.Kept.{Kept, kept_of, table_kept, table_kept_at, database_kept, AreAsLong}
+use Rattle.msi_database_storage.proofs.TableAtLemmas.{table_at_kept}
 use Rattle.msi_database.specs.Keeping.{AreKept}
 use Rattle.msi_database.specs.Listed.{table_def_at, tables_listed}
 use Rattle.msi_database.proofs.EntriesLemmas.{entries_stored}

@@ -4,26 +4,26 @@ use Rattle.std.specs.Prelude.{MatchBool}
 use Rattle.std.specs.List.{list_any, list_all, AllByRecursion}
 use Rattle.std.specs.FinMap.{find}
 use Rattle.std.proofs.lemmas.Bool.{and_parts}
-use Rattle.msi_text.specs.Lists.{list_cmp}
-use Rattle.msi_compound.specs.Names.{is_name_length}
-use Rattle.msi_value.specs.declared.value.ValueRef.{ValueRef}
-use Rattle.msi_value.specs.Columns.{types_of}
-use Rattle.msi_value.specs.Fitting.{FitsRow}
-use Rattle.msi_relation.specs.Rows.{TableCells}
-use Rattle.msi_schema.specs.Keys.{is_table_name}
-use Rattle.msi_schema.specs.System.{validation_name, validation_columns}
-use Rattle.msi_schema.specs.Schema.{schema_of}
-use Rattle.msi_schema.proofs.OrderlessLemmas.{HasKinds}
-use Rattle.msi_changes.specs.Database.{Database, Tables, has_table, is_sound, table_at}
-use Rattle.msi_changes.specs.Changes.{Change}
-use Rattle.msi_changes.proofs.StoredLemmas.{WellFormed}
-use Rattle.msi_changes.proofs.ShownLemmas.{shown}
-use Rattle.msi_changes.proofs.DescribingLemmas.{describing}
-use Rattle.msi_changes.proofs.PoolStepLemmas.{PlacesKept, kept_from, counts_from, freed_from}
-use Rattle.msi_changes.proofs.TracksLemmas.{Tracks}
-use Rattle.msi_changes.proofs.RegularLemmas.{IsRegular}
-use Rattle.msi_kept.specs.Streams.{Streams, stored_rows, stored_streams}
-use Rattle.msi_kept.specs.Kept.{Kept, after_change}
+use Rattle.msi_text_base.specs.Lists.{list_cmp}
+use Rattle.msi_container_format.specs.Names.{is_name_length}
+use Rattle.msi_table_values.specs.declared.value.ValueRef.{ValueRef}
+use Rattle.msi_table_values.specs.Columns.{types_of}
+use Rattle.msi_table_values.specs.Fitting.{FitsRow}
+use Rattle.msi_query_rows.specs.Rows.{TableCells}
+use Rattle.msi_database_schema.specs.Keys.{is_table_name}
+use Rattle.msi_database_schema.specs.System.{validation_name, validation_columns}
+use Rattle.msi_database_schema.specs.Schema.{schema_of}
+use Rattle.msi_database_schema.proofs.OrderlessLemmas.{HasKinds}
+use Rattle.msi_database_changes.specs.Database.{Database, Tables, has_table, is_sound, table_at}
+use Rattle.msi_database_changes.specs.Changes.{Change}
+use Rattle.msi_database_changes.proofs.StoredLemmas.{WellFormed}
+use Rattle.msi_database_changes.proofs.ShownLemmas.{shown}
+use Rattle.msi_database_changes.proofs.DescribingLemmas.{describing}
+use Rattle.msi_database_changes.proofs.PoolStepLemmas.{PlacesKept, kept_from, counts_from, freed_from}
+use Rattle.msi_database_changes.proofs.TracksLemmas.{Tracks}
+use Rattle.msi_database_changes.proofs.RegularLemmas.{IsRegular}
+use Rattle.msi_database_storage.specs.Streams.{Streams, stored_rows, stored_streams}
+use Rattle.msi_database_storage.specs.Kept.{Kept, after_change}
 use Rattle.msi_database.specs.Agreement.{TablesAre, UnlistedIs}
 use Rattle.msi_database.specs.Keeping.{IsKeptDatabase}
 use Rattle.msi_database.proofs.KeyLemmas.{validation_accepted, table_key_is_name}

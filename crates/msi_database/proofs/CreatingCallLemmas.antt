@@ -3,33 +3,33 @@ use Rattle.std.proofs.Common.{◌≡◌, ℕ, ◌≤◌, Bool, true, false, List
 use Rattle.std.specs.Prelude.{option_map, IfOk, OnOk}
 use Rattle.std.specs.FinMap.{entries}
 use Rattle.std.proofs.lemmas.Bool.{leb-true}
-use Rattle.msi_compound.specs.Streams as maps
-use Rattle.msi_text.specs.ErrorKind.{ErrorKind}
-use Rattle.msi_text.specs.ErrorKind.TheVariants.{InvalidInput, NotFound}
-use Rattle.msi_text.specs.FirstFit.{most_places}
-use Rattle.msi_text.specs.Pool.{Pool}
-use Rattle.msi_value.specs.declared.value.Value.{Value}
-use Rattle.msi_value.specs.declared.value.ValueRef.{ValueRef}
-use Rattle.msi_value.specs.Columns.{ColumnDef, types_of}
+use Rattle.msi_container_format.specs.Streams as maps
+use Rattle.msi_text_base.specs.declared.errors.ErrorKind.{ErrorKind}
+use Rattle.msi_text_base.specs.declared.errors.ErrorKind.TheVariants.{InvalidInput, NotFound}
+use Rattle.msi_text_pool.specs.FirstFit.{most_places}
+use Rattle.msi_text_pool.specs.Pool.{Pool}
+use Rattle.msi_table_values.specs.declared.value.Value.{Value}
+use Rattle.msi_table_values.specs.declared.value.ValueRef.{ValueRef}
+use Rattle.msi_table_values.specs.Columns.{ColumnDef, types_of}
 use Rattle.msi_table.specs.Tables.{TableDef, CanStore}
-use Rattle.msi_value.specs.Fitting.{FitsTable}
-use Rattle.msi_relation.specs.Refusals.{IsRefusal, first_refusal, or_refused, unless, unless_refused, ◌>>=◌}
-use Rattle.msi_relation.specs.Rows.{TableCells}
-use Rattle.msi_schema.specs.Description.{column_rows, tables_row, validation_rows}
-use Rattle.msi_schema.specs.Keys.{table_key}
-use Rattle.msi_schema.specs.System.{tables_name, columns_name, validation_name}
-use Rattle.msi_changes.specs.Database.{Database, is_sound, table_at, rows_of}
-use Rattle.msi_changes.specs.Changes.{Change, PoolInUse, no_change, pool_of, sound_refusal, with_stored}
-use Rattle.msi_changes.specs.Create.{create_table, table_refusals, with_new_table}
-use Rattle.msi_changes.specs.Insert.{cells_added, row_refusals, rows_inserted, table_with}
-use Rattle.msi_changes.specs.Laws.{created}
-use Rattle.msi_changes.specs.Texts.{UsedPool, in_use}
-use Rattle.msi_changes.proofs.RefusedLemmas.{bind_ok, first_refused, not_refused, same_Ok, value_there}
-use Rattle.msi_changes.proofs.TurnLemmas.{map_some}
-use Rattle.msi_kept.specs.declared.storing.Stored.{Stored}
-use Rattle.msi_kept.specs.Kept.{Kept, kept_of, database_kept, with_table_kept}
-use Rattle.msi_kept.specs.Storing.{HaveOwnNames, tables_stored}
-use Rattle.msi_kept.specs.Streams.{Streams, stream_of_rows}
+use Rattle.msi_table_values.specs.Fitting.{FitsTable}
+use Rattle.msi_query_rows.specs.Refusals.{IsRefusal, first_refusal, or_refused, unless, unless_refused, ◌>>=◌}
+use Rattle.msi_query_rows.specs.Rows.{TableCells}
+use Rattle.msi_database_schema.specs.Description.{column_rows, tables_row, validation_rows}
+use Rattle.msi_database_schema.specs.Keys.{table_key}
+use Rattle.msi_database_schema.specs.System.{tables_name, columns_name, validation_name}
+use Rattle.msi_database_changes.specs.Database.{Database, is_sound, table_at, rows_of}
+use Rattle.msi_database_changes.specs.Changes.{Change, PoolInUse, no_change, pool_of, sound_refusal, with_stored}
+use Rattle.msi_database_changes.specs.Create.{create_table, table_refusals, with_new_table}
+use Rattle.msi_database_changes.specs.Insert.{cells_added, row_refusals, rows_inserted, table_with}
+use Rattle.msi_database_changes.specs.Laws.{created}
+use Rattle.msi_database_changes.specs.Texts.{UsedPool, in_use}
+use Rattle.msi_database_changes.proofs.RefusedLemmas.{bind_ok, first_refused, not_refused, same_Ok, value_there}
+use Rattle.msi_database_changes.proofs.TurnLemmas.{map_some}
+use Rattle.msi_database_storage.specs.declared.storing.Stored.{Stored}
+use Rattle.msi_database_storage.specs.Kept.{Kept, kept_of, database_kept, with_table_kept}
+use Rattle.msi_database_storage.specs.Storing.{HaveOwnNames, tables_stored}
+use Rattle.msi_database_storage.specs.Streams.{Streams, stream_of_rows}
 use Rattle.msi_database.specs.Creating.{new_table, stream_gone, stream_with, streams_described}
 use Rattle.msi_database.specs.Keeping.{AreKept, IsKeptDatabase}
 use Rattle.msi_database.specs.Listed.{IsKnown, tables_listed}

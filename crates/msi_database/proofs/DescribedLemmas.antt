@@ -8,24 +8,25 @@ use Rattle.std.specs.Ordering.{eq_by_cmp}
 use Rattle.std.proofs.lemmas.Bool.{cases_Bool, and_parts, true≢false}
 use Rattle.std.proofs.lemmas.Option.{none-some, same_Some, option_and_then_some}
 use Rattle.std.proofs.lemmas.Slice.Eq.{bytes_eq-Decides}
-use Rattle.msi_text.specs.Lists.{list_cmp}
-use Rattle.msi_value.specs.declared.value.ValueRef.{ValueRef}
-use Rattle.msi_value.specs.declared.value.Value.{Value}
-use Rattle.msi_value.specs.Columns.{ColumnDef}
-use Rattle.msi_value.specs.CellValues.{row_values}
-use Rattle.msi_schema.specs.Keys.{is_table_name, table_key}
-use Rattle.msi_schema.specs.System.{tables_name, columns_name, validation_name, tables_columns, columns_columns, validation_columns}
-use Rattle.msi_changes.specs.Database.{Database, Tables, table_at, has_table, is_sound, are_alike}
-use Rattle.msi_relation.specs.Rows.{TableCells}
-use Rattle.msi_changes.specs.Laws.{rows_at}
-use Rattle.msi_schema.specs.Schema.{SchemaRows, schema_of}
-use Rattle.msi_schema.proofs.SchemaLemmas.{describes_from, names_tie, table_of}
-use Rattle.msi_changes.proofs.AlikeLemmas.{rows_alike}
-use Rattle.msi_changes.proofs.ShownLemmas.{find_shown, mapped_some, shown}
-use Rattle.msi_changes.proofs.StoredLemmas.{found_passes}
-use Rattle.msi_changes.proofs.DescribingLemmas.{describing, rows_at_is, validation_at}
-use Rattle.msi_kept.specs.Streams.{Streams, stream_at}
-use Rattle.msi_kept.specs.Streams.{stored_rows}
+use Rattle.msi_text_base.specs.Lists.{list_cmp}
+use Rattle.msi_table_values.specs.declared.value.ValueRef.{ValueRef}
+use Rattle.msi_table_values.specs.declared.value.Value.{Value}
+use Rattle.msi_table_values.specs.Columns.{ColumnDef}
+use Rattle.msi_table_values.specs.CellValues.{row_values}
+use Rattle.msi_database_schema.specs.Keys.{is_table_name, table_key}
+use Rattle.msi_database_schema.specs.System.{tables_name, columns_name, validation_name, tables_columns, columns_columns, validation_columns}
+use Rattle.msi_database_changes.specs.Database.{Database, Tables, table_at, has_table, is_sound, are_alike}
+use Rattle.msi_query_rows.specs.Rows.{TableCells}
+use Rattle.msi_database_changes.specs.Laws.{rows_at}
+use Rattle.msi_database_schema.specs.Schema.{SchemaRows, schema_of}
+use Rattle.msi_database_schema.proofs.SchemaLemmas.{names_tie}
+use Rattle.msi_database_changes.proofs.AlikeLemmas.{rows_alike}
+use Rattle.msi_database_changes.proofs.ShownLemmas.{shown}
+use Rattle.msi_database_changes.proofs.StoredLemmas.{found_passes}
+use Rattle.msi_database_changes.proofs.DescribingLemmas.{describing, rows_at_is, validation_at}
+use Rattle.msi_database_changes.proofs.SchemaKeptLemmas.{shown_table}
+use Rattle.msi_database_storage.specs.Streams.{Streams, stream_at}
+use Rattle.msi_database_storage.specs.Streams.{stored_rows}
 use Rattle.msi_database.specs.Agreement.{TablesAre, UnlistedIs, SchemaIs, described_by, schema_rows}
 use Rattle.msi_database.proofs.SoundLemmas.{sound_is}
 
@@ -40,11 +41,6 @@ table_rows streams long (u ∷ us) all name t e = ⊎_elim
     subst (λ (m : List ℕ). t.rows ≡ stored_rows streams long t.columns m) (sym n) (subst (λ (t : TableCells). t.rows ≡ stored_rows streams long t.columns u.0) is all.0))
     (λ (other : eq_by_cmp list_cmp name u.0 ≡ false). table_rows streams long us all.1 name t (rw other at e))
     (cases_Bool (eq_by_cmp list_cmp name u.0))
-
--- a table that a schema shows
-pub shown_table : (d : Database) (s : SchemaRows) → schema_of s ≡ Some (shown d) → (name : List ℕ) (columns : List ColumnDef) → table_of s name ≡ Some columns
-    → (t : TableCells) × (table_at name d ≡ Some t) × (t.columns ≡ columns)
-shown_table d s e name columns is = mapped_some (λ (t : TableCells). t.columns) (table_at name d) columns (sym (find_shown name d.tables) ∙ (describes_from s (shown d) e).found name ∙ is)
 
 -- where streams spell tables
 pub record Spelled (streams : Streams) (d : Database) : Type 0 where

@@ -1,33 +1,33 @@
 -- A drop: what a call has in hand at its end is what the drop leaves.
 use Rattle.std.proofs.Common.{◌≡◌, ℕ, Bool, true, false, not, List, [], ◌∷◌, ◌++◌, filter, Option, Some, None, Result, Ok, refl, sym, ap, ap₂, subst, ◌∙◌, inr}
 use Rattle.std.specs.Option.{option_map_or}
-use Rattle.msi_text.specs.ErrorKind.{ErrorKind}
-use Rattle.msi_text.specs.Pool.{Pool}
-use Rattle.msi_value.specs.declared.value.ValueRef.{ValueRef}
+use Rattle.msi_text_base.specs.declared.errors.ErrorKind.{ErrorKind}
+use Rattle.msi_text_base.proofs.OptionLemmas.{map_some}
+use Rattle.msi_text_pool.specs.Pool.{Pool}
+use Rattle.msi_table_values.specs.declared.value.ValueRef.{ValueRef}
 use Rattle.msi_table.specs.Tables.{TableDef, CanStore}
-use Rattle.msi_value.specs.Columns.{types_of}
-use Rattle.msi_value.specs.Fitting.{FitsTable}
-use Rattle.msi_relation.specs.Rows.{TableCells}
-use Rattle.msi_schema.specs.Keys.{is_table_name, table_key}
-use Rattle.msi_schema.specs.System.{is_system_table, tables_name, columns_name, validation_name, tables_columns, columns_columns}
-use Rattle.msi_changes.specs.Database.{Database, is_sound, table_at, rows_of}
-use Rattle.msi_changes.specs.Changes.{Change, PoolInUse, no_change, pool_of}
-use Rattle.msi_changes.specs.Texts.{UsedPool, in_use, rows_released}
-use Rattle.msi_changes.specs.Insert.{table_with}
-use Rattle.msi_changes.specs.Drop.{drop_table, is_row_about}
-use Rattle.msi_changes.specs.Laws.{dropped}
-use Rattle.msi_changes.proofs.DescribingLemmas.{describing}
-use Rattle.msi_changes.proofs.ShownLemmas.{mapped_some}
-use Rattle.msi_kept.specs.Streams.{Streams, stream_of_rows}
-use Rattle.msi_kept.specs.declared.storing.Stored.{Stored}
-use Rattle.msi_kept.specs.Storing.{HaveOwnNames, tables_stored}
-use Rattle.msi_kept.specs.Kept.{Kept, kept_of, database_kept, without_table_kept}
+use Rattle.msi_table_values.specs.Columns.{types_of}
+use Rattle.msi_table_values.specs.Fitting.{FitsTable}
+use Rattle.msi_query_rows.specs.Rows.{TableCells}
+use Rattle.msi_database_schema.specs.Keys.{is_table_name, table_key}
+use Rattle.msi_database_schema.specs.System.{is_system_table, tables_name, columns_name, validation_name, tables_columns, columns_columns}
+use Rattle.msi_database_changes.specs.Database.{Database, is_sound, table_at, rows_of}
+use Rattle.msi_database_changes.specs.Changes.{Change, PoolInUse, no_change, pool_of}
+use Rattle.msi_database_changes.specs.Texts.{UsedPool, in_use, rows_released}
+use Rattle.msi_database_changes.specs.Insert.{table_with}
+use Rattle.msi_database_changes.specs.Drop.{drop_table, is_row_about}
+use Rattle.msi_database_changes.specs.Laws.{dropped}
+use Rattle.msi_database_changes.proofs.DescribingLemmas.{describing}
+use Rattle.msi_database_changes.proofs.SchemaKeptLemmas.{shown_table}
+use Rattle.msi_database_storage.specs.Streams.{Streams, stream_of_rows}
+use Rattle.msi_database_storage.specs.declared.storing.Stored.{Stored}
+use Rattle.msi_database_storage.specs.Storing.{HaveOwnNames, tables_stored}
+use Rattle.msi_database_storage.specs.Kept.{Kept, kept_of, database_kept, without_table_kept}
 use Rattle.msi_database.specs.Keeping.{AreKept, IsKeptDatabase, HasFittingRows}
 use Rattle.msi_database.specs.Listed.{IsKnown, tables_listed}
 use Rattle.msi_database.specs.Making.{Makes, TellsUse}
 use Rattle.msi_database.specs.Dropping.{about_given_back, own_stream, rows_given_back, system_stream}
 use Rattle.msi_database.proofs.WholeLemmas.{found_holds}
-use Rattle.msi_database.proofs.DescribedLemmas.{shown_table}
 use Rattle.msi_database.proofs.ComesLemmas.{describes}
 use Rattle.msi_database.proofs.OwnNamesLemmas.{change_own_names}
 use Rattle.msi_database.proofs.TablesKeptLemmas.{listed_kept}
@@ -107,7 +107,7 @@ went_on d name system u v es fs used all went pool page long more = record {
 -- the table that is known is there, by its name
 known_there : (d : Database) (name : List ℕ) (t : TableDef) → IsKnown d name t → (gone : TableCells) × (table_at name d ≡ Some gone)
 known_there d name t known =
-    let found = mapped_some (λ (u : TableCells). record { name = t.name; columns = u.columns; long = d.pool.long }) (table_at t.name d) t known.listed in
+    let found = map_some (table_at t.name d) (λ (u : TableCells). record { name = t.name; columns = u.columns; long = d.pool.long }) t known.listed in
     (found.0, ap (λ n. table_at n d) (sym known.named) ∙ found.1)
 
 pub began_by : (k : Kept) (pool cloned : Pool) → cloned ≡ pool → pool ≡ k.database.pool → (u v : UsedPool) → u ≡ record { pool = cloned; is_used = false } → (name : List ℕ) (t : TableDef) → IsKnown k.database name t → (es fs : List Stored)

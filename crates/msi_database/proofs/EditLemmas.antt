@@ -5,26 +5,27 @@ use Rattle.std.specs.List.{list_any, AllByRecursion}
 use Rattle.std.specs.FinMap.{find, put}
 use Rattle.std.proofs.lemmas.Bool.{or_parts, or_from, true≢false}
 use Rattle.std.proofs.lemmas.Slice.Eq.{bytes_eq-Decides}
-use Rattle.msi_text.specs.Lists.{list_cmp}
-use Rattle.msi_value.specs.declared.value.ValueRef.{ValueRef}
-use Rattle.msi_value.specs.Columns.{ColumnDef, types_of}
+use Rattle.msi_text_base.specs.Lists.{list_cmp}
+use Rattle.msi_table_values.specs.declared.value.ValueRef.{ValueRef}
+use Rattle.msi_table_values.specs.Columns.{ColumnDef, types_of}
 use Rattle.msi_table.specs.Cells.{table_bytes}
 use Rattle.msi_table.specs.StoredOrder.{row_cmp, in_stored_order}
 use Rattle.msi_table.proofs.RowOrderLemmas.{row_cmp-weak}
 use Rattle.msi_table.proofs.StableSortLemmas.{length_sorted}
-use Rattle.msi_relation.specs.Rows.{TableCells}
-use Rattle.msi_schema.specs.Keys.{is_table_name, table_key}
-use Rattle.msi_schema.specs.System.{tables_name, columns_name, validation_name}
-use Rattle.msi_changes.specs.Database.{Database, Tables, table_at, with_table}
-use Rattle.msi_changes.specs.Changes.{Change, PoolInUse, no_change, with_stored}
-use Rattle.msi_changes.specs.Create.{with_new_table}
-use Rattle.msi_changes.specs.Drop.{table_released}
-use Rattle.msi_kept.specs.Streams.{Streams, table_stream, stream_of_rows, stored_stream, stored_streams}
-use Rattle.msi_kept.specs.declared.storing.Stored.{Stored}
-use Rattle.msi_kept.specs.Storing.{stored_in, tables_stored, HaveOwnNames}
+use Rattle.msi_query_rows.specs.Rows.{TableCells}
+use Rattle.msi_database_schema.specs.Keys.{is_table_name, table_key}
+use Rattle.msi_database_schema.specs.System.{tables_name, columns_name, validation_name}
+use Rattle.msi_database_schema.proofs.RowOrderLemmas.{names_total}
+use Rattle.msi_database_changes.specs.Database.{Database, Tables, table_at, with_table}
+use Rattle.msi_database_changes.specs.Changes.{Change, PoolInUse, no_change, with_stored}
+use Rattle.msi_database_changes.specs.Create.{with_new_table}
+use Rattle.msi_database_changes.specs.Drop.{table_released}
+use Rattle.msi_database_storage.specs.Streams.{Streams, table_stream, stream_of_rows, stored_stream, stored_streams}
+use Rattle.msi_database_storage.specs.declared.storing.Stored.{Stored}
+use Rattle.msi_database_storage.specs.Storing.{stored_in, tables_stored, HaveOwnNames}
 use Rattle.msi_database.proofs.MapLemmas as maps
 use Rattle.msi_database.proofs.KeyLemmas.{table_keys_tell_names}
-use Rattle.msi_database.proofs.StreamLemmas.{list_cmp_total, list_cmp_exact}
+use Rattle.msi_database.proofs.StreamLemmas.{list_cmp_exact}
 use Rattle.msi_database.proofs.StoredLemmas.{AreNames}
 
 -- storing them is storing the tables
@@ -68,7 +69,7 @@ put_others : (name : List ℕ) (t : TableCells) (tables : Tables) (names : List 
 put_others name t tables [] apart = tt
 put_others name t tables (n ∷ ns) apart =
     let parts = or_parts (bytes_eq name n) (list_any (bytes_eq name) ns) apart in
-    (maps.find_put_other list_cmp_total list_cmp_exact n name t tables (apart_names name n parts.0), put_others name t tables ns parts.1)
+    (maps.find_put_other names_total list_cmp_exact n name t tables (apart_names name n parts.0), put_others name t tables ns parts.1)
 
 joined : {X Y : Type 0} (f : X → Y) (xs ys : List X) → map f (xs ++ ys) ≡ map f xs ++ map f ys
 joined f [] ys = refl
@@ -80,7 +81,7 @@ module _ (d : Database) (name : List ℕ) (t : TableCells) (names : List (List �
   put_stored =
       joined (λ (n : List ℕ). record { name = table_key n; bytes = table_stream d.pool.long (table_at n (with_table name t d)) }) names (name ∷ [])
       ∙ (λ i. stays_stored d.pool.long d.tables (put list_cmp name t d.tables) names (put_others name t d.tables names apart) i
-      ++ record { name = table_key name; bytes = table_stream d.pool.long (maps.find_put_same list_cmp_total list_cmp_exact name t d.tables i) } ∷ [])
+      ++ record { name = table_key name; bytes = table_stream d.pool.long (maps.find_put_same names_total list_cmp_exact name t d.tables i) } ∷ [])
 
 -- rows that are stored
 pub rows_stored_last : (b : Change) (name : List ℕ) (columns : List ColumnDef) (rows : List (List ValueRef)) (pool : PoolInUse) → list_any (bytes_eq name) b.stored ≡ false
@@ -103,7 +104,7 @@ new_stored_last b name columns apart = put_stored b.database name (record { colu
 -- and a table that is dropped
 pub dropped_stored_first : (d : Database) (name : List ℕ) (t : TableCells)
     → tables_stored (table_released name t (no_change d)).database (name ∷ []) ≡ record { name = table_key name; bytes = None } ∷ []
-dropped_stored_first d name t = ap (λ (o : Option TableCells). record { name = table_key name; bytes = table_stream d.pool.long o } ∷ []) (maps.find_without_same list_cmp_total list_cmp_exact name d.tables)
+dropped_stored_first d name t = ap (λ (o : Option TableCells). record { name = table_key name; bytes = table_stream d.pool.long o } ∷ []) (maps.find_without_same names_total list_cmp_exact name d.tables)
 
 -- WHOLE CHANGES
 

@@ -1,19 +1,16 @@
 -- The entries of maps of streams.
-use Rattle.std.proofs.Common.{◌≡◌, ℕ, Bool, true, false, not, cond, List, [], ◌∷◌, Option, Some, None, refl, sym, ap, ◌∙◌}
+use Rattle.std.proofs.Common.{◌≡◌, ℕ, not, cond, List, [], ◌∷◌, Option, Some, None, refl, sym, ap, ◌∙◌}
 use Rattle.std.specs.FinMap.{entries, entries_sorted, remove, get, get-entries, get-remove, entries-insert}
 use Rattle.std.specs.FinMap.Entries.{find, same_entries, is_sorted-where_key, find-where_key}
 use Rattle.std.specs.Cmp.{eq_by_cmp_equiv, alike_right}
 use Rattle.std.specs.Ordering.{eq_by_cmp, is_eq}
-use Rattle.msi_compound.specs.Names.{name_cmp}
-use Rattle.msi_compound.specs.Streams as maps
-use Rattle.msi_compound.proofs.NamesLemmas.{names_total, exact_names}
-use Rattle.msi_kept.specs.Streams.{without_stream, with_stream_or_none}
-use Rattle.msi_kept.specs.declared.storing.Stored.{Stored}
-use Rattle.msi_kept.specs.Storing.{stored_all, stored_in}
-
-turned : (b : Bool) (x y : Option (List ℕ)) → cond (not b) x y ≡ cond b y x
-turned true x y = refl
-turned false x y = refl
+use Rattle.msi_text_base.proofs.BoolLemmas.{cond_not}
+use Rattle.msi_container_format.specs.Names.{name_cmp}
+use Rattle.msi_container_format.specs.Streams as maps
+use Rattle.msi_container_format.proofs.NamesLemmas.{names_total, exact_names}
+use Rattle.msi_database_storage.specs.Streams.{without_stream, with_stream_or_none}
+use Rattle.msi_database_storage.specs.declared.storing.Stored.{Stored}
+use Rattle.msi_database_storage.specs.Storing.{stored_all, stored_in}
 
 entries_removed : (m : maps.Streams) (k : List ℕ) → entries (remove m k) ≡ without_stream k (entries m)
 entries_removed m k =
@@ -23,7 +20,7 @@ entries_removed m k =
     (λ q. sym (get-entries (remove m k) q) ∙ get-remove names_total m k q
     ∙ ap (λ b. cond b None (get m q)) ((eq_by_cmp_equiv names_total).symm q k)
     ∙ ap (cond (eq_by_cmp name_cmp k q) None) (get-entries m q)
-    ∙ sym (find-where_key name_cmp p q (λ x t. ap (λ r. not (is_eq r)) (sym (alike_right names_total q x k t))) (entries m) ∙ turned (eq_by_cmp name_cmp k q) (find name_cmp q (entries m)) None))
+    ∙ sym (find-where_key name_cmp p q (λ x t. ap (λ r. not (is_eq r)) (sym (alike_right names_total q x k t))) (entries m) ∙ cond_not (eq_by_cmp name_cmp k q) (find name_cmp q (entries m)) None))
 
 pub entries_either : (m : maps.Streams) (k : List ℕ) (v : Option (List ℕ)) → entries (maps.with_or_without m k v) ≡ with_stream_or_none k v (entries m)
 entries_either m k None = entries_removed m k

@@ -1,28 +1,28 @@
 -- The parts that a change leaves, each as a call has it in hand, are those of the database that the change leaves, which is kept and sound.
-use Rattle.std.proofs.Common.{◌≡◌, ℕ, true, false, List, [], ◌∷◌, Option, Some, None, is_some, Ok, refl, sym, ap, subst, ◌∙◌, ◌⊎◌, inl, inr}
+use Rattle.std.proofs.Common.{◌≡◌, ℕ, true, List, [], ◌∷◌, None, Ok, refl, sym, ap, subst, ◌∙◌, ◌⊎◌, inl, inr}
 use Rattle.std.specs.FinMap.{entries, put}
-use Rattle.msi_compound.specs.Streams as maps
-use Rattle.msi_text.specs.Lists.{list_cmp}
-use Rattle.msi_text.specs.Pool.{Pool}
-use Rattle.msi_value.specs.declared.value.ValueRef.{ValueRef}
-use Rattle.msi_value.specs.Columns.{ColumnDef}
+use Rattle.msi_container_format.specs.Streams as maps
+use Rattle.msi_text_base.specs.Lists.{list_cmp}
+use Rattle.msi_text_base.proofs.OptionLemmas.{none_there}
+use Rattle.msi_text_pool.specs.Pool.{Pool}
+use Rattle.msi_table_values.specs.declared.value.ValueRef.{ValueRef}
+use Rattle.msi_table_values.specs.Columns.{ColumnDef}
 use Rattle.msi_table.specs.Tables.{TableDef}
-use Rattle.msi_schema.specs.Keys.{table_key}
-use Rattle.msi_changes.specs.Database.{Database, is_sound}
-use Rattle.msi_changes.specs.Changes.{Change, PoolInUse, no_change, with_stored}
-use Rattle.msi_changes.specs.Create.{create_table, table_refusals}
-use Rattle.msi_changes.specs.Drop.{drop_table}
-use Rattle.msi_changes.specs.Laws.{IsChange, IsTableChange, created, dropped}
-use Rattle.msi_changes.proofs.RefusedLemmas.{none_holds}
-use Rattle.msi_changes.proofs.ShownLemmas.{shown, shown_created}
-use Rattle.msi_changes.proofs.ShownLemmas as steps
-use Rattle.msi_changes.proofs.ShownChangesLemmas.{shown_changed, shown_dropped}
-use Rattle.msi_changes.proofs.DroppedLemmas.{without}
-use Rattle.msi_kept.specs.Streams.{Streams, stream_of_rows, stored_streams}
-use Rattle.msi_kept.specs.declared.storing.Stored.{Stored}
-use Rattle.msi_kept.specs.Storing.{stored_all, stored_in, tables_stored}
-use Rattle.msi_kept.specs.Kept.{Kept, kept_of, database_kept, after_change, AreAsLong, schema_listed, table_kept_at, with_table_kept, without_table_kept}
-use Rattle.msi_database.specs.Agreement.{schema_shown}
+use Rattle.msi_database_schema.specs.Keys.{table_key}
+use Rattle.msi_database_changes.specs.Database.{Database, is_sound, columns_by_name}
+use Rattle.msi_database_changes.specs.Changes.{Change, PoolInUse, no_change, with_stored}
+use Rattle.msi_database_changes.specs.Create.{create_table, table_refusals}
+use Rattle.msi_database_changes.specs.Drop.{drop_table}
+use Rattle.msi_database_changes.specs.Laws.{IsChange, IsTableChange, created, dropped}
+use Rattle.msi_database_changes.proofs.RefusedLemmas.{none_holds}
+use Rattle.msi_database_changes.proofs.ShownLemmas.{shown_created}
+use Rattle.msi_database_changes.proofs.ShownLemmas as steps
+use Rattle.msi_database_changes.proofs.ShownChangesLemmas.{shown_changed, shown_dropped}
+use Rattle.msi_database_changes.proofs.DroppedLemmas.{without}
+use Rattle.msi_database_storage.specs.Streams.{Streams, stream_of_rows, stored_streams}
+use Rattle.msi_database_storage.specs.declared.storing.Stored.{Stored}
+use Rattle.msi_database_storage.specs.Storing.{stored_all, stored_in, tables_stored}
+use Rattle.msi_database_storage.specs.Kept.{Kept, kept_of, database_kept, after_change, AreAsLong, schema_listed, table_kept_at, with_table_kept, without_table_kept}
 use Rattle.msi_database.specs.Keeping.{IsKeptDatabase, AreKept, AreParts}
 use Rattle.msi_database.proofs.EntriesLemmas.{entries_stored}
 use Rattle.msi_database.proofs.SchemaLemmas.{shown_in_order}
@@ -32,10 +32,6 @@ use Rattle.msi_database.proofs.TableListLemmas.{put_listed, put_as_long, without
 use Rattle.msi_database.proofs.EditLemmas.{tables_stored_in, rows_stored_first}
 use Rattle.msi_database.proofs.ComesLemmas.{Comes}
 use Rattle.msi_database.proofs.KeepingLemmas.{change_comes, changes_are_kept}
-
-none_there : {X : Type 0} (o : Option X) → is_some o ≡ false → o ≡ None
-none_there None e = refl
-none_there (Some x) e = cc
 
 module _ (pool : Pool) (tables : List TableDef) (streams : Streams) (kept : AreKept pool tables streams true) where
   abbrev old : Kept
@@ -59,7 +55,7 @@ module _ (pool : Pool) (tables : List TableDef) (streams : Streams) (kept : AreK
     left : IsKeptDatabase (after_change old c) × (is_sound c.database ≡ true)
     left = changes_are_kept old c kept.kept known_sound change
 
-    module _ (listed : schema_listed after ≡ schema_shown c.database) (as_long : AreAsLong pool.long after) where
+    module _ (listed : schema_listed after ≡ columns_by_name c.database) (as_long : AreAsLong pool.long after) where
       abbrev stored_now : Streams
       stored_now = stored_streams c.database c.stored streams
 
@@ -80,14 +76,14 @@ module _ (pool : Pool) (tables : List TableDef) (streams : Streams) (kept : AreK
       )
 
     -- the pool is the change's, the tables' columns are those of its tables, and its streams were stored
-    pub change_made : (new : Pool) (es : List Stored) → new ≡ c.database.pool → schema_listed after ≡ schema_shown c.database → AreAsLong pool.long after → es ≡ tables_stored c.database c.stored
+    pub change_made : (new : Pool) (es : List Stored) → new ≡ c.database.pool → schema_listed after ≡ columns_by_name c.database → AreAsLong pool.long after → es ≡ tables_stored c.database c.stored
         → AreParts (after_change old c) new after (stored_in es streams)
     change_made new es pool_is listed as_long stored =
         let now : stored_in es streams ≡ stored_streams c.database c.stored streams = ap (λ (es : List Stored). stored_in es streams) stored ∙ tables_stored_in c.database c.stored streams in
         subst (λ (p : Pool). AreParts (after_change old c) p after (stored_in es streams)) (sym pool_is)
         (subst (λ (s : Streams). AreParts (after_change old c) c.database.pool after s) (sym now) (parts_left listed as_long))
 
-  shown_old : schema_shown d ≡ schema_listed tables
+  shown_old : columns_by_name d ≡ schema_listed tables
   shown_old = schema_kept pool tables streams
 
   -- A CHANGE OF ROWS: the tables stay, and the rows that are written are given their stored order
@@ -140,15 +136,3 @@ module _ (pool : Pool) (tables : List TableDef) (m : maps.Streams) (kept : AreKe
       → AreParts (after_change was c) new tables (entries n)
   rows_finished c change name columns rows used is new n e pool_is name_is bytes_is stored =
       stored_map (after_change was c) new tables n (e ∷ []) stored (rows_made pool tables (entries m) kept c change name columns rows used is new e pool_is name_is bytes_is)
-
-  pub create_finished : (name : List ℕ) (columns : List ColumnDef) (c : Change) → create_table was.database name columns ≡ Ok c → (new : Pool) (n : maps.Streams) (es : List Stored)
-      → new ≡ c.database.pool → es ≡ tables_stored c.database c.stored → n ≡ stored_all m es
-      → AreParts (after_change was c) new (with_table_kept (record { name = name; columns = columns; long = pool.long }) tables) (entries n)
-  create_finished name columns c e new n es pool_is edit stored =
-      stored_map (after_change was c) new (with_table_kept (record { name = name; columns = columns; long = pool.long }) tables) n es stored (create_kept pool tables (entries m) kept name columns c e new es pool_is edit)
-
-  pub drop_finished : (name : List ℕ) (c : Change) → drop_table was.database name ≡ Ok c → (new : Pool) (n : maps.Streams) (es : List Stored)
-      → new ≡ c.database.pool → es ≡ tables_stored c.database c.stored → n ≡ stored_all m es
-      → AreParts (after_change was c) new (without_table_kept name tables) (entries n)
-  drop_finished name c e new n es pool_is edit stored =
-      stored_map (after_change was c) new (without_table_kept name tables) n es stored (drop_kept pool tables (entries m) kept name c e new es pool_is edit)

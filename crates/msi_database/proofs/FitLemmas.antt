@@ -7,24 +7,25 @@ use Rattle.std.proofs.lemmas.Bool.{and_from, true≢false}
 use Rattle.std.proofs.lemmas.Bool.Decides.{nat_tests}
 use Rattle.std.proofs.lemmas.List.{length-map}
 use Rattle.std.proofs.lemmas.List.Folds.{list_all-append}
-use Rattle.msi_text.specs.Lists.{list_cmp}
-use Rattle.msi_value.specs.declared.column.ColumnType.{ColumnType}
-use Rattle.msi_value.specs.declared.column.ColumnType.TheVariants as coltype
-use Rattle.msi_value.specs.declared.value.ValueRef.{ValueRef}
-use Rattle.msi_value.specs.declared.value.ValueRef.TheVariants as cell
-use Rattle.msi_value.specs.Columns.{types_of}
-use Rattle.msi_value.specs.Fitting.{FitsColumn, FitsRow, FitsTable}
-use Rattle.msi_value.proofs.FittingLemmas.{fits_length}
-use Rattle.msi_relation.specs.Rows.{TableCells}
-use Rattle.msi_schema.specs.System.{validation_columns}
-use Rattle.msi_changes.specs.Database.{Database, Tables, number_of_cell, numbers_of_rows, rows_of, is_sound}
-use Rattle.msi_changes.proofs.StoredLemmas.{WellFormed, table_is_full}
-use Rattle.msi_changes.proofs.TracksLemmas.{TableFits, AllFit}
-use Rattle.msi_changes.proofs.RegularLemmas.{IsRegular}
+use Rattle.msi_text_base.specs.Lists.{list_cmp}
+use Rattle.msi_table_values.specs.declared.column.ColumnType.{ColumnType}
+use Rattle.msi_table_values.specs.declared.column.ColumnType.TheVariants as coltype
+use Rattle.msi_table_values.specs.declared.value.ValueRef.{ValueRef}
+use Rattle.msi_table_values.specs.declared.value.ValueRef.TheVariants as cell
+use Rattle.msi_table_values.specs.Columns.{types_of}
+use Rattle.msi_table_values.specs.Fitting.{FitsColumn, FitsRow, FitsTable}
+use Rattle.msi_table_values.proofs.FittingLemmas.{fits_length}
+use Rattle.msi_query_rows.specs.Rows.{TableCells}
+use Rattle.msi_database_schema.specs.System.{validation_columns}
+use Rattle.msi_database_schema.proofs.RowOrderLemmas.{names_total}
+use Rattle.msi_database_changes.specs.Database.{Database, Tables, number_of_cell, numbers_of_rows, rows_of, is_sound}
+use Rattle.msi_database_changes.proofs.StoredLemmas.{WellFormed, table_is_full}
+use Rattle.msi_database_changes.proofs.TracksLemmas.{TableFits, AllFit}
+use Rattle.msi_database_changes.proofs.RegularLemmas.{IsRegular}
 use Rattle.msi_database.specs.Keeping.{HasFittingRows, RowsFit, UnlistedFits}
 use Rattle.msi_database.proofs.MapLemmas as maps
 use Rattle.msi_database.proofs.SoundLemmas.{sound_rows}
-use Rattle.msi_database.proofs.StreamLemmas.{TablesSorted, tables_found, list_cmp_total, list_cmp_exact}
+use Rattle.msi_database.proofs.StreamLemmas.{TablesSorted, tables_found, list_cmp_exact}
 
 -- ROWS THAT FIT
 
@@ -34,7 +35,7 @@ from_one n = nat_lt 0 n
 above : (n : ℕ) → 0 < n → from_one n ≡ true
 above n h = grind (arith, nat_tests)
 
-number_fits : (long : Bool) (type : ColumnType) (n : ℕ) → FitsColumn long type (cell.Str n) → 0 < n
+pub number_fits : (long : Bool) (type : ColumnType) (n : ℕ) → FitsColumn long type (cell.Str n) → 0 < n
 number_fits long coltype.Int16 n f = absurd f
 number_fits long coltype.Int32 n f = absurd f
 number_fits long (coltype.Str k) n f = f.0
@@ -97,7 +98,7 @@ all_readable long [] e f = tt
 all_readable long (t ∷ ts) e f = (readable_fits long (types_of t.1.columns) t.1.rows e.0 f.0, all_readable long ts e.1 f.1)
 
 pub sound_fits : (d : Database) → is_sound d ≡ true → RowsFit d → AllFit d
-sound_fits d sound fit name t found = maps.found_has list_cmp_total list_cmp_exact (λ e. TableFits d.pool.long e.1) name t d.tables (all_readable d.pool.long d.tables (sound_rows d sound) fit) found
+sound_fits d sound fit name t found = maps.found_has names_total list_cmp_exact (λ e. TableFits d.pool.long e.1) name t d.tables (all_readable d.pool.long d.tables (sound_rows d sound) fit) found
 
 pub regular_by : (d : Database) → is_sound d ≡ true → TablesSorted d.tables → RowsFit d → UnlistedFits d → IsRegular d
 regular_by d sound in_order fit unlisted = record { well = well_formed d in_order fit unlisted; fit = sound_fits d sound fit; unlisted = unlisted }

@@ -2,37 +2,38 @@
 use Rattle.std.proofs.Common.{◌≡◌, ℕ, Bool, true, false, ◌&&◌, List, [], ◌∷◌, ◌++◌, length, Option, Some, None, is_some, Result, Ok, Err, IfErr, refl, sym, ap, ap₂, subst, ◌∙◌, option_map, inl, inr, arith, nat_lt, nat_le}
 use Rattle.std.specs.Prelude.{IfOk, IsSomeAnd, option_and_then, unwrap_or}
 use Rattle.std.specs.List.{list_all}
-use Rattle.std.specs.FinMap.{put}
 use Rattle.std.proofs.lemmas.Bool.{and_parts}
 use Rattle.std.proofs.lemmas.Bool.Decides.{nat_tests}
 use Rattle.std.proofs.lemmas.Option.{same_Some}
-use Rattle.msi_text.specs.ErrorKind.{ErrorKind}
-use Rattle.msi_text.specs.ErrorKind.TheVariants.{InvalidInput}
-use Rattle.msi_text.specs.Results.{OnlyMemory}
-use Rattle.msi_value.specs.declared.value.Value.{Value}
-use Rattle.msi_value.specs.declared.value.Value.TheVariants.{Str}
-use Rattle.msi_value.specs.declared.value.ValueRef.{ValueRef}
-use Rattle.msi_value.specs.Columns.{ColumnDef, types_of}
+use Rattle.msi_text_base.specs.declared.errors.ErrorKind.{ErrorKind}
+use Rattle.msi_text_base.specs.declared.errors.ErrorKind.TheVariants.{InvalidInput}
+use Rattle.msi_text_base.specs.Results.{OnlyMemory}
+use Rattle.msi_text_base.proofs.OptionLemmas.{mapped_twice}
+use Rattle.msi_table_values.specs.declared.value.Value.{Value}
+use Rattle.msi_table_values.specs.declared.value.Value.TheVariants.{Str}
+use Rattle.msi_table_values.specs.declared.value.ValueRef.{ValueRef}
+use Rattle.msi_table_values.specs.Columns.{ColumnDef, types_of}
 use Rattle.msi_table.specs.Tables.{TableDef, CanStore}
-use Rattle.msi_relation.specs.Refusals.{IsRefusal, or_refused}
-use Rattle.msi_relation.specs.Rows.{TableCells}
-use Rattle.msi_schema.specs.Description.{column_rows, validation_rows}
-use Rattle.msi_schema.specs.Keys.{table_key}
-use Rattle.msi_schema.specs.System.{columns_name, tables_name, validation_name}
-use Rattle.msi_changes.specs.Database.{Database, table_at}
-use Rattle.msi_changes.specs.Changes.{Change, PoolInUse, no_change, pool_of, with_stored}
-use Rattle.msi_changes.specs.Create.{added_to, described_by_rows}
-use Rattle.msi_changes.specs.Insert.{cells_added, rows_added}
-use Rattle.msi_changes.specs.Keyed.{in_key_order}
-use Rattle.msi_changes.specs.Texts.{UsedPool, in_use, rows_put}
-use Rattle.msi_changes.proofs.FitTestLemmas.{cells_fit, each_fits}
-use Rattle.msi_kept.specs.Streams.{stream_of_rows}
-use Rattle.msi_kept.specs.declared.storing.Stored.{Stored}
-use Rattle.msi_kept.specs.Storing.{HaveOwnNames, tables_stored}
+use Rattle.msi_query_rows.specs.Refusals.{IsRefusal, or_refused}
+use Rattle.msi_query_rows.specs.Rows.{TableCells}
+use Rattle.msi_database_schema.specs.Description.{column_rows, validation_rows}
+use Rattle.msi_database_schema.specs.Keys.{table_key}
+use Rattle.msi_database_schema.specs.System.{columns_name, tables_name, validation_name}
+use Rattle.msi_database_schema.proofs.RowOrderLemmas.{names_total}
+use Rattle.msi_database_changes.specs.Database.{Database, table_at}
+use Rattle.msi_database_changes.specs.Changes.{Change, PoolInUse, no_change, pool_of, with_stored}
+use Rattle.msi_database_changes.specs.Create.{added_to, described_by_rows}
+use Rattle.msi_database_changes.specs.Insert.{cells_added, rows_added}
+use Rattle.msi_database_changes.specs.Keyed.{in_key_order}
+use Rattle.msi_database_changes.specs.Texts.{UsedPool, in_use, rows_put}
+use Rattle.msi_database_changes.proofs.FitTestLemmas.{cells_fit, each_fits}
+use Rattle.msi_database_storage.specs.Streams.{stream_of_rows}
+use Rattle.msi_database_storage.specs.declared.storing.Stored.{Stored}
+use Rattle.msi_database_storage.specs.Storing.{HaveOwnNames, tables_stored}
 use Rattle.msi_database.specs.Fresh.{empty_table}
 use Rattle.msi_database.specs.FreshParts.{Begins, CanBegin}
 use Rattle.msi_database.proofs.MapLemmas as maps
-use Rattle.msi_database.proofs.StreamLemmas.{list_cmp_total, list_cmp_exact}
+use Rattle.msi_database.proofs.StreamLemmas.{list_cmp_exact}
 use Rattle.msi_database.proofs.StoredLemmas.{AreNames}
 use Rattle.msi_database.proofs.EditLemmas.{AreApart, apart_names, own_names, rows_stored_first, rows_stored_last}
 
@@ -126,10 +127,6 @@ fits_begun_is t (Some r) e =
 abbrev pub listing : List ℕ → List (List Value)
 listing name = (Str name ∷ []) ∷ []
 
-mapped_twice : {A B C : Type 0} (f : A → B) (g : B → C) (o : Option A) → option_map (λ x. g (f x)) o ≡ option_map g (option_map f o)
-mapped_twice f g None = refl
-mapped_twice f g (Some x) = refl
-
 -- rows added to a table without rows
 added_first : (c : Change) (name : List ℕ) (t : TableDef) (values : List (List Value)) (r : Rows) → t.long ≡ c.database.pool.long → table_at name c.database ≡ Some (empty_table t.columns)
     → cells_added t.long t.columns (pool_of c) [] values ≡ Some r → added_to name values c ≡ Some (with_stored name t.columns r.0 r.1 c)
@@ -186,12 +183,12 @@ module _ (d : Database) (name : List ℕ) (columns : List ColumnDef) (c t v : Ta
 
   second : added_to tables_name (listing name) b₁ ≡ Some b₂
   second = added_first b₁ tables_name t (listing name) t_rows are.t_long
-      (maps.find_put_other list_cmp_total list_cmp_exact tables_name columns_name _ d.tables (apart_names columns_name tables_name refl) ∙ are.t_at) t_added
+      (maps.find_put_other names_total list_cmp_exact tables_name columns_name _ d.tables (apart_names columns_name tables_name refl) ∙ are.t_at) t_added
 
   third : added_to validation_name (validation_rows name columns) b₂ ≡ Some b₃
   third = added_first b₂ validation_name v (validation_rows name columns) v_rows are.v_long
-      (maps.find_put_other list_cmp_total list_cmp_exact validation_name tables_name _ b₁.database.tables (apart_names tables_name validation_name refl)
-      ∙ maps.find_put_other list_cmp_total list_cmp_exact validation_name columns_name _ d.tables (apart_names columns_name validation_name refl) ∙ are.v_at) v_added
+      (maps.find_put_other names_total list_cmp_exact validation_name tables_name _ b₁.database.tables (apart_names tables_name validation_name refl)
+      ∙ maps.find_put_other names_total list_cmp_exact validation_name columns_name _ d.tables (apart_names columns_name validation_name refl) ∙ are.v_at) v_added
 
   described : described_by_rows name columns (no_change d) ≡ Some b₃
   described =

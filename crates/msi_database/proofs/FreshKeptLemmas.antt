@@ -1,18 +1,18 @@
 -- The parts of a new database are kept, and make `fresh`.
-use Rattle.std.proofs.Common.{◌≡◌, ℕ, true, false, List, [], ◌∷◌, length, refl, sym, ap, subst, ◌∙◌, arith}
+use Rattle.std.proofs.Common.{◌≡◌, ℕ, true, false, List, [], ◌∷◌, refl, sym, ap, subst, ◌∙◌}
 use Rattle.std.specs.FinMap.{empty, entries, len, len-empty, len-entries}
-use Rattle.msi_compound.specs.Names.{name_cmp}
-use Rattle.msi_compound.specs.Streams as maps
-use Rattle.msi_text.specs.Pool.{Pool}
-use Rattle.msi_value.specs.Columns.{ColumnDef}
+use Rattle.std.proofs.lemmas.List.{nil_from_length}
+use Rattle.msi_container_format.specs.Names.{name_cmp}
+use Rattle.msi_container_format.specs.Streams as maps
+use Rattle.msi_text_pool.specs.Pool.{Pool}
+use Rattle.msi_table_values.specs.Columns.{ColumnDef}
 use Rattle.msi_table.specs.Tables.{TableDef}
-use Rattle.msi_schema.specs.System.{columns_columns, columns_name, tables_columns, tables_name, validation_columns, validation_name}
-use Rattle.msi_changes.specs.Database.{is_sound}
-use Rattle.msi_kept.specs.declared.storing.Stored.{Stored}
-use Rattle.msi_kept.specs.Storing.{HaveOwnNames, stored_all, stored_in}
-use Rattle.msi_kept.specs.Streams.{Streams}
-use Rattle.msi_kept.specs.Kept.{AreAsLong, Kept, database_kept, kept_of, schema_listed}
-use Rattle.msi_database.specs.Agreement.{schema_shown}
+use Rattle.msi_database_schema.specs.System.{columns_columns, columns_name, tables_columns, tables_name, validation_columns, validation_name}
+use Rattle.msi_database_changes.specs.Database.{is_sound, columns_by_name}
+use Rattle.msi_database_storage.specs.declared.storing.Stored.{Stored}
+use Rattle.msi_database_storage.specs.Storing.{HaveOwnNames, stored_all, stored_in}
+use Rattle.msi_database_storage.specs.Streams.{Streams}
+use Rattle.msi_database_storage.specs.Kept.{AreAsLong, Kept, database_kept, kept_of, schema_listed}
 use Rattle.msi_database.specs.Keeping.{AreParts, IsKeptDatabase}
 use Rattle.msi_database.specs.Fresh.{fresh, fresh_change}
 use Rattle.msi_database.specs.FreshParts.{columns_table, fresh_pool, fresh_stored, tables_table, validation_table}
@@ -42,7 +42,7 @@ system = columns_table ∷ tables_table ∷ validation_table ∷ []
 
 -- ANY KEPT DATABASE WHOSE TABLES ARE LISTED
 
-kept_parts : (k : Kept) (tables : List TableDef) → IsKeptDatabase k → is_sound k.database ≡ true → schema_listed tables ≡ schema_shown k.database → AreAsLong k.database.pool.long tables
+kept_parts : (k : Kept) (tables : List TableDef) → IsKeptDatabase k → is_sound k.database ≡ true → schema_listed tables ≡ columns_by_name k.database → AreAsLong k.database.pool.long tables
     → AreParts k k.database.pool tables k.streams
 kept_parts k tables kept sound listed as_long =
     let made : database_kept k.database.pool tables k.streams ≡ k.database = parts_make k.streams k.database tables kept.spelled listed in
@@ -72,7 +72,7 @@ whole_sound : is_sound whole.database ≡ true
 unfolding whole
 whole_sound = fresh_is_kept.sound
 
-whole_listed : schema_listed system ≡ schema_shown whole.database
+whole_listed : schema_listed system ≡ columns_by_name whole.database
 unfolding Rattle.std.specs.Str.chars whole columns_table tables_table validation_table
 whole_listed = refl
 
@@ -91,12 +91,8 @@ whole_streams = tables_stored_in fresh_change.database fresh_change.stored []
 whole_as_long : AreAsLong whole.database.pool.long system
 whole_as_long = subst (λ long. AreAsLong long system) (sym whole_long) (columns_long, (tables_long, (validation_long, tt)))
 
-no_length : {A : Type 0} (xs : List A) → length xs ≡ 0 → xs ≡ []
-no_length [] e = refl
-no_length (x ∷ xs) e = absurd (omega arith)
-
 none_yet : (m : maps.Streams) → m ≡ empty → entries m ≡ []
-none_yet m e = no_length (entries m) (sym (len-entries m) ∙ ap len e ∙ len-empty name_cmp (List ℕ))
+none_yet m e = nil_from_length (entries m) (sym (len-entries m) ∙ ap len e ∙ len-empty name_cmp (List ℕ))
 
 -- AS THE CALL HAS THEM
 

@@ -1,18 +1,16 @@
 -- A new database is kept and sound, and its counts are exact; its places and its streams.
-use Rattle.std.proofs.Common.{◌≡◌, ℕ, zero, suc, ◌+◌, ◌<◌, ◌≤◌, ◌^◌, Bool, true, ◌&&◌, ◌==◌, nat_lt, List, [], ◌∷◌, length, slice_get, refl, subst, arith, lit≤, inl, inr}
-use Rattle.std.specs.Prelude.{codes, Some, unwrap_or}
-use Rattle.std.specs.List.{list_all, AllByRecursion, sum_by}
-use Rattle.std.proofs.lemmas.Bool.{and_parts, ltb-true, eqb-true, cases_eq}
-use Rattle.msi_text.specs.Lists.{numbers_from, numbers_below}
-use Rattle.msi_text.specs.FirstFit.{count_of}
-use Rattle.msi_text.specs.Pool.{Place, CountsFit, PlacesWritten}
-use Rattle.msi_value.specs.Columns.{types_of}
-use Rattle.msi_schema.specs.Keys.{table_key}
-use Rattle.msi_schema.specs.System.{validation_columns, columns_name}
-use Rattle.msi_changes.specs.Database.{Database, CountsAreExact, cells_naming, is_sound}
-use Rattle.msi_changes.proofs.FitTestLemmas.{all_fit, all_fit_is, unlisted_fit, each_fits}
-use Rattle.msi_kept.specs.Streams.{stream_at}
-use Rattle.msi_kept.specs.StreamNames.{HaveNames}
+use Rattle.std.proofs.Common.{◌≡◌, ℕ, ◌+◌, ◌<◌, ◌≤◌, ◌^◌, Bool, true, ◌&&◌, ◌==◌, nat_lt, List, [], ◌∷◌, length, slice_get, refl, arith, lit≤}
+use Rattle.std.specs.List.{list_all}
+use Rattle.std.proofs.lemmas.Bool.{and_parts, ltb-true, eqb-true}
+use Rattle.msi_text_base.specs.Lists.{numbers_below}
+use Rattle.msi_text_base.proofs.ListLemmas.{each_number}
+use Rattle.msi_text_pool.specs.FirstFit.{count_of}
+use Rattle.msi_text_pool.specs.Pool.{Place, CountsFit, PlacesWritten}
+use Rattle.msi_table_values.specs.Columns.{types_of}
+use Rattle.msi_database_schema.specs.System.{validation_columns}
+use Rattle.msi_database_changes.specs.Database.{Database, CountsAreExact, cells_naming, is_sound}
+use Rattle.msi_database_changes.proofs.FitTestLemmas.{all_fit, all_fit_is, unlisted_fit, each_fits}
+use Rattle.msi_database_storage.specs.StreamNames.{HaveShortNames}
 use Rattle.msi_database.specs.Agreement.{TablesAre, UnlistedIs, SchemaIs}
 use Rattle.msi_database.specs.Fresh.{fresh, FreshIsKept}
 use Rattle.msi_database.proofs.StreamLemmas.{AreSorted, TablesSorted}
@@ -25,7 +23,7 @@ sorted : AreSorted fresh.streams
 unfolding Rattle.std.specs.Str.chars
 sorted = tt
 
-names : HaveNames fresh.streams
+names : HaveShortNames fresh.streams
 unfolding Rattle.std.specs.Str.chars
 names = (refl, (refl, (refl, tt)))
 
@@ -82,16 +80,6 @@ in_use : list_all is_in_use d.pool.places ≡ true
 unfolding Rattle.std.specs.Str.chars is_in_use
 in_use = refl
 
--- a test of each number from i on
-each_number : (test : ℕ → Bool) (i n : ℕ) → list_all test (numbers_from i n) ≡ true → (k : ℕ) → i ≤ k → k < i + n → test k ≡ true
-each_number test i zero h k low high = absurd (omega arith)
-each_number test i (suc n) h k low high =
-    let parts = and_parts (test i) (list_all test (numbers_from (i + 1) n)) h in
-    elim (cases_eq i k) [
-      | inl same ↦ subst (λ (m : ℕ). test m ≡ true) same parts.0
-      | inr other ↦ each_number test (i + 1) n parts.1 k (omega arith) (omega arith)
-    ]
-
 is_exact : ℕ → Bool
 is_exact i = count_of (slice_get d.pool.places i) == cells_naming d (i + 1)
 
@@ -118,25 +106,3 @@ fresh_is_kept = record {
   sound = sound;
   counts = exact;
 }
-
--- WORKED ROWS
-
-many_places : length d.pool.places ≡ 17
-unfolding Rattle.std.specs.Str.chars
-many_places = refl
-
-first_place : slice_get d.pool.places 0 ≡ Some (record { text = codes "_Validation"; count = 21 })
-unfolding Rattle.std.specs.Str.chars
-first_place = refl
-
-all_counts : sum_by (λ p. p.count) d.pool.places ≡ 58
-unfolding Rattle.std.specs.Str.chars
-all_counts = refl
-
-stored_columns : unwrap_or (stream_at (table_key columns_name) fresh.streams) []
-    ≡ 1 ∷ 0 ∷ 1 ∷ 0 ∷ 1 ∷ 0 ∷ 1 ∷ 0 ∷ 1 ∷ 0 ∷ 1 ∷ 0 ∷ 1 ∷ 0 ∷ 1 ∷ 0 ∷ 1 ∷ 0 ∷ 1 ∷ 0
-    ∷ 1 ∷ 0x80 ∷ 2 ∷ 0x80 ∷ 3 ∷ 0x80 ∷ 4 ∷ 0x80 ∷ 5 ∷ 0x80 ∷ 6 ∷ 0x80 ∷ 7 ∷ 0x80 ∷ 8 ∷ 0x80 ∷ 9 ∷ 0x80 ∷ 10 ∷ 0x80
-    ∷ 2 ∷ 0 ∷ 3 ∷ 0 ∷ 4 ∷ 0 ∷ 5 ∷ 0 ∷ 6 ∷ 0 ∷ 7 ∷ 0 ∷ 8 ∷ 0 ∷ 9 ∷ 0 ∷ 10 ∷ 0 ∷ 11 ∷ 0
-    ∷ 0x20 ∷ 0xAD ∷ 0x20 ∷ 0xAD ∷ 4 ∷ 0x8D ∷ 4 ∷ 0x91 ∷ 4 ∷ 0x91 ∷ 0xFF ∷ 0x9D ∷ 2 ∷ 0x95 ∷ 0x20 ∷ 0x9D ∷ 0xFF ∷ 0x9D ∷ 0xFF ∷ 0x9D ∷ []
-unfolding Rattle.std.specs.Str.chars
-stored_columns = refl

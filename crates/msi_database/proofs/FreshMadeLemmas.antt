@@ -1,20 +1,20 @@
 -- The calls of a new database, one after the other, make the streams and the pool of `fresh`.
 use Rattle.std.proofs.Common.{◌≡◌, true, false, List, [], ◌∷◌, length, Some, refl, sym, ap, ap₂, subst, ◌∙◌}
 use Rattle.std.specs.Prelude.{IsTrue, unwrap_or}
-use Rattle.msi_compound.specs.Names.{is_name_length}
-use Rattle.msi_text.specs.Pool.{Pool}
-use Rattle.msi_value.specs.declared.value.Value.{Value}
-use Rattle.msi_value.specs.Columns.{ColumnDef}
+use Rattle.msi_container_format.specs.Names.{is_name_length}
+use Rattle.msi_text_pool.specs.Pool.{Pool}
+use Rattle.msi_table_values.specs.declared.value.Value.{Value}
+use Rattle.msi_table_values.specs.Columns.{ColumnDef}
 use Rattle.msi_table.specs.Tables.{TableDef}
-use Rattle.msi_schema.specs.Description.{column_rows, have_short_lengths, tables_row, validation_rows}
-use Rattle.msi_schema.specs.Keys.{table_key}
-use Rattle.msi_schema.specs.System.{validation_name}
-use Rattle.msi_changes.specs.Changes.{PoolInUse, no_change, pool_of}
-use Rattle.msi_changes.specs.Create.{described_by_rows}
-use Rattle.msi_changes.specs.Insert.{cells_added}
-use Rattle.msi_changes.specs.Texts.{UsedPool, in_use}
-use Rattle.msi_kept.specs.declared.storing.Stored.{Stored}
-use Rattle.msi_kept.specs.Storing.{HaveOwnNames}
+use Rattle.msi_database_schema.specs.Description.{column_rows, have_short_lengths, tables_row, validation_rows}
+use Rattle.msi_database_schema.specs.Keys.{table_key}
+use Rattle.msi_database_schema.specs.System.{validation_name}
+use Rattle.msi_database_changes.specs.Changes.{PoolInUse, no_change, pool_of}
+use Rattle.msi_database_changes.specs.Create.{described_by_rows}
+use Rattle.msi_database_changes.specs.Insert.{cells_added}
+use Rattle.msi_database_changes.specs.Texts.{UsedPool, in_use}
+use Rattle.msi_database_storage.specs.declared.storing.Stored.{Stored}
+use Rattle.msi_database_storage.specs.Storing.{HaveOwnNames}
 use Rattle.msi_database.specs.Fresh.{fresh_change}
 use Rattle.msi_database.specs.FreshParts.{Begins, CanBegin, columns_table, fresh_pool, fresh_stored, tables_table, unused_pool, validation_table}
 use Rattle.msi_database.proofs.FreshCallLemmas.{AreBare, Describes, begins_as, begun, can_as, describes, listing, stream_begun}

@@ -1,15 +1,15 @@
 -- The steps of a new database by computation: each system table can be given the rows that describe `_Validation`.
 use Rattle.std.proofs.Common.{◌≡◌, true, false, List, [], length, Some, refl}
 use Rattle.std.specs.Prelude.{IsTrue}
-use Rattle.msi_compound.specs.Names.{is_name_length}
-use Rattle.msi_value.specs.declared.value.Value.{Value}
-use Rattle.msi_schema.specs.Description.{column_rows, have_short_lengths, validation_rows}
-use Rattle.msi_schema.specs.Keys.{table_key}
-use Rattle.msi_schema.specs.System.{columns_name, tables_name, validation_columns, validation_name}
-use Rattle.msi_changes.specs.Database.{Database, table_at}
-use Rattle.msi_changes.specs.Changes.{PoolInUse, no_change, pool_of}
-use Rattle.msi_changes.specs.Insert.{cells_added}
-use Rattle.msi_changes.specs.Texts.{in_use}
+use Rattle.msi_container_format.specs.Names.{is_name_length}
+use Rattle.msi_table_values.specs.declared.value.Value.{Value}
+use Rattle.msi_database_schema.specs.Description.{column_rows, have_short_lengths, validation_rows}
+use Rattle.msi_database_schema.specs.Keys.{table_key}
+use Rattle.msi_database_schema.specs.System.{columns_name, tables_name, validation_columns, validation_name}
+use Rattle.msi_database_changes.specs.Database.{Database, table_at}
+use Rattle.msi_database_changes.specs.Changes.{PoolInUse, no_change, pool_of}
+use Rattle.msi_database_changes.specs.Insert.{cells_added}
+use Rattle.msi_database_changes.specs.Texts.{in_use}
 use Rattle.msi_database.specs.Fresh.{bare_database, empty_table}
 use Rattle.msi_database.specs.FreshParts.{CanBegin, columns_table, tables_table, unused_pool, validation_table}
 use Rattle.msi_database.proofs.FreshCallLemmas.{begun, fits_begun, fits_begun_is, listing}

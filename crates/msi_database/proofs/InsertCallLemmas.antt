@@ -1,19 +1,19 @@
 -- An insert whose rows find no room: what adding them refuses, the call refuses.
 use Rattle.std.proofs.Common.{◌≡◌, ℕ, Bool, true, false, List, Some, None, sym, ap, ap₂, subst, ◌∙◌}
-use Rattle.msi_text.specs.ErrorKind.{ErrorKind}
-use Rattle.msi_text.specs.ErrorKind.TheVariants.{InvalidData, InvalidInput}
-use Rattle.msi_text.specs.Pool.{Pool}
-use Rattle.msi_value.specs.declared.value.ValueRef.{ValueRef}
-use Rattle.msi_value.specs.declared.value.Value.{Value}
-use Rattle.msi_value.specs.Columns.{ColumnDef}
+use Rattle.msi_text_base.specs.declared.errors.ErrorKind.{ErrorKind}
+use Rattle.msi_text_base.specs.declared.errors.ErrorKind.TheVariants.{InvalidData, InvalidInput}
+use Rattle.msi_text_pool.specs.Pool.{Pool}
+use Rattle.msi_table_values.specs.declared.value.ValueRef.{ValueRef}
+use Rattle.msi_table_values.specs.declared.value.Value.{Value}
+use Rattle.msi_table_values.specs.Columns.{ColumnDef}
 use Rattle.msi_table.specs.Tables.{TableDef}
 use Rattle.msi_query.specs.Queries.{InsertQuery}
-use Rattle.msi_relation.specs.Refusals.{IsRefusal, first_refusal, or_refused}
-use Rattle.msi_schema.specs.System.{is_system_table}
-use Rattle.msi_changes.specs.Database.{Database, is_sound, table_at}
-use Rattle.msi_changes.specs.Changes.{no_change}
-use Rattle.msi_changes.specs.Insert.{cells_added, insert_rows, row_refusals, table_with}
-use Rattle.msi_changes.specs.Texts.{UsedPool, in_use}
+use Rattle.msi_query_rows.specs.Refusals.{IsRefusal, first_refusal, or_refused}
+use Rattle.msi_database_schema.specs.System.{is_system_table}
+use Rattle.msi_database_changes.specs.Database.{Database, is_sound, table_at}
+use Rattle.msi_database_changes.specs.Changes.{no_change}
+use Rattle.msi_database_changes.specs.Insert.{cells_added, insert_rows, row_refusals, table_with}
+use Rattle.msi_database_changes.specs.Texts.{UsedPool, in_use}
 use Rattle.msi_database.specs.Listed.{IsKnown}
 use Rattle.msi_database.proofs.MadeLemmas.{both_pass}
 use Rattle.msi_database.proofs.RefusedCallLemmas.{cells_full, insert_refused}

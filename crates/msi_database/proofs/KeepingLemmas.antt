@@ -1,9 +1,9 @@
 -- Every accepted change leaves a database that is kept, and sound.
 use Rattle.std.proofs.Common.{◌≡◌, true, ◌⊎◌, inl, inr}
-use Rattle.msi_changes.specs.Database.{is_sound}
-use Rattle.msi_changes.specs.Changes.{Change}
-use Rattle.msi_changes.specs.Laws.{IsChange, IsTableChange}
-use Rattle.msi_kept.specs.Kept.{Kept}
+use Rattle.msi_database_changes.specs.Database.{is_sound}
+use Rattle.msi_database_changes.specs.Changes.{Change}
+use Rattle.msi_database_changes.specs.Laws.{IsChange, IsTableChange}
+use Rattle.msi_database_storage.specs.Kept.{Kept}
 use Rattle.msi_database.specs.Keeping.{IsKeptDatabase, ChangesAreKept}
 use Rattle.msi_database.proofs.ComesLemmas.{Comes, comes_kept, regular, describes, kinds}
 use Rattle.msi_database.proofs.RowsComeLemmas.{rows_come}

@@ -1,5 +1,5 @@
 -- The laws of kept databases.
-use Rattle.msi_changes.proofs.LawLemmas.{well_formed_to}
+use Rattle.msi_database_changes.proofs.LawLemmas.{well_formed_to}
 use Rattle.msi_database.specs.Keeping.{KeptIsWellFormed, ReadIsKept}
 use Rattle.msi_database.specs.OwnStreams.{TablesHaveOwnStreams}
 use Rattle.msi_database.proofs.FitLemmas.{well_formed}

@@ -9,15 +9,15 @@ use Rattle.std.proofs.lemmas.List.Folds.{list_all-append}
 use Rattle.std.proofs.lemmas.Slice.Eq.{bytes_eq-Decides}
 use Rattle.std.proofs.lemmas.Str.{chars-IsAscii}
 use Rattle.msi_text.specs.CategoryRules.{is_identifier, continues_name, starts_name}
-use Rattle.msi_compound.specs.Names.{utf16_units, is_name_length}
-use Rattle.msi_compound.proofs.EncodedUnitsLemmas.{some_units}
-use Rattle.msi_compound.specs.StreamNames.{value_of, packed, packed_pair, packed_single, is_marked, is_forbidden, table_mark, unpacked}
-use Rattle.msi_compound.proofs.CharacterValueLemmas.{value_below}
-use Rattle.msi_compound.proofs.PackingLemmas.{packed_from, packed_is}
-use Rattle.msi_compound.proofs.UnpackingLemmas.{packed_unmarked, unpacked_back}
-use Rattle.msi_compound.proofs.AcceptedNamesLemmas.{accepted_is}
-use Rattle.msi_schema.specs.Keys.{is_table_name, is_stream_name, is_pool_name, table_key, stream_key, summary_key, signature_key, signature_ex_key, string_pool_name, string_data_name}
-use Rattle.msi_schema.specs.System.{tables_name, columns_name, validation_name}
+use Rattle.msi_container_format.specs.Names.{utf16_units, is_name_length}
+use Rattle.msi_container_format.proofs.EncodedUnitsLemmas.{some_units}
+use Rattle.msi_container_format.specs.StreamNames.{value_of, packed, packed_pair, packed_single, is_marked, is_forbidden, table_mark, unpacked}
+use Rattle.msi_container_format.proofs.CharacterValueLemmas.{value_below}
+use Rattle.msi_container_format.proofs.PackingLemmas.{packed_from, packed_is}
+use Rattle.msi_container_format.proofs.UnpackingLemmas.{packed_unmarked, unpacked_back}
+use Rattle.msi_container_format.proofs.AcceptedNamesLemmas.{accepted_is}
+use Rattle.msi_database_schema.specs.Keys.{is_table_name, is_stream_name, is_pool_name, table_key, stream_key, summary_key, signature_key, signature_ex_key, string_pool_name, string_data_name}
+use Rattle.msi_database_schema.specs.System.{tables_name, columns_name, validation_name}
 
 -- an identifier has characters with values alone
 continues_if_starts : (c : ℕ) → starts_name c ≡ true → continues_name c ≡ true

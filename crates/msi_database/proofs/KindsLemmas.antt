@@ -1,50 +1,21 @@
 -- Where each cell fits its column, the rows about tables have the kinds that tell them apart.
-use Rattle.std.proofs.Common.{◌≡◌, Bool, true, false, List, [], ◌∷◌, map, Option, Some, None, is_some, refl, sym, ap, subst, ◌∙◌}
-use Rattle.std.specs.Prelude.{IsSomeAnd, unwrap_or}
+use Rattle.std.proofs.Common.{◌≡◌, List, Option, Some, None, is_some, refl, ap, subst, ◌∙◌}
 use Rattle.std.specs.List.{AllByRecursion}
-use Rattle.msi_value.specs.declared.column.ColumnType.{ColumnType}
-use Rattle.msi_value.specs.declared.value.ValueRef.{ValueRef}
-use Rattle.msi_value.specs.Columns.{ColumnDef, types_of}
-use Rattle.msi_value.specs.Fitting.{FitsRow, FitsTable}
-use Rattle.msi_value.specs.CellValues.{row_values}
-use Rattle.msi_relation.specs.Rows.{TableCells}
-use Rattle.msi_schema.specs.System.{columns_name, validation_name, columns_columns, validation_columns}
-use Rattle.msi_schema.specs.Schema.{schema_of}
-use Rattle.msi_schema.proofs.SchemaLemmas.{NoFault, describes_from}
-use Rattle.msi_schema.proofs.OrderlessLemmas.{HasKinds}
-use Rattle.msi_changes.specs.Database.{Database, table_at, has_table, rows_of, are_alike}
-use Rattle.msi_changes.proofs.KindsLemmas.{fits_alike, kinds_from_cells}
-use Rattle.msi_changes.proofs.ShownLemmas.{shown}
-use Rattle.msi_changes.proofs.DescribingLemmas.{describing, rows_at_is, validation_at}
-use Rattle.msi_changes.proofs.RegularLemmas.{IsRegular}
-use Rattle.msi_kept.specs.Streams.{Streams}
-use Rattle.msi_database.proofs.DescribedLemmas.{Spelled, alike_there, shown_table}
-
-each_row : (long : Bool) (types : List ColumnType) (o : Option (List (List ValueRef))) → IsSomeAnd o (FitsTable long types) → AllByRecursion (FitsRow long types) (unwrap_or o [])
-each_row long types None f = absurd f
-each_row long types (Some rows) f = f.each_row
-
-rows_alike : (long : Bool) (columns others : List ColumnDef) (rows : List (List ValueRef)) → are_alike columns others ≡ true → AllByRecursion (FitsRow long (types_of columns)) rows → AllByRecursion (FitsRow long (types_of others)) rows
-rows_alike long columns others [] e f = tt
-rows_alike long columns others (r ∷ rs) e f = (fits_alike long columns others r e f.0, rows_alike long columns others rs e f.1)
-
--- the cells of the rows about columns
-record Cells (d : Database) : Type 0 where
-  columns : List (List ValueRef)
-  columns_are : (describing d).columns ≡ map (row_values d.pool.places) columns
-  columns_fit : AllByRecursion (FitsRow d.pool.long (types_of columns_columns)) columns
-  validation : List (List ValueRef)
-  validation_are : (describing d).validation ≡ map (row_values d.pool.places) validation
-  validation_fit : AllByRecursion (FitsRow d.pool.long (types_of validation_columns)) validation
-
-kinds_by : (d : Database) → Cells d → NoFault (describing d) → HasKinds (describing d)
-kinds_by d cells sound =
-    let same : describing d ≡ record { tables = (describing d).tables; columns = map (row_values d.pool.places) cells.columns; validation = map (row_values d.pool.places) cells.validation } =
-    λ i. record { tables = (describing d).tables; columns = cells.columns_are i; validation = cells.validation_are i } in
-    subst HasKinds (sym same) (kinds_from_cells (describing d).tables d.pool.long d.pool.places cells.columns cells.validation cells.columns_fit cells.validation_fit (subst NoFault same sound))
-
-unlisted_at : (d : Database) → has_table validation_name d ≡ false → (describing d).validation ≡ map (row_values d.pool.places) d.unlisted_validation
-unlisted_at d e = rw e refl
+use Rattle.msi_table_values.specs.Columns.{ColumnDef, types_of}
+use Rattle.msi_table_values.specs.Fitting.{FitsRow}
+use Rattle.msi_query_rows.specs.Rows.{TableCells}
+use Rattle.msi_database_schema.specs.System.{columns_name, validation_name, columns_columns, validation_columns}
+use Rattle.msi_database_schema.specs.Schema.{schema_of}
+use Rattle.msi_database_schema.proofs.SchemaLemmas.{describes_from}
+use Rattle.msi_database_schema.proofs.OrderlessLemmas.{HasKinds}
+use Rattle.msi_database_changes.specs.Database.{Database, table_at, rows_of}
+use Rattle.msi_database_changes.proofs.ShownLemmas.{shown}
+use Rattle.msi_database_changes.proofs.DescribingLemmas.{describing, rows_at_is, validation_at}
+use Rattle.msi_database_changes.proofs.RegularLemmas.{IsRegular}
+use Rattle.msi_database_changes.proofs.SchemaKeptLemmas.{each_row, rows_alike, Cells, kinds_by, shown_table}
+use Rattle.msi_database_changes.proofs.ChangedLemmas.{unlisted_at}
+use Rattle.msi_database_storage.specs.Streams.{Streams}
+use Rattle.msi_database.proofs.DescribedLemmas.{Spelled, alike_there}
 
 module _ (streams : Streams) (d : Database) (h : Spelled streams d) (regular : IsRegular d) (schema : schema_of (describing d) ≡ Some (shown d)) where
   cells_by : (o : Option TableCells) → table_at validation_name d ≡ o → Cells d

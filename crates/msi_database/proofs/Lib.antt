@@ -11,7 +11,6 @@ pub mod DescribedLemmas
 pub mod RowChangeLemmas
 pub mod KindsLemmas
 pub mod ComesLemmas
-pub mod UpdateFitsLemmas
 pub mod RowsComeLemmas
 pub mod TablesComeLemmas
 pub mod KeepingLemmas
@@ -19,7 +18,6 @@ pub mod EntriesLemmas
 pub mod TablesKeptLemmas
 pub mod WholeLemmas
 pub mod PageLemmas
-pub mod AnswerLemmas
 pub mod PartsLemmas
 pub mod TableListLemmas
 pub mod EditLemmas

@@ -1,26 +1,27 @@
 -- An accepted call, step by step: what passed makes the change.
 use Rattle.std.proofs.Common.{◌≡◌, ℕ, Bool, true, false, not, List, [], ◌∷◌, ◌++◌, Option, Some, None, Ok, refl, ap, ◌∙◌}
 use Rattle.std.specs.Prelude.{option_map, Result}
-use Rattle.msi_text.specs.ErrorKind.{ErrorKind}
-use Rattle.msi_text.specs.ErrorKind.TheVariants.{InvalidInput, InvalidData, NotFound}
-use Rattle.msi_value.specs.declared.value.Value.{Value}
-use Rattle.msi_value.specs.declared.value.Value.TheVariants.{Str}
-use Rattle.msi_value.specs.declared.value.ValueRef.{ValueRef}
-use Rattle.msi_value.specs.Columns.{ColumnDef}
+use Rattle.msi_text_base.specs.declared.errors.ErrorKind.{ErrorKind}
+use Rattle.msi_text_base.specs.declared.errors.ErrorKind.TheVariants.{InvalidInput, InvalidData, NotFound}
+use Rattle.msi_text_base.proofs.OptionLemmas.{mapped_twice}
+use Rattle.msi_table_values.specs.declared.value.Value.{Value}
+use Rattle.msi_table_values.specs.declared.value.Value.TheVariants.{Str}
+use Rattle.msi_table_values.specs.declared.value.ValueRef.{ValueRef}
+use Rattle.msi_table_values.specs.Columns.{ColumnDef}
 use Rattle.msi_query.specs.Queries.{InsertQuery, UpdateQuery, DeleteQuery}
-use Rattle.msi_relation.specs.Refusals.{Refusals, first_refusal, or_refused, unless, unless_refused, ◌>>=◌}
-use Rattle.msi_relation.specs.Selection.{has_columns, condition_names}
-use Rattle.msi_relation.specs.Rows.{TableCells}
-use Rattle.msi_schema.specs.System.{is_system_table, tables_name, columns_name, validation_name}
-use Rattle.msi_schema.specs.Description.{column_rows, validation_rows}
-use Rattle.msi_changes.specs.Database.{Database, is_sound, table_at, rows_of}
-use Rattle.msi_changes.specs.Changes.{Change, PoolInUse, no_change, pool_of, with_stored, sound_refusal}
-use Rattle.msi_changes.specs.Keyed.{in_key_order}
-use Rattle.msi_changes.specs.Texts.{in_turn, rows_put}
-use Rattle.msi_changes.specs.Insert.{cells_added, insert_rows, rows_inserted, rows_added, row_refusals}
-use Rattle.msi_changes.specs.Update.{update_rows, update_refusals, is_update_barred, row_updated, rows_updated}
-use Rattle.msi_changes.specs.Delete.{delete_rows, rows_deleted}
-use Rattle.msi_changes.specs.Create.{create_table, table_refusals, with_new_table}
+use Rattle.msi_query_rows.specs.Refusals.{Refusals, first_refusal, or_refused, unless, unless_refused, ◌>>=◌}
+use Rattle.msi_query_rows.specs.Selection.{has_columns, condition_names}
+use Rattle.msi_query_rows.specs.Rows.{TableCells}
+use Rattle.msi_database_schema.specs.System.{is_system_table, tables_name, columns_name, validation_name}
+use Rattle.msi_database_schema.specs.Description.{column_rows, validation_rows}
+use Rattle.msi_database_changes.specs.Database.{Database, is_sound, table_at, rows_of}
+use Rattle.msi_database_changes.specs.Changes.{Change, PoolInUse, no_change, pool_of, with_stored, sound_refusal}
+use Rattle.msi_database_changes.specs.Keyed.{in_key_order}
+use Rattle.msi_database_changes.specs.Texts.{in_turn, rows_put}
+use Rattle.msi_database_changes.specs.Insert.{cells_added, insert_rows, rows_inserted, rows_added, row_refusals}
+use Rattle.msi_database_changes.specs.Update.{update_rows, update_refusals, is_update_barred, row_updated, rows_updated}
+use Rattle.msi_database_changes.specs.Delete.{delete_rows, rows_deleted}
+use Rattle.msi_database_changes.specs.Create.{create_table, table_refusals, with_new_table}
 
 -- a first refusal of a sound database, of two that are tested
 pub both_pass : (a b : Bool) (kind other : ErrorKind) → a ≡ true → b ≡ false → first_refusal ((not a, kind) ∷ (b, other) ∷ []) ≡ None
@@ -33,10 +34,6 @@ pub found : {A B : Type 0} (kind : ErrorKind) (o : Option A) (x : A) (f : A → 
 found kind o x f e = ap (λ (o : Option _). or_refused kind o >>= f) e
 
 -- ROWS THAT ARE INSERTED, from any change on
-
-mapped_twice : {A B C : Type 0} (f : A → B) (g : B → C) (o : Option A) → option_map (λ x. g (f x)) o ≡ option_map g (option_map f o)
-mapped_twice f g None = refl
-mapped_twice f g (Some x) = refl
 
 pub inserted_made : (b : Change) (name : List ℕ) (t : TableCells) (values : List (List Value)) (r : List (List ValueRef) × PoolInUse) → table_at name b.database ≡ Some t
     → first_refusal (row_refusals b.database.pool.places t values) ≡ None → rows_put b.database.pool.long (pool_of b) values ≡ Some r

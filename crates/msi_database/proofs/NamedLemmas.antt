@@ -8,29 +8,30 @@ use Rattle.std.specs.FinMap.{find}
 use Rattle.std.proofs.lemmas.Bool.{or_left, or_right}
 use Rattle.std.proofs.lemmas.List.Folds.{list_any-append}
 use Rattle.std.proofs.lemmas.Option.{same_Some}
-use Rattle.msi_text.specs.Lists.{list_cmp}
-use Rattle.msi_value.specs.declared.value.ValueRef.{ValueRef}
-use Rattle.msi_relation.specs.Rows.{TableCells}
-use Rattle.msi_schema.specs.Keys.{table_key}
-use Rattle.msi_schema.specs.System.{validation_name, validation_columns}
-use Rattle.msi_changes.specs.Database.{Database, Tables, rows_of, numbers_of_rows, named_numbers, are_alike, table_at, validation_is_standard}
-use Rattle.msi_changes.proofs.AlikeLemmas.{rows_alike}
-use Rattle.msi_kept.specs.Streams.{Streams, stream_at, stored_rows}
+use Rattle.msi_text_base.specs.Lists.{list_cmp}
+use Rattle.msi_table_values.specs.declared.value.ValueRef.{ValueRef}
+use Rattle.msi_query_rows.specs.Rows.{TableCells}
+use Rattle.msi_database_schema.specs.Keys.{table_key}
+use Rattle.msi_database_schema.specs.System.{validation_name, validation_columns}
+use Rattle.msi_database_schema.proofs.RowOrderLemmas.{names_total}
+use Rattle.msi_database_changes.specs.Database.{Database, Tables, rows_of, numbers_of_rows, named_numbers, are_alike, table_at, validation_is_standard}
+use Rattle.msi_database_changes.proofs.AlikeLemmas.{rows_alike}
+use Rattle.msi_database_storage.specs.Streams.{Streams, stream_at, stored_rows}
 use Rattle.msi_database.specs.Agreement.{TablesAre, UnlistedIs, numbers_stored, shown_numbers}
 use Rattle.msi_database.proofs.MapLemmas as maps
-use Rattle.msi_database.proofs.StreamLemmas.{list_cmp_total, list_cmp_exact}
+use Rattle.msi_database.proofs.StreamLemmas.{list_cmp_exact}
 
-abbrev numbers_of : List ℕ × TableCells → List ℕ
+abbrev pub numbers_of : List ℕ × TableCells → List ℕ
 numbers_of t = numbers_of_rows (rows_of t.1)
 
 -- what passes in a table that is found passes in all of them
-found_by : (p : ℕ → Bool) (t u : TableCells) (b : Bool) (others : Option TableCells) (rest : List ℕ) → cond b (Some u) others ≡ Some t → list_any p (numbers_of_rows (rows_of t)) ≡ true
+pub found_by : (p : ℕ → Bool) (t u : TableCells) (b : Bool) (others : Option TableCells) (rest : List ℕ) → cond b (Some u) others ≡ Some t → list_any p (numbers_of_rows (rows_of t)) ≡ true
     → (others ≡ Some t → list_any p rest ≡ true) → list_any p (numbers_of_rows (rows_of u) ++ rest) ≡ true
 found_by p t u true others rest e h later = list_any-append p (numbers_of_rows (rows_of u)) rest
     ∙ or_left _ _ (subst (λ (x : TableCells). list_any p (numbers_of_rows (rows_of x)) ≡ true) (sym (same_Some u t e)) h)
 found_by p t u false others rest e h later = list_any-append p (numbers_of_rows (rows_of u)) rest ∙ or_right _ _ (later e)
 
-found_any : (p : ℕ → Bool) (name : List ℕ) (t : TableCells) (ts : Tables) → find list_cmp name ts ≡ Some t → list_any p (numbers_of_rows (rows_of t)) ≡ true → list_any p (flat_map numbers_of ts) ≡ true
+pub found_any : (p : ℕ → Bool) (name : List ℕ) (t : TableCells) (ts : Tables) → find list_cmp name ts ≡ Some t → list_any p (numbers_of_rows (rows_of t)) ≡ true → list_any p (flat_map numbers_of ts) ≡ true
 found_any p name t [] e h = absurd cc
 found_any p name t (u ∷ us) e h = found_by p t u.1 (eq_by_cmp list_cmp name u.0) (find list_cmp name us) (flat_map numbers_of us) e h (λ f. found_any p name t us f h)
 
@@ -43,7 +44,7 @@ module _ (streams : Streams) (d : Database) (tables : TablesAre streams d) where
       → passes number (numbers_of_rows (unwrap_or (stored_rows streams d.pool.long t.columns name) [])) → passes number (named_numbers d)
   found_named name t found number h =
       let rows : t.rows ≡ stored_rows streams d.pool.long t.columns name =
-      maps.found_has list_cmp_total list_cmp_exact (λ u. u.1.rows ≡ stored_rows streams d.pool.long u.1.columns u.0) name t d.tables tables found in
+      maps.found_has names_total list_cmp_exact (λ u. u.1.rows ≡ stored_rows streams d.pool.long u.1.columns u.0) name t d.tables tables found in
       let here : passes number (numbers_of_rows (rows_of t)) = subst (λ (o : Option (List (List ValueRef))). passes number (numbers_of_rows (unwrap_or o []))) (sym rows) h in
       list_any-append (λ n. n == number) (flat_map numbers_of d.tables) (numbers_of_rows d.unlisted_validation)
       ∙ or_left _ _ (found_any (λ n. n == number) name t d.tables found here)

@@ -5,19 +5,19 @@ use Rattle.std.specs.List.{list_any, list_all, AllByRecursion, enumerate_from}
 use Rattle.std.specs.FinMap.{is_sorted}
 use Rattle.std.proofs.lemmas.Bool.{and_parts, leb-true, eqb-false, true≢false}
 use Rattle.std.proofs.lemmas.List.Sums.{length-filter}
-use Rattle.msi_compound.specs.Names.{name_cmp}
-use Rattle.msi_text.specs.Lists.{numbers_from}
-use Rattle.msi_text.specs.FirstFit.{count_of}
-use Rattle.msi_text.specs.Pool.{Pool, Place, CountsFit, PlacesWritten, forgotten, with_named_texts}
-use Rattle.msi_value.specs.declared.value.ValueRef.{ValueRef}
+use Rattle.msi_container_format.specs.Names.{name_cmp}
+use Rattle.msi_text_base.specs.Lists.{numbers_from}
+use Rattle.msi_text_pool.specs.FirstFit.{count_of}
+use Rattle.msi_text_pool.specs.Pool.{Pool, Place, CountsFit, PlacesWritten, forgotten, with_named_texts}
+use Rattle.msi_table_values.specs.declared.value.ValueRef.{ValueRef}
 use Rattle.msi_table.specs.Tables.{TableDef}
-use Rattle.msi_value.specs.Columns.{types_of}
-use Rattle.msi_value.specs.Fitting.{FitsRow, FitsTable}
-use Rattle.msi_schema.specs.System.{validation_columns, validation_name}
-use Rattle.msi_changes.specs.Database.{Database, is_sound, named_numbers, cells_naming}
-use Rattle.msi_kept.specs.Streams.{Streams, stored_rows}
-use Rattle.msi_kept.specs.StreamNames.{HaveNames}
-use Rattle.msi_kept.specs.Kept.{database_kept, table_kept, table_kept_at, schema_listed, AreAsLong}
+use Rattle.msi_table_values.specs.Columns.{types_of}
+use Rattle.msi_table_values.specs.Fitting.{FitsRow, FitsTable}
+use Rattle.msi_database_schema.specs.System.{validation_columns, validation_name}
+use Rattle.msi_database_changes.specs.Database.{Database, is_sound, named_numbers, cells_naming}
+use Rattle.msi_database_storage.specs.Streams.{Streams, stored_rows}
+use Rattle.msi_database_storage.specs.StreamNames.{HaveShortNames}
+use Rattle.msi_database_storage.specs.Kept.{database_kept, table_kept, table_kept_at, schema_listed, AreAsLong}
 use Rattle.msi_database.specs.Agreement.{DatabaseIs, schema_in, is_shown}
 use Rattle.msi_database.specs.Keeping.{AreKept, HasFittingRows}
 use Rattle.msi_database.proofs.SoundLemmas.{sound_is}
@@ -26,18 +26,18 @@ use Rattle.msi_database.proofs.PartsLemmas.{parts_spelled}
 
 -- FREE PLACES
 
-none_by : (b : Bool) (x : ℕ) (others : List ℕ) (rest : Bool) → length (cond b (x ∷ others) others) ≡ 0 → (length others ≡ 0 → rest ≡ false) → (b || rest) ≡ false
+pub none_by : (b : Bool) (x : ℕ) (others : List ℕ) (rest : Bool) → length (cond b (x ∷ others) others) ≡ 0 → (length others ≡ 0 → rest ≡ false) → (b || rest) ≡ false
 none_by true x others rest e later = absurd (omega (arith, e))
 none_by false x others rest e later = later e
 
-none_filtered : (p : ℕ → Bool) (xs : List ℕ) → length (filter p xs) ≡ 0 → list_any p xs ≡ false
+pub none_filtered : (p : ℕ → Bool) (xs : List ℕ) → length (filter p xs) ≡ 0 → list_any p xs ≡ false
 none_filtered p [] e = refl
 none_filtered p (x ∷ xs) e = none_by (p x) x (filter p xs) (list_any p xs) e (none_filtered p xs)
 
-none_counted : (p : ℕ → Bool) (xs : List ℕ) → count_by p xs ≡ 0 → list_any p xs ≡ false
+pub none_counted : (p : ℕ → Bool) (xs : List ℕ) → count_by p xs ≡ 0 → list_any p xs ≡ false
 none_counted p xs e = none_filtered p xs (length-filter p xs ∙ e)
 
-each_tabulated : (f : ℕ → Bool) (k n : ℕ) → list_all (λ enough. enough) (map f (numbers_from k n)) ≡ true → (i : ℕ) → i < n → f (k + i) ≡ true
+pub each_tabulated : (f : ℕ → Bool) (k n : ℕ) → list_all (λ enough. enough) (map f (numbers_from k n)) ≡ true → (i : ℕ) → i < n → f (k + i) ≡ true
 each_tabulated f k zero h i l = absurd (omega (arith, l))
 each_tabulated f k (suc n) h zero l = ap f (omega arith) ∙ (and_parts (f k) _ h).0
 each_tabulated f k (suc n) h (suc i) l = ap f (omega arith) ∙ each_tabulated f (k + 1) n (and_parts (f k) _ h).1 i (omega (arith, l))
@@ -56,7 +56,7 @@ each_freed named k (p ∷ ps) h = (
   each_freed named (k + 1) ps (λ i l zeroed. ap named (omega arith) ∙ h (suc i) (omega (arith, l)) zeroed),
 )
 
-forgotten_length : (named : ℕ → Bool) (k : ℕ) (ps : List Place) → length (map (λ e. forgotten (named e.0) e.1) (enumerate_from k ps)) ≡ length ps
+pub forgotten_length : (named : ℕ → Bool) (k : ℕ) (ps : List Place) → length (map (λ e. forgotten (named e.0) e.1) (enumerate_from k ps)) ≡ length ps
 forgotten_length named k [] = refl
 forgotten_length named k (p ∷ ps) = ap suc (forgotten_length named (k + 1) ps)
 
@@ -64,7 +64,7 @@ forgotten_counts : (named : ℕ → Bool) (k : ℕ) (ps : List Place) → Counts
 forgotten_counts named k [] h = tt
 forgotten_counts named k (p ∷ ps) h = (h.0, forgotten_counts named (k + 1) ps h.1)
 
-forgotten_count_at : (named : ℕ → Bool) (k : ℕ) (ps : List Place) (i : ℕ) → count_of (slice_get (map (λ e. forgotten (named e.0) e.1) (enumerate_from k ps)) i) ≡ count_of (slice_get ps i)
+pub forgotten_count_at : (named : ℕ → Bool) (k : ℕ) (ps : List Place) (i : ℕ) → count_of (slice_get (map (λ e. forgotten (named e.0) e.1) (enumerate_from k ps)) i) ≡ count_of (slice_get ps i)
 forgotten_count_at named k [] i = refl
 forgotten_count_at named k (p ∷ ps) zero = refl
 forgotten_count_at named k (p ∷ ps) (suc i) = forgotten_count_at named (k + 1) ps i
@@ -102,7 +102,7 @@ unlisted_rows long false (Some rows) h = h
 -- THE WHOLE
 
 pub opened : (raw pool : Pool) (tables : List TableDef) (streams : Streams) (is_known_sound : Bool)
-    → T (is_sorted name_cmp streams) → HaveNames streams → length raw.places ≤ 16777215 → CountsFit raw.places
+    → T (is_sorted name_cmp streams) → HaveShortNames streams → length raw.places ≤ 16777215 → CountsFit raw.places
     → pool.places ≡ with_named_texts (is_shown streams (database_kept pool tables streams)) raw.places
     → AreAsLong pool.long tables → schema_in streams pool ≡ Some (schema_listed tables)
     → HaveFittingRows streams pool.long tables

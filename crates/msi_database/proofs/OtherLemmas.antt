@@ -1,22 +1,21 @@
 -- A database goes on to be kept, and stays the same, where a stream that is no table's is put or removed.
 use Rattle.std.proofs.Common.{◌≡◌, ◌≢◌, ℕ, Bool, true, false, List, [], ◌∷◌, length, map, Option, Some, refl, sym, ap, subst, ◌∙◌}
-use Rattle.std.specs.Prelude.{Err, Ok, OnErr, Result, unwrap_or, is_some, if◌then◌else◌, option_map, option_and_then}
+use Rattle.std.specs.Prelude.{unwrap_or, is_some, if◌then◌else◌, option_map, option_and_then}
 use Rattle.std.specs.List.{AllByRecursion}
 use Rattle.std.specs.FinMap.{contains_key, entries, get, get-entries}
-use Rattle.msi_text.specs.Pool.{Pool}
-use Rattle.msi_text.specs.ErrorKind.{ErrorKind}
-use Rattle.msi_compound.specs.Names.{is_name_length}
-use Rattle.msi_compound.specs.Streams as maps
+use Rattle.msi_text_pool.specs.Pool.{Pool}
+use Rattle.msi_container_format.specs.Names.{is_name_length}
+use Rattle.msi_container_format.specs.Streams as maps
 use Rattle.msi_table.specs.Cells.{rows_in}
-use Rattle.msi_value.specs.CellValues.{row_values}
-use Rattle.msi_value.specs.Columns.{ColumnDef, types_of}
+use Rattle.msi_table_values.specs.CellValues.{row_values}
+use Rattle.msi_table_values.specs.Columns.{ColumnDef, types_of}
 use Rattle.msi_table.specs.Tables.{TableDef}
-use Rattle.msi_schema.specs.Keys.{table_key}
-use Rattle.msi_schema.specs.Schema.{schema_of}
-use Rattle.msi_schema.specs.System.{columns_columns, columns_name, tables_columns, tables_name, validation_columns, validation_name}
-use Rattle.msi_changes.specs.Database.{Database, is_sound}
-use Rattle.msi_kept.specs.Kept.{Kept, database_kept, kept_of, schema_listed, table_kept, table_kept_at}
-use Rattle.msi_kept.specs.Streams.{Streams, has_stream_at, stored_rows, stream_at, with_stream_or_none}
+use Rattle.msi_database_schema.specs.Keys.{table_key}
+use Rattle.msi_database_schema.specs.Schema.{schema_of}
+use Rattle.msi_database_schema.specs.System.{columns_columns, columns_name, tables_columns, tables_name, validation_columns, validation_name}
+use Rattle.msi_database_changes.specs.Database.{Database, is_sound}
+use Rattle.msi_database_storage.specs.Kept.{Kept, database_kept, kept_of, schema_listed, table_kept, table_kept_at}
+use Rattle.msi_database_storage.specs.Streams.{Streams, has_stream_at, stored_rows, stream_at, with_stream_or_none}
 use Rattle.msi_database.specs.Agreement.{schema_in}
 use Rattle.msi_database.specs.Keeping.{AreKept, RowsFit, UnlistedFits}
 use Rattle.msi_database.specs.Others.{IsOther, with_streams}
@@ -112,8 +111,3 @@ module _ (pool : Pool) (tables : List TableDef) (m : maps.Streams) (known : Bool
 
 pub there_after : (n : maps.Streams) (name : List ℕ) → contains_key n name ≡ true → has_stream_at name (entries n) ≡ true
 there_after n name there = ap is_some (sym (get-entries n name)) ∙ there
-
--- what holds anyway holds after a refusal
-pub after_all : {A : Type 0} (r : Result A ErrorKind) (P : Type 0) → P → OnErr r P
-after_all (Ok x) P p = tt
-after_all (Err k) P p = p

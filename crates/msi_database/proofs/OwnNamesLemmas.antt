@@ -1,35 +1,35 @@
 -- No change stores a stream twice.
 use Rattle.std.proofs.Common.{◌≡◌, ℕ, true, false, List, [], ◌∷◌, ◌++◌, Option, Some, None, is_some, Ok, refl, sym, ap, subst, ◌∙◌, ◌⊎◌, inl, inr, bytes_eq}
 use Rattle.std.specs.List.{list_any}
-use Rattle.std.proofs.lemmas.Bool.{or_parts, or_from}
-use Rattle.msi_text.specs.Pool.{Place}
-use Rattle.msi_value.specs.declared.value.Value.{Value}
-use Rattle.msi_value.specs.declared.value.Value.TheVariants.{Str}
-use Rattle.msi_value.specs.Columns.{ColumnDef}
-use Rattle.msi_relation.specs.Rows.{TableCells}
-use Rattle.msi_schema.specs.System.{is_schema_table, tables_name, columns_name, validation_name, tables_columns}
-use Rattle.msi_schema.specs.Schema.{schema_of}
-use Rattle.msi_schema.specs.Description.{column_rows, validation_rows}
-use Rattle.msi_schema.proofs.ListLemmas.{or_false}
-use Rattle.msi_changes.specs.Database.{Database, table_at, has_table, is_sound}
-use Rattle.msi_changes.specs.Changes.{Change, no_change}
-use Rattle.msi_changes.specs.Create.{create_table, table_refusals}
-use Rattle.msi_changes.specs.Drop.{drop_table, rows_forgotten, table_released}
-use Rattle.msi_changes.specs.Laws.{IsChange, IsTableChange, inserted, updated, deleted, created, dropped}
-use Rattle.msi_changes.proofs.RefusedLemmas.{none_holds, not_false}
-use Rattle.msi_changes.proofs.InsertedLemmas.{Inserted, inserted_parts}
-use Rattle.msi_changes.proofs.InsertLemmas.{insert_parts}
-use Rattle.msi_changes.proofs.UpdateLemmas.{update_parts}
-use Rattle.msi_changes.proofs.DeleteLemmas.{delete_parts}
-use Rattle.msi_changes.proofs.ShownLemmas.{shown}
-use Rattle.msi_changes.proofs.ShownLemmas as steps
-use Rattle.msi_changes.proofs.ShownChangesLemmas.{dropped_parts}
-use Rattle.msi_changes.proofs.DescribingLemmas.{describing}
-use Rattle.msi_changes.proofs.DroppedLemmas.{flips}
-use Rattle.msi_kept.specs.Storing.{HaveOwnNames, tables_stored}
-use Rattle.msi_kept.specs.Kept.{Kept}
+use Rattle.std.proofs.lemmas.Bool.{or_parts, or_from, not-false}
+use Rattle.msi_text_pool.specs.Pool.{Place}
+use Rattle.msi_table_values.specs.declared.value.Value.{Value}
+use Rattle.msi_table_values.specs.declared.value.Value.TheVariants.{Str}
+use Rattle.msi_table_values.specs.Columns.{ColumnDef}
+use Rattle.msi_query_rows.specs.Rows.{TableCells}
+use Rattle.msi_database_schema.specs.System.{is_schema_table, tables_name, columns_name, validation_name, tables_columns}
+use Rattle.msi_database_schema.specs.Schema.{schema_of}
+use Rattle.msi_database_schema.specs.Description.{column_rows, validation_rows}
+use Rattle.msi_database_schema.proofs.FaultLemmas.{texts_flip}
+use Rattle.msi_database_changes.specs.Database.{Database, table_at, has_table, is_sound}
+use Rattle.msi_database_changes.specs.Changes.{Change, no_change}
+use Rattle.msi_database_changes.specs.Create.{create_table, table_refusals}
+use Rattle.msi_database_changes.specs.Drop.{drop_table, rows_forgotten, table_released}
+use Rattle.msi_database_changes.specs.Laws.{IsChange, IsTableChange, inserted, updated, deleted, created, dropped}
+use Rattle.msi_database_changes.proofs.RefusedLemmas.{none_holds}
+use Rattle.msi_database_changes.proofs.InsertedLemmas.{Inserted, inserted_parts}
+use Rattle.msi_database_changes.proofs.InsertLemmas.{insert_parts}
+use Rattle.msi_database_changes.proofs.UpdateLemmas.{update_parts}
+use Rattle.msi_database_changes.proofs.DeleteLemmas.{delete_parts}
+use Rattle.msi_database_changes.proofs.ShownLemmas.{shown}
+use Rattle.msi_database_changes.proofs.ShownLemmas as steps
+use Rattle.msi_database_changes.proofs.ShownChangesLemmas.{dropped_parts}
+use Rattle.msi_database_changes.proofs.DescribingLemmas.{describing}
+use Rattle.msi_database_changes.proofs.SchemaKeptLemmas.{shown_table}
+use Rattle.msi_database_changes.proofs.DropTracksLemmas.{not_among}
+use Rattle.msi_database_storage.specs.Storing.{HaveOwnNames, tables_stored}
+use Rattle.msi_database_storage.specs.Kept.{Kept}
 use Rattle.msi_database.specs.Keeping.{IsKeptDatabase}
-use Rattle.msi_database.proofs.DescribedLemmas.{shown_table}
 use Rattle.msi_database.proofs.RowsComeLemmas.{missing_apart}
 use Rattle.msi_database.proofs.ComesLemmas.{are_names, describes}
 use Rattle.msi_database.proofs.KeepingLemmas.{change_comes}
@@ -37,16 +37,11 @@ use Rattle.msi_database.proofs.EditLemmas.{AreApart, own_names}
 
 -- NAMES PUT BEHIND OTHERS
 
-not_among : (name : List ℕ) (names : List (List ℕ)) (other : List ℕ) → list_any (bytes_eq name) names ≡ false → bytes_eq name other ≡ false → list_any (bytes_eq name) (names ++ other ∷ []) ≡ false
-not_among name [] other h e = or_from (bytes_eq name other) false e refl
-not_among name (n ∷ ns) other h e = let parts = or_parts (bytes_eq name n) (list_any (bytes_eq name) ns) h in
-    or_from (bytes_eq name n) (list_any (bytes_eq name) (ns ++ other ∷ [])) parts.0 (not_among name ns other parts.1 e)
-
 pub apart_last : (names : List (List ℕ)) (other : List ℕ) → AreApart names → list_any (bytes_eq other) names ≡ false → AreApart (names ++ other ∷ [])
 apart_last [] other apart h = (refl, tt)
 apart_last (n ∷ ns) other apart h =
     let parts = or_parts (bytes_eq other n) (list_any (bytes_eq other) ns) h in
-    (not_among n ns other apart.0 (flips n other ∙ parts.0), apart_last ns other apart.1 parts.1)
+    (not_among n other ns apart.0 (texts_flip n other ∙ parts.0), apart_last ns other apart.1 parts.1)
 
 -- A TABLE CREATED
 
@@ -73,7 +68,7 @@ module _ (d : Database) (before : schema_of (describing d) ≡ Some (shown d)) (
       let r = steps.created d name columns c e in
       let faults = none_holds (table_refusals d name columns) r.accepted in
       let missing : has_table name d ≡ false = faults.1.1.1.1.1.1.1.0 in
-      let validation = has_value (table_at validation_name d) (not_false (has_table validation_name d) faults.1.1.1.1.1.1.1.1.0) in
+      let validation = has_value (table_at validation_name d) (not-false (has_table validation_name d) faults.1.1.1.1.1.1.1.1.0) in
       let tables = shown_table d (describing d) before tables_name tables_columns refl in
       let in_columns = inserted_parts (no_change d) columns_name (column_rows name columns) r.first r.in_columns in
       or_from (bytes_eq name columns_name) _ (missing_apart columns_name name d in_columns.table in_columns.found missing)
@@ -95,19 +90,19 @@ module _ (d : Database) (name : List ℕ) (c : Change) (e : drop_table d name �
   pub drop_apart : AreApart c.stored
   drop_apart =
       let p = dropped_parts d name c e in
-      let r = or_false (is_schema_table name) (bytes_eq name validation_name) p.no_system in
-      let q = or_false (bytes_eq name tables_name) (bytes_eq name columns_name) r.0 in
+      let r = or_parts (is_schema_table name) (bytes_eq name validation_name) p.no_system in
+      let q = or_parts (bytes_eq name tables_name) (bytes_eq name columns_name) r.0 in
       let b₀ = table_released name p.table (no_change d) in
       let b₁ = rows_forgotten name d.pool.places validation_name b₀ in
       let b₂ = rows_forgotten name d.pool.places columns_name b₁ in
-      let v₀ : list_any (bytes_eq validation_name) b₀.stored ≡ false = or_from (bytes_eq validation_name name) false (flips validation_name name ∙ r.1) refl in
-      let c₀ : list_any (bytes_eq columns_name) b₀.stored ≡ false = or_from (bytes_eq columns_name name) false (flips columns_name name ∙ q.1) refl in
-      let t₀ : list_any (bytes_eq tables_name) b₀.stored ≡ false = or_from (bytes_eq tables_name name) false (flips tables_name name ∙ q.0) refl in
+      let v₀ : list_any (bytes_eq validation_name) b₀.stored ≡ false = or_from (bytes_eq validation_name name) false (texts_flip validation_name name ∙ r.1) refl in
+      let c₀ : list_any (bytes_eq columns_name) b₀.stored ≡ false = or_from (bytes_eq columns_name name) false (texts_flip columns_name name ∙ q.1) refl in
+      let t₀ : list_any (bytes_eq tables_name) b₀.stored ≡ false = or_from (bytes_eq tables_name name) false (texts_flip tables_name name ∙ q.0) refl in
       let a₁ = forgotten_either AreApart name d.pool.places validation_name b₀ (table_at validation_name b₀.database) refl (refl, tt) (apart_last b₀.stored validation_name (refl, tt) v₀) in
-      let c₁ = forgotten_either (λ ns. list_any (bytes_eq columns_name) ns ≡ false) name d.pool.places validation_name b₀ (table_at validation_name b₀.database) refl c₀ (not_among columns_name b₀.stored validation_name c₀ refl) in
-      let t₁ = forgotten_either (λ ns. list_any (bytes_eq tables_name) ns ≡ false) name d.pool.places validation_name b₀ (table_at validation_name b₀.database) refl t₀ (not_among tables_name b₀.stored validation_name t₀ refl) in
+      let c₁ = forgotten_either (λ ns. list_any (bytes_eq columns_name) ns ≡ false) name d.pool.places validation_name b₀ (table_at validation_name b₀.database) refl c₀ (not_among columns_name validation_name b₀.stored c₀ refl) in
+      let t₁ = forgotten_either (λ ns. list_any (bytes_eq tables_name) ns ≡ false) name d.pool.places validation_name b₀ (table_at validation_name b₀.database) refl t₀ (not_among tables_name validation_name b₀.stored t₀ refl) in
       let a₂ = forgotten_either AreApart name d.pool.places columns_name b₁ (table_at columns_name b₁.database) refl a₁ (apart_last b₁.stored columns_name a₁ c₁) in
-      let t₂ = forgotten_either (λ ns. list_any (bytes_eq tables_name) ns ≡ false) name d.pool.places columns_name b₁ (table_at columns_name b₁.database) refl t₁ (not_among tables_name b₁.stored columns_name t₁ refl) in
+      let t₂ = forgotten_either (λ ns. list_any (bytes_eq tables_name) ns ≡ false) name d.pool.places columns_name b₁ (table_at columns_name b₁.database) refl t₁ (not_among tables_name columns_name b₁.stored t₁ refl) in
       subst (λ (x : Change). AreApart x.stored) p.last
       (forgotten_either AreApart name d.pool.places tables_name b₂ (table_at tables_name b₂.database) refl a₂ (apart_last b₂.stored tables_name a₂ t₂))
 

@@ -1,9 +1,9 @@
 -- A database that is kept goes on to be kept under another page.
 use Rattle.std.proofs.Common.{Bool, List}
-use Rattle.msi_text.specs.CodePage.{CodePage}
-use Rattle.msi_text.specs.Pool.{Pool}
+use Rattle.msi_text_base.specs.declared.codepage.CodePage.{CodePage}
+use Rattle.msi_text_pool.specs.Pool.{Pool}
 use Rattle.msi_table.specs.Tables.{TableDef}
-use Rattle.msi_kept.specs.Streams.{Streams}
+use Rattle.msi_database_storage.specs.Streams.{Streams}
 use Rattle.msi_database.specs.Keeping.{AreKept}
 
 pub kept_with_page : (pool : Pool) (tables : List TableDef) (streams : Streams) (sound : Bool) (page : CodePage) → AreKept pool tables streams sound → AreKept (record pool { page = page }) tables streams sound

@@ -4,23 +4,23 @@ use Rattle.std.specs.Prelude.{MatchBool, option_and_then, unwrap_or, if◌then�
 use Rattle.std.specs.List.{AllByRecursion}
 use Rattle.std.specs.FinMap.{find}
 use Rattle.std.proofs.lemmas.Option.{none-some}
-use Rattle.msi_text.specs.Lists.{list_cmp}
-use Rattle.msi_text.specs.Pool.{Pool, Place}
-use Rattle.msi_value.specs.declared.value.ValueRef.{ValueRef}
-use Rattle.msi_value.specs.declared.value.Value.{Value}
-use Rattle.msi_value.specs.CellValues.{row_values}
-use Rattle.msi_value.specs.Columns.{ColumnDef}
+use Rattle.msi_text_base.specs.Lists.{list_cmp}
+use Rattle.msi_text_pool.specs.Pool.{Pool, Place}
+use Rattle.msi_table_values.specs.declared.value.ValueRef.{ValueRef}
+use Rattle.msi_table_values.specs.declared.value.Value.{Value}
+use Rattle.msi_table_values.specs.CellValues.{row_values}
+use Rattle.msi_table_values.specs.Columns.{ColumnDef}
 use Rattle.msi_table.specs.Tables.{TableDef}
-use Rattle.msi_relation.specs.Rows.{TableCells}
-use Rattle.msi_schema.specs.System.{validation_name, validation_columns}
-use Rattle.msi_schema.specs.Schema.{SchemaRows, schema_of}
-use Rattle.msi_changes.specs.Database.{Database, Tables, has_table}
-use Rattle.msi_kept.specs.Streams.{Streams, stored_rows}
-use Rattle.msi_kept.specs.Kept.{table_kept, table_kept_at, unlisted_kept, database_kept, schema_listed}
-use Rattle.msi_database.specs.Agreement.{DatabaseIs, schema_shown, schema_in}
+use Rattle.msi_query_rows.specs.Rows.{TableCells}
+use Rattle.msi_database_schema.specs.System.{validation_name, validation_columns}
+use Rattle.msi_database_schema.specs.Schema.{SchemaRows, schema_of}
+use Rattle.msi_database_changes.specs.Database.{Database, Tables, has_table, columns_by_name}
+use Rattle.msi_database_storage.specs.Streams.{Streams, stored_rows}
+use Rattle.msi_database_storage.specs.Kept.{table_kept, table_kept_at, unlisted_kept, database_kept, schema_listed}
+use Rattle.msi_database.specs.Agreement.{DatabaseIs, schema_in}
 use Rattle.msi_database.proofs.TablesKeptLemmas.{has_table_kept}
 
-pub schema_kept : (pool : Pool) (tables : List TableDef) (streams : Streams) → schema_shown (database_kept pool tables streams) ≡ schema_listed tables
+pub schema_kept : (pool : Pool) (tables : List TableDef) (streams : Streams) → columns_by_name (database_kept pool tables streams) ≡ schema_listed tables
 schema_kept pool [] streams = refl
 schema_kept pool (t ∷ ts) streams = ap (λ (l : List (List ℕ × List ColumnDef)). (t.name, t.columns) ∷ l) (schema_kept pool ts streams)
 
@@ -42,7 +42,7 @@ unlisted_from : (b : Bool) (o : Option (List (List ValueRef))) (rows : List (Lis
 unlisted_from true o rows h = sym h
 unlisted_from false o rows h = ap (λ (o : Option (List (List ValueRef))). unwrap_or o []) h
 
-pub parts_make : (streams : Streams) (d : Database) (tables : List TableDef) → DatabaseIs streams d → schema_listed tables ≡ schema_shown d → database_kept d.pool tables streams ≡ d
+pub parts_make : (streams : Streams) (d : Database) (tables : List TableDef) → DatabaseIs streams d → schema_listed tables ≡ columns_by_name d → database_kept d.pool tables streams ≡ d
 parts_make streams d tables h same =
     let own : map (table_kept streams d.pool.long) tables ≡ d.tables = kept_tables streams d.pool.long tables ∙ ap (map (table_of streams d.pool.long)) same ∙ own_tables streams d.pool.long d.tables h.tables in
     let listed : is_some (table_kept_at validation_name tables) ≡ has_table validation_name d =
@@ -54,7 +54,7 @@ parts_make streams d tables h same =
 
 -- WHERE THE SYSTEM TABLES DESCRIBE THE TABLES, THE STREAMS SPELL THEM
 
-each_kept : (streams : Streams) (long : Bool) (tables : List TableDef) → AllByRecursion (λ t. t.1.rows ≡ stored_rows streams long t.1.columns t.0) (map (table_kept streams long) tables)
+pub each_kept : (streams : Streams) (long : Bool) (tables : List TableDef) → AllByRecursion (λ t. t.1.rows ≡ stored_rows streams long t.1.columns t.0) (map (table_kept streams long) tables)
 each_kept streams long [] = tt
 each_kept streams long (t ∷ ts) = (refl, each_kept streams long ts)
 

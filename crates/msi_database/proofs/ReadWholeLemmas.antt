@@ -5,22 +5,22 @@ use Rattle.std.specs.List.{list_any}
 use Rattle.std.specs.FinMap.{entries, entries_sorted, is_sorted}
 use Rattle.std.proofs.lemmas.List.Folds.{list_any-append}
 use Rattle.std.proofs.lemmas.Option.{same_Some}
-use Rattle.msi_compound.specs.Names.{name_cmp}
-use Rattle.msi_compound.specs.Streams as maps
-use Rattle.msi_text.specs.ErrorKind.{ErrorKind}
-use Rattle.msi_text.specs.ErrorKind.TheVariants.{InvalidData}
-use Rattle.msi_text.specs.Pool.{CountsFit, Pool, with_named_texts}
-use Rattle.msi_value.specs.declared.value.ValueRef.{ValueRef}
-use Rattle.msi_value.specs.Columns.{ColumnDef}
+use Rattle.msi_container_format.specs.Names.{name_cmp}
+use Rattle.msi_container_format.specs.Streams as maps
+use Rattle.msi_text_base.specs.declared.errors.ErrorKind.{ErrorKind}
+use Rattle.msi_text_base.specs.declared.errors.ErrorKind.TheVariants.{InvalidData}
+use Rattle.msi_text_pool.specs.Pool.{CountsFit, Pool, with_named_texts}
+use Rattle.msi_table_values.specs.declared.value.ValueRef.{ValueRef}
+use Rattle.msi_table_values.specs.Columns.{ColumnDef}
 use Rattle.msi_table.specs.Tables.{TableDef}
-use Rattle.msi_relation.specs.Refusals.{IsRefusal, or_refused}
-use Rattle.msi_schema.specs.Schema.{table_with}
-use Rattle.msi_schema.specs.System.{validation_columns, validation_name}
-use Rattle.msi_changes.specs.Database.{Database, Tables, is_sound, names_are_numbers, numbers_of_rows}
-use Rattle.msi_kept.specs.Streams.{Streams, stored_rows}
-use Rattle.msi_kept.specs.StreamNames.{HaveNames, HoldBytes}
-use Rattle.msi_kept.specs.Kept.{AreAsLong, Kept, database_kept, kept_of, schema_listed, table_kept, table_kept_at, unlisted_kept}
-use Rattle.msi_kept.specs.Marks.{numbers_named, numbers_of_tables, pool_shown}
+use Rattle.msi_query_rows.specs.Refusals.{IsRefusal, or_refused}
+use Rattle.msi_database_schema.specs.Schema.{table_with}
+use Rattle.msi_database_schema.specs.System.{validation_columns, validation_name}
+use Rattle.msi_database_changes.specs.Database.{Database, Tables, is_sound, names_are_numbers, numbers_of_rows}
+use Rattle.msi_database_storage.specs.Streams.{Streams, stored_rows}
+use Rattle.msi_database_storage.specs.StreamNames.{HaveShortNames, HoldBytes}
+use Rattle.msi_database_storage.specs.Kept.{AreAsLong, Kept, database_kept, kept_of, schema_listed, table_kept, table_kept_at, unlisted_kept}
+use Rattle.msi_database_storage.specs.Marks.{numbers_named, numbers_of_tables, pool_shown}
 use Rattle.msi_database.specs.Agreement.{is_shown, schema_in}
 use Rattle.msi_database.specs.Keeping.{AreKept, IsRead}
 use Rattle.msi_database.specs.Listed.{tables_listed}
@@ -53,7 +53,7 @@ shown_here p ts b rows o e =
 -- what is read of a pool, of streams, and of the tables that they describe
 pub record Reads (raw : Pool) (tables : List TableDef) (streams : Streams) (rows : List (List ValueRef)) : Type 0 where
   pub in_order : T (is_sorted name_cmp streams)
-  pub names : HaveNames streams
+  pub names : HaveShortNames streams
   pub held : HoldBytes streams
   pub few : length raw.places ≤ 16777215
   pub counts : CountsFit raw.places
@@ -180,7 +180,7 @@ pub unread_refused : (streams : Streams) (raw : Pool) (standard : TableDef) (kin
 unread_refused streams raw standard kind is e = refused_from (stored_rows streams standard.long standard.columns standard.name) (schema_in streams raw) kind
     (λ none. without_validation streams raw (standard_stored streams standard raw.long is ∙ none)) e
 
-pub reads_by : (raw : Pool) (m : maps.Streams) (tables listed : List TableDef) (rows : List (List ValueRef)) (standard : TableDef) → HaveNames (entries m) → HoldBytes (entries m)
+pub reads_by : (raw : Pool) (m : maps.Streams) (tables listed : List TableDef) (rows : List (List ValueRef)) (standard : TableDef) → HaveShortNames (entries m) → HoldBytes (entries m)
     → length raw.places ≤ 16777215 → CountsFit raw.places → standard ≡ table_with raw.long (validation_name, validation_columns)
     → stored_rows (entries m) standard.long standard.columns standard.name ≡ Some rows → listed ≡ tables → AreAsLong raw.long tables → schema_in (entries m) raw ≡ Some (schema_listed tables)
     → Reads raw listed (entries m) rows

@@ -6,36 +6,37 @@ use Rattle.std.proofs.lemmas.Bool.{cases_Bool, le-leb, true≢false}
 use Rattle.std.proofs.lemmas.Option.{none-some, same_Some}
 use Rattle.std.proofs.lemmas.Bool.Decides.{nat_tests}
 use Rattle.std.proofs.lemmas.Int.{ints}
-use Rattle.msi_text.specs.Lists.{all_present}
-use Rattle.msi_text.specs.ErrorKind.{ErrorKind}
-use Rattle.msi_text.specs.ErrorKind.TheVariants.{InvalidData, OutOfMemory}
-use Rattle.msi_text.specs.ErrorKind.TheVariants as kinds
-use Rattle.msi_text.specs.Results.{FailsAs, Gives}
-use Rattle.msi_text.specs.Pool.{Place, Pool}
-use Rattle.msi_compound.specs.Names.{is_name_length}
-use Rattle.msi_value.specs.declared.column.ColumnType.TheVariants as coltype
-use Rattle.msi_value.specs.declared.value.Value.{Value}
-use Rattle.msi_value.specs.declared.value.ValueRef.{ValueRef}
-use Rattle.msi_value.specs.declared.value.ValueRef.TheVariants as cell
-use Rattle.msi_value.specs.CellValues.{value_of_cell, row_values}
-use Rattle.msi_value.specs.Columns.{ColumnDef, greatest_16, types_of}
+use Rattle.msi_text_base.specs.Lists.{all_present}
+use Rattle.msi_text_base.specs.declared.errors.ErrorKind.{ErrorKind}
+use Rattle.msi_text_base.specs.declared.errors.ErrorKind.TheVariants.{InvalidData, OutOfMemory}
+use Rattle.msi_text_base.specs.declared.errors.ErrorKind.TheVariants as kinds
+use Rattle.msi_text_base.specs.Results.{FailsAs, Gives}
+use Rattle.msi_text_pool.specs.Pool.{Place, Pool}
+use Rattle.msi_container_format.specs.Names.{is_name_length}
+use Rattle.msi_table_values.specs.declared.column.ColumnType.TheVariants as coltype
+use Rattle.msi_table_values.specs.declared.value.Value.{Value}
+use Rattle.msi_table_values.specs.declared.value.ValueRef.{ValueRef}
+use Rattle.msi_table_values.specs.declared.value.ValueRef.TheVariants as cell
+use Rattle.msi_table_values.specs.CellValues.{value_of_cell, row_values}
+use Rattle.msi_table_values.specs.Columns.{ColumnDef, greatest_16, types_of}
 use Rattle.msi_table.specs.Tables.{TableDef}
-use Rattle.msi_value.specs.Fitting.{FitsColumn, FitsRow, FitsTable}
-use Rattle.msi_relation.specs.Refusals.{IsRefusal, or_refused}
-use Rattle.msi_schema.specs.RowOrders.{rows_of}
-use Rattle.msi_schema.specs.Schema.{SchemaRows, by_name, columns_of, listed_names, has_long_number, has_null, has_odd_name, is_faulty, is_null, is_of_16_bits, is_text, number_of, schema_of, table_with, tables_of}
-use Rattle.msi_schema.proofs.SchemaLemmas.{no_fault}
-use Rattle.msi_schema.specs.System.{columns_columns, columns_name, tables_columns, tables_name, validation_columns, validation_name}
-use Rattle.msi_kept.specs.Streams.{Streams, stored_rows}
-use Rattle.msi_kept.specs.StreamNames.{HaveNames, HoldBytes}
-use Rattle.msi_kept.specs.Kept.{AreAsLong, schema_listed}
+use Rattle.msi_table_values.specs.Fitting.{FitsColumn, FitsRow, FitsTable}
+use Rattle.msi_query_rows.specs.Refusals.{IsRefusal, or_refused}
+use Rattle.msi_database_schema.specs.RowOrders.{rows_of}
+use Rattle.msi_table_values.specs.Values.{is_null, is_text}
+use Rattle.msi_database_schema.specs.Schema.{SchemaRows, by_name, columns_of, listed_names, has_long_number, has_null, has_odd_name, is_faulty, is_of_16_bits, number_of, schema_of, table_with, tables_of}
+use Rattle.msi_database_schema.proofs.SchemaLemmas.{no_fault}
+use Rattle.msi_database_schema.specs.System.{columns_columns, columns_name, tables_columns, tables_name, validation_columns, validation_name}
+use Rattle.msi_database_storage.specs.Streams.{Streams, stored_rows}
+use Rattle.msi_database_storage.specs.StreamNames.{HaveShortNames, HoldBytes}
+use Rattle.msi_database_storage.specs.Kept.{AreAsLong, schema_listed}
 use Rattle.msi_database.specs.Agreement.{described_by, schema_in}
 use Rattle.msi_database.proofs.ReadLemmas.{rows_read_fit}
 
 -- ENTRIES
 
-pub name_seen : {A : Type 0} (stream : List ℕ × List ℕ) (streams rest : Streams) → streams ≡ stream ∷ rest → 0 < length stream.0 → length stream.0 ≤ 31 → (HaveNames streams → A) → HaveNames rest → A
-name_seen stream streams rest is some most h others = h (subst HaveNames (sym is) (fits, others)) where
+pub name_seen : {A : Type 0} (stream : List ℕ × List ℕ) (streams rest : Streams) → streams ≡ stream ∷ rest → 0 < length stream.0 → length stream.0 ≤ 31 → (HaveShortNames streams → A) → HaveShortNames rest → A
+name_seen stream streams rest is some most h others = h (subst HaveShortNames (sym is) (fits, others)) where
   fits : is_name_length (length stream.0) ≡ true
   fits = grind (arith, nat_tests)
 
@@ -121,10 +122,6 @@ refused_from o p kind h (inl memory) = inl memory
 refused_from None p kind h (inr e) = let same : InvalidData ≡ kind = cc in inr (ap (or_refused InvalidData) (h refl) ∙ ap Err same)
 refused_from (Some x) p kind h (inr e) = absurd cc
 
-pub err_from : {A B X : Type 0} (r : Result X ErrorKind) (o : Option A) (p : Option B) → (o ≡ None → p ≡ None) → IfErr r (IsRefusal (or_refused InvalidData o)) → IfErr r (IsRefusal (or_refused InvalidData p))
-err_from (Ok x) o p h e = tt
-err_from (Err kind) o p h e = refused_from o p kind h e
-
 -- what is refused, of rows that cells give
 fails_by : {A B : Type 0} (o : Option A) (p : Option B) (kind : ErrorKind) → (o ≡ None → p ≡ None) → FailsAs kind o → IsRefusal (or_refused InvalidData p) kind
 fails_by o p kinds.InvalidData h e = inr (ap (or_refused InvalidData) (h e))
@@ -133,13 +130,8 @@ fails_by o p _ h e = absurd e
 
 -- WHAT THE STREAMS DESCRIBE
 
-joined : Option (List (List Value)) → Option (List (List Value)) → Option (List (List Value)) → Option SchemaRows
+unfoldable pub joined : Option (List (List Value)) → Option (List (List Value)) → Option (List (List Value)) → Option SchemaRows
 joined tables columns validation = option_and_then (λ t. option_and_then (λ c. option_map (λ v. record { tables = t; columns = c; validation = v }) validation) columns) tables
-
-no_columns : (tables validation : Option (List (List Value))) → option_and_then schema_of (joined tables None validation) ≡ None
-unfolding joined
-no_columns None validation = refl
-no_columns (Some t) validation = refl
 
 no_validation : (tables columns : Option (List (List Value))) → option_and_then schema_of (joined tables columns None) ≡ None
 unfolding joined
@@ -155,15 +147,6 @@ unfolding joined
 schema_same streams pool other t c v = λ i. option_and_then schema_of (joined (t i) (c i) (v i))
 
 module _ (streams : Streams) (raw : Pool) where
-  pub without_tables : described_by streams raw tables_columns tables_name ≡ None → schema_in streams raw ≡ None
-  unfolding joined
-  without_tables e = ap (λ o. option_and_then schema_of (joined o (described_by streams raw columns_columns columns_name) (described_by streams raw validation_columns validation_name))) e
-
-  pub without_columns : described_by streams raw columns_columns columns_name ≡ None → schema_in streams raw ≡ None
-  unfolding joined
-  without_columns e = ap (λ o. option_and_then schema_of (joined (described_by streams raw tables_columns tables_name) o (described_by streams raw validation_columns validation_name))) e
-      ∙ no_columns (described_by streams raw tables_columns tables_name) (described_by streams raw validation_columns validation_name)
-
   pub without_validation : stored_rows streams raw.long validation_columns validation_name ≡ None → schema_in streams raw ≡ None
   unfolding joined
   without_validation e = ap (λ o. option_and_then schema_of (joined (described_by streams raw tables_columns tables_name) (described_by streams raw columns_columns columns_name) (option_map (map (row_values raw.places)) o))) e

@@ -2,41 +2,33 @@
 use Rattle.std.proofs.Common.{◌≡◌, ℕ, not, List, [], ◌∷◌, ◌++◌, Option, Some, None, Ok, Err, sym, ap, subst, ◌∙◌, inl, inr}
 use Rattle.std.specs.Prelude.{option_map, Result}
 use Rattle.std.specs.List.{fold}
-use Rattle.msi_text.specs.ErrorKind.{ErrorKind}
-use Rattle.msi_text.specs.ErrorKind.TheVariants.{InvalidInput, NotFound}
-use Rattle.msi_value.specs.declared.value.Value.{Value}
-use Rattle.msi_value.specs.declared.value.Value.TheVariants.{Str}
-use Rattle.msi_value.specs.declared.value.ValueRef.{ValueRef}
-use Rattle.msi_value.specs.Columns.{ColumnDef}
-use Rattle.msi_query.specs.Queries.{InsertQuery, UpdateQuery, DeleteQuery}
-use Rattle.msi_relation.specs.Refusals.{Refusals, IsRefusal, first_refusal, or_refused, unless, unless_refused, ◌>>=◌}
-use Rattle.msi_relation.specs.Selection.{has_columns, condition_names}
-use Rattle.msi_relation.specs.Rows.{TableCells}
-use Rattle.msi_schema.specs.Keys.{is_table_name}
-use Rattle.msi_schema.specs.System.{is_system_table, tables_name, columns_name, validation_name}
-use Rattle.msi_schema.specs.Description.{column_rows, validation_rows}
-use Rattle.msi_changes.specs.Database.{Database, table_at, rows_of}
-use Rattle.msi_changes.specs.Changes.{Change, PoolInUse, no_change, pool_of, with_stored, sound_refusal}
-use Rattle.msi_changes.specs.Keyed.{in_key_order}
-use Rattle.msi_changes.specs.Texts.{in_turn, rows_put}
-use Rattle.msi_changes.specs.Insert.{cells_added, insert_rows, rows_inserted, rows_added, row_refusals}
-use Rattle.msi_changes.specs.Update.{update_rows, update_refusals, is_update_barred, row_updated, rows_updated}
-use Rattle.msi_changes.specs.Delete.{delete_rows, rows_deleted}
-use Rattle.msi_changes.specs.Create.{create_table, table_refusals, with_new_table}
-use Rattle.msi_changes.specs.Drop.{drop_table, rows_forgotten, table_released}
-use Rattle.msi_relation.proofs.RefusalLemmas.{goes_on-Err}
+use Rattle.msi_text_base.specs.declared.errors.ErrorKind.{ErrorKind}
+use Rattle.msi_text_base.specs.declared.errors.ErrorKind.TheVariants.{InvalidInput, NotFound}
+use Rattle.msi_table_values.specs.declared.value.Value.{Value}
+use Rattle.msi_table_values.specs.declared.value.Value.TheVariants.{Str}
+use Rattle.msi_table_values.specs.declared.value.ValueRef.{ValueRef}
+use Rattle.msi_table_values.specs.Columns.{ColumnDef}
+use Rattle.msi_query.specs.Queries.{InsertQuery}
+use Rattle.msi_query_rows.specs.Refusals.{Refusals, IsRefusal, first_refusal, or_refused, unless_refused, ◌>>=◌}
+use Rattle.msi_query_rows.specs.Rows.{TableCells}
+use Rattle.msi_database_schema.specs.Keys.{is_table_name}
+use Rattle.msi_database_schema.specs.System.{is_system_table, tables_name, columns_name, validation_name}
+use Rattle.msi_database_schema.specs.Description.{column_rows, validation_rows}
+use Rattle.msi_database_changes.specs.Database.{Database, table_at, rows_of}
+use Rattle.msi_database_changes.specs.Changes.{Change, PoolInUse, no_change, pool_of, with_stored, sound_refusal}
+use Rattle.msi_database_changes.specs.Keyed.{in_key_order}
+use Rattle.msi_database_changes.specs.Texts.{rows_put}
+use Rattle.msi_database_changes.specs.Insert.{cells_added, insert_rows, rows_inserted, rows_added, row_refusals}
+use Rattle.msi_database_changes.specs.Create.{create_table, table_refusals, with_new_table}
+use Rattle.msi_database_changes.specs.Drop.{drop_table, rows_forgotten, table_released}
+use Rattle.msi_query_rows.proofs.RefusalLemmas.{goes_on-Err, unless-Err}
 use Rattle.msi_database.proofs.MadeLemmas.{goes_on, found}
 
 -- STEPS
 
--- a first refusal is the same of any answer
-unless_same : {A B : Type 0} (o : Option ErrorKind) (x : A) (y : B) (k : ErrorKind) → unless o x ≡ Err k → unless o y ≡ Err k
-unless_same None x y k e = cc
-unless_same (Some l) x y k e = cc
-
 pub refused_same : {A B : Type 0} (rs : Refusals) (x : A) (y : B) (k : ErrorKind) → IsRefusal (unless_refused rs x) k → IsRefusal (unless_refused rs y) k
 refused_same rs x y k (inl memory) = inl memory
-refused_same rs x y k (inr e) = inr (unless_same (first_refusal rs) x y k e)
+refused_same rs x y k (inr e) = inr (unless-Err (first_refusal rs) x y k e)
 
 pub step_refuses : {A B C : Type 0} (rs : Refusals) (x : A) (y : C) (f : A → Result B ErrorKind) (k : ErrorKind) → IsRefusal (unless_refused rs y) k → IsRefusal (unless_refused rs x >>= f) k
 step_refuses rs x y f k h = goes_on-Err (unless_refused rs x) f k (refused_same rs y x k h)
@@ -89,9 +81,6 @@ module _ (b : Change) (name : List ℕ) (values : List (List Value)) where
     abbrev stored_as : List (List ValueRef) × PoolInUse → Change
     stored_as r = with_stored name t.columns (in_key_order t.columns r.1.places (rows_of t ++ r.0)) r.1 b
 
-    pub inserted_full : passes → IsRefusal (or_refused InvalidInput (rows_put b.database.pool.long (pool_of b) values)) k → IsRefusal (rows_inserted name values b) k
-    inserted_full passed h = becomes (rows_inserted name values b) (added t) k (at_last passed) (option_refused InvalidInput k stored_as (rows_put b.database.pool.long (pool_of b) values) h)
-
     -- the same of all rows of the table, as a call makes them
     pub cells_full : passes → IsRefusal (or_refused InvalidInput (cells_added b.database.pool.long t.columns (pool_of b) (rows_of t) values)) k → IsRefusal (rows_inserted name values b) k
     cells_full passed h = becomes (rows_inserted name values b) (added t) k (at_last passed)
@@ -103,75 +92,8 @@ module _ (d : Database) (q : InsertQuery) where
   abbrev insert_early : Refusals
   insert_early = sound_refusal d ++ (is_system_table q.table, InvalidInput) ∷ []
 
-  pub insert_barred : (k : ErrorKind) → IsRefusal {A = Unit {0}} (unless_refused insert_early tt) k → IsRefusal (insert_rows d q) k
-  insert_barred k h = step_refuses insert_early (no_change d) tt (rows_inserted q.table q.rows) k h
-
   pub insert_refused : (k : ErrorKind) → first_refusal insert_early ≡ None → IsRefusal (rows_inserted q.table q.rows (no_change d)) k → IsRefusal (insert_rows d q) k
   insert_refused k passed h = becomes (insert_rows d q) (rows_inserted q.table q.rows (no_change d)) k (goes_on insert_early (no_change d) (rows_inserted q.table q.rows) passed) h
-
--- AN UPDATE
-
-module _ (d : Database) (q : UpdateQuery) where
-  abbrev update_early : Refusals
-  update_early = sound_refusal d ++ (is_update_barred q, InvalidInput) ∷ []
-
-  abbrev update_set : Change → TableCells → Result Change ErrorKind
-  update_set c t = or_refused InvalidInput (rows_updated t q c)
-
-  abbrev update_judged : Change → TableCells → Result Change ErrorKind
-  update_judged c t = unless_refused (update_refusals d.pool.places t q) t >>= update_set c
-
-  abbrev update_found : Change → Result Change ErrorKind
-  update_found c = or_refused NotFound (table_at q.table d) >>= update_judged c
-
-  pub update_barred : (k : ErrorKind) → IsRefusal {A = Unit {0}} (unless_refused update_early tt) k → IsRefusal (update_rows d q) k
-  update_barred k h = step_refuses update_early (no_change d) tt update_found k h
-
-  module _ (passed : first_refusal update_early ≡ None) where
-    begun : update_rows d q ≡ update_found (no_change d)
-    begun = goes_on update_early (no_change d) update_found passed
-
-    pub update_missing : table_at q.table d ≡ None → IsRefusal (update_rows d q) NotFound
-    update_missing e = becomes (update_rows d q) (update_found (no_change d)) NotFound begun (step_missing NotFound (table_at q.table d) (update_judged (no_change d)) e)
-
-    module _ (t : TableCells) (at : table_at q.table d ≡ Some t) (k : ErrorKind) where
-      there : update_rows d q ≡ update_judged (no_change d) t
-      there = begun ∙ found NotFound (table_at q.table d) t (update_judged (no_change d)) at
-
-      pub update_misfit : IsRefusal {A = Unit {0}} (unless_refused (update_refusals d.pool.places t q) tt) k → IsRefusal (update_rows d q) k
-      update_misfit h = becomes (update_rows d q) (update_judged (no_change d) t) k there (step_refuses (update_refusals d.pool.places t q) t tt (update_set (no_change d)) k h)
-
-      pub update_full : first_refusal (update_refusals d.pool.places t q) ≡ None
-          → IsRefusal (or_refused InvalidInput (in_turn (row_updated d.pool.long d.pool.places t.columns q) (pool_of (no_change d)) (rows_of t))) k → IsRefusal (update_rows d q) k
-      update_full fits h = becomes (update_rows d q) (update_set (no_change d) t) k (there ∙ goes_on (update_refusals d.pool.places t q) t (update_set (no_change d)) fits)
-          (option_refused InvalidInput k (λ r. with_stored q.table t.columns r.0 r.1 (no_change d)) (in_turn (row_updated d.pool.long d.pool.places t.columns q) (pool_of (no_change d)) (rows_of t)) h)
-
--- A DELETE
-
-module _ (d : Database) (q : DeleteQuery) where
-  abbrev delete_early : Refusals
-  delete_early = sound_refusal d ++ (is_system_table q.table, InvalidInput) ∷ []
-
-  abbrev delete_judged : Change → TableCells → Result Change ErrorKind
-  delete_judged c t = unless_refused ((not (has_columns t.columns (condition_names q.condition)), InvalidInput) ∷ []) (rows_deleted t q c)
-
-  abbrev delete_found : Change → Result Change ErrorKind
-  delete_found c = or_refused NotFound (table_at q.table d) >>= delete_judged c
-
-  pub delete_barred : (k : ErrorKind) → IsRefusal {A = Unit {0}} (unless_refused delete_early tt) k → IsRefusal (delete_rows d q) k
-  delete_barred k h = step_refuses delete_early (no_change d) tt delete_found k h
-
-  module _ (passed : first_refusal delete_early ≡ None) where
-    delete_begun : delete_rows d q ≡ delete_found (no_change d)
-    delete_begun = goes_on delete_early (no_change d) delete_found passed
-
-    pub delete_missing : table_at q.table d ≡ None → IsRefusal (delete_rows d q) NotFound
-    delete_missing e = becomes (delete_rows d q) (delete_found (no_change d)) NotFound delete_begun (step_missing NotFound (table_at q.table d) (delete_judged (no_change d)) e)
-
-    pub delete_misfit : (t : TableCells) → table_at q.table d ≡ Some t → (k : ErrorKind)
-        → IsRefusal {A = Unit {0}} (unless_refused ((not (has_columns t.columns (condition_names q.condition)), InvalidInput) ∷ []) tt) k → IsRefusal (delete_rows d q) k
-    delete_misfit t at k h = becomes (delete_rows d q) (delete_judged (no_change d) t) k (delete_begun ∙ found NotFound (table_at q.table d) t (delete_judged (no_change d)) at)
-        (refused_same ((not (has_columns t.columns (condition_names q.condition)), InvalidInput) ∷ []) tt (rows_deleted t q (no_change d)) k h)
 
 -- A CREATE
 
@@ -239,6 +161,3 @@ module _ (d : Database) (name : List ℕ) where
 
   pub drop_barred : (k : ErrorKind) → IsRefusal {A = Unit {0}} (unless_refused drop_early tt) k → IsRefusal (drop_table d name) k
   drop_barred k h = step_refuses drop_early (no_change d) tt drop_found k h
-
-  pub drop_missing : first_refusal drop_early ≡ None → table_at name d ≡ None → IsRefusal (drop_table d name) NotFound
-  drop_missing passed e = becomes (drop_table d name) (drop_found (no_change d)) NotFound (goes_on drop_early (no_change d) drop_found passed) (step_missing NotFound (table_at name d) (drop_last (no_change d)) e)

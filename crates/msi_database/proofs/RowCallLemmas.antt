@@ -1,40 +1,41 @@
 -- Changes of rows: what a call made is what the change leaves.
 use Rattle.std.proofs.Common.{◌≡◌, ℕ, Bool, true, false, not, List, [], ◌∷◌, ◌++◌, Option, Some, None, Result, Ok, Err, refl, sym, ap, ap₂, subst, ◌∙◌, option_map, inl}
-use Rattle.std.specs.Prelude.{MatchOption, OnOk}
+use Rattle.std.specs.Prelude.{MatchOption}
 use Rattle.std.specs.FinMap.{entries}
-use Rattle.msi_compound.specs.Streams as maps
-use Rattle.msi_text.specs.ErrorKind.{ErrorKind}
-use Rattle.msi_text.specs.ErrorKind.TheVariants.{InvalidInput}
-use Rattle.msi_text.specs.Pool.{Place, Pool}
-use Rattle.msi_value.specs.declared.value.ValueRef.{ValueRef}
-use Rattle.msi_value.specs.declared.value.Value.{Value}
-use Rattle.msi_value.specs.Columns.{ColumnDef, types_of}
+use Rattle.msi_container_format.specs.Streams as maps
+use Rattle.msi_text_base.specs.declared.errors.ErrorKind.{ErrorKind}
+use Rattle.msi_text_base.specs.declared.errors.ErrorKind.TheVariants.{InvalidInput}
+use Rattle.msi_text_pool.specs.Pool.{Place, Pool}
+use Rattle.msi_table_values.specs.declared.value.ValueRef.{ValueRef}
+use Rattle.msi_table_values.specs.declared.value.Value.{Value}
+use Rattle.msi_table_values.specs.Columns.{ColumnDef, types_of}
 use Rattle.msi_table.specs.Tables.{TableDef, CanStore}
-use Rattle.msi_value.specs.Fitting.{FitsTable}
+use Rattle.msi_table_values.specs.Fitting.{FitsTable}
 use Rattle.msi_query.specs.Queries.{InsertQuery, UpdateQuery, DeleteQuery}
-use Rattle.msi_relation.specs.Refusals.{first_refusal, unless_refused}
-use Rattle.msi_relation.specs.Rows.{TableCells}
-use Rattle.msi_relation.specs.Selection.{has_columns, condition_names}
-use Rattle.msi_schema.specs.Keys.{is_table_name, table_key}
-use Rattle.msi_schema.specs.System.{is_system_table}
-use Rattle.msi_changes.specs.Database.{Database, is_sound, table_at}
-use Rattle.msi_changes.specs.Changes.{Change, PoolInUse, no_change, pool_of, with_stored}
-use Rattle.msi_changes.specs.Keyed.{in_key_order}
-use Rattle.msi_changes.specs.Insert.{table_with, cells_added, insert_rows, row_refusals}
-use Rattle.msi_changes.specs.Update.{is_update_barred, row_updated, update_refusals, update_rows}
-use Rattle.msi_changes.specs.Delete.{delete_rows, rows_meeting}
-use Rattle.msi_changes.specs.Texts.{UsedPool, in_turn, in_use, rows_put, rows_released}
-use Rattle.msi_changes.specs.Laws.{IsChange, inserted, updated, deleted}
-use Rattle.msi_changes.proofs.TurnLemmas.{map_some}
-use Rattle.msi_kept.specs.Streams.{Streams, stream_of_rows}
-use Rattle.msi_kept.specs.declared.storing.Stored.{Stored}
-use Rattle.msi_kept.specs.Storing.{stored_all, stored_in}
-use Rattle.msi_kept.specs.Kept.{Kept, kept_of, after_change}
+use Rattle.msi_query_rows.specs.Refusals.{first_refusal, unless_refused}
+use Rattle.msi_query_rows.specs.Rows.{TableCells}
+use Rattle.msi_query_rows.specs.Selection.{has_columns, condition_names}
+use Rattle.msi_database_schema.specs.Keys.{is_table_name, table_key}
+use Rattle.msi_database_schema.specs.System.{is_system_table}
+use Rattle.msi_database_schema.proofs.RowOrderLemmas.{names_total}
+use Rattle.msi_database_changes.specs.Database.{Database, is_sound, table_at}
+use Rattle.msi_database_changes.specs.Changes.{Change, PoolInUse, no_change, pool_of, with_stored}
+use Rattle.msi_database_changes.specs.Keyed.{in_key_order}
+use Rattle.msi_database_changes.specs.Insert.{table_with, cells_added, insert_rows, row_refusals}
+use Rattle.msi_database_changes.specs.Update.{is_update_barred, row_updated, update_refusals, update_rows}
+use Rattle.msi_database_changes.specs.Delete.{delete_rows, rows_meeting}
+use Rattle.msi_database_changes.specs.Texts.{UsedPool, in_turn, in_use, rows_put, rows_released}
+use Rattle.msi_database_changes.specs.Laws.{IsChange, inserted, updated, deleted}
+use Rattle.msi_database_changes.proofs.TurnLemmas.{map_some}
+use Rattle.msi_database_storage.specs.Streams.{Streams, stream_of_rows}
+use Rattle.msi_database_storage.specs.declared.storing.Stored.{Stored}
+use Rattle.msi_database_storage.specs.Storing.{stored_all, stored_in}
+use Rattle.msi_database_storage.specs.Kept.{Kept, kept_of, after_change}
 use Rattle.msi_database.specs.Keeping.{AreKept, AreParts}
 use Rattle.msi_database.specs.Listed.{IsKnown, table_def_at, tables_listed}
 use Rattle.msi_database.specs.Making.{Leaves, Makes, MakesRows, TellsUse}
 use Rattle.msi_database.proofs.MapLemmas as found
-use Rattle.msi_database.proofs.StreamLemmas.{list_cmp_total, list_cmp_exact}
+use Rattle.msi_database.proofs.StreamLemmas.{list_cmp_exact}
 use Rattle.msi_database.proofs.KeyLemmas.{table_key_is_name}
 use Rattle.msi_database.proofs.SoundLemmas.{sound_names}
 use Rattle.msi_database.proofs.CanStoreLemmas.{rows_can_store}
@@ -44,10 +45,6 @@ use Rattle.msi_database.proofs.MadeLemmas.{delete_made, insert_made, update_made
 use Rattle.msi_database.proofs.TablesKeptLemmas.{listed_kept}
 
 -- WHAT WAS MADE
-
-pub makes_sound : (old : Kept) (r : Result Change ErrorKind) (pool : Pool) (tables : List TableDef) (es : List Stored) → Makes old r pool tables es → is_sound old.database ≡ true
-makes_sound old (Ok c) pool tables es h = h.1
-makes_sound old (Err k) pool tables es h = absurd h
 
 pub makes_kept : (old : Kept) (r : Result Change ErrorKind) (pool : Pool) (tables : List TableDef) (es : List Stored) → Makes old r pool tables es → AreKept pool tables (stored_in es old.streams) true
 makes_kept old (Ok c) pool tables es h = h.0.1
@@ -69,7 +66,7 @@ known_at d sound name (Some u) at (Some t) e =
     subst (IsKnown d name) same (record {
       named = refl;
       listed = ap (option_map (λ t. record { name = name; columns = t.columns; long = d.pool.long })) at;
-      has_key = table_key_is_name name (found.found_has list_cmp_total list_cmp_exact (λ e. is_table_name e.0 ≡ true) name u d.tables (sound_names d sound) at);
+      has_key = table_key_is_name name (found.found_has names_total list_cmp_exact (λ e. is_table_name e.0 ≡ true) name u d.tables (sound_names d sound) at);
       long = refl;
     })
 
@@ -229,8 +226,3 @@ module _ (pool : Pool) (tables : List TableDef) (m : maps.Streams) (known : Bool
       (ap₂ (λ (p : Pool) (cs : List ColumnDef). first_refusal (row_refusals p.places (table_with cs held) values)) (sym pool_is) (sym columns_is) ∙ passed) began
       (ap (λ (cs : List ColumnDef). cells_added before.pool.long cs (in_use before) held values) (sym columns_is) ∙ added) in
       subst (λ (q : InsertQuery). Called k (insert_rows k.database q) t rows before after) same (called (insert_rows k.database seen) made (inserted seen made))
-
--- what a caller of such a call knows
-pub on_ok : {A : Type 0} (r : Result A ErrorKind) (P Q : Type 0) → (P → Q) → OnOk r P → OnOk r Q
-on_ok (Ok x) P Q f h = f h
-on_ok (Err k) P Q f h = tt

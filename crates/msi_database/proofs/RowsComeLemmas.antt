@@ -1,54 +1,54 @@
 -- An accepted insert, delete or update brings what a change must.
-use Rattle.std.proofs.Common.{◌≡◌, ℕ, ◌≤◌, Bool, true, false, List, [], ◌∷◌, map, length, bytes_eq, Option, Some, None, unwrap_or, is_some, sym, ap, subst, ◌∙◌, arith, Ok}
-use Rattle.std.specs.Prelude.{IsSomeAnd}
-use Rattle.std.specs.List.{list_any, AllByRecursion}
+use Rattle.std.proofs.Common.{◌≡◌, ℕ, ◌≤◌, true, false, List, [], ◌∷◌, map, length, bytes_eq, Some, is_some, sym, ap, subst, ◌∙◌, arith, Ok}
+use Rattle.std.specs.List.{list_any}
 use Rattle.std.specs.FinMap.{find}
 use Rattle.std.proofs.lemmas.Bool.{true≢false, false_from_ne_true, leb-true}
 use Rattle.std.proofs.lemmas.Slice.Eq.{bytes_eq-Decides}
-use Rattle.msi_text.specs.Lists.{list_cmp}
-use Rattle.msi_text.specs.Pool.{Place}
-use Rattle.msi_text.specs.FirstFit.{most_places}
-use Rattle.msi_pool.proofs.TakenLemmas.{taken_takes}
-use Rattle.msi_value.specs.declared.value.ValueRef.{ValueRef}
-use Rattle.msi_value.specs.Columns.{ColumnDef, types_of}
-use Rattle.msi_value.specs.Fitting.{FitsRow, FitsTable}
-use Rattle.msi_value.specs.CellValues.{row_values}
+use Rattle.msi_text_base.specs.Lists.{list_cmp}
+use Rattle.msi_text_pool.specs.Pool.{Place}
+use Rattle.msi_text_pool.specs.FirstFit.{most_places}
+use Rattle.msi_text_pool.proofs.TakenLemmas.{taken_takes}
+use Rattle.msi_table_values.specs.declared.value.ValueRef.{ValueRef}
+use Rattle.msi_table_values.specs.Columns.{types_of}
+use Rattle.msi_table_values.specs.Fitting.{FitsTable}
+use Rattle.msi_table_values.specs.CellValues.{row_values}
 use Rattle.msi_table.specs.StoredOrder.{in_stored_order}
-use Rattle.msi_table.proofs.SortedFitsLemmas.{sorted_fits}
 use Rattle.msi_query.specs.Queries.{InsertQuery, UpdateQuery, DeleteQuery}
-use Rattle.msi_relation.specs.Rows.{TableCells}
-use Rattle.msi_schema.specs.Keys.{is_table_name}
-use Rattle.msi_schema.specs.System.{validation_name}
-use Rattle.msi_schema.specs.Schema.{schema_of}
-use Rattle.msi_schema.proofs.OrderlessLemmas.{HasKinds}
-use Rattle.msi_schema.proofs.SchemaLemmas.{Described}
-use Rattle.msi_changes.specs.Database.{Database, table_at, has_table, is_sound, rows_of}
-use Rattle.msi_changes.specs.Changes.{Change, no_change, pool_of}
-use Rattle.msi_changes.specs.Insert.{insert_rows}
-use Rattle.msi_changes.specs.Update.{update_rows}
-use Rattle.msi_changes.specs.Delete.{delete_rows, rows_meeting}
-use Rattle.msi_changes.specs.Texts.{rows_released}
-use Rattle.msi_changes.specs.Laws.{IsChange, inserted, updated, deleted}
-use Rattle.msi_changes.proofs.StoredLemmas.{Exchanged}
-use Rattle.msi_changes.proofs.ValuesLemmas.{rows_stay}
-use Rattle.msi_changes.proofs.ShownLemmas.{shown}
-use Rattle.msi_changes.proofs.DescribingLemmas.{describing, has_shown}
-use Rattle.msi_changes.proofs.LawLemmas.{changes_keep_soundness, changes_keep_form}
-use Rattle.msi_changes.proofs.InsertedLemmas.{Inserted, inserted_moved}
-use Rattle.msi_changes.proofs.InsertLemmas.{insert_parts}
-use Rattle.msi_changes.proofs.DeleteLemmas.{Deleted, delete_parts, stays, goes, apart}
-use Rattle.msi_changes.proofs.RemovedLemmas.{removed_moved}
-use Rattle.msi_changes.proofs.UpdateLemmas.{Updated, update_parts, update_moved}
-use Rattle.msi_changes.proofs.PoolStepLemmas.{rows_released_step}
-use Rattle.msi_changes.proofs.TracksLemmas.{Tracks, TableFits, tracks_stored, fewer_fit}
-use Rattle.msi_changes.proofs.CreateTracksLemmas.{tracked_from, tracks_inserted}
-use Rattle.msi_changes.proofs.RegularLemmas.{IsRegular}
+use Rattle.msi_query_rows.specs.Rows.{TableCells}
+use Rattle.msi_database_schema.specs.Keys.{is_table_name}
+use Rattle.msi_database_schema.specs.System.{validation_name}
+use Rattle.msi_database_schema.specs.Schema.{schema_of}
+use Rattle.msi_database_schema.proofs.OrderlessLemmas.{HasKinds}
+use Rattle.msi_database_schema.proofs.SchemaLemmas.{Described}
+use Rattle.msi_database_schema.proofs.RowOrderLemmas.{names_total}
+use Rattle.msi_database_changes.specs.Database.{Database, table_at, has_table, is_sound, rows_of}
+use Rattle.msi_database_changes.specs.Changes.{Change, no_change, pool_of}
+use Rattle.msi_database_changes.specs.Insert.{insert_rows}
+use Rattle.msi_database_changes.specs.Update.{update_rows}
+use Rattle.msi_database_changes.specs.Delete.{delete_rows, rows_meeting}
+use Rattle.msi_database_changes.specs.Texts.{rows_released}
+use Rattle.msi_database_changes.specs.Laws.{IsChange, inserted, updated, deleted}
+use Rattle.msi_database_changes.proofs.StoredLemmas.{Exchanged}
+use Rattle.msi_database_changes.proofs.ValuesLemmas.{rows_stay}
+use Rattle.msi_database_changes.proofs.ShownLemmas.{shown}
+use Rattle.msi_database_changes.proofs.DescribingLemmas.{describing, has_shown}
+use Rattle.msi_database_changes.proofs.LawLemmas.{changes_keep_soundness, changes_keep_form}
+use Rattle.msi_database_changes.proofs.InsertedLemmas.{Inserted, inserted_moved}
+use Rattle.msi_database_changes.proofs.InsertLemmas.{insert_parts}
+use Rattle.msi_database_changes.proofs.DeleteLemmas.{Deleted, delete_parts, stays, goes, apart}
+use Rattle.msi_database_changes.proofs.RemovedLemmas.{removed_moved}
+use Rattle.msi_database_changes.proofs.UpdateLemmas.{Updated, update_parts, update_moved}
+use Rattle.msi_database_changes.proofs.PoolStepLemmas.{rows_released_step}
+use Rattle.msi_database_changes.proofs.TracksLemmas.{Tracks, TableFits, tracks_stored, fewer_fit}
+use Rattle.msi_database_changes.proofs.CreateTracksLemmas.{tracked_from, tracks_inserted}
+use Rattle.msi_database_changes.proofs.RegularLemmas.{IsRegular}
 use Rattle.msi_database.proofs.MapLemmas as maps
-use Rattle.msi_database.proofs.StreamLemmas.{list_cmp_total, list_cmp_exact}
+use Rattle.msi_database.proofs.StreamLemmas.{list_cmp_exact}
 use Rattle.msi_database.proofs.GivenBackLemmas.{given_back_gives}
 use Rattle.msi_database.proofs.SoundLemmas.{sound_is, sound_names}
 use Rattle.msi_database.proofs.RowChangeLemmas.{shown_same, still_describes}
-use Rattle.msi_database.proofs.UpdateFitsLemmas.{rows_updated_step, rows_updated_fit}
+use Rattle.msi_database_changes.proofs.UpdateFitsLemmas.{rows_updated_step, rows_updated_fit}
+use Rattle.msi_database_changes.proofs.FitsKeptLemmas.{set_fit, each_row}
 use Rattle.msi_database.proofs.ComesLemmas.{Comes}
 
 pub missing_apart : (name other : List ℕ) (d : Database) (t : TableCells) → table_at name d ≡ Some t → has_table other d ≡ false → bytes_eq other name ≡ false
@@ -56,23 +56,9 @@ missing_apart name other d t found none = false_from_ne_true (bytes_eq other nam
     let is : other ≡ name = (bytes_eq-Decides other name).0 same in
     true≢false (sym (ap (λ (n : List ℕ). has_table n d) is ∙ ap is_some found) ∙ none))
 
--- as many rows, which fit
-set_fits : (columns : List ColumnDef) (long : Bool) (o : Option (List (List ValueRef))) (rows : List (List ValueRef)) → IsSomeAnd o (FitsTable long (types_of columns))
-    → AllByRecursion (FitsRow long (types_of columns)) rows → length rows ≡ length (unwrap_or o []) → FitsTable long (types_of columns) (in_stored_order columns rows)
-set_fits columns long None rows f each count = absurd f
-set_fits columns long (Some old) rows f each count = sorted_fits columns long (types_of columns) rows (record {
-  some_column = f.some_column;
-  few_rows = omega (arith, count, f.few_rows);
-  each_row = each;
-})
-
-readable_each : (columns : List ColumnDef) (long : Bool) (o : Option (List (List ValueRef))) → IsSomeAnd o (FitsTable long (types_of columns)) → AllByRecursion (FitsRow long (types_of columns)) (unwrap_or o [])
-readable_each columns long None f = absurd f
-readable_each columns long (Some old) f = f.each_row
-
 module _ (d : Database) (sound : is_sound d ≡ true) (regular : IsRegular d) (before : schema_of (describing d) ≡ Some (shown d)) (kinds : HasKinds (describing d)) where
   named : (name : List ℕ) (t : TableCells) → table_at name d ≡ Some t → is_table_name name ≡ true
-  named name t found = maps.found_has list_cmp_total list_cmp_exact (λ e. is_table_name e.0 ≡ true) name t d.tables (sound_names d sound) found
+  named name t found = maps.found_has names_total list_cmp_exact (λ e. is_table_name e.0 ≡ true) name t d.tables (sound_names d sound) found
 
   module _ (name : List ℕ) (t : TableCells) (found : table_at name d ≡ Some t) where
     -- the values of an unlisted `_Validation` stay
@@ -139,8 +125,8 @@ module _ (d : Database) (sound : is_sound d ≡ true) (regular : IsRegular d) (b
     updated_fit : (p : Updated d q c) → TableFits d.pool.long p.table → FitsTable d.pool.long (types_of p.table.columns) (in_stored_order p.table.columns p.rows.0)
     updated_fit p f =
         let set = rows_updated_fit taken_takes given_back_gives d.pool.long d.pool.places p.table.columns q (rows_of p.table) (pool_of (no_change d)) p.rows width
-        (readable_each p.table.columns d.pool.long p.table.rows f) p.valid p.rows_are in
-        set_fits p.table.columns d.pool.long p.table.rows p.rows.0 f set.each set.count
+        (each_row p.table.columns d.pool.long p.table.rows f) p.valid p.rows_are in
+        set_fit p.table.columns d.pool.long p.table.rows p.rows.0 f set.each set.count
 
     update_by : Updated d q c → Comes d c
     update_by p = comes_by q.table p.table p.found c (updated q e)

@@ -5,27 +5,20 @@ use Rattle.std.specs.FinMap.{is_sorted}
 use Rattle.std.specs.FinMap.Entries.{below_all}
 use Rattle.std.specs.Ordering.{is_lt}
 use Rattle.std.proofs.lemmas.Option.{same_Some}
-use Rattle.msi_text.specs.Lists.{list_cmp, all_present}
-use Rattle.msi_value.specs.Columns.{ColumnDef}
-use Rattle.msi_schema.specs.System.{tables_name, columns_name, tables_columns, columns_columns}
-use Rattle.msi_schema.specs.Schema.{SchemaRows, schema_of, by_name, is_faulty, listed_names, columns_of}
-use Rattle.msi_changes.specs.Database.{Database, Tables}
-use Rattle.msi_kept.specs.Streams.{Streams}
-use Rattle.msi_database.specs.Agreement.{SchemaIs, schema_rows, schema_shown}
-use Rattle.msi_database.proofs.MapLemmas as maps
-use Rattle.msi_database.proofs.StreamLemmas.{TablesSorted, list_cmp_total, list_cmp_exact}
+use Rattle.msi_text_base.specs.Lists.{list_cmp, all_present}
+use Rattle.msi_table_values.specs.Columns.{ColumnDef}
+use Rattle.msi_database_schema.specs.System.{tables_name, columns_name, tables_columns, columns_columns}
+use Rattle.msi_database_schema.specs.Schema.{SchemaRows, schema_of, by_name, is_faulty, listed_names, columns_of}
+use Rattle.msi_database_schema.proofs.SchemaLemmas.{Described, by_name-sorted}
+use Rattle.msi_database_changes.specs.Database.{Database, Tables, columns_by_name}
+use Rattle.msi_database_storage.specs.Streams.{Streams}
+use Rattle.msi_database.specs.Agreement.{SchemaIs, schema_rows}
+use Rattle.msi_database.proofs.StreamLemmas.{TablesSorted}
 
-by_name_sorted : (ts : List (List ℕ × List ColumnDef)) → T (is_sorted list_cmp (by_name ts))
-by_name_sorted [] = tt
-by_name_sorted (t ∷ ts) = maps.sorted_put list_cmp_total list_cmp_exact t.0 t.1 (by_name ts) (by_name_sorted ts)
-
-abbrev Shown : Type 0
-Shown = List (List ℕ × List ColumnDef)
-
-named_sorted : {X : Type 0} (faulty : Bool) (f : X → Shown) (o : Option X) (x : Shown) → (if faulty then None else option_map (λ columns. by_name (f columns)) o) ≡ Some x → T (is_sorted list_cmp x)
+named_sorted : {X : Type 0} (faulty : Bool) (f : X → Described) (o : Option X) (x : Described) → (if faulty then None else option_map (λ columns. by_name (f columns)) o) ≡ Some x → T (is_sorted list_cmp x)
 named_sorted true f o x e = absurd cc
 named_sorted false f None x e = absurd cc
-named_sorted false f (Some columns) x e = subst (λ (y : Shown). T (is_sorted list_cmp y)) (same_Some (by_name (f columns)) x e) (by_name_sorted (f columns))
+named_sorted false f (Some columns) x e = subst (λ (y : Described). T (is_sorted list_cmp y)) (same_Some (by_name (f columns)) x e) (by_name-sorted (f columns))
 
 schema_sorted : (o : Option SchemaRows) (x : List (List ℕ × List ColumnDef)) → option_and_then schema_of o ≡ Some x → T (is_sorted list_cmp x)
 schema_sorted None x e = absurd cc
@@ -40,8 +33,8 @@ shown_sorted [] = refl
 shown_sorted (t ∷ ts) = λ i. shown_below t.0 ts i && shown_sorted ts i
 
 pub tables_sorted : (streams : Streams) (d : Database) → SchemaIs streams d → TablesSorted d.tables
-tables_sorted streams d h = subst T (shown_sorted d.tables) (schema_sorted (schema_rows streams d.pool) (schema_shown d) h)
+tables_sorted streams d h = subst T (shown_sorted d.tables) (schema_sorted (schema_rows streams d.pool) (columns_by_name d) h)
 
 -- and so do their names with their columns
-pub shown_in_order : (streams : Streams) (d : Database) → SchemaIs streams d → T (is_sorted list_cmp (schema_shown d))
-shown_in_order streams d h = schema_sorted (schema_rows streams d.pool) (schema_shown d) h
+pub shown_in_order : (streams : Streams) (d : Database) → SchemaIs streams d → T (is_sorted list_cmp (columns_by_name d))
+shown_in_order streams d h = schema_sorted (schema_rows streams d.pool) (columns_by_name d) h

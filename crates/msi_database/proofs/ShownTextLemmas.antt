@@ -9,29 +9,29 @@ use Rattle.std.proofs.lemmas.Bool.{eq-eqb, or_left, or_right}
 use Rattle.std.proofs.lemmas.List.Folds.{list_any-append}
 use Rattle.std.proofs.lemmas.Option.{none-some, option_and_then_some, same_Some}
 use Rattle.std.proofs.lemmas.Slice.Eq.{bytes_eq-Decides}
-use Rattle.msi_text.specs.FirstFitLaws.{text_at}
-use Rattle.msi_text.specs.Lists.{list_cmp}
-use Rattle.msi_text.specs.Pool.{Place, Pool, forgotten, with_named_texts}
-use Rattle.msi_value.specs.declared.column.ColumnType.{ColumnType}
-use Rattle.msi_value.specs.declared.column.ColumnType.TheVariants as coltype
-use Rattle.msi_value.specs.declared.value.Value.TheVariants as value
-use Rattle.msi_value.specs.declared.value.ValueRef.{ValueRef}
-use Rattle.msi_value.specs.declared.value.ValueRef.TheVariants as cell
-use Rattle.msi_value.specs.CellValues.{value_of_cell, row_values}
-use Rattle.msi_value.specs.Columns.{ColumnDef, types_of}
+use Rattle.msi_text_pool.specs.FirstFitLaws.{text_at}
+use Rattle.msi_text_base.specs.Lists.{list_cmp}
+use Rattle.msi_text_pool.specs.Pool.{Place, Pool, forgotten, with_named_texts}
+use Rattle.msi_table_values.specs.declared.column.ColumnType.{ColumnType}
+use Rattle.msi_table_values.specs.declared.value.Value.TheVariants as value
+use Rattle.msi_table_values.specs.declared.value.ValueRef.{ValueRef}
+use Rattle.msi_table_values.specs.declared.value.ValueRef.TheVariants as cell
+use Rattle.msi_table_values.specs.CellValues.{value_of_cell, row_values}
+use Rattle.msi_table_values.specs.Columns.{ColumnDef, types_of}
 use Rattle.msi_table.specs.Tables.{TableDef}
-use Rattle.msi_value.specs.Fitting.{FitsColumn, FitsRow, FitsTable}
-use Rattle.msi_schema.specs.Schema.{schema_of}
-use Rattle.msi_schema.specs.System.{columns_columns, columns_name, tables_columns, tables_name, validation_columns, validation_name}
-use Rattle.msi_schema.proofs.SchemaLemmas.{describes_from, names_tie}
-use Rattle.msi_changes.specs.Database.{number_of_cell, numbers_of_rows, rows_of}
-use Rattle.msi_kept.specs.Streams.{Streams, stored_rows}
-use Rattle.msi_kept.specs.StreamNames.{HoldBytes}
-use Rattle.msi_kept.specs.Kept.{schema_listed, table_kept}
-use Rattle.msi_kept.specs.Marks.{numbers_named, numbers_of_tables, pool_shown}
+use Rattle.msi_table_values.specs.Fitting.{FitsRow}
+use Rattle.msi_database_schema.specs.Schema.{schema_of}
+use Rattle.msi_database_schema.specs.System.{columns_columns, columns_name, tables_columns, tables_name, validation_columns, validation_name}
+use Rattle.msi_database_schema.proofs.SchemaLemmas.{describes_from, names_tie}
+use Rattle.msi_database_changes.specs.Database.{number_of_cell, numbers_of_rows, rows_of}
+use Rattle.msi_database_storage.specs.Streams.{Streams, stored_rows}
+use Rattle.msi_database_storage.specs.StreamNames.{HoldBytes}
+use Rattle.msi_database_storage.specs.Kept.{schema_listed, table_kept}
+use Rattle.msi_database_storage.specs.Marks.{numbers_named, numbers_of_tables, pool_shown}
 use Rattle.msi_database.specs.Agreement.{schema_in, schema_rows}
-use Rattle.msi_database.proofs.ReadLemmas.{rows_read_fit, validation_read_fits}
+use Rattle.msi_database.proofs.ReadLemmas.{rows_read_fit, validation_read_fits, each_of}
 use Rattle.msi_database.proofs.ReadingLemmas.{schema_same}
+use Rattle.msi_database.proofs.FitLemmas.{number_fits}
 
 -- TEXTS OF NAMED PLACES
 
@@ -74,12 +74,6 @@ rows_shown named places (row ∷ rows) h = λ i. row_shown named places row h.0 
 abbrev has : List ℕ → ℕ → Bool
 has numbers number = list_any (λ n. n == number) numbers
 
-number_fits : (long : Bool) (type : ColumnType) (n : ℕ) → FitsColumn long type (cell.Str n) → 0 < n
-number_fits long coltype.Int16 n f = absurd f
-number_fits long coltype.Int32 n f = absurd f
-number_fits long (coltype.Str k) n f = f.0
-number_fits long coltype.Binary n f = absurd f
-
 row_named : (named : ℕ → Bool) (long : Bool) (types : List ColumnType) (row : List ValueRef) → FitsRow long types row → ((n : ℕ) → has (filter_map number_of_cell row) n ≡ true → named n ≡ true) → AllByRecursion (IsNamed named) row
 row_named named long [] [] f h = tt
 row_named named long [] (c ∷ cs) f h = absurd f
@@ -102,10 +96,6 @@ option_shown : (named : ℕ → Bool) (places : List Place) (long : Bool) (types
     → option_map (map (row_values (with_named_texts named places))) o ≡ option_map (map (row_values places)) o
 option_shown named places long types None f h = refl
 option_shown named places long types (Some rows) f h = ap Some (rows_shown named places rows (rows_named named long types rows f h))
-
-each_of : (long : Bool) (columns : List ColumnDef) (o : Option (List (List ValueRef))) → IfSome o (FitsTable long (types_of columns)) → IfSome o (AllByRecursion (FitsRow long (types_of columns)))
-each_of long columns None h = tt
-each_of long columns (Some rows) h = h.each_row
 
 -- TABLES THAT ARE LISTED
 

@@ -1,10 +1,11 @@
 -- What soundness says of the tables and of the pool.
-use Rattle.std.proofs.Common.{◌≡◌, ◌≤◌, Bool, true, false, ◌&&◌, [], ◌∷◌, length, is_some, arith, lit≤}
+use Rattle.std.proofs.Common.{◌≡◌, ◌≤◌, true, ◌&&◌, [], ◌∷◌, length, is_some, arith}
 use Rattle.std.specs.List.{list_all, AllByRecursion}
 use Rattle.std.proofs.lemmas.Bool.{and_parts, leb-true}
-use Rattle.msi_text.specs.FirstFit.{most_places}
-use Rattle.msi_schema.specs.Keys.{is_table_name}
-use Rattle.msi_changes.specs.Database.{Database, Tables, is_sound, counts_suffice, names_stay_in_pool, pool_fits_width, tables_are_readable, validation_is_standard}
+use Rattle.msi_text_pool.specs.FirstFit.{most_places}
+use Rattle.msi_text_pool.proofs.IndexedFitLemmas.{most_places-few}
+use Rattle.msi_database_schema.specs.Keys.{is_table_name}
+use Rattle.msi_database_changes.specs.Database.{Database, Tables, is_sound, counts_suffice, names_stay_in_pool, pool_fits_width, tables_are_readable, validation_is_standard}
 
 each_named : (ts : Tables) → list_all (λ t. is_some t.1.rows && is_table_name t.0) ts ≡ true → AllByRecursion (λ t. is_table_name t.0 ≡ true) ts
 each_named [] h = tt
@@ -15,10 +16,6 @@ each_readable : (ts : Tables) → list_all (λ t. is_some t.1.rows && is_table_n
 each_readable [] h = tt
 each_readable (t ∷ ts) h = let parts = and_parts (is_some t.1.rows && is_table_name t.0) (list_all (λ t. is_some t.1.rows && is_table_name t.0) ts) h in
     ((and_parts (is_some t.1.rows) (is_table_name t.0) parts.0).0, each_readable ts parts.1)
-
-most_is_few : (long : Bool) → most_places long ≤ 16777215
-most_is_few true = lit≤ tt
-most_is_few false = lit≤ tt
 
 -- the five tests
 pub record IsSound (d : Database) : Type 0 where
@@ -44,6 +41,6 @@ sound_rows d h = each_readable d.tables (sound_is d h).readable
 
 pub sound_pool : (d : Database) → is_sound d ≡ true → length d.pool.places ≤ 16777215
 sound_pool d h =
-    let most : most_places d.pool.long ≤ 16777215 = most_is_few d.pool.long in
+    let most : most_places d.pool.long ≤ 16777215 = most_places-few d.pool.long in
     let few : length d.pool.places ≤ most_places d.pool.long = leb-true (length d.pool.places) (most_places d.pool.long) (sound_is d h).fits in
     omega (arith, most, few)

@@ -4,29 +4,25 @@ use Rattle.std.specs.Prelude.{IsSomeAnd, option_map, unwrap_or}
 use Rattle.std.specs.List.{list_all}
 use Rattle.std.proofs.lemmas.Bool.Decides.{nat_tests}
 use Rattle.std.proofs.lemmas.Option.{same_Some, none-some, option_and_then_some}
-use Rattle.msi_text.specs.ErrorKind.TheVariants.{InvalidInput, InvalidData}
-use Rattle.msi_text.specs.FirstFit.{most_places}
-use Rattle.msi_text.specs.Lists.{has_pair}
-use Rattle.msi_text.specs.Pool.{Place}
-use Rattle.msi_pool.proofs.TakenLemmas.{taken_takes}
-use Rattle.msi_value.specs.declared.value.Value.{Value}
-use Rattle.msi_value.specs.declared.value.ValueRef.{ValueRef}
-use Rattle.msi_value.specs.Columns.{ColumnDef, types_of}
-use Rattle.msi_value.specs.Fitting.{FitsTable}
-use Rattle.msi_query.specs.Queries.{UpdateQuery}
-use Rattle.msi_relation.specs.Refusals.{Refusals, first_refusal}
-use Rattle.msi_relation.specs.Rows.{TableCells}
-use Rattle.msi_changes.specs.Changes.{PoolInUse}
-use Rattle.msi_changes.specs.Keyed.{in_key_order, key_of, same_key}
-use Rattle.msi_changes.specs.Texts.{cell_put, in_turn, rows_put}
-use Rattle.msi_changes.specs.Insert.{cells_added, key_refusals, keys_of, row_fits, row_refusals, table_with}
-use Rattle.msi_changes.specs.Update.{row_updated, set_is_valid}
-use Rattle.msi_changes.proofs.RefusedLemmas.{front_fails, first_fails, each_passes}
-use Rattle.msi_changes.proofs.TracksLemmas.{fewer_fit}
-use Rattle.msi_changes.proofs.TurnLemmas.{map_some}
-use Rattle.msi_changes.proofs.PutFitsLemmas.{Both, CellOf, as_many, joined_fit, put_of, rows_all_fit, rows_put_of}
-use Rattle.msi_database.proofs.GivenBackLemmas.{given_back_gives}
-use Rattle.msi_database.proofs.UpdateFitsLemmas.{rows_updated_fit}
+use Rattle.msi_text_base.specs.declared.errors.ErrorKind.TheVariants.{InvalidInput, InvalidData}
+use Rattle.msi_text_pool.specs.FirstFit.{most_places}
+use Rattle.msi_text_base.specs.Lists.{has_pair}
+use Rattle.msi_text_pool.specs.Pool.{Place}
+use Rattle.msi_text_pool.proofs.TakenLemmas.{taken_takes}
+use Rattle.msi_table_values.specs.declared.value.Value.{Value}
+use Rattle.msi_table_values.specs.declared.value.ValueRef.{ValueRef}
+use Rattle.msi_table_values.specs.Columns.{ColumnDef, types_of}
+use Rattle.msi_table_values.specs.Fitting.{FitsTable}
+use Rattle.msi_query_rows.specs.Refusals.{Refusals, first_refusal}
+use Rattle.msi_query_rows.specs.Rows.{TableCells}
+use Rattle.msi_database_changes.specs.Changes.{PoolInUse}
+use Rattle.msi_database_changes.specs.Keyed.{in_key_order, key_of, same_key}
+use Rattle.msi_database_changes.specs.Texts.{cell_put, in_turn, rows_put}
+use Rattle.msi_database_changes.specs.Insert.{cells_added, key_refusals, keys_of, row_fits, row_refusals, table_with}
+use Rattle.msi_database_changes.proofs.RefusedLemmas.{front_fails, first_fails, each_passes}
+use Rattle.msi_database_changes.proofs.TracksLemmas.{fewer_fit}
+use Rattle.msi_database_changes.proofs.TurnLemmas.{map_some}
+use Rattle.msi_database_changes.proofs.PutFitsLemmas.{Both, CellOf, as_many, joined_fit, put_of, rows_all_fit, rows_put_of}
 use Rattle.msi_database.proofs.CanStoreLemmas.{unsorted_fits}
 
 -- ROWS THAT ARE ADDED
@@ -97,14 +93,3 @@ module _ (long : Bool) where
   -- so can fewer of them
   pub fewer_can_store : (columns : List ColumnDef) (rows : List (List ValueRef)) (p : List ValueRef → Bool) → FitsTable long (types_of columns) rows → FitsTable long (types_of columns) (filter p rows)
   fewer_can_store columns rows p fits = unsorted_fits long columns (filter p rows) (fewer_fit columns long (Some rows) p fits)
-
-  -- and those that are updated
-  pub updated_can_store : (columns : List ColumnDef) (q : UpdateQuery) (places : List Place) (pool : PoolInUse) (rows : List (List ValueRef)) (r : List (List ValueRef) × PoolInUse) → FitsTable long (types_of columns) rows
-      → IsWithin pool → list_all (set_is_valid columns) q.sets ≡ true → in_turn (row_updated long places columns q) pool rows ≡ Some r → FitsTable long (types_of columns) r.0
-  updated_can_store columns q places pool rows r fits within valid put =
-      let set = rows_updated_fit taken_takes given_back_gives long places columns q rows pool r within fits.each_row valid put in
-      let same = set.count in record {
-        some_column = fits.some_column;
-        few_rows = omega (arith, same, fits.few_rows);
-        each_row = set.each;
-      }

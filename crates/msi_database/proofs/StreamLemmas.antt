@@ -4,13 +4,12 @@ use Rattle.std.specs.Prelude.{T}
 use Rattle.std.specs.List.{AllByRecursion}
 use Rattle.std.specs.FinMap.{find, is_sorted, IsAntisymmetric, nat_cmp-IsAntisymmetric, slice_cmp-IsAntisymmetric}
 use Rattle.std.specs.Ordering.{eq_by_cmp}
-use Rattle.std.specs.Cmp.{IsTotalOrder, nat_cmp_total}
-use Rattle.std.specs.Cmp.Lexicographic.{lists_total}
-use Rattle.msi_text.specs.Lists.{list_cmp}
-use Rattle.msi_compound.specs.Names.{name_cmp}
-use Rattle.msi_compound.proofs.NamesLemmas.{names_total, exact_names}
-use Rattle.msi_changes.specs.Database.{Tables}
-use Rattle.msi_kept.specs.Streams.{Streams, stream_at, with_stream, without_stream, with_stream_or_none}
+use Rattle.msi_text_base.specs.Lists.{list_cmp}
+use Rattle.msi_container_format.specs.Names.{name_cmp}
+use Rattle.msi_container_format.proofs.NamesLemmas.{names_total, exact_names}
+use Rattle.msi_database_schema.proofs.RowOrderLemmas.{names_total as list_cmp_total}
+use Rattle.msi_database_changes.specs.Database.{Tables}
+use Rattle.msi_database_storage.specs.Streams.{Streams, stream_at, with_stream, without_stream, with_stream_or_none}
 use Rattle.msi_database.proofs.MapLemmas as maps
 
 -- streams by their names
@@ -45,10 +44,6 @@ with_or_none_either P name (Some bytes) streams with without = with bytes
 pub names_put : (P : List ℕ → Type 0) (name : List ℕ) (o : Option (List ℕ)) (streams : Streams) → P name → AllByRecursion (λ s. P s.0) streams → AllByRecursion (λ s. P s.0) (with_stream_or_none name o streams)
 names_put P name o streams is h = with_or_none_either (AllByRecursion (λ s. P s.0)) name o streams
     (λ bytes. maps.keys_put P name_cmp name bytes streams is h) (maps.keys_filter P (λ s. not (eq_by_cmp name_cmp name s.0)) streams h)
-
--- tables by their names
-pub list_cmp_total : IsTotalOrder list_cmp
-list_cmp_total = lists_total nat_cmp_total
 
 pub list_cmp_exact : IsAntisymmetric list_cmp
 list_cmp_exact = slice_cmp-IsAntisymmetric nat_cmp-IsAntisymmetric

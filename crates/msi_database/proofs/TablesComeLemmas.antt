@@ -1,36 +1,32 @@
 -- An accepted create or drop brings what a change must.
-use Rattle.std.proofs.Common.{◌≡◌, ℕ, false, List, Option, Some, None, is_some, Ok, refl, sym, ◌∙◌}
+use Rattle.std.proofs.Common.{◌≡◌, ℕ, List, Some, Ok, sym, ◌∙◌}
 use Rattle.std.proofs.lemmas.Bool.{true≢false}
-use Rattle.msi_pool.proofs.TakenLemmas.{taken_takes}
-use Rattle.msi_value.specs.Columns.{ColumnDef}
-use Rattle.msi_relation.specs.Rows.{TableCells}
-use Rattle.msi_schema.specs.System.{validation_name}
-use Rattle.msi_schema.specs.Schema.{schema_of}
-use Rattle.msi_schema.proofs.OrderlessLemmas.{HasKinds}
-use Rattle.msi_changes.specs.Database.{Database, table_at}
-use Rattle.msi_changes.specs.Changes.{Change}
-use Rattle.msi_changes.specs.Create.{create_table}
-use Rattle.msi_changes.specs.Drop.{drop_table}
-use Rattle.msi_changes.specs.Laws.{IsTableChange, created, dropped}
-use Rattle.msi_changes.proofs.ShownLemmas.{Created, shown}
-use Rattle.msi_changes.proofs.ShownLemmas as steps
-use Rattle.msi_changes.proofs.LawLemmas.{create_table_keeps, drop_table_keeps}
-use Rattle.msi_changes.proofs.DescribingLemmas.{describing}
-use Rattle.msi_changes.proofs.CreatedLemmas.{validated, validated_now}
-use Rattle.msi_changes.proofs.CreateRowsLemmas.{first_step, second_step, third_step, create_unlisted, create_describes}
-use Rattle.msi_changes.proofs.CreateTracksLemmas.{create_tracks}
-use Rattle.msi_changes.proofs.ShownChangesLemmas.{dropped_parts}
-use Rattle.msi_changes.proofs.ChangedLemmas.{same_validation}
-use Rattle.msi_changes.proofs.DropRowsLemmas.{drop_rows, drop_describes}
-use Rattle.msi_changes.proofs.DropTracksLemmas.{drop_tracks, drop_unstored}
-use Rattle.msi_changes.proofs.RegularLemmas.{IsRegular}
+use Rattle.msi_text_base.proofs.OptionLemmas.{none_there}
+use Rattle.msi_text_pool.proofs.TakenLemmas.{taken_takes}
+use Rattle.msi_table_values.specs.Columns.{ColumnDef}
+use Rattle.msi_database_schema.specs.System.{validation_name}
+use Rattle.msi_database_schema.specs.Schema.{schema_of}
+use Rattle.msi_database_schema.proofs.OrderlessLemmas.{HasKinds}
+use Rattle.msi_database_changes.specs.Database.{Database, table_at}
+use Rattle.msi_database_changes.specs.Changes.{Change}
+use Rattle.msi_database_changes.specs.Create.{create_table}
+use Rattle.msi_database_changes.specs.Drop.{drop_table}
+use Rattle.msi_database_changes.specs.Laws.{IsTableChange, created, dropped}
+use Rattle.msi_database_changes.proofs.ShownLemmas.{shown}
+use Rattle.msi_database_changes.proofs.ShownLemmas as steps
+use Rattle.msi_database_changes.proofs.LawLemmas.{create_table_keeps, drop_table_keeps}
+use Rattle.msi_database_changes.proofs.DescribingLemmas.{describing}
+use Rattle.msi_database_changes.proofs.CreatedLemmas.{validated, validated_now}
+use Rattle.msi_database_changes.proofs.CreateRowsLemmas.{first_step, second_step, third_step, create_unlisted, create_describes}
+use Rattle.msi_database_changes.proofs.CreateTracksLemmas.{create_tracks}
+use Rattle.msi_database_changes.proofs.ShownChangesLemmas.{dropped_parts}
+use Rattle.msi_database_changes.proofs.ChangedLemmas.{same_validation}
+use Rattle.msi_database_changes.proofs.DropRowsLemmas.{drop_rows, drop_describes}
+use Rattle.msi_database_changes.proofs.DropTracksLemmas.{drop_tracks, drop_unstored}
+use Rattle.msi_database_changes.proofs.RegularLemmas.{IsRegular}
 use Rattle.msi_database.proofs.KeyLemmas.{tables_accepted, columns_accepted, validation_accepted}
 use Rattle.msi_database.proofs.GivenBackLemmas.{given_back_gives}
 use Rattle.msi_database.proofs.ComesLemmas.{Comes}
-
-no_table : (o : Option TableCells) → is_some o ≡ false → o ≡ None
-no_table None e = refl
-no_table (Some t) e = cc
 
 module _ (d : Database) (regular : IsRegular d) (before : schema_of (describing d) ≡ Some (shown d)) (kinds : HasKinds (describing d)) where
   module _ (name : List ℕ) (columns : List ColumnDef) (c : Change) (e : create_table d name columns ≡ Ok c) where
@@ -63,7 +59,7 @@ module _ (d : Database) (regular : IsRegular d) (before : schema_of (describing 
           schema = (drop_describes taken_takes given_back_gives d name c regular.well p before kinds).0;
           unlisted = rows.unlisted.same;
           listed = same_validation d name c p before kinds rows.tables rows.columns;
-          unstored = λ none. drop_unstored taken_takes given_back_gives d name c regular.well p (no_table (table_at validation_name d) none);
+          unstored = λ none. drop_unstored taken_takes given_back_gives d name c regular.well p (none_there (table_at validation_name d) none);
         }
 
   -- so does each change of tables

@@ -2,12 +2,12 @@
 use Rattle.std.proofs.Common.{◌≡◌, ℕ, Bool, true, false, List, [], ◌∷◌, map, Some, None, refl, sym, ap₂, cond, option_map, is_some}
 use Rattle.std.specs.Prelude.{bytes_eq}
 use Rattle.std.proofs.lemmas.Slice.Eq.{bytes_eq-Decides}
-use Rattle.msi_text.specs.Pool.{Pool}
+use Rattle.msi_text_pool.specs.Pool.{Pool}
 use Rattle.msi_table.specs.Tables.{TableDef}
-use Rattle.msi_changes.specs.Database.{has_table}
-use Rattle.msi_kept.specs.Streams.{Streams}
-use Rattle.msi_kept.specs.Kept.{table_kept, table_kept_at, database_kept, AreAsLong}
-use Rattle.msi_kept.proofs.TableAtLemmas.{find_kept}
+use Rattle.msi_database_changes.specs.Database.{has_table}
+use Rattle.msi_database_storage.specs.Streams.{Streams}
+use Rattle.msi_database_storage.specs.Kept.{table_kept, table_kept_at, database_kept, AreAsLong}
+use Rattle.msi_database_storage.proofs.TableAtLemmas.{find_kept}
 use Rattle.msi_database.specs.Listed.{table_def_at, tables_listed}
 
 with_long : Bool → TableDef → TableDef

@@ -4,25 +4,25 @@ use Rattle.std.specs.Prelude.{bytes_eq, IfSome}
 use Rattle.std.specs.List.{AllByRecursion}
 use Rattle.std.specs.FinMap.{find}
 use Rattle.std.specs.Ordering.{eq_by_cmp}
-use Rattle.msi_text.specs.ErrorKind.{ErrorKind}
-use Rattle.msi_text.specs.ErrorKind.TheVariants.{InvalidData, NotFound}
-use Rattle.msi_text.specs.Pool.{Pool}
-use Rattle.msi_text.specs.Lists.{list_cmp}
-use Rattle.msi_value.specs.declared.value.ValueRef.{ValueRef}
-use Rattle.msi_value.specs.Columns.{ColumnDef, types_of}
+use Rattle.msi_text_base.specs.declared.errors.ErrorKind.{ErrorKind}
+use Rattle.msi_text_base.specs.declared.errors.ErrorKind.TheVariants.{InvalidData, NotFound}
+use Rattle.msi_text_pool.specs.Pool.{Pool}
+use Rattle.msi_text_base.specs.Lists.{list_cmp}
+use Rattle.msi_table_values.specs.declared.value.ValueRef.{ValueRef}
+use Rattle.msi_table_values.specs.Columns.{ColumnDef, types_of}
 use Rattle.msi_table.specs.Tables.{TableDef}
-use Rattle.msi_value.specs.Fitting.{FitsRow, FitsTable}
+use Rattle.msi_table_values.specs.Fitting.{FitsRow, FitsTable}
 use Rattle.msi_table.specs.Rows.{AreAsWide}
-use Rattle.msi_value.proofs.ColumnTypesLemmas.{length-types_of}
-use Rattle.msi_value.proofs.FittingLemmas.{fits_length}
-use Rattle.msi_relation.specs.Refusals.{IsRefusal, or_refused, ◌>>=◌}
-use Rattle.msi_relation.specs.Rows.{TableCells, RelationCells, whole_table}
-use Rattle.msi_relation.specs.Width.{AreWide}
-use Rattle.msi_relation.proofs.RefusalLemmas.{goes_on-Err}
-use Rattle.msi_changes.specs.Database.{table_at, Tables}
-use Rattle.msi_kept.specs.Streams.{Streams, stored_rows}
-use Rattle.msi_kept.specs.Kept.{Kept, table_kept, table_kept_at, database_kept, AreAsLong}
-use Rattle.msi_kept.proofs.TableAtLemmas.{table_at_kept}
+use Rattle.msi_table_values.proofs.ColumnTypesLemmas.{length-types_of}
+use Rattle.msi_table_values.proofs.FittingLemmas.{fits_length}
+use Rattle.msi_query_rows.specs.Refusals.{IsRefusal, or_refused, ◌>>=◌}
+use Rattle.msi_query_rows.specs.Rows.{TableCells, RelationCells, whole_table}
+use Rattle.msi_query_rows.specs.Width.{AreWide}
+use Rattle.msi_query_rows.proofs.RefusalLemmas.{goes_on-Err}
+use Rattle.msi_database_changes.specs.Database.{table_at, Tables}
+use Rattle.msi_database_storage.specs.Streams.{Streams, stored_rows}
+use Rattle.msi_database_storage.specs.Kept.{Kept, table_kept, table_kept_at, database_kept, AreAsLong}
+use Rattle.msi_database_storage.proofs.TableAtLemmas.{table_at_kept}
 use Rattle.msi_database.specs.Keeping.{IsKeptDatabase, HasFittingRows}
 
 abbrev pub relation_at : List ℕ → List ColumnDef → List (List ValueRef) → RelationCells

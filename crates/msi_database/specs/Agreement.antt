@@ -1,14 +1,16 @@
 -- What streams say of a database: the rows of its tables, and by the rows of the system tables which tables it has.
-use Rattle.std.specs.Prelude.{◌≡◌, ℕ, ◌==◌, Bool, List, [], ◌++◌, map, Option, Some, option_map, option_and_then, unwrap_or, MatchBool}
+use Rattle.std.specs.Prelude.{◌≡◌, ℕ, ◌==◌, Bool, List, [], ◌++◌, map, Option, Some, option_map, option_and_then}
+use Rattle.std.specs.Prelude.{unwrap_or, MatchBool}
 use Rattle.std.specs.List.{AllByRecursion, list_any}
-use Rattle.msi_text.specs.Pool.{Pool}
-use Rattle.msi_value.specs.declared.value.Value.{Value}
-use Rattle.msi_value.specs.Columns.{ColumnDef}
-use Rattle.msi_value.specs.CellValues.{row_values}
-use Rattle.msi_schema.specs.System.{tables_name, columns_name, validation_name, tables_columns, columns_columns, validation_columns}
-use Rattle.msi_schema.specs.Schema.{SchemaRows, schema_of}
-use Rattle.msi_changes.specs.Database.{Database, has_table, named_numbers, numbers_of_rows}
-use Rattle.msi_kept.specs.Streams.{Streams, stored_rows}
+use Rattle.msi_text_pool.specs.Pool.{Pool}
+use Rattle.msi_table_values.specs.declared.value.Value.{Value}
+use Rattle.msi_table_values.specs.Columns.{ColumnDef}
+use Rattle.msi_table_values.specs.CellValues.{row_values}
+use Rattle.msi_database_schema.specs.System.{tables_name, columns_name, validation_name, tables_columns}
+use Rattle.msi_database_schema.specs.System.{columns_columns, validation_columns}
+use Rattle.msi_database_schema.specs.Schema.{SchemaRows, schema_of}
+use Rattle.msi_database_changes.specs.Database.{Database, has_table, named_numbers, numbers_of_rows, columns_by_name}
+use Rattle.msi_database_storage.specs.Streams.{Streams, stored_rows}
 
 -- each table has the rows of its stream
 abbrev pub TablesAre : Streams → Database → Type 0
@@ -35,13 +37,9 @@ schema_rows streams pool =
 abbrev pub schema_in : Streams → Pool → Option (List (List ℕ × List ColumnDef))
 schema_in streams pool = option_and_then schema_of (schema_rows streams pool)
 
--- each table's columns
-abbrev pub schema_shown : Database → List (List ℕ × List ColumnDef)
-schema_shown d = map (λ t. (t.0, t.1.columns)) d.tables
-
 -- the tables are those that the rows of the system tables describe
 abbrev pub SchemaIs : Streams → Database → Type 0
-SchemaIs streams d = schema_in streams d.pool ≡ Some (schema_shown d)
+SchemaIs streams d = schema_in streams d.pool ≡ Some (columns_by_name d)
 
 -- the streams spell the database
 pub record DatabaseIs (streams : Streams) (d : Database) : Type 0 where

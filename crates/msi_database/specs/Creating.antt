@@ -1,20 +1,20 @@
 -- Creating a table: what refuses it, and the streams of the system tables that describe it.
 use Rattle.std.specs.Prelude.{ℕ, List, [], ◌∷◌, ◌++◌, None, option_map, Result, Ok}
-use Rattle.msi_text.specs.ErrorKind.{ErrorKind}
-use Rattle.msi_text.specs.ErrorKind.TheVariants.{InvalidInput, NotFound}
-use Rattle.msi_value.specs.declared.value.Value.{Value}
-use Rattle.msi_value.specs.Columns.{ColumnDef}
+use Rattle.msi_text_base.specs.declared.errors.ErrorKind.{ErrorKind}
+use Rattle.msi_text_base.specs.declared.errors.ErrorKind.TheVariants.{InvalidInput, NotFound}
+use Rattle.msi_table_values.specs.declared.value.Value.{Value}
+use Rattle.msi_table_values.specs.Columns.{ColumnDef}
 use Rattle.msi_table.specs.Tables.{TableDef}
-use Rattle.msi_relation.specs.Refusals.{Refusals, or_refused, unless_refused, ◌>>=◌}
-use Rattle.msi_schema.specs.Description.{column_rows, tables_row, validation_rows}
-use Rattle.msi_schema.specs.Keys.{table_key}
-use Rattle.msi_schema.specs.System.{tables_name, columns_name, validation_name}
-use Rattle.msi_changes.specs.Database.{Database, table_at, rows_of}
-use Rattle.msi_changes.specs.Changes.{PoolInUse, sound_refusal}
-use Rattle.msi_changes.specs.Create.{table_refusals}
-use Rattle.msi_changes.specs.Insert.{cells_added, row_refusals}
-use Rattle.msi_kept.specs.declared.storing.Stored.{Stored}
-use Rattle.msi_kept.specs.Streams.{stream_of_rows}
+use Rattle.msi_query_rows.specs.Refusals.{Refusals, or_refused, unless_refused, ◌>>=◌}
+use Rattle.msi_database_schema.specs.Description.{column_rows, tables_row, validation_rows}
+use Rattle.msi_database_schema.specs.Keys.{table_key}
+use Rattle.msi_database_schema.specs.System.{tables_name, columns_name, validation_name}
+use Rattle.msi_database_changes.specs.Database.{Database, table_at, rows_of}
+use Rattle.msi_database_changes.specs.Changes.{PoolInUse, sound_refusal}
+use Rattle.msi_database_changes.specs.Create.{table_refusals}
+use Rattle.msi_database_changes.specs.Insert.{cells_added, row_refusals}
+use Rattle.msi_database_storage.specs.declared.storing.Stored.{Stored}
+use Rattle.msi_database_storage.specs.Streams.{stream_of_rows}
 
 -- why a database makes no table of a name and columns, before its rows are looked at
 abbrev pub create_refusals : Database → List ℕ → List ColumnDef → Refusals

@@ -1,14 +1,15 @@
 -- A new database: `_Validation`, described by itself.
 use Rattle.std.specs.Prelude.{◌≡◌, false, true, List, [], ◌∷◌, Some, unwrap_or}
-use Rattle.msi_text.specs.CodePage.TheVariants as page
-use Rattle.msi_value.specs.Columns.{ColumnDef}
-use Rattle.msi_relation.specs.Rows.{TableCells}
-use Rattle.msi_schema.specs.System.{columns_columns, columns_name, tables_columns, tables_name, validation_columns, validation_name}
-use Rattle.msi_changes.specs.Database.{Database, CountsAreExact, is_sound}
-use Rattle.msi_changes.specs.Changes.{Change, no_change}
-use Rattle.msi_changes.specs.Create.{described_by_rows}
-use Rattle.msi_kept.specs.Streams.{stored_streams}
-use Rattle.msi_kept.specs.Kept.{Kept}
+use Rattle.msi_text_base.specs.declared.codepage.CodePage.TheVariants as page
+use Rattle.msi_table_values.specs.Columns.{ColumnDef}
+use Rattle.msi_query_rows.specs.Rows.{TableCells}
+use Rattle.msi_database_schema.specs.System.{columns_columns, columns_name, tables_columns, tables_name}
+use Rattle.msi_database_schema.specs.System.{validation_columns, validation_name}
+use Rattle.msi_database_changes.specs.Database.{Database, CountsAreExact, is_sound}
+use Rattle.msi_database_changes.specs.Changes.{Change, no_change}
+use Rattle.msi_database_changes.specs.Create.{described_by_rows}
+use Rattle.msi_database_storage.specs.Streams.{stored_streams}
+use Rattle.msi_database_storage.specs.Kept.{Kept}
 use Rattle.msi_database.specs.Keeping.{IsKeptDatabase}
 
 abbrev pub empty_table : List ColumnDef → TableCells

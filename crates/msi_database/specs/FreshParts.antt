@@ -1,16 +1,17 @@
 -- The parts of a new database, and the first rows of a table.
 use Rattle.std.specs.Prelude.{◌≡◌, false, List, [], IsSomeAnd}
-use Rattle.msi_text.specs.Pool.{Pool}
-use Rattle.msi_value.specs.declared.value.Value.{Value}
+use Rattle.msi_text_pool.specs.Pool.{Pool}
+use Rattle.msi_table_values.specs.declared.value.Value.{Value}
 use Rattle.msi_table.specs.Tables.{TableDef, CanStore}
-use Rattle.msi_schema.specs.Keys.{table_key}
-use Rattle.msi_schema.specs.System.{columns_columns, columns_name, tables_columns, tables_name, validation_columns, validation_name}
-use Rattle.msi_changes.specs.Changes.{PoolInUse}
-use Rattle.msi_changes.specs.Insert.{cells_added}
-use Rattle.msi_changes.specs.Texts.{UsedPool}
-use Rattle.msi_kept.specs.declared.storing.Stored.{Stored}
-use Rattle.msi_kept.specs.Storing.{tables_stored}
-use Rattle.msi_kept.specs.Streams.{stream_of_rows}
+use Rattle.msi_database_schema.specs.Keys.{table_key}
+use Rattle.msi_database_schema.specs.System.{columns_columns, columns_name, tables_columns, tables_name}
+use Rattle.msi_database_schema.specs.System.{validation_columns, validation_name}
+use Rattle.msi_database_changes.specs.Changes.{PoolInUse}
+use Rattle.msi_database_changes.specs.Insert.{cells_added}
+use Rattle.msi_database_changes.specs.Texts.{UsedPool}
+use Rattle.msi_database_storage.specs.declared.storing.Stored.{Stored}
+use Rattle.msi_database_storage.specs.Storing.{tables_stored}
+use Rattle.msi_database_storage.specs.Streams.{stream_of_rows}
 use Rattle.msi_database.specs.Fresh.{bare_database, fresh_change}
 
 -- the system tables

@@ -2,19 +2,19 @@
 use Rattle.std.specs.Prelude.{◌≡◌, ◌≤◌, ◌⊎◌, T, Bool, true, List, length, IfSome, Some}
 use Rattle.std.specs.List.{AllByRecursion}
 use Rattle.std.specs.FinMap.{is_sorted}
-use Rattle.msi_compound.specs.Names.{name_cmp}
-use Rattle.msi_text.specs.Pool.{Pool, CountsFit, PlacesWritten, with_named_texts}
+use Rattle.msi_container_format.specs.Names.{name_cmp}
+use Rattle.msi_text_pool.specs.Pool.{Pool, CountsFit, PlacesWritten, with_named_texts}
 use Rattle.msi_table.specs.Tables.{TableDef}
-use Rattle.msi_value.specs.Columns.{types_of}
-use Rattle.msi_value.specs.Fitting.{FitsRow, FitsTable}
-use Rattle.msi_relation.specs.Rows.{TableCells}
-use Rattle.msi_schema.specs.System.{validation_columns}
-use Rattle.msi_changes.specs.Database.{Database, is_sound, is_well_formed}
-use Rattle.msi_changes.specs.Changes.{Change}
-use Rattle.msi_changes.specs.Laws.{IsChange, IsTableChange}
-use Rattle.msi_kept.specs.Streams.{Streams}
-use Rattle.msi_kept.specs.StreamNames.{HaveNames, HoldBytes}
-use Rattle.msi_kept.specs.Kept.{Kept, kept_of, database_kept, after_change, AreAsLong, schema_listed}
+use Rattle.msi_table_values.specs.Columns.{types_of}
+use Rattle.msi_table_values.specs.Fitting.{FitsRow, FitsTable}
+use Rattle.msi_query_rows.specs.Rows.{TableCells}
+use Rattle.msi_database_schema.specs.System.{validation_columns}
+use Rattle.msi_database_changes.specs.Database.{Database, is_sound, is_well_formed}
+use Rattle.msi_database_changes.specs.Changes.{Change}
+use Rattle.msi_database_changes.specs.Laws.{IsChange, IsTableChange}
+use Rattle.msi_database_storage.specs.Streams.{Streams}
+use Rattle.msi_database_storage.specs.StreamNames.{HaveShortNames, HoldBytes}
+use Rattle.msi_database_storage.specs.Kept.{Kept, kept_of, database_kept, after_change, AreAsLong, schema_listed}
 use Rattle.msi_database.specs.Agreement.{DatabaseIs, is_shown, schema_in}
 
 -- a table has a column, and its rows, where they can be read, have a cell for each column, which fits it
@@ -33,7 +33,7 @@ UnlistedFits d = AllByRecursion (FitsRow d.pool.long (types_of validation_column
 -- has the empty text
 pub record IsKeptDatabase (k : Kept) : Type 0 where
   pub in_order : T (is_sorted name_cmp k.streams)
-  pub names : HaveNames k.streams
+  pub names : HaveShortNames k.streams
   pub spelled : DatabaseIs k.streams k.database
   pub rows : RowsFit k.database
   pub unlisted : UnlistedFits k.database
@@ -61,7 +61,7 @@ KeptIsWellFormed = (k : Kept) → IsKeptDatabase k → is_well_formed k.database
 -- a cell names one; and the tables that the system tables describe
 pub record IsRead (raw pool : Pool) (tables : List TableDef) (streams : Streams) : Type 0 where
   pub in_order : T (is_sorted name_cmp streams)
-  pub names : HaveNames streams
+  pub names : HaveShortNames streams
   pub bytes : HoldBytes streams
   pub few : length raw.places ≤ 16777215
   pub counts : CountsFit raw.places

@@ -10,3 +10,32 @@ pub mod Fresh
 pub mod FreshParts
 pub mod Reading
 pub mod Creating
+-- The words of the crates below, which public clauses cite.
+pub use Rattle.msi_text_base.specs.declared.errors.ErrorKind
+pub use Rattle.msi_text_base.specs.Results
+pub use Rattle.msi_container_format.specs.Names
+pub use Rattle.msi_table_values.specs.declared.value.Value
+pub use Rattle.msi_table_values.specs.Columns
+pub use Rattle.msi_table_values.specs.Values
+pub use Rattle.msi_table.specs.Tables
+pub use Rattle.msi_table.specs.Rows
+pub use Rattle.msi_query_rows.specs.Refusals
+pub use Rattle.msi_query_rows.specs.Selection
+pub use Rattle.msi_query_rows.specs.Rows as SelectedRows
+pub use Rattle.msi_database_schema.specs.Keys
+pub use Rattle.msi_database_schema.specs.System
+pub use Rattle.msi_database_schema.specs.Schema
+pub use Rattle.msi_database_schema.specs.RowOrders
+pub use Rattle.msi_database_schema.specs.Description
+pub use Rattle.msi_database_changes.specs.Database
+pub use Rattle.msi_database_changes.specs.Changes
+pub use Rattle.msi_database_changes.specs.Texts
+pub use Rattle.msi_database_changes.specs.Insert
+pub use Rattle.msi_database_changes.specs.Update
+pub use Rattle.msi_database_changes.specs.Delete
+pub use Rattle.msi_database_changes.specs.Create
+pub use Rattle.msi_database_changes.specs.Drop
+pub use Rattle.msi_database_changes.specs.Laws
+pub use Rattle.msi_database_storage.specs.Streams
+pub use Rattle.msi_database_storage.specs.Kept
+pub use Rattle.msi_database_storage.specs.Storing

@@ -1,8 +1,8 @@
 -- Which database a pool and the streams of a container's root make.
 use Rattle.std.specs.Prelude.{◌≡◌}
-use Rattle.msi_text.specs.Pool.{Pool, with_named_texts}
-use Rattle.msi_kept.specs.Streams.{Streams}
-use Rattle.msi_kept.specs.Kept.{Kept}
+use Rattle.msi_text_pool.specs.Pool.{Pool, with_named_texts}
+use Rattle.msi_database_storage.specs.Streams.{Streams}
+use Rattle.msi_database_storage.specs.Kept.{Kept}
 use Rattle.msi_database.specs.Agreement.{DatabaseIs, is_shown}
 
 -- The database that is read of a pool and the streams of a root: all streams are kept, and spell it; the pool is as its

@@ -1,23 +1,24 @@
-//! What each change of a database's rows goes through: it is judged, made beside the old, and moved in at the end.
+//! The steps of each change of rows: it is checked, made beside the old database, and moved in at the end.
 
-ghost use Rattle.std.specs.Prelude.{◌≡◌, ◌∷◌, [], false, IfErr, IfOk, MatchOption, None, OnErr, OnOk, Some, length, option_copied, true};
+ghost use Rattle.std.specs.Prelude.{◌≡◌, ◌∷◌, [], false, IfErr, IfOk, MatchOption, None, OnErr, OnOk, Some, length};
+ghost use Rattle.std.specs.Prelude.{option_copied, true};
 ghost use Rattle.std.specs.FinMap.{entries};
-ghost use Rattle.msi_text.specs.Results.{OnlyMemory};
-ghost use Rattle.msi_relation.specs.Refusals.{IsRefusal, first_refusal, unless_refused};
-ghost use Rattle.msi_changes.specs.Database.{is_sound as is_sound_one, table_at};
-ghost use Rattle.msi_changes.specs.Insert.{table_with};
-ghost use Rattle.msi_kept.specs.Kept.{kept_of, without_table_kept};
-ghost use Rattle.msi_kept.specs.Storing.{HaveOwnNames, stored_in};
+ghost use Rattle.msi_text_base.specs.Results.{OnlyMemory};
+ghost use Rattle.msi_query_rows.specs.Refusals.{IsRefusal, first_refusal, unless_refused};
+ghost use Rattle.msi_database_changes.specs.Database.{is_sound as is_sound_one, table_at};
+ghost use Rattle.msi_database_changes.specs.Insert.{table_with};
+ghost use Rattle.msi_database_storage.specs.Kept.{kept_of, without_table_kept};
+ghost use Rattle.msi_database_storage.specs.Storing.{HaveOwnNames, stored_in};
 ghost use Rattle.msi_database.specs.Keeping.{AreKept};
 ghost use Rattle.msi_database.specs.Listed.{IsKnown, table_def_at, tables_listed};
 ghost use Rattle.msi_database.specs.Making.{early_refusals};
 
 use crate::database::Database;
 use crate::reasons;
-use msi_changes::texts::PoolInUse;
-use msi_kept::decoding::stored_rows;
-use msi_kept::listing::copies_without;
-use msi_kept::storing::{Stored, store_all};
+use msi_database_changes::texts::PoolInUse;
+use msi_database_storage::decoding::stored_rows;
+use msi_database_storage::listing::copies_without;
+use msi_database_storage::storing::{Stored, store_all};
 use msi_table::{Table, ValueRef};
 use msi_text::errors::{Error, ErrorKind};
 use msi_text::stringpool::StringPool;
@@ -82,8 +83,8 @@ impl Database {
         stored_rows(self.alloc, &self.streams, table)
     }
 
-    /// Ends a change of rows: stores the table's stream, and takes the pool in place of its own. Answers whether a text
-    /// was taken of the pool or given back.
+    /// Ends a change of rows: stores the table's stream, and takes the pool in place of its own. Returns whether a
+    /// text was taken from the pool or given back.
     ///
     /// # Errors
     /// `OutOfMemory`; then nothing is changed.

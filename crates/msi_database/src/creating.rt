@@ -1,18 +1,18 @@
 //! Creating a table: it is described in the system tables, and put in among the others.
 
 ghost use Rattle.std.specs.Prelude.{◌≡◌, ◌≤◌, IfErr, IfOk, IsTrue, Ok, OnErr, OnOk, length, true};
-ghost use Rattle.msi_text.specs.FirstFit.{most_places};
-ghost use Rattle.msi_text.specs.Results.{OnlyMemory};
+ghost use Rattle.msi_text_pool.specs.FirstFit.{most_places};
+ghost use Rattle.msi_text_base.specs.Results.{OnlyMemory};
 ghost use Rattle.msi_table.specs.Tables.{most_columns};
-ghost use Rattle.msi_relation.specs.Refusals.{IsRefusal, unless_refused};
-ghost use Rattle.msi_schema.specs.Description.{have_short_lengths};
-ghost use Rattle.msi_schema.specs.Keys.{is_table_name as is_name_of_table};
-ghost use Rattle.msi_changes.specs.Create as creates;
-ghost use Rattle.msi_changes.specs.Create.{new_table_refusals};
-ghost use Rattle.msi_changes.specs.Database.{is_sound as is_sound_one};
-ghost use Rattle.msi_changes.specs.Texts.{in_use};
-ghost use Rattle.msi_kept.specs.Kept.{with_table_kept};
-ghost use Rattle.msi_kept.specs.Storing.{HaveOwnNames};
+ghost use Rattle.msi_query_rows.specs.Refusals.{IsRefusal, unless_refused};
+ghost use Rattle.msi_database_schema.specs.Description.{have_short_lengths};
+ghost use Rattle.msi_database_schema.specs.Keys.{is_table_name as is_name_of_table};
+ghost use Rattle.msi_database_changes.specs.Create as creates;
+ghost use Rattle.msi_database_changes.specs.Create.{new_table_refusals};
+ghost use Rattle.msi_database_changes.specs.Database.{is_sound as is_sound_one};
+ghost use Rattle.msi_database_changes.specs.Texts.{in_use};
+ghost use Rattle.msi_database_storage.specs.Kept.{with_table_kept};
+ghost use Rattle.msi_database_storage.specs.Storing.{HaveOwnNames};
 ghost use Rattle.msi_database.specs.Creating.{create_refusals, new_table, stream_gone, stream_with, streams_described};
 ghost use Rattle.msi_database.specs.Listed.{tables_listed};
 ghost use Rattle.msi_database.specs.Making.{Leaves, Makes, TellsUse};
@@ -20,20 +20,19 @@ ghost use Rattle.msi_database.specs.Making.{Leaves, Makes, TellsUse};
 use crate::changing::TablesAnew;
 use crate::database::Database;
 use crate::reasons;
-use msi_changes::create::refuse_columns;
-use msi_changes::insert::{add_rows, refuse_rows};
-use msi_changes::texts::PoolInUse;
-use msi_kept::listing::copies_with;
-use msi_kept::storing::{Stored, stream_of};
-use msi_schema::description::{column_rows, tables_row, validation_rows};
-use msi_schema::names::{is_table_name, table_key};
-use msi_schema::system::{COLUMNS, TABLES, VALIDATION};
+use msi_database_changes::create::refuse_columns;
+use msi_database_changes::insert::{add_rows, refuse_rows};
+use msi_database_changes::texts::PoolInUse;
+use msi_database_schema::description::{column_rows, tables_row, validation_rows};
+use msi_database_schema::names::{is_table_name, short_table_key};
+use msi_database_schema::schema::named_table;
+use msi_database_schema::system::{COLUMNS, TABLES, VALIDATION};
+use msi_database_storage::listing::copies_with;
+use msi_database_storage::storing::{Stored, stream_of};
 use msi_table::column::Column;
-use msi_table::parts::table;
 use msi_table::{Table, Value};
 use msi_text::errors::{Error, ErrorKind};
-use msi_text::text::{IntoText, Items};
-use std::alloc::Global;
+use msi_text::text::Items;
 
 /// What creating a table makes, and whether it took a text of the pool.
 #[derive(Drop)]
@@ -59,26 +58,22 @@ fn refuse_table(name: &str, columns: &[Column]) -> Result<(), Error>
 }
 
 /// That a table has no stream.
-///
-/// # Errors
-/// `OutOfMemory`.
-fn no_stream(alloc: Global, name: &str) -> Result<Stored, Error>
+fn no_stream(name: &str) -> Stored
     requires { is_name_of_table name.now ≡ true }
-    ensures ok { IfOk result (λ stored. stored ≡ stream_gone name.now) }
-    ensures kind { OnlyMemory result }
+    ensures { result ≡ stream_gone name.now }
 {
-    let Some(name) = table_key(alloc, name)? else {
-        unreachable!()
-    };
-    Ok(Stored { name, bytes: None })
+    Stored {
+        name: short_table_key(name),
+        bytes: None,
+    }
 }
 
 impl Database {
     /// Refuses a name and columns of which this database makes no table.
     ///
     /// # Errors
-    /// The first that holds: `InvalidData` where it isn't sound; those of `refuse_table`; `AlreadyExists` where there is
-    /// such a table; `NotFound` where `_Validation` is no table.
+    /// The first that holds: `InvalidData` where it isn't sound; those of `refuse_table`; `AlreadyExists` where there
+    /// is such a table; `NotFound` where `_Validation` is no table.
     fn refuse_create(&self, name: &str, columns: &[Column]) -> Result<(), Error>
         ensures value { result ≡ unless_refused (create_refusals self.now.database name.now columns.now) tt }
         ensures sound { OnOk result (is_sound_one self.now.database ≡ true) }
@@ -100,8 +95,8 @@ impl Database {
     /// The stream of a table with new rows, whose texts the pool takes.
     ///
     /// # Errors
-    /// `NotFound` where there is no such table; then those of `refuse_rows`; `InvalidInput` where the pool is full. At
-    /// any time `OutOfMemory`.
+    /// `NotFound` where there is no such table; then those of `refuse_rows`; `InvalidInput` where the pool is full.
+    /// It may fail with `OutOfMemory` in place of any of these.
     fn stream_with(
         &self,
         pool: &mut PoolInUse,
@@ -165,7 +160,7 @@ impl Database {
         let in_tables = self.stream_with(pool, TABLES, Vec::from_array(alloc, [row])?)?;
         let rows = validation_rows(alloc, name, columns)?;
         let in_validation = self.stream_with(pool, VALIDATION, rows)?;
-        let own = no_stream(alloc, name)?;
+        let own = no_stream(name);
         Ok(Vec::from_array(alloc, [in_columns, in_tables, in_validation, own])?)
     }
 
@@ -179,10 +174,7 @@ impl Database {
             IfOk result (λ tables. tables ≡ with_table_kept new (tables_listed self.now.database)) }
         ensures kind { OnlyMemory result }
     {
-        let name = name.into_text(self.alloc)?;
-        let Some(new) = table(name, columns, self.pool.long_string_refs()) else {
-            unreachable!()
-        };
+        let new = named_table(self.alloc, name, columns, self.pool.long_string_refs())?;
         copies_with(self.alloc, self.tables(), new)
     }
 
@@ -214,15 +206,15 @@ impl Database {
         })
     }
 
-    /// Creates a table, which is described in `_Tables`, `_Columns` and `_Validation`, and answers whether that took a
-    /// text of the pool.
+    /// Creates a table, which is described in `_Tables`, `_Columns` and `_Validation`, and returns whether that took
+    /// a text from the pool.
     ///
     /// # Errors
-    /// The first that holds: `InvalidData` where the database isn't sound; `InvalidInput` where no table may have the
-    /// name, and for columns as `refuse_columns` does; `AlreadyExists` where there is such a table; `NotFound` where
-    /// `_Validation` is no table; then for the rows that describe it, those of `_Columns`, of `_Tables` and of
-    /// `_Validation` in turn, as `refuse_rows` does, and `InvalidInput` where the pool is full. At any time
-    /// `OutOfMemory`. Then nothing is changed.
+    /// Fails with the first of these that applies: `InvalidData` if the database isn't sound; `InvalidInput` if no
+    /// table may have the name, and for columns as `refuse_columns` does; `AlreadyExists` if there is such a table;
+    /// `NotFound` if `_Validation` is no table; then for the rows that describe it, those of `_Columns`, of `_Tables`
+    /// and of `_Validation` in turn, as `refuse_rows` does, and `InvalidInput` if the pool is full. It may fail with
+    /// `OutOfMemory` in place of any of these. Then nothing has changed.
     pub fn create_table(&mut self, name: &str, columns: Items<Column>) -> Result<bool, Error>
         ensures ok { let change = creates.create_table self.old.database name.now columns in
             OnOk result (Leaves self.old change self.new) }

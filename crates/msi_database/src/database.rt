@@ -2,25 +2,24 @@
 
 ghost use Rattle.std.specs.Prelude.{◌≡◌, IfErr, IfOk, Ok, OnErr, OnOk, option_copied};
 ghost use Rattle.std.specs.FinMap.{entries};
-ghost use Rattle.msi_text.specs.ErrorKind.TheVariants.{InvalidData};
 ghost use Rattle.msi_table.specs.Rows.{AreAsWide};
-ghost use Rattle.msi_relation.specs.Refusals.{IsRefusal, or_refused, unless_refused};
-ghost use Rattle.msi_relation.specs.Rows.{relation_values, whole_table};
-ghost use Rattle.msi_relation.specs.Selection.{relation_of};
-ghost use Rattle.msi_changes.specs.Changes.{sound_refusal};
-ghost use Rattle.msi_changes.specs.Database.{has_table as has_one, is_sound as is_sound_one, table_at, values_of};
-ghost use Rattle.msi_kept.specs.Streams.{stored_rows as rows_stored};
+ghost use Rattle.msi_query_rows.specs.Refusals.{IsRefusal, unless_refused};
+ghost use Rattle.msi_query_rows.specs.Rows.{relation_values, whole_table};
+ghost use Rattle.msi_query_rows.specs.Selection.{relation_of};
+ghost use Rattle.msi_database_changes.specs.Changes.{sound_refusal};
+ghost use Rattle.msi_database_changes.specs.Database.{has_table as has_one, is_sound as is_sound_one, table_at};
+ghost use Rattle.msi_database_changes.specs.Database.{values_of};
 ghost use Rattle.msi_database.specs.Keeping.{IsKeptDatabase};
 ghost use Rattle.msi_database.specs.Listed.{table_def_at, tables_listed, with_page};
 
 use crate::reasons;
-use msi_compound::contents::StreamMap;
-use msi_kept::decoding::stored_rows;
-use msi_kept::listing::table_named;
+use msi_container_format::contents::StreamMap;
+use msi_database_storage::decoding::stored_rows;
+use msi_database_storage::listing::table_named;
 use msi_query::Select;
-use msi_relation::{Relation, Tables, select};
+use msi_query_rows::{Relation, Tables, select};
+use msi_table::Table;
 use msi_table::parts::copied_columns;
-use msi_table::{Table, ValueRef};
 use msi_text::codepage::CodePage;
 use msi_text::errors::{Error, ErrorKind};
 use msi_text::stringpool::StringPool;
@@ -40,7 +39,7 @@ pub struct Database {
 
 impl Model for Database {
     ghost use Rattle.std.specs.FinMap.{entries};
-    ghost use Rattle.msi_kept.specs.Kept.{Kept, kept_of};
+    ghost use Rattle.msi_database_storage.specs.Kept.{Kept, kept_of};
     ghost use Rattle.msi_database.specs.Keeping.{AreKept};
 
     ghost Value = { Kept };
@@ -51,49 +50,49 @@ impl Model for Database {
 }
 
 impl Database {
-    /// The pool of texts.
+    /// Returns the pool of texts.
     pub fn pool(&self) -> &StringPool
         ensures { result.now ≡ self.now.database.pool }
     {
         &self.pool
     }
 
-    /// The page in which the texts are written.
+    /// Returns the code page of the texts.
     pub fn codepage(&self) -> CodePage
         ensures { result ≡ self.now.database.pool.page }
     {
         self.pool.codepage()
     }
 
-    /// The streams of the container's root, those of tables among them.
+    /// Returns the streams of the container's root, those of tables included.
     pub fn streams(&self) -> &StreamMap
         ensures { entries result.now ≡ self.now.streams }
     {
         &self.streams
     }
 
-    /// Whether the database may be changed.
+    /// Returns whether the database is sound, and so may be changed.
     pub fn is_sound(&self) -> bool
         ensures { result ≡ is_sound_one self.now.database }
     {
         self.is_sound
     }
 
-    /// Whether there is a table of this name.
+    /// Returns whether there is a table of this name.
     pub fn has_table(&self, name: &str) -> bool
         ensures { result ≡ has_one name.now self.now.database }
     {
         table_named(self.tables.as_slice(), name).is_some()
     }
 
-    /// The table of this name.
+    /// Returns the table of this name, if there is one.
     pub fn get_table(&self, name: &str) -> Option<&Table>
         ensures { option_copied result ≡ table_def_at name.now self.now.database }
     {
         table_named(self.tables.as_slice(), name)
     }
 
-    /// The tables, by name.
+    /// Returns the tables, by name.
     pub fn tables(&self) -> &[Table]
         ensures { result.now ≡ tables_listed self.now.database }
     {
@@ -120,10 +119,10 @@ impl Database {
         Ok(())
     }
 
-    /// Sets the page in which the texts are written. It takes no memory.
+    /// Sets the code page of the texts. It takes no memory.
     ///
     /// # Errors
-    /// `InvalidData` where the database isn't sound; then nothing is changed.
+    /// Fails with `InvalidData` if the database isn't sound; then nothing has changed.
     pub fn set_codepage(&mut self, page: CodePage) -> Result<(), Error>
         ensures answer { result ≡ unless_refused (sound_refusal self.old.database) tt }
         ensures ok { OnOk result (self.new ≡ with_page page self.old) }
@@ -132,19 +131,6 @@ impl Database {
         self.check_sound()?;
         self.pool.set_codepage(page);
         Ok(())
-    }
-
-    /// The rows of a table, read from its stream. A table without a stream has none.
-    ///
-    /// # Errors
-    /// `InvalidData` where the stream can't be read; `OutOfMemory`.
-    pub fn rows_of_table(&self, alloc: Global, table: &Table) -> Result<Vec<Items<ValueRef>>, Error>
-        ensures ok { IfOk result (λ rows.
-            rows_stored self.now.streams table.now.long table.now.columns table.now.name ≡ Some rows.items) }
-        ensures kind { IfErr result (IsRefusal (or_refused InvalidData
-            (rows_stored self.now.streams table.now.long table.now.columns table.now.name))) }
-    {
-        stored_rows(alloc, &self.streams, table)
     }
 
     /// The columns and the rows of the table of a name.
@@ -163,13 +149,13 @@ impl Database {
         Ok(Relation::new(name.into_text(alloc)?, columns, rows))
     }
 
-    /// What a query selects.
+    /// Returns the rows that a query selects.
     ///
     /// # Errors
-    /// The first that holds, for a join those of the left query, then those of the right: `NotFound` where a table
-    /// isn't there, `InvalidData` where it can't be read; then `InvalidInput` where a column isn't there, in a join's
-    /// condition, then one that is to be kept, then in the condition. Where none holds, `OutOfMemory`, which also may
-    /// come before.
+    /// Fails with the first of these that applies, for a join those of the left query, then those of the right:
+    /// `NotFound` if a table isn't there, `InvalidData` if it can't be read; then `InvalidInput` if a column isn't
+    /// there, in a join's condition, then one that is selected, then in the condition. If none applies, it fails with
+    /// `OutOfMemory`, which may also come in place of the others.
     pub fn select(&self, alloc: Global, query: &Select) -> Result<Relation, Error>
         ensures ok { IfOk result (λ relation. relation_of (values_of self.now.database) query.now
             ≡ Ok (relation_values self.now.database.pool.places relation)) }
@@ -181,7 +167,7 @@ impl Database {
 }
 
 impl Tables for Database {
-    ghost use Rattle.msi_changes.specs.Database.{table_at};
+    ghost use Rattle.msi_database_changes.specs.Database.{table_at};
 
     ghost table = { λ d name. table_at name d.database };
 

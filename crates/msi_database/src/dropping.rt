@@ -1,26 +1,27 @@
-//! A change of tables: one is dropped, with the rows about it.
+//! Dropping a table, with the rows about it.
 
 ghost use Rattle.std.specs.Prelude.{◌≡◌, ◌++◌, IfErr, IfOk, OnErr, OnOk, false, true};
-ghost use Rattle.msi_text.specs.Results.{OnlyMemory};
-ghost use Rattle.msi_relation.specs.Refusals.{IsRefusal, unless_refused};
-ghost use Rattle.msi_schema.specs.Keys.{is_table_name as is_of_table};
-ghost use Rattle.msi_schema.specs.System.{is_system_table as is_of_system};
-ghost use Rattle.msi_changes.specs.Database.{is_sound as is_sound_one};
-ghost use Rattle.msi_changes.specs.Drop as drops;
-ghost use Rattle.msi_changes.specs.Texts.{in_use};
-ghost use Rattle.msi_kept.specs.Storing.{HaveOwnNames};
-ghost use Rattle.msi_database.specs.Dropping.{about_given_back, drop_refusals, own_stream, rows_given_back, system_stream};
+ghost use Rattle.msi_text_base.specs.Results.{OnlyMemory};
+ghost use Rattle.msi_query_rows.specs.Refusals.{IsRefusal, unless_refused};
+ghost use Rattle.msi_database_schema.specs.Keys.{is_table_name as is_of_table};
+ghost use Rattle.msi_database_schema.specs.System.{is_system_table as is_of_system};
+ghost use Rattle.msi_database_changes.specs.Database.{is_sound as is_sound_one};
+ghost use Rattle.msi_database_changes.specs.Drop as drops;
+ghost use Rattle.msi_database_changes.specs.Texts.{in_use};
+ghost use Rattle.msi_database_storage.specs.Storing.{HaveOwnNames};
+ghost use Rattle.msi_database.specs.Dropping.{about_given_back, drop_refusals, own_stream, rows_given_back};
+ghost use Rattle.msi_database.specs.Dropping.{system_stream};
 ghost use Rattle.msi_database.specs.Listed.{IsKnown};
 ghost use Rattle.msi_database.specs.Making.{Leaves, Makes, TellsUse};
 
 use crate::changing::TablesAnew;
 use crate::database::Database;
 use crate::reasons;
-use msi_changes::drop::rows_without;
-use msi_changes::texts::PoolInUse;
-use msi_kept::storing::{Stored, stream_of};
-use msi_schema::names::is_table_name;
-use msi_schema::system::{COLUMNS, TABLES, VALIDATION, is_system_table};
+use msi_database_changes::drop::rows_without;
+use msi_database_changes::texts::PoolInUse;
+use msi_database_schema::names::is_table_name;
+use msi_database_schema::system::{COLUMNS, TABLES, VALIDATION, is_system_table};
+use msi_database_storage::storing::{Stored, stream_of};
 use msi_table::Table;
 use msi_text::errors::{Error, ErrorKind};
 
@@ -141,13 +142,13 @@ impl Database {
         })
     }
 
-    /// Drops a table with all its rows, and takes the rows about it out of the system tables. The answer is whether the
-    /// pool of texts was used: whether a text was given back.
+    /// Drops a table with all its rows, and deletes the rows about it from the system tables. It returns whether a
+    /// text was given back to the pool.
     ///
     /// # Errors
-    /// The first that holds: `InvalidData` where the database isn't sound; `InvalidInput` for a system table, and for a
-    /// name that no table may have; `NotFound` where there is no such table. At any time `OutOfMemory`. Then nothing is
-    /// changed.
+    /// Fails with the first of these that applies: `InvalidData` if the database isn't sound; `InvalidInput` for a
+    /// system table, and for a name that no table may have; `NotFound` if there is no such table. It may fail with
+    /// `OutOfMemory` in place of any of these. Then nothing has changed.
     pub fn drop_table(&mut self, name: &str) -> Result<bool, Error>
         ensures ok { OnOk result (Leaves self.old (drops.drop_table self.old.database name.now) self.new) }
         ensures used { IfOk result (TellsUse (drops.drop_table self.old.database name.now)) }

@@ -1,32 +1,32 @@
 //! A new database: `_Validation`, described by itself.
 
-ghost use Rattle.std.specs.Prelude.{◌≡◌, ◌≤◌, [], IfOk, OnOk, Some, false, is_some, length, true};
-ghost use Rattle.msi_compound.specs.Names.{is_name_length};
-ghost use Rattle.msi_text.specs.Results.{OnlyMemory};
-ghost use Rattle.msi_table.specs.Tables.{most_columns};
-ghost use Rattle.msi_schema.specs.Keys.{table_key as key_of};
-ghost use Rattle.msi_changes.specs.Insert.{cells_added};
-ghost use Rattle.msi_changes.specs.Texts.{in_use};
+ghost use Rattle.std.specs.Prelude.{◌≡◌, [], IfOk, OnOk, Some, false, is_some, length, true};
+ghost use Rattle.msi_container_format.specs.Names.{is_name_length};
+ghost use Rattle.msi_text_base.specs.Results.{OnlyMemory};
+ghost use Rattle.msi_database_schema.specs.Keys.{table_key as key_of};
+ghost use Rattle.msi_database_changes.specs.Insert.{cells_added};
+ghost use Rattle.msi_database_changes.specs.Texts.{in_use};
 ghost use Rattle.msi_database.specs.Fresh.{fresh};
-ghost use Rattle.msi_database.specs.FreshParts.{Begins, CanBegin, columns_table, fresh_pool, fresh_stored, tables_table, unused_pool, validation_table};
+ghost use Rattle.msi_database.specs.FreshParts.{Begins, CanBegin, columns_table, fresh_pool, fresh_stored};
+ghost use Rattle.msi_database.specs.FreshParts.{tables_table, unused_pool, validation_table};
 
 use crate::database::Database;
-use msi_changes::insert::add_rows;
-use msi_changes::texts::PoolInUse;
-use msi_compound::contents::StreamMap;
-use msi_kept::storing::{Stored, store_all, stream_of};
-use msi_schema::description::{column_rows, tables_row, validation_rows};
-use msi_schema::system::{
+use msi_container_format::contents::StreamMap;
+use msi_database_changes::insert::add_rows;
+use msi_database_changes::texts::PoolInUse;
+use msi_database_schema::description::{column_rows, tables_row, validation_rows};
+use msi_database_schema::schema::named_table;
+use msi_database_schema::system::{
     COLUMNS, TABLES, VALIDATION, columns_columns, tables_columns, validation_columns,
 };
+use msi_database_storage::storing::{Stored, store_all, stream_of};
 use msi_table::Table;
 use msi_table::column::Column;
-use msi_table::parts::table;
 use msi_table::value::{Value, ValueRef};
 use msi_text::codepage::CodePage;
 use msi_text::errors::Error;
 use msi_text::stringpool::StringPool;
-use msi_text::text::{IntoText, Items};
+use msi_text::text::Items;
 use std::alloc::Global;
 
 /// The tables of a new database.
@@ -35,21 +35,6 @@ struct SystemTables {
     columns: Table,
     tables: Table,
     validation: Table,
-}
-
-/// A table with short references to texts.
-///
-/// # Errors
-/// `OutOfMemory`.
-fn short_table(alloc: Global, name: &str, columns: Items<Column>) -> Result<Table, Error>
-    requires { length columns ≤ most_columns }
-    ensures ok { IfOk result (λ made. made ≡ record { name = name.now; columns = columns; long = false }) }
-    ensures kind { OnlyMemory result }
-{
-    let Some(made) = table(name.into_text(alloc)?, columns, false) else {
-        unreachable!()
-    };
-    Ok(made)
 }
 
 /// The system tables.
@@ -63,9 +48,9 @@ fn system_tables(alloc: Global) -> Result<SystemTables, Error>
     ensures kind { OnlyMemory result }
 {
     Ok(SystemTables {
-        columns: short_table(alloc, COLUMNS, columns_columns(alloc)?)?,
-        tables: short_table(alloc, TABLES, tables_columns(alloc)?)?,
-        validation: short_table(alloc, VALIDATION, validation_columns(alloc)?)?,
+        columns: named_table(alloc, COLUMNS, columns_columns(alloc)?, false)?,
+        tables: named_table(alloc, TABLES, tables_columns(alloc)?, false)?,
+        validation: named_table(alloc, VALIDATION, validation_columns(alloc)?, false)?,
     })
 }
 
@@ -139,10 +124,10 @@ fn described_streams(
 }
 
 impl Database {
-    /// A new database, in UTF-8: it has `_Validation` alone, beside the two tables that are always there.
+    /// Returns a new database, in UTF-8: it has `_Validation` alone, beside the two tables that are always there.
     ///
     /// # Errors
-    /// `OutOfMemory`.
+    /// Fails with `OutOfMemory`.
     pub fn new(alloc: Global) -> Result<Database, Error>
         ensures ok { IfOk result (λ database. database ≡ fresh) }
         ensures kind { OnlyMemory result }

@@ -1,17 +1,17 @@
-//! What holds of the definitions themselves: each law is what a function that does nothing ensures.
+//! Laws of the definitions themselves: each is the contract of a function that does nothing.
 
 ghost use Rattle.msi_database.specs.Fresh.{FreshIsKept};
 ghost use Rattle.msi_database.specs.Keeping.{ChangesAreKept, KeptIsWellFormed, ReadIsKept};
 ghost use Rattle.msi_database.specs.OwnStreams.{TablesHaveOwnStreams};
 
-/// An accepted change of a kept database that is sound, whose tables are stored in its streams, leaves a kept database
-/// that is sound: its streams spell it.
+/// An accepted change of a kept database that is sound, whose tables are stored in its streams, leaves a kept
+/// database that is sound: its streams spell it.
 pub fn changes_are_kept()
     ensures { ChangesAreKept }
 {}
 
-/// A kept database is well formed, sound or not: cells name places from 1 on, tables stand in the order of their names,
-/// and each row has a cell for each column.
+/// A kept database is well formed, sound or not: cells name places from 1 on, tables stand in the order of their
+/// names, and each row has a cell for each column.
 pub fn kept_is_well_formed()
     ensures { KeptIsWellFormed }
 {}

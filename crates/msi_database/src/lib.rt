@@ -1,4 +1,4 @@
-//! The database of a package: its tables, kept in the streams of a container.
+//! The database of a package: looks up, queries and changes tables that are stored in the streams of a container.
 #![tactic(auto)]
 
 mod changing;
@@ -13,4 +13,4 @@ mod reasons;
 mod rows;
 
 pub use database::Database;
-pub use msi_kept::storing;
+pub use msi_database_storage::storing;

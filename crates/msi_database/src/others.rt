@@ -1,14 +1,15 @@
-//! Streams that belong to no table, kept beside a database: those of the pool, of the summary, and of users.
+//! Streams of no table, stored beside a database: those of the pool, of the summary, and of users.
 
 ghost use Rattle.std.specs.Prelude.{◌≡◌, IfOk, OnErr, OnOk, false, length, true};
-ghost use Rattle.msi_compound.specs.Names.{is_name_length};
-ghost use Rattle.msi_text.specs.Results.{OnlyMemory};
-ghost use Rattle.msi_kept.specs.Streams.{has_stream_at, stream_at, with_stream, with_stream_or_none, without_stream};
+ghost use Rattle.msi_container_format.specs.Names.{is_name_length};
+ghost use Rattle.msi_text_base.specs.Results.{OnlyMemory};
+ghost use Rattle.msi_database_storage.specs.Streams.{has_stream_at, stream_at, with_stream, with_stream_or_none};
+ghost use Rattle.msi_database_storage.specs.Streams.{without_stream};
 ghost use Rattle.msi_database.specs.Others.{IsOther, with_streams};
 
 use crate::database::Database;
-use msi_compound::contents::Bytes;
-use msi_compound::name::Name;
+use msi_container_format::contents::Bytes;
+use msi_container_format::name::Name;
 use msi_text::errors::Error;
 
 /// Tells that a name has the length of one, which its units do.
@@ -19,11 +20,11 @@ fn know_length(name: &Name)
 }
 
 impl Database {
-    /// Puts a stream at a name that is no table's, and hands back the bytes of the one that was there. To put one in
-    /// the place of another takes no memory.
+    /// Stores a stream under a name that is no table's, and returns the bytes of the one that was there. Replacing
+    /// one takes no memory.
     ///
     /// # Errors
-    /// `OutOfMemory`, and only where there was none; then nothing is changed.
+    /// Fails with `OutOfMemory`, and only if there was none; then nothing has changed.
     pub fn replace_stream(&mut self, name: Name, bytes: Bytes) -> Result<Option<Bytes>, Error>
         requires { IsOther self.old.database name }
         ensures ok { OnOk result (self.new ≡ with_streams (with_stream name bytes) self.old) }
@@ -48,7 +49,8 @@ impl Database {
         self.streams.put_back(name, bytes);
     }
 
-    /// Takes the stream of a name that is no table's out, if there is one, and hands its bytes back. It takes no memory.
+    /// Takes the stream of a name that is no table's out, if there is one, and hands its bytes back. It takes no
+    /// memory.
     pub fn remove_stream(&mut self, name: &Name) -> Option<Bytes>
         requires { IsOther self.old.database name.now }
         ensures held { result ≡ stream_at name.now self.old.streams }

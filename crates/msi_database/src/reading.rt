@@ -1,36 +1,35 @@
-//! A database read of its pool and the streams of a container's root.
+//! A database that is read from its pool and the streams of a container's root.
 
 ghost use Rattle.std.specs.Prelude.{◌≡◌, [], ◌<◌, ◌≤◌, All, IfErr, IfOk, Some, if◌then◌else◌, is_some, length, map};
 ghost use Rattle.std.specs.FinMap.{entries};
-ghost use Rattle.msi_text.specs.ErrorKind.TheVariants.{InvalidData};
-ghost use Rattle.msi_text.specs.Results.{OnlyMemory};
+ghost use Rattle.msi_text_base.specs.declared.errors.ErrorKind.TheVariants.{InvalidData};
+ghost use Rattle.msi_text_base.specs.Results.{OnlyMemory};
 ghost use Rattle.msi_table.specs.Tables.{most_columns};
-ghost use Rattle.msi_value.specs.CellValues.{row_values};
-ghost use Rattle.msi_relation.specs.Refusals.{IsRefusal, or_refused};
-ghost use Rattle.msi_schema.specs.Schema.{table_with};
-ghost use Rattle.msi_schema.specs.System.{validation_columns as columns_of_validation, validation_name};
-ghost use Rattle.msi_kept.specs.Kept.{AreAsLong, Kept, schema_listed, table_kept_at};
-ghost use Rattle.msi_kept.specs.StreamNames.{HaveNames, HoldBytes};
-ghost use Rattle.msi_kept.specs.Streams.{stored_rows as rows_stored};
+ghost use Rattle.msi_table_values.specs.CellValues.{row_values};
+ghost use Rattle.msi_query_rows.specs.Refusals.{IsRefusal, or_refused};
+ghost use Rattle.msi_database_schema.specs.System.{validation_columns as columns_of_validation, validation_name};
+ghost use Rattle.msi_database_storage.specs.Kept.{AreAsLong, Kept, schema_listed, table_kept_at};
+ghost use Rattle.msi_database_storage.specs.StreamNames.{HaveShortNames, HoldBytes};
+ghost use Rattle.msi_database_storage.specs.Streams.{stored_rows as rows_stored};
 ghost use Rattle.msi_database.specs.Agreement.{described_by, schema_in};
 ghost use Rattle.msi_database.specs.Reading.{IsDatabaseOf};
 
 use crate::database::Database;
-use msi_compound::contents::StreamMap;
-use msi_kept::decoding::stored_rows;
-use msi_kept::listing::table_named;
-use msi_kept::marking::with_named_texts;
-use msi_kept::soundness::are_sound;
-use msi_schema::schema::{SchemaRows, tables_described};
-use msi_schema::system::{
+use msi_container_format::contents::StreamMap;
+use msi_database_schema::schema::{SchemaRows, named_table, tables_described};
+use msi_database_schema::system::{
     COLUMNS, TABLES, VALIDATION, columns_columns, tables_columns, validation_columns,
 };
+use msi_database_storage::decoding::stored_rows;
+use msi_database_storage::listing::table_named;
+use msi_database_storage::marking::with_named_texts;
+use msi_database_storage::soundness::are_sound;
 use msi_table::column::Column;
-use msi_table::parts::{table, values};
+use msi_table::parts::values;
 use msi_table::{Table, Value, ValueRef};
 use msi_text::errors::Error;
 use msi_text::stringpool::StringPool;
-use msi_text::text::{IntoText, Items};
+use msi_text::text::Items;
 use std::alloc::Global;
 
 /// A byte is below 256.
@@ -40,27 +39,12 @@ fn look_at_bytes(bytes: &[u8])
 
 /// Goes over streams: each has a name that a container can hold, and bytes.
 fn look_at(streams: &StreamMap)
-    ensures names { HaveNames (entries streams.now) }
+    ensures names { HaveShortNames (entries streams.now) }
     ensures bytes { HoldBytes (entries streams.now) }
 {
     for (name, bytes) in streams.iter() {
         let _units = name.units();
         look_at_bytes(bytes.as_slice());
-    }
-}
-
-/// A table of a name and columns, which are at most 32767.
-///
-/// # Errors
-/// `OutOfMemory`.
-fn table_of(alloc: Global, name: &str, columns: Items<Column>, long: bool) -> Result<Table, Error>
-    requires { length columns ≤ most_columns }
-    ensures ok { IfOk result (λ table. table ≡ table_with long (name.now, columns)) }
-    ensures kind { OnlyMemory result }
-{
-    match table(name.into_text(alloc)?, columns, long) {
-        Some(table) => Ok(table),
-        None => unreachable!(),
     }
 }
 
@@ -94,20 +78,20 @@ fn described_rows(
     name: &str,
     columns: Items<Column>,
 ) -> Result<Vec<Items<Value>>, Error>
-    requires names { HaveNames (entries streams.now) }
+    requires names { HaveShortNames (entries streams.now) }
     requires few { length columns ≤ most_columns }
     ensures ok { IfOk result (λ rows.
         described_by (entries streams.now) pool.now columns name.now ≡ Some rows.items) }
     ensures kind { IfErr result (IsRefusal (or_refused InvalidData
         (described_by (entries streams.now) pool.now columns name.now))) }
 {
-    let table = table_of(alloc, name, columns, pool.long_string_refs())?;
+    let table = named_table(alloc, name, columns, pool.long_string_refs())?;
     let rows = stored_rows(alloc, streams, &table)?;
     values_of_rows(alloc, pool, rows.as_slice())
 }
 
-/// The tables that the rows of the system tables describe: those of `_Tables` and `_Columns` are read of their streams,
-/// those of `_Validation` are these.
+/// The tables that the rows of the system tables describe: those of `_Tables` and `_Columns` are read of their
+/// streams, those of `_Validation` are these.
 ///
 /// # Errors
 /// `InvalidData` where a stream can't be read, and where the rows describe no tables; `OutOfMemory`.
@@ -117,7 +101,7 @@ fn tables_in(
     streams: &StreamMap,
     validation: &[Items<ValueRef>],
 ) -> Result<Items<Table>, Error>
-    requires names { HaveNames (entries streams.now) }
+    requires names { HaveShortNames (entries streams.now) }
     requires bytes { HoldBytes (entries streams.now) }
     requires validation { rows_stored (entries streams.now) pool.now.long columns_of_validation validation_name
         ≡ Some validation.now }
@@ -148,14 +132,14 @@ fn unlisted_rows(
 }
 
 impl Database {
-    /// The database of a pool, as its two streams spell it, and of all streams of a container's root. Which tables it
-    /// has is what the rows of the system tables describe; a missing stream has no rows, and a table whose rows can't
-    /// be read is kept. A free place of the pool loses its text where no cell names it. It costs the rows times a
-    /// logarithm.
+    /// Returns the database of a pool, as its two streams encode it, and of all streams of a container's root. Which
+    /// tables it has is what the rows of the system tables describe; a missing stream has no rows, and a table whose
+    /// rows can't be read stays listed. A free place of the pool loses its text where no cell names it. It costs the
+    /// rows times a logarithm.
     ///
     /// # Errors
-    /// `InvalidData` where the stream of a system table can't be read, and where its rows describe no tables;
-    /// `OutOfMemory`.
+    /// Fails with `InvalidData` if the stream of a system table can't be read, and if its rows describe no tables, or
+    /// with `OutOfMemory`.
     pub fn read(alloc: Global, pool: StringPool, streams: StreamMap) -> Result<Database, Error>
         ensures ok { IfOk result (IsDatabaseOf pool (entries streams)) }
         ensures only { IfOk result (λ d. (k : Kept) → IsDatabaseOf pool (entries streams) k → k ≡ d) }
@@ -163,7 +147,7 @@ impl Database {
     {
         look_at(&streams);
         let columns = validation_columns(alloc)?;
-        let standard = table_of(alloc, VALIDATION, columns, pool.long_string_refs())?;
+        let standard = named_table(alloc, VALIDATION, columns, pool.long_string_refs())?;
         let validation = stored_rows(alloc, &streams, &standard)?;
         let tables = tables_in(alloc, &pool, &streams, validation.as_slice())?;
         let listed = tables.as_slice();

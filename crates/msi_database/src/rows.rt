@@ -2,28 +2,28 @@
 
 ghost use Rattle.std.specs.Prelude.{◌≡◌, IfErr, IfOk, OnErr, OnOk, bytes_eq, codes};
 ghost use Rattle.std.specs.List.{list_all};
-ghost use Rattle.msi_text.specs.Results.{OnlyMemory};
-ghost use Rattle.msi_relation.specs.Refusals.{IsRefusal};
-ghost use Rattle.msi_changes.specs.Delete as deletes;
-ghost use Rattle.msi_changes.specs.Insert as inserts;
-ghost use Rattle.msi_changes.specs.RowUpdates.{update_of};
-ghost use Rattle.msi_changes.specs.Update as updates;
+ghost use Rattle.msi_text_base.specs.Results.{OnlyMemory};
+ghost use Rattle.msi_query_rows.specs.Refusals.{IsRefusal};
+ghost use Rattle.msi_database_changes.specs.Delete as deletes;
+ghost use Rattle.msi_database_changes.specs.Insert as inserts;
+ghost use Rattle.msi_database_changes.specs.RowUpdates.{update_of};
+ghost use Rattle.msi_database_changes.specs.Update as updates;
 ghost use Rattle.msi_database.specs.Making.{Leaves, MakesRows, TellsUse, delete_of, insert_of};
 
 use crate::changing::RowsAnew;
 use crate::database::Database;
 use crate::reasons;
-use msi_changes::delete::{refuse_delete, remaining_rows};
-use msi_changes::insert::{add_rows, refuse_rows};
-use msi_changes::texts::PoolInUse;
-use msi_changes::update::{refuse_update, updated_rows};
-use msi_kept::storing::stream_of;
+use msi_database_changes::delete::{refuse_delete, remaining_rows};
+use msi_database_changes::insert::{add_rows, refuse_rows};
+use msi_database_changes::texts::PoolInUse;
+use msi_database_changes::update::{refuse_update, updated_rows};
+use msi_database_schema::system::{VALIDATION, is_schema_table, is_system_table};
+use msi_database_storage::storing::stream_of;
 use msi_query::parts::{
     Assignment, DeleteParts, InsertParts, NewRow, UpdateParts, delete_parts, insert_parts,
     update_parts,
 };
 use msi_query::{Delete, Insert, Update};
-use msi_schema::system::{VALIDATION, is_schema_table, is_system_table};
 use msi_table::Value;
 use msi_text::errors::{Error, ErrorKind};
 use msi_text::text::Items;
@@ -159,15 +159,15 @@ impl Database {
         })
     }
 
-    /// Inserts rows into a table. The pool's texts and the table's stream change together, at the end. Answers whether
-    /// a text was taken of the pool or given back.
+    /// Inserts rows into a table. The pool's texts and the table's stream change together, at the end. Returns
+    /// whether a text was taken from the pool or given back.
     ///
     /// # Errors
-    /// The first that holds: `InvalidData` where the database isn't sound; `InvalidInput` for a system table;
-    /// `NotFound` where there is no such table; `InvalidInput` where a row doesn't fit the columns; `InvalidData` where
-    /// two of the table's rows share a key; row by row `AlreadyExists` where the table has its key, and `InvalidInput`
-    /// where an earlier new row has it; `InvalidInput` where the table would have more than 65536 rows, and where the
-    /// pool is full. At any time `OutOfMemory`. Then nothing is changed.
+    /// Fails with the first of these that applies: `InvalidData` if the database isn't sound; `InvalidInput` for a
+    /// system table; `NotFound` if there is no such table; `InvalidInput` if a row doesn't fit the columns;
+    /// `InvalidData` if two of the table's rows share a key; row by row `AlreadyExists` if the table has its key, and
+    /// `InvalidInput` if an earlier new row has it; `InvalidInput` if the table would have more than 65536 rows, and
+    /// if the pool is full. It may fail with `OutOfMemory` in place of any of these. Then nothing has changed.
     pub fn insert_rows(&mut self, query: Insert) -> Result<bool, Error>
         ensures ok { OnOk result (Leaves self.old (inserts.insert_rows self.old.database query) self.new) }
         ensures used { IfOk result (TellsUse (inserts.insert_rows self.old.database query)) }
@@ -178,15 +178,15 @@ impl Database {
         self.finish_rows(new)
     }
 
-    /// Sets columns of those of a table's rows that meet the condition. Answers whether a text was taken of the pool or
+    /// Sets columns in the rows of a table that meet the condition. Returns whether a text was taken from the pool or
     /// given back.
     ///
     /// # Errors
-    /// The first that holds: `InvalidData` where the database isn't sound; `InvalidInput` for a system table, but for
-    /// Description in `_Validation`; `NotFound` where there is no such table; `InvalidInput` where a column that is set
-    /// isn't there or doesn't take its value, and where a column of the condition isn't there; `AlreadyExists` where
-    /// two rows would share a key; `InvalidInput` where the pool is full. At any time `OutOfMemory`. Then nothing is
-    /// changed.
+    /// Fails with the first of these that applies: `InvalidData` if the database isn't sound; `InvalidInput` for a
+    /// system table, but for Description in `_Validation`; `NotFound` if there is no such table; `InvalidInput` if a
+    /// column that is set isn't there or doesn't take its value, and if a column of the condition isn't there;
+    /// `AlreadyExists` if two rows would share a key; `InvalidInput` if the pool is full. It may fail with
+    /// `OutOfMemory` in place of any of these. Then nothing has changed.
     pub fn update_rows(&mut self, query: Update) -> Result<bool, Error>
         ensures ok { OnOk result (Leaves self.old (updates.update_rows self.old.database query) self.new) }
         ensures used { IfOk result (TellsUse (updates.update_rows self.old.database query)) }
@@ -197,13 +197,13 @@ impl Database {
         self.finish_rows(new)
     }
 
-    /// Takes those rows out of a table that meet the condition. Answers whether a text was taken of the pool or given
+    /// Deletes the rows of a table that meet the condition. Returns whether a text was taken from the pool or given
     /// back.
     ///
     /// # Errors
-    /// The first that holds: `InvalidData` where the database isn't sound; `InvalidInput` for a system table;
-    /// `NotFound` where there is no such table; `InvalidInput` where a column of the condition isn't there. At any time
-    /// `OutOfMemory`. Then nothing is changed.
+    /// Fails with the first of these that applies: `InvalidData` if the database isn't sound; `InvalidInput` for a
+    /// system table; `NotFound` if there is no such table; `InvalidInput` if a column of the condition isn't there.
+    /// It may fail with `OutOfMemory` in place of any of these. Then nothing has changed.
     pub fn delete_rows(&mut self, query: Delete) -> Result<bool, Error>
         ensures ok { OnOk result (Leaves self.old (deletes.delete_rows self.old.database query) self.new) }
         ensures used { IfOk result (TellsUse (deletes.delete_rows self.old.database query)) }

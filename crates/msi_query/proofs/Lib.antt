@@ -1,3 +1,4 @@
+-- The lemmas of this crate.
 pub mod ListedLemmas
 pub mod QueryTextLemmas
 pub mod QueryTextRows

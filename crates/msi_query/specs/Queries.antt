@@ -1,8 +1,8 @@
 -- Queries as values.
 use Rattle.std.specs.Prelude.{ℕ, List, [], Option, Some, None}
-use Rattle.msi_value.specs.declared.value.Value.{Value}
+use Rattle.msi_table_values.specs.declared.value.Value.{Value}
 use Rattle.msi_query.specs.declared.query.JoinKind.{JoinKind}
-use Rattle.msi_expression.specs.Expressions.{Expression, both}
+use Rattle.msi_query_expressions.specs.Expressions.{Expression, both}
 
 -- the columns to keep, where none keeps all, and the condition, if any
 pub record Clauses : Type 0 where

@@ -1,14 +1,15 @@
 -- How queries print.
-use Rattle.std.specs.Prelude.{ℕ, List, [], ◌∷◌, ◌++◌, map, length, Option, Some, None, option_map, ◌==◌, ◌&&◌, is_none, if◌then◌else◌, codes}
+use Rattle.std.specs.Prelude.{ℕ, List, [], ◌∷◌, ◌++◌, map, length, Option, Some, None, option_map, ◌==◌, ◌&&◌, is_none}
+use Rattle.std.specs.Prelude.{if◌then◌else◌, codes}
 use Rattle.std.specs.List.{join_by}
 use Rattle.std.specs.Fmt.{◌++?◌}
-use Rattle.msi_text.specs.Lists.{all_present}
-use Rattle.msi_value.specs.declared.value.Value.{Value}
-use Rattle.msi_value.specs.Values.{value_text}
+use Rattle.msi_text_base.specs.Lists.{all_present}
+use Rattle.msi_table_values.specs.declared.value.Value.{Value}
+use Rattle.msi_table_values.specs.Values.{value_text}
 use Rattle.msi_query.specs.declared.query.JoinKind.{JoinKind}
 use Rattle.msi_query.specs.declared.query.JoinKind.TheVariants.{Inner, Left}
-use Rattle.msi_expression.specs.Expressions.{Expression}
-use Rattle.msi_expression.specs.Printing.{expression_text}
+use Rattle.msi_query_expressions.specs.Expressions.{Expression}
+use Rattle.msi_query_expressions.specs.Printing.{expression_text}
 use Rattle.msi_query.specs.Queries.{Query, Clauses, table, join, InsertQuery, UpdateQuery, DeleteQuery}
 
 -- texts with `, ` between them, where none is missing

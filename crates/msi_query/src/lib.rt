@@ -1,8 +1,8 @@
-//! Queries as values; and the name under which expressions are found.
+//! Queries as values (select, insert, update, delete), and the expressions that are their conditions.
 #![tactic(auto)]
 
 pub mod parts;
 pub mod query;
 
-pub use msi_expression::{Expr, expr, laws};
+pub use msi_query_expressions::{Expr, expr, laws};
 pub use query::{Delete, Insert, Select, Update};

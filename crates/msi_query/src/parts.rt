@@ -9,16 +9,16 @@ pub use crate::query::insert::{InsertParts, NewRow};
 pub use crate::query::select::SelectTree;
 pub use crate::query::update::{Assignment, UpdateParts};
 use crate::query::{Delete, Insert, Select, Update};
-pub use msi_expression::parts::{RowFilter, equated_places, knows_names};
+pub use msi_query_expressions::parts::{RowFilter, equated_places, knows_names};
 
-/// The tree of a query for rows.
+/// Returns the tree of a query for rows.
 pub fn select_tree(query: &Select) -> &SelectTree
     ensures { query_of result.now ≡ query.now }
 {
     query.tree()
 }
 
-/// The table's name and the rows of an insert, moved out.
+/// Returns the table's name and the rows of an insert, moved out.
 pub fn insert_parts(query: Insert) -> InsertParts
     ensures table { result.table ≡ query.table }
     ensures rows { result.rows ≡ query.rows }
@@ -26,7 +26,7 @@ pub fn insert_parts(query: Insert) -> InsertParts
     query.into_parts()
 }
 
-/// The table's name, the new values and the condition of an update, moved out.
+/// Returns the table's name, the new values and the condition of an update, moved out.
 pub fn update_parts(query: Update) -> UpdateParts
     ensures table { result.table ≡ query.table }
     ensures sets { result.sets ≡ query.sets }
@@ -35,7 +35,7 @@ pub fn update_parts(query: Update) -> UpdateParts
     query.into_parts()
 }
 
-/// The table's name and the condition of a delete, moved out.
+/// Returns the table's name and the condition of a delete, moved out.
 pub fn delete_parts(query: Delete) -> DeleteParts
     ensures table { result.table ≡ query.table }
     ensures condition { result.condition ≡ query.condition }

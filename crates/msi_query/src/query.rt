@@ -1,7 +1,7 @@
 //! Queries as values: how they are built, and how they print.
 
 ghost use Rattle.std.specs.Prelude.{◌≡◌, IfOk, IfErr, Some};
-ghost use Rattle.msi_text.specs.ErrorKind.TheVariants.{OutOfMemory};
+ghost use Rattle.msi_text_base.specs.declared.errors.ErrorKind.TheVariants.{OutOfMemory};
 ghost use Rattle.msi_query.specs.Queries.{narrowed as narrowed_by};
 
 pub(crate) mod clauses;
@@ -13,13 +13,14 @@ pub(crate) mod update;
 
 pub use delete::Delete;
 pub use insert::Insert;
-use msi_expression::Expr;
+use msi_query_expressions::Expr;
 use msi_text::errors::Error;
 pub use select::Select;
 use std::alloc::Global;
 pub use update::Update;
 
-/// What a join does with a row of the left side without a match: an inner one drops it, a left one keeps it.
+/// The kind of a join, which decides about a row of the left side without a match: an inner join drops it, a left
+/// join keeps it.
 #[derive(Clone, Copy, PartialEq, Eq, Debug, Drop)]
 pub enum JoinKind {
     Inner,

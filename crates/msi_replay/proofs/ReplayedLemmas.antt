@@ -2,9 +2,10 @@
 use Rattle.std.proofs.Common.{◌≡◌, ℕ, Bool, true, false, List, [], length, Option, Some, None, Result, Ok, Err, refl, sym, ap, subst, ◌∙◌, inl, inr}
 use Rattle.std.specs.Prelude.{IfErr, IfSome, is_some, unwrap_or, if◌then◌else◌}
 use Rattle.std.specs.List.{AllByRecursion}
-use Rattle.msi_text.specs.ErrorKind.{ErrorKind}
-use Rattle.msi_device.specs.Held.{Held, bytes_told}
-use Rattle.msi_kept.specs.Streams.{Streams}
+use Rattle.msi_text_base.specs.declared.errors.ErrorKind.{ErrorKind}
+use Rattle.msi_container_device.specs.Held.{Held, bytes_told}
+use Rattle.msi_database_changes.proofs.RefusedLemmas.{same_Ok}
+use Rattle.msi_database_storage.specs.Streams.{Streams}
 use Rattle.msi.specs.declared.kinds.PackageType.{PackageType}
 use Rattle.msi.specs.State.{State}
 use Rattle.msi.specs.Calls.{Call, Answer}
@@ -50,9 +51,6 @@ flush_tells old new answer tells f = (flush_told old new answer (bytes_told old.
 
 -- A NEW PACKAGE
 
-ok_same : {A : Type 0} {x y : A} → ◌≡◌ {A = Result A ErrorKind} (Ok x) (Ok y) → x ≡ y
-ok_same e = cc
-
 module _ (kind : PackageType) (held : Option Held) (failed : Bool) (empty : bytes_told held ≡ Some []) where
   new_of : (made : Whole) → IsCreated kind (told held failed) made → IsCreated kind (record { bytes = Some []; failed = failed }) made
   new_of made is = subst (λ (o : Option (List ℕ)). IsCreated kind (record { bytes = o; failed = failed }) made) empty is
@@ -62,7 +60,7 @@ module _ (kind : PackageType) (held : Option Held) (failed : Bool) (empty : byte
 
   pub new_session : (made : Whole) → IsCreated kind (told held failed) made → session_at made ≡ created kind
   new_session made is = let s = new_of made is in
-      at_told made s.0 s.1 ∙ ok_same (sym s.2 ∙ created_over_nothing kind)
+      at_told made s.0 s.1 ∙ same_Ok _ _ (sym s.2 ∙ created_over_nothing kind)
 
   pub new_refused : (sent : List Call) (error : ErrorKind) → IsCreateRefused kind (told held failed) error → IsReplayRefused kind sent error
   new_refused sent error (inl memory) = inl memory

@@ -1,28 +1,27 @@
 -- What calls on a stream that a package lends are to the package.
-use Rattle.std.proofs.Common.{◌≡◌, ℕ, Some, None, List, [], ◌∷◌, Result, Ok, Err, refl, sym, ap, subst, ◌∙◌, ◌⊎◌, inl, inr}
+use Rattle.std.proofs.Common.{◌≡◌, ℕ, None, List, [], ◌∷◌, Result, Ok, refl, sym, ap, subst, ◌∙◌}
 use Rattle.std.specs.Prelude.{not}
 use Rattle.std.specs.declared.cmp.Ordering.{Ordering}
 use Rattle.std.specs.declared.cmp.Ordering.TheVariants.{Less, Equal, Greater}
 use Rattle.std.specs.Ordering.{ordering_reverse}
 use Rattle.std.specs.FinMap.Entries.{by_order}
-use Rattle.msi_text.specs.ErrorKind.{ErrorKind}
-use Rattle.msi_text.specs.ErrorKind.TheVariants.{InvalidInput, NotFound, OutOfMemory}
-use Rattle.msi_relation.specs.Refusals.{Refusals, first_refusal}
-use Rattle.msi_compound.specs.Names.{name_cmp}
-use Rattle.msi_compound.proofs.NamesLemmas.{names_total}
-use Rattle.msi_schema.specs.Keys.{is_stream_name, stream_key}
-use Rattle.msi_kept.specs.Streams.{Streams, with_stream}
-use Rattle.msi_stream.specs.Cursor as streams
+use Rattle.msi_text_base.specs.declared.errors.ErrorKind.{ErrorKind}
+use Rattle.msi_text_base.specs.declared.errors.ErrorKind.TheVariants.{InvalidInput, NotFound}
+use Rattle.msi_query_rows.specs.Refusals.{Refusals, first_refusal}
+use Rattle.msi_container_format.specs.Names.{name_cmp}
+use Rattle.msi_container_format.proofs.NamesLemmas.{names_total}
+use Rattle.msi_database_schema.specs.Keys.{is_stream_name, stream_key}
+use Rattle.msi_database_storage.specs.Streams.{Streams, with_stream}
+use Rattle.msi_streams.specs.Cursor as streams
 use Rattle.msi.specs.State.{State, parts_of}
 use Rattle.msi.specs.Calls.{StreamAnswer, ReaderCall, WriterCall}
 use Rattle.msi.specs.Calls as calls
 use Rattle.msi.specs.Lent.{RunsTo, reader_outcome, reader_wants_memory, writer_outcome, writer_wants_memory}
-use Rattle.msi.specs.Steps.{Step, bytes_of_stream, has_stream, name_refusals, with_streams}
+use Rattle.msi.specs.Steps.{bytes_of_stream, has_stream, name_refusals, with_streams}
 use Rattle.msi.specs.Whole.{Whole, with_state}
-use Rattle.msi.proofs.CallLemmas.{step_unfed}
 use Rattle.msi_replay.specs.Sent.{lent_cursor}
 use Rattle.msi_replay.specs.Taken.{Takes}
-use Rattle.msi_replay.proofs.TakenLemmas.{lent_takes, not_lent_takes}
+use Rattle.msi_replay.proofs.TakenLemmas.{lent_takes}
 
 -- A STREAM PUT TWICE IS WHAT WAS PUT LAST
 
@@ -67,18 +66,6 @@ module _ (old new : Whole) (name : List ℕ) (sent : List WriterCall) where
       )
       (ap (λ (w : Whole). w.held) ends) (ap (λ (w : Whole). w.failed) ends)
 
-  pub write_refused : (kind : ErrorKind) → (kind ≡ OutOfMemory) ⊎ (first_refusal (name_refusals (parts_of old.state) name) ≡ Some kind)
-      → new ≡ old → Takes old (calls.write_stream name sent) (Err kind) new
-  write_refused kind (inl memory) same = record {
-    step = λ n. subst (λ (k : ErrorKind). Step n old.state (calls.write_stream name sent) (Err k) new.state) (sym memory)
-        (step_unfed n old.state (calls.write_stream name sent) refl new.state (ap (λ (w : Whole). w.state) same));
-    held = ap (λ (w : Whole). w.held) same;
-    failed = ap (λ (w : Whole). w.failed) same;
-  }
-  write_refused kind (inr refused) same =
-      not_lent_takes old new (calls.write_stream name sent) refl (name_refusals (parts_of old.state) name)
-      (with_streams (with_stream (stream_key name) []) old.state) (λ n. refl) kind refused same
-
 -- READING
 
 abbrev read_refusals : State → List ℕ → Refusals
@@ -95,8 +82,3 @@ module _ (w : Whole) (name : List ℕ) (sent : List ReaderCall) where
         subst (λ (c : streams.Cursor). RunsTo reader_outcome reader_wants_memory (lent_cursor c) sent answers (lent_cursor left)) is runs,
         refl,
       ) refl refl
-
-  pub read_refused : (kind : ErrorKind) → first_refusal (read_refusals w.state name) ≡ Some kind
-      → Takes w (calls.read_stream name sent) (Err kind) w
-  read_refused kind refused =
-      not_lent_takes w w (calls.read_stream name sent) refl (read_refusals w.state name) w.state (λ n. refl) kind refused refl

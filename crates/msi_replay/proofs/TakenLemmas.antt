@@ -1,32 +1,21 @@
 -- What a package's calls ensure is what a call takes.
-use Rattle.std.proofs.Common.{◌≡◌, ℕ, true, false, Option, Some, None, Result, Ok, Err, refl, sym, ap, subst, ◌∙◌}
+use Rattle.std.proofs.Common.{◌≡◌, ℕ, true, false, Option, None, Result, Ok, Err, refl, sym, ap, subst, ◌∙◌}
 use Rattle.std.specs.Prelude.{IfErr, IsTrue, OnErr, OnOk}
-use Rattle.msi_text.specs.ErrorKind.{ErrorKind}
-use Rattle.msi_relation.specs.Refusals.{Refusals, IsRefusal, first_refusal, unless_refused}
-use Rattle.msi_changes.specs.Changes.{Change}
+use Rattle.msi_text_base.specs.declared.errors.ErrorKind.{ErrorKind}
+use Rattle.msi_query_rows.specs.Refusals.{Refusals, IsRefusal, first_refusal, unless_refused}
+use Rattle.msi_database_changes.specs.Changes.{Change}
 use Rattle.msi.specs.State.{State}
 use Rattle.msi.specs.Calls.{Call, Answer}
 use Rattle.msi.specs.Calls as calls
-use Rattle.msi.specs.Steps.{Lends, Step, changed, is_lending, leaving, leaving_or, may_want_memory, outcome}
+use Rattle.msi.specs.Steps.{Lends, changed, is_lending, leaving, leaving_or, may_want_memory, outcome}
 use Rattle.msi.specs.Whole.{Leaves, Whole, with_state}
-use Rattle.msi.proofs.CallLemmas.{change_done, change_refused, left_done, left_refused, lent, not_lent, step_is}
+use Rattle.msi.proofs.CallLemmas.{change_done, change_refused, left_done, left_refused, lent}
 use Rattle.msi_replay.specs.Taken.{Takes}
 use Rattle.msi_replay.specs.Told.{told}
 
 -- what was done answers so
 abbrev pub was_done : Result (Unit {0}) ErrorKind → Result Answer ErrorKind
 was_done answer = told (λ _. calls.done) answer
-
--- LOOKING
-
-pub looked : (w : Whole) (call : Call) (answer : Answer) → is_lending call ≡ false
-    → ((n : ℕ) → outcome n w.state call ≡ (Ok answer, w.state)) → Takes w call (Ok answer) w
-looked w call answer plain is = record { step = λ n. step_is n w.state call (Ok answer) w.state plain (is n); held = refl; failed = refl }
-
-pub looked_as : {A : Type 0} (w : Whole) (call : Call) (say : A → Answer) (x : A) → is_lending call ≡ false
-    → ((n : ℕ) → outcome n w.state call ≡ (Ok (say x), w.state)) → (y : A) → y ≡ x → Takes w call (Ok (say y)) w
-looked_as w call say x plain is y same =
-    subst (λ (a : Answer). Takes w call (Ok a) w) (ap say (sym same)) (looked w call (say x) plain is)
 
 -- CHANGING
 
@@ -69,9 +58,6 @@ takes_as old new call a b is t = subst (λ (x : Result Answer ErrorKind). Takes 
 leaving_ok : (s next : State) (o : Option ErrorKind) → o ≡ None → leaving_or o s next ≡ (Ok calls.done, next)
 leaving_ok s next o e = ap (λ (o : Option ErrorKind). leaving_or o s next) e
 
-leaving_not : (s next : State) (o : Option ErrorKind) (kind : ErrorKind) → o ≡ Some kind → leaving_or o s next ≡ (Err kind, s)
-leaving_not s next o kind e = ap (λ (o : Option ErrorKind). leaving_or o s next) e
-
 module _ (old new : Whole) (call : Call) (lends : is_lending call ≡ true) (refusals : Refusals) (next : State)
     (is : (n : ℕ) → outcome n old.state call ≡ leaving old.state refusals next) where
   pub lent_takes : (answer : Answer) → first_refusal refusals ≡ None → Lends next call answer new.state
@@ -80,12 +66,4 @@ module _ (old new : Whole) (call : Call) (lends : is_lending call ≡ true) (ref
     step = λ n. lent n old.state call next new.state answer lends (is n ∙ leaving_ok old.state next (first_refusal refusals) accepted) l;
     held = held;
     failed = failed;
-  }
-
-  pub not_lent_takes : (kind : ErrorKind) → first_refusal refusals ≡ Some kind → new ≡ old → Takes old call (Err kind) new
-  not_lent_takes kind refused same = record {
-    step = λ n. subst (λ (s : State). Step n old.state call (Err kind) s) (ap (λ (w : Whole). w.state) (sym same))
-        (not_lent n old.state call old.state kind lends (is n ∙ leaving_not old.state next (first_refusal refusals) kind refused));
-    held = ap (λ (w : Whole). w.held) same;
-    failed = ap (λ (w : Whole). w.failed) same;
   }

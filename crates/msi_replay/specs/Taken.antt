@@ -1,7 +1,7 @@
 -- What a call on a package over a device does, and the session that such a package is.
 use Rattle.std.specs.Prelude.{◌≡◌, ℕ, true, is_some, [], unwrap_or, Result}
-use Rattle.msi_text.specs.ErrorKind.{ErrorKind}
-use Rattle.msi_device.specs.Held.{bytes_told}
+use Rattle.msi_text_base.specs.declared.errors.ErrorKind.{ErrorKind}
+use Rattle.msi_container_device.specs.Held.{bytes_told}
 use Rattle.msi.specs.Calls.{Call, Answer}
 use Rattle.msi.specs.Steps.{Step}
 use Rattle.msi.specs.Runs.{Session}

@@ -1,4 +1,4 @@
-//! What calls answer, as values.
+//! The results of calls, as values.
 
 use msi::PackageType;
 use msi_table::{Column, Row, Table};
@@ -9,28 +9,28 @@ use msi_text::text::{Items, Text};
 use msi_text::timestamp::Timestamp;
 use uuid::Uuid;
 
-/// What a call on a summary answers.
+/// The result of a call on a summary.
 #[derive(Drop)]
 pub enum SummaryAnswer {
     /// It was done.
     Done,
-    /// A text, where it is there.
+    /// A text, if it is there.
     Text(Option<Text>),
-    /// A number, where it is there.
+    /// A number, if it is there.
     Number(Option<i32>),
-    /// A moment, where it is there.
+    /// A time, if it is there.
     Time(Option<Timestamp>),
     /// The languages.
     Languages(Items<LanguageId>),
     /// The keywords.
     Keywords(Items<String>),
-    /// The UUID, where it is there.
+    /// The UUID, if it is there.
     Uuid(Option<Uuid>),
     /// The page in which texts are written.
     Codepage(CodePage),
 }
 
-/// What a call on a reader or a writer answers.
+/// The result of a call on a reader or a writer.
 #[derive(Drop)]
 pub enum StreamAnswer {
     /// It was done.
@@ -41,7 +41,7 @@ pub enum StreamAnswer {
     Place(u64),
 }
 
-/// What a call on a package answers.
+/// The result of a call on a package.
 #[derive(Drop)]
 pub enum Answer {
     /// It was done.
@@ -52,7 +52,7 @@ pub enum Answer {
     Codepage(CodePage),
     /// Whether it is so.
     Flag(bool),
-    /// A table, where it is there.
+    /// A table, if it is there.
     Table(Option<Table>),
     /// Tables.
     Tables(Items<Table>),
@@ -62,8 +62,8 @@ pub enum Answer {
     Rows(Items<Column>, Items<Row>),
     /// Bytes.
     Bytes(Items<u8>),
-    /// What the summary answered, call by call.
+    /// The results of calls on the summary, in order.
     Summary(Items<Result<SummaryAnswer, ErrorKind>>),
-    /// What a stream's reader or writer answered, call by call.
+    /// The results of calls on a stream's reader or writer, in order.
     Stream(Items<Result<StreamAnswer, ErrorKind>>),
 }

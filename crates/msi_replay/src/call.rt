@@ -1,4 +1,4 @@
-//! Calls on a package, and on what it lends, as values.
+//! Calls on a package, and on its borrowed summary and streams, as values.
 
 use msi_query::{Delete, Insert, Select, Update};
 use msi_table::Column;
@@ -39,7 +39,7 @@ pub enum NumberProperty {
     DocSecurity,
 }
 
-/// A moment of the summary, by its name.
+/// A time of the summary, by its name.
 #[derive(Clone, Copy, Drop)]
 pub enum TimeProperty {
     /// When the package was printed last.
@@ -57,7 +57,7 @@ pub enum SummaryQuestion {
     Text(TextProperty),
     /// A number.
     Number(NumberProperty),
-    /// A moment.
+    /// A time.
     Time(TimeProperty),
     /// The architecture.
     Arch,
@@ -78,7 +78,7 @@ pub enum Setting {
     Text(TextProperty, Text),
     /// A number.
     Number(NumberProperty, i32),
-    /// A moment.
+    /// A time.
     Time(TimeProperty, Timestamp),
     /// The architecture.
     Arch(Text),
@@ -99,7 +99,7 @@ pub enum Clearing {
     Text(TextProperty),
     /// A number.
     Number(NumberProperty),
-    /// A moment.
+    /// A time.
     Time(TimeProperty),
     /// The architecture.
     Arch,
@@ -111,7 +111,7 @@ pub enum Clearing {
     Uuid,
 }
 
-/// A call on a summary that is lent to be changed.
+/// A call on a mutably borrowed summary.
 #[derive(Drop)]
 pub enum SummaryCall {
     /// Asks for a property.
@@ -142,7 +142,7 @@ pub enum WriterCall {
     Flush,
 }
 
-/// A call that only looks at a package, and can't be refused.
+/// A call that only looks at a package, and can't fail.
 #[derive(Drop)]
 pub enum LookUp {
     /// What the package is for.
@@ -168,7 +168,7 @@ pub enum LookUp {
 pub enum Change {
     /// Makes a table of this name, with these columns.
     CreateTable(Text, Items<Column>),
-    /// Puts rows into a table.
+    /// Inserts rows into a table.
     InsertRows(Insert),
     /// Sets columns in rows of a table.
     UpdateRows(Update),
@@ -178,7 +178,7 @@ pub enum Change {
     DropTable(Text),
     /// Sets the page in which the database's texts are written.
     SetDatabaseCodepage(CodePage),
-    /// Takes the stream of this name out.
+    /// Removes the stream of this name.
     RemoveStream(Text),
     /// Takes the digital signature out.
     RemoveDigitalSignature,

@@ -2,7 +2,7 @@
 
 ghost use Rattle.std.specs.Prelude.{◌≡◌, IfOk, OnOk, map};
 ghost use Rattle.std.specs.List.{AllByRecursion};
-ghost use Rattle.msi_text.specs.Results.{OnlyMemory};
+ghost use Rattle.msi_text_base.specs.Results.{OnlyMemory};
 ghost use Rattle.msi.specs.Calls as calls;
 ghost use Rattle.msi.specs.Lent.{FitsSummaryCall};
 ghost use Rattle.msi_replay.specs.Sent.{change_sent, summary_call_sent};
@@ -13,12 +13,12 @@ use crate::answer::Answer;
 use crate::call::{Change, SummaryCall};
 use crate::summary::{carry_out_all, discard_all};
 use msi::Package;
-use msi_device::Memory;
+use msi_container_device::Memory;
 use msi_text::errors::{Error, ErrorKind};
 use msi_text::text::Items;
 use std::alloc::Global;
 
-/// What a change answers.
+/// The result of a change.
 pub(crate) fn done(outcome: Result<(), Error>) -> Result<Answer, ErrorKind>
     ensures { told answer_told result ≡ told (λ _. calls.done) outcome }
 {
@@ -46,7 +46,7 @@ fn changed(target: &mut Package<Memory>, change: Change) -> Result<(), Error>
     }
 }
 
-/// Changes a package, and tells what it answers.
+/// Changes a package, and returns the result.
 pub(crate) fn change(target: &mut Package<Memory>, change: Change) -> Result<Answer, ErrorKind>
     ensures { Takes target.old (change_sent change) (told answer_told result) target.new }
 {
@@ -56,7 +56,7 @@ pub(crate) fn change(target: &mut Package<Memory>, change: Change) -> Result<Ans
 /// Makes calls on the summary of a package.
 ///
 /// # Errors
-/// `OutOfMemory` where an answer can't be copied.
+/// `OutOfMemory` if there is no memory for a result.
 pub(crate) fn change_summary(
     alloc: Global,
     target: &mut Package<Memory>,

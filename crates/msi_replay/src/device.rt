@@ -8,7 +8,7 @@ ghost use Rattle.msi_replay.specs.Told.{answer_told, told};
 use crate::answer::Answer;
 use crate::changing::done;
 use msi::Package;
-use msi_device::Memory;
+use msi_container_device::Memory;
 use msi_text::errors::ErrorKind;
 use msi_text::text::Items;
 

@@ -1,4 +1,4 @@
-//! Calls on a package as values, carried out in turn.
+//! Makes a list of calls on a new package; its contract says what the resulting bytes mean.
 #![tactic(auto)]
 
 pub mod answer;

@@ -2,9 +2,9 @@
 
 ghost use Rattle.std.specs.Prelude.{◌≡◌, IfOk, map};
 ghost use Rattle.std.specs.Option.{option_copied};
-ghost use Rattle.msi_text.specs.Results.{OnlyMemory};
+ghost use Rattle.msi_text_base.specs.Results.{OnlyMemory};
 ghost use Rattle.msi_table.specs.Rows.{RowDef};
-ghost use Rattle.msi_relation.specs.Rows.{rows_values};
+ghost use Rattle.msi_query_rows.specs.Rows.{rows_values};
 ghost use Rattle.msi.specs.Calls as calls;
 ghost use Rattle.msi_replay.specs.Sent.{look_up_sent, question_sent};
 ghost use Rattle.msi_replay.specs.Taken.{Takes};
@@ -15,7 +15,7 @@ use crate::call::{LookUp, SummaryQuestion};
 use crate::streaming::all_names;
 use crate::summary::ask_all;
 use msi::Package;
-use msi_device::Memory;
+use msi_container_device::Memory;
 use msi_query::Select;
 use msi_table::{Column, Row, Rows, Table};
 use msi_text::errors::{Error, ErrorKind};
@@ -85,7 +85,7 @@ fn all_rows(alloc: Global, rows: Rows<'_>) -> Result<Items<Row>, Error>
 /// Looks at a package.
 ///
 /// # Errors
-/// `OutOfMemory` where the answer can't be copied.
+/// `OutOfMemory` if there is no memory for the result.
 pub(crate) fn look_up(
     alloc: Global,
     target: &Package<Memory>,
@@ -119,7 +119,7 @@ pub(crate) fn look_up(
 /// Asks what a query selects.
 ///
 /// # Errors
-/// `OutOfMemory` where the answer can't be copied.
+/// `OutOfMemory` if there is no memory for the result.
 pub(crate) fn select(
     alloc: Global,
     target: &Package<Memory>,
@@ -142,7 +142,7 @@ pub(crate) fn select(
 /// Asks the summary of a package.
 ///
 /// # Errors
-/// `OutOfMemory` where an answer can't be copied.
+/// `OutOfMemory` if there is no memory for a result.
 pub(crate) fn ask_summary(
     alloc: Global,
     target: &Package<Memory>,

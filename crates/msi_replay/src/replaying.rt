@@ -2,8 +2,8 @@
 
 ghost use Rattle.std.specs.Prelude.{◌≡◌, [], IfErr, IfOk, OnOk, Some, map};
 ghost use Rattle.std.specs.List.{AllByRecursion};
-ghost use Rattle.msi_text.specs.Results.{OnlyMemory};
-ghost use Rattle.msi_device.specs.Held.{bytes_told};
+ghost use Rattle.msi_text_base.specs.Results.{OnlyMemory};
+ghost use Rattle.msi_container_device.specs.Held.{bytes_told};
 ghost use Rattle.msi.specs.Runs.{FitsCall, IsReplay, IsReplayRefused, Run, SessionStep};
 ghost use Rattle.msi_replay.specs.Sent.{call_sent};
 ghost use Rattle.msi_replay.specs.Taken.{Tells, session_at};
@@ -16,15 +16,15 @@ use crate::device::{flush, image};
 use crate::looking::{ask_summary, look_up, select};
 use crate::streaming::{read_stream, write_stream};
 use msi::{Package, PackageType};
-use msi_device::Memory;
+use msi_container_device::Memory;
 use msi_text::errors::{Error, ErrorKind};
 use msi_text::text::Items;
 use std::alloc::Global;
 
-/// What calls answered, and the bytes that the package was written as in the end.
+/// The results of calls, and the bytes that the package was written as in the end.
 #[derive(Drop)]
 pub struct Replayed {
-    /// What each call answered, in order.
+    /// The result of each call, in order.
     pub answers: Items<Result<Answer, ErrorKind>>,
     /// The bytes.
     pub bytes: Vec<u8>,
@@ -33,7 +33,7 @@ pub struct Replayed {
 /// Carries out a call on a package.
 ///
 /// # Errors
-/// `OutOfMemory` where an answer can't be copied.
+/// `OutOfMemory` if there is no memory for a result.
 fn carry_out(
     alloc: Global,
     target: &mut Package<Memory>,
@@ -63,7 +63,7 @@ fn carry_out(
 /// Carries out calls on a package, one after another.
 ///
 /// # Errors
-/// `OutOfMemory` where an answer can't be kept.
+/// `OutOfMemory` if there is no memory for a result.
 fn carry_out_all(
     alloc: Global,
     target: &mut Package<Memory>,
@@ -90,12 +90,13 @@ fn empty_device(alloc: Global) -> Memory
     Memory::from_vec(Vec::new(alloc))
 }
 
-/// Makes a package in memory, carries out the calls on it one after another, and writes it. Opening the bytes gives
-/// the package that the calls left.
+/// Creates a package in memory, makes the calls on it one after another, and flushes it. If each text can be written
+/// in its page, that is if it reads back as it was, the bytes mean what the accepted calls define, and opening them
+/// gives the package that the calls left. In any case each count is the number of its cells.
 ///
 /// # Errors
-/// `OutOfMemory`, and `Io` where the device can't grow. Else what the last flush is refused as: `InvalidInput` where a
-/// page doesn't carry a text, or the file would pass 2^31 bytes.
+/// Fails with `OutOfMemory`, or with `Io` if the device can't grow. Otherwise it fails as the last flush does: with
+/// `InvalidInput` if a page can't encode a text, or if the file would pass 2^31 bytes.
 pub fn replay(alloc: Global, kind: PackageType, steps: Vec<Call>) -> Result<Replayed, Error>
     ensures ok { IfOk result (λ replayed. IsReplay kind (map call_sent steps.items)
         (map (told answer_told) replayed.answers) replayed.bytes.items) }

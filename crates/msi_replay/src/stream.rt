@@ -1,9 +1,9 @@
 //! Calls on the reader and the writer of a stream, carried out in turn.
 
 ghost use Rattle.std.specs.Prelude.{◌≡◌, IfOk, Ok, OnOk, map, true};
-ghost use Rattle.msi_text.specs.Results.{OnlyMemory};
-ghost use Rattle.msi_stream.specs.Cursor.{after_read, piece_read};
-ghost use Rattle.msi_stream.specs.Refusals as faults;
+ghost use Rattle.msi_text_base.specs.Results.{OnlyMemory};
+ghost use Rattle.msi_streams.specs.Cursor.{after_read, piece_read};
+ghost use Rattle.msi_streams.specs.Refusals as faults;
 ghost use Rattle.msi.specs.Calls as calls;
 ghost use Rattle.msi.specs.Lent.{Gives, RunsTo, reader_outcome, reader_wants_memory, sought};
 ghost use Rattle.msi.specs.Lent.{writer_outcome, writer_wants_memory};
@@ -12,15 +12,15 @@ ghost use Rattle.msi_replay.specs.Told.{stream_answer, told};
 
 use crate::answer::StreamAnswer;
 use crate::call::{ReaderCall, WriterCall};
-use msi_stream::faults::kind_of;
-use msi_stream::{StreamReader, StreamWriter};
+use msi_streams::faults::kind_of;
+use msi_streams::{StreamReader, StreamWriter};
 use msi_text::errors::{Error, ErrorKind};
 use msi_text::text::Items;
 use std::alloc::Global;
 use std::io;
 use std::io::{Read, Seek, SeekFrom, Write};
 
-/// What a seek answers.
+/// The result of a seek.
 fn place(outcome: io::Result<u64>) -> Result<StreamAnswer, ErrorKind>
     ensures { told stream_answer result ≡ told calls.place_is (faults.told outcome) }
 {
@@ -78,7 +78,7 @@ fn carry_out_on_reader(
 /// Carries out calls on a reader, one after another.
 ///
 /// # Errors
-/// `OutOfMemory` where an answer can't be kept.
+/// `OutOfMemory` if there is no memory for a result.
 pub(crate) fn read_all(
     alloc: Global,
     reader: &mut StreamReader<'_>,
@@ -103,7 +103,7 @@ fn seek_writer(writer: StreamWriter<'_>, to: SeekFrom) -> Result<StreamAnswer, E
     place(writer.seek(to))
 }
 
-/// Writes a piece, and answers how many bytes were taken.
+/// Writes a piece, and returns how many bytes were taken.
 fn write(writer: StreamWriter<'_>, piece: &[u8]) -> Result<StreamAnswer, ErrorKind>
     ensures { let old = lent_cursor writer.old in
         Gives (writer_outcome old (calls.write piece.now)) true old (told stream_answer result)
@@ -145,7 +145,7 @@ fn carry_out_on_writer(
 /// Carries out calls on a writer, one after another.
 ///
 /// # Errors
-/// `OutOfMemory` where an answer can't be kept.
+/// `OutOfMemory` if there is no memory for a result.
 pub(crate) fn write_all(
     alloc: Global,
     writer: StreamWriter<'_>,

@@ -2,7 +2,7 @@
 
 ghost use Rattle.std.specs.Prelude.{◌≡◌, IfOk, OnOk, map};
 ghost use Rattle.std.specs.Str.{IsUtf8};
-ghost use Rattle.msi_text.specs.Results.{OnlyMemory};
+ghost use Rattle.msi_text_base.specs.Results.{OnlyMemory};
 ghost use Rattle.msi.specs.Calls as calls;
 ghost use Rattle.msi_replay.specs.Sent.{reader_call_sent, writer_call_sent};
 ghost use Rattle.msi_replay.specs.Taken.{Takes};
@@ -12,8 +12,8 @@ use crate::answer::Answer;
 use crate::call::{ReaderCall, WriterCall};
 use crate::stream::{read_all, write_all};
 use msi::Package;
-use msi_device::Memory;
-use msi_stream::Streams;
+use msi_container_device::Memory;
+use msi_streams::Streams;
 use msi_text::errors::{Error, ErrorKind};
 use msi_text::text::{Items, Text};
 use std::alloc::Global;
@@ -36,7 +36,7 @@ pub(crate) fn all_names(alloc: Global, names: Streams<'_>) -> Result<Items<Text>
 /// Makes calls on the writer of a stream.
 ///
 /// # Errors
-/// `OutOfMemory` where an answer can't be kept.
+/// `OutOfMemory` if there is no memory for a result.
 pub(crate) fn write_stream(
     alloc: Global,
     target: &mut Package<Memory>,
@@ -60,7 +60,7 @@ pub(crate) fn write_stream(
 /// Makes calls on the reader of a stream.
 ///
 /// # Errors
-/// `OutOfMemory` where an answer can't be kept.
+/// `OutOfMemory` if there is no memory for a result.
 pub(crate) fn read_stream(
     alloc: Global,
     target: &Package<Memory>,

@@ -5,9 +5,9 @@ ghost use Rattle.std.specs.Int.{w32};
 ghost use Rattle.std.specs.Int.RustNames.{FitsSigned};
 ghost use Rattle.std.specs.List.{AllByRecursion};
 ghost use Rattle.std.specs.Option.{option_copied};
-ghost use Rattle.msi_text.specs.Results.{OnlyMemory};
-ghost use Rattle.msi_text.specs.ErrorKind.TheVariants.{OutOfMemory};
-ghost use Rattle.msi_property.specs.Properties.{without_value};
+ghost use Rattle.msi_text_base.specs.Results.{OnlyMemory};
+ghost use Rattle.msi_text_base.specs.declared.errors.ErrorKind.TheVariants.{OutOfMemory};
+ghost use Rattle.msi_summary_properties.specs.Properties.{without_value};
 ghost use Rattle.msi_summary.specs.Summary.{number_id, text_id, time_id};
 ghost use Rattle.msi_summary.specs.Summary.{number_with_id, text_with_id, time_with_id};
 ghost use Rattle.msi_summary.specs.Summary.{with_number, with_text, with_time};
@@ -54,7 +54,7 @@ fn number(summary: &SummaryInfo, property: NumberProperty) -> Option<i32>
     }
 }
 
-/// A moment of a summary.
+/// A time of a summary.
 fn time(summary: &SummaryInfo, property: TimeProperty) -> Option<Timestamp>
     ensures { result ≡ time_with_id (time_id (time_named property)) summary.now }
 {
@@ -101,10 +101,10 @@ fn keywords(summary: &SummaryInfo) -> Result<SummaryAnswer, ErrorKind>
     }
 }
 
-/// What a summary answers.
+/// The result of a call on a summary.
 ///
 /// # Errors
-/// `OutOfMemory` where the answer can't be copied.
+/// `OutOfMemory` if there is no memory for the result.
 fn said(
     alloc: Global,
     summary: &SummaryInfo,
@@ -139,7 +139,7 @@ fn said(
 /// Asks a summary.
 ///
 /// # Errors
-/// `OutOfMemory` where the answer can't be copied.
+/// `OutOfMemory` if there is no memory for the result.
 fn ask(
     alloc: Global,
     summary: &SummaryInfo,
@@ -191,7 +191,7 @@ fn set_number(summary: &mut SummaryInfo, property: NumberProperty, number: i32) 
     }
 }
 
-/// Sets a moment of a summary.
+/// Sets a time of a summary.
 ///
 /// # Errors
 /// `OutOfMemory`; then the summary is as before.
@@ -255,7 +255,7 @@ fn clear_number(summary: &mut SummaryInfo, property: NumberProperty)
     }
 }
 
-/// Clears a moment of a summary.
+/// Clears a time of a summary.
 fn clear_time(summary: &mut SummaryInfo, property: TimeProperty)
     ensures { summary.new ≡ without_value (time_id (time_named property)) summary.old }
 {
@@ -298,7 +298,7 @@ fn clear(summary: &mut SummaryInfo, clearing: Clearing) -> Result<(), Error>
     }
 }
 
-/// What a change answers.
+/// The result of a change.
 fn done(outcome: Result<(), Error>) -> Result<SummaryAnswer, ErrorKind>
     ensures { told summary_answer result ≡ told (λ _. calls.done) outcome }
 {
@@ -311,7 +311,7 @@ fn done(outcome: Result<(), Error>) -> Result<SummaryAnswer, ErrorKind>
 /// Carries out a call on a summary.
 ///
 /// # Errors
-/// `OutOfMemory` where an answer can't be copied.
+/// `OutOfMemory` if there is no memory for a result.
 fn carry_out(
     alloc: Global,
     summary: &mut SummaryInfo,
@@ -333,7 +333,7 @@ fn carry_out(
 /// Asks a summary, question by question.
 ///
 /// # Errors
-/// `OutOfMemory` where an answer can't be copied.
+/// `OutOfMemory` if there is no memory for a result.
 pub(crate) fn ask_all(
     alloc: Global,
     summary: &SummaryInfo,
@@ -353,7 +353,7 @@ pub(crate) fn ask_all(
 /// Carries out calls on a summary, one after another.
 ///
 /// # Errors
-/// `OutOfMemory` where an answer can't be copied.
+/// `OutOfMemory` if there is no memory for a result.
 pub(crate) fn carry_out_all(
     alloc: Global,
     summary: &mut SummaryInfo,

@@ -1,3 +1,4 @@
+-- The lemmas of this crate.
 pub mod SummaryReadLemmas
 pub mod BraceLemmas
 pub mod KeywordLemmas

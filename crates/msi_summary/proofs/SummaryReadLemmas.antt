@@ -1,10 +1,10 @@
 -- A summary that is read, from what the code gives.
 use Rattle.std.proofs.Common.{◌≡◌, Some, Result, Ok, Err, sym, ap, ◌∙◌}
 use Rattle.std.specs.Prelude.{◌≢◌, IfOk, OnErr}
-use Rattle.msi_text.specs.ErrorKind.{ErrorKind}
-use Rattle.msi_text.specs.Results.{Gives}
-use Rattle.msi_property.specs.Properties.{Properties}
-use Rattle.msi_property.proofs.FieldLemmas.{some_is}
+use Rattle.msi_text_base.specs.declared.errors.ErrorKind.{ErrorKind}
+use Rattle.msi_text_base.specs.Results.{Gives}
+use Rattle.msi_text_base.proofs.OptionLemmas.{some_is}
+use Rattle.msi_summary_properties.specs.Properties.{Properties}
 use Rattle.msi_summary.specs.Summary.{summary_format}
 
 -- a set that was read and is a summary where it has the format is the one that is spelled

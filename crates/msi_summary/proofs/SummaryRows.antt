@@ -1,6 +1,6 @@
 -- Worked examples of summaries, by computation.
 use Rattle.std.specs.Prelude.{◌≡◌, [], ◌∷◌, refl, codes, map}
-use Rattle.msi_property.specs.Properties.{Properties}
+use Rattle.msi_summary_properties.specs.Properties.{Properties}
 use Rattle.msi_summary.specs.Summary.{new_summary, with_arch, with_languages, with_text, template_of, languages_of, keywords_of, with_keywords, keywords_in, template_id, without_braces}
 
 abbrev bare : Properties

@@ -12,12 +12,12 @@ use Rattle.std.proofs.lemmas.List.Splits.{slice_split_none, slice_split_at}
 use Rattle.std.proofs.lemmas.Str.Parse.{digit_from_value, without_leading_plus_none}
 use Rattle.msi_text.specs.Numerals.{u16_in}
 use Rattle.msi_text.specs.Spellings.{language_list_text}
-use Rattle.msi_property.specs.declared.propset.PropertyValue.TheVariants.{LpStr}
-use Rattle.msi_property.specs.Properties.{Properties}
+use Rattle.msi_summary_properties.specs.declared.propset.PropertyValue.TheVariants.{LpStr}
+use Rattle.msi_summary_properties.specs.Properties.{Properties}
 use Rattle.msi_summary.specs.Summary.{as_text, is_comma, is_semicolon, nonempty, template_id, template_of, arch_text, languages_text, with_template}
 use Rattle.msi_summary.specs.SummaryLaws.{ArchKeepsLanguages, LanguagesKeepArch}
 use Rattle.msi_summary.proofs.NumeralLemmas.{u16_in-ok}
-use Rattle.msi_property.proofs.PropertiesLemmas.{value_with_id-insert_entry}
+use Rattle.msi_summary_properties.proofs.PropertiesLemmas.{value_with_id-insert_entry}
 
 -- ---- a text that is cut at its first mark
 

@@ -6,14 +6,14 @@ use Rattle.std.specs.List.{slice_split, before_first, after_first, join_by, filt
 use Rattle.std.specs.List.{prefix_len, suffix_len}
 use Rattle.std.specs.Str.{trim_end}
 use Rattle.uuid.specs.Text.{parsed}
-use Rattle.msi_text.specs.CodePage.TheVariants as page
+use Rattle.msi_text_base.specs.declared.codepage.CodePage.TheVariants as page
 use Rattle.msi_text.specs.Numerals.{u16_in}
 use Rattle.msi_text.specs.Spellings.{language_list_text, braced_uuid_text}
-use Rattle.msi_property.specs.declared.propset.PropertyValue.{PropertyValue}
-use Rattle.msi_property.specs.declared.propset.PropertyValue.TheVariants.{I4, LpStr, FileTime}
-use Rattle.msi_property.specs.declared.propset.OperatingSystem.TheVariants as os
-use Rattle.msi_property.specs.Properties.{Properties, value_with_id, with_value, with_page, new_set}
-use Rattle.msi_property.specs.PropertyStream.{Spells}
+use Rattle.msi_summary_properties.specs.declared.propset.PropertyValue.{PropertyValue}
+use Rattle.msi_summary_properties.specs.declared.propset.PropertyValue.TheVariants.{I4, LpStr, FileTime}
+use Rattle.msi_summary_properties.specs.declared.propset.OperatingSystem.TheVariants as os
+use Rattle.msi_summary_properties.specs.Properties.{Properties, value_with_id, with_value, with_page, new_set}
+use Rattle.msi_summary_properties.specs.PropertyStream.{Spells}
 
 -- FMTID_SummaryInformation, F29F85E0-4FF9-1068-AB91-08002B27B3D9, as its bytes stand in a stream
 abbrev pub summary_format : List ℕ

@@ -1,7 +1,7 @@
 -- What the calls on a summary keep, and what they give back.
 use Rattle.std.specs.Prelude.{◌≡◌, ℕ, ◌^◌, ◌<◌, false, List}
 use Rattle.std.specs.List.{list_any, AllByRecursion}
-use Rattle.msi_property.specs.Properties.{Properties}
+use Rattle.msi_summary_properties.specs.Properties.{Properties}
 use Rattle.msi_summary.specs.Summary.{is_semicolon, nonempty, arch_of, languages_of, with_arch, with_languages}
 
 -- an architecture without a `;` is read back, and the languages stay

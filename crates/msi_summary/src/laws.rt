@@ -1,9 +1,10 @@
-//! What holds of the format and of the definitions themselves: each law is what a function without a body
-//! ensures.
+//! What holds of the format and of the definitions themselves: each is the contract of a function without a body.
 
 ghost use Rattle.msi_summary.specs.SummaryLaws.{ArchKeepsLanguages, LanguagesKeepArch};
 
-pub use msi_property::laws::{one_set, removing_changes_one, sets_read_back, setting_changes_one};
+pub use msi_summary_properties::laws::{
+    one_set, removing_changes_one, sets_read_back, setting_changes_one,
+};
 
 /// An architecture without a `;` is read as it was set, and setting it keeps the languages.
 pub fn arch_keeps_languages()

@@ -1,4 +1,4 @@
-//! The summary of a package; and the name under which property sets are found too.
+//! The summary information of a package: its properties by their names, stored as a property set.
 #![tactic(auto)]
 
 pub mod laws;
@@ -6,5 +6,5 @@ pub mod parts;
 mod reasons;
 pub mod summary;
 
-pub use msi_property::{OperatingSystem, PropertySet, PropertyValue, propset};
+pub use msi_summary_properties::{OperatingSystem, PropertySet, PropertyValue, propset};
 pub use summary::SummaryInfo;

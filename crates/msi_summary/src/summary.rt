@@ -3,9 +3,9 @@
 
 ghost use Rattle.std.specs.Prelude.{◌≡◌, ◌≢◌, IfOk, IfErr, OnOk, OnErr};
 ghost use Rattle.std.specs.Option.{option_copied};
-ghost use Rattle.msi_text.specs.Results.{OnlyMemory};
-ghost use Rattle.msi_text.specs.ErrorKind.TheVariants.{InvalidData};
-ghost use Rattle.msi_property.specs.Properties.{page_of, with_page, with_value, without_value};
+ghost use Rattle.msi_text_base.specs.Results.{OnlyMemory};
+ghost use Rattle.msi_text_base.specs.declared.errors.ErrorKind.TheVariants.{InvalidData};
+ghost use Rattle.msi_summary_properties.specs.Properties.{page_of, with_page, with_value, without_value};
 ghost use Rattle.msi_summary.specs.Summary.{new_summary, summary_format, number_with_id, text_with_id, time_with_id};
 ghost use Rattle.msi_summary.specs.Summary.{with_number, with_text, with_time};
 
@@ -17,8 +17,8 @@ mod texts;
 mod times;
 
 use crate::reasons;
-use msi_property::parts::{allocator, put};
-use msi_property::{OperatingSystem, PropertySet, PropertyValue};
+use msi_summary_properties::parts::{allocator, put};
+use msi_summary_properties::{OperatingSystem, PropertySet, PropertyValue};
 use msi_text::codepage::CodePage;
 use msi_text::errors::{Error, ErrorKind};
 use msi_text::text::IntoText;
@@ -34,8 +34,8 @@ const FORMAT: [u8; 16] = [
 /// The summary of a package: a property set of the summary's format (MS-OLEPS 2.21), whose properties have
 /// names. Contracts see the property set.
 ///
-/// A getter answers nothing, or an empty list, where its property is missing or has another type. A setter
-/// that is refused leaves the summary as it was.
+/// A getter returns nothing, or an empty list, if its property is missing or has another type. A setter that fails
+/// leaves the summary as it was.
 #[derive(Drop)]
 pub struct SummaryInfo {
     properties: PropertySet,
@@ -43,7 +43,7 @@ pub struct SummaryInfo {
 
 impl Model for SummaryInfo {
     ghost use Rattle.std.specs.Prelude.{◌≡◌};
-    ghost use Rattle.msi_property.specs.Properties.{Properties};
+    ghost use Rattle.msi_summary_properties.specs.Properties.{Properties};
     ghost use Rattle.msi_summary.specs.Summary.{summary_format};
 
     ghost Value = { Properties };
@@ -87,28 +87,18 @@ impl SummaryInfo {
         &self.properties
     }
 
-    /// The property set, moved out.
-    pub(crate) fn into_properties(self) -> PropertySet
-        ensures { result ≡ self }
-    {
-        let SummaryInfo { properties } = self;
-        properties
-    }
-
-    /// The page in which the texts are spelled (MS-OLEPS 2.18.2): the one that property 1 names, and UTF-8
-    /// without it.
+    /// Returns the code page of the texts (MS-OLEPS 2.18.2): the one that property 1 names, and UTF-8 without it.
     pub fn codepage(&self) -> CodePage
         ensures { result ≡ page_of self.now }
     {
         self.properties.codepage()
     }
 
-    /// Sets the page in which the texts are spelled (property 1, MS-OLEPS 2.18.2). The texts stay, also where
-    /// the page carries them no longer; the summary can't be written then. When refused, the summary is as
-    /// before.
+    /// Sets the code page of the texts (property 1, MS-OLEPS 2.18.2). The texts stay, also if the page can't encode
+    /// them; the summary can't be written then. If it fails, the summary is as before.
     ///
     /// # Errors
-    /// `OutOfMemory` where the property can't be stored.
+    /// Fails with `OutOfMemory` if the property can't be stored.
     pub fn set_codepage(&mut self, page: CodePage) -> Result<(), Error>
         ensures ok { OnOk result (self.new ≡ with_page page self.old) }
         ensures page { OnOk result (page_of self.new ≡ page) }
@@ -143,7 +133,7 @@ impl SummaryInfo {
         }
     }
 
-    /// The moment of a property.
+    /// The time of a property.
     fn time(&self, id: u32) -> Option<Timestamp>
         ensures { result ≡ time_with_id id self.now }
     {
@@ -184,7 +174,7 @@ impl SummaryInfo {
         self.put(id, PropertyValue::I4(number))
     }
 
-    /// Sets the moment of a property.
+    /// Sets the time of a property.
     fn set_time(&mut self, id: u32, time: Timestamp) -> Result<(), Error>
         requires { id ≢ 1 }
         ensures ok { OnOk result (self.new ≡ with_time id time self.old) }

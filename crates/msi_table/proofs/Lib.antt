@@ -1,3 +1,4 @@
+-- The lemmas of this crate.
 pub mod RoundTripLemmas
 pub mod PiecesLemmas
 pub mod ReadBackLemmas

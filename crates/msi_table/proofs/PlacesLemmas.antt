@@ -6,12 +6,12 @@ use Rattle.std.proofs.lemmas.List.FromFn.{map-range_with_len_more}
 use Rattle.std.proofs.lemmas.List.Sums.{sum_by_more, sum_by_more_le}
 use Rattle.std.proofs.lemmas.Nat.{row_fits}
 use Rattle.std.proofs.Math.Nat as nat
-use Rattle.msi_text.specs.Lists.{tabulated}
-use Rattle.msi_value.specs.declared.column.ColumnType.{ColumnType}
-use Rattle.msi_value.specs.declared.column.ColumnType.TheVariants as coltype
-use Rattle.msi_value.specs.declared.value.ValueRef.{ValueRef}
-use Rattle.msi_value.specs.Columns.{ColumnDef, types_of}
-use Rattle.msi_value.proofs.ColumnTypesLemmas.{length-types_of, below_types, type_at}
+use Rattle.msi_text_base.specs.Lists.{tabulated}
+use Rattle.msi_table_values.specs.declared.column.ColumnType.{ColumnType}
+use Rattle.msi_table_values.specs.declared.column.ColumnType.TheVariants as coltype
+use Rattle.msi_table_values.specs.declared.value.ValueRef.{ValueRef}
+use Rattle.msi_table_values.specs.Columns.{ColumnDef, types_of}
+use Rattle.msi_table_values.proofs.ColumnTypesLemmas.{below_types, type_at}
 use Rattle.msi_table.specs.Cells.{width, widths, row_count, cell_in, cell_at}
 use Rattle.msi_table.proofs.ReadBackLemmas.{cell_at_is}
 use Rattle.std.proofs.lemmas.Option.{slice_get-get_or}
@@ -28,9 +28,6 @@ pub sum_widths_more : (long : Bool) (types : List ColumnType) (j : ℕ) (d : Col
     → sum (take (j + 1) (widths long types)) ≡ sum (take j (widths long types)) + width long (slice_index_or types j d)
 sum_widths_more long types j d h = sum_by_more (λ (x : ℕ). x) (widths long types) j 0 (omega (arith, lists.length-map types (width long)))
     ∙ ap (λ w. sum (take j (widths long types)) + w) (width_at long types j d h)
-
-pub sum_widths_all : (long : Bool) (types : List ColumnType) (j : ℕ) → length types ≤ j → sum (take j (widths long types)) ≡ sum (widths long types)
-sum_widths_all long types j h = ap sum (lists.take_all j (widths long types) (omega (arith, lists.length-map types (width long))))
 
 sum_widths_within : (long : Bool) (types : List ColumnType) (j : ℕ) (d : ColumnType) → j < length types
     → sum (take j (widths long types)) + width long (slice_index_or types j d) ≤ sum (widths long types)
@@ -85,9 +82,6 @@ pub width_more : (long : Bool) (columns : List ColumnDef) (total j w : ℕ) (typ
 width_more long columns total j w type d l t is s =
     let at = is ∙ ap (width long) (type_at columns j type d l t) in
     omega (arith, s, at, sum_widths_more long (types_of columns) j coltype.Int16 (below_types columns j l))
-
-pub width_all : (long : Bool) (columns : List ColumnDef) (j : ℕ) → length columns ≤ j → sum (take j (widths long (types_of columns))) ≡ sum (widths long (types_of columns))
-width_all long columns j h = sum_widths_all long (types_of columns) j (omega (arith, length-types_of columns))
 
 pub tabulated_push : {X : Type 0} (xs ys : List X) (n : ℕ) (f : ℕ → X) (x : X) → ys ≡ xs ++ x ∷ [] → xs ≡ tabulated n f → x ≡ f n → ys ≡ tabulated (n + 1) f
 tabulated_push xs ys n f x e s is = let m = tabulated_more n f in cc

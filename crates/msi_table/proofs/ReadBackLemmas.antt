@@ -8,14 +8,15 @@ use Rattle.std.proofs.lemmas.List.Sums.{sum_by-cons}
 use Rattle.std.proofs.lemmas.Option.{slice_get-get_or, unwrap_or-slice_get, same_Some}
 use Rattle.std.proofs.lemmas.Bool.Decides.{nat_tests}
 use Rattle.std.proofs.Math.Nat as nat
-use Rattle.msi_text.specs.Lists.{tabulated}
-use Rattle.msi_value.specs.declared.column.ColumnType.{ColumnType}
-use Rattle.msi_value.specs.declared.column.ColumnType.TheVariants as coltype
-use Rattle.msi_value.specs.declared.value.ValueRef.{ValueRef}
-use Rattle.msi_value.specs.declared.value.ValueRef.TheVariants as cell
+use Rattle.msi_text_base.specs.Lists.{tabulated}
+use Rattle.msi_text_base.proofs.OptionLemmas.{none_is}
+use Rattle.msi_table_values.specs.declared.column.ColumnType.{ColumnType}
+use Rattle.msi_table_values.specs.declared.column.ColumnType.TheVariants as coltype
+use Rattle.msi_table_values.specs.declared.value.ValueRef.{ValueRef}
+use Rattle.msi_table_values.specs.declared.value.ValueRef.TheVariants as cell
 use Rattle.msi_table.specs.Cells.{cell_in, cell_bytes, width, widths, row_count, cell_at, rows_in, column_bytes, table_bytes}
-use Rattle.msi_value.specs.Fitting.{cell_of, FitsRow, FitsTable}
-use Rattle.msi_value.proofs.FittingLemmas.{fits_at, fits_length}
+use Rattle.msi_table_values.specs.Fitting.{cell_of, FitsRow, FitsTable}
+use Rattle.msi_table_values.proofs.FittingLemmas.{fits_at, fits_length}
 use Rattle.msi_table.proofs.RoundTripLemmas.{length-cell_bytes, cell_in-cell_bytes}
 use Rattle.msi_table.proofs.PiecesLemmas.{numbers_from_is, length-pieces, piece_at}
 
@@ -25,18 +26,12 @@ zero_plus n = omega arith
 plus_zero : (n : ℕ) → n + 0 ≡ n
 plus_zero n = omega arith
 
-none_is : {X : Type 0} {x : X} {P : Type 0} → None ≡ Some x → P
-none_is e = cc
-
 -- the first column stands in front of the place
 place_after : (n w : ℕ) (ws : List ℕ) (m : ℕ) → n * sum (w ∷ ws) + m ≡ n * w + (n * sum ws + m)
 place_after n w ws m = omega (arith, ap (λ s. n * s) (sum_by-cons (λ (x : ℕ). x) w ws), nat.mul-add n w (sum ws))
 
 if_few : {X : Type 0} (n : ℕ) (o : Option X) → n ≤ 65536 → (if nat_le n 65536 then o else None) ≡ o
 if_few n o h = grind (arith, nat_tests)
-
-if_many : {X : Type 0} (n : ℕ) (o : Option X) → 65536 < n → (if nat_le n 65536 then o else None) ≡ None
-if_many n o h = grind (arith, nat_tests)
 
 pub all_at : {X : Type 0} (P : X → Type 0) (xs : List X) (i : ℕ) (d : X) → AllByRecursion P xs → i < length xs → P (slice_index_or xs i d)
 all_at P [] i d h l = absurd (omega arith)
@@ -63,9 +58,6 @@ width_of_row long [] h = absurd (omega arith)
 width_of_row long (t ∷ ts) h = omega (arith, sum-widths long t ts, width_above long t)
 
 module _ (long : Bool) (rows : List (List ValueRef)) where
-  spelled : ColumnType → ℕ → List ValueRef → List ℕ
-  spelled t j row = cell_bytes long t (cell_of row j)
-
   pub length-column_bytes : (j : ℕ) (types : List ColumnType) → length (column_bytes long rows j types) ≡ length rows * sum (widths long types)
   length-column_bytes j [] = sym (nat.mul-zero (length rows))
   length-column_bytes j (t ∷ ts) =
@@ -104,9 +96,6 @@ pub rows_in_is : (long : Bool) (types : List ColumnType) (bytes : List ℕ) (n :
     → rows_in long types bytes ≡ Some (tabulated n (λ i. tabulated (length types) (λ j. cell_at long types bytes i j)))
 rows_in_is long types bytes n e h = if_few (row_count long types bytes) _ (omega arith)
     ∙ ap (λ m. Some (tabulated m (λ i. tabulated (length types) (λ j. cell_at long types bytes i j)))) e
-
-pub rows_in_none : (long : Bool) (types : List ColumnType) (bytes : List ℕ) → 65536 < row_count long types bytes → rows_in long types bytes ≡ None
-rows_in_none long types bytes h = if_many (row_count long types bytes) _ h
 
 module _ (long : Bool) (types : List ColumnType) (rows : List (List ValueRef)) (fits : FitsTable long types rows) where
   pub row_count-table_bytes : row_count long types (table_bytes long types rows) ≡ length rows

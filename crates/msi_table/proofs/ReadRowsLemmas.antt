@@ -1,45 +1,29 @@
 -- Rows that are read are as wide as the columns, and fit them.
-use Rattle.std.proofs.Common.{◌≡◌, ℕ, zero, suc, ◌+◌, ◌^◌, ◌<◌, ◌≤◌, Bool, true, false, List, [], ◌∷◌, length, take, drop, map, refl, ap, ◌∙◌, subst, arith, Some, ⊎_elim}
+use Rattle.std.proofs.Common.{◌≡◌, ℕ, zero, suc, ◌^◌, ◌<◌, ◌≤◌, Bool, true, false, List, [], ◌∷◌, length, take, drop, ◌∙◌, subst, arith, ⊎_elim}
 use Rattle.std.proofs.lemmas.Bool.{cases_Bool}
 use Rattle.std.proofs.lemmas.Bool.Decides.{nat_tests}
 use Rattle.std.proofs.lemmas.Int.{ints}
 use Rattle.std.proofs.lemmas.List as lists
 use Rattle.std.proofs.lemmas.Option.{cond_some, slice_get-get_or}
-use Rattle.std.specs.List.{slice_get, AllByRecursion}
+use Rattle.std.specs.List.{AllByRecursion}
 use Rattle.std.specs.Prelude.{slice_index, slice_index_or, All, nat_le, ◌==◌, if◌then◌else◌}
-use Rattle.msi_text.specs.Lists.{numbers_from, tabulated}
-use Rattle.msi_text.specs.References.{number_of}
-use Rattle.msi_value.specs.declared.column.ColumnType.{ColumnType}
-use Rattle.msi_value.specs.declared.column.ColumnType.TheVariants as coltype
-use Rattle.msi_value.specs.declared.value.ValueRef.TheVariants as cell
+use Rattle.msi_text_base.specs.Lists.{numbers_from, tabulated}
+use Rattle.msi_text_base.proofs.ListLemmas.{all_mapped, length-numbers_from, tabulated_at}
+use Rattle.msi_text_pool.specs.References.{number_of}
+use Rattle.msi_table_values.specs.declared.column.ColumnType.{ColumnType}
+use Rattle.msi_table_values.specs.declared.column.ColumnType.TheVariants as coltype
+use Rattle.msi_table_values.specs.declared.value.ValueRef.TheVariants as cell
 use Rattle.msi_table.specs.Cells.{width, row_count, cell_in, cell_of_number, cell_at, cell_place, row_in}
-use Rattle.msi_value.specs.Columns.{types_of}
-use Rattle.msi_value.specs.Fitting.{FitsColumn, FitsRow, FitsTable}
+use Rattle.msi_table_values.specs.Columns.{types_of}
+use Rattle.msi_table_values.specs.Fitting.{FitsColumn, FitsRow, FitsTable}
 use Rattle.msi_table.specs.Rows.{AreAsWide}
 use Rattle.msi_table.specs.Tables.{ReadRowsFit}
-use Rattle.msi_value.proofs.FittingLemmas.{fits_by_cells}
-use Rattle.msi_value.proofs.ColumnTypesLemmas.{length-types_of}
+use Rattle.msi_table_values.proofs.FittingLemmas.{fits_by_cells}
+use Rattle.msi_table_values.proofs.ColumnTypesLemmas.{length-types_of}
 use Rattle.msi_table.proofs.ReadBackLemmas.{all_at}
-
--- lists by index
-length-numbers_from : (i n : ℕ) → length (numbers_from i n) ≡ n
-length-numbers_from i zero = refl
-length-numbers_from i (suc n) = ap suc (length-numbers_from (i + 1) n)
 
 length-tabulated : {X : Type 0} (n : ℕ) (f : ℕ → X) → length (tabulated n f) ≡ n
 length-tabulated n f = lists.length-map (numbers_from 0 n) f ∙ length-numbers_from 0 n
-
-mapped_at : {X : Type 0} (f : ℕ → X) (i n j : ℕ) → j < n → slice_get (map f (numbers_from i n)) j ≡ Some (f (i + j))
-mapped_at f i zero j h = absurd (omega arith)
-mapped_at f i (suc n) zero h = let e : i ≡ i + 0 = omega arith in ap (λ k. Some (f k)) e
-mapped_at f i (suc n) (suc j) h = mapped_at f (i + 1) n j (omega arith) ∙ (let e : i + 1 + j ≡ i + suc j = omega arith in ap (λ k. Some (f k)) e)
-
-tabulated_at : {X : Type 0} (f : ℕ → X) (n j : ℕ) → j < n → slice_get (tabulated n f) j ≡ Some (f j)
-tabulated_at f n j h = mapped_at f 0 n j h ∙ (let e : 0 + j ≡ j = omega arith in ap (λ k. Some (f k)) e)
-
-all_mapped : {X : Type 0} (P : X → Type 0) (f : ℕ → X) → ((i : ℕ) → P (f i)) → (ns : List ℕ) → AllByRecursion P (map f ns)
-all_mapped P f each [] = tt
-all_mapped P f each (n ∷ ns) = (each n, all_mapped P f each ns)
 
 -- bytes, and what few of them spell
 abbrev AreBytes : List ℕ → Type 0

@@ -1,16 +1,16 @@
 -- Cells read back.
-use Rattle.std.proofs.Common.{◌≡◌, ℕ, ◌<◌, Bool, true, false, length, take, refl, arith, ap, ◌∙◌}
+use Rattle.std.proofs.Common.{◌≡◌, ℕ, ◌<◌, Bool, true, false, length, refl, arith, ap, ◌∙◌}
 use Rattle.std.specs.Prelude.{ℤ, pos, negsuc, ◌+ℤ◌, ◌-ℤ◌, neg_ℤ, ◌≤ℤ◌, ◌^◌, ◌==◌, if◌then◌else◌}
 use Rattle.std.specs.Int.{w16, w32, to_le_bytes, bytes_low_first, cast_unsigned}
 use Rattle.std.proofs.lemmas.Int.{ints}
 use Rattle.std.proofs.lemmas.Bool.Decides.{nat_tests}
-use Rattle.msi_value.specs.declared.column.ColumnType.{ColumnType}
-use Rattle.msi_value.specs.declared.column.ColumnType.TheVariants as coltype
-use Rattle.msi_value.specs.declared.value.ValueRef.{ValueRef}
-use Rattle.msi_value.specs.declared.value.ValueRef.TheVariants as cell
-use Rattle.msi_table.specs.Cells.{cell_of_number, cell_in, cell_bytes, width, stored_number}
-use Rattle.msi_text.specs.References.{number_of, reference_width}
-use Rattle.msi_value.specs.Fitting.{FitsColumn, reference_bound}
+use Rattle.msi_table_values.specs.declared.column.ColumnType.{ColumnType}
+use Rattle.msi_table_values.specs.declared.column.ColumnType.TheVariants as coltype
+use Rattle.msi_table_values.specs.declared.value.ValueRef.{ValueRef}
+use Rattle.msi_table_values.specs.declared.value.ValueRef.TheVariants as cell
+use Rattle.msi_table.specs.Cells.{cell_of_number, cell_in, cell_bytes, width}
+use Rattle.msi_text_pool.specs.References.{number_of, reference_width}
+use Rattle.msi_table_values.specs.Fitting.{FitsColumn, reference_bound}
 
 pub number_of-to_le_bytes_16 : (m : ℕ) → m < 65536 → number_of (to_le_bytes w16 m) ≡ m
 number_of-to_le_bytes_16 m h = omega arith
@@ -84,29 +84,3 @@ cell_in-cell_bytes long coltype.Binary cell.Null h = absurd h
 cell_in-cell_bytes long coltype.Binary (cell.Int n) h = absurd h
 cell_in-cell_bytes long coltype.Binary (cell.Str s) h = absurd h
 cell_in-cell_bytes long coltype.Binary cell.Binary h = refl
-
--- what is written of a number
-pub take-bytes : (long : Bool) (type : ColumnType) (n : ℕ) → take (width long type) (to_le_bytes w32 n) ≡ bytes_low_first 0 (width long type) n
-take-bytes long coltype.Int16 n = refl
-take-bytes long coltype.Int32 n = refl
-take-bytes true (coltype.Str k) n = refl
-take-bytes false (coltype.Str k) n = refl
-take-bytes long coltype.Binary n = refl
-
-pub cell_bytes_is : (long : Bool) (type : ColumnType) (c : ValueRef) → bytes_low_first 0 (width long type) (stored_number type c) ≡ cell_bytes long type c
-cell_bytes_is long coltype.Int16 cell.Null = refl
-cell_bytes_is long coltype.Int16 (cell.Int n) = refl
-cell_bytes_is long coltype.Int16 (cell.Str s) = refl
-cell_bytes_is long coltype.Int16 cell.Binary = refl
-cell_bytes_is long coltype.Int32 cell.Null = refl
-cell_bytes_is long coltype.Int32 (cell.Int n) = refl
-cell_bytes_is long coltype.Int32 (cell.Str s) = refl
-cell_bytes_is long coltype.Int32 cell.Binary = refl
-cell_bytes_is long (coltype.Str k) cell.Null = refl
-cell_bytes_is long (coltype.Str k) (cell.Int n) = refl
-cell_bytes_is long (coltype.Str k) (cell.Str s) = refl
-cell_bytes_is long (coltype.Str k) cell.Binary = refl
-cell_bytes_is long coltype.Binary c = refl
-
-pub written : (long : Bool) (type : ColumnType) (c : ValueRef) (n : ℕ) → n ≡ stored_number type c → take (width long type) (to_le_bytes w32 n) ≡ cell_bytes long type c
-written long type c n e = take-bytes long type n ∙ ap (bytes_low_first 0 (width long type)) e ∙ cell_bytes_is long type c

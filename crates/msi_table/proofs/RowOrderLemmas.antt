@@ -10,14 +10,14 @@ use Rattle.std.specs.Cmp.Lexicographic.{slice_cmp, lists_total}
 use Rattle.std.proofs.lemmas.List as lists
 use Rattle.std.proofs.lemmas.List.Sorted.{ranks_by}
 use Rattle.std.proofs.lemmas.Option.{slice_get_cases, slice_get-map}
-use Rattle.msi_text.specs.Pool.{Place}
-use Rattle.msi_value.specs.Columns.{ColumnDef, is_of_category_binary}
-use Rattle.msi_value.specs.OrderLaws.{cell_cmp-total, value_cmp-total}
-use Rattle.msi_value.specs.declared.value.ValueRef.{ValueRef}
-use Rattle.msi_value.specs.CellValues.{value_of_cell, row_values}
-use Rattle.msi_value.specs.Values.{value_cmp}
+use Rattle.msi_text_pool.specs.Pool.{Place}
+use Rattle.msi_table_values.specs.Columns.{ColumnDef, is_of_category_binary}
+use Rattle.msi_table_values.specs.OrderLaws.{cell_cmp-total, value_cmp-total}
+use Rattle.msi_table_values.specs.declared.value.ValueRef.{ValueRef}
+use Rattle.msi_table_values.specs.CellValues.{value_of_cell, row_values}
+use Rattle.msi_table_values.specs.Values.{value_cmp}
 use Rattle.msi_table.specs.StoredOrder.{parts_where, ordering_cells, row_cmp}
-use Rattle.msi_value.specs.CellOrder.{cell_cmp}
+use Rattle.msi_table_values.specs.CellOrder.{cell_cmp}
 use Rattle.msi_table.specs.KeyOrder.{key_of, key_cmp}
 
 -- both orders compare the parts of rows as lists
@@ -32,12 +32,12 @@ nothing_left test [] = refl
 nothing_left test (c ∷ cs) = refl
 
 -- what a comparison says of the rest
-no_tie : (o rest : Ordering) → not (eqb (ordering_index o) 1) ≡ true → ordering_then o rest ≡ o
+pub no_tie : (o rest : Ordering) → not (eqb (ordering_index o) 1) ≡ true → ordering_then o rest ≡ o
 no_tie Less rest e = refl
 no_tie Equal rest e = cc
 no_tie Greater rest e = refl
 
-a_tie : (o rest : Ordering) → not (eqb (ordering_index o) 1) ≡ false → ordering_then o rest ≡ rest
+pub a_tie : (o rest : Ordering) → not (eqb (ordering_index o) 1) ≡ false → ordering_then o rest ≡ rest
 a_tie Less rest e = cc
 a_tie Equal rest e = refl
 a_tie Greater rest e = cc

@@ -1,10 +1,10 @@
 -- Rows that fit their columns fit them in stored order.
 use Rattle.std.proofs.Common.{List, arith}
-use Rattle.msi_value.specs.declared.column.ColumnType.{ColumnType}
-use Rattle.msi_value.specs.declared.value.ValueRef.{ValueRef}
-use Rattle.msi_value.specs.Columns.{ColumnDef}
+use Rattle.msi_table_values.specs.declared.column.ColumnType.{ColumnType}
+use Rattle.msi_table_values.specs.declared.value.ValueRef.{ValueRef}
+use Rattle.msi_table_values.specs.Columns.{ColumnDef}
 use Rattle.msi_table.specs.StoredOrder.{row_cmp, in_stored_order}
-use Rattle.msi_value.specs.Fitting.{FitsRow, FitsTable}
+use Rattle.msi_table_values.specs.Fitting.{FitsRow, FitsTable}
 use Rattle.msi_table.proofs.RowOrderLemmas.{row_cmp-weak}
 use Rattle.msi_table.proofs.StableSortLemmas.{all_sorted, length_sorted}
 use Rattle.std.proofs.Common.{Bool}

@@ -5,19 +5,19 @@ use Rattle.std.specs.List.{AllByRecursion}
 use Rattle.std.specs.List.Sorted.{IsSortedByKey}
 use Rattle.std.specs.Ordering.{is_lt, ordering_then}
 use Rattle.std.specs.declared.cmp.Ordering.TheVariants.{Less, Equal, Greater}
-use Rattle.msi_text.specs.Pool.{Place}
-use Rattle.msi_value.specs.declared.column.ColumnType.{ColumnType}
-use Rattle.msi_value.specs.declared.column.ColumnType.TheVariants as coltype
-use Rattle.msi_value.specs.declared.value.ValueRef.{ValueRef}
-use Rattle.msi_value.specs.declared.value.ValueRef.TheVariants as cell
-use Rattle.msi_value.specs.Fitting.{cell_of, FitsColumn, FitsRow}
-use Rattle.msi_value.specs.CellValues.{value_of_cell}
-use Rattle.msi_value.specs.Columns.{ColumnDef, types_of, is_of_category_binary}
+use Rattle.msi_text_pool.specs.Pool.{Place}
+use Rattle.msi_table_values.specs.declared.column.ColumnType.{ColumnType}
+use Rattle.msi_table_values.specs.declared.column.ColumnType.TheVariants as coltype
+use Rattle.msi_table_values.specs.declared.value.ValueRef.{ValueRef}
+use Rattle.msi_table_values.specs.declared.value.ValueRef.TheVariants as cell
+use Rattle.msi_table_values.specs.Fitting.{cell_of, FitsColumn, FitsRow}
+use Rattle.msi_table_values.specs.CellValues.{value_of_cell}
+use Rattle.msi_table_values.specs.Columns.{ColumnDef, types_of, is_of_category_binary}
 use Rattle.msi_table.specs.KeyOrder.{key_cmp}
 use Rattle.msi_table.specs.SortedRows.{HoldsNumbers, LeadingNumbersAscend, RowsAreSortedByKeys, StoredRowsAreSorted}
-use Rattle.msi_value.specs.CellOrder.{cell_cmp}
+use Rattle.msi_table_values.specs.CellOrder.{cell_cmp}
 use Rattle.msi_table.specs.StoredOrder.{in_stored_order, ordering_cells, row_cmp}
-use Rattle.msi_value.specs.Values.{value_cmp}
+use Rattle.msi_table_values.specs.Values.{value_cmp}
 use Rattle.msi_table.proofs.ReadBackLemmas.{all_at}
 use Rattle.msi_table.proofs.RowOrderLemmas.{row_cmp-weak, key_cmp-weak}
 use Rattle.msi_table.proofs.StableSortLemmas.{all_sorted, only_stable_sort}
@@ -66,7 +66,7 @@ numbers_alike places (cell.Int m) cell.Binary p q = absurd q
 numbers_alike places (cell.Str s) d p q = absurd p
 numbers_alike places cell.Binary d p q = absurd p
 
-first_not_less : (o rest : Ordering) → is_lt (ordering_then o rest) ≡ false → is_lt o ≡ false
+pub first_not_less : (o rest : Ordering) → is_lt (ordering_then o rest) ≡ false → is_lt o ≡ false
 first_not_less Less rest e = e
 first_not_less Equal rest e = refl
 first_not_less Greater rest e = refl

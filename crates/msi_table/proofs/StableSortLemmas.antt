@@ -8,25 +8,13 @@ use Rattle.std.specs.Cmp.{IsStrictWeakOrder}
 use Rattle.std.specs.Ordering.{is_lt}
 use Rattle.std.specs.Prelude.{slice_index_or, not, ◌&&◌, ⊤, OnOk, ◌↔◌, IsPermutation}
 use Rattle.std.proofs.lemmas.List.Sorted.{sorted_far, IsPermutation-refl, IsPermutation-sym, IsPermutation-trans, IsPermutation-cons, IsPermutation-middle}
-use Rattle.msi_text.specs.Lists.{placed, stable_sort}
+use Rattle.msi_text_base.specs.Lists.{placed, stable_sort}
+use Rattle.msi_text_base.proofs.BoolLemmas.{by_test, yes_is_no}
+use Rattle.msi_text_base.proofs.ListLemmas.{same_head, same_tail, filter_yes, filter_no, filter_same, all_weaker, all_from_places}
 use Rattle.msi_table.specs.SortedRows.{IsStableSort}
-
-same_head : {X : Type 0} (x y : X) (xs ys : List X) → x ∷ xs ≡ y ∷ ys → x ≡ y
-same_head x y xs ys e = cc
-
-same_tail : {X : Type 0} (x y : X) (xs ys : List X) → x ∷ xs ≡ y ∷ ys → xs ≡ ys
-same_tail x y xs ys e = cc
 
 no_cons : {X P : Type 0} (x : X) (xs : List X) → [] ≡ x ∷ xs → P
 no_cons x xs e = cc
-
-clash : {P : Type 0} (b : Bool) → b ≡ true → b ≡ false → P
-clash b p q = cc
-
--- the cases of a test, with what it answered
-by_test : {P : Type 0} (b : Bool) → (b ≡ true → P) → (b ≡ false → P) → P
-by_test true f g = f refl
-by_test false f g = g refl
 
 tie_from : (a b : Bool) → a ≡ false → b ≡ false → (not a && not b) ≡ true
 tie_from a b p q = rw (p, q)
@@ -40,14 +28,6 @@ tie_right true b e = cc
 tie_right false true e = cc
 tie_right false false e = refl
 
-all_from_places : {X : Type 0} (P : X → Type 0) (xs : List X) → ((k : ℕ) (d : X) → k < length xs → P (slice_index_or xs k d)) → AllByRecursion P xs
-all_from_places P [] f = tt
-all_from_places P (x ∷ xs) f = (f 0 x (omega arith), all_from_places P xs (λ k d h. f (suc k) d (omega arith)))
-
-all_weaker : {X : Type 0} (P Q : X → Type 0) (xs : List X) → ((x : X) → P x → Q x) → AllByRecursion P xs → AllByRecursion Q xs
-all_weaker P Q [] f h = tt
-all_weaker P Q (x ∷ xs) f h = (f x h.0, all_weaker P Q xs f h.1)
-
 -- the first that a filter keeps has what all have
 first_kept : {X : Type 0} (p : X → Bool) (Q : X → Type 0) (x : X) (rest xs : List X) → filter p xs ≡ x ∷ rest → AllByRecursion Q xs → Q x
 first_kept p Q x rest [] e h = no_cons x rest e
@@ -55,28 +35,19 @@ first_kept p Q x rest (y ∷ ys) e h = by_test (p y)
     (λ t. subst Q (same_head y x (filter p ys) rest (rw t at e)) h.0)
     (λ t. first_kept p Q x rest ys (rw t at e) h.1)
 
-filter_yes : {X : Type 0} (p : X → Bool) (x : X) (xs : List X) → p x ≡ true → filter p (x ∷ xs) ≡ x ∷ filter p xs
-filter_yes p x xs t = rw t
-
-filter_no : {X : Type 0} (p : X → Bool) (x : X) (xs : List X) → p x ≡ false → filter p (x ∷ xs) ≡ filter p xs
-filter_no p x xs t = rw t
-
-filter_same : {X : Type 0} (p : X → Bool) (x : X) (xs ys : List X) → filter p xs ≡ filter p ys → filter p (x ∷ xs) ≡ filter p (x ∷ ys)
-filter_same {X} p x xs ys e = by_test (p x) (λ t. rw t (ap (λ (l : List X). x ∷ l) e)) (λ t. rw t e)
-
 filter_tail : {X : Type 0} (p : X → Bool) (x : X) (xs ys : List X) → filter p (x ∷ xs) ≡ filter p (x ∷ ys) → filter p xs ≡ filter p ys
 filter_tail p x xs ys e = by_test (p x) (λ t. same_tail x x (filter p xs) (filter p ys) (rw t at e)) (λ t. rw t at e)
 
 -- none after is less
-abbrev IsUp : {X : Type 0} → (X → X → Bool) → List X → Type 0
-IsUp lt [] = ⊤
-IsUp lt (x ∷ xs) = AllByRecursion (λ y. lt y x ≡ false) xs × IsUp lt xs
+abbrev pub Ascends : {X : Type 0} → (X → X → Bool) → List X → Type 0
+Ascends lt [] = ⊤
+Ascends lt (x ∷ xs) = AllByRecursion (λ y. lt y x ≡ false) xs × Ascends lt xs
 
-up_from_far : {X : Type 0} (lt : X → X → Bool) (xs : List X) → ((i j : ℕ) (d : X) → i ≤ j → j < length xs → lt (slice_index_or xs j d) (slice_index_or xs i d) ≡ false) → IsUp lt xs
+up_from_far : {X : Type 0} (lt : X → X → Bool) (xs : List X) → ((i j : ℕ) (d : X) → i ≤ j → j < length xs → lt (slice_index_or xs j d) (slice_index_or xs i d) ≡ false) → Ascends lt xs
 up_from_far lt [] f = tt
 up_from_far lt (x ∷ xs) f = (all_from_places _ xs (λ k d h. f 0 (suc k) d (omega arith) (omega arith)), up_from_far lt xs (λ i j d h l. f (suc i) (suc j) d (omega arith) (omega arith)))
 
-next_from_up : {X : Type 0} (lt : X → X → Bool) (xs : List X) → IsUp lt xs → (k : ℕ) (d : X) → suc k < length xs → lt (slice_index_or xs (suc k) d) (slice_index_or xs k d) ≡ false
+next_from_up : {X : Type 0} (lt : X → X → Bool) (xs : List X) → Ascends lt xs → (k : ℕ) (d : X) → suc k < length xs → lt (slice_index_or xs (suc k) d) (slice_index_or xs k d) ≡ false
 next_from_up lt [] u k d h = absurd (omega arith)
 next_from_up lt (x ∷ []) u k d h = absurd (omega arith)
 next_from_up lt (x ∷ y ∷ ys) u zero d h = u.0.0
@@ -93,7 +64,7 @@ module _ {X : Type 0} (lt : X → X → Bool) (o : IsStrictWeakOrder lt) where
   tied x y p q = tie_from (lt x y) (lt y x) p q
 
   -- two ascending lists whose ties stand alike are one
-  same_sorted : (xs ys : List X) → IsUp lt xs → IsUp lt ys → ((t : X) → filter (ties lt t) xs ≡ filter (ties lt t) ys) → xs ≡ ys
+  same_sorted : (xs ys : List X) → Ascends lt xs → Ascends lt ys → ((t : X) → filter (ties lt t) xs ≡ filter (ties lt t) ys) → xs ≡ ys
   same_sorted [] [] u v e = refl
   same_sorted [] (y ∷ ys) u v e = no_cons y _ (e y ∙ filter_yes (ties lt y) y ys (tied_itself y))
   same_sorted (x ∷ xs) [] u v e = no_cons x _ (sym (e x) ∙ filter_yes (ties lt x) x xs (tied_itself x))
@@ -101,10 +72,25 @@ module _ {X : Type 0} (lt : X → X → Bool) (o : IsStrictWeakOrder lt) where
       (λ t. let same : x ≡ y = same_head x y _ _ (sym (filter_yes (ties lt x) x xs (tied_itself x)) ∙ e x ∙ filter_yes (ties lt x) y ys t) in
       ap (λ (l : List X). x ∷ l) (same_sorted xs ys u.1 v.1 (λ s. filter_tail (ties lt s) x xs ys (e s ∙ ap (λ (z : X). filter (ties lt s) (z ∷ ys)) (sym same)))) ∙ ap (λ (z : X). z ∷ ys) same)
       (λ t. by_test (ties lt y x)
-      (λ r. clash (ties lt x y) (tied x y (tie_right (lt y x) (lt x y) r) (tie_left (lt y x) (lt x y) r)) t)
-      (λ r. clash (ties lt x y) (tied x y
+      (λ r. yes_is_no (ties lt x y) (tied x y (tie_right (lt y x) (lt x y) r) (tie_left (lt y x) (lt x y) r)) t)
+      (λ r. yes_is_no (ties lt x y) (tied x y
       (first_kept (ties lt x) (λ w. lt w y ≡ false) x (filter (ties lt x) xs) ys (sym (filter_no (ties lt x) y ys t) ∙ sym (e x) ∙ filter_yes (ties lt x) x xs (tied_itself x)) v.0)
       (first_kept (ties lt y) (λ w. lt w x ≡ false) y (filter (ties lt y) ys) xs (sym (filter_no (ties lt y) x xs r) ∙ e y ∙ filter_yes (ties lt y) y ys (tied_itself y)) u.0)) t))
+
+-- a stable sort only moves elements
+module _ {X : Type 0} (cmp : X → X → Ordering) where
+  placed_moves : (x : X) (ys : List X) → IsPermutation (x ∷ ys) (placed cmp x ys)
+  placed_moves x [] = IsPermutation-refl (x ∷ [])
+  placed_moves x (y ∷ ys) = by_test (is_lt (cmp y x))
+      (λ t. rw t (IsPermutation-trans (x ∷ y ∷ ys) (y ∷ x ∷ ys) (y ∷ placed cmp x ys)
+      (IsPermutation-sym (y ∷ x ∷ ys) (x ∷ y ∷ ys) (IsPermutation-middle (y ∷ []) x ys))
+      (IsPermutation-cons y (x ∷ ys) (placed cmp x ys) (placed_moves x ys))))
+      (λ t. rw t (IsPermutation-refl (x ∷ y ∷ ys)))
+
+  pub sort_moves : (xs : List X) → IsPermutation xs (stable_sort cmp xs)
+  sort_moves [] = IsPermutation-refl []
+  sort_moves (x ∷ xs) = IsPermutation-trans (x ∷ xs) (x ∷ stable_sort cmp xs) (placed cmp x (stable_sort cmp xs))
+      (IsPermutation-cons x xs (stable_sort cmp xs) (sort_moves xs)) (placed_moves x (stable_sort cmp xs))
 
 module _ {X : Type 0} (cmp : X → X → Ordering) (o : IsStrictWeakOrder (λ x y. is_lt (cmp x y))) where
   abbrev below : X → X → Bool
@@ -114,13 +100,13 @@ module _ {X : Type 0} (cmp : X → X → Ordering) (o : IsStrictWeakOrder (λ x 
   all_placed P x [] p h = (p, tt)
   all_placed P x (y ∷ ys) p h = by_test (is_lt (cmp y x)) (λ t. rw t (h.0, all_placed P x ys p h.1)) (λ t. rw t (p, h))
 
-  up_placed : (x : X) (ys : List X) → IsUp below ys → IsUp below (placed cmp x ys)
+  up_placed : (x : X) (ys : List X) → Ascends below ys → Ascends below (placed cmp x ys)
   up_placed x [] u = (tt, tt)
   up_placed x (y ∷ ys) u = by_test (is_lt (cmp y x))
       (λ t. rw t (all_placed (λ w. below w y ≡ false) x ys (o.one_way y x t) u.0, up_placed x ys u.1))
       (λ t. rw t ((t, all_weaker (λ w. below w y ≡ false) (λ w. below w x ≡ false) ys (λ w h. o.chain w y x h t) u.0), u))
 
-  up_stable_sort : (xs : List X) → IsUp below (stable_sort cmp xs)
+  up_stable_sort : (xs : List X) → Ascends below (stable_sort cmp xs)
   up_stable_sort [] = tt
   up_stable_sort (x ∷ xs) = up_placed x (stable_sort cmp xs) (up_stable_sort xs)
 
@@ -128,7 +114,7 @@ module _ {X : Type 0} (cmp : X → X → Ordering) (o : IsStrictWeakOrder (λ x 
   swapped : (t x y : X) (zs : List X) → below y x ≡ true → filter (ties below t) (y ∷ x ∷ zs) ≡ filter (ties below t) (x ∷ y ∷ zs)
   swapped t x y zs h = by_test (ties below t x)
       (λ p. by_test (ties below t y)
-      (λ q. clash (below y x) h (o.chain y t x (tie_right (below t y) (below y t) q) (tie_left (below t x) (below x t) p)))
+      (λ q. yes_is_no (below y x) h (o.chain y t x (tie_right (below t y) (below y t) q) (tie_left (below t x) (below x t) p)))
       (λ q. filter_no (ties below t) y (x ∷ zs) q ∙ filter_same (ties below t) x zs (y ∷ zs) (sym (filter_no (ties below t) y zs q))))
       (λ p. filter_same (ties below t) y (x ∷ zs) zs (filter_no (ties below t) x zs p) ∙ sym (filter_no (ties below t) x (y ∷ zs) p))
 
@@ -153,23 +139,9 @@ module _ {X : Type 0} (cmp : X → X → Ordering) (o : IsStrictWeakOrder (λ x 
       (up_from_far below ys (λ i j d h l. sorted_far below o ys sorted i j d h l)) (up_stable_sort xs)
       (λ t. stable t ∙ sym (filter_stable_sort t xs))
 
-  -- a stable sort only moves elements
-  placed_moves : (x : X) (ys : List X) → IsPermutation (x ∷ ys) (placed cmp x ys)
-  placed_moves x [] = IsPermutation-refl (x ∷ [])
-  placed_moves x (y ∷ ys) = by_test (is_lt (cmp y x))
-      (λ t. rw t (IsPermutation-trans (x ∷ y ∷ ys) (y ∷ x ∷ ys) (y ∷ placed cmp x ys)
-      (IsPermutation-sym (y ∷ x ∷ ys) (x ∷ y ∷ ys) (IsPermutation-middle (y ∷ []) x ys))
-      (IsPermutation-cons y (x ∷ ys) (placed cmp x ys) (placed_moves x ys))))
-      (λ t. rw t (IsPermutation-refl (x ∷ y ∷ ys)))
-
-  sort_moves : (xs : List X) → IsPermutation xs (stable_sort cmp xs)
-  sort_moves [] = IsPermutation-refl []
-  sort_moves (x ∷ xs) = IsPermutation-trans (x ∷ xs) (x ∷ stable_sort cmp xs) (placed cmp x (stable_sort cmp xs))
-      (IsPermutation-cons x xs (stable_sort cmp xs) (sort_moves xs)) (placed_moves x (stable_sort cmp xs))
-
   stable_sort_is : (xs : List X) → IsStableSort cmp xs (stable_sort cmp xs)
   stable_sort_is xs = record {
-    moved = sort_moves xs;
+    moved = sort_moves cmp xs;
     ascends = λ k d l h. let e : k + 1 ≡ suc k = omega arith in rw e (next_from_up below (stable_sort cmp xs) (up_stable_sort xs) k d (omega arith));
     stable = λ t. filter_stable_sort t xs;
   }

@@ -1,11 +1,11 @@
 -- Worked examples, by computation.
 use Rattle.std.specs.Prelude.{◌≡◌, true, false, List, [], ◌∷◌, Some, refl, codes, map, pos, negsuc}
-use Rattle.msi_value.specs.declared.column.ColumnType.{ColumnType}
-use Rattle.msi_value.specs.declared.column.ColumnType.TheVariants as coltype
-use Rattle.msi_value.specs.declared.value.ValueRef.{ValueRef}
-use Rattle.msi_value.specs.declared.value.ValueRef.TheVariants as cell
-use Rattle.msi_value.specs.Columns.{ColumnDef}
-use Rattle.msi_value.proofs.WorkedRows.{plain, number, word}
+use Rattle.msi_table_values.specs.declared.column.ColumnType.{ColumnType}
+use Rattle.msi_table_values.specs.declared.column.ColumnType.TheVariants as coltype
+use Rattle.msi_table_values.specs.declared.value.ValueRef.{ValueRef}
+use Rattle.msi_table_values.specs.declared.value.ValueRef.TheVariants as cell
+use Rattle.msi_table_values.specs.Columns.{ColumnDef}
+use Rattle.msi_table_values.proofs.WorkedRows.{plain, number, word}
 use Rattle.msi_table.specs.Cells.{cell_bytes, cell_in, table_bytes, rows_in}
 use Rattle.msi_table.specs.StoredOrder.{in_stored_order}
 

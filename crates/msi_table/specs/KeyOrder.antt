@@ -3,14 +3,14 @@ use Rattle.std.specs.Prelude.{Bool, List}
 use Rattle.std.specs.Ordering.{is_eq}
 use Rattle.std.specs.declared.cmp.Ordering.{Ordering}
 use Rattle.std.specs.Cmp.Lexicographic.{slice_cmp}
-use Rattle.msi_text.specs.Lists.{stable_sort}
-use Rattle.msi_text.specs.Pool.{Place}
-use Rattle.msi_value.specs.declared.value.ValueRef.{ValueRef}
-use Rattle.msi_value.specs.declared.value.Value.{Value}
-use Rattle.msi_value.specs.Values.{value_cmp}
-use Rattle.msi_value.specs.Columns.{ColumnDef}
+use Rattle.msi_text_base.specs.Lists.{stable_sort}
+use Rattle.msi_text_pool.specs.Pool.{Place}
+use Rattle.msi_table_values.specs.declared.value.ValueRef.{ValueRef}
+use Rattle.msi_table_values.specs.declared.value.Value.{Value}
+use Rattle.msi_table_values.specs.Values.{value_cmp}
+use Rattle.msi_table_values.specs.Columns.{ColumnDef}
 use Rattle.msi_table.specs.StoredOrder.{parts_where}
-use Rattle.msi_value.specs.CellValues.{row_values}
+use Rattle.msi_table_values.specs.CellValues.{row_values}
 
 -- the values of a row's key columns
 abbrev pub key_of : List ColumnDef → List Value → List Value

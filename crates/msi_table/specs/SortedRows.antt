@@ -3,16 +3,16 @@ use Rattle.std.specs.Prelude.{◌≡◌, ◌⊎◌, ◌↔◌, Bool, false, List
 use Rattle.std.specs.List.{AllByRecursion}
 use Rattle.std.specs.List.Sorted.{IsSorted, IsSortedByKey, IsStable}
 use Rattle.std.specs.declared.cmp.Ordering.{Ordering}
-use Rattle.msi_text.specs.Pool.{Place}
-use Rattle.msi_value.specs.declared.column.ColumnType.{ColumnType}
-use Rattle.msi_value.specs.declared.column.ColumnType.TheVariants as coltype
-use Rattle.msi_value.specs.declared.value.ValueRef.{ValueRef}
-use Rattle.msi_value.specs.Fitting.{cell_of, FitsRow}
-use Rattle.msi_value.specs.CellValues.{value_of_cell}
-use Rattle.msi_value.specs.Columns.{ColumnDef, types_of, is_of_category_binary}
+use Rattle.msi_text_pool.specs.Pool.{Place}
+use Rattle.msi_table_values.specs.declared.column.ColumnType.{ColumnType}
+use Rattle.msi_table_values.specs.declared.column.ColumnType.TheVariants as coltype
+use Rattle.msi_table_values.specs.declared.value.ValueRef.{ValueRef}
+use Rattle.msi_table_values.specs.Fitting.{cell_of, FitsRow}
+use Rattle.msi_table_values.specs.CellValues.{value_of_cell}
+use Rattle.msi_table_values.specs.Columns.{ColumnDef, types_of, is_of_category_binary}
 use Rattle.msi_table.specs.KeyOrder.{in_key_order, key_cmp}
 use Rattle.msi_table.specs.StoredOrder.{in_stored_order, row_cmp}
-use Rattle.msi_value.specs.Values.{value_cmp}
+use Rattle.msi_table_values.specs.Values.{value_cmp}
 
 -- the same elements, none less than the one before it, and those that tie as they stood
 pub record IsStableSort {X : Type 0} (cmp : X → X → Ordering) (xs sorted : List X) : Type 0 where

@@ -2,10 +2,10 @@
 use Rattle.std.specs.Prelude.{Bool, not, if◌then◌else◌, List, [], ◌∷◌}
 use Rattle.std.specs.declared.cmp.Ordering.{Ordering}
 use Rattle.std.specs.Cmp.Lexicographic.{slice_cmp}
-use Rattle.msi_text.specs.Lists.{stable_sort}
-use Rattle.msi_value.specs.declared.value.ValueRef.{ValueRef}
-use Rattle.msi_value.specs.CellOrder.{cell_cmp}
-use Rattle.msi_value.specs.Columns.{ColumnDef, is_of_category_binary}
+use Rattle.msi_text_base.specs.Lists.{stable_sort}
+use Rattle.msi_table_values.specs.declared.value.ValueRef.{ValueRef}
+use Rattle.msi_table_values.specs.CellOrder.{cell_cmp}
+use Rattle.msi_table_values.specs.Columns.{ColumnDef, is_of_category_binary}
 
 -- the cells beside the columns that a test takes
 abbrev pub parts_where : {X : Type 0} → (ColumnDef → Bool) → List ColumnDef → List X → List X

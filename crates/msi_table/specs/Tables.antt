@@ -1,9 +1,9 @@
 -- Tables and the bytes of their streams.
 use Rattle.std.specs.Prelude.{◌≡◌, ℕ, ◌<◌, Bool, List, length, Option, Some, None, All, nat_le, if◌then◌else◌}
-use Rattle.msi_value.specs.declared.value.ValueRef.{ValueRef}
+use Rattle.msi_table_values.specs.declared.value.ValueRef.{ValueRef}
 use Rattle.msi_table.specs.Cells.{rows_in, table_bytes}
-use Rattle.msi_value.specs.Columns.{ColumnDef, greatest_16, types_of}
-use Rattle.msi_value.specs.Fitting.{FitsTable}
+use Rattle.msi_table_values.specs.Columns.{ColumnDef, greatest_16, types_of}
+use Rattle.msi_table_values.specs.Fitting.{FitsTable}
 use Rattle.msi_table.specs.Rows.{AreAsWide}
 use Rattle.msi_table.specs.StoredOrder.{in_stored_order}
 

@@ -3,10 +3,10 @@
 ghost use Rattle.std.specs.Prelude.{◌≡◌, ◌<◌, ◌≤◌, ◌+◌, ◌^◌, length, take, drop};
 ghost use Rattle.msi_table.specs.Cells.{width as width_of, cell_of_number, cell_in};
 
+use msi_table_values::column::ColumnType;
+use msi_table_values::value::ValueRef;
 use msi_text::fields::number_of;
 use msi_text::parts::string_ref;
-use msi_value::column::ColumnType;
-use msi_value::value::ValueRef;
 
 /// How many bytes a cell of a column takes.
 pub(crate) fn width(long: bool, coltype: ColumnType) -> usize
@@ -33,7 +33,7 @@ fn number_cell(middle: u32, number: u64) -> ValueRef
     ValueRef::Int((number as i64 - middle as i64) as i32)
 }
 
-/// The cell that bytes of its width spell.
+/// The cell that bytes of its width encode.
 fn cell_of(long: bool, coltype: ColumnType, bytes: &[u8]) -> ValueRef
     requires { length bytes.now ≡ width_of long coltype }
     ensures { result ≡ cell_in coltype bytes.now }

@@ -1,9 +1,9 @@
-//! What holds of the definitions themselves: each law is what a function that does nothing ensures.
+//! Laws of the definitions themselves: each is the contract of a function that does nothing.
 
 ghost use Rattle.msi_table.specs.SortedRows.{LeadingNumbersAscend, RowsAreSortedByKeys, StoredRowsAreSorted};
 ghost use Rattle.msi_table.specs.Tables.{ReadRowsFit};
 
-pub use msi_value::laws::{
+pub use msi_table_values::laws::{
     cells_are_ordered, removing_keeps_values, stored_values_come_back, storing_keeps_values,
     type_bits_come_back, valid_values_fit, values_are_ordered,
 };
@@ -18,7 +18,8 @@ pub fn rows_are_sorted_by_keys()
     ensures { RowsAreSortedByKeys }
 {}
 
-/// Rows that fit ascend in stored order by their first column where it holds numbers, unless it is of category Binary.
+/// Rows that fit ascend in stored order by their first column where it holds numbers, unless it is of category
+/// Binary.
 pub fn leading_numbers_ascend()
     ensures { LeadingNumbersAscend }
 {}

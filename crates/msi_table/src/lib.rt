@@ -1,4 +1,4 @@
-//! Tables: the cells of a table's stream, their order, and the rows that callers see, over values and columns.
+//! Tables: reads and writes the rows of a table's stream, and shows them to callers as values.
 #![tactic(auto)]
 
 mod cells;
@@ -11,8 +11,8 @@ mod rows;
 pub mod table;
 mod writing;
 
-pub use msi_value::column::{Column, ColumnBuilder, ColumnType};
-pub use msi_value::value::{Value, ValueRef};
-pub use msi_value::{column, value};
+pub use msi_table_values::column::{Column, ColumnBuilder, ColumnType};
+pub use msi_table_values::value::{Value, ValueRef};
+pub use msi_table_values::{column, value};
 pub use row::{Row, Rows};
 pub use table::Table;

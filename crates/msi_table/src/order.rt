@@ -3,18 +3,18 @@
 ghost use Rattle.std.specs.Prelude.{◌≡◌, OnOk, OnErr, option_map};
 ghost use Rattle.std.specs.List.{slice_get};
 ghost use Rattle.std.specs.Option.{option_cmp};
-ghost use Rattle.msi_text.specs.Results.{OnlyMemory};
-ghost use Rattle.msi_value.specs.CellValues.{value_of_cell};
+ghost use Rattle.msi_text_base.specs.Results.{OnlyMemory};
+ghost use Rattle.msi_table_values.specs.CellValues.{value_of_cell};
 ghost use Rattle.msi_table.specs.KeyOrder.{key_cmp, in_key_order};
 ghost use Rattle.msi_table.specs.StoredOrder.{row_cmp, in_stored_order};
-ghost use Rattle.msi_value.specs.Values.{value_cmp};
+ghost use Rattle.msi_table_values.specs.Values.{value_cmp};
 
+use msi_table_values::column::Column;
+use msi_table_values::parts::{compare_values, is_of_category_binary};
+use msi_table_values::value::ValueRef;
 use msi_text::errors::Error;
 use msi_text::stringpool::StringPool;
 use msi_text::text::Items;
-use msi_value::column::Column;
-use msi_value::parts::{compare_values, is_of_category_binary};
-use msi_value::value::ValueRef;
 use std::alloc::AllocError;
 use std::cmp::Ordering;
 
@@ -25,8 +25,8 @@ fn cell_of(row: &[ValueRef], i: usize) -> Option<ValueRef>
     row.get(i).copied()
 }
 
-/// The first cell that differs decides, skipping columns of category Binary. Where a row ends before, its missing cells
-/// come first.
+/// The first cell that differs decides, skipping columns of category Binary. Where a row ends before, its missing
+/// cells come first.
 fn compare_rows(columns: &[Column], row: &[ValueRef], other: &[ValueRef]) -> Ordering
     ensures { result ≡ row_cmp columns.now row.now other.now }
 {
@@ -74,9 +74,9 @@ fn compare_if_present(
     }
 }
 
-/// How the keys of two rows stand to one another: the first value of a key column that differs decides. Where a row
-/// ends before, its missing values come first. No text is copied.
-pub fn compare_keys(
+/// Compares the keys of two rows: the first value of a key column that differs decides. Where a row ends before, its
+/// missing values come first. No text is copied.
+fn compare_keys(
     columns: &[Column],
     pool: &StringPool,
     row: &[ValueRef],
@@ -96,10 +96,10 @@ pub fn compare_keys(
     Ordering::Equal
 }
 
-/// Puts rows into the order of their keys; rows with one key stay in their order. When refused, they are as before.
+/// Puts rows into the order of their keys; rows with one key stay in their order. If it fails, they are as before.
 ///
 /// # Errors
-/// `OutOfMemory`.
+/// Fails with `OutOfMemory`.
 pub fn sort_by_keys(
     columns: &[Column],
     pool: &StringPool,

@@ -1,45 +1,45 @@
 //! What the crates above need beyond the surface.
 
 ghost use Rattle.std.specs.Prelude.{◌≡◌, ◌<◌, ◌≤◌, ◌↔◌, IfOk, IsTrue, Some, is_some, length, option_copied};
-ghost use Rattle.msi_text.specs.Results.{OnlyMemory};
-ghost use Rattle.msi_text.specs.ErrorKind.TheVariants.{InvalidData};
-ghost use Rattle.msi_value.specs.Refusals.{FailsWith};
-ghost use Rattle.msi_value.specs.CellValues.{row_values};
-ghost use Rattle.msi_value.specs.Columns.{has_column as has_one};
+ghost use Rattle.msi_text_base.specs.Results.{OnlyMemory};
+ghost use Rattle.msi_text_base.specs.declared.errors.ErrorKind.TheVariants.{InvalidData};
+ghost use Rattle.msi_table_values.specs.Refusals.{FailsWith};
+ghost use Rattle.msi_table_values.specs.CellValues.{row_values};
+ghost use Rattle.msi_table_values.specs.Columns.{has_column as has_one};
 ghost use Rattle.msi_table.specs.Tables.{CanStore, rows_spelled, stored_bytes, table_of};
 ghost use Rattle.msi_table.specs.Rows.{AreAsWide, value_named as value_in_row};
 ghost use Rattle.msi_table.specs.StoredOrder.{in_stored_order};
 
-pub use crate::order::{compare_keys, sort_by_keys};
+pub use crate::order::sort_by_keys;
 use crate::row::{Row, Rows, values_of};
 use crate::table::Table;
 use crate::{rows as reading, writing};
+use msi_table_values::column::Column;
+use msi_table_values::parts as columns_and_values;
+pub use msi_table_values::parts::{
+    MAX_ROWS, ValueView, column_index, column_of_bits, compare_values, copied_columns, copied_list,
+    has_column, nullable, renamed, type_bits,
+};
+use msi_table_values::value::{Value, ValueRef};
 use msi_text::errors::Error;
 use msi_text::stringpool::StringPool;
 use msi_text::text::{Items, Text};
-use msi_value::column::Column;
-use msi_value::parts as columns_and_values;
-pub use msi_value::parts::{
-    column_index, column_of_bits, compare_values, copied_columns, copied_list, copied_texts,
-    has_column, nullable, renamed, type_bits, type_of_bits,
-};
-use msi_value::value::{Value, ValueRef};
 use std::alloc::Global;
 use std::rc::Rc;
 
-/// A table of its parts, where its columns are at most 32767: their numbers are stored in 16 bits. References to texts
-/// take three bytes where they are long, else two.
+/// Returns a table of its parts, if its columns are at most 32767: their numbers are stored in 16 bits. References to
+/// texts take three bytes if they are long, and otherwise two.
 pub fn table(name: Text, columns: Items<Column>, long: bool) -> Option<Table>
     ensures { result ≡ table_of name columns long }
 {
     Table::of_parts(name, columns, long)
 }
 
-/// The rows that the bytes of a table's stream spell; bytes past the last whole row are ignored. Each row has a cell
-/// for each column, and a table that has a column can store them.
+/// Returns the rows that the bytes of a table's stream encode; bytes past the last whole row are ignored. Each row
+/// has a cell for each column, and a table that has a column can store them.
 ///
 /// # Errors
-/// `InvalidData` above 65536 rows; `OutOfMemory`.
+/// Fails with `InvalidData` above 65536 rows, or with `OutOfMemory`.
 pub fn read_rows(alloc: Global, table: &Table, bytes: &[u8]) -> Result<Vec<Items<ValueRef>>, Error>
     ensures ok { IfOk result (λ rows. rows_spelled table.now bytes.now ≡ Some rows.items) }
     ensures wide { IfOk result (λ rows. AreAsWide table.now.columns rows.items) }
@@ -49,19 +49,19 @@ pub fn read_rows(alloc: Global, table: &Table, bytes: &[u8]) -> Result<Vec<Items
     reading::read_rows(alloc, table.is_long(), table.columns(), bytes)
 }
 
-/// Whether a table can store rows: it has a column, they are at most 65536, and each has a cell for each column, which
-/// the column can store.
+/// Returns whether a table can store rows: it has a column, they are at most 65536, and each has for each column a
+/// cell that the column can store.
 pub fn fits_table(table: &Table, rows: &[Items<ValueRef>]) -> bool
     ensures { IsTrue result ↔ CanStore table.now rows.now }
 {
     columns_and_values::fits_table(table.is_long(), table.columns(), rows)
 }
 
-/// The bytes of a table's rows in their stored order, which read back. `fits_table` has to tell that the table can
-/// store the rows.
+/// Returns the bytes of a table's rows in their stored order, which read back. The table has to be able to store the
+/// rows, which `fits_table` checks.
 ///
 /// # Errors
-/// `OutOfMemory`.
+/// Fails with `OutOfMemory`.
 pub fn write_rows(
     alloc: Global,
     table: &Table,
@@ -76,10 +76,10 @@ pub fn write_rows(
     writing::write_rows(alloc, table.is_long(), table.columns(), rows)
 }
 
-/// The values that cells stand for, in order.
+/// Returns the values that cells stand for, in order.
 ///
 /// # Errors
-/// `OutOfMemory`.
+/// Fails with `OutOfMemory`.
 pub fn values(alloc: Global, pool: &StringPool, cells: &[ValueRef]) -> Result<Items<Value>, Error>
     ensures ok { IfOk result (λ values. values ≡ row_values pool.now.places cells.now) }
     ensures kind { OnlyMemory result }
@@ -87,7 +87,8 @@ pub fn values(alloc: Global, pool: &StringPool, cells: &[ValueRef]) -> Result<It
     values_of(alloc, pool, cells)
 }
 
-/// The value of the column of a name in a row, unless the row has no such column; of a repeated name the first.
+/// Returns the value of the column of a name in a row, unless the row has no such column; of a repeated name the
+/// first.
 pub fn value_named<'a>(row: &'a Row, name: &str) -> Option<&'a Value>
     ensures value { option_copied result ≡ value_in_row name.now row.now }
     ensures found { is_some result ≡ has_one name.now row.now.columns }
@@ -95,7 +96,7 @@ pub fn value_named<'a>(row: &'a Row, name: &str) -> Option<&'a Value>
     row.value_named(name)
 }
 
-/// A row of a value for each column.
+/// Returns a row of a value for each column.
 pub fn row(columns: Rc<Items<Column>>, values: Items<Value>) -> Row
     requires { length values ≡ length columns.value }
     ensures { result ≡ record { columns = columns.value; values = values } }
@@ -103,10 +104,10 @@ pub fn row(columns: Rc<Items<Column>>, values: Items<Value>) -> Row
     Row::new(columns, values)
 }
 
-/// Rows that have a cell for each column, over the pool of their texts.
+/// Returns rows that have a cell for each column, over the pool of their texts.
 ///
 /// # Errors
-/// `OutOfMemory`.
+/// Fails with `OutOfMemory`.
 pub fn rows<'a>(
     alloc: Global,
     pool: &'a StringPool,

@@ -2,17 +2,17 @@
 
 ghost use Rattle.std.specs.Prelude.{◌≡◌, ◌<◌, ◌==◌, IsTrue, IfOk, Some, is_some, length, slice_get, option_copied};
 ghost use Rattle.std.specs.Iterator.{at_most};
-ghost use Rattle.msi_text.specs.Results.{OnlyMemory};
-ghost use Rattle.msi_value.specs.Columns.{has_column as has_one};
+ghost use Rattle.msi_text_base.specs.Results.{OnlyMemory};
+ghost use Rattle.msi_table_values.specs.Columns.{has_column as has_one};
 ghost use Rattle.msi_table.specs.Rows.{AreAsWide, GivesRow, value_named};
-ghost use Rattle.msi_value.specs.CellValues.{row_values};
+ghost use Rattle.msi_table_values.specs.CellValues.{row_values};
 
+use msi_table_values::column::Column;
+use msi_table_values::parts::{column_index, has_column};
+use msi_table_values::value::{Value, ValueRef};
 use msi_text::errors::Error;
 use msi_text::stringpool::StringPool;
 use msi_text::text::Items;
-use msi_value::column::Column;
-use msi_value::parts::{column_index, has_column};
-use msi_value::value::{Value, ValueRef};
 use std::alloc::Global;
 use std::marker::Model;
 use std::ops::Index;
@@ -45,21 +45,21 @@ impl Row {
         Row { columns, values }
     }
 
-    /// How many values the row has.
+    /// Returns how many values the row has.
     pub fn len(&self) -> usize
         ensures { result ≡ length self.now.values }
     {
         self.values.as_slice().len()
     }
 
-    /// Whether the row has no value.
+    /// Returns whether the row has no value.
     pub fn is_empty(&self) -> bool
         ensures { result ≡ (length self.now.values == 0) }
     {
         self.len() == 0
     }
 
-    /// The columns of the row's values.
+    /// Returns the columns of the row's values.
     pub fn columns(&self) -> &[Column]
         ensures columns { result.now ≡ self.now.columns }
         ensures len { length self.now.columns ≡ length self.now.values }
@@ -67,10 +67,10 @@ impl Row {
         self.columns.as_slice()
     }
 
-    /// The row once more.
+    /// Returns a copy of the row.
     ///
     /// # Errors
-    /// `OutOfMemory`.
+    /// Fails with `OutOfMemory`.
     pub fn clone(&self, alloc: Global) -> Result<Row, Error>
         ensures ok { IfOk result (λ row. row ≡ self.now) }
         ensures kind { OnlyMemory result }
@@ -82,7 +82,7 @@ impl Row {
         })
     }
 
-    /// Whether the row has a column of this name.
+    /// Returns whether the row has a column of this name.
     pub fn has_column(&self, name: &str) -> bool
         ensures { result ≡ has_one name.now self.now.columns }
     {
@@ -114,7 +114,7 @@ impl Index<usize> for Row {
     }
 }
 
-/// The value of the column of a name, which `has_column` has to tell; of a repeated name the first.
+/// The value of the column of a name, which has to be there (`has_column`); of a repeated name the first.
 impl<'a> Index<&'a str> for Row {
     type Output = Value;
 
@@ -183,7 +183,7 @@ fn row_of(
     Ok(Row::new(columns.clone()?, values))
 }
 
-/// Rows, each of which is given once. After a growth that was refused none is left.
+/// Rows, each of which is returned once. After `OutOfMemory` none is left.
 #[derive(Drop)]
 pub struct Rows<'a> {
     alloc: Global,
@@ -234,14 +234,14 @@ impl<'a> Rows<'a> {
         })
     }
 
-    /// The columns of the rows.
+    /// Returns the columns of the rows.
     pub fn columns(&self) -> &[Column]
         ensures { result.now ≡ self.now.columns }
     {
         self.columns.as_slice()
     }
 
-    /// How many rows are left.
+    /// Returns how many rows are left.
     pub fn len(&self) -> usize
         ensures { result ≡ length self.now.rows }
     {

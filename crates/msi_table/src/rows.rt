@@ -1,23 +1,21 @@
 //! The rows of a table's stream.
 
 ghost use Rattle.std.specs.Prelude.{◌≡◌, ◌<◌, ◌≤◌, length, sum, IfOk, Some};
-ghost use Rattle.msi_text.specs.Results.{OnlyMemory};
-ghost use Rattle.msi_text.specs.ErrorKind.TheVariants.{InvalidData};
+ghost use Rattle.msi_text_base.specs.Results.{OnlyMemory};
+ghost use Rattle.msi_text_base.specs.declared.errors.ErrorKind.TheVariants.{InvalidData};
 ghost use Rattle.msi_table.specs.Cells.{widths, row_count as count_of, row_in, rows_in};
 ghost use Rattle.msi_table.specs.Tables.{most_columns};
-ghost use Rattle.msi_value.specs.Columns.{types_of};
-ghost use Rattle.msi_value.specs.Refusals.{FailsWith};
+ghost use Rattle.msi_table_values.specs.Columns.{types_of};
+ghost use Rattle.msi_table_values.specs.Refusals.{FailsWith};
 
 use crate::cells::{read_cell, width};
 use crate::reasons;
+use msi_table_values::column::Column;
+use msi_table_values::parts::MAX_ROWS;
+use msi_table_values::value::ValueRef;
 use msi_text::errors::{Error, ErrorKind};
 use msi_text::text::Items;
-use msi_value::column::Column;
-use msi_value::value::ValueRef;
 use std::alloc::Global;
-
-/// The most rows that are read.
-const MOST_ROWS: usize = 65536;
 
 /// How many bytes a row takes.
 fn row_width(long: bool, columns: &[Column]) -> usize
@@ -69,7 +67,7 @@ fn read_row(
     Ok(Items::from_vec(row))
 }
 
-/// The rows that the bytes of a stream spell.
+/// The rows that the bytes of a stream encode.
 pub(crate) fn read_rows(
     alloc: Global,
     long: bool,
@@ -81,7 +79,7 @@ pub(crate) fn read_rows(
     ensures kind { FailsWith InvalidData result (rows_in long (types_of columns.now) bytes.now) }
 {
     let count = row_count(long, columns, bytes);
-    if count > MOST_ROWS {
+    if count > MAX_ROWS {
         return Err(Error::new(ErrorKind::InvalidData, reasons::ROWS_MANY));
     }
     let mut rows = Vec::new(alloc);

@@ -1,19 +1,19 @@
 //! Tables.
 
 ghost use Rattle.std.specs.Prelude.{◌≡◌, ◌≤◌, IfOk, length, option_copied};
-ghost use Rattle.msi_text.specs.Results.{OnlyMemory};
-ghost use Rattle.msi_value.specs.Columns.{column_named, has_column as has_one, key_places};
+ghost use Rattle.msi_text_base.specs.Results.{OnlyMemory};
+ghost use Rattle.msi_table_values.specs.Columns.{column_named, has_column as has_one, key_places};
 ghost use Rattle.msi_table.specs.Tables.{most_columns, table_of};
 
+use msi_table_values::column::Column;
+use msi_table_values::parts::{column_index, copied_columns, has_column};
 use msi_text::errors::Error;
 use msi_text::text::{Items, Text};
-use msi_value::column::Column;
-use msi_value::parts::{column_index, copied_columns, has_column};
 use std::alloc::Global;
 use std::marker::Model;
 
 /// The most columns of a table: their numbers are stored in 16 bits.
-const MOST_COLUMNS: usize = 32767;
+pub const MAX_COLUMNS: usize = 32_767;
 
 /// A table's name and columns, and whether its references to texts are long.
 #[derive(Drop)]
@@ -39,7 +39,7 @@ impl Table {
     pub(crate) fn of_parts(name: Text, columns: Items<Column>, long: bool) -> Option<Table>
         ensures { result ≡ table_of name columns long }
     {
-        if columns.len() > MOST_COLUMNS {
+        if columns.len() > MAX_COLUMNS {
             return None;
         }
         Some(Table {
@@ -49,14 +49,14 @@ impl Table {
         })
     }
 
-    /// The table's name.
+    /// Returns the table's name.
     pub fn name(&self) -> &str
         ensures { result.now ≡ self.now.name }
     {
         self.name.as_str()
     }
 
-    /// The table's columns, in order.
+    /// Returns the table's columns, in order.
     pub fn columns(&self) -> &[Column]
         ensures columns { result.now ≡ self.now.columns }
         ensures few { length self.now.columns ≤ most_columns }
@@ -71,14 +71,14 @@ impl Table {
         self.long
     }
 
-    /// Whether the table has a column of this name.
+    /// Returns whether the table has a column of this name.
     pub fn has_column(&self, name: &str) -> bool
         ensures { result ≡ has_one name.now self.now.columns }
     {
         has_column(self.columns(), name)
     }
 
-    /// The column of this name, where there is one; of a repeated name the first.
+    /// Returns the column of this name, if there is one; of a repeated name the first.
     pub fn get_column(&self, name: &str) -> Option<&Column>
         ensures { option_copied result ≡ column_named name.now self.now.columns }
     {
@@ -89,10 +89,10 @@ impl Table {
         }
     }
 
-    /// Where the key columns stand, from 0 on.
+    /// Returns the indices of the key columns, from 0 on.
     ///
     /// # Errors
-    /// `OutOfMemory`.
+    /// Fails with `OutOfMemory`.
     pub fn primary_key_indices(&self, alloc: Global) -> Result<Vec<usize>, Error>
         ensures ok { IfOk result (λ places. places.items ≡ key_places self.now.columns) }
         ensures kind { OnlyMemory result }
@@ -107,10 +107,10 @@ impl Table {
         Ok(places)
     }
 
-    /// The table once more.
+    /// Returns a copy of the table.
     ///
     /// # Errors
-    /// `OutOfMemory`.
+    /// Fails with `OutOfMemory`.
     pub fn clone(&self, alloc: Global) -> Result<Table, Error>
         ensures ok { IfOk result (λ table. table ≡ self.now) }
         ensures kind { OnlyMemory result }

@@ -2,20 +2,20 @@
 
 ghost use Rattle.std.specs.Prelude.{◌≡◌, ℕ, ◌<◌, ◌++◌, length, OnOk, IfOk, slice_index_or, [], Some};
 ghost use Rattle.std.specs.List.{flat_map};
-ghost use Rattle.msi_text.specs.Results.{OnlyMemory};
+ghost use Rattle.msi_text_base.specs.Results.{OnlyMemory};
 ghost use Rattle.msi_table.specs.Cells.{cell_bytes, table_bytes, rows_in, stored_number};
-ghost use Rattle.msi_value.specs.Fitting.{cell_of, FitsColumn, FitsTable};
-ghost use Rattle.msi_value.specs.Columns.{types_of};
+ghost use Rattle.msi_table_values.specs.Fitting.{cell_of, FitsColumn, FitsTable};
+ghost use Rattle.msi_table_values.specs.Columns.{types_of};
 ghost use Rattle.msi_table.specs.StoredOrder.{in_stored_order};
 ghost use Rattle.msi_table.specs.Tables.{stored_bytes};
 
 use crate::cells::width;
 use crate::order::sort_rows;
+use msi_table_values::column::{Column, ColumnType};
+use msi_table_values::value::ValueRef;
 use msi_text::errors::Error;
 use msi_text::parts::place_number;
 use msi_text::text::Items;
-use msi_value::column::{Column, ColumnType};
-use msi_value::value::ValueRef;
 use std::alloc::Global;
 
 /// The number whose bytes a cell takes, where it fits its column.

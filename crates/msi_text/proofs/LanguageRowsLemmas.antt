@@ -1,5 +1,5 @@
 -- What the rows of languages have in common, and what is found in them.
-use Rattle.std.proofs.Common.{◌≡◌, ℕ, zero, suc, ◌<◌, Bool, true, false, ◌&&◌, ◌==◌, nat_lt, List, [], ◌∷◌, length, get_or, map, find, Some, None, Result, Ok, Err, MatchResult, codes, if◌then◌else◌, refl, sym, ◌∙◌, ap, subst, arith, bytes_eq, Bor, inl, inr}
+use Rattle.std.proofs.Common.{◌≡◌, ℕ, zero, suc, ◌<◌, Bool, true, false, ◌&&◌, ◌==◌, nat_lt, List, [], ◌∷◌, length, get_or, map, find, None, Result, Ok, Err, MatchResult, codes, refl, sym, ◌∙◌, ap, subst, arith, bytes_eq, Bor, inl, inr}
 use Rattle.std.specs.List.{list_all, Contains}
 use Rattle.std.specs.List.Sorted.{IsStrictlyIncreasing, IsSearchInRange, IsBinarySearchResult, IsNonDecreasingBy}
 use Rattle.std.specs.Option.{option_map, option_map_or}
@@ -14,6 +14,7 @@ use Rattle.std.proofs.lemmas.List.Elements.{All-contains}
 use Rattle.std.proofs.lemmas.List.Kept.{AllPairs-from_increasing}
 use Rattle.std.proofs.lemmas.List.Sums.{AllPass-from_list_all}
 use Rattle.std.proofs.lemmas.Slice.Eq.{bytes_eq-Decides}
+use Rattle.msi_text_base.proofs.ListLemmas.{find-map}
 use Rattle.msi_text.specs.LanguageRows.{language_rows, rows_told}
 use Rattle.msi_text.specs.Languages.{LanguageRowsAscend, LanguageIdsTellTags, LanguageTagsTellIds, id_of_tag, tag_of}
 
@@ -68,11 +69,6 @@ find-none : {X : Type 0} (p : X → Bool) (xs : List X) → ((k : ℕ) (d : X) �
 find-none p [] fails = refl
 find-none p (x ∷ xs) fails = rw (fails zero x (omega arith)) (find-none p xs (λ k d within. fails (suc k) d (omega arith)))
 
--- what is found among images is the image of what is found
-find-map : {X Y : Type 0} (f : X → Y) (p : Y → Bool) (xs : List X) → find p (map f xs) ≡ option_map f (find (λ x. p (f x)) xs)
-find-map f p [] = refl
-find-map f p (x ∷ xs) = elim (p (f x)) as (λ b. (if b then Some (f x) else find p (map f xs)) ≡ option_map f (if b then Some x else find (λ y. p (f y)) xs)) [ true ↦ refl | false ↦ find-map f p xs ]
-
 -- the id of a row
 abbrev id_in : ℕ × List ℕ → ℕ
 id_in row = row.0
@@ -115,5 +111,5 @@ module _ (xs : List (ℕ × Bor (List ℕ))) (told : rows_told xs ≡ language_r
         | inl before ↦ let less : (get_or xs k d).0 < id = ranked _ id _ (sym (parts.0 k d (omega arith) before)) in grind (arith, nat_tests)
         | inr after ↦ let greater : id < (get_or xs k d).0 = ranked _ id _ (sym (parts.1 k d after below)) in grind (arith, nat_tests)
       ] in
-      let none : find (λ row. row.0 == id) language_rows ≡ None = subst (λ rows. find (λ row. row.0 == id) rows ≡ None) told (find-map told_by (λ row. row.0 == id) xs ∙ ap (option_map told_by) (find-none (λ row. row.0 == id) xs differs)) in
+      let none : find (λ row. row.0 == id) language_rows ≡ None = subst (λ rows. find (λ row. row.0 == id) rows ≡ None) told (find-map (λ row. row.0 == id) told_by xs ∙ ap (option_map told_by) (find-none (λ row. row.0 == id) xs differs)) in
       sym (ap (λ o. option_map_or (λ row. row.1) o (codes "und")) none)

@@ -1,5 +1,6 @@
 -- Which texts a category accepts (MSI SDK, "Column Data Types").
-use Rattle.std.specs.Prelude.{ℕ, Bool, true, false, not, List, [], ◌∷◌, length, drop, take, is_some, nat_le, ◌==◌, ◌&&◌, ◌||◌, if◌then◌else◌, slice_index, neg_ℤ, pos}
+use Rattle.std.specs.Prelude.{ℕ, Bool, true, false, not, List, [], ◌∷◌, length, drop, take, is_some, nat_le, ◌==◌, ◌&&◌}
+use Rattle.std.specs.Prelude.{◌||◌, if◌then◌else◌, slice_index, neg_ℤ, pos}
 use Rattle.std.specs.List.{list_all, list_any, slice_split, before_last, after_last}
 use Rattle.std.specs.Char.{is_ascii_digit}
 use Rattle.std.specs.Int.{is_in_range}
@@ -48,7 +49,8 @@ is_language_list text = list_all (λ part. is_some (u16_in part)) (slice_split (
 -- the name of a stream, or a short file name: cut at the last `.`, without one all is front
 abbrev pub is_short_name : List ℕ → Bool
 is_short_name text = if list_any (λ c. c == 46) text
-    then is_in_range 1 8 (length (before_last (λ c. c == 46) text)) && nat_le (length (after_last (λ c. c == 46) text)) 3
+    then is_in_range 1 8 (length (before_last (λ c. c == 46) text))
+    && nat_le (length (after_last (λ c. c == 46) text)) 3
     else is_in_range 1 8 (length text)
 
 abbrev pub is_cabinet : List ℕ → Bool

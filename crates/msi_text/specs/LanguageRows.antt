@@ -1,4 +1,5 @@
--- The rows of languages: each id that has a tag, with the tag. The table in the code tells them, and they are told once.
+-- The rows of languages: each id that has a tag, with the tag. The table in the code tells them, and they are told
+-- once.
 use Rattle.std.specs.Prelude.{ℕ, List, map}
 use Rattle.std.specs.Borrow.{Bor}
 use Rattle.msi_text.specs.declared.language.rows.TheConstants.{LANGUAGES}

@@ -3,10 +3,10 @@
 ghost use Rattle.std.specs.Prelude.{◌≡◌, Some, None, IfOk, IfErr, bytes_eq, ◌||◌};
 ghost use Rattle.std.specs.Fmt.{padded};
 ghost use Rattle.msi_text.specs.Categories.{all_categories, category_name, category_in, other_name};
-ghost use Rattle.msi_base.specs.declared.errors.ErrorKind.TheVariants.{InvalidData};
+ghost use Rattle.msi_text_base.specs.declared.errors.ErrorKind.TheVariants.{InvalidData};
 
 use crate::reasons;
-use msi_base::errors::{Error, ErrorKind};
+use msi_text_base::errors::{Error, ErrorKind};
 use std::fmt;
 use std::str::FromStr;
 
@@ -63,14 +63,15 @@ pub enum Category {
     Binary,
     /// Where a custom action comes from.
     CustomSource,
-    /// A cabinet: `#` and the identifier of a stream, or a file name of 1 to 8 bytes with at most 3 behind its last period.
+    /// A cabinet: `#` and the identifier of a stream, or a file name of 1 to 8 bytes with at most 3 behind its last
+    /// period.
     Cabinet,
     /// The target of a shortcut.
     Shortcut,
 }
 
 impl Category {
-    /// Every category.
+    /// Returns every category.
     pub fn all() -> [Category; 27]
         ensures { result ≡ all_categories }
     {
@@ -105,7 +106,7 @@ impl Category {
         ]
     }
 
-    /// How the category is written in the table `_Validation`.
+    /// Returns the name of the category, as the table `_Validation` has it.
     pub fn name(self) -> &'static str
         ensures { result.now ≡ category_name self }
     {

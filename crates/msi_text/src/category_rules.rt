@@ -3,7 +3,9 @@
 ghost use Rattle.std.specs.Prelude.{◌≡◌, is_some, length, neg_ℤ, pos};
 ghost use Rattle.std.specs.Int.{is_in_range};
 ghost use Rattle.std.specs.List.{list_all, list_any};
-ghost use Rattle.msi_text.specs.CategoryRules.{continues_name, is_accepted, is_braced_uuid, is_cabinet, is_guid, is_identifier, is_language_list, is_lower, is_property, is_short_name, is_upper, is_version, starts_name};
+ghost use Rattle.msi_text.specs.CategoryRules.{continues_name, is_accepted, is_braced_uuid, is_cabinet, is_guid};
+ghost use Rattle.msi_text.specs.CategoryRules.{is_identifier, is_language_list, is_lower, is_property, is_short_name};
+ghost use Rattle.msi_text.specs.CategoryRules.{is_upper, is_version, starts_name};
 ghost use Rattle.msi_text.specs.Numerals.{is_number_within, u16_in};
 
 use crate::category::Category;
@@ -16,11 +18,11 @@ const BRACED_UUID_LEN: usize = 38;
 const MOST_VERSION_PARTS: usize = 4;
 
 impl Category {
-    /// Whether a text may stand in a column of this category (MSI SDK, "Column Data Types").
+    /// Returns whether a text may stand in a column of this category (MSI SDK, "Column Data Types").
     ///
-    /// The rules of UpperCase, LowerCase, Integer, DoubleInteger, Number, Identifier, Property, Guid, Version, Language and
-    /// Cabinet stand beside these members; every other category accepts every text. A number may have a `+` in front, the three
-    /// signed ones a `-` too. It takes no memory.
+    /// The rules of UpperCase, LowerCase, Integer, DoubleInteger, Number, Identifier, Property, Guid, Version,
+    /// Language and Cabinet stand beside these members; every other category accepts every text. A number may have a
+    /// `+` in front, the three signed ones a `-` too. It takes no memory.
     pub fn validate(self, text: &str) -> bool
         ensures { result ≡ is_accepted self text.now }
     {

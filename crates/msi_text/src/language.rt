@@ -10,8 +10,8 @@ use rows::language_rows;
 use std::fmt;
 use std::marker::Model;
 
-/// A language: an id of 16 bits, the low 10 of a primary language and the other 6 of a sub-language, mostly a region's
-/// (MS-LCID 2.2). Each id is one, also where no row knows it. A contract sees the id.
+/// A language: an id of 16 bits, the low 10 of a primary language and the other 6 of a sub-language, mostly a
+/// region's (MS-LCID 2.2). Each id is one, also where no row knows it. A contract sees the id.
 #[derive(Clone, Copy, PartialEq, Eq, Hash, Debug, Drop)]
 pub struct LanguageId {
     id: u16,
@@ -28,8 +28,8 @@ impl Model for LanguageId {
 }
 
 impl LanguageId {
-    /// The language of a primary language and a sub-language. Numbers of more than 10 and 6 bits are taken too: `primary`
-    /// is or'ed with the low 16 bits of `sub` * 1024.
+    /// Returns the language of a primary language and a sub-language. Numbers of more than 10 and 6 bits are taken
+    /// too: `primary` is or'ed with the low 16 bits of `sub` * 1024.
     pub fn new(primary: u16, sub: u16) -> LanguageId
         ensures { result ≡ language_id primary sub }
     {
@@ -38,14 +38,14 @@ impl LanguageId {
         }
     }
 
-    /// The language of an id.
+    /// Returns the language of an id.
     pub fn from_id(id: u16) -> LanguageId
         ensures { result ≡ id }
     {
         LanguageId { id }
     }
 
-    /// The language of a locale's id: its low 16 bits. The others, of a sort order, are dropped.
+    /// Returns the language of a locale's id: its low 16 bits. The others, of a sort order, are dropped.
     pub fn from_lcid(lcid: u32) -> LanguageId
         ensures { result ≡ id_of_lcid lcid }
     {
@@ -54,8 +54,8 @@ impl LanguageId {
         }
     }
 
-    /// The language of a tag, as `en-US` (BCP 47), by the first row with that very tag: letters' case counts. Where no
-    /// row has it, the id is 0.
+    /// Returns the language of a tag, as `en-US` (BCP 47), by the first row with that very tag: letters' case counts.
+    /// If no row has it, the id is 0.
     pub fn from_tag(tag: &str) -> LanguageId
         ensures { result ≡ id_of_tag tag.now }
     {
@@ -67,28 +67,29 @@ impl LanguageId {
         LanguageId::default()
     }
 
-    /// The id.
+    /// Returns the id.
     pub fn id(self) -> u16
         ensures { result ≡ self }
     {
         self.id
     }
 
-    /// The primary language: the low 10 bits of the id.
+    /// Returns the primary language: the low 10 bits of the id.
     pub fn primary_language_id(self) -> u16
         ensures { result ≡ primary_language self }
     {
         self.id & 0x3FF
     }
 
-    /// The sub-language: the high 6 bits of the id.
+    /// Returns the sub-language: the high 6 bits of the id.
     pub fn sub_language_id(self) -> u8
         ensures { result ≡ sub_language self }
     {
         (self.id >> 10) as u8
     }
 
-    /// The tag in the row of the id. Where it has none, the tag is `und`, for an undetermined language (BCP 47).
+    /// Returns the tag in the row of the id. Where it has none, the tag is `und`, for an undetermined language (BCP
+    /// 47).
     pub fn tag(self) -> &'static str
         ensures { result.now ≡ tag_of self }
     {

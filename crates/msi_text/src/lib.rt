@@ -1,4 +1,5 @@
-//! What the layers above share: errors, texts, code pages, categories, languages, times, and the pool of texts.
+//! What all layers share: errors, texts, code pages, the string pool, and the categories, languages and times of a
+//! package.
 #![tactic(auto)]
 
 pub mod category;
@@ -12,10 +13,10 @@ pub mod timestamp;
 
 pub use category::Category;
 pub use language::LanguageId;
-pub use msi_base::codepage::CodePage;
-pub use msi_base::errors::{Error, ErrorKind, Reason};
-pub use msi_base::text::{IntoText, Items, Text};
-pub use msi_base::{codepage, errors, fields, text};
-pub use msi_pool::stringpool;
-pub use msi_pool::stringpool::{StringPool, StringPoolBuilder, StringRef};
+pub use msi_text_base::codepage::CodePage;
+pub use msi_text_base::errors::{Error, ErrorKind, Reason};
+pub use msi_text_base::text::{IntoText, Items, Text};
+pub use msi_text_base::{codepage, errors, fields, text};
+pub use msi_text_pool::stringpool;
+pub use msi_text_pool::stringpool::{StringPool, StringPoolBuilder, StringRef};
 pub use timestamp::Timestamp;

@@ -1,5 +1,7 @@
 //! What the crates above need beyond the surface.
 
 pub use crate::spellings::{braced_uuid, language_list, language_text};
-pub use msi_base::parts::{encoded_len, read_exactly, write_fully};
-pub use msi_pool::parts::{data_stream_of, place_number, pool_of, pool_stream_of, string_ref};
+pub use msi_text_base::parts::encoded_len;
+pub use msi_text_pool::parts::{
+    data_stream_of, most_places, place_number, pool_builder_of, pool_of, pool_stream_of, string_ref,
+};

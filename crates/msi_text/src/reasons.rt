@@ -1,8 +1,8 @@
-//! Why texts, categories and moments are refused: a sentence for each rule.
+//! Why texts, categories and times are refused: a sentence for each rule.
 
-use msi_base::errors::Reason;
-pub use msi_base::reasons::{DEVICE, MEMORY, PAGE_BYTE, PAGE_CHARACTER};
-pub use msi_pool::reasons::{
+use msi_text_base::errors::Reason;
+pub use msi_text_base::reasons::{DEVICE, MEMORY, PAGE_BYTE, PAGE_CHARACTER};
+pub use msi_text_pool::reasons::{
     PLACE_FREE, PLACE_UNKNOWN, POOL_CUT, POOL_DATA, POOL_FULL, POOL_PAGE, POOL_PLACES,
     REFERENCE_CUT, REFERENCE_WIDE, TEXT_LONG,
 };

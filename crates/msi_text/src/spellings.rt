@@ -3,19 +3,19 @@
 ghost use Rattle.std.specs.Prelude.{◌≡◌, IfOk, IfErr};
 ghost use Rattle.std.specs.Fmt.{decimal};
 ghost use Rattle.msi_text.specs.Spellings.{language_list_text, braced_uuid_text};
-ghost use Rattle.msi_base.specs.Results.{OnlyMemory};
-ghost use Rattle.msi_base.specs.declared.errors.ErrorKind.TheVariants.{OutOfMemory};
+ghost use Rattle.msi_text_base.specs.Results.{OnlyMemory};
+ghost use Rattle.msi_text_base.specs.declared.errors.ErrorKind.TheVariants.{OutOfMemory};
 
 use crate::language::LanguageId;
-use msi_base::errors::Error;
-use msi_base::text::Text;
+use msi_text_base::errors::Error;
+use msi_text_base::text::Text;
 use std::alloc::Global;
 use uuid::Uuid;
 
-/// The id of a language in decimal.
+/// Returns the id of a language in decimal.
 ///
 /// # Errors
-/// `OutOfMemory`.
+/// Fails with `OutOfMemory`.
 pub fn language_text(alloc: Global, language: LanguageId) -> Result<Text, Error>
     ensures ok { IfOk result (λ text. text ≡ decimal language) }
     ensures kind { OnlyMemory result }
@@ -23,10 +23,10 @@ pub fn language_text(alloc: Global, language: LanguageId) -> Result<Text, Error>
     Ok(Text::from_string(language.id().to_string(alloc)?))
 }
 
-/// The ids of languages in decimal, parted by commas.
+/// Returns the ids of languages in decimal, separated by commas.
 ///
 /// # Errors
-/// `OutOfMemory`.
+/// Fails with `OutOfMemory`.
 pub fn language_list(alloc: Global, languages: &[LanguageId]) -> Result<Text, Error>
     ensures ok { IfOk result (λ text. text ≡ language_list_text languages.now) }
     ensures kind { OnlyMemory result }
@@ -41,10 +41,10 @@ pub fn language_list(alloc: Global, languages: &[LanguageId]) -> Result<Text, Er
     Ok(Text::from_string(text))
 }
 
-/// A UUID in braces and upper case.
+/// Returns a UUID in braces and upper case.
 ///
 /// # Errors
-/// `OutOfMemory`.
+/// Fails with `OutOfMemory`.
 pub fn braced_uuid(alloc: Global, uuid: Uuid) -> Result<Text, Error>
     ensures ok { IfOk result (λ text. text ≡ braced_uuid_text uuid) }
     ensures kind { OnlyMemory result }

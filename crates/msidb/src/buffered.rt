@@ -7,8 +7,8 @@ use std::io::{BufWriter, Read, Seek, SeekFrom, Write};
 /// How many bytes are collected before they go to the file.
 const CAPACITY: usize = 64 * 1024;
 
-/// A reader, writer and seeker whose pieces are collected and handed on many at a time: else each sector that is written
-/// would be a call of the system.
+/// A reader, writer and seeker whose pieces are collected and handed on many at a time: else each sector that is
+/// written would be a call of the system.
 #[derive(Drop)]
 pub(crate) struct Buffered<F: Read + Write + Seek + Drop> {
     inner: BufWriter<F>,
@@ -46,7 +46,7 @@ impl<F: Read + Write + Seek + Drop> Seek for Buffered<F> {
     }
 }
 
-/// A writer whose pieces are collected likewise. It has to be flushed: a drop tells no fault.
+/// A writer whose pieces are collected likewise. It has to be flushed, since a drop reports no error.
 pub(crate) fn buffer<W: Write + Drop>(alloc: Global, writer: W) -> io::Result<BufWriter<W>> {
     BufWriter::with_capacity(alloc, CAPACITY, writer)
 }

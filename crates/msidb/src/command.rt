@@ -1,4 +1,4 @@
-//! What the words on the command line ask for.
+//! Parses the command line.
 
 ghost use Rattle.std.specs.Prelude.{◌≡◌, ◌∷◌, [], IfSome, is_some};
 ghost use Rattle.msidb.specs.Commands.{fits_command, takes_file, takes_name, texts_of, words_of};
@@ -27,7 +27,7 @@ pub enum Command<'a> {
 }
 
 impl<'a> Command<'a> {
-    /// The command that the words fit, if there is one.
+    /// Returns the command that the arguments match, if there is one.
     pub(crate) fn parse(words: &'a [String]) -> Option<Command<'a>>
         ensures fits { is_some result ≡ fits_command words.now }
         ensures asked { IfSome result (λ command. words_of command ≡ texts_of words.now) }

@@ -1,4 +1,4 @@
-//! Inspects and makes Windows Installer databases from a command line.
+//! The program `msidb`: inspects and creates Windows Installer packages from a command line.
 #![tactic(auto)]
 
 ghost use Rattle.std.specs.Prelude.{◌≡◌, ◌≤◌, ◌↔◌, false};
@@ -23,11 +23,11 @@ use std::process::ExitCode;
 use std::rt::{Env, Files};
 use std::{env, io};
 
-/// What is said of words that fit no command.
+/// The message for arguments that match no command.
 const USAGE: &str = "usage: msidb raw|wrap|new|tables|rows|summary|streams|cat|put FILE [NAME]";
 
-/// The whole program over its words, a reader and two writers. It answers the status: 0, or 1 with the kind of the first
-/// fault on a line of `errors`, or 2 with the usage there where the words fit no command.
+/// Runs the program over its arguments, a reader and two writers. It returns the exit status: 0 on success; 1 on an
+/// error, whose kind is written to `errors`; 2, with the usage on `errors`, if the arguments match no command.
 pub fn run<R, I, O, E>(
     rt: &R,
     words: &[String],
@@ -75,7 +75,7 @@ where
     }
 }
 
-/// Tells a fault by its kind on a line of its own, and answers the status that stands for it.
+/// Writes the kind of an error on a line of its own, and returns the exit status for it.
 fn tell<E: Write>(error: &Error, errors: &mut E) -> u8
     ensures { result ≡ 1 }
 {
@@ -84,7 +84,8 @@ fn tell<E: Write>(error: &Error, errors: &mut E) -> u8
     1
 }
 
-/// The words behind the program's name. Where one isn't UTF-8 there are none: it fits no command, and neither do no words.
+/// The arguments behind the program's name. If one isn't UTF-8 there are none: it matches no command, and neither do
+/// no arguments.
 fn words<R: Env + AllocGlobal>(rt: &R) -> Result<Vec<String>, Error> {
     let mut words = Vec::new(rt.alloc());
     match env::args(rt) {

@@ -2,7 +2,7 @@
 
 use crate::buffered::Buffered;
 use msi::{Package, PackageType};
-use msi_device::Metered;
+use msi_container_device::Metered;
 use msi_text::Error;
 use std::fs::{self, OpenOptions};
 use std::io::{Read, Seek, Write};

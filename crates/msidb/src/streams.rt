@@ -3,8 +3,8 @@
 use crate::buffered::buffer;
 use crate::packages;
 use msi::Package;
-use msi_device::{Device, Source};
-use msi_stream::Streams;
+use msi_container_device::{Device, Source};
+use msi_streams::Streams;
 use msi_text::Error;
 use std::io::{self, Read, Seek, Write};
 use std::rt::Files;
@@ -47,8 +47,8 @@ where
     Ok(())
 }
 
-/// Stores standard input as a stream of a package, and writes the package. The input is read before the package is, since
-/// its faults are told first.
+/// Stores standard input as a stream of a package, and writes the package. The input is read before the package is,
+/// since its errors are reported first.
 pub(crate) fn store_input<R, I>(rt: &R, file: &str, name: &str, input: &mut I) -> Result<(), Error>
 where
     R: Files + AllocGlobal,

@@ -72,7 +72,7 @@ fn write_numbers<W: Write>(summary: &SummaryInfo, lines: &mut W) -> io::Result<(
     write_value("doc_security", summary.doc_security(), lines)
 }
 
-/// The ticks of a moment, if there is one.
+/// The ticks of a time, if there is one.
 fn ticks(time: Option<Timestamp>) -> Option<u64> {
     time.map(|time| time.ticks())
 }

@@ -3,7 +3,7 @@
 use crate::buffered::buffer;
 use crate::packages;
 use msi::Package;
-use msi_device::Source;
+use msi_container_device::Source;
 use msi_query::Select;
 use msi_table::{Column, Row, Table};
 use msi_text::Error;
@@ -48,8 +48,8 @@ where
     Ok(())
 }
 
-/// Writes the names of a table's columns and its rows. Each row is written as it is made, so that one alone has its texts
-/// in memory of its own.
+/// Writes the names of a table's columns and its rows. Each row is written as it is made, so that one alone has its
+/// texts in memory of its own.
 fn write_rows<F: Source, W: Write>(
     alloc: Global,
     package: &Package<F>,

@@ -2,7 +2,7 @@
 
 use crate::{USAGE, run};
 use msi::{Package, PackageType};
-use msi_device::Metered;
+use msi_container_device::Metered;
 use msi_summary::SummaryInfo;
 use msi_text::{CodePage, LanguageId, Timestamp};
 use std::alloc::Global;
@@ -125,8 +125,8 @@ const NEW: [(&[&str], &str); 6] = [
     (&["streams", "FILE"], ""),
 ];
 
-/// The rows of a new package's columns. The types are those of MsiDefs.h: 0x2000 for a key, 0x1000 for what may be null,
-/// and 0x0D00, 0x0500 and 0x0100 for a text, a short number and a long one, with the length below.
+/// The rows of a new package's columns. The types are those of MsiDefs.h: 0x2000 for a key, 0x1000 for what may be
+/// null, and 0x0D00, 0x0500 and 0x0100 for a text, a short number and a long one, with the length below.
 const COLUMNS: &str = "Table\tNumber\tName\tType
 \"_Validation\"\t1\t\"Table\"\t11552
 \"_Validation\"\t2\t\"Column\"\t11552
@@ -322,7 +322,8 @@ fn told_first(rt: &HostRuntime, all: &[&str], path: &str, line: &str) -> Result<
     Ok(status == 1 && is_line(errors.as_slice(), Some(line)))
 }
 
-/// The words that make the file, those of a run, and the fault that is told first where standard input and output fail.
+/// The words that make the file, those of a run, and the fault that is told first where standard input and output
+/// fail.
 const FIRST: [(&[&str], &[&str], &str); 10] = [
     // The name comes before standard input, which comes before the file.
     (

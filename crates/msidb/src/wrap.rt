@@ -1,18 +1,18 @@
 //! `wrap OUT NAME`: a container with standard input as its one stream.
 
 ghost use Rattle.std.specs.Prelude.{◌≡◌, ◌↔◌, ◌⊎◌, false, chars, option_map, IfOk, IfErr, IsErr, IsErrOf, IsTrue, OnOk};
-ghost use Rattle.msi_text.specs.ErrorKind.TheVariants.{InvalidInput, Io, OutOfMemory};
-ghost use Rattle.msi_container.specs.Container.{Holds};
-ghost use Rattle.msi_container.specs.Held.{with_piece};
-ghost use Rattle.msi_container.specs.Layout.{layout, refuses};
-ghost use Rattle.msi_container.specs.Names.{utf16_units};
-ghost use Rattle.msi_container.specs.StreamNames.{encoded_name, is_valid_name};
+ghost use Rattle.msi_text_base.specs.declared.errors.ErrorKind.TheVariants.{InvalidInput, Io, OutOfMemory};
+ghost use Rattle.msi_container_format.specs.Container.{Holds};
+ghost use Rattle.msi_container_device.specs.Held.{with_piece};
+ghost use Rattle.msi_container_write.specs.Layout.{layout, refuses};
+ghost use Rattle.msi_container_format.specs.Names.{utf16_units};
+ghost use Rattle.msi_container_format.specs.StreamNames.{encoded_name, is_valid_name};
 ghost use Rattle.msidb.specs.Wrapped.{wrapped};
 
 use crate::buffered::Buffered;
 use msi_container::compound::{self, Bytes, Contents, Device, Metered, Name, StreamMap};
 use msi_container::streamname;
-use msi_device::parts::fault;
+use msi_container_device::parts::fault;
 use msi_text::{Error, ErrorKind, Reason};
 use std::alloc::Global;
 use std::fs;
@@ -74,7 +74,7 @@ fn contents_of(alloc: Global, name: Name, bytes: Vec<u8>) -> Result<Contents, Er
     })
 }
 
-/// Writes a container over an empty device, and hands on what the device kept back.
+/// Writes a container over an empty device, and passes on what the device has buffered.
 fn write_whole<W: Device>(alloc: Global, contents: &Contents, device: &mut W) -> Result<(), Error>
     ensures ok { OnOk result (W.held device.new ≡ option_map (with_piece (layout contents.now 0)) (W.held device.old)) }
     ensures holds { OnOk result (Holds (layout contents.now 0) contents.now) }

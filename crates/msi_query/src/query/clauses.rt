@@ -1,18 +1,18 @@
-//! What queries keep of rows.
+//! The columns and the condition of a query for rows.
 
 ghost use Rattle.std.specs.Prelude.{◌≡◌, ◌==◌, ◌&&◌, IfOk, IfErr, is_none, length, option_copied};
-ghost use Rattle.msi_text.specs.ErrorKind.TheVariants.{OutOfMemory};
+ghost use Rattle.msi_text_base.specs.declared.errors.ErrorKind.TheVariants.{OutOfMemory};
 ghost use Rattle.msi_query.specs.Queries.{narrowed as narrowed_by, no_clauses};
 
 use super::narrowed;
-use msi_expression::Expr;
+use msi_query_expressions::Expr;
 use msi_text::errors::Error;
 use msi_text::text::{Items, Text};
 use std::alloc::Global;
 use std::marker::Model;
 
-/// The columns that are kept of rows, where none keeps all, and the condition on rows, if any. The condition is judged
-/// before columns are left out.
+/// The columns that are selected, where an empty list selects all, and the condition on rows, if any. The condition
+/// is evaluated before columns are left out.
 #[derive(Drop)]
 pub struct Clauses {
     columns: Items<Text>,
@@ -21,7 +21,7 @@ pub struct Clauses {
 
 impl Model for Clauses {
     ghost use Rattle.std.specs.Coded.{codes};
-    ghost use Rattle.msi_expression.specs.ExpressionCode.{expression_code};
+    ghost use Rattle.msi_query_expressions.specs.ExpressionCode.{expression_code};
     ghost use Rattle.msi_query.specs.Queries.{Clauses as Kept};
 
     ghost Value = { Kept };
@@ -42,21 +42,21 @@ impl Clauses {
         }
     }
 
-    /// The columns that are kept; where there is none, all are.
+    /// Returns the columns that are selected; if there is none, all are.
     pub fn columns(&self) -> &[Text]
         ensures { result.now ≡ self.now.columns }
     {
         self.columns.as_slice()
     }
 
-    /// The condition on rows.
+    /// Returns the condition on rows.
     pub fn condition(&self) -> Option<&Expr>
         ensures { option_copied result ≡ self.now.condition }
     {
         self.condition.as_ref()
     }
 
-    /// Whether all columns of all rows are kept.
+    /// Whether all columns of all rows are selected.
     pub(crate) fn keep_all(&self) -> bool
         ensures { result ≡ ((length self.now.columns == 0) && is_none self.now.condition) }
     {

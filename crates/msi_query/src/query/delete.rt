@@ -1,20 +1,20 @@
 //! Queries that take rows out.
 
 ghost use Rattle.std.specs.Prelude.{◌≡◌, IfOk, IfErr, None};
-ghost use Rattle.msi_text.specs.ErrorKind.TheVariants.{OutOfMemory};
+ghost use Rattle.msi_text_base.specs.declared.errors.ErrorKind.TheVariants.{OutOfMemory};
 ghost use Rattle.msi_query.specs.Queries.{narrowed as narrowed_by};
 ghost use Rattle.msi_query.specs.QueryTexts.{delete_text};
 
 use super::narrowed;
 use super::printing::write_condition;
-use msi_expression::Expr;
+use msi_query_expressions::Expr;
 use msi_text::errors::Error;
 use msi_text::text::{IntoText, Text};
 use std::alloc::Global;
 use std::fmt;
 use std::marker::Model;
 
-/// Rows to be taken out of a table. A contract sees the table's name and the condition.
+/// A query that deletes rows of a table. A contract sees the table's name and the condition.
 #[derive(Drop)]
 pub struct Delete {
     alloc: Global,
@@ -24,7 +24,7 @@ pub struct Delete {
 
 impl Model for Delete {
     ghost use Rattle.std.specs.Coded.{codes};
-    ghost use Rattle.msi_expression.specs.ExpressionCode.{expression_code};
+    ghost use Rattle.msi_query_expressions.specs.ExpressionCode.{expression_code};
     ghost use Rattle.msi_query.specs.Queries.{DeleteQuery};
 
     ghost Value = { DeleteQuery };
@@ -42,10 +42,10 @@ pub struct DeleteParts {
 }
 
 impl Delete {
-    /// All rows of the table of this name.
+    /// Starts a query that deletes all rows of the table of this name.
     ///
     /// # Errors
-    /// `OutOfMemory`.
+    /// Fails with `OutOfMemory`.
     pub fn from<S: IntoText>(alloc: Global, table: S) -> Result<Delete, Error>
         ensures ok { IfOk result (λ query. query ≡ record { table = S.text table; condition = None }) }
         ensures kind { IfErr result (λ kind. kind ≡ OutOfMemory) }
@@ -58,10 +58,10 @@ impl Delete {
         })
     }
 
-    /// Those of the rows for which the condition holds too.
+    /// Restricts the query to rows for which the condition holds too.
     ///
     /// # Errors
-    /// `OutOfMemory`.
+    /// Fails with `OutOfMemory`.
     pub fn with(self, condition: Expr) -> Result<Delete, Error>
         ensures ok { IfOk result (λ query. query ≡ record self { condition = narrowed_by self.condition condition }) }
         ensures kind { IfErr result (λ kind. kind ≡ OutOfMemory) }
@@ -93,8 +93,8 @@ impl Delete {
     }
 }
 
-/// Writes the query as SQL, as `DELETE FROM Quux WHERE Foo > 42`. Literal texts past ASCII, and formats with a width or
-/// other options, are promised nothing.
+/// Writes the query as SQL, as `DELETE FROM Quux WHERE Foo > 42`. Literal texts past ASCII, and formats with a width
+/// or other options, are promised nothing.
 impl fmt::Display for Delete {
     ghost output = { delete_text };
 

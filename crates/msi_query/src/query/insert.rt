@@ -2,7 +2,7 @@
 
 ghost use Rattle.std.specs.Prelude.{◌≡◌, ◌++◌, ◌∷◌, [], IfOk, IfErr, OnOk, map};
 ghost use Rattle.std.specs.Fmt.{DisplaysOnOk};
-ghost use Rattle.msi_text.specs.ErrorKind.TheVariants.{OutOfMemory};
+ghost use Rattle.msi_text_base.specs.declared.errors.ErrorKind.TheVariants.{OutOfMemory};
 ghost use Rattle.msi_query.specs.QueryTexts.{insert_text, row_text, rows_text};
 
 use super::printing::write_list;
@@ -21,7 +21,7 @@ pub struct NewRow {
 
 impl Model for NewRow {
     ghost use Rattle.std.specs.Prelude.{List};
-    ghost use Rattle.msi_value.specs.declared.value.Value.{Value as ValueOf};
+    ghost use Rattle.msi_table_values.specs.declared.value.Value.{Value as ValueOf};
 
     ghost Value = { List ValueOf };
 
@@ -29,14 +29,14 @@ impl Model for NewRow {
 }
 
 impl NewRow {
-    /// The values, in order.
+    /// Returns the values, in order.
     pub fn values(&self) -> &[Value]
         ensures { result.now ≡ self.now }
     {
         self.values.as_slice()
     }
 
-    /// The values, moved out.
+    /// Returns the values, moved out.
     pub fn into_values(self) -> Vec<Value>
         ensures { result.items ≡ self }
     {
@@ -55,7 +55,7 @@ impl fmt::Display for NewRow {
     }
 }
 
-/// Rows to be added to a table. A contract sees the table's name and the lists of values.
+/// A query that inserts rows into a table. A contract sees the table's name and the lists of values.
 #[derive(Drop)]
 pub struct Insert {
     table: Text,
@@ -78,10 +78,10 @@ pub struct InsertParts {
 }
 
 impl Insert {
-    /// No row yet, for the table of this name.
+    /// Starts a query that inserts rows into the table of this name. It has no row yet.
     ///
     /// # Errors
-    /// `OutOfMemory`.
+    /// Fails with `OutOfMemory`.
     pub fn into<S: IntoText>(alloc: Global, table: S) -> Result<Insert, Error>
         ensures ok { IfOk result (λ query. query ≡ record { table = S.text table; rows = [] }) }
         ensures kind { IfErr result (λ kind. kind ≡ OutOfMemory) }
@@ -93,10 +93,10 @@ impl Insert {
         })
     }
 
-    /// One more row.
+    /// Adds a row.
     ///
     /// # Errors
-    /// `OutOfMemory`.
+    /// Fails with `OutOfMemory`.
     pub fn row(self, values: Vec<Value>) -> Result<Insert, Error>
         ensures ok { IfOk result (λ query. query ≡ record self { rows = self.rows ++ (values.items ∷ []) }) }
         ensures kind { IfErr result (λ kind. kind ≡ OutOfMemory) }
@@ -110,10 +110,10 @@ impl Insert {
         })
     }
 
-    /// More rows, in order.
+    /// Adds rows, in order.
     ///
     /// # Errors
-    /// `OutOfMemory`.
+    /// Fails with `OutOfMemory`.
     pub fn rows(self, rows: Vec<Vec<Value>>) -> Result<Insert, Error>
         ensures ok { IfOk result (λ query. query
             ≡ record self { rows = self.rows ++ map (λ row. row.items) rows.items }) }

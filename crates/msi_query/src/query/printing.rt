@@ -4,7 +4,7 @@ ghost use Rattle.std.specs.Prelude.{◌≡◌, map, option_copied};
 ghost use Rattle.std.specs.Fmt.{DisplaysOnOk};
 ghost use Rattle.msi_query.specs.QueryTexts.{listed, where_text};
 
-use msi_expression::Expr;
+use msi_query_expressions::Expr;
 use std::fmt;
 
 /// Writes items with `, ` between them.

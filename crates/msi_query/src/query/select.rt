@@ -2,7 +2,7 @@
 
 ghost use Rattle.std.specs.Prelude.{◌≡◌, ◌++◌, IfOk, IfErr, List, ℕ, Some, codes, map, option_copied};
 ghost use Rattle.std.specs.Fmt.{DisplaysOnOk, ◌++?◌};
-ghost use Rattle.msi_text.specs.ErrorKind.TheVariants.{OutOfMemory};
+ghost use Rattle.msi_text_base.specs.declared.errors.ErrorKind.TheVariants.{OutOfMemory};
 ghost use Rattle.msi_query.specs.Queries.{table, join, no_clauses, narrowed_query, projected_query};
 ghost use Rattle.msi_query.specs.QueryTexts.{bare_name, columns_text, join_word, query_text, side_text};
 ghost use Rattle.msi_query.specs.QueryTrees.{query_of};
@@ -10,9 +10,10 @@ ghost use Rattle.msi_query.specs.QueryTrees.{query_of};
 use super::JoinKind;
 use super::clauses::Clauses;
 use super::printing::{write_condition, write_list};
-use msi_expression::Expr;
+use msi_query_expressions::Expr;
+use msi_table::parts::copied_list;
 use msi_text::errors::Error;
-use msi_text::text::{IntoText, Items, Text};
+use msi_text::text::{IntoText, Text};
 use std::alloc::Global;
 use std::fmt;
 use std::marker::Model;
@@ -46,7 +47,7 @@ pub struct Select {
 
 impl Model for Select {
     ghost use Rattle.std.specs.Coded.{codes};
-    ghost use Rattle.msi_expression.specs.ExpressionCode.{expression_code};
+    ghost use Rattle.msi_query_expressions.specs.ExpressionCode.{expression_code};
     ghost use Rattle.msi_query.specs.Queries.{Query};
     ghost use Rattle.msi_query.specs.QueryCode.{query_code};
 
@@ -60,10 +61,10 @@ impl Model for Select {
 }
 
 impl Select {
-    /// All rows of the table of this name, with all columns.
+    /// Starts a query for all rows of the table of this name, with all columns.
     ///
     /// # Errors
-    /// `OutOfMemory`.
+    /// Fails with `OutOfMemory`.
     pub fn table<S: IntoText>(alloc: Global, name: S) -> Result<Select, Error>
         ensures ok { IfOk result (λ query. query ≡ table (S.text name) no_clauses) }
         ensures kind { IfErr result (λ kind. kind ≡ OutOfMemory) }
@@ -76,10 +77,11 @@ impl Select {
         })
     }
 
-    /// The pairs of this query's rows and the other's for which the condition holds, with the columns of both.
+    /// Returns a query for the pairs of this query's rows and the other's for which the condition holds, with the
+    /// columns of both.
     ///
     /// # Errors
-    /// `OutOfMemory`.
+    /// Fails with `OutOfMemory`.
     pub fn inner_join(self, rhs: Select, on: Expr) -> Result<Select, Error>
         ensures ok { IfOk result (λ query. query ≡ join JoinKind.Inner self rhs on no_clauses) }
         ensures kind { IfErr result (λ kind. kind ≡ OutOfMemory) }
@@ -87,10 +89,11 @@ impl Select {
         self.joined(JoinKind::Inner, rhs, on)
     }
 
-    /// The same pairs, and each row of this query without a pair, with nulls for the other's columns.
+    /// Returns a query for the same pairs as an inner join, and for each row of this query without a pair, with nulls
+    /// for the other's columns.
     ///
     /// # Errors
-    /// `OutOfMemory`.
+    /// Fails with `OutOfMemory`.
     pub fn left_join(self, rhs: Select, on: Expr) -> Result<Select, Error>
         ensures ok { IfOk result (λ query. query ≡ join JoinKind.Left self rhs on no_clauses) }
         ensures kind { IfErr result (λ kind. kind ≡ OutOfMemory) }
@@ -126,11 +129,10 @@ impl Select {
         })
     }
 
-    /// The same rows with these columns, in this order, in place of those that were named before; an empty list keeps
-    /// all.
+    /// Selects these columns, in this order, in place of those that were named before; an empty list selects all.
     ///
     /// # Errors
-    /// `OutOfMemory`.
+    /// Fails with `OutOfMemory`.
     pub fn columns(self, names: &[&str]) -> Result<Select, Error>
         ensures ok { IfOk result (λ query. query ≡ projected_query self (map (λ name. name.now) names.now)) }
         ensures kind { IfErr result (λ kind. kind ≡ OutOfMemory) }
@@ -159,10 +161,11 @@ impl Select {
         Ok(Select { alloc, tree })
     }
 
-    /// Those of the rows for which the condition holds too. It is judged before columns are left out.
+    /// Restricts the query to the rows for which the condition holds too. The condition is evaluated before columns
+    /// are left out.
     ///
     /// # Errors
-    /// `OutOfMemory`.
+    /// Fails with `OutOfMemory`.
     pub fn with(self, condition: Expr) -> Result<Select, Error>
         ensures ok { IfOk result (λ query. query ≡ narrowed_query self condition) }
         ensures kind { IfErr result (λ kind. kind ≡ OutOfMemory) }
@@ -198,21 +201,6 @@ impl Select {
     }
 }
 
-/// Copies of the texts, in order.
-///
-/// # Errors
-/// `OutOfMemory`.
-fn copied_list(alloc: Global, texts: &[&str]) -> Result<Items<Text>, Error>
-    ensures ok { IfOk result (λ copies. copies ≡ map (λ text. text.now) texts.now) }
-    ensures kind { IfErr result (λ kind. kind ≡ OutOfMemory) }
-{
-    let mut copies = Vec::new(alloc);
-    for text in texts {
-        copies.push((*text).into_text(alloc)?)?;
-    }
-    Ok(Items::from_vec(copies))
-}
-
 impl SelectTree {
     /// The name of a table of which all is wanted.
     fn bare_name(&self) -> Option<&str>
@@ -237,7 +225,7 @@ impl JoinKind {
     }
 }
 
-/// Writes the columns that are kept, or a star for all.
+/// Writes the columns that are selected, or a star for all.
 fn write_names<W: fmt::Write>(f: &mut fmt::Formatter<W>, columns: &[Text]) -> fmt::Result
     ensures { DisplaysOnOk W.write_str_gives f.old result (Some (columns_text columns.now)) f.new }
 {
@@ -302,8 +290,8 @@ fn write_side<W: fmt::Write>(f: &mut fmt::Formatter<W>, tree: &SelectTree) -> fm
     }
 }
 
-/// Writes the query as SQL, as `SELECT Foo, Bar FROM Quux WHERE Foo > 42`. Literal texts past ASCII, and formats with a
-/// width or other options, are promised nothing.
+/// Writes the query as SQL, as `SELECT Foo, Bar FROM Quux WHERE Foo > 42`. Literal texts past ASCII, and formats with
+/// a width or other options, are promised nothing.
 impl fmt::Display for Select {
     ghost output = { query_text };
 

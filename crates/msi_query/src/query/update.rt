@@ -2,13 +2,13 @@
 
 ghost use Rattle.std.specs.Prelude.{◌≡◌, ◌++◌, ◌∷◌, [], IfOk, IfErr, None};
 ghost use Rattle.std.specs.Fmt.{DisplaysOnOk};
-ghost use Rattle.msi_text.specs.ErrorKind.TheVariants.{OutOfMemory};
+ghost use Rattle.msi_text_base.specs.declared.errors.ErrorKind.TheVariants.{OutOfMemory};
 ghost use Rattle.msi_query.specs.Queries.{narrowed as narrowed_by};
 ghost use Rattle.msi_query.specs.QueryTexts.{set_text, sets_text, update_text};
 
 use super::narrowed;
 use super::printing::{write_condition, write_list};
-use msi_expression::Expr;
+use msi_query_expressions::Expr;
 use msi_table::value::Value;
 use msi_text::errors::Error;
 use msi_text::text::{IntoText, Items, Text};
@@ -25,7 +25,7 @@ pub struct Assignment {
 
 impl Model for Assignment {
     ghost use Rattle.std.specs.Prelude.{List, ℕ};
-    ghost use Rattle.msi_value.specs.declared.value.Value.{Value as ValueOf};
+    ghost use Rattle.msi_table_values.specs.declared.value.Value.{Value as ValueOf};
 
     ghost Value = { List ℕ × ValueOf };
 
@@ -33,14 +33,14 @@ impl Model for Assignment {
 }
 
 impl Assignment {
-    /// The column's name.
+    /// Returns the column's name.
     pub fn column(&self) -> &str
         ensures { result.now ≡ self.now.0 }
     {
         self.column.as_str()
     }
 
-    /// The new value.
+    /// Returns the new value.
     pub fn value(&self) -> &Value
         ensures { result.now ≡ self.now.1 }
     {
@@ -56,8 +56,8 @@ impl fmt::Display for Assignment {
     }
 }
 
-/// New values for columns of a table's rows. A contract sees the table's name, the columns with their values, and the
-/// condition.
+/// A query that sets columns in rows of a table. A contract sees the table's name, the columns with their values, and
+/// the condition.
 #[derive(Drop)]
 pub struct Update {
     alloc: Global,
@@ -68,7 +68,7 @@ pub struct Update {
 
 impl Model for Update {
     ghost use Rattle.std.specs.Coded.{codes};
-    ghost use Rattle.msi_expression.specs.ExpressionCode.{expression_code};
+    ghost use Rattle.msi_query_expressions.specs.ExpressionCode.{expression_code};
     ghost use Rattle.msi_query.specs.Queries.{UpdateQuery};
 
     ghost Value = { UpdateQuery };
@@ -78,8 +78,8 @@ impl Model for Update {
     ghost view = { λ q. record { table = q.table; sets = q.sets; condition = q.condition } };
 }
 
-/// What an update is made of: the table's name, the columns with their new values in the order in which they were set,
-/// and the condition on the rows to be changed, if any.
+/// What an update is made of: the table's name, the columns with their new values in the order in which they were
+/// set, and the condition on the rows to be changed, if any.
 #[derive(Drop)]
 pub struct UpdateParts {
     pub table: Text,
@@ -88,10 +88,10 @@ pub struct UpdateParts {
 }
 
 impl Update {
-    /// All rows of the table of this name, with no new value yet.
+    /// Starts a query that changes all rows of the table of this name. It sets no column yet.
     ///
     /// # Errors
-    /// `OutOfMemory`.
+    /// Fails with `OutOfMemory`.
     pub fn table<S: IntoText>(alloc: Global, name: S) -> Result<Update, Error>
         ensures ok { IfOk result (λ query. query ≡ record { table = S.text name; sets = []; condition = None }) }
         ensures kind { IfErr result (λ kind. kind ≡ OutOfMemory) }
@@ -105,10 +105,10 @@ impl Update {
         })
     }
 
-    /// One more column with its new value. Of a column that is named more than once the last value stands.
+    /// Sets one more column to a new value. If a column is named more than once, its last value counts.
     ///
     /// # Errors
-    /// `OutOfMemory`.
+    /// Fails with `OutOfMemory`.
     pub fn set<S: IntoText>(self, column: S, value: Value) -> Result<Update, Error>
         ensures ok { IfOk result (λ query. query ≡ record self { sets = self.sets ++ ((S.text column, value) ∷ []) }) }
         ensures kind { IfErr result (λ kind. kind ≡ OutOfMemory) }
@@ -130,10 +130,10 @@ impl Update {
         })
     }
 
-    /// Those of the rows for which the condition holds too.
+    /// Restricts the query to rows for which the condition holds too.
     ///
     /// # Errors
-    /// `OutOfMemory`.
+    /// Fails with `OutOfMemory`.
     pub fn with(self, condition: Expr) -> Result<Update, Error>
         ensures ok { IfOk result (λ query. query ≡ record self { condition = narrowed_by self.condition condition }) }
         ensures kind { IfErr result (λ kind. kind ≡ OutOfMemory) }

@@ -1,14 +1,13 @@
-//! The summary's UUID, which tells one package from another (Revision Number of the Windows Installer SDK,
-//! property 9).
+//! The summary's UUID, which identifies a package (Revision Number of the Windows Installer SDK, property 9).
 
 ghost use Rattle.std.specs.Prelude.{◌≡◌, OnOk, OnErr};
-ghost use Rattle.msi_text.specs.Results.{OnlyMemory};
-ghost use Rattle.msi_property.specs.Properties.{without_value};
+ghost use Rattle.msi_text_base.specs.Results.{OnlyMemory};
+ghost use Rattle.msi_summary_properties.specs.Properties.{without_value};
 ghost use Rattle.msi_summary.specs.Summary.{uuid_id, uuid_of, with_uuid, without_braces};
 ghost use Rattle.uuid.specs.Text.{parsed};
 
 use crate::summary::SummaryInfo;
-use msi_property::PropertyValue;
+use msi_summary_properties::PropertyValue;
 use msi_text::errors::Error;
 use msi_text::parts::braced_uuid;
 use uuid::Uuid;
@@ -30,9 +29,9 @@ fn uuid_in(text: &str) -> Option<Uuid>
 }
 
 impl SummaryInfo {
-    /// The UUID of the package (property 9), read from its text without the braces at its ends, in any form
-    /// of a UUID's text. None where the property is missing or of another type, and where the text is in no
-    /// form of a UUID.
+    /// Returns the UUID of the package (property 9), read from its text without the braces at its ends, in any form
+    /// of a UUID's text. It is none if the property is missing or of another type, or if the text is in no form of a
+    /// UUID.
     pub fn uuid(&self) -> Option<Uuid>
         ensures { result ≡ uuid_of self.now }
     {
@@ -40,11 +39,11 @@ impl SummaryInfo {
         uuid_in(without_braces(text))
     }
 
-    /// Sets the UUID of the package (property 9), as a text in braces and in upper case. When refused, the
-    /// summary is as before.
+    /// Sets the UUID of the package (property 9), as a text in braces and in upper case. If it fails, the summary is
+    /// as before.
     ///
     /// # Errors
-    /// `OutOfMemory` where the text can't be made or stored.
+    /// Fails with `OutOfMemory` if the text can't be made or stored.
     pub fn set_uuid(&mut self, uuid: Uuid) -> Result<(), Error>
         ensures ok { OnOk result (self.new ≡ with_uuid uuid self.old) }
         ensures kind { OnlyMemory result }
@@ -54,7 +53,7 @@ impl SummaryInfo {
         self.put(UUID, PropertyValue::LpStr(text))
     }
 
-    /// Removes the UUID of the package (property 9), where it is there. It can't be refused.
+    /// Removes the UUID of the package (property 9), where it is there. It can't fail.
     pub fn clear_uuid(&mut self)
         ensures { self.new ≡ without_value uuid_id self.old }
     {

@@ -1,10 +1,10 @@
 //! The keywords (Keywords of the Windows Installer SDK, property 5): one text, in which a semicolon and a space
-//! part each two.
+//! separate them.
 
 ghost use Rattle.std.specs.Prelude.{◌≡◌, [], IfOk, OnOk, OnErr, codes, map, string_bytes};
 ghost use Rattle.std.specs.List.{join_by};
 ghost use Rattle.std.specs.Str.{trim_end};
-ghost use Rattle.msi_text.specs.Results.{OnlyMemory};
+ghost use Rattle.msi_text_base.specs.Results.{OnlyMemory};
 ghost use Rattle.msi_summary.specs.Summary.{keyword_pieces, keywords_in, keywords_of, with_keywords};
 
 use crate::summary::SummaryInfo;
@@ -53,12 +53,12 @@ fn joined(alloc: Global, words: &[String]) -> Result<String, Error>
 }
 
 impl SummaryInfo {
-    /// The keywords (property 5), in order: the pieces of their text between each two `; `, without the white
-    /// space at their right ends. Between two `; ` in a row there is an empty one. None where the property is
+    /// Returns the keywords (property 5), in order: the pieces of their text between each two `; `, without the white
+    /// space at their right ends. Between two `; ` in a row there is an empty one. There is none if the property is
     /// missing, of another type or the empty text.
     ///
     /// # Errors
-    /// `OutOfMemory` where the keywords can't be copied.
+    /// Fails with `OutOfMemory` if the keywords can't be copied.
     pub fn keywords(&self) -> Result<Vec<String>, Error>
         ensures ok { IfOk result (λ words. map string_bytes words.items ≡ keywords_of self.now) }
         ensures kind { OnlyMemory result }
@@ -66,12 +66,12 @@ impl SummaryInfo {
         keywords_in(self.allocator(), self.text(KEYWORDS).unwrap_or(""))
     }
 
-    /// Sets the keywords (property 5): their text is the keywords with `; ` between each two. A keyword that
-    /// holds `; ` reads back as several, a lone empty one as none, and white space at a right end doesn't
-    /// come back. When refused, the summary is as before.
+    /// Sets the keywords (property 5): their text is the keywords with `; ` between each two. A keyword that holds `;
+    /// ` reads back as several, a lone empty one as none, and white space at a right end doesn't come back. If it
+    /// fails, the summary is as before.
     ///
     /// # Errors
-    /// `OutOfMemory` where the text can't be made or stored.
+    /// Fails with `OutOfMemory` if the text can't be made or stored.
     pub fn set_keywords(&mut self, keywords: &[String]) -> Result<(), Error>
         ensures ok { OnOk result (self.new ≡ with_keywords (map string_bytes keywords.now) self.old) }
         ensures kind { OnlyMemory result }
@@ -81,11 +81,11 @@ impl SummaryInfo {
         self.set_text(KEYWORDS, text)
     }
 
-    /// Sets the keywords (property 5) to the empty text, which reads as no keyword. When refused, the summary
-    /// is as before.
+    /// Sets the keywords (property 5) to the empty text, which reads as no keyword. If it fails, the summary is as
+    /// before.
     ///
     /// # Errors
-    /// `OutOfMemory` where the property can't be stored.
+    /// Fails with `OutOfMemory` if the property can't be stored.
     pub fn clear_keywords(&mut self) -> Result<(), Error>
         ensures ok { OnOk result (self.new ≡ with_keywords [] self.old) }
         ensures kind { OnlyMemory result }

@@ -1,11 +1,11 @@
-//! The template (Template of the Windows Installer SDK, property 7): the architecture, and behind the first
-//! `;` the languages, parted by commas.
+//! The template (Template of the Windows Installer SDK, property 7): the architecture, and behind the first `;` the
+//! languages, separated by commas.
 
 ghost use Rattle.std.specs.Prelude.{◌≡◌, [], IfOk, OnOk, OnErr, string_bytes, unwrap_or};
 ghost use Rattle.std.specs.Option.{option_copied};
 ghost use Rattle.std.specs.List.{after_first, before_first, filter_map, slice_split};
 ghost use Rattle.msi_text.specs.Numerals.{u16_in};
-ghost use Rattle.msi_text.specs.Results.{OnlyMemory};
+ghost use Rattle.msi_text_base.specs.Results.{OnlyMemory};
 ghost use Rattle.msi_summary.specs.Summary.{arch_of, is_comma, is_semicolon, languages_of, nonempty, template_of};
 ghost use Rattle.msi_summary.specs.Summary.{with_arch, with_languages, with_template};
 
@@ -87,22 +87,21 @@ impl SummaryInfo {
         self.set_text(TEMPLATE, template)
     }
 
-    /// The architecture that the package is for, as `x64`: what the template (property 7) has before its
-    /// first `;`, or all of it without one. None where that is empty, and where the property is missing or of
-    /// another type.
+    /// Returns the architecture that the package is for, as `x64`: what the template (property 7) has before its
+    /// first `;`, or all of it without one. It is none if that is empty, or if the property is missing or of another
+    /// type.
     pub fn arch(&self) -> Option<&str>
         ensures { option_copied result ≡ arch_of self.now }
     {
         filled(arch_part(self.template()))
     }
 
-    /// Sets the architecture, which the template (property 7) has before its first `;`, and keeps what it has
-    /// behind. So the languages stay, but where the architecture has a `;` itself: it is then read back only
-    /// up to that `;`, and what it has behind becomes the front of the languages' text. When refused, the
-    /// summary is as before.
+    /// Sets the architecture, which the template (property 7) has before its first `;`, and keeps what it has behind.
+    /// So the languages stay, but where the architecture has a `;` itself: it is then read back only up to that `;`,
+    /// and what it has behind becomes the front of the languages' text. If it fails, the summary is as before.
     ///
     /// # Errors
-    /// `OutOfMemory` where the text can't be made or stored.
+    /// Fails with `OutOfMemory` if the text can't be made or stored.
     pub fn set_arch<S: IntoText>(&mut self, arch: S) -> Result<(), Error>
         ensures ok { OnOk result (self.new ≡ with_arch (S.text arch) self.old) }
         ensures kind { OnlyMemory result }
@@ -114,11 +113,11 @@ impl SummaryInfo {
         self.set_template(arch, languages.as_str())
     }
 
-    /// Sets the architecture to the empty text, which reads as none, and keeps what the template (property 7)
-    /// has behind its first `;`, so the languages stay. When refused, the summary is as before.
+    /// Sets the architecture to the empty text, which reads as none, and keeps what the template (property 7) has
+    /// behind its first `;`, so the languages stay. If it fails, the summary is as before.
     ///
     /// # Errors
-    /// `OutOfMemory` where the text can't be made or stored.
+    /// Fails with `OutOfMemory` if the text can't be made or stored.
     pub fn clear_arch(&mut self) -> Result<(), Error>
         ensures ok { OnOk result (self.new ≡ with_arch [] self.old) }
         ensures kind { OnlyMemory result }
@@ -127,12 +126,12 @@ impl SummaryInfo {
         self.set_arch("")
     }
 
-    /// The languages that the package is for, in order: the parts between commas that the template (property
-    /// 7) has behind its first `;`, as decimal numbers. A part that is no number below 2^16 is passed over.
-    /// None where there is no `;`, and where the property is missing or of another type.
+    /// Returns the languages that the package is for, in order: the parts between commas that the template (property
+    /// 7) has behind its first `;`, as decimal numbers. A part that is no number below 2^16 is passed over. There is
+    /// none if there is no `;`, or if the property is missing or of another type.
     ///
     /// # Errors
-    /// `OutOfMemory` where the list can't be made.
+    /// Fails with `OutOfMemory` if the list can't be made.
     pub fn languages(&self) -> Result<Vec<LanguageId>, Error>
         ensures ok { IfOk result (λ languages. languages.items ≡ languages_of self.now) }
         ensures kind { OnlyMemory result }
@@ -140,11 +139,11 @@ impl SummaryInfo {
         languages_in(self.allocator(), languages_part(self.template()))
     }
 
-    /// Sets the languages, which the template (property 7) has behind its first `;`, as decimal numbers with
-    /// a comma between each two. The architecture stays. When refused, the summary is as before.
+    /// Sets the languages, which the template (property 7) has behind its first `;`, as decimal numbers with a comma
+    /// between each two. The architecture stays. If it fails, the summary is as before.
     ///
     /// # Errors
-    /// `OutOfMemory` where the text can't be made or stored.
+    /// Fails with `OutOfMemory` if the text can't be made or stored.
     pub fn set_languages(&mut self, languages: &[LanguageId]) -> Result<(), Error>
         ensures ok { OnOk result (self.new ≡ with_languages languages.now self.old) }
         ensures kind { OnlyMemory result }
@@ -156,11 +155,11 @@ impl SummaryInfo {
         self.set_template(arch, ids.as_str())
     }
 
-    /// Sets the languages, which the template (property 7) has behind its first `;`, to none. The
-    /// architecture stays. When refused, the summary is as before.
+    /// Sets the languages, which the template (property 7) has behind its first `;`, to none. The architecture stays.
+    /// If it fails, the summary is as before.
     ///
     /// # Errors
-    /// `OutOfMemory` where the text can't be made or stored.
+    /// Fails with `OutOfMemory` if the text can't be made or stored.
     pub fn clear_languages(&mut self) -> Result<(), Error>
         ensures ok { OnOk result (self.new ≡ with_languages [] self.old) }
         ensures kind { OnlyMemory result }

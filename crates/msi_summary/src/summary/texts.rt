@@ -3,8 +3,8 @@
 
 ghost use Rattle.std.specs.Prelude.{◌≡◌, OnOk, OnErr};
 ghost use Rattle.std.specs.Option.{option_copied};
-ghost use Rattle.msi_text.specs.Results.{OnlyMemory};
-ghost use Rattle.msi_property.specs.Properties.{without_value};
+ghost use Rattle.msi_text_base.specs.Results.{OnlyMemory};
+ghost use Rattle.msi_summary_properties.specs.Properties.{without_value};
 ghost use Rattle.msi_summary.specs.Summary.{text_with_id, text_id, with_text};
 ghost use Rattle.msi_summary.specs.Summary as property;
 
@@ -25,18 +25,18 @@ const LAST_SAVED_BY: u32 = 8;
 const CREATING_APPLICATION: u32 = 18;
 
 impl SummaryInfo {
-    /// The title (Title, property 2): what the file is, as `Installation Database`. None where the property
-    /// is missing or of another type.
+    /// Returns the title (Title, property 2): what the file is, as `Installation Database`. It is none if the
+    /// property is missing or of another type.
     pub fn title(&self) -> Option<&str>
         ensures { option_copied result ≡ text_with_id (text_id property.title) self.now }
     {
         self.text(TITLE)
     }
 
-    /// Sets the title (property 2). When refused, the summary is as before.
+    /// Sets the title (property 2). If it fails, the summary is as before.
     ///
     /// # Errors
-    /// `OutOfMemory` where the text can't be copied or stored.
+    /// Fails with `OutOfMemory` if the text can't be copied or stored.
     pub fn set_title<S: IntoText>(&mut self, text: S) -> Result<(), Error>
         ensures ok { OnOk result (self.new ≡ with_text (text_id property.title) (S.text text) self.old) }
         ensures kind { OnlyMemory result }
@@ -45,25 +45,25 @@ impl SummaryInfo {
         self.set_text(TITLE, text)
     }
 
-    /// Removes the title (property 2), where it is there. It can't be refused.
+    /// Removes the title (property 2), where it is there. It can't fail.
     pub fn clear_title(&mut self)
         ensures { self.new ≡ without_value (text_id property.title) self.old }
     {
         self.clear(TITLE);
     }
 
-    /// The subject (Subject, property 3): the name of what is installed. None where the property is missing
-    /// or of another type.
+    /// Returns the subject (Subject, property 3): the name of what is installed. It is none if the property is
+    /// missing or of another type.
     pub fn subject(&self) -> Option<&str>
         ensures { option_copied result ≡ text_with_id (text_id property.subject) self.now }
     {
         self.text(SUBJECT)
     }
 
-    /// Sets the subject (property 3). When refused, the summary is as before.
+    /// Sets the subject (property 3). If it fails, the summary is as before.
     ///
     /// # Errors
-    /// `OutOfMemory` where the text can't be copied or stored.
+    /// Fails with `OutOfMemory` if the text can't be copied or stored.
     pub fn set_subject<S: IntoText>(&mut self, text: S) -> Result<(), Error>
         ensures ok { OnOk result (self.new ≡ with_text (text_id property.subject) (S.text text) self.old) }
         ensures kind { OnlyMemory result }
@@ -72,14 +72,14 @@ impl SummaryInfo {
         self.set_text(SUBJECT, text)
     }
 
-    /// Removes the subject (property 3), where it is there. It can't be refused.
+    /// Removes the subject (property 3), where it is there. It can't fail.
     pub fn clear_subject(&mut self)
         ensures { self.new ≡ without_value (text_id property.subject) self.old }
     {
         self.clear(SUBJECT);
     }
 
-    /// The author (Author, property 4): who made the package. None where the property is missing or of
+    /// Returns the author (Author, property 4): who made the package. It is none if the property is missing or of
     /// another type.
     pub fn author(&self) -> Option<&str>
         ensures { option_copied result ≡ text_with_id (text_id property.author) self.now }
@@ -87,10 +87,10 @@ impl SummaryInfo {
         self.text(AUTHOR)
     }
 
-    /// Sets the author (property 4). When refused, the summary is as before.
+    /// Sets the author (property 4). If it fails, the summary is as before.
     ///
     /// # Errors
-    /// `OutOfMemory` where the text can't be copied or stored.
+    /// Fails with `OutOfMemory` if the text can't be copied or stored.
     pub fn set_author<S: IntoText>(&mut self, text: S) -> Result<(), Error>
         ensures ok { OnOk result (self.new ≡ with_text (text_id property.author) (S.text text) self.old) }
         ensures kind { OnlyMemory result }
@@ -99,25 +99,25 @@ impl SummaryInfo {
         self.set_text(AUTHOR, text)
     }
 
-    /// Removes the author (property 4), where it is there. It can't be refused.
+    /// Removes the author (property 4), where it is there. It can't fail.
     pub fn clear_author(&mut self)
         ensures { self.new ≡ without_value (text_id property.author) self.old }
     {
         self.clear(AUTHOR);
     }
 
-    /// The comments (Comments, property 6): what the package is for. None where the property is missing or of
-    /// another type.
+    /// Returns the comments (Comments, property 6): what the package is for. It is none if the property is missing or
+    /// of another type.
     pub fn comments(&self) -> Option<&str>
         ensures { option_copied result ≡ text_with_id (text_id property.comments) self.now }
     {
         self.text(COMMENTS)
     }
 
-    /// Sets the comments (property 6). When refused, the summary is as before.
+    /// Sets the comments (property 6). If it fails, the summary is as before.
     ///
     /// # Errors
-    /// `OutOfMemory` where the text can't be copied or stored.
+    /// Fails with `OutOfMemory` if the text can't be copied or stored.
     pub fn set_comments<S: IntoText>(&mut self, text: S) -> Result<(), Error>
         ensures ok { OnOk result (self.new ≡ with_text (text_id property.comments) (S.text text) self.old) }
         ensures kind { OnlyMemory result }
@@ -126,14 +126,14 @@ impl SummaryInfo {
         self.set_text(COMMENTS, text)
     }
 
-    /// Removes the comments (property 6), where it is there. It can't be refused.
+    /// Removes the comments (property 6), where it is there. It can't fail.
     pub fn clear_comments(&mut self)
         ensures { self.new ≡ without_value (text_id property.comments) self.old }
     {
         self.clear(COMMENTS);
     }
 
-    /// Who saved the package last (Last Saved By, property 8). None where the property is missing or of
+    /// Returns who saved the package last (Last Saved By, property 8). It is none if the property is missing or of
     /// another type.
     pub fn last_saved_by(&self) -> Option<&str>
         ensures { option_copied result ≡ text_with_id (text_id property.last_saved_by) self.now }
@@ -141,10 +141,10 @@ impl SummaryInfo {
         self.text(LAST_SAVED_BY)
     }
 
-    /// Sets who saved the package last (property 8). When refused, the summary is as before.
+    /// Sets who saved the package last (property 8). If it fails, the summary is as before.
     ///
     /// # Errors
-    /// `OutOfMemory` where the text can't be copied or stored.
+    /// Fails with `OutOfMemory` if the text can't be copied or stored.
     pub fn set_last_saved_by<S: IntoText>(&mut self, text: S) -> Result<(), Error>
         ensures ok { OnOk result (self.new ≡ with_text (text_id property.last_saved_by) (S.text text) self.old) }
         ensures kind { OnlyMemory result }
@@ -153,14 +153,14 @@ impl SummaryInfo {
         self.set_text(LAST_SAVED_BY, text)
     }
 
-    /// Removes who saved the package last (property 8), where it is there. It can't be refused.
+    /// Removes who saved the package last (property 8), where it is there. It can't fail.
     pub fn clear_last_saved_by(&mut self)
         ensures { self.new ≡ without_value (text_id property.last_saved_by) self.old }
     {
         self.clear(LAST_SAVED_BY);
     }
 
-    /// The program that made the package (Creating Application, property 18). None where the property is
+    /// Returns the program that made the package (Creating Application, property 18). It is none if the property is
     /// missing or of another type.
     pub fn creating_application(&self) -> Option<&str>
         ensures { option_copied result ≡ text_with_id (text_id property.creating_application) self.now }
@@ -168,10 +168,10 @@ impl SummaryInfo {
         self.text(CREATING_APPLICATION)
     }
 
-    /// Sets the program that made the package (property 18). When refused, the summary is as before.
+    /// Sets the program that made the package (property 18). If it fails, the summary is as before.
     ///
     /// # Errors
-    /// `OutOfMemory` where the text can't be copied or stored.
+    /// Fails with `OutOfMemory` if the text can't be copied or stored.
     pub fn set_creating_application<S: IntoText>(&mut self, text: S) -> Result<(), Error>
         ensures ok { OnOk result (self.new
             ≡ with_text (text_id property.creating_application) (S.text text) self.old) }
@@ -181,7 +181,7 @@ impl SummaryInfo {
         self.set_text(CREATING_APPLICATION, text)
     }
 
-    /// Removes the program that made the package (property 18), where it is there. It can't be refused.
+    /// Removes the program that made the package (property 18), where it is there. It can't fail.
     pub fn clear_creating_application(&mut self)
         ensures { self.new ≡ without_value (text_id property.creating_application) self.old }
     {

@@ -1,9 +1,9 @@
-//! The summary's moments: properties that are a `FileTime` (MS-OLEPS 2.15), counted in steps of 100
-//! nanoseconds since the year 1601. Their names are those of the Windows Installer SDK.
+//! The summary's times: properties that are a `FileTime` (MS-OLEPS 2.15), counted in steps of 100 nanoseconds since
+//! the year 1601. Their names are those of the Windows Installer SDK.
 
 ghost use Rattle.std.specs.Prelude.{◌≡◌, OnOk, OnErr};
-ghost use Rattle.msi_text.specs.Results.{OnlyMemory};
-ghost use Rattle.msi_property.specs.Properties.{without_value};
+ghost use Rattle.msi_text_base.specs.Results.{OnlyMemory};
+ghost use Rattle.msi_summary_properties.specs.Properties.{without_value};
 ghost use Rattle.msi_summary.specs.Summary.{time_with_id, time_id, with_time};
 ghost use Rattle.msi_summary.specs.Summary as property;
 
@@ -18,18 +18,18 @@ const CREATION_TIME: u32 = 12;
 const LAST_SAVED_TIME: u32 = 13;
 
 impl SummaryInfo {
-    /// When the package was printed last (Last Printed, property 11); installers set it when an
-    /// administrative image is made. None where the property is missing or of another type.
+    /// Returns when the package was printed last (Last Printed, property 11); installers set it when an
+    /// administrative image is made. It is none if the property is missing or of another type.
     pub fn last_printed(&self) -> Option<Timestamp>
         ensures { result ≡ time_with_id (time_id property.last_printed) self.now }
     {
         self.time(LAST_PRINTED)
     }
 
-    /// Sets when the package was printed last (property 11). When refused, the summary is as before.
+    /// Sets when the package was printed last (property 11). If it fails, the summary is as before.
     ///
     /// # Errors
-    /// `OutOfMemory` where the property can't be stored.
+    /// Fails with `OutOfMemory` if the property can't be stored.
     pub fn set_last_printed(&mut self, time: Timestamp) -> Result<(), Error>
         ensures ok { OnOk result (self.new ≡ with_time (time_id property.last_printed) time self.old) }
         ensures kind { OnlyMemory result }
@@ -38,11 +38,11 @@ impl SummaryInfo {
         self.set_time(LAST_PRINTED, time)
     }
 
-    /// Sets when the package was printed last (property 11) to the present moment, which the caller hands in.
-    /// When refused, the summary is as before.
+    /// Sets when the package was printed last (property 11) to the present time, which the caller passes in. If it
+    /// fails, the summary is as before.
     ///
     /// # Errors
-    /// `OutOfMemory` where the property can't be stored.
+    /// Fails with `OutOfMemory` if the property can't be stored.
     pub fn set_last_printed_to_now(&mut self, now: Timestamp) -> Result<(), Error>
         ensures ok { OnOk result (self.new ≡ with_time (time_id property.last_printed) now self.old) }
         ensures kind { OnlyMemory result }
@@ -51,14 +51,14 @@ impl SummaryInfo {
         self.set_last_printed(now)
     }
 
-    /// Removes when the package was printed last (property 11), where it is there. It can't be refused.
+    /// Removes when the package was printed last (property 11), where it is there. It can't fail.
     pub fn clear_last_printed(&mut self)
         ensures { self.new ≡ without_value (time_id property.last_printed) self.old }
     {
         self.clear(LAST_PRINTED);
     }
 
-    /// When the package was made (Create Time/Date, property 12). None where the property is missing or of
+    /// Returns when the package was made (Create Time/Date, property 12). It is none if the property is missing or of
     /// another type.
     pub fn creation_time(&self) -> Option<Timestamp>
         ensures { result ≡ time_with_id (time_id property.creation_time) self.now }
@@ -66,10 +66,10 @@ impl SummaryInfo {
         self.time(CREATION_TIME)
     }
 
-    /// Sets when the package was made (property 12). When refused, the summary is as before.
+    /// Sets when the package was made (property 12). If it fails, the summary is as before.
     ///
     /// # Errors
-    /// `OutOfMemory` where the property can't be stored.
+    /// Fails with `OutOfMemory` if the property can't be stored.
     pub fn set_creation_time(&mut self, time: Timestamp) -> Result<(), Error>
         ensures ok { OnOk result (self.new ≡ with_time (time_id property.creation_time) time self.old) }
         ensures kind { OnlyMemory result }
@@ -78,11 +78,11 @@ impl SummaryInfo {
         self.set_time(CREATION_TIME, time)
     }
 
-    /// Sets when the package was made (property 12) to the present moment, which the caller hands in. When
-    /// refused, the summary is as before.
+    /// Sets when the package was made (property 12) to the present time, which the caller passes in. If it fails, the
+    /// summary is as before.
     ///
     /// # Errors
-    /// `OutOfMemory` where the property can't be stored.
+    /// Fails with `OutOfMemory` if the property can't be stored.
     pub fn set_creation_time_to_now(&mut self, now: Timestamp) -> Result<(), Error>
         ensures ok { OnOk result (self.new ≡ with_time (time_id property.creation_time) now self.old) }
         ensures kind { OnlyMemory result }
@@ -91,14 +91,14 @@ impl SummaryInfo {
         self.set_creation_time(now)
     }
 
-    /// Removes when the package was made (property 12), where it is there. It can't be refused.
+    /// Removes when the package was made (property 12), where it is there. It can't fail.
     pub fn clear_creation_time(&mut self)
         ensures { self.new ≡ without_value (time_id property.creation_time) self.old }
     {
         self.clear(CREATION_TIME);
     }
 
-    /// When the package was saved last (Last Saved Time/Date, property 13). None where the property is
+    /// Returns when the package was saved last (Last Saved Time/Date, property 13). It is none if the property is
     /// missing or of another type.
     pub fn last_saved_time(&self) -> Option<Timestamp>
         ensures { result ≡ time_with_id (time_id property.last_saved_time) self.now }
@@ -106,10 +106,10 @@ impl SummaryInfo {
         self.time(LAST_SAVED_TIME)
     }
 
-    /// Sets when the package was saved last (property 13). When refused, the summary is as before.
+    /// Sets when the package was saved last (property 13). If it fails, the summary is as before.
     ///
     /// # Errors
-    /// `OutOfMemory` where the property can't be stored.
+    /// Fails with `OutOfMemory` if the property can't be stored.
     pub fn set_last_save_time(&mut self, time: Timestamp) -> Result<(), Error>
         ensures ok { OnOk result (self.new ≡ with_time (time_id property.last_saved_time) time self.old) }
         ensures kind { OnlyMemory result }
@@ -118,11 +118,11 @@ impl SummaryInfo {
         self.set_time(LAST_SAVED_TIME, time)
     }
 
-    /// Sets when the package was saved last (property 13) to the present moment, which the caller hands in.
-    /// When refused, the summary is as before.
+    /// Sets when the package was saved last (property 13) to the present time, which the caller passes in. If it
+    /// fails, the summary is as before.
     ///
     /// # Errors
-    /// `OutOfMemory` where the property can't be stored.
+    /// Fails with `OutOfMemory` if the property can't be stored.
     pub fn set_last_save_time_to_now(&mut self, now: Timestamp) -> Result<(), Error>
         ensures ok { OnOk result (self.new ≡ with_time (time_id property.last_saved_time) now self.old) }
         ensures kind { OnlyMemory result }
@@ -131,7 +131,7 @@ impl SummaryInfo {
         self.set_last_save_time(now)
     }
 
-    /// Removes when the package was saved last (property 13), where it is there. It can't be refused.
+    /// Removes when the package was saved last (property 13), where it is there. It can't fail.
     pub fn clear_last_save_time(&mut self)
         ensures { self.new ≡ without_value (time_id property.last_saved_time) self.old }
     {

@@ -1,5 +1,5 @@
 use Rattle.std.proofs.Common.{subst, sym, ap}
-use Rattle.msi_kept.specs.Streams.{Streams}
+use Rattle.msi_database_storage.specs.Streams.{Streams}
 use Rattle.msi.specs.Flushing.{AreOthers}
 use Rattle.msi.proofs.flushing.renewed_streams.Goals.{then-is_pool_changed+in_ok-add_pool, else-is_pool_changed}
 use Rattle.msi.proofs.flushing.renewed_streams.Goals as goal

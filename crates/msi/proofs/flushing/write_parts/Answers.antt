@@ -1,9 +1,9 @@
 use Rattle.std.proofs.Common.{◌≡◌, Some, refl, rules, subst}
 use Rattle.std.specs.Vec.Iter.{into_iter_items}
-use Rattle.msi_text.specs.ErrorKind.TheVariants.{InvalidInput}
-use Rattle.msi_text.specs.Pool.{Pool}
-use Rattle.msi_relation.specs.Refusals.{IsRefusal, or_refused}
-use Rattle.msi_kept.specs.Streams.{Streams}
+use Rattle.msi_text_base.specs.declared.errors.ErrorKind.TheVariants.{InvalidInput}
+use Rattle.msi_text_pool.specs.Pool.{Pool}
+use Rattle.msi_query_rows.specs.Refusals.{IsRefusal, or_refused}
+use Rattle.msi_database_storage.specs.Streams.{Streams}
 use Rattle.msi.specs.Flushing.{Overwrites, renewed_over, root_contents, told, unwritten_of, with_renewed}
 use Rattle.msi.proofs.FlushStepLemmas.{flush_refused_as, flush_written, left_streams}
 use Rattle.msi.proofs.flushing.write_parts.Goals as goal

@@ -1,6 +1,6 @@
 use Rattle.std.proofs.Common.{◌∙◌, ap, sym}
 use Rattle.std.specs.FinMap.{entries}
-use Rattle.msi_kept.specs.Streams.{stream_at}
+use Rattle.msi_database_storage.specs.Streams.{stream_at}
 use Rattle.msi.proofs.OpenStepLemmas.{summary_stops}
 use Rattle.msi.proofs.opening.summary_in.Goals as goal
 

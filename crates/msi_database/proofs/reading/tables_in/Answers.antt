@@ -1,9 +1,9 @@
 use Rattle.std.proofs.Common.{◌≡◌, ◌∙◌, ap, sym, subst, Some, None}
 use Rattle.std.specs.Prelude.{map, option_map}
 use Rattle.std.specs.FinMap.{entries}
-use Rattle.msi_value.specs.CellValues.{row_values}
-use Rattle.msi_schema.specs.Schema.{SchemaRows, schema_of, tables_of}
-use Rattle.msi_schema.specs.System.{columns_columns, columns_name, tables_columns, tables_name, validation_columns, validation_name}
+use Rattle.msi_table_values.specs.CellValues.{row_values}
+use Rattle.msi_database_schema.specs.Schema.{SchemaRows, schema_of, tables_of}
+use Rattle.msi_database_schema.specs.System.{columns_columns, columns_name, tables_columns, tables_name, validation_columns, validation_name}
 use Rattle.msi_database.specs.Agreement.{described_by}
 use Rattle.msi_database.proofs.ReadingLemmas.{described_fails, schema_is, told_kind, told_long, told_ok}
 use Rattle.msi_database.proofs.reading.tables_in.Goals as goal

@@ -1,5 +1,5 @@
 use Rattle.std.proofs.Common.{◌≡◌, map, take}
-use Rattle.msi_value.specs.CellValues.{row_values}
+use Rattle.msi_table_values.specs.CellValues.{row_values}
 use Rattle.msi_database.proofs.reading.values_of_rows.Given as goal
 
 abbrev pub invariant-loop-row : goal.invariant-loop-row

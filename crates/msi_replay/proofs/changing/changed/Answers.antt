@@ -1,17 +1,17 @@
 use Rattle.std.proofs.Common.{◌≡◌, ◌∙◌, ℕ, List, Result, ap, refl, sym}
-use Rattle.msi_text.specs.ErrorKind.{ErrorKind}
-use Rattle.msi_value.specs.Columns.{ColumnDef}
-use Rattle.msi_changes.specs.Changes.{Change, sound_refusal}
-use Rattle.msi_changes.specs.Create as creates
-use Rattle.msi_changes.specs.Delete as deletes
-use Rattle.msi_changes.specs.Drop as drops
-use Rattle.msi_changes.specs.Insert as inserts
-use Rattle.msi_changes.specs.Update as updates
+use Rattle.msi_text_base.specs.declared.errors.ErrorKind.{ErrorKind}
+use Rattle.msi_table_values.specs.Columns.{ColumnDef}
+use Rattle.msi_database_changes.specs.Changes.{Change, sound_refusal}
+use Rattle.msi_database_changes.specs.Create as creates
+use Rattle.msi_database_changes.specs.Delete as deletes
+use Rattle.msi_database_changes.specs.Drop as drops
+use Rattle.msi_database_changes.specs.Insert as inserts
+use Rattle.msi_database_changes.specs.Update as updates
 use Rattle.std.specs.Prelude.{◌++◌, [], ◌∷◌, not, string_bytes}
-use Rattle.msi_text.specs.ErrorKind.TheVariants.{NotFound}
-use Rattle.msi_relation.specs.Refusals.{Refusals}
-use Rattle.msi_schema.specs.Keys.{stream_key}
-use Rattle.msi_kept.specs.Streams.{without_stream}
+use Rattle.msi_text_base.specs.declared.errors.ErrorKind.TheVariants.{NotFound}
+use Rattle.msi_query_rows.specs.Refusals.{Refusals}
+use Rattle.msi_database_schema.specs.Keys.{stream_key}
+use Rattle.msi_database_storage.specs.Streams.{without_stream}
 use Rattle.msi.specs.State.{State, parts_of}
 use Rattle.msi.specs.Calls as calls
 use Rattle.msi.specs.Steps.{changed, changing, has_stream, leaving, name_refusals, storage_refusal, with_page, with_streams, without_signature}

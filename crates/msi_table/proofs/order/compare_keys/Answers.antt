@@ -2,8 +2,8 @@ use Rattle.std.proofs.Common.{rules, ◌≡◌, ◌∙◌, sym, ap}
 use Rattle.std.specs.Prelude.{option_map}
 use Rattle.std.specs.Option.{option_cmp}
 use Rattle.std.specs.List.{slice_get}
-use Rattle.msi_value.specs.CellValues.{value_of_cell, row_values}
-use Rattle.msi_value.specs.Values.{value_cmp}
+use Rattle.msi_table_values.specs.CellValues.{value_of_cell, row_values}
+use Rattle.msi_table_values.specs.Values.{value_cmp}
 use Rattle.msi_table.proofs.RowOrderLemmas.{skipped, decided_here, decided_later, is_key, values_at}
 use Rattle.msi_table.proofs.order.compare_keys.Goals as goal
 

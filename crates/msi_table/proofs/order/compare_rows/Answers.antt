@@ -2,7 +2,7 @@ use Rattle.std.proofs.Common.{rules, ◌≡◌, ◌∙◌, sym, ap}
 use Rattle.std.specs.Prelude.{not}
 use Rattle.std.specs.Option.{option_cmp}
 use Rattle.std.specs.List.{slice_get}
-use Rattle.msi_value.specs.CellOrder.{cell_cmp}
+use Rattle.msi_table_values.specs.CellOrder.{cell_cmp}
 use Rattle.msi_table.proofs.RowOrderLemmas.{skipped, decided_here, decided_later, orders_rows}
 use Rattle.msi_table.proofs.order.compare_rows.Goals as goal
 

@@ -1,6 +1,6 @@
 use Rattle.std.proofs.Common.{◌∙◌, ap, arith}
 use Rattle.msi_table.specs.Cells.{cell_at}
-use Rattle.msi_value.specs.Columns.{ColumnDef, types_of}
+use Rattle.msi_table_values.specs.Columns.{ColumnDef, types_of}
 use Rattle.msi_table.proofs.PlacesLemmas.{tabulated_push, cell_read, cell_is_inside, start_more}
 use Rattle.msi_table.proofs.rows.read_row.Goals as goal
 

@@ -1,5 +1,5 @@
 use Rattle.msi_table.specs.Cells.{row_in}
-use Rattle.msi_value.specs.Columns.{types_of}
+use Rattle.msi_table_values.specs.Columns.{types_of}
 use Rattle.msi_table.proofs.PlacesLemmas.{tabulated_push}
 use Rattle.msi_table.proofs.rows.read_rows.Goals as goal
 

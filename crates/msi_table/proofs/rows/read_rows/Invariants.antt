@@ -1,7 +1,7 @@
 use Rattle.std.proofs.Common.{◌≡◌}
-use Rattle.msi_text.specs.Lists.{tabulated}
+use Rattle.msi_text_base.specs.Lists.{tabulated}
 use Rattle.msi_table.specs.Cells.{row_in}
-use Rattle.msi_value.specs.Columns.{types_of}
+use Rattle.msi_table_values.specs.Columns.{types_of}
 use Rattle.msi_table.proofs.rows.read_rows.Given as goal
 
 abbrev pub invariant-loop-i : goal.invariant-loop-i

@@ -1,5 +1,5 @@
 use Rattle.std.proofs.Common.{◌∙◌, ap, arith}
-use Rattle.msi_value.specs.Columns.{ColumnDef}
+use Rattle.msi_table_values.specs.Columns.{ColumnDef}
 use Rattle.msi_table.proofs.PlacesLemmas.{width_more}
 use Rattle.msi_table.proofs.rows.row_width.Goals as goal
 

@@ -1,6 +1,6 @@
 use Rattle.std.proofs.Common.{◌≡◌, ◌≤◌, ◌*◌, sum, take}
 use Rattle.msi_table.specs.Cells.{widths}
-use Rattle.msi_value.specs.Columns.{types_of}
+use Rattle.msi_table_values.specs.Columns.{types_of}
 use Rattle.msi_table.proofs.rows.row_width.Given as goal
 
 abbrev pub invariant-loop-column : goal.invariant-loop-column

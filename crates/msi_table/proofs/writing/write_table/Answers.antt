@@ -2,13 +2,13 @@ use Rattle.std.proofs.Common.{◌≡◌, ◌≤◌, ◌∙◌, ◌++◌, List, a
 use Rattle.std.specs.Prelude.{slice_index_or}
 use Rattle.std.proofs.lemmas.List.{append-nil, drop_all}
 use Rattle.std.proofs.lemmas.Option.{slice_get-get_or}
-use Rattle.msi_value.specs.declared.column.ColumnType.TheVariants as coltype
-use Rattle.msi_value.specs.declared.column.ColumnType.{ColumnType}
+use Rattle.msi_table_values.specs.declared.column.ColumnType.TheVariants as coltype
+use Rattle.msi_table_values.specs.declared.column.ColumnType.{ColumnType}
 use Rattle.msi_table.specs.Cells.{column_bytes, table_bytes, rows_in}
-use Rattle.msi_value.specs.Columns.{ColumnDef, types_of}
-use Rattle.msi_value.specs.Fitting.{FitsRow}
-use Rattle.msi_value.proofs.ColumnTypesLemmas.{below_types, length-types_of, type_at}
-use Rattle.msi_value.proofs.FittingLemmas.{fits_at}
+use Rattle.msi_table_values.specs.Columns.{ColumnDef, types_of}
+use Rattle.msi_table_values.specs.Fitting.{FitsRow}
+use Rattle.msi_table_values.proofs.ColumnTypesLemmas.{below_types, length-types_of, type_at}
+use Rattle.msi_table_values.proofs.FittingLemmas.{fits_at}
 use Rattle.msi_table.proofs.ReadBackLemmas.{all_at, column_written, rows_in-table_bytes}
 use Rattle.msi_table.proofs.writing.write_table.Goals as goal
 

@@ -1,6 +1,6 @@
 use Rattle.std.proofs.Common.{◌≡◌, ◌++◌, drop}
 use Rattle.msi_table.specs.Cells.{column_bytes, table_bytes}
-use Rattle.msi_value.specs.Columns.{types_of}
+use Rattle.msi_table_values.specs.Columns.{types_of}
 use Rattle.msi_table.proofs.writing.write_table.Given as goal
 
 abbrev pub invariant-loop-j : goal.invariant-loop-j

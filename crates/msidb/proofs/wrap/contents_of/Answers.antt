@@ -1,7 +1,7 @@
 use Rattle.std.proofs.Common.{◌≡◌, ◌∙◌, List, ℕ, ap, false}
 use Rattle.std.specs.FinMap.{FinMap, empty, insert}
-use Rattle.msi_container.specs.Contents.{Contents}
-use Rattle.msi_container.specs.Names.{name_cmp}
+use Rattle.msi_container_format.specs.declared.contents.Contents.{Contents}
+use Rattle.msi_container_format.specs.Names.{name_cmp}
 use Rattle.msidb.specs.Wrapped.{installer_clsid}
 use Rattle.msidb.proofs.wrap.contents_of.Goals as goal
 

@@ -1,10 +1,11 @@
 use Rattle.std.proofs.Common.{◌∙◌, Err, ap, subst}
 use Rattle.std.specs.Prelude.{Ok}
 use Rattle.msi_summary.specs.Summary.{new_summary}
+use Rattle.msi_database.proofs.CreatingLemmas.{error_passed}
 use Rattle.msi.specs.Calls as calls
 use Rattle.msi.specs.State.{State}
 use Rattle.msi.specs.Flushing.{FlushStep, IsCreateRefused, over_device, told}
-use Rattle.msi.proofs.CreatingLemmas.{err_as, fresh_held, is_err_of, made_from, made_held, made_refused, made_state}
+use Rattle.msi.proofs.CreatingLemmas.{err_as, fresh_held, made_from, made_held, made_refused, made_state}
 use Rattle.msi.proofs.package.Package.create.Goals as goal
 
 pub invariant_of-package : goal.invariant_of-package
@@ -17,7 +18,7 @@ returns-in_err-flush-clause-refused g c =
     (subst (λ (s : State). FlushStep (over_device s (g.F.Source.held c.args.inner) (g.F.Source.failed c.args.inner)) (Err c.in_err-flush.field-0.0) c.flush.new.self)
     (made_from c.args.kind c.in_ok-new_summary.field-0 c.in_ok-new.field-0 c.new-2.result.bytes (c.in_ok-new_summary.ensures.ok ∙ ap new_summary c.title.ensures) c.in_ok-new.ensures.ok)
     c.in_err-flush.ensures))
-    (is_err_of c.from_residual-in_err-flush.result c.in_err-flush.field-0.0 c.from_residual-in_err-flush.ensures.1)
+    (error_passed c.from_residual-in_err-flush.result c.in_err-flush.field-0.0 c.from_residual-in_err-flush.ensures.1)
 
 pub returns-clause-state : goal.returns-clause-state
 returns-clause-state g c =

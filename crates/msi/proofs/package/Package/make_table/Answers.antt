@@ -1,6 +1,10 @@
-use Rattle.msi_changes.specs.Create.{create_table}
-use Rattle.msi_changes.specs.Database.{Database}
-use Rattle.msi_database.proofs.AnswerLemmas.{err_passed}
+use Rattle.msi_query_rows.proofs.RefusalLemmas.{err_passed}
+use Rattle.std.proofs.Common.{true, refl, sym, subst}
+use Rattle.msi_database_changes.specs.Create.{create_table}
+use Rattle.msi_database_changes.specs.Database.{Database}
+use Rattle.msi.specs.State.{parts_of}
+use Rattle.msi.specs.Steps.{changing}
+use Rattle.msi.specs.Whole.{Leaves}
 use Rattle.msi.proofs.ChangeLemmas.{after_create, change_left, change_refused}
 use Rattle.msi.proofs.package.Package.make_table.Goals as goal
 
@@ -17,6 +21,12 @@ returns-in_err-is_pool_used-clause-kind g c =
 
 pub returns-clause-ok : goal.returns-clause-ok
 returns-clause-ok g c =
-    change_left _ c.args.self.now c.self.view_is (λ (d : Database). create_table d c.args.name.now c.args.columns) c.in_ok-check_storages.ensures
+    subst (Leaves c.args.self.now (changing (parts_of c.args.self.now.state) (λ (d : Database). create_table d c.args.name.now c.args.columns))) (sym c.note_change.ensures)
+    (change_left _ c.args.self.now c.self.view_is (λ (d : Database). create_table d c.args.name.now c.args.columns) c.in_ok-check_storages.ensures
     c.settle.new.database c.create_table.new.self c.settle.new.name c.settle.new.current.bytes c.in_ok-is_pool_used.is_pool_used
-    c.settle.ensures.database c.settle.ensures.taken c.in_ok-is_pool_used.ensures.ok c.in_ok-is_pool_used.ensures.used
+    c.settle.ensures.database c.settle.ensures.taken c.in_ok-is_pool_used.ensures.ok c.in_ok-is_pool_used.ensures.used)
+
+pub note_change-requires : goal.note_change-requires
+note_change-requires g c = λ used.
+    (after_create c.settle.new.database c.create_table.new.self c.settle.new.name true c.settle.ensures.taken c.settle.ensures.kept
+    c.args.name.now c.args.columns c.in_ok-is_pool_used.ensures.ok).changed refl

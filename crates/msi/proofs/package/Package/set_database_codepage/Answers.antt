@@ -1,6 +1,6 @@
 use Rattle.std.proofs.Common.{ap}
-use Rattle.msi_changes.specs.Database.{is_sound}
-use Rattle.msi_kept.specs.Kept.{Kept}
+use Rattle.msi_database_changes.specs.Database.{is_sound}
+use Rattle.msi_database_storage.specs.Kept.{Kept}
 use Rattle.msi.proofs.ChangeLemmas.{after_check}
 use Rattle.msi.proofs.package.Package.set_database_codepage.Goals as goal
 

@@ -1,3 +1,4 @@
+use Rattle.std.proofs.Common.{true, refl}
 use Rattle.msi.proofs.ChangeLemmas.{after_update}
 use Rattle.msi.proofs.package.Package.update_rows.Goals as goal
 
@@ -5,3 +6,8 @@ pub invariant_of-self-2 : goal.invariant_of-self-2
 invariant_of-self-2 g c =
     after_update c.settle.new.database c.update_rows.new.self c.settle.new.name _ c.settle.ensures.taken c.settle.ensures.kept
     c.args.query c.in_ok-is_pool_used.ensures.ok
+
+pub note_change-requires : goal.note_change-requires
+note_change-requires g c = λ used.
+    (after_update c.settle.new.database c.update_rows.new.self c.settle.new.name true c.settle.ensures.taken c.settle.ensures.kept
+    c.args.query c.in_ok-is_pool_used.ensures.ok).changed refl

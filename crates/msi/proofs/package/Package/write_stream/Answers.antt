@@ -1,9 +1,8 @@
 use Rattle.std.proofs.Common.{◌∙◌, ap}
-use Rattle.msi_changes.specs.Database.{is_sound}
-use Rattle.msi_kept.specs.Kept.{Kept}
-use Rattle.msi_stream.proofs.DeskLemmas.{lent_same}
+use Rattle.msi_database_changes.specs.Database.{is_sound}
+use Rattle.msi_database_storage.specs.Kept.{Kept}
 use Rattle.msi.proofs.StreamRefusalLemmas.{key_accepted, key_is, storages_seen, write_passes}
-use Rattle.msi.proofs.StreamWriteLemmas.{left_written, opened_held, stream_is_other}
+use Rattle.msi.proofs.StreamWriteLemmas.{left_written, lent_same, opened_held, stream_is_other}
 use Rattle.msi.proofs.package.Package.write_stream.Goals as goal
 
 pub replace_stream-requires : goal.replace_stream-requires

@@ -1,12 +1,12 @@
 use Rattle.std.proofs.Common.{◌≡◌, ◌∷◌, [], subst, sym}
-use Rattle.std.proofs.lemmas.Result.{IfOk-weaker}
+use Rattle.std.proofs.lemmas.Result.{IfOk-weaker, on_ok_weaker}
 use Rattle.msi_query.specs.Queries.{DeleteQuery}
-use Rattle.msi_changes.specs.Delete.{delete_rows}
-use Rattle.msi_kept.specs.Kept.{kept_of}
-use Rattle.msi_kept.specs.Storing.{stored_in}
+use Rattle.msi_database_changes.specs.Delete.{delete_rows}
+use Rattle.msi_database_storage.specs.Kept.{kept_of}
+use Rattle.msi_database_storage.specs.Storing.{stored_in}
 use Rattle.msi_database.specs.Listed.{tables_listed}
 use Rattle.msi_database.specs.Making.{Leaves, TellsUse, delete_of}
-use Rattle.msi_database.proofs.RowCallLemmas.{makes_kept, makes_leaves, on_ok}
+use Rattle.msi_database.proofs.RowCallLemmas.{makes_kept, makes_leaves}
 use Rattle.msi_database.proofs.database.Database.delete_rows.Goals as goal
 
 pub finish_rows-requires-clause-kept : goal.finish_rows-requires-clause-kept
@@ -16,7 +16,7 @@ finish_rows-requires-clause-kept c = let old = c.args.self.now in
 pub returns-clause-ok : goal.returns-clause-ok
 returns-clause-ok c = let old = c.args.self.now in let new = c.finish_rows.new.self in
     let same : delete_of c.delete_parts.result ≡ c.args.query = λ i. record { table = c.delete_parts.ensures.table i; condition = c.delete_parts.ensures.condition i } in
-    on_ok c.finish_rows.result (new ≡ kept_of c.in_ok-new.new.pool (tables_listed old.database) (stored_in (c.in_ok-new.new.stored ∷ []) old.streams)) _
+    on_ok_weaker {P = new ≡ kept_of c.in_ok-new.new.pool (tables_listed old.database) (stored_in (c.in_ok-new.new.stored ∷ []) old.streams)} c.finish_rows.result
     (λ e. subst (λ (q : DeleteQuery). Leaves old (delete_rows old.database q) new) same
     (makes_leaves old new (delete_rows old.database (delete_of c.delete_parts.result)) c.in_ok-new.new.pool (tables_listed old.database) (c.in_ok-new.new.stored ∷ []) c.in_ok-new.ensures.ok e))
     c.finish_rows.ensures.ok

@@ -1,4 +1,4 @@
-use Rattle.msi_changes.specs.Drop.{drop_table}
+use Rattle.msi_database_changes.specs.Drop.{drop_table}
 use Rattle.msi_database.proofs.RowCallLemmas.{makes_kept, makes_leaves}
 use Rattle.msi_database.proofs.database.Database.drop_table.Goals as goal
 

@@ -1,6 +1,6 @@
 use Rattle.std.proofs.Common.{◌∙◌, ap, [], ◌∷◌, ◌++◌, List}
 use Rattle.std.specs.Vec.Iter.{into_iter_items}
-use Rattle.msi_kept.specs.declared.storing.Stored.{Stored}
+use Rattle.msi_database_storage.specs.declared.storing.Stored.{Stored}
 use Rattle.msi_database.proofs.ChangingLemmas.{rows_moved_in, streams_stored}
 use Rattle.msi_database.proofs.database.Database.finish_rows.Goals as goal
 

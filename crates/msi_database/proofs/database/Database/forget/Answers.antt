@@ -1,7 +1,7 @@
 use Rattle.std.proofs.Common.{not, ◌++◌, List, subst, ap, ◌∙◌}
-use Rattle.msi_changes.specs.Drop.{is_row_about}
-use Rattle.msi_kept.specs.declared.storing.Stored.{Stored}
-use Rattle.msi_kept.specs.Kept.{Kept}
+use Rattle.msi_database_changes.specs.Drop.{is_row_about}
+use Rattle.msi_database_storage.specs.declared.storing.Stored.{Stored}
+use Rattle.msi_database_storage.specs.Kept.{Kept}
 use Rattle.msi_database.specs.Keeping.{IsKeptDatabase}
 use Rattle.msi_database.proofs.DroppingCallLemmas.{fewer_fit, forgot}
 use Rattle.msi_database.proofs.database.Database.forget.Goals as goal

@@ -1,10 +1,11 @@
 use Rattle.std.proofs.Common.{Some}
-use Rattle.msi_database.proofs.OtherLemmas.{absent_before, after_all, held_before, stays, there_after}
+use Rattle.msi_text_base.proofs.ResultLemmas.{on_err_from}
+use Rattle.msi_database.proofs.OtherLemmas.{absent_before, held_before, stays, there_after}
 use Rattle.msi_database.proofs.database.Database.replace_stream.Goals as goal
 
 pub returns-in_err-replace-clause-absent : goal.returns-in_err-replace-clause-absent
 returns-in_err-replace-clause-absent c = let d = c.self.inside in
-    after_all c.from_residual.result _
+    on_err_from c.from_residual.result
     (absent_before d.pool d.tables d.streams d.is_sound c.args.self.now c.self.view_is c.args.name c.in_err-replace.ensures.absent)
 
 pub invariant_of-self-2 : goal.invariant_of-self-2

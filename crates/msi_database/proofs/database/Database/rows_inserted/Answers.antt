@@ -1,11 +1,11 @@
 use Rattle.std.proofs.Common.{◌∙◌, ap, ap₂, sym, List}
-use Rattle.msi_value.specs.declared.value.Value.{Value}
-use Rattle.msi_value.specs.declared.value.ValueRef.{ValueRef}
-use Rattle.msi_relation.specs.Refusals.{first_refusal}
-use Rattle.msi_changes.specs.Insert.{row_refusals, table_with}
-use Rattle.msi_kept.specs.Kept.{Kept}
+use Rattle.msi_table_values.specs.declared.value.Value.{Value}
+use Rattle.msi_table_values.specs.declared.value.ValueRef.{ValueRef}
+use Rattle.msi_query_rows.specs.Refusals.{first_refusal}
+use Rattle.msi_query_rows.proofs.RefusalLemmas.{err_passed}
+use Rattle.msi_database_changes.specs.Insert.{row_refusals, table_with}
+use Rattle.msi_database_storage.specs.Kept.{Kept}
 use Rattle.msi_database.specs.Making.{insert_of}
-use Rattle.msi_database.proofs.AnswerLemmas.{err_passed}
 use Rattle.msi_database.proofs.InsertCallLemmas.{insert_full}
 use Rattle.msi_database.proofs.RowCallLemmas.{insert_called}
 use Rattle.msi_database.proofs.database.Database.rows_inserted.Goals as goal

@@ -1,9 +1,9 @@
 use Rattle.std.proofs.Common.{◌∙◌, ap, sym, List}
-use Rattle.msi_value.specs.declared.value.ValueRef.{ValueRef}
-use Rattle.msi_relation.specs.Refusals.{first_refusal}
-use Rattle.msi_changes.specs.Insert.{table_with}
-use Rattle.msi_changes.specs.Update.{update_refusals}
-use Rattle.msi_changes.specs.RowUpdates.{update_of}
+use Rattle.msi_table_values.specs.declared.value.ValueRef.{ValueRef}
+use Rattle.msi_query_rows.specs.Refusals.{first_refusal}
+use Rattle.msi_database_changes.specs.Insert.{table_with}
+use Rattle.msi_database_changes.specs.Update.{update_refusals}
+use Rattle.msi_database_changes.specs.RowUpdates.{update_of}
 use Rattle.msi_database.proofs.RowCallLemmas.{update_called}
 use Rattle.msi_database.proofs.database.Database.rows_updated.Goals as goal
 

@@ -2,9 +2,9 @@ use Rattle.std.proofs.Common.{subst}
 use Rattle.std.proofs.lemmas.Result.{IfOk-weaker}
 use Rattle.std.specs.FinMap.{entries}
 use Rattle.msi_table.specs.Rows.{AreAsWide}
-use Rattle.msi_relation.specs.Width.{AreWide}
-use Rattle.msi_changes.specs.Database.{table_at}
-use Rattle.msi_kept.specs.Kept.{Kept, kept_of}
+use Rattle.msi_query_rows.specs.Width.{AreWide}
+use Rattle.msi_database_changes.specs.Database.{table_at}
+use Rattle.msi_database_storage.specs.Kept.{Kept, kept_of}
 use Rattle.msi_database.proofs.WholeLemmas.{kept_wide}
 use Rattle.msi_database.proofs.database.Database.select.Goals as goal
 

@@ -1,9 +1,9 @@
 use Rattle.std.proofs.Common.{◌≡◌, sym, subst, Some, true}
 use Rattle.std.proofs.lemmas.Result.{IfOk-weaker}
 use Rattle.std.specs.FinMap.{entries}
-use Rattle.msi_changes.specs.Database.{is_sound}
-use Rattle.msi_kept.specs.Kept.{Kept}
-use Rattle.msi_kept.specs.Streams.{stored_rows}
+use Rattle.msi_database_changes.specs.Database.{is_sound}
+use Rattle.msi_database_storage.specs.Kept.{Kept}
+use Rattle.msi_database_storage.specs.Streams.{stored_rows}
 use Rattle.msi_database.specs.Listed.{table_def_at}
 use Rattle.msi_database.proofs.ChangingLemmas.{found_with, only_memory}
 use Rattle.msi_database.proofs.database.Database.sound_rows.Goals as goal

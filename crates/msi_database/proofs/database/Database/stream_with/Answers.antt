@@ -1,14 +1,14 @@
 use Rattle.std.proofs.Common.{◌≡◌, subst}
-use Rattle.msi_schema.specs.Keys.{table_key}
-use Rattle.msi_changes.proofs.RefusedLemmas.{refusal_passed}
-use Rattle.msi_kept.specs.Streams.{stream_of_rows}
+use Rattle.msi_query_rows.proofs.RefusalLemmas.{err_passed}
+use Rattle.msi_database_schema.specs.Keys.{table_key}
+use Rattle.msi_database_storage.specs.Streams.{stream_of_rows}
 use Rattle.msi_database.specs.Keeping.{IsKeptDatabase}
 use Rattle.msi_database.proofs.CreatingCallLemmas.{always_ok, both_ok, rows_full, rows_stored}
 use Rattle.msi_database.proofs.database.Database.stream_with.Goals as goal
 
 pub returns-in_err-all-clause-kind : goal.returns-in_err-all-clause-kind
 returns-in_err-all-clause-kind c =
-    refusal_passed c.from_residual-in_err-all.result c.in_err-all.field-0.0 _ c.from_residual-in_err-all.ensures.1
+    err_passed c.from_residual-in_err-all.result c.in_err-all.field-0.0 _ c.from_residual-in_err-all.ensures.1
     (rows_full c.args.self.now (subst IsKeptDatabase c.self.view_is c.self.invariant.kept) c.requires.sound c.args.name.now c.in-Some.table.now c.in-Some.ensures c.columns-columns.result.now c.columns-columns.ensures.columns
     c.in_ok-held.held.items c.in_ok-held.ensures.ok c.args.values.items c.args.pool.now c.requires.long c.pool.result.now c.pool.ensures c.as_slice.result.now c.as_slice.ensures.value c.as_slice-2.result.now c.as_slice-2.ensures.value
     c.in_ok-refuse_rows.ensures.ok c.in_err-all.field-0.0 c.in_err-all.ensures.kind)

@@ -1,15 +1,15 @@
 use Rattle.std.proofs.Common.{List, subst, sym}
 use Rattle.msi_table.specs.Tables.{TableDef}
-use Rattle.msi_changes.specs.Create.{create_table}
-use Rattle.msi_changes.specs.Texts.{in_use}
-use Rattle.msi_changes.proofs.RefusedLemmas.{refusal_passed}
+use Rattle.msi_query_rows.proofs.RefusalLemmas.{err_passed}
+use Rattle.msi_database_changes.specs.Create.{create_table}
+use Rattle.msi_database_changes.specs.Texts.{in_use}
 use Rattle.msi_database.specs.Making.{Makes, TellsUse}
 use Rattle.msi_database.proofs.CreatingCallLemmas.{call_barred, call_began, call_creates, call_pool, call_refused, pool_within}
 use Rattle.msi_database.proofs.database.Database.table_created.Goals as goal
 
 pub returns-in_err-refuse_create-clause-kind : goal.returns-in_err-refuse_create-clause-kind
 returns-in_err-refuse_create-clause-kind c = let k = c.in_err-refuse_create.field-0.0 in
-    refusal_passed c.from_residual.result k _ c.from_residual.ensures.1
+    err_passed c.from_residual.result k _ c.from_residual.ensures.1
     (call_barred c.args.self.now.database c.args.name.now c.args.columns c.as_slice.result.now c.as_slice.ensures k c.in_err-refuse_create.ensures.value)
 
 pub streams_described-requires-clause-within : goal.streams_described-requires-clause-within
@@ -19,7 +19,7 @@ streams_described-requires-clause-within c = let d = c.self.inside in let before
 
 pub returns-in_err-stored-clause-kind : goal.returns-in_err-stored-clause-kind
 returns-in_err-stored-clause-kind c = let d = c.self.inside in let k = c.in_err-stored.field-0.0 in
-    refusal_passed c.from_residual-in_err-stored.result k _ c.from_residual-in_err-stored.ensures.1
+    err_passed c.from_residual-in_err-stored.result k _ c.from_residual-in_err-stored.ensures.1
     (call_refused d.pool d.tables d.streams d.is_sound c.self.invariant c.args.self.now c.self.view_is c.in_ok-clone.field-0 c.in_ok-clone.ensures.ok c.new-pool.result c.new-pool.ensures
     c.in_ok-refuse_create.ensures.sound c.args.name.now c.args.columns c.as_slice.result.now c.as_slice.ensures c.in_ok-refuse_create.field-0 c.in_ok-refuse_create.ensures.value
     c.as_slice-2.result.now c.as_slice-2.ensures k c.in_err-stored.ensures.kind)

@@ -1,10 +1,10 @@
 use Rattle.std.proofs.Common.{ap, ◌++◌}
 use Rattle.std.specs.FinMap.{entries}
-use Rattle.msi_changes.specs.Drop.{drop_table}
-use Rattle.msi_changes.specs.Changes.{no_change, pool_of}
-use Rattle.msi_schema.specs.System.{tables_name, columns_name, validation_name}
-use Rattle.msi_changes.proofs.RefusedLemmas.{refusal_passed}
-use Rattle.msi_kept.specs.Kept.{Kept}
+use Rattle.msi_query_rows.proofs.RefusalLemmas.{err_passed}
+use Rattle.msi_database_changes.specs.Drop.{drop_table}
+use Rattle.msi_database_changes.specs.Changes.{no_change, pool_of}
+use Rattle.msi_database_schema.specs.System.{tables_name, columns_name, validation_name}
+use Rattle.msi_database_storage.specs.Kept.{Kept}
 use Rattle.msi_database.specs.Dropping.{about_given_back, rows_given_back, own_stream, system_stream}
 use Rattle.msi_database.proofs.RefusedCallLemmas.{drop_barred}
 use Rattle.msi_database.proofs.DroppingCallLemmas.{DropMade, began_by, drop_called, went_on}
@@ -32,7 +32,7 @@ made c = let own = c.self.inside in let k = c.args.self.now in let d = k.databas
 
 pub returns-in_err-refuse_drop-clause-kind : goal.returns-in_err-refuse_drop-clause-kind
 returns-in_err-refuse_drop-clause-kind c = let d = c.args.self.now.database in let name = c.args.name.now in
-    refusal_passed c.from_residual.result c.in_err-refuse_drop.field-0.0 (drop_table d name) c.from_residual.ensures.1
+    err_passed c.from_residual.result c.in_err-refuse_drop.field-0.0 (drop_table d name) c.from_residual.ensures.1
     (drop_barred d name c.in_err-refuse_drop.field-0.0 c.in_err-refuse_drop.ensures.kind)
 
 pub returns-clause-ok : goal.returns-clause-ok

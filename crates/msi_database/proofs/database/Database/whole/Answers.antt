@@ -1,7 +1,7 @@
 use Rattle.std.proofs.Common.{◌≡◌, ap, sym, ◌∙◌, inr, Some, None, option_copied}
 use Rattle.std.specs.FinMap.{entries}
-use Rattle.msi_kept.specs.Kept.{table_kept_at}
-use Rattle.msi_database.proofs.AnswerLemmas.{err_passed}
+use Rattle.msi_query_rows.proofs.RefusalLemmas.{err_passed}
+use Rattle.msi_database_storage.specs.Kept.{table_kept_at}
 use Rattle.msi_database.proofs.WholeLemmas.{whole_none, whole_ok, whole_refused}
 use Rattle.msi_database.proofs.database.Database.whole.Goals as goal
 

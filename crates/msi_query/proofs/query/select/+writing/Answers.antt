@@ -1,7 +1,7 @@
 use Rattle.std.proofs.Common.{ℕ, ◌++◌, List, Option, Some, codes, refl}
 use Rattle.std.specs.Prelude.{option_copied}
 use Rattle.std.specs.Fmt.{◌++?◌}
-use Rattle.msi_expression.specs.Printing.{expression_text}
+use Rattle.msi_query_expressions.specs.Printing.{expression_text}
 use Rattle.msi_query.specs.Queries.{Query}
 use Rattle.msi_query.specs.QueryTexts.{columns_text, query_text, side_text, where_text}
 use Rattle.msi_query.specs.QueryTrees.{query_of}

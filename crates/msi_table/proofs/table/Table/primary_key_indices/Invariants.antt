@@ -1,5 +1,5 @@
 use Rattle.std.proofs.Common.{◌≡◌, ◌++◌, drop}
-use Rattle.msi_value.specs.Columns.{key_places, key_places_from}
+use Rattle.msi_table_values.specs.Columns.{key_places, key_places_from}
 use Rattle.msi_table.proofs.table.Table.primary_key_indices.Given as goal
 
 abbrev pub invariant-loop-i : goal.invariant-loop-i

@@ -1,0 +1,44 @@
+//! The errors of this program: those of the two libraries that it uses.
+
+use std::alloc::AllocError;
+use std::{fmt, io};
+
+/// An error of the package, or of the CSV writer.
+#[derive(Debug, Drop)]
+pub(crate) enum Failure {
+    Package(msi::Error),
+    Csv(csv::Error),
+}
+
+impl fmt::Display for Failure {
+    fn fmt<W: fmt::Write>(&self, f: &mut fmt::Formatter<W>) -> fmt::Result {
+        match self {
+            Failure::Package(error) => write!(f, "{error}"),
+            Failure::Csv(error) => write!(f, "{error}"),
+        }
+    }
+}
+
+impl From<msi::Error> for Failure {
+    fn from(error: msi::Error) -> Failure {
+        Failure::Package(error)
+    }
+}
+
+impl From<csv::Error> for Failure {
+    fn from(error: csv::Error) -> Failure {
+        Failure::Csv(error)
+    }
+}
+
+impl From<io::Error> for Failure {
+    fn from(error: io::Error) -> Failure {
+        Failure::Package(msi::Error::from(error))
+    }
+}
+
+impl From<AllocError> for Failure {
+    fn from(error: AllocError) -> Failure {
+        Failure::Package(msi::Error::from(error))
+    }
+}

@@ -1,0 +1,79 @@
+//! Prints a table of an installer package as CSV, by `example FILE TABLE`. Without arguments it runs the code of
+//! `docs/GUIDE.md`.
+#![tactic(auto)]
+
+mod failure;
+mod guide;
+
+use csv::Writer;
+use failure::Failure;
+use msi::{Select, Value};
+use std::alloc::{AllocError, Global};
+use std::io::{Read, Seek};
+use std::process::ExitCode;
+use std::rt::{Env, Files};
+use std::{env, io};
+
+/// Prints a table as CSV: the names of its columns, then its rows.
+fn print_table<R>(rt: &R, file: &str, table: &str) -> Result<(), Failure>
+where
+    R: Files + Print + AllocGlobal,
+    R::File: Read + Seek + Drop,
+{
+    let package = msi::open(rt, file)?;
+    let rows = package.select_rows(Select::table(rt.alloc(), table)?)?;
+    let mut output = Writer::from_writer(io::writer(rt));
+    for column in rows.columns() {
+        output.write_field(column.name().as_bytes())?;
+    }
+    output.end_record()?;
+    for row in rows {
+        let row = row?;
+        for i in 0..row.len() {
+            let text = text_of(rt.alloc(), &row[i])?;
+            output.write_field(text.as_bytes())?;
+        }
+        output.end_record()?;
+    }
+    output.flush()?;
+    Ok(())
+}
+
+/// Returns the text of a value. Null has no text, and `binary` stands for a stream.
+fn text_of(alloc: Global, value: &Value) -> Result<String, AllocError> {
+    match value {
+        Value::Null => Ok(String::new(alloc)),
+        Value::Int(number) => number.to_string(alloc),
+        Value::Str(text) => text.to_string(alloc),
+        Value::Binary => "binary".to_string(alloc),
+    }
+}
+
+/// Does what the arguments ask for, and returns whether they are right.
+fn run<R>(rt: &R) -> Result<bool, Failure>
+where
+    R: Files + Env + Print + AllocGlobal,
+    R::File: Read + Seek + Drop,
+{
+    let words: Vec<String> = env::args(rt)?.skip(1).collect(rt.alloc())?;
+    match words.as_slice() {
+        [] => guide::follow(rt)?,
+        [file, table] => print_table(rt, file.as_str(), table.as_str())?,
+        _ => return Ok(false),
+    }
+    Ok(true)
+}
+
+fn main(rt: HostRuntime) -> ExitCode {
+    match run(&rt) {
+        Ok(true) => ExitCode::SUCCESS,
+        Ok(false) => {
+            let _ = eprintln!(rt; "usage: example [FILE TABLE]");
+            ExitCode::from(2)
+        }
+        Err(failure) => {
+            let _ = eprintln!(rt; "example: {failure}");
+            ExitCode::FAILURE
+        }
+    }
+}

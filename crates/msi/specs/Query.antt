@@ -1,0 +1,21 @@
+-- The words of expressions and queries, which public clauses cite.
+pub use Rattle.msi_query.specs.Queries
+pub use Rattle.msi_query.specs.QueryCode
+pub use Rattle.msi_query.specs.QueryTrees
+pub use Rattle.msi_query.specs.QueryTexts
+pub use Rattle.msi_query.specs.UnaryOp
+pub use Rattle.msi_query.specs.BinaryOp
+pub use Rattle.msi_query.specs.Expressions
+pub use Rattle.msi_query.specs.ExpressionCode
+pub use Rattle.msi_query.specs.Evaluation
+pub use Rattle.msi_query.specs.Conditions
+pub use Rattle.msi_query.specs.Equated
+pub use Rattle.msi_query.specs.Folding
+pub use Rattle.msi_query.specs.Names
+pub use Rattle.msi_query.specs.Trees
+pub use Rattle.msi_query.specs.RowFilters
+pub use Rattle.msi_query.specs.Printing
+pub use Rattle.msi_query.specs.Vocabulary
+pub use Rattle.msi_query_rows.specs.Refusals
+pub use Rattle.msi_query_rows.specs.Selection
+pub use Rattle.msi_query_rows.specs.Rows

@@ -1,0 +1,19 @@
+-- The words of values, columns and tables, which public clauses cite.
+pub use Rattle.msi_table.specs.Cells
+pub use Rattle.msi_table.specs.StoredOrder
+pub use Rattle.msi_table.specs.KeyOrder
+pub use Rattle.msi_table.specs.Tables
+pub use Rattle.msi_table.specs.Rows
+pub use Rattle.msi_table.specs.SortedRows
+pub use Rattle.msi_table_values.specs.declared.column.ColumnType
+pub use Rattle.msi_table_values.specs.declared.value.Value
+pub use Rattle.msi_table_values.specs.declared.value.ValueRef
+pub use Rattle.msi_table_values.specs.Refusals
+pub use Rattle.msi_table_values.specs.Values
+pub use Rattle.msi_table_values.specs.Columns
+pub use Rattle.msi_table_values.specs.ValidValues
+pub use Rattle.msi_table_values.specs.CellValues
+pub use Rattle.msi_table_values.specs.CellOrder
+pub use Rattle.msi_table_values.specs.OrderLaws
+pub use Rattle.msi_table_values.specs.Fitting
+pub use Rattle.msi_table_values.specs.StoredValues

@@ -1,0 +1,25 @@
+-- The words of texts, code pages and the string pool, which public clauses cite.
+pub use Rattle.msi_text.specs.Numerals
+pub use Rattle.msi_text.specs.Categories
+pub use Rattle.msi_text.specs.declared.category.Category
+pub use Rattle.msi_text.specs.CategoryRules
+pub use Rattle.msi_text.specs.Times
+pub use Rattle.msi_text.specs.LanguageRows
+pub use Rattle.msi_text.specs.Languages
+pub use Rattle.msi_text.specs.Spellings
+pub use Rattle.msi_text_base.specs.declared.errors.ErrorKind
+pub use Rattle.msi_text_base.specs.declared.codepage.CodePage
+pub use Rattle.msi_text_base.specs.Errors
+pub use Rattle.msi_text_base.specs.Results
+pub use Rattle.msi_text_base.specs.Numbers
+pub use Rattle.msi_text_base.specs.Lists
+pub use Rattle.msi_text_base.specs.PageTables
+pub use Rattle.msi_text_base.specs.Pages
+pub use Rattle.msi_text_base.specs.Faults
+pub use Rattle.msi_text_pool.specs.Pool
+pub use Rattle.msi_text_pool.specs.FirstFit
+pub use Rattle.msi_text_pool.specs.FirstFitLaws
+pub use Rattle.msi_text_pool.specs.PoolWriting
+pub use Rattle.msi_text_pool.specs.PoolLaws
+pub use Rattle.msi_text_pool.specs.PoolReading
+pub use Rattle.msi_text_pool.specs.References

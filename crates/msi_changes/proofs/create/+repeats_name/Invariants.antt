@@ -1,5 +1,0 @@
-use Rattle.std.proofs.Common.{length}
-use Rattle.msi_changes.proofs.create.+repeats_name.Given as goal
-
-abbrev pub decreases-repeats_name : goal.decreases-repeats_name
-decreases-repeats_name l = length l.columns.now

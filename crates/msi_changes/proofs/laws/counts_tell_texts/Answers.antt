@@ -1,5 +1,0 @@
-use Rattle.msi_changes.proofs.LawLemmas.{counts_tell}
-use Rattle.msi_changes.proofs.laws.counts_tell_texts.Goals as goal
-
-pub returns : goal.returns
-returns c = counts_tell

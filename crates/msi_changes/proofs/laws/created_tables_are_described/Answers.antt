@@ -1,5 +1,0 @@
-use Rattle.msi_changes.proofs.SchemaKeptLemmas.{created_described}
-use Rattle.msi_changes.proofs.laws.created_tables_are_described.Goals as goal
-
-pub returns : goal.returns
-returns c = created_described c.taken_places_hold_their_text.ensures c.given_back_takes_one.ensures

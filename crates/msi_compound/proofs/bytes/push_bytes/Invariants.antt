@@ -1,6 +1,0 @@
-use Rattle.std.proofs.Common.{◌≡◌, ◌++◌}
-use Rattle.msi_compound.specs.Bytes.{bytes_at}
-use Rattle.msi_compound.proofs.bytes.push_bytes.Given as goal
-
-abbrev pub invariant-loop : goal.invariant-loop
-invariant-loop l = l.held.items ≡ l.fn.held.items ++ bytes_at l.bytes l.from l.counter

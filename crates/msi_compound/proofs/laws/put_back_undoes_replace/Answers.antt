@@ -1,5 +1,0 @@
-use Rattle.msi_compound.proofs.StreamsLemmas.{put_back_same}
-use Rattle.msi_compound.proofs.laws.put_back_undoes_replace.Goals as goal
-
-pub returns : goal.returns
-returns c = put_back_same

@@ -1,7 +1,0 @@
-use Rattle.std.proofs.Common.{false}
-use Rattle.msi_compound.proofs.AcceptedNamesLemmas.{accepted_is}
-use Rattle.msi_compound.proofs.SpecialNamesLemmas.{stream≢table}
-use Rattle.msi_compound.proofs.laws.streams_are_no_tables.Goals as goal
-
-pub returns : goal.returns
-returns c = λ cs ds h. stream≢table cs ds (accepted_is false cs h).unmarked

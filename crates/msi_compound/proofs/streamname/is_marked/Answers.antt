@@ -1,5 +1,0 @@
-use Rattle.msi_compound.proofs.AcceptedNamesLemmas.{marked_is}
-use Rattle.msi_compound.proofs.streamname.is_marked.Goals as goal
-
-pub returns : goal.returns
-returns c = marked_is c.args.name.now c.starts_with.result c.utf8.name c.starts_with.ensures.cases

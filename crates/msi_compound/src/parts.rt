@@ -1,3 +1,0 @@
-//! What reader and writer need beyond the surface.
-
-pub use crate::bytes::{byte, number16, number32, number64, place, push_bytes};

@@ -1,9 +1,0 @@
-use Rattle.std.proofs.Common.{arith}
-use Rattle.msi_compound_write.specs.Index.{streams_of}
-use Rattle.msi_compound_write.specs.Layout.{large_parts}
-use Rattle.msi_compound_write.proofs.RestLemmas.{unit_filled}
-use Rattle.msi_compound_write.proofs.content.fill_large.Goals as goal
-
-pub returns : goal.returns
-returns c =
-    unit_filled 512 (large_parts (streams_of c.args.places.now)) c.args.m _ c.from_sector.result.now _ c.from_sector.ensures (omega arith) c.fill_unit.ensures

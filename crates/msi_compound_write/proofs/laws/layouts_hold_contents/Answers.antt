@@ -1,5 +1,0 @@
-use Rattle.msi_compound_write.proofs.LayoutHeldLemmas.{layout_holds}
-use Rattle.msi_compound_write.proofs.laws.layouts_hold_contents.Goals as goal
-
-pub returns : goal.returns
-returns c = layout_holds

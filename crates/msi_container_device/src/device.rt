@@ -1,0 +1,42 @@
+//! What can be read and written.
+
+ghost use Rattle.std.specs.Prelude.{◌≡◌, ◌≤◌, ◌||◌, length, take, option_map, is_err, IfOk, IfSome, OnOk, OnErr};
+ghost use Rattle.msi_container_device.specs.Faults.{is_write_fault};
+ghost use Rattle.msi_container_device.specs.Held.{all_bytes, at_end, bytes_told, with_piece};
+
+use crate::source::Source;
+use std::io;
+
+/// A source that can be written.
+pub trait Device: Source {
+    /// Goes to the end, and returns how many bytes there are.
+    ///
+    /// # Errors
+    /// Fails as the device does.
+    fn length(&mut self) -> io::Result<u64>
+        ensures count { IfOk result (λ n. IfSome (Self.held self.old) (λ h. n ≡ length (all_bytes h))) }
+        ensures held { OnOk result (Self.held self.new ≡ option_map at_end (Self.held self.old)) }
+        ensures bytes { bytes_told (Self.held self.new) ≡ bytes_told (Self.held self.old) }
+        ensures failed { Self.failed self.new ≡ (Self.failed self.old || is_err result) };
+
+    /// Writes a prefix of the piece over the bytes from the position on and past the end, and moves behind it. It
+    /// returns how many bytes it took; taking none of a piece that has some sets the flag, as a failed call does.
+    ///
+    /// # Errors
+    /// Fails as the device does, also for an interruption.
+    fn write(&mut self, piece: &[u8]) -> io::Result<usize>
+        ensures count { IfOk result (λ n. n ≤ length piece.now) }
+        ensures held { IfOk result
+            (λ n. Self.held self.new ≡ option_map (with_piece (take n piece.now)) (Self.held self.old)) }
+        ensures bytes { OnErr result (bytes_told (Self.held self.new) ≡ bytes_told (Self.held self.old)) }
+        ensures failed { Self.failed self.new ≡ (Self.failed self.old || is_write_fault piece.now result) };
+
+    /// Passes on what was written, if the device has buffered it.
+    ///
+    /// # Errors
+    /// Fails as the device does.
+    fn flush(&mut self) -> io::Result<()>
+        ensures held { OnOk result (Self.held self.new ≡ Self.held self.old) }
+        ensures bytes { bytes_told (Self.held self.new) ≡ bytes_told (Self.held self.old) }
+        ensures failed { Self.failed self.new ≡ (Self.failed self.old || is_err result) };
+}

@@ -1,0 +1,18 @@
+//! Readers and devices for packages and compound files, whose contracts speak of the bytes that they hold.
+#![tactic(auto)]
+
+pub mod device;
+pub mod faults;
+pub mod laws;
+pub mod memory;
+pub mod metered;
+pub mod parts;
+mod reading;
+pub mod reasons;
+pub mod source;
+mod writing;
+
+pub use device::Device;
+pub use memory::Memory;
+pub use metered::Metered;
+pub use source::Source;

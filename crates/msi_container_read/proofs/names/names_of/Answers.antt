@@ -1,0 +1,41 @@
+use Rattle.std.proofs.Common.{sym, ◌∙◌, arith, below_more}
+use Rattle.std.proofs.lemmas.Bool.{not-true, not-false}
+use Rattle.msi_container_format.specs.Container.{name}
+use Rattle.msi_container_read.proofs.OwnNameLemmas.{known_more, known_has_place, own_more, known_all}
+use Rattle.msi_container_read.proofs.names.names_of.Goals as goal
+
+-- the set has the name, so an entry before this one has it too
+pub returns-then-not-branch-clause-invalid : goal.returns-then-not-branch-clause-invalid
+returns-then-not-branch-clause-invalid c = λ broken have.
+    let names = name c.args.directory.now.bytes.now c.args.directory.now.sectors.now in
+    let at = c.loop-entry.entry-index in
+    let key = c.in_ok-name.field-0 in
+    let there = not-false _ (sym c.in_ok-insert.ensures.added ∙ c.if-not-branch.true) in
+    let earlier = known_has_place names c.args.entries.now at key (omega arith) (sym (c.loop-entry.invariant.known key) ∙ there) in
+    have.own earlier.0 at earlier.1 (omega arith) (earlier.2 ∙ c.in_ok-name.ensures.found)
+
+pub loop-entry-preserved : goal.loop-entry-preserved
+loop-entry-preserved c =
+    let i = c.loop-entry.invariant in
+    let names = name c.args.directory.now.bytes.now c.args.directory.now.sectors.now in
+    let ks = c.args.entries.now in
+    let at = c.loop-entry.entry-index in
+    let key = c.in_ok-name.field-0 in
+    let named = c.in_ok-name.ensures.found in
+    let absent = not-true _ (sym c.in_ok-insert.ensures.added ∙ c.if-not-branch.false) in
+    record {
+      named = below_more _ _ i.named c.in_ok-name.ensures.ok;
+      own = own_more names ks at key (omega arith) named (sym (i.known key) ∙ absent) i.own;
+      known = λ q. known_more names ks at key q _ _ (omega arith) named (i.known q) (c.in_ok-insert.ensures.updates.0 q);
+    }
+
+pub returns-clause-names : goal.returns-clause-names
+returns-clause-names c = record {
+  named = λ i l. c.loop-entry.invariant.named i (omega arith);
+  own = λ i j l h. c.loop-entry.invariant.own i j l (omega arith);
+}
+
+pub returns-clause-known : goal.returns-clause-known
+returns-clause-known c = λ q.
+    c.loop-entry.invariant.known q
+    ∙ known_all (name c.args.directory.now.bytes.now c.args.directory.now.sectors.now) c.args.entries.now c.loop-entry.entry-index q (omega arith)

@@ -1,0 +1,97 @@
+use Rattle.std.proofs.Common.{arith, ◌≡◌, ℕ, List, [], ◌++◌, length, vec_len, ◌∙◌, sym, ap, length-append}
+use Rattle.std.proofs.lemmas.Result.{err_from_is_err_and}
+use Rattle.msi_container_read.specs.Claims.{CanClaim}
+use Rattle.msi_container_format.specs.Container.{IsWholeChain, successor, fat_of}
+use Rattle.msi_container_read.specs.Reading.{IsStart}
+use Rattle.msi_container_read.proofs.PlanPartsLemmas.{claim_front, claim_back, claimed_room, few_claimed}
+use Rattle.msi_container_read.proofs.reading.read_start.Goals as goal
+
+-- what each part of a start can claim
+difat_room : (bytes : List ℕ) (limit : ℕ) (difat fat directory : List ℕ) → IsStart bytes limit difat fat directory → CanClaim limit [] difat
+difat_room bytes limit difat fat directory s = claim_front limit [] difat fat (claim_front limit [] (difat ++ fat) directory s.room)
+
+fat_room : (bytes : List ℕ) (limit : ℕ) (difat fat directory : List ℕ) → IsStart bytes limit difat fat directory → CanClaim limit difat fat
+fat_room bytes limit difat fat directory s = claim_back limit [] difat fat (claim_front limit [] (difat ++ fat) directory s.room)
+
+directory_room : (bytes : List ℕ) (limit : ℕ) (difat fat directory : List ℕ) → IsStart bytes limit difat fat directory → CanClaim limit (difat ++ fat) directory
+directory_room bytes limit difat fat directory s = claim_back limit [] (difat ++ fat) directory s.room
+
+pub returns-in_err-difat-clause-only : goal.returns-in_err-difat-clause-only
+returns-in_err-difat-clause-only c = λ difat fat directory s.
+    let p = err_from_is_err_and c.from_residual-in_err-difat.result c.from_residual-in_err-difat.ensures.1 in
+    let can = difat_room c.args.bytes.now _ difat fat directory s in
+    rw (p.1, p.2) (c.in_err-difat.ensures.only difat s.difats (rw c.requires.empty can))
+
+pub returns-in_err-fat-clause-only : goal.returns-in_err-fat-clause-only
+returns-in_err-fat-clause-only c = λ difat fat directory s.
+    let p = err_from_is_err_and c.from_residual-in_err-fat.result c.from_residual-in_err-fat.ensures.1 in
+    let bytes = c.args.bytes.now in
+    let same : c.in_ok-difat.difat.items ≡ difat = c.in_ok-difat.ensures.only difat s.difats (rw c.requires.empty (difat_room bytes _ difat fat directory s)) in
+    let used : c.read_difat.new.claims.list.items ≡ difat = c.in_ok-difat.ensures.found.1 ∙ ap (λ xs. xs ++ c.in_ok-difat.difat.items) c.requires.empty ∙ same in
+    let fats : fat_of bytes c.deref.result.now ≡ fat = ap (fat_of bytes) (c.deref.ensures.value ∙ same) ∙ sym s.fats in
+    let can : CanClaim (vec_len c.read_difat.new.claims.marks) c.read_difat.new.claims.list.items (fat_of bytes c.deref.result.now) =
+    rw (c.in_ok-difat.ensures.limit, used, fats) (fat_room bytes _ difat fat directory s) in
+    rw (p.1, p.2) (c.in_err-fat.ensures.only can)
+
+pub new-table-requires : goal.new-table-requires
+new-table-requires c =
+    let after = c.read_fat.new.claims in
+    let long = ap (λ (xs : List ℕ). length xs) c.in_ok-fat.ensures.found.1 ∙ length-append c.read_difat.new.claims.list.items c.in_ok-fat.fat.items in
+    omega (arith, long, few_claimed after.marks after.list after.counted, c.in_ok-fat.ensures.limit, c.in_ok-difat.ensures.limit, c.requires.regular, c.deref-2.ensures.len, after.list.ok, c.in_ok-fat.fat.ok)
+
+pub returns-in_err-directory-clause-only : goal.returns-in_err-directory-clause-only
+returns-in_err-directory-clause-only c = λ difat fat directory s.
+    let p = err_from_is_err_and c.from_residual-in_err-directory.result c.from_residual-in_err-directory.ensures.1 in
+    let bytes = c.args.bytes.now in
+    let same : c.in_ok-difat.difat.items ≡ difat = c.in_ok-difat.ensures.only difat s.difats (rw c.requires.empty (difat_room bytes _ difat fat directory s)) in
+    let used : c.read_difat.new.claims.list.items ≡ difat = c.in_ok-difat.ensures.found.1 ∙ ap (λ xs. xs ++ c.in_ok-difat.difat.items) c.requires.empty ∙ same in
+    let fats : c.in_ok-fat.fat.items ≡ fat = c.in_ok-fat.ensures.found.0 ∙ ap (fat_of bytes) (c.deref.ensures.value ∙ same) ∙ sym s.fats in
+    let both : c.read_fat.new.claims.list.items ≡ difat ++ fat = c.in_ok-fat.ensures.found.1 ∙ ap (λ xs. xs ++ c.in_ok-fat.fat.items) used ∙ ap (λ xs. difat ++ xs) fats in
+    let table : c.new-table.result.sectors.now ≡ fat = c.new-table.ensures.sectors ∙ c.deref-2.ensures.value ∙ fats in
+    let chain : IsWholeChain (successor c.new-table.result.bytes.now c.new-table.result.sectors.now) c.number32-first.result directory = rw (c.new-table.ensures.bytes, table, c.number32-first.ensures) s.chain in
+    let can : CanClaim (vec_len c.read_fat.new.claims.marks) c.read_fat.new.claims.list.items directory =
+    rw (c.in_ok-fat.ensures.limit, c.in_ok-difat.ensures.limit, both) (directory_room bytes _ difat fat directory s) in
+    rw (p.1, p.2) (c.in_err-directory.ensures.only directory chain can)
+
+pub returns-clause-found : goal.returns-clause-found
+returns-clause-found c =
+    let bytes = c.args.bytes.now in
+    let after = c.walk_to_end.new.claims in
+    let difats = c.in_ok-difat.ensures.found in
+    let fats = c.in_ok-fat.ensures.found in
+    let directories = c.in_ok-directory.ensures.found in
+    let used : c.read_difat.new.claims.list.items ≡ c.in_ok-difat.difat.items = difats.1 ∙ ap (λ xs. xs ++ c.in_ok-difat.difat.items) c.requires.empty in
+    let whole : after.list.items ≡ c.in_ok-difat.difat.items ++ c.in_ok-fat.fat.items ++ c.in_ok-directory.directory.items =
+    directories.1 ∙ ap (λ xs. xs ++ c.in_ok-directory.directory.items) (fats.1 ∙ ap (λ xs. xs ++ c.in_ok-fat.fat.items) used) in
+    let limit = c.in_ok-directory.ensures.limit ∙ c.in_ok-fat.ensures.limit ∙ c.in_ok-difat.ensures.limit in (
+      record {
+        header = c.in_ok-check_header.ensures.ok;
+        difats = difats.0;
+        fats = fats.0 ∙ ap (fat_of bytes) c.deref.ensures.value;
+        chain = rw (c.new-table.ensures.bytes, c.new-table.ensures.sectors, c.deref-2.ensures.value, c.number32-first.ensures) at directories.0;
+        room = claimed_room after.marks _ after.list.items [] (c.in_ok-difat.difat.items ++ c.in_ok-fat.fat.items ++ c.in_ok-directory.directory.items) limit after.marked after.distinct whole;
+      },
+      whole,
+    )
+
+pub returns-clause-only : goal.returns-clause-only
+returns-clause-only c = λ difat fat directory s.
+    let bytes = c.args.bytes.now in
+    let same : c.in_ok-difat.difat.items ≡ difat = c.in_ok-difat.ensures.only difat s.difats (rw c.requires.empty (difat_room bytes _ difat fat directory s)) in
+    let used : c.read_difat.new.claims.list.items ≡ difat = c.in_ok-difat.ensures.found.1 ∙ ap (λ xs. xs ++ c.in_ok-difat.difat.items) c.requires.empty ∙ same in
+    let fats : c.in_ok-fat.fat.items ≡ fat = c.in_ok-fat.ensures.found.0 ∙ ap (fat_of bytes) (c.deref.ensures.value ∙ same) ∙ sym s.fats in
+    let both : c.read_fat.new.claims.list.items ≡ difat ++ fat = c.in_ok-fat.ensures.found.1 ∙ ap (λ xs. xs ++ c.in_ok-fat.fat.items) used ∙ ap (λ xs. difat ++ xs) fats in
+    let table : c.new-table.result.sectors.now ≡ fat = c.new-table.ensures.sectors ∙ c.deref-2.ensures.value ∙ fats in
+    let chain : IsWholeChain (successor c.new-table.result.bytes.now c.new-table.result.sectors.now) c.number32-first.result directory = rw (c.new-table.ensures.bytes, table, c.number32-first.ensures) s.chain in
+    let can : CanClaim (vec_len c.read_fat.new.claims.marks) c.read_fat.new.claims.list.items directory =
+    rw (c.in_ok-fat.ensures.limit, c.in_ok-difat.ensures.limit, both) (directory_room bytes _ difat fat directory s) in
+    let directories : c.in_ok-directory.directory.items ≡ directory = c.in_ok-directory.ensures.only directory chain can in
+    cc
+
+pub returns-clause-few : goal.returns-clause-few
+returns-clause-few c =
+    let after = c.walk_to_end.new.claims in
+    let a = ap (λ (xs : List ℕ). length xs) c.in_ok-directory.ensures.found.1 ∙ length-append c.read_fat.new.claims.list.items c.in_ok-directory.directory.items in
+    let b = ap (λ (xs : List ℕ). length xs) c.in_ok-fat.ensures.found.1 ∙ length-append c.read_difat.new.claims.list.items c.in_ok-fat.fat.items in
+    let d = ap (λ (xs : List ℕ). length xs) c.in_ok-difat.ensures.found.1 ∙ length-append c.args.claims.now.list.items c.in_ok-difat.difat.items in
+    omega (arith, a, b, d, few_claimed after.marks after.list after.counted, c.in_ok-directory.ensures.limit, c.in_ok-fat.ensures.limit, c.in_ok-difat.ensures.limit, after.list.ok, c.in_ok-directory.directory.ok, c.in_ok-fat.fat.ok, c.in_ok-difat.difat.ok)

@@ -1,0 +1,200 @@
+//! The directory: its entries, and those that its tree reaches (MS-CFB 2.6).
+
+ghost use Rattle.std.specs.Prelude.{◌≡◌, ℕ, List, [], ◌+◌, ◌*◌, ◌<◌, ◌≤◌, ◌^◌, ◌++◌, length, take, map, IfOk, OnOk};
+ghost use Rattle.std.specs.Prelude.{OnErr, IsErrOf};
+ghost use Rattle.std.specs.List.{range_with_len};
+ghost use Rattle.msi_text_base.specs.declared.errors.ErrorKind.TheVariants.{InvalidData};
+ghost use Rattle.msi_container_format.specs.Bytes as spelled;
+ghost use Rattle.msi_container_format.specs.Chains.{AreBelow, AreDistinct};
+ghost use Rattle.msi_container_read.specs.Outcomes.{ViewIsUnlessMemory, FailsByData};
+ghost use Rattle.msi_container_format.specs.Container as container;
+ghost use Rattle.msi_container_read.specs.Reading as spec;
+ghost use Rattle.msi_container_format.specs.Trees.{Tree, members};
+
+use crate::claims::{Claimed, Claims};
+use crate::header::sector_size;
+use crate::reasons;
+use msi_container_format::format::{
+    CHILD_AT, CLSID_AT, ENTRY_SIZE, KIND_AT, LEFT_AT, MAX_UNITS, NAME_SIZE_AT, NO_ENTRY, RIGHT_AT,
+    SIZE_AT, START_AT, STORAGE, STREAM, VERSION_4, VERSION_AT,
+};
+use msi_container_format::name::Name;
+use msi_container_format::parts::{byte, number16, number32, number64, place};
+use msi_text_base::{Error, ErrorKind};
+use std::alloc::Global;
+
+/// The directory that stands in these sectors, 128 bytes for each entry.
+#[derive(Clone, Copy)]
+pub(crate) struct Directory<'a> {
+    pub(crate) bytes: &'a [u8],
+    pub(crate) sectors: &'a [u32],
+    ghost few: { length sectors.now ≤ 2 ^ 32 },
+}
+
+impl<'a> Directory<'a> {
+    /// How many entries there are.
+    pub(crate) fn entry_count(&self) -> usize
+        ensures { result ≡ container.entry_count self.now.bytes.now self.now.sectors.now }
+    {
+        self.sectors.len() * (sector_size(self.bytes) / ENTRY_SIZE)
+    }
+
+    /// Where a field of an entry stands.
+    fn field(&self, entry: u32, offset: usize) -> usize
+        requires entry { entry < container.entry_count self.now.bytes.now self.now.sectors.now }
+        requires offset { offset < 128 }
+        ensures value { result ≡ container.field self.now.bytes.now self.now.sectors.now entry offset }
+        ensures most { result < 4096 * (2 ^ 32 + 1) }
+    {
+        place(
+            sector_size(self.bytes),
+            self.sectors,
+            ENTRY_SIZE * entry as usize + offset,
+        )
+    }
+
+    /// The type of an entry.
+    pub(crate) fn kind(&self, entry: u32) -> u8
+        requires { entry < container.entry_count self.now.bytes.now self.now.sectors.now }
+        ensures { result ≡ container.kind self.now.bytes.now self.now.sectors.now entry }
+    {
+        byte(self.bytes, self.field(entry, KIND_AT))
+    }
+
+    /// The left sibling.
+    pub(crate) fn left(&self, entry: u32) -> u32
+        requires { entry < container.entry_count self.now.bytes.now self.now.sectors.now }
+        ensures { result ≡ container.left self.now.bytes.now self.now.sectors.now entry }
+    {
+        number32(self.bytes, self.field(entry, LEFT_AT))
+    }
+
+    /// The right sibling.
+    pub(crate) fn right(&self, entry: u32) -> u32
+        requires { entry < container.entry_count self.now.bytes.now self.now.sectors.now }
+        ensures { result ≡ container.right self.now.bytes.now self.now.sectors.now entry }
+    {
+        number32(self.bytes, self.field(entry, RIGHT_AT))
+    }
+
+    /// The entry at the top of the tree below an entry.
+    pub(crate) fn child(&self, entry: u32) -> u32
+        requires { entry < container.entry_count self.now.bytes.now self.now.sectors.now }
+        ensures { result ≡ container.child self.now.bytes.now self.now.sectors.now entry }
+    {
+        number32(self.bytes, self.field(entry, CHILD_AT))
+    }
+
+    /// The CLSID of the root, as it is stored.
+    pub(crate) fn clsid(&self) -> [u8; 16]
+        requires { 0 < container.entry_count self.now.bytes.now self.now.sectors.now }
+        ensures { result ≡ container.clsid self.now.bytes.now self.now.sectors.now }
+    {
+        let from = self.field(0, CLSID_AT);
+        let mut clsid = [0; 16];
+        for i in 0..16 {
+            clsid[i] = byte(self.bytes, from + i);
+        }
+        clsid
+    }
+
+    /// The first sector of an entry's stream.
+    pub(crate) fn start_sector(&self, entry: u32) -> u32
+        requires { entry < container.entry_count self.now.bytes.now self.now.sectors.now }
+        ensures { result ≡ container.start_sector self.now.bytes.now self.now.sectors.now entry }
+    {
+        number32(self.bytes, self.field(entry, START_AT))
+    }
+
+    /// The number of bytes of an entry's stream. Version 3 uses the low half alone.
+    pub(crate) fn size(&self, entry: u32) -> u64
+        requires { entry < container.entry_count self.now.bytes.now self.now.sectors.now }
+        ensures { result ≡ container.size self.now.bytes.now self.now.sectors.now entry }
+    {
+        let at = self.field(entry, SIZE_AT);
+        if number16(self.bytes, VERSION_AT) == VERSION_4 {
+            number64(self.bytes, at)
+        } else {
+            u64::from(number32(self.bytes, at))
+        }
+    }
+
+    /// The name of an entry. `InvalidData` where it is odd, empty, too long or no text.
+    pub(crate) fn name(&self, entry: u32) -> Result<Name, Error>
+        requires { entry < container.entry_count self.now.bytes.now self.now.sectors.now }
+        ensures found { IfOk result (λ name. name ≡ container.name self.now.bytes.now self.now.sectors.now entry) }
+        ensures ok { OnOk result (container.HasName self.now.bytes.now self.now.sectors.now entry) }
+        ensures invalid { OnErr result (container.HasName self.now.bytes.now self.now.sectors.now entry → ⊥) }
+        ensures kinds { OnErr result (IsErrOf result InvalidData) }
+    {
+        let size = number16(self.bytes, self.field(entry, NAME_SIZE_AT));
+        if size % 2 != 0 || size < 4 || size > 64 {
+            return Err(Error::new(ErrorKind::InvalidData, reasons::NAME_LENGTH));
+        }
+        let len = usize::from(size / 2 - 1);
+        let units = self.units(entry, len);
+        match Name::from_units(&units[..len]) {
+            Some(name) => Ok(name),
+            None => Err(Error::new(ErrorKind::InvalidData, reasons::NAME_TEXT)),
+        }
+    }
+
+    /// The first units of an entry's name, and zeros behind them.
+    fn units(&self, entry: u32, len: usize) -> [u16; MAX_UNITS]
+        requires entry { entry < container.entry_count self.now.bytes.now self.now.sectors.now }
+        requires len { len ≤ 31 }
+        ensures { take len result
+            ≡ map (λ i. spelled.number16 self.now.bytes.now
+            (container.field self.now.bytes.now self.now.sectors.now entry (2 * i))) (range_with_len 0 len) }
+    {
+        let mut units = [0; MAX_UNITS];
+        for i in 0..len {
+            units[i] = number16(self.bytes, self.field(entry, 2 * i));
+        }
+        units
+    }
+}
+
+/// The entries that links lead to from `child`, each once: first an entry, then those on its left, then those on its
+/// right.
+pub(crate) fn reach(alloc: Global, directory: &Directory, child: u32) -> Result<Vec<u32>, Error>
+    ensures found { IfOk result
+        (λ reached. (tree : Tree)
+        × container.IsDirectoryTree directory.now.bytes.now directory.now.sectors.now child tree
+        × (members tree ≡ reached.items) × AreDistinct reached.items) }
+    ensures only { (tree : Tree)
+        → container.IsDirectoryTree directory.now.bytes.now directory.now.sectors.now child tree
+        → AreDistinct (members tree) → ViewIsUnlessMemory (λ v. v.items) result (members tree) }
+    ensures below { IfOk result
+        (λ reached. AreBelow (container.entry_count directory.now.bytes.now directory.now.sectors.now) reached.items) }
+    ensures kinds { FailsByData result }
+{
+    let mut claims = Claims::new(alloc, Claimed::Entries, directory.entry_count())?;
+    let mut pending = Vec::new(alloc);
+    pending.push(child)?;
+    while let Some(link) = pending.pop() {
+        if link == NO_ENTRY {
+            continue;
+        }
+        claims.claim(link)?;
+        pending.push(directory.right(link))?;
+        pending.push(directory.left(link))?;
+    }
+    Ok(claims.into_list())
+}
+
+/// Checks that entries are storages and streams. The only error is `InvalidData`.
+pub(crate) fn check_kinds(directory: &Directory, entries: &[u32]) -> Result<(), Error>
+    requires { AreBelow (container.entry_count directory.now.bytes.now directory.now.sectors.now) entries.now }
+    ensures ok { OnOk result (spec.AreOfKinds directory.now.bytes.now directory.now.sectors.now entries.now) }
+    ensures invalid { OnErr result (spec.AreOfKinds directory.now.bytes.now directory.now.sectors.now entries.now → ⊥) }
+    ensures kinds { OnErr result (IsErrOf result InvalidData) }
+{
+    for entry in entries {
+        let kind = directory.kind(*entry);
+        if kind != STORAGE && kind != STREAM {
+            return Err(Error::new(ErrorKind::InvalidData, reasons::ENTRY_KIND));
+        }
+    }
+    Ok(())
+}

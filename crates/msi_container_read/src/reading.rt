@@ -1,0 +1,345 @@
+//! Reading a compound file.
+
+ghost use Rattle.std.specs.Prelude.{◌≡◌, ℕ, List, [], ◌+◌, ◌-◌, ◌<◌, ◌≤◌, ◌^◌, ◌++◌, length, sum_by, vec_len, IfOk};
+ghost use Rattle.std.specs.Prelude.{OnOk, OnErr, IsErrOf};
+ghost use Rattle.msi_text_base.specs.Results.{IsUnlessMemory};
+ghost use Rattle.msi_text_base.specs.declared.errors.ErrorKind.TheVariants.{InvalidData};
+ghost use Rattle.std.specs.List.{AllZip};
+ghost use Rattle.msi_container_format.specs.declared.contents.Contents as held;
+ghost use Rattle.msi_container_format.specs.Chains.{AreBelow};
+ghost use Rattle.msi_container_read.specs.Claims.{CanClaim};
+ghost use Rattle.msi_container_read.specs.Outcomes.{ViewIsUnlessMemory, FailsByData};
+ghost use Rattle.msi_container_format.specs.Container as container;
+ghost use Rattle.msi_container_format.specs.Format as marks;
+ghost use Rattle.msi_container_format.specs.Container.{IsMiniFat};
+ghost use Rattle.msi_container_read.specs.Reading.{IsStart, IsNamelessListing, IsMini, AreChained, IsCovered};
+ghost use Rattle.msi_container_read.specs.Reading.{IsOutline, HaveNamesApart, storages_among, mini_limit, views};
+ghost use Rattle.msi_container_read.specs.Steps as counted;
+ghost use Rattle.msi_container_read.specs.Steps.{links};
+ghost use Rattle.msi_container_format.specs.Trees.{Tree, members};
+
+use crate::claims::{Claimed, Claims};
+use crate::directory::{Directory, check_kinds, reach};
+use crate::fat::{read_difat, read_fat};
+use crate::header::{check_header, sector_count, sector_size};
+use crate::reasons;
+use crate::streams::{Tables, Uses, collect, has_storage, of_kind, walk_each};
+use crate::table::{AllocationTable, Steps};
+use crate::walks::{walk, walk_to_end};
+use msi_container_format::contents::Contents;
+use msi_container_format::format::{
+    DIRECTORY_START_AT, MAX_REGULAR_SECTOR, MINI_FAT_START_AT, MINI_SECTOR_SIZE, ROOT, STORAGE,
+    STREAM,
+};
+use msi_container_format::parts::number32;
+use msi_text_base::{Error, ErrorKind};
+use std::alloc::Global;
+
+/// Returns the contents that the bytes hold, as a compound file of version 3 or 4 (MS-CFB 2).
+///
+/// It looks only at as many members of a chain as the size of its stream needs. A last sector that is cut reads as
+/// followed by zeros. It doesn't descend into storages below the root; it only reports that there are some.
+///
+/// # Errors
+/// Fails with `InvalidData` if the bytes hold none: a checked field of the header has another value; a chain ends
+/// early; a sector lies outside the file, or a mini sector outside the mini stream; one is used twice; the
+/// directory's tree is none, or one of its entries is neither storage nor stream, or has no well-formed name of its
+/// own. Fails with `OutOfMemory`.
+pub fn read(alloc: Global, bytes: &[u8]) -> Result<Contents, Error>
+    ensures found { IfOk result (λ contents. container.Holds bytes.now contents) }
+    ensures only { (contents : held.Contents) → container.Holds bytes.now contents → IsUnlessMemory result contents }
+    ensures kinds { FailsByData result }
+    ensures kept { IfOk result (λ contents. counted.bytes_kept contents ≤ counted.rounded_length bytes.now) }
+{
+    let mut steps = Steps::new();
+    read_counted(alloc, bytes, &mut steps)
+}
+
+/// Returns the contents that the bytes hold, as `read` returns them. Each successor that is looked up takes a step,
+/// also if the call fails: at most one for each sector that starts inside the file, and one for each mini sector in
+/// the mini stream's sectors. The count that is passed in is at most 2^63. The streams have together no more bytes
+/// than the file, rounded up to a whole sector.
+///
+/// # Errors
+/// Fails as `read` does.
+pub fn read_counted(alloc: Global, bytes: &[u8], steps: &mut Steps) -> Result<Contents, Error>
+    requires { steps.old ≤ 2 ^ 63 }
+    ensures found { IfOk result (λ contents. container.Holds bytes.now contents) }
+    ensures only { (contents : held.Contents) → container.Holds bytes.now contents → IsUnlessMemory result contents }
+    ensures kinds { FailsByData result }
+    ensures grows { steps.old ≤ steps.new }
+    ensures bounded { counted.IsWithinSectors bytes.now (steps.new - steps.old) }
+    ensures exact { OnOk result ((plan : container.Plan) → container.IsPlan bytes.now plan
+        → steps.new ≡ steps.old + counted.steps_of plan) }
+    ensures kept { IfOk result (λ contents. counted.bytes_kept contents ≤ counted.rounded_length bytes.now) }
+{
+    let outline = read_outline(alloc, bytes, steps)?;
+    let directory = Directory {
+        bytes,
+        sectors: &outline.directory,
+    };
+    let streams = collect(
+        alloc,
+        &directory,
+        &outline.mini_stream,
+        &outline.storages,
+        &outline.streams,
+        &outline.chains,
+    )?;
+    Ok(Contents {
+        clsid: outline.clsid,
+        streams,
+        has_storages: outline.has_storages,
+    })
+}
+
+/// Where the streams of a container stand, and what else its directory says.
+#[derive(Drop)]
+pub(crate) struct Outline {
+    pub(crate) clsid: [u8; 16],
+    pub(crate) has_storages: bool,
+    /// The sectors of the directory, and those of the mini stream.
+    pub(crate) directory: Vec<u32>,
+    pub(crate) mini_stream: Vec<u32>,
+    /// The entries of storages, and those of streams, in the tree's order, and the members of each stream.
+    pub(crate) storages: Vec<u32>,
+    pub(crate) streams: Vec<u32>,
+    pub(crate) chains: Vec<Vec<u32>>,
+    ghost few: { vec_len directory ≤ 2 ^ 32 },
+}
+
+/// Where the streams of the container stand that the bytes hold. The names of entries aren't looked at yet. Errors
+/// and steps are else those of `read_counted`.
+pub(crate) fn read_outline(alloc: Global, bytes: &[u8], steps: &mut Steps) -> Result<Outline, Error>
+    requires { steps.old ≤ 2 ^ 63 }
+    ensures found { IfOk result (λ o. (plan : container.Plan)
+        × (HaveNamesApart bytes.now plan.directory
+        (storages_among bytes.now plan.directory (members plan.tree)) (container.stream_entries bytes.now plan)
+        → container.IsPlan bytes.now plan)
+        × (steps.new ≡ steps.old + counted.steps_of plan)
+        × IsOutline bytes.now plan o.clsid o.has_storages
+        o.directory.items o.mini_stream.items o.storages.items o.streams.items (views o.chains.items)) }
+    ensures only { (plan : container.Plan) → container.IsPlan bytes.now plan
+        → ViewIsUnlessMemory {Y = List ℕ × List ℕ × List ℕ}
+        (λ o. (o.directory.items, o.storages.items, o.streams.items)) result (
+          plan.directory,
+          storages_among bytes.now plan.directory
+              (members plan.tree),
+          container.stream_entries bytes.now plan,
+        ) }
+    ensures kinds { FailsByData result }
+    ensures storages { IfOk result
+        (λ o. AreBelow (container.entry_count bytes.now o.directory.items) o.storages.items) }
+    ensures below { IfOk result (λ o. AreBelow (container.entry_count bytes.now o.directory.items) o.streams.items) }
+    ensures covered { IfOk result
+        (λ o. AllZip (IsCovered bytes.now o.mini_stream.items o.directory.items) o.streams.items
+        (views o.chains.items)) }
+    ensures grows { steps.old ≤ steps.new }
+    ensures bounded { counted.IsWithinSectors bytes.now (steps.new - steps.old) }
+{
+    let mut claims = Claims::new(alloc, Claimed::Sectors, sector_count(bytes))?;
+    let start = read_start(alloc, bytes, &mut claims, steps)?;
+    let fat = AllocationTable::new(bytes, &start.fat);
+    let directory = Directory {
+        bytes,
+        sectors: &start.directory,
+    };
+    let entries = read_listing(alloc, &directory)?;
+    let mini = read_mini(alloc, &fat, &directory, &mut claims, steps)?;
+    let storages = of_kind(alloc, &directory, &entries, STORAGE)?;
+    let streams = of_kind(alloc, &directory, &entries, STREAM)?;
+    let chains = read_chains(alloc, &fat, &directory, &mini, &streams, claims, steps)?;
+    let clsid = directory.clsid();
+    let has_storages = has_storage(&directory, &entries);
+    Ok(Outline {
+        clsid,
+        has_storages,
+        directory: start.directory,
+        mini_stream: mini.stream,
+        storages,
+        streams,
+        chains,
+    })
+}
+
+/// The sectors of the FAT and of the directory.
+#[derive(Drop)]
+struct Start {
+    difat: Vec<u32>,
+    fat: Vec<u32>,
+    directory: Vec<u32>,
+}
+
+/// The sectors of the mini FAT and of the mini stream.
+#[derive(Drop)]
+struct Mini {
+    fat: Vec<u32>,
+    stream: Vec<u32>,
+}
+
+/// Checks the header, and claims the sectors of the DIFAT, the FAT and the directory.
+fn read_start(
+    alloc: Global,
+    bytes: &[u8],
+    claims: &mut Claims,
+    steps: &mut Steps,
+) -> Result<Start, Error>
+    requires empty { claims.old.list.items ≡ [] }
+    requires regular { vec_len claims.old.marks ≤ marks.MAX_REGULAR_SECTOR + 1 }
+    requires steps { steps.old + vec_len claims.old.marks + 1 < 2 ^ 64 }
+    ensures limit { vec_len claims.new.marks ≡ vec_len claims.old.marks }
+    ensures found { IfOk result
+        (λ s. IsStart bytes.now (vec_len claims.old.marks) s.difat.items s.fat.items s.directory.items
+        × (claims.new.list.items ≡ s.difat.items ++ s.fat.items ++ s.directory.items)) }
+    ensures only { (difat fat directory : List ℕ) → IsStart bytes.now (vec_len claims.old.marks) difat fat directory
+        → ViewIsUnlessMemory {Y = List ℕ × List ℕ × List ℕ}
+        (λ s. (s.difat.items, s.fat.items, s.directory.items)) result
+        (difat, fat, directory) }
+    ensures kinds { FailsByData result }
+    ensures few { IfOk result (λ s. vec_len s.difat + vec_len s.fat + vec_len s.directory ≤ vec_len claims.old.marks) }
+    ensures grows { steps.old ≤ steps.new }
+    ensures bounded { steps.new + vec_len claims.old.list ≤ steps.old + vec_len claims.new.list }
+    ensures exact { IfOk result (λ s. steps.new ≡ steps.old + vec_len s.directory) }
+{
+    check_header(bytes)?;
+    let difat = read_difat(alloc, bytes, claims)?;
+    let fat = read_fat(alloc, bytes, &difat, claims)?;
+    let table = AllocationTable::new(bytes, &fat);
+    let first = number32(bytes, DIRECTORY_START_AT);
+    let directory = walk_to_end(alloc, &table, first, claims, steps)?;
+    Ok(Start {
+        difat,
+        fat,
+        directory,
+    })
+}
+
+/// Checks the root, and lists the entries below it in the tree's order.
+fn read_listing(alloc: Global, directory: &Directory) -> Result<Vec<u32>, Error>
+    requires { 0 < container.entry_count directory.now.bytes.now directory.now.sectors.now }
+    ensures found { IfOk result
+        (λ entries. (tree : Tree) × IsNamelessListing directory.now.bytes.now directory.now.sectors.now tree
+        × (members tree ≡ entries.items)) }
+    ensures only { (tree : Tree) → IsNamelessListing directory.now.bytes.now directory.now.sectors.now tree
+        → ViewIsUnlessMemory (λ v. v.items) result (members tree) }
+    ensures below { IfOk result
+        (λ entries. AreBelow (container.entry_count directory.now.bytes.now directory.now.sectors.now) entries.items) }
+    ensures kinds { FailsByData result }
+{
+    if directory.kind(0) != ROOT {
+        return Err(Error::new(ErrorKind::InvalidData, reasons::NO_ROOT));
+    }
+    let entries = reach(alloc, directory, directory.child(0))?;
+    check_kinds(directory, &entries)?;
+    Ok(entries)
+}
+
+/// Claims the sectors of the mini FAT, where it has any.
+fn read_mini_fat(
+    alloc: Global,
+    bytes: &[u8],
+    fat: &AllocationTable,
+    claims: &mut Claims,
+    steps: &mut Steps,
+) -> Result<Vec<u32>, Error>
+    requires same { fat.now.bytes.now ≡ bytes.now }
+    requires regular { vec_len claims.old.marks ≤ marks.MAX_REGULAR_SECTOR + 1 }
+    requires steps { steps.old + vec_len claims.old.marks + vec_len claims.old.marks + 1 < 2 ^ 64 }
+    ensures limit { vec_len claims.new.marks ≡ vec_len claims.old.marks }
+    ensures found { IfOk result (λ mini_fat. IsMiniFat fat.now.bytes.now fat.now.sectors.now mini_fat.items
+        × (claims.new.list.items ≡ claims.old.list.items ++ mini_fat.items)) }
+    ensures only { (mini_fat : List ℕ) → IsMiniFat fat.now.bytes.now fat.now.sectors.now mini_fat
+        → CanClaim (vec_len claims.old.marks) claims.old.list.items mini_fat
+        → ViewIsUnlessMemory (λ v. v.items) result mini_fat }
+    ensures kinds { FailsByData result }
+    ensures grows { steps.old ≤ steps.new }
+    ensures bounded { steps.new + vec_len claims.old.list ≤ steps.old + vec_len claims.new.list }
+    ensures exact { IfOk result (λ mini_fat. steps.new ≡ steps.old + vec_len mini_fat) }
+{
+    let first = number32(bytes, MINI_FAT_START_AT);
+    if first <= MAX_REGULAR_SECTOR {
+        walk_to_end(alloc, fat, first, claims, steps)
+    } else {
+        Ok(Vec::new(alloc))
+    }
+}
+
+/// Claims the sectors of the mini FAT and of the mini stream.
+fn read_mini(
+    alloc: Global,
+    fat: &AllocationTable,
+    directory: &Directory,
+    claims: &mut Claims,
+    steps: &mut Steps,
+) -> Result<Mini, Error>
+    requires same { fat.now.bytes.now ≡ directory.now.bytes.now }
+    requires root { 0 < container.entry_count directory.now.bytes.now directory.now.sectors.now }
+    requires regular { vec_len claims.old.marks ≤ marks.MAX_REGULAR_SECTOR + 1 }
+    requires steps { steps.old + vec_len claims.old.marks + vec_len claims.old.marks + 1 < 2 ^ 64 }
+    ensures limit { vec_len claims.new.marks ≡ vec_len claims.old.marks }
+    ensures found { IfOk result
+        (λ m. IsMini directory.now.bytes.now
+        (vec_len claims.old.marks) claims.old.list.items fat.now.sectors.now directory.now.sectors.now m.fat.items
+        m.stream.items
+        × (claims.new.list.items ≡ claims.old.list.items ++ m.fat.items ++ m.stream.items)) }
+    ensures only { (mini_fat mini_stream : List ℕ)
+        → IsMini directory.now.bytes.now
+        (vec_len claims.old.marks) claims.old.list.items fat.now.sectors.now directory.now.sectors.now mini_fat
+        mini_stream
+        → ViewIsUnlessMemory {Y = List ℕ × List ℕ} (λ m. (m.fat.items, m.stream.items)) result (mini_fat, mini_stream) }
+    ensures kinds { FailsByData result }
+    ensures few { IfOk result (λ m. vec_len m.fat + vec_len m.stream ≤ vec_len claims.old.marks) }
+    ensures grows { steps.old ≤ steps.new }
+    ensures bounded { steps.new + vec_len claims.old.list ≤ steps.old + vec_len claims.new.list }
+    ensures exact { IfOk result (λ m. steps.new ≡ steps.old + vec_len m.fat + links m.stream.items) }
+{
+    let mini_fat = read_mini_fat(alloc, directory.bytes, fat, claims, steps)?;
+    let size = sector_size(directory.bytes) as u64;
+    let count = directory.size(0).div_ceil(size) as usize;
+    let stream = walk(alloc, fat, directory.start_sector(0), count, claims, steps)?;
+    Ok(Mini {
+        fat: mini_fat,
+        stream,
+    })
+}
+
+/// Claims the members of the streams that these entries are.
+fn read_chains<'a>(
+    alloc: Global,
+    fat: &AllocationTable<'a>,
+    directory: &Directory<'a>,
+    mini: &'a Mini,
+    streams: &[u32],
+    claims: Claims,
+    steps: &mut Steps,
+) -> Result<Vec<Vec<u32>>, Error>
+    requires same { fat.now.bytes.now ≡ directory.now.bytes.now }
+    requires below { AreBelow (container.entry_count directory.now.bytes.now directory.now.sectors.now) streams.now }
+    requires few { vec_len mini.now.fat + vec_len mini.now.stream ≤ 2 ^ 32 }
+    requires regular { vec_len claims.marks ≤ marks.MAX_REGULAR_SECTOR + 1 }
+    requires steps { steps.old ≤ 2 ^ 63 + vec_len claims.list }
+    ensures found { IfOk result
+        (λ chains. AreChained directory.now.bytes.now fat.now.sectors.now mini.now.fat.items directory.now.sectors.now
+        mini.now.stream.items
+        (vec_len claims.marks) claims.list.items streams.now (views chains.items)) }
+    ensures invalid { IsErrOf result InvalidData → (chains : List (List ℕ))
+        → AreChained directory.now.bytes.now fat.now.sectors.now mini.now.fat.items directory.now.sectors.now
+        mini.now.stream.items
+        (vec_len claims.marks) claims.list.items streams.now chains → ⊥ }
+    ensures kinds { FailsByData result }
+    ensures grows { steps.old ≤ steps.new }
+    ensures bounded { steps.new + vec_len claims.list
+        ≤ steps.old + vec_len claims.marks + mini_limit directory.now.bytes.now mini.now.stream.items }
+    ensures exact { IfOk result (λ chains. steps.new ≡ steps.old + sum_by links (views chains.items)) }
+{
+    let tables = Tables {
+        fat: *fat,
+        mini_fat: AllocationTable::new(directory.bytes, &mini.fat),
+    };
+    let limit = mini.stream.len() * (sector_size(directory.bytes) / MINI_SECTOR_SIZE);
+    let mut uses = Uses {
+        sectors: claims,
+        mini_sectors: Claims::new(alloc, Claimed::MiniSectors, limit)?,
+    };
+    walk_each(alloc, &tables, directory, streams, &mut uses, steps)
+}

@@ -1,0 +1,99 @@
+//! A device that counts its calls, takes little at a time, and fails once.
+
+ghost use Rattle.std.specs.Prelude.{◌≡◌, OnErr, OnOk, Some, true};
+
+use msi_container_device::{Device, Memory, Source};
+use std::io;
+
+/// Over memory: it takes at most so many bytes a write, and one call fails.
+#[derive(Drop)]
+pub struct Counting {
+    /// What it holds.
+    pub memory: Memory,
+    /// How many bytes a write takes.
+    pub most: usize,
+    /// Which call fails, from 1 on; none for 0.
+    pub failing: usize,
+    /// How many calls there were.
+    pub calls: usize,
+    /// How many of them were writes.
+    pub writes: usize,
+    /// Whether a call failed since this was last cleared.
+    pub failed: bool,
+}
+
+impl Counting {
+    /// A device over these bytes.
+    pub fn new(bytes: Vec<u8>, most: usize, failing: usize) -> Counting {
+        Counting {
+            memory: Memory::from_vec(bytes),
+            most,
+            failing,
+            calls: 0,
+            writes: 0,
+            failed: false,
+        }
+    }
+
+    /// Begins a call, which fails where its turn has come.
+    fn begin(&mut self) -> io::Result<()>
+        ensures memory { self.new.memory ≡ self.old.memory }
+        ensures kept { OnOk result (self.new.failed ≡ self.old.failed) }
+        ensures failed { OnErr result (self.new.failed ≡ true) }
+    {
+        self.calls = self.calls.saturating_add(1);
+        if self.calls == self.failing {
+            self.failed = true;
+            return Err(io::Error::from(io::ErrorKind::BrokenPipe));
+        }
+        Ok(())
+    }
+}
+
+impl Source for Counting {
+    ghost held = { λ d. Some d.memory.held };
+
+    ghost failed = { λ d. d.failed };
+
+    fn failed(&self) -> bool {
+        self.failed
+    }
+
+    fn clear_failed(&mut self) {
+        self.failed = false;
+    }
+
+    fn rewind(&mut self) -> io::Result<()> {
+        self.begin()?;
+        self.memory.rewind()
+    }
+
+    fn read(&mut self, buf: &mut [u8]) -> io::Result<usize> {
+        self.begin()?;
+        self.memory.read(buf)
+    }
+}
+
+impl Device for Counting {
+    fn length(&mut self) -> io::Result<u64> {
+        self.begin()?;
+        self.memory.length()
+    }
+
+    fn write(&mut self, piece: &[u8]) -> io::Result<usize> {
+        self.begin()?;
+        self.writes = self.writes.saturating_add(1);
+        let answer = self.memory.write(&piece[..piece.len().min(self.most)]);
+        match answer {
+            Ok(0) if !piece.is_empty() => self.failed = true,
+            Ok(_) => {}
+            Err(_) => self.failed = true,
+        }
+        answer
+    }
+
+    fn flush(&mut self) -> io::Result<()> {
+        self.begin()?;
+        self.memory.flush()
+    }
+}

@@ -1,0 +1,145 @@
+//! Files that other software writes: small streams, version 4, and what real files do against the letter.
+
+use crate::samples::{END, FAT, changed, put};
+use msi_container::compound::{Contents, Name, read};
+use msi_text::Error;
+use std::alloc::{AllocError, Global};
+use std::test::Fail;
+
+/// Puts 32-bit numbers, one behind the other.
+fn put_numbers(file: &mut Vec<u8>, at: usize, numbers: &[u32]) {
+    let mut place = at;
+    for number in numbers {
+        put(file, place, &number.to_le_bytes());
+        place = place.saturating_add(4);
+    }
+}
+
+/// A header of version 3 or 4 whose only FAT sector is sector 0, with the directory's first sector and the mini
+/// FAT's.
+fn put_header(file: &mut Vec<u8>, version: u8, directory: u32, mini_fat: u32) {
+    let shift = if version == 4 { 12 } else { 9 };
+    put(file, 0, &[0xD0, 0xCF, 0x11, 0xE0, 0xA1, 0xB1, 0x1A, 0xE1]);
+    put(file, 24, &[59, 0, version, 0, 0xFE, 0xFF, shift, 0, 6, 0]);
+    put_numbers(file, 44, &[1, directory]);
+    put_numbers(file, 56, &[4096, mini_fat]);
+    put_numbers(file, 68, &[END, 0, 0]);
+}
+
+/// Entries of the directory: a name of one letter, the type, the links to the left, to the right and to the child,
+/// and the start and the size.
+type Entries<'a> = &'a [(u8, u8, [u32; 3], [u32; 2])];
+
+/// Puts entries, one behind the other.
+fn put_entries(file: &mut Vec<u8>, at: usize, entries: Entries) {
+    let mut place = at;
+    for (name, kind, links, extent) in entries {
+        put(file, place, &[*name]);
+        put(file, place.saturating_add(64), &[4, 0, *kind, 1]);
+        put_numbers(file, place.saturating_add(68), links);
+        put_numbers(file, place.saturating_add(116), extent);
+        place = place.saturating_add(128);
+    }
+}
+
+/// The link that leads nowhere.
+const NONE: u32 = 0xFFFF_FFFF;
+
+/// Version 4, 16384 bytes: the FAT in sector 0, the directory in 1, a stream of 4096 bytes in 2.
+pub(crate) fn version_4(alloc: Global) -> Result<Vec<u8>, AllocError> {
+    let mut file = vec![in alloc; 0; 16384]?;
+    put_header(&mut file, 4, 1, END);
+    put_numbers(&mut file, 4096, &[FAT, END, END]);
+    put_entries(
+        &mut file,
+        8192,
+        &[
+            (b'R', 5, [NONE, NONE, 1], [END, 0]),
+            (b's', 2, [NONE, NONE, NONE], [2, 4096]),
+        ],
+    );
+    put(&mut file, 12288, &[7]);
+    put(&mut file, 16383, &[9]);
+    Ok(file)
+}
+
+/// Version 3: the FAT in sector 0, the directory in 1, the mini FAT in 2, the mini stream in 3. The streams b and a
+/// have 100 and 1 bytes, in mini sectors 2, 0 and 1; the root's size is no multiple of 64, the siblings are out of
+/// order, and a storage lies below the root.
+pub(crate) fn small_streams(alloc: Global) -> Result<Vec<u8>, AllocError> {
+    let mut file = vec![in alloc; 0; 2560]?;
+    put_header(&mut file, 3, 1, 2);
+    put_numbers(&mut file, 512, &[FAT, END, END, END]);
+    put_entries(
+        &mut file,
+        1024,
+        &[
+            (b'R', 5, [NONE, NONE, 1], [3, 130]),
+            (b'b', 2, [NONE, 2, NONE], [2, 100]),
+            (b'a', 2, [3, NONE, NONE], [1, 1]),
+            (b'z', 1, [NONE, NONE, NONE], [0, 0]),
+        ],
+    );
+    put_numbers(&mut file, 1536, &[END, END, 0]);
+    // The mini stream: mini sector 0 holds the end of b, 1 holds a, 2 holds the beginning of b.
+    put(&mut file, 2048 + 35, &[5, 6]);
+    put(&mut file, 2048 + 64, &[4]);
+    put(&mut file, 2048 + 128, &[3]);
+    Ok(file)
+}
+
+/// Whether a stream has so many bytes, of them these, and zeros elsewhere.
+fn has_stream(
+    alloc: Global,
+    contents: &Contents,
+    name: &str,
+    len: usize,
+    known: &[(usize, u8)],
+) -> Result<bool, Error> {
+    let mut wanted = vec![in alloc; 0; len]?;
+    for (at, byte) in known {
+        put(&mut wanted, *at, &[*byte]);
+    }
+    Ok(match contents.streams.get(&Name::new(name)?) {
+        Some(held) => held.as_slice() == wanted.as_slice(),
+        None => false,
+    })
+}
+
+/// The version, how long the file is made, how many streams it has and whether there are storages, and of a stream
+/// the name, the length and what is known.
+type Foreign<'a> = (u8, usize, usize, bool, &'a str, usize, &'a [(usize, u8)]);
+
+const FOREIGN: [Foreign<'static>; 5] = [
+    (4, 16384, 1, false, "s", 4096, &[(0, 7), (4095, 9)]),
+    // A cut last sector reads as followed by zeros, as long as it starts inside the file.
+    (4, 12289, 1, false, "s", 4096, &[(0, 7)]),
+    (3, 2560, 2, true, "b", 100, &[(0, 3), (99, 5)]),
+    (3, 2560, 2, true, "a", 1, &[(0, 4)]),
+    // One byte past a whole sector changes nothing.
+    (3, 2561, 2, true, "b", 100, &[(0, 3), (99, 5)]),
+];
+
+/// The contents of a file of a version, so many bytes long.
+fn contents(alloc: Global, version: u8, len: usize) -> Result<Contents, Error> {
+    let file = if version == 4 {
+        version_4(alloc)?
+    } else {
+        small_streams(alloc)?
+    };
+    let bytes = changed(alloc, file.as_slice(), 0, &[], len)?;
+    read(alloc, bytes.as_slice())
+}
+
+#[test]
+fn files_of_other_software_are_read(rt: HostRuntime) -> Result<(), Fail> {
+    let alloc = rt.alloc();
+    for (version, file_len, count, has_storages, name, len, known) in FOREIGN {
+        let contents = contents(alloc, version, file_len)?;
+        assert_eq!(rt; contents.streams.len(), count);
+        assert_eq!(rt; contents.has_storages, has_storages);
+        let found = has_stream(alloc, &contents, name, len, known)?;
+        assert!(rt; found, "{name} in {file_len} bytes");
+    }
+    Ok(())
+}

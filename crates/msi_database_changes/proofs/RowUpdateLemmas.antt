@@ -1,0 +1,97 @@
+-- An update of rows: its new values, and why it is refused.
+use Rattle.std.proofs.Common.{◌≡◌, ℕ, ◌+◌, ◌<◌, Bool, true, false, not, ◌&&◌, List, [], ◌∷◌, ◌++◌, length, map, take, set, get_or, Some, None, fold, refl, sym, ap, ◌∙◌, ⊎_elim}
+use Rattle.std.specs.List.{list_all}
+use Rattle.std.proofs.lemmas.Bool.{and_parts, cases_Bool}
+use Rattle.std.proofs.lemmas.List.{get_or-map, take_more}
+use Rattle.msi_text_base.specs.declared.errors.ErrorKind.{ErrorKind}
+use Rattle.msi_text_base.specs.declared.errors.ErrorKind.TheVariants.{AlreadyExists, InvalidInput}
+use Rattle.msi_text_base.specs.Lists.{has_pair}
+use Rattle.msi_text_pool.specs.Pool.{Place}
+use Rattle.msi_query_rows.specs.Refusals.{IsRefusal, Refusals, first_refusal, unless_refused}
+use Rattle.msi_query_rows.specs.Selection.{condition_names, has_columns}
+use Rattle.msi_table_values.specs.declared.value.Value.{Value}
+use Rattle.msi_table_values.specs.declared.value.ValueRef.{ValueRef}
+use Rattle.msi_table_values.specs.Columns.{ColumnDef}
+use Rattle.msi_table_values.specs.CellValues.{row_values}
+use Rattle.msi_query.specs.Queries.{UpdateQuery}
+use Rattle.msi_database_changes.specs.Insert.{table_with}
+use Rattle.msi_database_changes.specs.Keyed.{key_of, same_key}
+use Rattle.msi_database_changes.specs.RowUpdates.{RowUpdateDef, row_set}
+use Rattle.msi_database_changes.specs.Update.{index_of, set_is_valid, sets_key, update_refusals, values_after, values_set}
+use Rattle.msi_database_changes.proofs.KeySetLemmas.{refused}
+
+fold_pushed : {A B : Type 0} (f : B → A → B) (b : B) (xs : List A) (x : A) → fold f b (xs ++ x ∷ []) ≡ f (fold f b xs) x
+fold_pushed f b [] x = refl
+fold_pushed f b (y ∷ xs) x = fold_pushed f (f b y) xs x
+
+-- a column's place, of those that were looked up
+pub place_at : (columns : List ColumnDef) (sets : List (List ℕ × Value)) (places : List ℕ) (i : ℕ) (s : List ℕ × Value) → places ≡ map (index_of columns) sets → i < length sets → s ≡ get_or sets i s
+    → get_or places i 0 ≡ index_of columns s
+place_at columns sets places i s are h at = ap (λ (ps : List ℕ). get_or ps i 0) are ∙ get_or-map (index_of columns) sets i s 0 h ∙ ap (index_of columns) (sym at)
+
+-- one more value is set
+pub values_set_more : (columns : List ColumnDef) (sets : List (List ℕ × Value)) (row : List Value) (i : ℕ) (s : List ℕ × Value) → i < length sets → s ≡ get_or sets i s
+    → values_set columns (take (i + 1) sets) row ≡ set (values_set columns (take i sets) row) (index_of columns s) s.1
+values_set_more columns sets row i s h at =
+    ap (λ (ss : List (List ℕ × Value)). values_set columns ss row) (take_more sets i s h ∙ ap (λ (x : List ℕ × Value). take i sets ++ x ∷ []) (sym at))
+    ∙ fold_pushed (λ (row : List Value) (s : List ℕ × Value). set row (index_of columns s) s.1) row (take i sets) s
+
+-- the first item that fails a test refuses
+module _ {X : Type 0} (p : X → Bool) (kind : ErrorKind) where
+  abbrev faults : List X → Refusals
+  faults xs = map (λ x. (not (p x), kind)) xs
+
+  one_fails : (xs : List X) (others : Refusals) → list_all p xs ≡ false → first_refusal (faults xs ++ others) ≡ Some kind
+  one_fails [] others e = cc
+  one_fails (x ∷ xs) others e = ⊎_elim
+      (λ (t : p x ≡ true). let later : list_all p xs ≡ false = ap (λ b. b && list_all p xs) (sym t) ∙ e in rw t (one_fails xs others later))
+      (λ (t : p x ≡ false). rw t refl)
+      (cases_Bool (p x))
+
+  all_pass : (xs : List X) (others : Refusals) → list_all p xs ≡ true → first_refusal (faults xs ++ others) ≡ first_refusal others
+  all_pass [] others e = refl
+  all_pass (x ∷ xs) others e = let parts = and_parts (p x) (list_all p xs) e in rw parts.0 (all_pass xs others parts.1)
+
+-- why an update is refused
+module _ (places : List Place) (columns : List ColumnDef) (rows : List (List ValueRef)) (q : UpdateQuery) where
+  abbrev pub refusals : Refusals
+  refusals = update_refusals places (table_with columns rows) q
+
+  abbrev pub sets_valid : Bool
+  sets_valid = list_all (set_is_valid columns) q.sets
+
+  abbrev pub names_known : Bool
+  names_known = has_columns columns (condition_names q.condition)
+
+  abbrev pub keys_collide : Bool
+  keys_collide = has_pair same_key (map (key_of columns) (values_after (table_with columns rows) q (map (row_values places) rows)))
+
+  abbrev late : Refusals
+  late = (not names_known, InvalidInput) ∷ (sets_key columns q.sets && keys_collide, AlreadyExists) ∷ []
+
+  pub set_refused : sets_valid ≡ false → IsRefusal {A = Unit {0}} (unless_refused refusals tt) InvalidInput
+  set_refused e = refused refusals InvalidInput (one_fails (set_is_valid columns) InvalidInput q.sets late e)
+
+  pub condition_refused : sets_valid ≡ true → names_known ≡ false → IsRefusal {A = Unit {0}} (unless_refused refusals tt) InvalidInput
+  condition_refused e k = refused refusals InvalidInput (all_pass (set_is_valid columns) InvalidInput q.sets late e ∙ rw k refl)
+
+  pub collision_refused : sets_valid ≡ true → names_known ≡ true → sets_key columns q.sets ≡ true → keys_collide ≡ true → IsRefusal {A = Unit {0}} (unless_refused refusals tt) AlreadyExists
+  collision_refused e k s h = refused refusals AlreadyExists (all_pass (set_is_valid columns) InvalidInput q.sets late e ∙ rw (k, s, h) refl)
+
+  pub no_key_set : sets_valid ≡ true → names_known ≡ true → sets_key columns q.sets ≡ false → first_refusal refusals ≡ None
+  no_key_set e k s = all_pass (set_is_valid columns) InvalidInput q.sets late e ∙ rw (k, s) refl
+
+  pub no_collision : sets_valid ≡ true → names_known ≡ true → sets_key columns q.sets ≡ true → keys_collide ≡ false → first_refusal refusals ≡ None
+  no_collision e k s h = all_pass (set_is_valid columns) InvalidInput q.sets late e ∙ rw (k, s, h) refl
+
+-- the keys after an update, row by row
+pub keys_are : (u : RowUpdateDef) (places : List Place) (rows : List (List ValueRef))
+    → map (λ row. key_of u.columns (row_set u (row_values places row))) rows ≡ map (key_of u.columns) (map (row_set u) (map (row_values places) rows))
+keys_are u places [] = refl
+keys_are u places (row ∷ rows) = ap (λ (keys : List (List Value)). key_of u.columns (row_set u (row_values places row)) ∷ keys) (keys_are u places rows)
+
+pub same_under_not : (a b : Bool) → not a ≡ not b → a ≡ b
+same_under_not true true e = refl
+same_under_not true false e = sym e
+same_under_not false true e = sym e
+same_under_not false false e = refl

@@ -1,0 +1,5 @@
+use Rattle.msi_database_changes.proofs.LawLemmas.{changes_keep}
+use Rattle.msi_database_changes.proofs.laws.changes_keep_databases_sound.Goals as goal
+
+pub returns : goal.returns
+returns c = changes_keep c.taken_places_hold_their_text.ensures c.given_back_takes_one.ensures

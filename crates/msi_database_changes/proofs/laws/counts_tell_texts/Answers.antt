@@ -1,0 +1,5 @@
+use Rattle.msi_database_changes.proofs.LawLemmas.{counts_tell}
+use Rattle.msi_database_changes.proofs.laws.counts_tell_texts.Goals as goal
+
+pub returns : goal.returns
+returns c = counts_tell

@@ -1,0 +1,39 @@
+-- A change of tables: what it leaves.
+use Rattle.std.specs.Prelude.{ℕ, Bool, false, not, List, [], ◌∷◌, ◌++◌, Some}
+use Rattle.msi_text_base.specs.declared.errors.ErrorKind.TheVariants.{InvalidData}
+use Rattle.msi_text_pool.specs.Pool.{Place}
+use Rattle.msi_query_rows.specs.Refusals.{Refusals}
+use Rattle.msi_table_values.specs.declared.value.ValueRef.{ValueRef}
+use Rattle.msi_table_values.specs.Columns.{ColumnDef}
+use Rattle.msi_table.specs.StoredOrder.{in_stored_order}
+use Rattle.msi_database_changes.specs.Database.{Database, with_table, with_places, is_sound}
+
+-- a change of tables: the parts after it, whether a text was taken or given back, and the tables that are stored anew
+pub record Change : Type 0 where
+  pub database : Database
+  pub is_pool_used : Bool
+  pub stored : List (List ℕ)
+
+abbrev pub no_change : Database → Change
+no_change d = record { database = d; is_pool_used = false; stored = [] }
+
+-- The pool while a change goes on
+pub record PoolInUse : Type 0 where
+  pub places : List Place
+  pub is_used : Bool
+
+abbrev pub pool_of : Change → PoolInUse
+pool_of c = record { places = c.database.pool.places; is_used = c.is_pool_used }
+
+-- the change after a table's rows and the pool became these; the rows are given their stored order
+abbrev pub with_stored : List ℕ → List ColumnDef → List (List ValueRef) → PoolInUse → Change → Change
+with_stored name columns rows pool c = record {
+  database = with_places pool.places
+      (with_table name (record { columns = columns; rows = Some (in_stored_order columns rows) }) c.database);
+  is_pool_used = pool.is_used;
+  stored = c.stored ++ name ∷ [];
+}
+
+-- nothing that isn't sound is changed
+abbrev pub sound_refusal : Database → Refusals
+sound_refusal d = (not (is_sound d), InvalidData) ∷ []

@@ -1,0 +1,33 @@
+-- What deleting rows does, and when it is refused.
+use Rattle.std.specs.Prelude.{Bool, true, false, not, List, [], ◌∷◌, ◌++◌, filter, Option, Result}
+use Rattle.msi_text_base.specs.declared.errors.ErrorKind.{ErrorKind}
+use Rattle.msi_text_base.specs.declared.errors.ErrorKind.TheVariants.{InvalidInput, NotFound}
+use Rattle.msi_text_pool.specs.Pool.{Place}
+use Rattle.msi_query_rows.specs.Refusals.{unless_refused, or_refused, ◌>>=◌}
+use Rattle.msi_table_values.specs.declared.value.ValueRef.{ValueRef}
+use Rattle.msi_table_values.specs.CellValues.{row_values}
+use Rattle.msi_query_expressions.specs.Expressions.{Expression}
+use Rattle.msi_query.specs.Queries.{DeleteQuery}
+use Rattle.msi_query_expressions.specs.Conditions.{meets}
+use Rattle.msi_query_rows.specs.Selection.{has_columns, condition_names}
+use Rattle.msi_database_schema.specs.System.{is_system_table}
+use Rattle.msi_database_changes.specs.Database.{Database, table_at, rows_of, same_bool}
+use Rattle.msi_query_rows.specs.Rows.{TableCells}
+use Rattle.msi_database_changes.specs.Changes.{Change, no_change, pool_of, with_stored, sound_refusal}
+use Rattle.msi_database_changes.specs.Texts.{rows_released}
+
+-- Delete
+abbrev pub rows_meeting : List Place → TableCells → Option Expression → Bool → List (List ValueRef)
+rows_meeting places t condition wanted =
+    filter (λ row. same_bool (meets t.columns condition (row_values places row)) wanted) (rows_of t)
+
+abbrev pub rows_deleted : TableCells → DeleteQuery → Change → Change
+rows_deleted t q c = let places = c.database.pool.places in
+    with_stored q.table t.columns (rows_meeting places t q.condition false)
+    (rows_released (pool_of c) (rows_meeting places t q.condition true)) c
+
+abbrev pub delete_rows : Database → DeleteQuery → Result Change ErrorKind
+delete_rows d q = unless_refused (sound_refusal d ++ (is_system_table q.table, InvalidInput) ∷ []) (no_change d) >>=
+    λ c. or_refused NotFound (table_at q.table d) >>=
+    λ t. unless_refused ((not (has_columns t.columns (condition_names q.condition)), InvalidInput) ∷ [])
+    (rows_deleted t q c)

@@ -1,0 +1,67 @@
+-- What inserting rows does, and when it is refused.
+use Rattle.std.specs.Prelude.{ℕ, ◌+◌, Bool, not, List, [], ◌∷◌, ◌++◌, map, length, Option, Some, option_map, nat_lt}
+use Rattle.std.specs.Prelude.{◌==◌, ◌&&◌, zip, Result}
+use Rattle.std.specs.List.{list_any, list_all}
+use Rattle.msi_text_base.specs.declared.errors.ErrorKind.{ErrorKind}
+use Rattle.msi_text_base.specs.declared.errors.ErrorKind.TheVariants.{AlreadyExists, InvalidData, InvalidInput}
+use Rattle.msi_text_base.specs.declared.errors.ErrorKind.TheVariants.{NotFound}
+use Rattle.msi_text_base.specs.Lists.{has_pair}
+use Rattle.msi_text_pool.specs.Pool.{Place}
+use Rattle.msi_query_rows.specs.Refusals.{Refusals, unless_refused, or_refused, ◌>>=◌}
+use Rattle.msi_table_values.specs.declared.value.Value.{Value}
+use Rattle.msi_table_values.specs.declared.value.ValueRef.{ValueRef}
+use Rattle.msi_table_values.specs.Columns.{ColumnDef}
+use Rattle.msi_table_values.specs.ValidValues.{is_valid_value}
+use Rattle.msi_table_values.specs.CellValues.{row_values}
+use Rattle.msi_database_changes.specs.Keyed.{key_of, same_key, in_key_order}
+use Rattle.msi_query.specs.Queries.{InsertQuery}
+use Rattle.msi_database_schema.specs.System.{is_system_table}
+use Rattle.msi_database_changes.specs.Database.{Database, table_at, rows_of}
+use Rattle.msi_query_rows.specs.Rows.{TableCells}
+use Rattle.msi_database_changes.specs.Changes.{Change, no_change, PoolInUse, pool_of, with_stored, sound_refusal}
+use Rattle.msi_database_changes.specs.Texts.{rows_put}
+
+abbrev pub key_refusals : List (List Value) → List (List Value) → List (List Value) → Refusals
+key_refusals held earlier [] = []
+key_refusals held earlier (k ∷ ks) =
+    (list_any (same_key k) held, AlreadyExists)
+    ∷ (list_any (same_key k) earlier, InvalidInput) ∷ key_refusals held (k ∷ earlier) ks
+
+abbrev pub keys_of : List Place → TableCells → List (List Value)
+keys_of places t = map (λ row. key_of t.columns (row_values places row)) (rows_of t)
+
+-- Insert, from its row checks on
+abbrev pub row_fits : List ColumnDef → List Value → Bool
+row_fits columns row = (length row == length columns) && list_all (λ e. is_valid_value e.0 e.1) (zip columns row)
+
+abbrev pub row_refusals : List Place → TableCells → List (List Value) → Refusals
+row_refusals places t rows = map (λ row. (not (row_fits t.columns row), InvalidInput)) rows
+    ++ (has_pair same_key (keys_of places t), InvalidData)
+    ∷ key_refusals (keys_of places t) [] (map (key_of t.columns) rows)
+    ++ (nat_lt 65536 (length (rows_of t) + length rows), InvalidInput) ∷ []
+
+-- a table of these columns and rows
+abbrev pub table_with : List ColumnDef → List (List ValueRef) → TableCells
+table_with columns rows = record { columns = columns; rows = Some rows }
+
+-- all rows of a table with the new ones, ordered by their keys, and the pool after their texts were taken
+abbrev pub cells_added : Bool → List ColumnDef → PoolInUse → List (List ValueRef)
+    → List (List Value) → Option (List (List ValueRef) × PoolInUse)
+cells_added long columns pool rows new = option_map
+    (λ r. (in_key_order columns r.1.places (rows ++ r.0), r.1)) (rows_put long pool new)
+
+-- the rows' texts are taken row by row and cell by cell; then all rows are ordered by their keys, and stored
+abbrev pub rows_added : List ℕ → TableCells → List (List Value) → Change → Option Change
+rows_added name t rows c = option_map
+    (λ r. with_stored name t.columns (in_key_order t.columns r.1.places (rows_of t ++ r.0)) r.1 c)
+    (rows_put c.database.pool.long (pool_of c) rows)
+
+abbrev pub rows_inserted : List ℕ → List (List Value) → Change → Result Change ErrorKind
+rows_inserted name rows c =
+    or_refused NotFound (table_at name c.database) >>=
+    λ t. unless_refused (row_refusals c.database.pool.places t rows) t >>=
+    λ t. or_refused InvalidInput (rows_added name t rows c)
+
+abbrev pub insert_rows : Database → InsertQuery → Result Change ErrorKind
+insert_rows d q = unless_refused (sound_refusal d ++ (is_system_table q.table, InvalidInput) ∷ [])
+    (no_change d) >>= rows_inserted q.table q.rows

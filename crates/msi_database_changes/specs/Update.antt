@@ -1,0 +1,83 @@
+-- What updating rows does, and when it is refused.
+use Rattle.std.specs.Prelude.{if◌then◌else◌, ℕ, Bool, false, not, List, [], ◌∷◌, ◌++◌, map, Option, Some, option_map}
+use Rattle.std.specs.Prelude.{option_and_then, unwrap_or, ◌&&◌, ◌||◌, bytes_eq, codes, set, Result}
+use Rattle.std.specs.Option.{option_map_or}
+use Rattle.std.specs.List.{list_any, list_all, fold}
+use Rattle.msi_text_base.specs.declared.errors.ErrorKind.{ErrorKind}
+use Rattle.msi_text_base.specs.declared.errors.ErrorKind.TheVariants.{AlreadyExists, InvalidInput, NotFound}
+use Rattle.msi_text_base.specs.Lists.{has_pair}
+use Rattle.msi_text_pool.specs.Pool.{Place}
+use Rattle.msi_query_rows.specs.Refusals.{Refusals, unless_refused, or_refused, ◌>>=◌}
+use Rattle.msi_table_values.specs.declared.value.Value.{Value}
+use Rattle.msi_table_values.specs.declared.value.ValueRef.{ValueRef}
+use Rattle.msi_table_values.specs.Columns.{ColumnDef, column_index, column_named}
+use Rattle.msi_table_values.specs.Fitting.{cell_of}
+use Rattle.msi_table_values.specs.ValidValues.{is_valid_value}
+use Rattle.msi_table_values.specs.CellValues.{row_values}
+use Rattle.msi_database_changes.specs.Keyed.{key_of, same_key}
+use Rattle.msi_query.specs.Queries.{UpdateQuery}
+use Rattle.msi_query_expressions.specs.Conditions.{meets}
+use Rattle.msi_query_rows.specs.Selection.{has_columns, condition_names}
+use Rattle.msi_database_schema.specs.System.{validation_name, is_schema_table}
+use Rattle.msi_database_changes.specs.Database.{Database, table_at, rows_of}
+use Rattle.msi_query_rows.specs.Rows.{TableCells}
+use Rattle.msi_database_changes.specs.Changes.{Change, no_change, PoolInUse, pool_of, with_stored, sound_refusal}
+use Rattle.msi_database_changes.specs.Texts.{in_turn, cell_put, cell_released}
+
+-- Update: the sets in order, so that the last set of a column wins
+abbrev pub set_is_valid : List ColumnDef → List ℕ × Value → Bool
+set_is_valid columns s = option_map_or (λ c. is_valid_value c s.1) (column_named s.0 columns) false
+
+abbrev pub index_of : List ColumnDef → List ℕ × Value → ℕ
+index_of columns s = unwrap_or (column_index s.0 columns) 0
+
+abbrev pub values_set : List ColumnDef → List (List ℕ × Value) → List Value → List Value
+values_set columns sets row = fold (λ row s. set row (index_of columns s) s.1) row sets
+
+abbrev pub sets_key : List ColumnDef → List (List ℕ × Value) → Bool
+sets_key columns sets = list_any (λ s. option_map_or (λ c. c.is_primary_key) (column_named s.0 columns) false) sets
+
+-- the rows as values after the update, of which the keys may not collide
+abbrev pub values_after : TableCells → UpdateQuery → List (List Value) → List (List Value)
+values_after t q rows = map (λ row. if meets t.columns q.condition row then values_set t.columns q.sets row
+    else row) rows
+
+abbrev pub update_refusals : List Place → TableCells → UpdateQuery → Refusals
+update_refusals places t q = map (λ s. (not (set_is_valid t.columns s), InvalidInput)) q.sets
+    ++ (not (has_columns t.columns (condition_names q.condition)), InvalidInput)
+    ∷ (
+      sets_key t.columns q.sets
+          && has_pair same_key (map (key_of t.columns)
+          (values_after t q (map (row_values places) (rows_of t)))),
+      AlreadyExists,
+    ) ∷ []
+
+-- per row as the table lists them and per set, the old text is given back and then the new one taken
+abbrev pub cells_set : Bool → List ColumnDef → PoolInUse → List ValueRef
+    → List (List ℕ × Value) → Option (List ValueRef × PoolInUse)
+cells_set long columns pool row [] = Some (row, pool)
+cells_set long columns pool row (s ∷ ss) =
+    option_and_then (λ r. cells_set long columns r.1 (set row (index_of columns s) r.0) ss)
+    (cell_put long (cell_released pool (cell_of row (index_of columns s))) s.1)
+
+-- which rows are meant is judged by the texts from before the call
+abbrev pub row_updated : Bool → List Place → List ColumnDef → UpdateQuery
+    → PoolInUse → List ValueRef → Option (List ValueRef × PoolInUse)
+row_updated long places columns q pool row =
+    if meets columns q.condition (row_values places row) then cells_set long columns pool row q.sets
+    else Some (row, pool)
+
+abbrev pub rows_updated : TableCells → UpdateQuery → Change → Option Change
+rows_updated t q c = option_map (λ r. with_stored q.table t.columns r.0 r.1 c)
+    (in_turn (row_updated c.database.pool.long c.database.pool.places t.columns q) (pool_of c) (rows_of t))
+
+-- of the system tables only Description in `_Validation` may be set
+abbrev pub is_update_barred : UpdateQuery → Bool
+is_update_barred q = is_schema_table q.table
+    || (bytes_eq q.table validation_name && not (list_all (λ s. bytes_eq s.0 (codes "Description")) q.sets))
+
+abbrev pub update_rows : Database → UpdateQuery → Result Change ErrorKind
+update_rows d q = unless_refused (sound_refusal d ++ (is_update_barred q, InvalidInput) ∷ []) (no_change d) >>=
+    λ c. or_refused NotFound (table_at q.table d) >>=
+    λ t. unless_refused (update_refusals d.pool.places t q) t >>=
+    λ t. or_refused InvalidInput (rows_updated t q c)

@@ -1,0 +1,18 @@
+//! The names in conditions.
+
+ghost use Rattle.std.specs.Prelude.{◌≡◌, option_copied};
+ghost use Rattle.msi_query_rows.specs.Selection.{condition_names, has_columns};
+
+use msi_query::expr::Expr;
+use msi_query::parts::knows_names;
+use msi_table::column::Column;
+
+/// Whether each name in a condition is that of a column.
+pub(crate) fn knows_condition(columns: &[Column], condition: Option<&Expr>) -> bool
+    ensures { result ≡ has_columns columns.now (condition_names (option_copied condition.entry)) }
+{
+    match condition {
+        Some(condition) => knows_names(condition, columns),
+        None => true,
+    }
+}

@@ -1,0 +1,158 @@
+//! Creating a table: why a name and columns are refused.
+
+ghost use Rattle.std.specs.Prelude.{◌≡◌, ◌≤◌, ◌==◌, ◌&&◌, ◌||◌, OnOk, bytes_eq, length, Err};
+ghost use Rattle.std.specs.List.{AllByRecursion, list_all, list_any};
+ghost use Rattle.msi_text.specs.CategoryRules.{is_identifier};
+ghost use Rattle.msi_text_base.specs.declared.errors.ErrorKind.TheVariants.{InvalidInput};
+ghost use Rattle.msi_text_base.specs.Lists.{has_pair};
+ghost use Rattle.msi_query_rows.specs.Refusals.{unless_refused};
+ghost use Rattle.msi_table_values.specs.Columns.{HasShortLength};
+ghost use Rattle.msi_database_changes.specs.Create.{column_refusals, columns_are_named, is_binary, is_too_long};
+
+use crate::reasons;
+use msi_table::column::{Column, ColumnType};
+use msi_text::Reason;
+use msi_text::category::Category;
+use msi_text::errors::{Error, ErrorKind};
+use msi_text::text::Text;
+
+/// The most columns that a table may be created with.
+const MOST_COLUMNS: usize = 32;
+
+/// The most characters to which a column may limit its texts.
+const MOST_CHARACTERS: usize = 255;
+
+/// Whether one of the columns has this name.
+fn is_name_of(name: &str, columns: &[Column]) -> bool
+    ensures { result ≡ list_any (λ c. bytes_eq name.now c.name) columns.now }
+{
+    columns.iter().any(|column| name == column.name())
+}
+
+/// Whether two columns have one name.
+fn repeats_name(columns: &[Column]) -> bool
+    ensures { result ≡ has_pair (λ c d. bytes_eq c.name d.name) columns.now }
+{
+    match columns {
+        [] => false,
+        [first, others @ ..] => is_name_of(first.name(), others) || repeats_name(others),
+    }
+}
+
+/// Whether each column's name is an identifier.
+fn has_identifiers(columns: &[Column]) -> bool
+    ensures { result ≡ list_all (λ c. is_identifier c.name) columns.now }
+{
+    columns
+        .iter()
+        .all(|column| Category::Identifier.validate(column.name()))
+}
+
+/// Whether each column's name is an identifier, and no other's.
+fn are_named(columns: &[Column]) -> bool
+    ensures { result ≡ columns_are_named columns.now }
+{
+    has_identifiers(columns) && !repeats_name(columns)
+}
+
+/// Whether one of the columns is a key.
+fn has_key(columns: &[Column]) -> bool
+    ensures { result ≡ list_any (λ c. c.is_primary_key) columns.now }
+{
+    columns.iter().any(|column| column.is_primary_key())
+}
+
+/// Whether a column limits its texts to a number of characters that its type's bits don't tell.
+fn is_long(column: &Column) -> bool
+    ensures { result ≡ is_too_long column.now.coltype }
+{
+    match column.coltype() {
+        ColumnType::Str(length) => length > MOST_CHARACTERS,
+        _ => false,
+    }
+}
+
+/// Whether one of the columns does.
+fn has_long(columns: &[Column]) -> bool
+    ensures { result ≡ list_any (λ c. is_too_long c.coltype) columns.now }
+{
+    columns.iter().any(|column| is_long(column))
+}
+
+/// Whether a column of streams is a key or localizable, which its type's bits don't tell.
+fn is_marked_binary(column: &Column) -> bool
+    ensures { result ≡ (is_binary column.now.coltype && (column.now.is_primary_key || column.now.is_localizable)) }
+{
+    matches!(column.coltype(), ColumnType::Binary)
+        && (column.is_primary_key() || column.is_localizable())
+}
+
+/// Whether one of the columns is such a one.
+fn has_marked_binary(columns: &[Column]) -> bool
+    ensures { result ≡ list_any (λ c. is_binary c.coltype && (c.is_primary_key || c.is_localizable)) columns.now }
+{
+    columns.iter().any(|column| is_marked_binary(column))
+}
+
+/// Whether a text has a semicolon.
+fn has_semicolon(text: &Text) -> bool
+    ensures { result ≡ list_any (λ b. b == 59) text.now }
+{
+    text.as_str().as_bytes().iter().any(|byte| *byte == b';')
+}
+
+/// Whether one of the texts that a column takes has a semicolon, by which they are told apart.
+fn lists_semicolon(column: &Column) -> bool
+    ensures { result ≡ list_any (list_any (λ b. b == 59)) column.now.enum_values }
+{
+    match column.enum_values() {
+        Some(texts) => texts.iter().any(|text| has_semicolon(text)),
+        None => false,
+    }
+}
+
+/// Whether one of the columns takes such a text.
+fn has_listed_semicolon(columns: &[Column]) -> bool
+    ensures { result ≡ list_any (λ c. list_any (list_any (λ b. b == 59)) c.enum_values) columns.now }
+{
+    columns.iter().any(|column| lists_semicolon(column))
+}
+
+/// A refusal for a reason.
+fn refused(reason: Reason) -> Result<(), Error>
+    ensures { result ≡ Err InvalidInput }
+{
+    Err(Error::new(ErrorKind::InvalidInput, reason))
+}
+
+/// Refuses columns of which no table is made.
+///
+/// # Errors
+/// Fails with `InvalidInput` if there are none or more than 32, if none is a key, if a name is no identifier or
+/// repeats, if a column limits its texts to more than 255 characters, if a column of streams is a key or localizable,
+/// or if a listed text has a semicolon.
+pub fn refuse_columns(columns: &[Column]) -> Result<(), Error>
+    ensures value { result ≡ unless_refused (column_refusals columns.now) tt }
+    ensures few { OnOk result (length columns.now ≤ 32) }
+    ensures short { OnOk result (AllByRecursion (λ c. HasShortLength c.coltype) columns.now) }
+{
+    if columns.is_empty() || columns.len() > MOST_COLUMNS {
+        return refused(reasons::COLUMN_COUNT);
+    }
+    if !has_key(columns) {
+        return refused(reasons::NO_KEY);
+    }
+    if !are_named(columns) {
+        return refused(reasons::COLUMN_NAMES);
+    }
+    if has_long(columns) {
+        return refused(reasons::COLUMN_LENGTH);
+    }
+    if has_marked_binary(columns) {
+        return refused(reasons::BINARY_MARKED);
+    }
+    if has_listed_semicolon(columns) {
+        return refused(reasons::SEMICOLON);
+    }
+    Ok(())
+}

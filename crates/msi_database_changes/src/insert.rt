@@ -1,0 +1,104 @@
+//! Inserting rows: why new rows are refused, and the rows of a table with new ones.
+
+ghost use Rattle.std.specs.Prelude.{◌≡◌, map, not, Some, None, IfOk, IfErr, OnOk};
+ghost use Rattle.msi_text_base.specs.declared.errors.ErrorKind.TheVariants.{InvalidInput};
+ghost use Rattle.msi_query_rows.specs.Refusals.{IsRefusal, first_refusal, or_refused, unless_refused};
+ghost use Rattle.msi_database_changes.specs.Insert.{cells_added, row_fits as fits_columns, row_refusals, table_with};
+ghost use Rattle.msi_database_changes.specs.Texts.{in_use};
+
+use crate::keys::refuse_clashes;
+use crate::reasons;
+use crate::texts::PoolInUse;
+use msi_table::column::Column;
+use msi_table::parts::{MAX_ROWS, sort_by_keys};
+use msi_table::value::{Value, ValueRef};
+use msi_text::errors::{Error, ErrorKind};
+use msi_text::stringpool::StringPool;
+use msi_text::text::Items;
+use std::alloc::Global;
+
+/// Whether a row has a value for each column, which the column takes.
+fn row_fits(columns: &[Column], row: &[Value]) -> bool
+    ensures { result ≡ fits_columns columns.now row.now }
+{
+    if row.len() != columns.len() {
+        return false;
+    }
+    for i in 0..columns.len() {
+        if !columns[i].is_valid_value(&row[i]) {
+            return false;
+        }
+    }
+    true
+}
+
+/// Refuses rows that don't fit the columns.
+///
+/// # Errors
+/// `InvalidInput` where a row doesn't fit.
+fn refuse_misfits(columns: &[Column], rows: &[Items<Value>]) -> Result<(), Error>
+    ensures { result ≡ unless_refused (map (λ row. (not (fits_columns columns.now row), InvalidInput)) rows.now) tt }
+{
+    for row in rows {
+        if !row_fits(columns, row.as_slice()) {
+            return Err(Error::new(ErrorKind::InvalidInput, reasons::ROW_MISFITS));
+        }
+    }
+    Ok(())
+}
+
+/// Refuses new rows of a table that has these columns and rows, whose texts stand in the pool. It takes the rows
+/// times a logarithm.
+///
+/// # Errors
+/// Fails with the first of these that applies: `InvalidInput` if a new row has a value too few or too many, or one
+/// that its column doesn't take; `InvalidData` if two of the table's rows share a key; then, row by row,
+/// `AlreadyExists` if a row's key is that of one of the table's, and `InvalidInput` if it is that of an earlier new
+/// one; `InvalidInput` if the table would have more than 65536 rows. It may fail with `OutOfMemory` in place of any
+/// of these.
+pub fn refuse_rows(
+    alloc: Global,
+    pool: &StringPool,
+    columns: &[Column],
+    rows: &[Items<ValueRef>],
+    new_rows: &[Items<Value>],
+) -> Result<(), Error>
+    ensures ok { let refusals = row_refusals pool.now.places (table_with columns.now rows.now) new_rows.now in
+        OnOk result (first_refusal refusals ≡ None) }
+    ensures kind { let refusals = row_refusals pool.now.places (table_with columns.now rows.now) new_rows.now in
+        IfErr result (IsRefusal {A = Unit {0}} (unless_refused refusals tt)) }
+{
+    refuse_misfits(columns, new_rows)?;
+    refuse_clashes(alloc, pool, columns, rows, new_rows)?;
+    if rows.len().saturating_add(new_rows.len()) > MAX_ROWS {
+        return Err(Error::new(ErrorKind::InvalidInput, reasons::TOO_MANY_ROWS));
+    }
+    Ok(())
+}
+
+/// Returns the rows of a table of these columns with new ones, whose texts the pool takes row by row: all are ordered
+/// by their keys. Their stored order is given to them where they are written.
+///
+/// # Errors
+/// Fails with `InvalidInput` if the pool is full, or with `OutOfMemory`, which may come before.
+pub fn add_rows(
+    alloc: Global,
+    columns: &[Column],
+    pool: &mut PoolInUse,
+    rows: Vec<Items<ValueRef>>,
+    new_rows: Vec<Items<Value>>,
+) -> Result<Vec<Items<ValueRef>>, Error>
+    ensures ok { IfOk result (λ all.
+        cells_added pool.old.pool.long columns.now (in_use pool.old) rows.items new_rows.items
+        ≡ Some (all.items, in_use pool.new)) }
+    ensures kind { let all = cells_added pool.old.pool.long columns.now (in_use pool.old) rows.items new_rows.items in
+        IfErr result (IsRefusal (or_refused InvalidInput all)) }
+    ensures page { pool.new.pool.page ≡ pool.old.pool.page }
+    ensures long { pool.new.pool.long ≡ pool.old.pool.long }
+{
+    let mut cells = pool.put_rows(alloc, new_rows)?;
+    let mut all = rows;
+    all.append(&mut cells)?;
+    sort_by_keys(columns, pool.pool(), &mut all)?;
+    Ok(all)
+}

@@ -1,0 +1,14 @@
+//! Changes of tables: what each does to rows and to the string pool, and when it is refused.
+#![tactic(auto)]
+
+mod conditions;
+pub mod create;
+pub mod delete;
+pub mod drop;
+pub mod insert;
+mod keys;
+pub mod laws;
+mod reasons;
+pub mod texts;
+pub mod update;
+mod views;

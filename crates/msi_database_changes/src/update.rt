@@ -1,0 +1,426 @@
+//! Updates of a table's rows.
+
+ghost use Rattle.std.specs.Prelude.{◌≡◌, map, set, List, IfOk, IfErr, OnOk, None, Some, false};
+ghost use Rattle.std.specs.List.{list_all};
+ghost use Rattle.std.specs.Option.{option_map_or};
+ghost use Rattle.msi_text_base.specs.Lists.{has_pair};
+ghost use Rattle.msi_text_base.specs.Results.{OnlyMemory};
+ghost use Rattle.msi_text_base.specs.declared.errors.ErrorKind.TheVariants.{InvalidInput};
+ghost use Rattle.msi_query_rows.specs.Refusals.{IsRefusal, first_refusal, or_refused, unless_refused};
+ghost use Rattle.msi_table_values.specs.Fitting.{cell_of};
+ghost use Rattle.msi_table_values.specs.Columns.{ColumnDef, column_named};
+ghost use Rattle.msi_table_values.specs.CellValues.{row_values};
+ghost use Rattle.msi_database_changes.specs.Insert.{table_with};
+ghost use Rattle.msi_database_changes.specs.Keyed.{key_of, same_key};
+ghost use Rattle.msi_database_changes.specs.RowUpdates.{cell_exchanged, row_set, update_of};
+ghost use Rattle.msi_database_changes.specs.Texts.{in_turn, in_use};
+ghost use Rattle.msi_database_changes.specs.Update.{cells_set, index_of, row_updated, set_is_valid};
+ghost use Rattle.msi_database_changes.specs.Update.{sets_key as sets_a_key, update_refusals, values_after, values_set};
+ghost use Rattle.msi_database_changes.specs.Views.{seen_row};
+
+use crate::conditions::knows_condition;
+use crate::keys::{Key, distinct_keys};
+use crate::reasons;
+use crate::texts::PoolInUse;
+use crate::views::views_of_cells;
+use msi_query::parts::{Assignment, RowFilter, UpdateParts};
+use msi_table::column::Column;
+use msi_table::parts::{ValueView, column_index};
+use msi_table::value::{Value, ValueRef};
+use msi_text::errors::{Error, ErrorKind};
+use msi_text::stringpool::StringPool;
+use msi_text::text::Items;
+use std::alloc::Global;
+use std::marker::Model;
+
+/// Whether a new value names a column, which takes it.
+fn is_valid_set(columns: &[Column], set: &Assignment) -> bool
+    ensures { result ≡ set_is_valid columns.now set.now }
+{
+    match column_index(columns, set.column()) {
+        Some(place) => match columns.get(place) {
+            Some(column) => column.is_valid_value(set.value()),
+            None => false,
+        },
+        None => false,
+    }
+}
+
+/// Whether a new value is for a key column.
+fn is_key_set(columns: &[Column], set: &Assignment) -> bool
+    ensures { result ≡ option_map_or (λ c. c.is_primary_key) (column_named set.now.0 columns.now) false }
+{
+    match column_index(columns, set.column()) {
+        Some(place) => match columns.get(place) {
+            Some(column) => column.is_primary_key(),
+            None => false,
+        },
+        None => false,
+    }
+}
+
+/// Whether each new value names a column, which takes it.
+fn are_valid_sets(columns: &[Column], sets: &[Assignment]) -> bool
+    ensures { result ≡ list_all (set_is_valid columns.now) sets.now }
+{
+    sets.iter().all(|set| is_valid_set(columns, set))
+}
+
+/// Whether one of the new values is for a key column.
+fn sets_key(columns: &[Column], sets: &[Assignment]) -> bool
+    ensures { result ≡ sets_a_key columns.now sets.now }
+{
+    sets.iter().any(|set| is_key_set(columns, set))
+}
+
+/// Where the columns of the new values stand; 0 for a name that is none of a column.
+///
+/// # Errors
+/// `OutOfMemory`.
+fn places_of(alloc: Global, columns: &[Column], sets: &[Assignment]) -> Result<Vec<usize>, Error>
+    ensures ok { IfOk result (λ places. places.items ≡ map (index_of columns.now) sets.now) }
+    ensures kind { OnlyMemory result }
+{
+    let mut places = Vec::new(alloc);
+    for set in sets {
+        places.push(column_index(columns, set.column()).unwrap_or(0))?;
+    }
+    Ok(places)
+}
+
+/// Puts a view at a place, unless that is past the end.
+fn set_view<'a>(row: &mut Vec<ValueView<'a>>, place: usize, view: ValueView<'a>)
+    ensures { row.new.items ≡ set row.old.items place view.entry }
+{
+    if place < row.len() {
+        row[place] = view;
+    }
+}
+
+/// Puts new values into a row that is seen where it lies, at the places of their columns.
+fn set_views<'a>(row: &mut Vec<ValueView<'a>>, places: &[usize], sets: &'a [Assignment])
+    ensures { (columns : List ColumnDef) → places.now ≡ map (index_of columns) sets.now
+        → seen_row row.new.items ≡ values_set columns sets.now (seen_row row.old.items) }
+{
+    for i in 0..sets.len().min(places.len()) {
+        set_view(row, places[i], ValueView::of(sets[i].value()));
+    }
+}
+
+/// The cell at a place of a row, or null.
+fn cell_at(row: &[ValueRef], place: usize) -> ValueRef
+    ensures { result ≡ cell_of row.now place }
+{
+    match row.get(place) {
+        Some(cell) => *cell,
+        None => ValueRef::Null,
+    }
+}
+
+/// Puts a cell at a place, unless that is past the end.
+fn set_cell(row: &mut Vec<ValueRef>, place: usize, cell: ValueRef)
+    ensures { row.new.items ≡ set row.old.items place cell }
+{
+    if place < row.len() {
+        row[place] = cell;
+    }
+}
+
+/// Puts a value into a row's cell: the pool gets the old text back, and then the new one is taken from it.
+///
+/// # Errors
+/// `InvalidInput` where the pool is full, or with `OutOfMemory`, which may come before.
+fn exchange(
+    alloc: Global,
+    pool: &mut PoolInUse,
+    row: &mut Vec<ValueRef>,
+    place: usize,
+    value: &Value,
+) -> Result<(), Error>
+    ensures ok { OnOk result (cell_exchanged pool.old.pool.long (in_use pool.old) row.old.items place value.now
+        ≡ Some (row.new.items, in_use pool.new)) }
+    ensures kind { IfErr result (IsRefusal (or_refused InvalidInput
+        (cell_exchanged pool.old.pool.long (in_use pool.old) row.old.items place value.now))) }
+    ensures page { pool.new.pool.page ≡ pool.old.pool.page }
+    ensures long { pool.new.pool.long ≡ pool.old.pool.long }
+{
+    pool.release(cell_at(row.as_slice(), place))?;
+    let cell = pool.put(value.clone(alloc)?)?;
+    set_cell(row, place, cell);
+    Ok(())
+}
+
+/// Puts new values into a row of cells, at the places of their columns, one after another.
+///
+/// # Errors
+/// `InvalidInput` where the pool is full, or with `OutOfMemory`, which may come before.
+fn set_cells(
+    alloc: Global,
+    pool: &mut PoolInUse,
+    row: Vec<ValueRef>,
+    places: &[usize],
+    sets: &[Assignment],
+) -> Result<Vec<ValueRef>, Error>
+    ensures ok { IfOk result (λ cells. (columns : List ColumnDef) → places.now ≡ map (index_of columns) sets.now
+        → cells_set pool.old.pool.long columns (in_use pool.old) row.items sets.now
+        ≡ Some (cells.items, in_use pool.new)) }
+    ensures kind { IfErr result (λ kind. (columns : List ColumnDef) → places.now ≡ map (index_of columns) sets.now
+        → let cells = cells_set pool.old.pool.long columns (in_use pool.old) row.items sets.now in
+        IsRefusal (or_refused InvalidInput cells) kind) }
+    ensures page { pool.new.pool.page ≡ pool.old.pool.page }
+    ensures long { pool.new.pool.long ≡ pool.old.pool.long }
+{
+    let mut row = row;
+    for i in 0..sets.len().min(places.len()) {
+        exchange(alloc, pool, &mut row, places[i], sets[i].value())?;
+    }
+    Ok(row)
+}
+
+/// An update of rows of some columns. What its names stand for is looked up once. A contract sees the columns and the
+/// query.
+#[derive(Drop)]
+struct RowUpdate<'a> {
+    columns: &'a [Column],
+    update: &'a UpdateParts,
+    filter: RowFilter<'a>,
+    places: Vec<usize>,
+}
+
+impl<'a> Model for RowUpdate<'a> {
+    ghost use Rattle.std.specs.Prelude.{◌≡◌, map};
+    ghost use Rattle.std.specs.Coded.{codes};
+    ghost use Rattle.msi_query_expressions.specs.ExpressionCode.{expression_code};
+    ghost use Rattle.msi_database_changes.specs.RowUpdates.{RowUpdateDef, update_of};
+    ghost use Rattle.msi_database_changes.specs.Update.{index_of};
+
+    ghost Value = { RowUpdateDef };
+
+    ghost coded = { Prim.hlevel (codes, expression_code (Prim.hlevel codes)) };
+
+    ghost view = { λ u. record { columns = u.columns.now; query = update_of u.update.now } };
+
+    ghost invariant = { λ u. (u.filter ≡ record { columns = u.columns.now; condition = u.update.now.condition })
+        × (u.places.items ≡ map (index_of u.columns.now) u.update.now.sets) };
+}
+
+impl<'a> RowUpdate<'a> {
+    /// An update, of the parts of a query.
+    ///
+    /// # Errors
+    /// `OutOfMemory`.
+    fn new(
+        alloc: Global,
+        columns: &'a [Column],
+        update: &'a UpdateParts,
+    ) -> Result<RowUpdate<'a>, Error>
+        ensures ok { IfOk result (λ made. made ≡ record { columns = columns.now; query = update_of update.now }) }
+        ensures kind { OnlyMemory result }
+    {
+        let filter = RowFilter::new(alloc, columns, update.condition.as_ref())?;
+        let places = places_of(alloc, columns, update.sets.as_slice())?;
+        Ok(RowUpdate {
+            columns,
+            update,
+            filter,
+            places,
+        })
+    }
+
+    /// The key that a row has after the update. No text is copied.
+    ///
+    /// # Errors
+    /// `OutOfMemory`.
+    fn key_after(
+        &self,
+        alloc: Global,
+        pool: &'a StringPool,
+        row: &[ValueRef],
+    ) -> Result<Key<'a>, Error>
+        ensures ok { IfOk result (λ key.
+            key ≡ key_of self.now.columns (row_set self.now (row_values pool.now.places row.now))) }
+        ensures kind { OnlyMemory result }
+    {
+        let mut views = views_of_cells(alloc, pool, row)?;
+        if self.filter.meets(alloc, pool, row)? {
+            set_views(
+                &mut views,
+                self.places.as_slice(),
+                self.update.sets.as_slice(),
+            );
+        }
+        Key::of_row(alloc, self.columns, views.as_slice())
+    }
+
+    /// A row after the update. Whether it is meant is judged by the texts of the old pool.
+    ///
+    /// # Errors
+    /// `InvalidInput` where the pool is full, or with `OutOfMemory`, which may come before.
+    fn row_after(
+        &self,
+        alloc: Global,
+        old: &StringPool,
+        pool: &mut PoolInUse,
+        row: Items<ValueRef>,
+    ) -> Result<Items<ValueRef>, Error>
+        ensures ok { let step = row_updated pool.old.pool.long old.now.places self.now.columns self.now.query in
+            IfOk result (λ cells. step (in_use pool.old) row ≡ Some (cells, in_use pool.new)) }
+        ensures kind { let step = row_updated pool.old.pool.long old.now.places self.now.columns self.now.query in
+            IfErr result (IsRefusal (or_refused InvalidInput (step (in_use pool.old) row))) }
+        ensures page { pool.new.pool.page ≡ pool.old.pool.page }
+        ensures long { pool.new.pool.long ≡ pool.old.pool.long }
+    {
+        if !self.filter.meets(alloc, old, row.as_slice())? {
+            return Ok(row);
+        }
+        let sets = self.update.sets.as_slice();
+        let cells = set_cells(alloc, pool, row.into_vec(), self.places.as_slice(), sets)?;
+        Ok(Items::from_vec(cells))
+    }
+
+    /// The keys that rows have after the update, in the rows' order.
+    ///
+    /// # Errors
+    /// `OutOfMemory`.
+    fn keys_after(
+        &self,
+        alloc: Global,
+        pool: &'a StringPool,
+        rows: &[Items<ValueRef>],
+    ) -> Result<Vec<Key<'a>>, Error>
+        ensures ok { IfOk result (λ keys. keys.items
+            ≡ map (λ row. key_of self.now.columns (row_set self.now (row_values pool.now.places row))) rows.now) }
+        ensures kind { OnlyMemory result }
+    {
+        let mut keys = Vec::new(alloc);
+        for row in rows {
+            keys.push(self.key_after(alloc, pool, row.as_slice())?)?;
+        }
+        Ok(keys)
+    }
+
+    /// Whether two rows share a key after the update. It takes the rows times a logarithm.
+    ///
+    /// # Errors
+    /// `OutOfMemory`.
+    fn keys_collide(
+        &self,
+        alloc: Global,
+        pool: &'a StringPool,
+        rows: &[Items<ValueRef>],
+    ) -> Result<bool, Error>
+        ensures ok { let values = values_after (table_with self.now.columns rows.now) self.now.query in
+            IfOk result (λ collide. collide
+            ≡ has_pair same_key (map (key_of self.now.columns) (values (map (row_values pool.now.places) rows.now)))) }
+        ensures kind { OnlyMemory result }
+    {
+        let keys = self.keys_after(alloc, pool, rows)?;
+        Ok(distinct_keys(alloc, keys)?.is_none())
+    }
+
+    /// The rows after the update, in their order.
+    ///
+    /// # Errors
+    /// `InvalidInput` where the pool is full, or with `OutOfMemory`, which may come before.
+    fn rows_after(
+        &self,
+        alloc: Global,
+        old: &StringPool,
+        pool: &mut PoolInUse,
+        rows: Vec<Items<ValueRef>>,
+    ) -> Result<Vec<Items<ValueRef>>, Error>
+        ensures ok { let step = row_updated pool.old.pool.long old.now.places self.now.columns self.now.query in
+            IfOk result (λ cells. in_turn step (in_use pool.old) rows.items ≡ Some (cells.items, in_use pool.new)) }
+        ensures kind { let step = row_updated pool.old.pool.long old.now.places self.now.columns self.now.query in
+            IfErr result (IsRefusal (or_refused InvalidInput (in_turn step (in_use pool.old) rows.items))) }
+        ensures page { pool.new.pool.page ≡ pool.old.pool.page }
+        ensures long { pool.new.pool.long ≡ pool.old.pool.long }
+    {
+        let mut cells = Vec::new(alloc);
+        for row in rows {
+            cells.push(self.row_after(alloc, old, pool, row)?)?;
+        }
+        Ok(cells)
+    }
+}
+
+/// Whether two rows of a table share a key after an update.
+///
+/// # Errors
+/// `OutOfMemory`.
+fn shares_key(
+    alloc: Global,
+    pool: &StringPool,
+    columns: &[Column],
+    rows: &[Items<ValueRef>],
+    update: &UpdateParts,
+) -> Result<bool, Error>
+    ensures ok { let values = values_after (table_with columns.now rows.now) (update_of update.now) in
+        IfOk result (λ shares. shares
+        ≡ has_pair same_key (map (key_of columns.now) (values (map (row_values pool.now.places) rows.now)))) }
+    ensures kind { OnlyMemory result }
+{
+    let update = RowUpdate::new(alloc, columns, update)?;
+    update.keys_collide(alloc, pool, rows)
+}
+
+/// Refuses an update of a table's rows, whose texts stand in the pool.
+///
+/// # Errors
+/// Fails with the first of these that applies: `InvalidInput` if a new value names no column, or its column doesn't
+/// take it, and if the condition names no column; `AlreadyExists` if a key column is set, and two rows would share a
+/// key. It may fail with `OutOfMemory` in place of any of these.
+pub fn refuse_update(
+    alloc: Global,
+    pool: &StringPool,
+    columns: &[Column],
+    rows: &[Items<ValueRef>],
+    update: &UpdateParts,
+) -> Result<(), Error>
+    ensures ok { let t = table_with columns.now rows.now in
+        let refusals = update_refusals pool.now.places t (update_of update.now) in
+        OnOk result (first_refusal refusals ≡ None) }
+    ensures kind { let t = table_with columns.now rows.now in
+        let refusals = update_refusals pool.now.places t (update_of update.now) in
+        IfErr result (IsRefusal {A = Unit {0}} (unless_refused refusals tt)) }
+{
+    let sets = update.sets.as_slice();
+    if !are_valid_sets(columns, sets) {
+        return Err(Error::new(ErrorKind::InvalidInput, reasons::NEW_VALUE));
+    }
+    if !knows_condition(columns, update.condition.as_ref()) {
+        return Err(Error::new(ErrorKind::InvalidInput, reasons::CONDITION_COLUMN));
+    }
+    if !sets_key(columns, sets) {
+        return Ok(());
+    }
+    if shares_key(alloc, pool, columns, rows, update)? {
+        return Err(Error::new(ErrorKind::AlreadyExists, reasons::KEY_COLLIDES));
+    }
+    Ok(())
+}
+
+/// Returns a table's rows after an update, in their order: per row and per new value the pool gets the old text back,
+/// and then the new one is taken from it. Which rows are meant is decided by the texts of the old pool, of which the
+/// pool in use began as a clone. Their stored order is given to them where they are written.
+///
+/// # Errors
+/// Fails with `InvalidInput` if the pool is full, or with `OutOfMemory`, which may come before.
+pub fn updated_rows(
+    alloc: Global,
+    old: &StringPool,
+    pool: &mut PoolInUse,
+    columns: &[Column],
+    update: &UpdateParts,
+    rows: Vec<Items<ValueRef>>,
+) -> Result<Vec<Items<ValueRef>>, Error>
+    ensures ok { let step = row_updated pool.old.pool.long old.now.places columns.now (update_of update.now) in
+        IfOk result (λ cells. in_turn step (in_use pool.old) rows.items ≡ Some (cells.items, in_use pool.new)) }
+    ensures kind { let step = row_updated pool.old.pool.long old.now.places columns.now (update_of update.now) in
+        IfErr result (IsRefusal (or_refused InvalidInput (in_turn step (in_use pool.old) rows.items))) }
+    ensures page { pool.new.pool.page ≡ pool.old.pool.page }
+    ensures long { pool.new.pool.long ≡ pool.old.pool.long }
+{
+    let update = RowUpdate::new(alloc, columns, update)?;
+    update.rows_after(alloc, old, pool, rows)
+}

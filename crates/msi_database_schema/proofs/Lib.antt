@@ -1,0 +1,16 @@
+-- The lemmas of this crate.
+pub mod AccountLemmas
+pub mod AddedLemmas
+pub mod AddedRowsLemmas
+pub mod ColumnBackLemmas
+pub mod DescriptionLemmas
+pub mod FaultLemmas
+pub mod ListingLemmas
+pub mod NamesLemmas
+pub mod OrderLemmas
+pub mod OrderlessLemmas
+pub mod ReadColumnLemmas
+pub mod RowOrderLemmas
+pub mod SchemaLemmas
+pub mod SortLemmas
+pub mod TablesLemmas

@@ -1,0 +1,240 @@
+//! A column from its row of `_Columns` and its row of `_Validation` (MSI SDK, "_Columns table" and "_Validation
+//! table").
+
+ghost use Rattle.std.specs.Prelude.{◌≡◌, ◌≤◌, ◌==◌, [], IfOk, Some, bytes_eq, codes, false, if◌then◌else◌, length, map};
+ghost use Rattle.std.specs.Prelude.{option_and_then, option_map, true};
+ghost use Rattle.std.specs.List.{slice_split};
+ghost use Rattle.std.specs.Option.{option_map_or};
+ghost use Rattle.std.specs.List.Sorted.{IsSorted};
+ghost use Rattle.msi_text_base.specs.Results.{Gives, OnlyMemory};
+ghost use Rattle.msi_text_base.specs.declared.errors.ErrorKind.TheVariants.{InvalidData};
+ghost use Rattle.msi_table_values.specs.Columns.{begun_column};
+ghost use Rattle.msi_table.specs.Tables.{most_columns};
+ghost use Rattle.msi_database_schema.specs.RowOrders.{by_numbers, by_texts, describing};
+ghost use Rattle.msi_database_schema.specs.Schema.{bits_in as bits_of_row, both_set, category_named};
+ghost use Rattle.msi_database_schema.specs.Schema.{column_of_row as column_described, columns_of, described};
+ghost use Rattle.msi_database_schema.specs.Schema.{has_long_number, is_of_16_bits, number_of, numbered_row};
+ghost use Rattle.msi_database_schema.specs.Schema.{text_at as text_in, text_of, validation_row, value_at, values_in};
+ghost use Rattle.msi_database_schema.specs.System.{is_schema_table};
+
+use crate::orders::{count_about, find_by_number, find_by_texts};
+use crate::reasons;
+use crate::rows::{is_null_at, number_at, text_at};
+use msi_table::column::{Column, ColumnBuilder};
+use msi_table::parts::column_of_bits;
+use msi_table::table::MAX_COLUMNS;
+use msi_table::value::Value;
+use msi_text::category::Category;
+use msi_text::errors::{Error, ErrorKind};
+use msi_text::text::Items;
+use std::alloc::{AllocError, Global};
+
+/// Lets a column take null where a row of `_Validation` says `Y`.
+fn with_nullable(builder: ColumnBuilder, row: &Items<Value>) -> ColumnBuilder
+    ensures { result ≡ (if bytes_eq (text_in 2 row.now) (codes "Y") then record builder { is_nullable = true }
+        else builder) }
+{
+    if text_at(row, 2) == "Y" {
+        builder.nullable()
+    } else {
+        builder
+    }
+}
+
+/// Sets a column's range where a row of `_Validation` has both ends.
+fn with_range(builder: ColumnBuilder, row: &Items<Value>) -> ColumnBuilder
+    ensures { result ≡ option_map_or (λ range. record builder { value_range = Some range })
+        (both_set number_of number_of (value_at 3 row.now) (value_at 4 row.now)) builder }
+{
+    if is_null_at(row, 3) || is_null_at(row, 4) {
+        builder
+    } else {
+        builder.range(number_at(row, 3), number_at(row, 4))
+    }
+}
+
+/// Sets what a column refers to where a row of `_Validation` has a table and a number.
+///
+/// # Errors
+/// `OutOfMemory`.
+fn with_foreign_key(builder: ColumnBuilder, row: &Items<Value>) -> Result<ColumnBuilder, Error>
+    ensures ok { IfOk result (λ referring. referring ≡ option_map_or (λ key. record builder { foreign_key = Some key })
+        (both_set text_of number_of (value_at 5 row.now) (value_at 6 row.now)) builder) }
+    ensures kind { OnlyMemory result }
+{
+    if is_null_at(row, 5) || is_null_at(row, 6) {
+        return Ok(builder);
+    }
+    builder.foreign_key(text_at(row, 5), number_at(row, 6))
+}
+
+/// Sets a column's category where a row of `_Validation` names one.
+fn with_category(builder: ColumnBuilder, row: &Items<Value>) -> ColumnBuilder
+    ensures { result ≡ option_map_or (λ category. record builder { category = Some category })
+        (category_named (text_in 7 row.now)) builder }
+{
+    match text_at(row, 7).parse::<Category>() {
+        Ok(category) => builder.category(category),
+        Err(_) => builder,
+    }
+}
+
+/// The pieces of a text between each two semicolons.
+///
+/// # Errors
+/// Where memory is refused.
+fn pieces<'a>(alloc: Global, text: &'a str) -> Result<Vec<&'a str>, AllocError>
+    ensures { IfOk result (λ pieces. map (λ piece. piece.now) pieces.items ≡ slice_split (λ c. c == 59) text.now) }
+{
+    text.split(';').collect(alloc)
+}
+
+/// Sets the texts that a column takes where a row of `_Validation` lists some.
+///
+/// # Errors
+/// `OutOfMemory`.
+fn with_values(
+    alloc: Global,
+    builder: ColumnBuilder,
+    row: &Items<Value>,
+) -> Result<ColumnBuilder, Error>
+    requires { builder.enum_values ≡ [] }
+    ensures ok { IfOk result (λ listing. listing ≡ record builder { enum_values = values_in (value_at 8 row.now) }) }
+    ensures kind { OnlyMemory result }
+{
+    match row.as_slice().get(8) {
+        Some(Value::Str(set)) => {
+            let texts = pieces(alloc, set.as_str())?;
+            builder.enum_values(texts.as_slice())
+        }
+        _ => Ok(builder),
+    }
+}
+
+/// Begins a column of a name with what a row of `_Validation` says of it.
+///
+/// # Errors
+/// `OutOfMemory`.
+fn described_column(alloc: Global, name: &str, row: &Items<Value>) -> Result<ColumnBuilder, Error>
+    ensures ok { IfOk result (λ builder. builder ≡ described (Some row.now) (begun_column name.now)) }
+    ensures kind { OnlyMemory result }
+{
+    let builder = with_nullable(Column::build(alloc, name)?, row);
+    let builder = with_category(with_range(builder, row), row);
+    let builder = with_foreign_key(builder, row)?;
+    with_values(alloc, builder, row)
+}
+
+/// The bits of a column's type in its row of `_Columns`, where negative numbers stand for those from 32768 on.
+fn bits_in(row: &Items<Value>) -> u16
+    requires { is_of_16_bits (number_of (value_at 3 row.now)) ≡ true }
+    ensures { result ≡ bits_of_row row.now }
+{
+    (number_at(row, 3) as i16).cast_unsigned()
+}
+
+/// Begins a column of a name with what `_Validation` says of it, whose rows stand in the order of their tables and
+/// columns.
+///
+/// # Errors
+/// `OutOfMemory`.
+fn begun_column_of(
+    alloc: Global,
+    validation: &[Items<Value>],
+    table: &str,
+    name: &str,
+) -> Result<ColumnBuilder, Error>
+    requires { IsSorted (by_texts 1) validation.now }
+    ensures ok { let about = validation_row (describing [] validation.now) table.now name.now in
+        IfOk result (λ builder. builder ≡ described about (begun_column name.now)) }
+    ensures kind { OnlyMemory result }
+{
+    match find_by_texts(validation, 1, table, name) {
+        Some(about) => described_column(alloc, name, about),
+        None => Column::build(alloc, name),
+    }
+}
+
+/// The error of columns whose numbers aren't 1 to n.
+fn misnumbered() -> Error
+    ensures { result ≡ InvalidData }
+{
+    Error::new(ErrorKind::InvalidData, reasons::COLUMN_NUMBERS)
+}
+
+/// The column that a row of `_Columns` describes, with the row of `_Validation` about it where there is one; the rows
+/// of `_Validation` stand in the order of their tables and columns.
+///
+/// # Errors
+/// `InvalidData` where the row's bits name no type; `OutOfMemory`.
+fn column_of_row(
+    alloc: Global,
+    validation: &[Items<Value>],
+    table: &str,
+    row: &Items<Value>,
+) -> Result<Column, Error>
+    requires by_name { IsSorted (by_texts 1) validation.now }
+    requires short { is_of_16_bits (number_of (value_at 3 row.now)) ≡ true }
+    ensures { let s = describing [] validation.now in Gives
+        (λ column. column) result (column_described s table.now row.now) }
+{
+    let builder = begun_column_of(alloc, validation, table, text_at(row, 2))?;
+    column_of_bits(builder, bits_in(row))
+}
+
+/// The column of a table that has a number. The rows of `_Columns` stand in the order of their tables and numbers,
+/// those of `_Validation` in the order of their tables and columns.
+///
+/// # Errors
+/// `InvalidData` where no row has the number, and where its bits name no type; `OutOfMemory`.
+fn numbered_column(
+    alloc: Global,
+    columns: &[Items<Value>],
+    validation: &[Items<Value>],
+    table: &str,
+    number: u16,
+) -> Result<Column, Error>
+    requires by_number { IsSorted by_numbers columns.now }
+    requires by_name { IsSorted (by_texts 1) validation.now }
+    requires short { has_long_number columns.now ≡ false }
+    requires plain { is_schema_table table.now ≡ false }
+    ensures { let s = describing columns.now validation.now in Gives (λ column. column) result
+        (option_and_then (column_described s table.now) (numbered_row s table.now number)) }
+{
+    match find_by_number(columns, table, number) {
+        Some(row) => column_of_row(alloc, validation, table, row),
+        None => Err(misnumbered()),
+    }
+}
+
+/// The columns of a table that is neither `_Tables` nor `_Columns`, by their numbers. The rows of `_Columns` stand in
+/// the order of their tables and numbers, those of `_Validation` in the order of their tables and columns.
+///
+/// # Errors
+/// `InvalidData` where the numbers aren't 1 to n, n at least 1, and where a row's bits name no type; `OutOfMemory`.
+pub(crate) fn columns_of_table(
+    alloc: Global,
+    columns: &[Items<Value>],
+    validation: &[Items<Value>],
+    table: &str,
+) -> Result<Items<Column>, Error>
+    requires by_number { IsSorted by_numbers columns.now }
+    requires by_name { IsSorted (by_texts 1) validation.now }
+    requires short { has_long_number columns.now ≡ false }
+    requires plain { is_schema_table table.now ≡ false }
+    ensures gives { Gives (λ read. read) result (columns_of (describing columns.now validation.now) table.now) }
+    ensures few { IfOk result (λ read. length read ≤ most_columns) }
+{
+    let count = count_about(columns, table);
+    if count == 0 {
+        return Err(misnumbered());
+    }
+    if count > MAX_COLUMNS {
+        return Err(misnumbered());
+    }
+    let mut read = Vec::new(alloc);
+    for i in 0..count {
+        read.push(numbered_column(alloc, columns, validation, table, i as u16 + 1)?)?;
+    }
+    Ok(Items::from_vec(read))
+}

@@ -1,0 +1,229 @@
+//! The rows that describe a table, in `_Tables`, `_Columns` and `_Validation` (MSI SDK, "System tables").
+
+ghost use Rattle.std.specs.Prelude.{◌≡◌, ◌≤◌, IfOk, IsTrue, length, option_map};
+ghost use Rattle.msi_text.specs.Categories.{category_name};
+ghost use Rattle.msi_text_base.specs.Results.{OnlyMemory};
+ghost use Rattle.msi_table_values.specs.Columns.{HasShortLength, type_bits as bits_of};
+ghost use Rattle.msi_table.specs.Tables.{most_columns};
+ghost use Rattle.msi_database_schema.specs.Description.{column_row as row_of_column, column_rows as rows_of_columns};
+ghost use Rattle.msi_database_schema.specs.Description.{has_short_length as is_of_short_length};
+ghost use Rattle.msi_database_schema.specs.Description.{have_short_lengths as are_of_short_lengths, int_or_null};
+ghost use Rattle.msi_database_schema.specs.Description.{joined_values, tables_row as row_of_table, text_or_null};
+ghost use Rattle.msi_database_schema.specs.Description.{validation_row as validating_row};
+ghost use Rattle.msi_database_schema.specs.Description.{validation_rows as validating_rows};
+
+use msi_table::column::{Column, ColumnType};
+use msi_table::parts::type_bits;
+use msi_table::value::Value;
+use msi_text::errors::Error;
+use msi_text::text::{IntoText, Items, Text};
+use std::alloc::Global;
+
+/// Returns whether the bits of a column's type hold the length of its texts: it is below 256.
+pub fn has_short_length(column: &Column) -> bool
+    ensures value { result ≡ is_of_short_length column.now }
+    ensures short { IsTrue result → HasShortLength column.now.coltype }
+{
+    match column.coltype() {
+        ColumnType::Str(length) => length < 256,
+        _ => true,
+    }
+}
+
+/// Returns whether the bits of each column's type hold the length of its texts.
+pub fn have_short_lengths(columns: &[Column]) -> bool
+    ensures { result ≡ are_of_short_lengths columns.now }
+{
+    columns.iter().all(has_short_length)
+}
+
+/// Returns the row of `_Tables` that lists a table.
+///
+/// # Errors
+/// Fails with `OutOfMemory`.
+pub fn tables_row(alloc: Global, name: &str) -> Result<Items<Value>, Error>
+    ensures ok { IfOk result (λ row. row ≡ row_of_table name.now) }
+    ensures kind { OnlyMemory result }
+{
+    let name = Value::Str(name.into_text(alloc)?);
+    Ok(Items::from_vec(Vec::from_array(alloc, [name])?))
+}
+
+/// The row of `_Columns` that describes a table's column of a number, which counts from 1 on.
+///
+/// # Errors
+/// `OutOfMemory`.
+fn column_row(
+    alloc: Global,
+    table: &str,
+    number: u16,
+    column: &Column,
+) -> Result<Items<Value>, Error>
+    requires { HasShortLength column.now.coltype }
+    ensures ok { IfOk result (λ row. row ≡ row_of_column table.now (number, column.now)) }
+    ensures kind { OnlyMemory result }
+{
+    let row = [
+        Value::Str(table.into_text(alloc)?),
+        Value::Int(i32::from(number)),
+        Value::Str(column.name().into_text(alloc)?),
+        Value::Int(i32::from(type_bits(column))),
+    ];
+    Ok(Items::from_vec(Vec::from_array(alloc, row)?))
+}
+
+/// Returns the rows of `_Columns` that describe a table's columns, in order. The bits of their types have to hold
+/// their lengths, which `have_short_lengths` checks, and a table has at most 32767 columns.
+///
+/// # Errors
+/// Fails with `OutOfMemory`.
+pub fn column_rows(
+    alloc: Global,
+    table: &str,
+    columns: &[Column],
+) -> Result<Vec<Items<Value>>, Error>
+    requires short { IsTrue (are_of_short_lengths columns.now) }
+    requires few { length columns.now ≤ most_columns }
+    ensures ok { IfOk result (λ rows. rows.items ≡ rows_of_columns table.now columns.now) }
+    ensures kind { OnlyMemory result }
+{
+    let mut rows = Vec::new(alloc);
+    for i in 0..columns.len() {
+        rows.push(column_row(alloc, table, i as u16 + 1, &columns[i])?)?;
+    }
+    Ok(rows)
+}
+
+/// Texts with a semicolon between each two, or null where there is none.
+///
+/// # Errors
+/// `OutOfMemory`.
+fn joined(alloc: Global, texts: &[Text]) -> Result<Value, Error>
+    ensures ok { IfOk result (λ value. value ≡ text_or_null (joined_values texts.now)) }
+    ensures kind { OnlyMemory result }
+{
+    let Some((first, others)) = texts.split_first() else {
+        return Ok(Value::Null);
+    };
+    let mut text = String::from_str(alloc, first.as_str())?;
+    for other in others {
+        text.push(';')?;
+        text.push_str(other.as_str())?;
+    }
+    Ok(Value::Str(Text::from_string(text)))
+}
+
+/// The texts that a column takes, joined, or null where none is listed.
+///
+/// # Errors
+/// `OutOfMemory`.
+fn listed_values(alloc: Global, column: &Column) -> Result<Value, Error>
+    ensures ok { IfOk result (λ value. value ≡ text_or_null (joined_values column.now.enum_values)) }
+    ensures kind { OnlyMemory result }
+{
+    match column.enum_values() {
+        Some(texts) => joined(alloc, texts),
+        None => Ok(Value::Null),
+    }
+}
+
+/// The least number that a column takes, or null.
+fn least(column: &Column) -> Value
+    ensures { result ≡ int_or_null (option_map (λ range. range.0) column.now.value_range) }
+{
+    match column.value_range() {
+        Some((least, _)) => Value::Int(least),
+        None => Value::Null,
+    }
+}
+
+/// The greatest number that a column takes, or null.
+fn greatest(column: &Column) -> Value
+    ensures { result ≡ int_or_null (option_map (λ range. range.1) column.now.value_range) }
+{
+    match column.value_range() {
+        Some((_, greatest)) => Value::Int(greatest),
+        None => Value::Null,
+    }
+}
+
+/// The table that a column refers to, or null.
+///
+/// # Errors
+/// `OutOfMemory`.
+fn key_table(alloc: Global, column: &Column) -> Result<Value, Error>
+    ensures ok { IfOk result (λ value. value ≡ text_or_null (option_map (λ key. key.0) column.now.foreign_key)) }
+    ensures kind { OnlyMemory result }
+{
+    match column.foreign_key() {
+        Some((table, _)) => Ok(Value::Str(table.into_text(alloc)?)),
+        None => Ok(Value::Null),
+    }
+}
+
+/// The number of the column that a column refers to, or null.
+fn key_column(column: &Column) -> Value
+    ensures { result ≡ int_or_null (option_map (λ key. key.1) column.now.foreign_key) }
+{
+    match column.foreign_key() {
+        Some((_, number)) => Value::Int(number),
+        None => Value::Null,
+    }
+}
+
+/// The name of a column's category, or null.
+///
+/// # Errors
+/// `OutOfMemory`.
+fn category(alloc: Global, column: &Column) -> Result<Value, Error>
+    ensures ok { IfOk result (λ value. value ≡ text_or_null (option_map category_name column.now.category)) }
+    ensures kind { OnlyMemory result }
+{
+    match column.category() {
+        Some(category) => Ok(Value::Str(category.name().into_text(alloc)?)),
+        None => Ok(Value::Null),
+    }
+}
+
+/// Returns the row of `_Validation` that describes a table's column.
+///
+/// # Errors
+/// Fails with `OutOfMemory`.
+pub fn validation_row(alloc: Global, table: &str, column: &Column) -> Result<Items<Value>, Error>
+    ensures ok { IfOk result (λ row. row ≡ validating_row table.now column.now) }
+    ensures kind { OnlyMemory result }
+{
+    let nullable = if column.is_nullable() { "Y" } else { "N" };
+    let row = [
+        Value::Str(table.into_text(alloc)?),
+        Value::Str(column.name().into_text(alloc)?),
+        Value::Str(nullable.into_text(alloc)?),
+        least(column),
+        greatest(column),
+        key_table(alloc, column)?,
+        key_column(column),
+        category(alloc, column)?,
+        listed_values(alloc, column)?,
+        Value::Null,
+    ];
+    Ok(Items::from_vec(Vec::from_array(alloc, row)?))
+}
+
+/// Returns the rows of `_Validation` that describe a table's columns, in order.
+///
+/// # Errors
+/// Fails with `OutOfMemory`.
+pub fn validation_rows(
+    alloc: Global,
+    table: &str,
+    columns: &[Column],
+) -> Result<Vec<Items<Value>>, Error>
+    ensures ok { IfOk result (λ rows. rows.items ≡ validating_rows table.now columns.now) }
+    ensures kind { OnlyMemory result }
+{
+    let mut rows = Vec::new(alloc);
+    for column in columns {
+        rows.push(validation_row(alloc, table, column)?)?;
+    }
+    Ok(rows)
+}

@@ -1,0 +1,230 @@
+//! Whether the rows of the system tables break a rule.
+
+ghost use Rattle.std.specs.Prelude.{◌≡◌, ◌≤◌, ◌+◌, ◌&&◌, ◌||◌, [], IfOk, bytes_eq, not};
+ghost use Rattle.std.specs.List.{list_any};
+ghost use Rattle.std.specs.List.Sorted.{IsSorted};
+ghost use Rattle.msi_text_base.specs.Lists.{has_pair};
+ghost use Rattle.msi_text_base.specs.Results.{OnlyMemory};
+ghost use Rattle.msi_database_schema.specs.Keys.{is_pool_name as is_of_pool_name};
+ghost use Rattle.msi_database_schema.specs.RowOrders.{by_texts, has_faulty_row, listing, rows_of, shares_key};
+ghost use Rattle.msi_database_schema.specs.Schema.{counted, describes_column as is_described};
+ghost use Rattle.msi_database_schema.specs.Schema.{has_long_number as has_long, has_odd_name as has_odd};
+ghost use Rattle.msi_database_schema.specs.Schema.{has_null as has_one_null, is_faulty as breaks_rule};
+ghost use Rattle.msi_database_schema.specs.Schema.{is_of_16_bits as fits_16_bits, lacks_value as lacks_one};
+ghost use Rattle.msi_database_schema.specs.Schema.{listed_names, number_of, share_key, text_at as text_in, value_at};
+ghost use Rattle.msi_table_values.specs.Values.{is_null, is_text};
+ghost use Rattle.msi_database_schema.specs.System.{is_schema_table as is_of_schema};
+
+use crate::names::is_pool_name;
+use crate::orders::{find_by_texts, has_repeat, sort_by_texts};
+use crate::rows::{is_null_at, is_text_at, number_at, text_at};
+use crate::system::is_schema_table;
+use msi_table::value::Value;
+use msi_text::errors::Error;
+use msi_text::text::Items;
+
+/// Whether a number takes at most 16 bits.
+fn is_of_16_bits(number: i32) -> bool
+    ensures { result ≡ fits_16_bits number }
+{
+    -32768 <= number && number <= 32767
+}
+
+/// Whether a row of `_Columns` has a number that no cell of 16 bits holds.
+fn is_long(row: &Items<Value>) -> bool
+    ensures { result ≡ not (fits_16_bits (number_of (value_at 1 row.now))
+        && fits_16_bits (number_of (value_at 3 row.now))) }
+{
+    !(is_of_16_bits(number_at(row, 1)) && is_of_16_bits(number_at(row, 3)))
+}
+
+/// Whether a row of `_Columns` has a number that no cell of 16 bits holds.
+fn has_long_number(rows: &[Items<Value>]) -> bool
+    ensures { result ≡ has_long rows.now }
+{
+    rows.iter().any(is_long)
+}
+
+/// Whether a row of `_Tables` has no text for a name.
+fn is_odd(row: &Items<Value>) -> bool
+    ensures { result ≡ not (is_text (value_at 0 row.now)) }
+{
+    !is_text_at(row, 0)
+}
+
+/// Whether a row of `_Tables` has no text for a name.
+fn has_odd_name(rows: &[Items<Value>]) -> bool
+    ensures { result ≡ has_odd rows.now }
+{
+    rows.iter().any(is_odd)
+}
+
+/// Whether rows of `_Tables` and `_Columns` have values that no cells give.
+pub(crate) fn has_odd_value(tables: &[Items<Value>], columns: &[Items<Value>]) -> bool
+    ensures { result ≡ (has_odd tables.now || has_long columns.now) }
+{
+    has_odd_name(tables) || has_long_number(columns)
+}
+
+/// Whether a value of a row is null.
+fn holds_null(row: &Items<Value>) -> bool
+    ensures { result ≡ list_any is_null row.now }
+{
+    row.as_slice().iter().any(Value::is_null)
+}
+
+/// Whether a value of one of the rows is null.
+fn has_null(rows: &[Items<Value>]) -> bool
+    ensures { result ≡ has_one_null rows.now }
+{
+    rows.iter().any(holds_null)
+}
+
+/// Whether a row is about neither `_Tables` nor `_Columns`.
+pub(crate) fn is_counted(row: &Items<Value>) -> bool
+    ensures { result ≡ not (is_of_schema (text_in 0 row.now)) }
+{
+    !is_schema_table(text_at(row, 0))
+}
+
+/// Whether a row of `_Tables` lists a stream of the string pool.
+fn is_of_pool(row: &Items<Value>) -> bool
+    ensures { result ≡ (not (is_of_schema (text_in 0 row.now)) && is_of_pool_name (text_in 0 row.now)) }
+{
+    is_counted(row) && is_pool_name(text_at(row, 0))
+}
+
+/// Whether `_Tables` lists a stream of the string pool.
+fn lists_pool(tables: &[Items<Value>]) -> bool
+    ensures { result ≡ list_any
+        (λ row. not (is_of_schema (text_in 0 row)) && is_of_pool_name (text_in 0 row)) tables.now }
+{
+    tables.iter().any(is_of_pool)
+}
+
+/// Whether a row of `_Columns` is about a table that isn't listed; the rows of `_Tables` stand in the order of their
+/// names.
+fn is_unlisted(tables: &[Items<Value>], row: &Items<Value>) -> bool
+    requires { IsSorted (by_texts 0) tables.now }
+    ensures { result ≡ (not (is_of_schema (text_in 0 row.now))
+        && not (list_any (bytes_eq (text_in 0 row.now)) (listed_names (listing tables.now [])))) }
+{
+    let table = text_at(row, 0);
+    is_counted(row) && find_by_texts(tables, 0, table, table).is_none()
+}
+
+/// Whether a row of `_Columns` is about a table that isn't listed; the rows of `_Tables` stand in the order of their
+/// names.
+fn has_unlisted(tables: &[Items<Value>], columns: &[Items<Value>]) -> bool
+    requires { IsSorted (by_texts 0) tables.now }
+    ensures { result ≡ list_any (λ row. not (is_of_schema (text_in 0 row))
+        && not (list_any (bytes_eq (text_in 0 row)) (listed_names (listing tables.now [])))) columns.now }
+{
+    columns.iter().any(|row| is_unlisted(tables, row))
+}
+
+/// Whether a row of `_Validation` is about a column that `_Columns` describes; the rows of `_Columns` stand in the
+/// order of their tables and names.
+fn describes_column(columns: &[Items<Value>], row: &Items<Value>) -> bool
+    requires { IsSorted (by_texts 2) columns.now }
+    ensures { result ≡ is_described (listing [] columns.now) row.now }
+{
+    is_counted(row) && find_by_texts(columns, 2, text_at(row, 0), text_at(row, 1)).is_some()
+}
+
+/// Whether a row of `_Validation` lacks a value that it needs; the rows of `_Columns` stand in the order of their
+/// tables and names.
+fn lacks_value(columns: &[Items<Value>], row: &Items<Value>) -> bool
+    requires { IsSorted (by_texts 2) columns.now }
+    ensures { result ≡ lacks_one (listing [] columns.now) row.now }
+{
+    is_null_at(row, 0)
+        || is_null_at(row, 1)
+        || (describes_column(columns, row) && is_null_at(row, 2))
+}
+
+/// Whether a row of `_Validation` lacks a value that it needs; the rows of `_Columns` stand in the order of their
+/// tables and names.
+fn has_lack(columns: &[Items<Value>], validation: &[Items<Value>]) -> bool
+    requires { IsSorted (by_texts 2) columns.now }
+    ensures { result ≡ list_any (lacks_one (listing [] columns.now)) validation.now }
+{
+    validation.iter().any(|row| lacks_value(columns, row))
+}
+
+/// Whether two rows that count share their first values and those at a place, which is 0 or 1.
+///
+/// # Errors
+/// `OutOfMemory`.
+fn repeats_counted(rows: Vec<Items<Value>>, place: usize) -> Result<bool, Error>
+    requires { place ≤ 1 }
+    ensures ok { IfOk result (λ found. found ≡ has_pair (share_key (place + 1)) (counted rows.items)) }
+    ensures kind { OnlyMemory result }
+{
+    let mut rows = rows;
+    rows.retain(is_counted);
+    has_repeat(rows, place)
+}
+
+/// Whether rows break a rule that each row decides, beside the other tables' rows: those of `_Tables` stand in the
+/// order of their names, those of `_Columns` in the order of their tables and names.
+fn has_fault_in_row(
+    tables: &[Items<Value>],
+    columns: &[Items<Value>],
+    validation: &[Items<Value>],
+) -> bool
+    requires by_name { IsSorted (by_texts 0) tables.now }
+    requires by_column { IsSorted (by_texts 2) columns.now }
+    ensures { let s = rows_of tables.now columns.now validation.now in result ≡ has_faulty_row s }
+{
+    has_null(tables)
+        || has_null(columns)
+        || has_lack(columns, validation)
+        || lists_pool(tables)
+        || has_unlisted(tables, columns)
+}
+
+/// Whether two rows of one of the tables share a key, of those that count.
+///
+/// # Errors
+/// `OutOfMemory`.
+fn has_shared_key(
+    tables: Vec<Items<Value>>,
+    columns: Vec<Items<Value>>,
+    validation: Vec<Items<Value>>,
+) -> Result<bool, Error>
+    ensures ok { let s = rows_of tables.items columns.items validation.items in IfOk result
+        (λ found. found ≡ shares_key s) }
+    ensures kind { OnlyMemory result }
+{
+    if repeats_counted(tables, 0)? {
+        return Ok(true);
+    }
+    if repeats_counted(columns, 1)? {
+        return Ok(true);
+    }
+    has_repeat(validation, 1)
+}
+
+/// Whether the rows of the three tables break a rule. Their order doesn't matter.
+///
+/// # Errors
+/// `OutOfMemory`.
+pub(crate) fn is_faulty(
+    tables: Vec<Items<Value>>,
+    columns: Vec<Items<Value>>,
+    validation: Vec<Items<Value>>,
+) -> Result<bool, Error>
+    ensures ok { let s = rows_of tables.items columns.items validation.items in IfOk result
+        (λ found. found ≡ breaks_rule s) }
+    ensures kind { OnlyMemory result }
+{
+    let mut tables = tables;
+    let mut columns = columns;
+    sort_by_texts(&mut tables, 0)?;
+    sort_by_texts(&mut columns, 2)?;
+    if has_fault_in_row(tables.as_slice(), columns.as_slice(), validation.as_slice()) {
+        return Ok(true);
+    }
+    has_shared_key(tables, columns, validation)
+}

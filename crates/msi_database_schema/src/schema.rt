@@ -1,0 +1,220 @@
+//! Which tables the rows of `_Tables`, `_Columns` and `_Validation` describe (MSI SDK, "System tables").
+
+ghost use Rattle.std.specs.Prelude.{◌≡◌, ◌≤◌, false, IfOk, OnOk, length, option_map};
+ghost use Rattle.std.specs.List.Sorted.{IsSorted};
+ghost use Rattle.msi_text_base.specs.Lists.{stable_sort};
+ghost use Rattle.msi_text_base.specs.Results.{Gives, OnlyMemory};
+ghost use Rattle.msi_table.specs.Tables.{most_columns};
+ghost use Rattle.msi_database_schema.specs.ListedTables.{by_names, listed_table as table_listed};
+ghost use Rattle.msi_database_schema.specs.ListedTables.{listed_tables as tables_listed};
+ghost use Rattle.msi_database_schema.specs.ListedTables.{system_tables as tables_of_system, with_system};
+ghost use Rattle.msi_database_schema.specs.RowOrders.{by_numbers, by_texts, describing, rows_of};
+ghost use Rattle.msi_database_schema.specs.Schema.{has_long_number as has_long, table_with, tables_of};
+ghost use Rattle.msi_database_schema.specs.System.{is_schema_table};
+
+use crate::columns::columns_of_table;
+use crate::faults::{has_odd_value, is_counted, is_faulty};
+use crate::orders::{sort_by_numbers, sort_by_texts};
+use crate::reasons;
+use crate::rows::text_at;
+use crate::system::{COLUMNS, TABLES, columns_columns, tables_columns};
+use msi_table::column::Column;
+use msi_table::parts::table;
+use msi_table::table::Table;
+use msi_table::value::Value;
+use msi_text::errors::{Error, ErrorKind};
+use msi_text::text::{IntoText, Items};
+use std::alloc::Global;
+use std::marker::Model;
+
+/// The rows of the three tables that describe tables: each a value for each column.
+#[derive(Drop)]
+pub struct SchemaRows {
+    tables: Vec<Items<Value>>,
+    columns: Vec<Items<Value>>,
+    validation: Vec<Items<Value>>,
+}
+
+impl Model for SchemaRows {
+    ghost use Rattle.msi_database_schema.specs.Schema as spec;
+
+    ghost Value = { spec.SchemaRows };
+
+    ghost view = { λ r. record {
+      tables = r.tables.items;
+      columns = r.columns.items;
+      validation = r.validation.items;
+    } };
+}
+
+impl SchemaRows {
+    /// Returns the rows of `_Tables`, `_Columns` and `_Validation`.
+    pub fn new(
+        tables: Vec<Items<Value>>,
+        columns: Vec<Items<Value>>,
+        validation: Vec<Items<Value>>,
+    ) -> SchemaRows
+        ensures { result ≡ rows_of tables.items columns.items validation.items }
+    {
+        SchemaRows {
+            tables,
+            columns,
+            validation,
+        }
+    }
+}
+
+/// Returns a table of a name and columns, which are at most 32767.
+///
+/// # Errors
+/// Fails with `OutOfMemory`.
+pub fn named_table(
+    alloc: Global,
+    name: &str,
+    columns: Items<Column>,
+    long: bool,
+) -> Result<Table, Error>
+    requires { length columns ≤ most_columns }
+    ensures ok { IfOk result (λ table. table ≡ table_with long (name.now, columns)) }
+    ensures kind { OnlyMemory result }
+{
+    match table(name.into_text(alloc)?, columns, long) {
+        Some(named) => Ok(named),
+        None => unreachable!(),
+    }
+}
+
+/// The two tables that are always there.
+///
+/// # Errors
+/// `OutOfMemory`.
+fn system_tables(alloc: Global, long: bool) -> Result<Vec<Table>, Error>
+    ensures ok { IfOk result (λ tables. tables.items ≡ tables_of_system long) }
+    ensures kind { OnlyMemory result }
+{
+    let tables = [
+        named_table(alloc, TABLES, tables_columns(alloc)?, long)?,
+        named_table(alloc, COLUMNS, columns_columns(alloc)?, long)?,
+    ];
+    Ok(Vec::from_array(alloc, tables)?)
+}
+
+/// A listed table. The rows of `_Columns` stand in the order of their tables and numbers, those of `_Validation` in
+/// the order of their tables and columns.
+///
+/// # Errors
+/// `InvalidData` where its columns aren't numbered from 1 on, and where their bits name no type; `OutOfMemory`.
+fn listed_table(
+    alloc: Global,
+    columns: &[Items<Value>],
+    validation: &[Items<Value>],
+    name: &str,
+    long: bool,
+) -> Result<Table, Error>
+    requires by_number { IsSorted by_numbers columns.now }
+    requires by_name { IsSorted (by_texts 1) validation.now }
+    requires short { has_long columns.now ≡ false }
+    requires plain { is_schema_table name.now ≡ false }
+    ensures { let s = describing columns.now validation.now in Gives
+        (λ read. read) result (table_listed long s name.now) }
+{
+    let columns = columns_of_table(alloc, columns, validation, name)?;
+    named_table(alloc, name, columns, long)
+}
+
+/// The tables that are always there, and then those that `_Tables` lists, in its order. The rows of `_Columns` stand
+/// in the order of their tables and numbers, those of `_Validation` in the order of their tables and columns.
+///
+/// # Errors
+/// `InvalidData` where the columns of a listed table aren't numbered from 1 on, and where their bits name no type;
+/// `OutOfMemory`.
+fn listed_tables(
+    alloc: Global,
+    tables: &[Items<Value>],
+    columns: &[Items<Value>],
+    validation: &[Items<Value>],
+    long: bool,
+) -> Result<Vec<Table>, Error>
+    requires by_number { IsSorted by_numbers columns.now }
+    requires by_name { IsSorted (by_texts 1) validation.now }
+    requires short { has_long columns.now ≡ false }
+    ensures { let s = rows_of tables.now columns.now validation.now in
+        Gives (λ read. read.items) result (option_map (with_system long) (tables_listed long s)) }
+{
+    let mut read = system_tables(alloc, long)?;
+    for row in tables {
+        if is_counted(row) {
+            let name = text_at(row, 0);
+            read.push(listed_table(alloc, columns, validation, name, long)?)?;
+        }
+    }
+    Ok(read)
+}
+
+/// Puts tables into the order of their names.
+///
+/// # Errors
+/// `OutOfMemory`.
+fn sort_by_names(tables: &mut Vec<Table>) -> Result<(), Error>
+    ensures ok { OnOk result (tables.new.items ≡ stable_sort by_names tables.old.items) }
+    ensures kind { OnlyMemory result }
+{
+    tables.sort_by(|table, other| table.name().cmp(other.name()))?;
+    Ok(())
+}
+
+/// The tables that rows describe, in the order of their names.
+///
+/// # Errors
+/// `InvalidData` for rows that describe none; `OutOfMemory`.
+fn described(
+    alloc: Global,
+    tables: Vec<Items<Value>>,
+    columns: Vec<Items<Value>>,
+    validation: Vec<Items<Value>>,
+    long: bool,
+) -> Result<Items<Table>, Error>
+    ensures { let s = rows_of tables.items columns.items validation.items in
+        Gives (λ tables. tables) result (tables_of long s) }
+{
+    if has_odd_value(tables.as_slice(), columns.as_slice()) {
+        return Err(Error::new(ErrorKind::InvalidData, reasons::ODD_VALUE));
+    }
+    let mut columns = columns;
+    let mut validation = validation;
+    sort_by_numbers(&mut columns)?;
+    sort_by_texts(&mut validation, 1)?;
+    let mut read = listed_tables(
+        alloc,
+        tables.as_slice(),
+        columns.as_slice(),
+        validation.as_slice(),
+        long,
+    )?;
+    let faulty = is_faulty(tables, columns, validation)?;
+    if faulty {
+        return Err(Error::new(ErrorKind::InvalidData, reasons::FAULTY_ROWS));
+    }
+    sort_by_names(&mut read)?;
+    Ok(Items::from_vec(read))
+}
+
+/// Returns the tables that rows describe, in the order of their names; `_Tables` and `_Columns` are always there.
+/// References to texts are long, or not, in all of them. It costs the rows times a logarithm.
+///
+/// # Errors
+/// Fails with `InvalidData` if a row of `_Tables` or `_Columns` has a null, a row of `_Validation` lacks its table,
+/// its column or, about a column that is there, whether that takes null; if a stream of the string pool is listed,
+/// two rows share a key, a column is of no listed table, the columns of a listed table aren't numbered from 1 on, or
+/// their bits name no type; and for rows that no cells give: a name that is no text, a number of more than 16 bits.
+/// Fails with `OutOfMemory`.
+pub fn tables_described(alloc: Global, rows: SchemaRows, long: bool) -> Result<Items<Table>, Error>
+    ensures { Gives (λ tables. tables) result (tables_of long rows) }
+{
+    let SchemaRows {
+        tables,
+        columns,
+        validation,
+    } = rows;
+    described(alloc, tables, columns, validation, long)
+}

@@ -1,0 +1,76 @@
+//! Rows of tables, read from the streams of a container.
+
+ghost use Rattle.std.specs.Prelude.{◌≡◌, [], IfErr, IfOk, MatchOption, Some, unwrap_or};
+ghost use Rattle.std.specs.FinMap.{entries};
+ghost use Rattle.msi_text_base.specs.Results.{OnlyMemory};
+ghost use Rattle.msi_text_base.specs.declared.errors.ErrorKind.TheVariants.{InvalidData};
+ghost use Rattle.msi_query_rows.specs.Refusals.{IsRefusal, or_refused};
+ghost use Rattle.msi_database_schema.specs.Keys.{table_key as key_of};
+ghost use Rattle.msi_database_storage.specs.StreamNames.{HaveShortNames};
+ghost use Rattle.msi_database_storage.specs.Streams.{stored_rows as rows_stored, stream_at};
+
+use msi_container_format::contents::StreamMap;
+use msi_database_schema::names::table_key;
+use msi_table::parts::read_rows;
+use msi_table::{Table, ValueRef};
+use msi_text::errors::{Error, ErrorKind};
+use msi_text::text::Items;
+use std::alloc::Global;
+
+/// The bytes of a table's stream; none where there is no stream.
+fn stream_bytes<'a>(streams: &'a StreamMap, name: &str) -> &'a [u8]
+    requires { HaveShortNames (entries streams.now) }
+    ensures { result.now ≡ unwrap_or (stream_at (key_of name.now) (entries streams.now)) [] }
+{
+    let Some(key) = table_key(name) else {
+        return &[];
+    };
+    match streams.get(&key) {
+        Some(bytes) => bytes.as_slice(),
+        None => &[],
+    }
+}
+
+/// Returns the rows that the stream of a table encodes, unless it can't be read. A table without a stream has no
+/// rows. The streams' names are a container's, as each `Name` is.
+///
+/// # Errors
+/// Fails with `OutOfMemory`.
+pub fn readable_rows(
+    alloc: Global,
+    streams: &StreamMap,
+    table: &Table,
+) -> Result<Option<Vec<Items<ValueRef>>>, Error>
+    requires { HaveShortNames (entries streams.now) }
+    ensures ok { IfOk result (λ rows. MatchOption rows
+        (rows_stored (entries streams.now) table.now.long table.now.columns table.now.name ≡ None)
+        (λ rows. rows_stored (entries streams.now) table.now.long table.now.columns table.now.name ≡ Some rows.items)) }
+    ensures kind { OnlyMemory result }
+{
+    let bytes = stream_bytes(streams, table.name());
+    match read_rows(alloc, table, bytes) {
+        Ok(rows) => Ok(Some(rows)),
+        Err(error) if error.kind() == ErrorKind::InvalidData => Ok(None),
+        Err(error) => Err(error),
+    }
+}
+
+/// Returns the rows that the stream of a table encodes. A table without a stream has none. The streams' names are a
+/// container's, as each `Name` is.
+///
+/// # Errors
+/// Fails with `InvalidData` if the stream can't be read, or with `OutOfMemory`.
+pub fn stored_rows(
+    alloc: Global,
+    streams: &StreamMap,
+    table: &Table,
+) -> Result<Vec<Items<ValueRef>>, Error>
+    requires { HaveShortNames (entries streams.now) }
+    ensures ok { IfOk result (λ rows.
+        rows_stored (entries streams.now) table.now.long table.now.columns table.now.name ≡ Some rows.items) }
+    ensures kind { IfErr result (IsRefusal (or_refused InvalidData
+        (rows_stored (entries streams.now) table.now.long table.now.columns table.now.name))) }
+{
+    let bytes = stream_bytes(streams, table.name());
+    read_rows(alloc, table, bytes)
+}

@@ -1,0 +1,83 @@
+//! Storing the streams of tables: several together, or none of them.
+
+ghost use Rattle.std.specs.Prelude.{◌≡◌, IfOk, OnErr, OnOk, length, true};
+ghost use Rattle.std.specs.Vec.Iter.{into_iter_items};
+ghost use Rattle.msi_container_format.specs.Names.{is_name_length};
+ghost use Rattle.msi_text_base.specs.Results.{OnlyMemory};
+ghost use Rattle.msi_table.specs.Tables.{CanStore};
+ghost use Rattle.msi_database_schema.specs.Keys.{table_key as key_of};
+ghost use Rattle.msi_database_storage.specs.Storing.{stored_all, HaveOwnNames};
+ghost use Rattle.msi_database_storage.specs.Streams.{stream_of_rows};
+
+use msi_container_format::contents::{Bytes, StreamMap};
+use msi_container_format::name::Name;
+use msi_database_schema::names::short_table_key;
+use msi_table::parts::write_rows;
+use msi_table::{Table, ValueRef};
+use msi_text::errors::Error;
+use msi_text::text::Items;
+use std::alloc::Global;
+use std::vec::IntoIter;
+
+/// What a stream becomes: these bytes, or no stream.
+#[derive(Drop)]
+pub struct Stored {
+    pub name: Name,
+    pub bytes: Option<Bytes>,
+}
+
+/// Returns the stream of a table whose rows become these: none where there is no row. The table has a name that a
+/// stream can have, which `table_key` checks, and the rows fit it, which `fits_table` checks.
+///
+/// # Errors
+/// Fails with `OutOfMemory`.
+pub fn stream_of(alloc: Global, table: &Table, rows: Vec<Items<ValueRef>>) -> Result<Stored, Error>
+    requires named { is_name_length (length (key_of table.now.name)) ≡ true }
+    requires storable { CanStore table.now rows.items }
+    ensures name { IfOk result (λ stored. stored.name ≡ key_of table.now.name) }
+    ensures bytes { IfOk result (λ stored. stored.bytes ≡ stream_of_rows table.now.long table.now.columns rows.items) }
+    ensures kind { OnlyMemory result }
+{
+    let name = short_table_key(table.name());
+    if rows.is_empty() {
+        return Ok(Stored { name, bytes: None });
+    }
+    let bytes = write_rows(alloc, table, rows)?;
+    Ok(Stored {
+        name,
+        bytes: Some(Bytes::from_vec(bytes)),
+    })
+}
+
+/// Stores each of these. Streams are put first, and what goes is removed only when all are put, since that takes no
+/// memory. No two of them have one name.
+///
+/// # Errors
+/// Fails with `OutOfMemory`; then nothing has changed.
+pub fn store_all(streams: &mut StreamMap, mut changes: IntoIter<Stored>) -> Result<(), Error>
+    requires { HaveOwnNames (into_iter_items changes) }
+    ensures ok { OnOk result (streams.new ≡ stored_all streams.old (into_iter_items changes)) }
+    ensures err { OnErr result (streams.new ≡ streams.old) }
+    ensures kind { OnlyMemory result }
+{
+    let Some(Stored { name, bytes }) = changes.next() else {
+        return Ok(());
+    };
+    match bytes {
+        Some(bytes) => {
+            let before = streams.replace(name.duplicate(), bytes)?;
+            match store_all(streams, changes) {
+                Ok(()) => Ok(()),
+                Err(error) => {
+                    streams.put_back(&name, before);
+                    Err(error)
+                }
+            }
+        }
+        None => {
+            store_all(streams, changes)?;
+            streams.remove(&name);
+            Ok(())
+        }
+    }
+}

@@ -1,6 +1,0 @@
-use Rattle.std.proofs.Common.{◌≡◌, drop}
-use Rattle.msi_changes.specs.Database.{are_alike}
-use Rattle.msi_kept.proofs.soundness.are_alike.Given as goal
-
-abbrev pub invariant-loop-i : goal.invariant-loop-i
-invariant-loop-i l = are_alike l.columns l.others ≡ are_alike (drop l.i l.columns) (drop l.i l.others)

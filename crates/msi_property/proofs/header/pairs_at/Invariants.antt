@@ -1,7 +1,0 @@
-use Rattle.std.proofs.Common.{◌≡◌, ◌-◌}
-use Rattle.msi_property.specs.Reading.{pairs_at}
-use Rattle.msi_property.proofs.PairsLoopLemmas.{with_front}
-use Rattle.msi_property.proofs.header.pairs_at.Given as goal
-
-abbrev pub invariant-loop : goal.invariant-loop
-invariant-loop l = with_front l.pairs.items (pairs_at (l.count - l.counter) l.rest) ≡ pairs_at l.count l.bytes

@@ -1,6 +1,0 @@
-use Rattle.std.proofs.Common.{◌≡◌, drop, eqb}
-use Rattle.msi_text.specs.Lists.{entry_where}
-use Rattle.msi_property.proofs.reading.place_of_page.Given as goal
-
-abbrev pub invariant-loop-id : goal.invariant-loop-id
-invariant-loop-id l = entry_where (λ k. eqb k 1) (drop l.id-index l.pairs) ≡ entry_where (λ k. eqb k 1) l.pairs

@@ -1,0 +1,13 @@
+-- The words of this crate.
+pub mod Expressions
+pub mod ExpressionCode
+pub mod Evaluation
+pub mod Conditions
+pub mod Equated
+pub mod Folding
+pub mod Names
+pub mod Operands
+pub mod Trees
+pub mod RowFilters
+pub mod Printing
+pub mod Vocabulary

@@ -1,0 +1,59 @@
+//! Equalities of columns of two sides.
+
+ghost use Rattle.std.specs.Prelude.{◌≡◌};
+ghost use Rattle.msi_query_expressions.specs.Equated.{column_place as place_of, equated, one_of_each as one_each};
+ghost use Rattle.msi_query_expressions.specs.Trees.{expression_of};
+
+use super::{BinaryOp, Tree};
+use msi_table::column::Column;
+use msi_table::parts::column_index;
+use msi_text::text::Text;
+
+/// Where the column stands that a tree is, if it is one.
+fn column_place(tree: &Tree<Text>, columns: &[Column]) -> Option<usize>
+    ensures { result ≡ place_of columns.now (expression_of tree.now) }
+{
+    match tree {
+        Tree::Column(name) => column_index(columns, name.as_str()),
+        _ => None,
+    }
+}
+
+/// The one of two places that is below the width, and the other, counted from there, where it isn't.
+fn one_of_each(width: usize, place: usize, other: usize) -> Option<(usize, usize)>
+    ensures { result ≡ one_each width place other }
+{
+    if place < width {
+        if other < width {
+            None
+        } else {
+            Some((place, other - width))
+        }
+    } else if other < width {
+        Some((other, place - width))
+    } else {
+        None
+    }
+}
+
+/// The places of the first equality of one column of each side, alone or under `and`.
+pub(crate) fn equated_places(
+    tree: &Tree<Text>,
+    columns: &[Column],
+    width: usize,
+) -> Option<(usize, usize)>
+    ensures { result ≡ equated columns.now width (expression_of tree.now) }
+{
+    match tree {
+        Tree::Binary(BinaryOp::Eq, left, right) => {
+            let place = column_place(left, columns)?;
+            let other = column_place(right, columns)?;
+            one_of_each(width, place, other)
+        }
+        Tree::And(left, right) => match equated_places(left, columns, width) {
+            Some(places) => Some(places),
+            None => equated_places(right, columns, width),
+        },
+        _ => None,
+    }
+}

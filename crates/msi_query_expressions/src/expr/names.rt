@@ -1,0 +1,57 @@
+//! The names of columns in a tree.
+
+ghost use Rattle.std.specs.Prelude.{◌≡◌, ◌||◌, IfErr, OnOk, ℕ, List, bytes_eq};
+ghost use Rattle.std.specs.List.{list_any};
+ghost use Rattle.msi_text_base.specs.declared.errors.ErrorKind.TheVariants.{OutOfMemory};
+ghost use Rattle.msi_query_expressions.specs.Evaluation.{knows_names as knows_each};
+ghost use Rattle.msi_query_expressions.specs.Expressions.{names_in};
+ghost use Rattle.msi_query_expressions.specs.Names.{has_name};
+ghost use Rattle.msi_query_expressions.specs.Trees.{expression_of};
+
+use super::Tree;
+use msi_table::column::Column;
+use msi_table::parts::has_column;
+use msi_text::errors::Error;
+use msi_text::text::Text;
+use std::collections::HashSet;
+
+/// Adds the names in a tree to a set.
+///
+/// # Errors
+/// `OutOfMemory`.
+pub(crate) fn collect_names<'a>(
+    tree: &'a Tree<Text>,
+    names: &mut HashSet<&'a str>,
+) -> Result<(), Error>
+    ensures ok { OnOk result ((name : List ℕ)
+        → has_name names.new name
+        ≡ (has_name names.old name || list_any (bytes_eq name) (names_in (expression_of tree.now)))) }
+    ensures kind { IfErr result (λ kind. kind ≡ OutOfMemory) }
+{
+    match tree {
+        Tree::Literal(_) => Ok(()),
+        Tree::Column(name) => {
+            names.insert(name.as_str())?;
+            Ok(())
+        }
+        Tree::Unary(_, of) => collect_names(of, names),
+        Tree::Binary(_, left, right) | Tree::And(left, right) | Tree::Or(left, right) => {
+            collect_names(left, names)?;
+            collect_names(right, names)
+        }
+    }
+}
+
+/// Whether each name in a tree is that of a column.
+pub(crate) fn knows_names(tree: &Tree<Text>, columns: &[Column]) -> bool
+    ensures { result ≡ knows_each columns.now (expression_of tree.now) }
+{
+    match tree {
+        Tree::Literal(_) => true,
+        Tree::Column(name) => has_column(columns, name.as_str()),
+        Tree::Unary(_, of) => knows_names(of, columns),
+        Tree::Binary(_, left, right) | Tree::And(left, right) | Tree::Or(left, right) => {
+            knows_names(left, columns) && knows_names(right, columns)
+        }
+    }
+}

@@ -1,0 +1,178 @@
+//! The results of operators.
+
+ghost use Rattle.std.specs.Prelude.{◌≡◌, ◌++◌, IfOk, IfErr, IsErr, IsTrue, None};
+ghost use Rattle.msi_text_base.specs.declared.errors.ErrorKind.TheVariants.{OutOfMemory};
+ghost use Rattle.msi_table_values.specs.Values.{int_of};
+ghost use Rattle.msi_query_expressions.specs.declared.expr.BinaryOp.TheVariants.{Add, Shl, Shr};
+ghost use Rattle.msi_query_expressions.specs.Conditions.{is_sum};
+ghost use Rattle.msi_query_expressions.specs.Evaluation.{of_numbers, of_operands};
+ghost use Rattle.msi_query_expressions.specs.Evaluation.{unary_value as value_of_one, binary_value as value_of_two};
+ghost use Rattle.msi_query_expressions.specs.Operands.{operand_value, number_or_null as value_or_null};
+ghost use Rattle.msi_table_values.specs.Views.{seen_value};
+
+use super::operands::Operand;
+use super::{BinaryOp, UnaryOp};
+use msi_table::parts::ValueView;
+use msi_table::value::Value;
+use msi_text::errors::Error;
+use msi_text::text::Text;
+use std::alloc::Global;
+
+/// A number where there is one, else Null.
+fn number_or_null(number: Option<i32>) -> Value
+    ensures { result ≡ value_or_null number }
+{
+    match number {
+        Some(number) => Value::Int(number),
+        None => Value::Null,
+    }
+}
+
+/// What an operator gives of one value.
+pub(crate) fn unary_value(op: UnaryOp, value: ValueView) -> Value
+    ensures { result ≡ value_of_one op (seen_value value.entry) }
+{
+    match op {
+        UnaryOp::Neg => match value {
+            ValueView::Int(number) => number_or_null(number.checked_neg()),
+            _ => Value::Null,
+        },
+        UnaryOp::BitNot => match value {
+            ValueView::Int(number) => Value::Int(!number),
+            _ => Value::Null,
+        },
+        UnaryOp::BoolNot => Value::from(!value.is_true()),
+    }
+}
+
+/// A number shifted left by 0 to 31 bits; Null for another distance.
+fn shifted_left(number: i32, distance: i32) -> Value
+    ensures { result ≡ of_numbers Shl number distance }
+{
+    if distance < 0 || distance > 31 {
+        return Value::Null;
+    }
+    Value::Int(number << distance)
+}
+
+/// A number shifted right by 0 to 31 bits; Null for another distance.
+fn shifted_right(number: i32, distance: i32) -> Value
+    ensures { result ≡ of_numbers Shr number distance }
+{
+    if distance < 0 || distance > 31 {
+        return Value::Null;
+    }
+    Value::Int(number >> distance)
+}
+
+/// What an operator gives of two numbers.
+fn value_of_numbers(op: BinaryOp, left: i32, right: i32) -> Value
+    ensures { result ≡ of_numbers op left right }
+{
+    match op {
+        BinaryOp::Add => number_or_null(left.checked_add(right)),
+        BinaryOp::Sub => number_or_null(left.checked_sub(right)),
+        BinaryOp::Mul => number_or_null(left.checked_mul(right)),
+        BinaryOp::Div => number_or_null(left.checked_div(right)),
+        BinaryOp::BitAnd => Value::Int(left & right),
+        BinaryOp::BitOr => Value::Int(left | right),
+        BinaryOp::BitXor => Value::Int(left ^ right),
+        BinaryOp::Shl => shifted_left(left, right),
+        BinaryOp::Shr => shifted_right(left, right),
+        _ => Value::Null,
+    }
+}
+
+/// One text after another; a text that was computed keeps its memory.
+///
+/// # Errors
+/// `OutOfMemory`.
+fn joined(text: Text, rest: &str) -> Result<Text, Error>
+    ensures ok { IfOk result (λ whole. whole ≡ text ++ rest.now) }
+    ensures kind { IfErr result (λ kind. kind ≡ OutOfMemory) }
+{
+    let mut whole = text.into_string();
+    whole.push_str(rest)?;
+    Ok(Text::from_string(whole))
+}
+
+/// One text after another, both copied.
+///
+/// # Errors
+/// `OutOfMemory`.
+fn joined_copy(alloc: Global, text: &str, rest: &str) -> Result<Text, Error>
+    ensures ok { IfOk result (λ whole. whole ≡ text.now ++ rest.now) }
+    ensures kind { IfErr result (λ kind. kind ≡ OutOfMemory) }
+{
+    let mut whole = String::with_capacity(alloc, text.len().saturating_add(rest.len()))?;
+    whole.push_str(text)?;
+    whole.push_str(rest)?;
+    Ok(Text::from_string(whole))
+}
+
+/// Two texts joined, else Null.
+///
+/// # Errors
+/// `OutOfMemory`.
+fn joined_texts(alloc: Global, left: Operand, right: ValueView) -> Result<Value, Error>
+    ensures ok { IfOk result (λ value. int_of (operand_value left.entry) ≡ None
+        → value ≡ of_operands Add (operand_value left.entry) (seen_value right.entry)) }
+    ensures kind { IfErr result (λ kind. kind ≡ OutOfMemory) }
+{
+    match right {
+        ValueView::Str(rest) => match left {
+            Operand::Borrowed(ValueView::Str(text)) => {
+                Ok(Value::Str(joined_copy(alloc, text, rest)?))
+            }
+            Operand::Computed(Value::Str(text)) => Ok(Value::Str(joined(text, rest)?)),
+            _ => Ok(Value::Null),
+        },
+        _ => Ok(Value::Null),
+    }
+}
+
+/// What an operator that compares nothing gives of two operands.
+///
+/// # Errors
+/// `OutOfMemory`, of a sum alone.
+fn arithmetic(alloc: Global, op: BinaryOp, left: Operand, right: ValueView) -> Result<Value, Error>
+    ensures ok { IfOk result (λ value. value ≡ of_operands op (operand_value left.entry) (seen_value right.entry)) }
+    ensures kind { IfErr result (λ kind. kind ≡ OutOfMemory) }
+    ensures memory { IsErr result → IsTrue (is_sum op) }
+{
+    match left.as_view() {
+        ValueView::Int(number) => match right {
+            ValueView::Int(other) => Ok(value_of_numbers(op, number, other)),
+            _ => Ok(Value::Null),
+        },
+        _ => match op {
+            BinaryOp::Add => joined_texts(alloc, left, right),
+            _ => Ok(Value::Null),
+        },
+    }
+}
+
+/// What an operator gives of two operands.
+///
+/// # Errors
+/// `OutOfMemory`, of a sum alone.
+pub(crate) fn binary_value(
+    alloc: Global,
+    op: BinaryOp,
+    left: Operand,
+    right: ValueView,
+) -> Result<Value, Error>
+    ensures ok { IfOk result (λ value. value ≡ value_of_two op (operand_value left.entry) (seen_value right.entry)) }
+    ensures kind { IfErr result (λ kind. kind ≡ OutOfMemory) }
+    ensures memory { IsErr result → IsTrue (is_sum op) }
+{
+    match op {
+        BinaryOp::Eq => Ok(Value::from(left.as_view().compare(right).is_eq())),
+        BinaryOp::Ne => Ok(Value::from(left.as_view().compare(right).is_ne())),
+        BinaryOp::Lt => Ok(Value::from(left.as_view().compare(right).is_lt())),
+        BinaryOp::Le => Ok(Value::from(left.as_view().compare(right).is_le())),
+        BinaryOp::Gt => Ok(Value::from(left.as_view().compare(right).is_gt())),
+        BinaryOp::Ge => Ok(Value::from(left.as_view().compare(right).is_ge())),
+        _ => arithmetic(alloc, op, left, right),
+    }
+}

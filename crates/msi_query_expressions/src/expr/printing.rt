@@ -1,0 +1,153 @@
+//! How expressions print: with the fewest brackets that the levels of the operators allow.
+
+ghost use Rattle.std.specs.Prelude.{◌≡◌, ◌<◌, ◌+◌, Some};
+ghost use Rattle.std.specs.Fmt.{DisplaysOnOk, ◌++?◌};
+ghost use Rattle.msi_query_expressions.specs.Printing.{bracketed, expression_text, level, op_level, op_text};
+ghost use Rattle.msi_query_expressions.specs.Printing.{unary_text};
+ghost use Rattle.msi_query_expressions.specs.Trees.{expression_of};
+ghost use Rattle.msi_query_expressions.specs.Vocabulary.{PrintsAlone};
+
+use crate::expr::{BinaryOp, Expr, Tree, UnaryOp};
+use msi_text::text::Text;
+use std::fmt;
+
+/// The level of what needs no brackets.
+const TIGHTEST: u8 = 10;
+
+impl UnaryOp {
+    /// The text that stands in front of the operand.
+    fn text(self) -> &'static str
+        ensures { result.now ≡ unary_text self }
+    {
+        match self {
+            UnaryOp::Neg => "-",
+            UnaryOp::BitNot => "~",
+            UnaryOp::BoolNot => "NOT ",
+        }
+    }
+}
+
+impl BinaryOp {
+    /// How tightly the operator binds, where `OR` has 1.
+    fn level(self) -> u8
+        ensures level { result ≡ op_level self }
+        ensures below { result < 10 }
+    {
+        match self {
+            BinaryOp::Eq
+            | BinaryOp::Ne
+            | BinaryOp::Lt
+            | BinaryOp::Le
+            | BinaryOp::Gt
+            | BinaryOp::Ge => 3,
+            BinaryOp::BitOr => 4,
+            BinaryOp::BitXor => 5,
+            BinaryOp::BitAnd => 6,
+            BinaryOp::Shl | BinaryOp::Shr => 7,
+            BinaryOp::Add | BinaryOp::Sub => 8,
+            BinaryOp::Mul | BinaryOp::Div => 9,
+        }
+    }
+
+    /// The text that stands between the operands.
+    fn text(self) -> &'static str
+        ensures { result.now ≡ op_text self }
+    {
+        match self {
+            BinaryOp::Eq => " = ",
+            BinaryOp::Ne => " != ",
+            BinaryOp::Lt => " < ",
+            BinaryOp::Le => " <= ",
+            BinaryOp::Gt => " > ",
+            BinaryOp::Ge => " >= ",
+            BinaryOp::Add => " + ",
+            BinaryOp::Sub => " - ",
+            BinaryOp::Mul => " * ",
+            BinaryOp::Div => " / ",
+            BinaryOp::BitAnd => " & ",
+            BinaryOp::BitOr => " | ",
+            BinaryOp::BitXor => " ^ ",
+            BinaryOp::Shl => " << ",
+            BinaryOp::Shr => " >> ",
+        }
+    }
+}
+
+impl Tree<Text> {
+    /// How tightly the top of the tree binds.
+    fn level(&self) -> u8
+        ensures { result ≡ level (expression_of self.now) }
+    {
+        match self {
+            Tree::Or(_, _) => 1,
+            Tree::And(_, _) => 2,
+            Tree::Binary(op, _, _) => op.level(),
+            Tree::Literal(_) | Tree::Column(_) | Tree::Unary(_, _) => TIGHTEST,
+        }
+    }
+}
+
+/// Writes the text of a tree. Equal levels group to the left, so what stands to the right of an operator needs a
+/// level more.
+#[cycle(writing)]
+fn write_tree<W: fmt::Write>(f: &mut fmt::Formatter<W>, tree: &Tree<Text>) -> fmt::Result
+    ensures { DisplaysOnOk W.write_str_gives f.old result (expression_text (expression_of tree.now)) f.new }
+{
+    match tree {
+        Tree::Literal(value) => write!(f, "{value}"),
+        Tree::Column(name) => f.write_str(name.as_str()),
+        Tree::Unary(op, operand) => {
+            f.write_str(op.text())?;
+            write_operand(f, TIGHTEST, operand)
+        }
+        Tree::Binary(op, left, right) => {
+            write_operand(f, op.level(), left)?;
+            f.write_str(op.text())?;
+            write_operand(f, op.level() + 1, right)
+        }
+        Tree::And(left, right) => {
+            write_operand(f, 2, left)?;
+            f.write_str(" AND ")?;
+            write_operand(f, 3, right)
+        }
+        Tree::Or(left, right) => {
+            write_operand(f, 1, left)?;
+            f.write_str(" OR ")?;
+            write_operand(f, 2, right)
+        }
+    }
+}
+
+/// Writes an operand, in brackets where its level is below what is needed.
+#[cycle(writing)]
+fn write_operand<W: fmt::Write>(
+    f: &mut fmt::Formatter<W>,
+    needed: u8,
+    operand: &Tree<Text>,
+) -> fmt::Result
+    ensures { DisplaysOnOk W.write_str_gives f.old result
+        (bracketed needed (level (expression_of operand.now)) (expression_text (expression_of operand.now))) f.new }
+{
+    if operand.level() < needed {
+        f.write_str("(")?;
+        write_tree(f, operand)?;
+        f.write_str(")")
+    } else {
+        write_tree(f, operand)
+    }
+}
+
+/// Writes the condition as a query has it, as `Foo - (Bar - Baz)`. Literal texts past ASCII, and formats with a width
+/// or other options, are promised nothing. No other expression writes these bytes, where columns are Identifiers
+/// other than `NULL` and `NOT` and literal texts are ASCII.
+impl fmt::Display for Expr {
+    ghost output = { expression_text };
+
+    #[tactic(auto, using(crate::proofs::UnambiguousLemmas::prints_alone))]
+    fn fmt<W: fmt::Write>(&self, f: &mut fmt::Formatter<W>) -> fmt::Result
+        ensures writes { DisplaysOnOk W.write_str_gives f.old result (expression_text self.now) f.new }
+        ensures alone { PrintsAlone self.now }
+    {
+        write_tree(f, &self.tree)
+    }
+}

@@ -1,0 +1,21 @@
+//! Laws of the definitions themselves: each is the contract of a function without a body.
+
+ghost use Rattle.msi_query_expressions.specs.Folding.{FoldingKeepsValues, ConstructorsFold};
+ghost use Rattle.msi_query_expressions.specs.Vocabulary.{PrintedConditionsAreUnambiguous};
+
+/// Folding changes the value of no expression on any row.
+pub fn folding_keeps_values()
+    ensures { FoldingKeepsValues }
+{}
+
+/// Of expressions in which no operator stands over literals alone, the constructors make such expressions again.
+pub fn constructors_fold()
+    ensures { ConstructorsFold }
+{}
+
+/// No two expressions that the constructors make print alike, where columns are Identifiers other than `NULL` and
+/// `NOT` and literal texts are ASCII.
+#[tactic(auto, using(crate::proofs::UnambiguousLemmas::prints_alone))]
+pub fn printed_conditions_are_unambiguous()
+    ensures { PrintedConditionsAreUnambiguous }
+{}

@@ -1,0 +1,8 @@
+//! Expressions as values: builds, evaluates and prints conditions on rows.
+#![tactic(auto)]
+
+pub mod expr;
+pub mod laws;
+pub mod parts;
+
+pub use expr::Expr;

@@ -1,0 +1,26 @@
+//! What the crates above need beyond the surface.
+
+ghost use Rattle.std.specs.Prelude.{◌≡◌, IfSome, Some};
+ghost use Rattle.msi_query_expressions.specs.Conditions.{meets};
+ghost use Rattle.msi_query_expressions.specs.Equated.{equated, PassesWithEqual};
+ghost use Rattle.msi_query_expressions.specs.Evaluation.{knows_names as knows_each};
+
+use crate::expr::Expr;
+pub use crate::expr::filter::RowFilter;
+use msi_table::column::Column;
+
+/// Returns whether each name in a condition is that of a column. It takes no memory.
+pub fn knows_names(condition: &Expr, columns: &[Column]) -> bool
+    ensures { result ≡ knows_each columns.now condition.now }
+{
+    condition.knows_names(columns)
+}
+
+/// Returns the places, in two sides of which the left one has so many columns, of the first columns that a condition
+/// on pairs wants to be equal: of one column of each side, alone or under `and`. It takes no memory.
+pub fn equated_places(condition: &Expr, columns: &[Column], width: usize) -> Option<(usize, usize)>
+    ensures places { result ≡ equated columns.now width condition.now }
+    ensures equal { IfSome result (PassesWithEqual (meets columns.now (Some condition.now)) width) }
+{
+    condition.equated_places(columns, width)
+}

@@ -1,0 +1,6 @@
+-- The lemmas of this crate.
+pub mod SelectionLemmas
+pub mod RefusalLemmas
+pub mod JoinLemmas
+pub mod WidthLemmas
+pub mod IndexLemmas

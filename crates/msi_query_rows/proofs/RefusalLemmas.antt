@@ -1,0 +1,63 @@
+-- Refusals in order, and what they leave.
+use Rattle.std.proofs.Common.{◌≡◌, ℕ, List, ◌∷◌, Bool, true, false, Option, Some, None, Result, Ok, Err, option_map, refl, ap, subst, sym, ◌∙◌}
+use Rattle.std.specs.Prelude.{IsErrAnd, IfErr}
+use Rattle.std.proofs.Common.{inl, inr}
+use Rattle.msi_text_base.specs.declared.errors.ErrorKind.{ErrorKind}
+use Rattle.msi_text_base.specs.declared.errors.ErrorKind.TheVariants.{InvalidData, NotFound}
+use Rattle.msi_text_pool.specs.Pool.{Place}
+use Rattle.msi_table_values.specs.declared.value.ValueRef.{ValueRef}
+use Rattle.msi_table_values.specs.Columns.{ColumnDef}
+use Rattle.msi_query_rows.specs.Refusals.{Refusals, IsRefusal, first_refusal, unless, unless_refused, or_refused, ◌>>=◌}
+use Rattle.msi_query_rows.specs.Selection.{Relation}
+use Rattle.msi_query_rows.specs.Rows.{TableCells, relation_values, rows_values, table_values, tables_values, whole_table}
+
+unless-Ok : {A B : Type 0} (o : Option ErrorKind) (x y : A) (z : B) → unless o x ≡ Ok y → unless o z ≡ Ok z
+unless-Ok None x y z e = refl
+unless-Ok (Some k) x y z e = cc
+
+pub unless-Err : {A B : Type 0} (o : Option ErrorKind) (x : A) (z : B) (k : ErrorKind) → unless o x ≡ Err k → unless o z ≡ Err k
+unless-Err None x z k e = cc
+unless-Err (Some l) x z k e = cc
+
+-- where no refusal holds, the answer is given
+pub refusals-Ok : {A B : Type 0} (rs : Refusals) (x y : A) (z w : B) → Ok y ≡ unless_refused rs x → w ≡ z → unless_refused rs z ≡ Ok w
+refusals-Ok rs x y z w e h = unless-Ok (first_refusal rs) x y z (sym e) ∙ ap Ok (sym h)
+
+-- where one holds, it is given whatever the answer is
+pub refusals-Err : {A B : Type 0} (rs : Refusals) (x : A) (z : B) (k : ErrorKind) → Err k ≡ unless_refused rs x → unless_refused rs z ≡ Err k
+refusals-Err rs x z k e = unless-Err (first_refusal rs) x z k (sym e)
+
+-- a refusal in front of others
+pub first_holds : {A : Type 0} (b : Bool) (kind : ErrorKind) (rs : Refusals) (z : A) → b ≡ true → unless_refused ((b, kind) ∷ rs) z ≡ Err kind
+first_holds b kind rs z e = rw e refl
+
+pub first_passes : {A : Type 0} (b : Bool) (kind : ErrorKind) (rs : Refusals) (z : A) → b ≡ false → unless_refused ((b, kind) ∷ rs) z ≡ unless_refused rs z
+first_passes b kind rs z e = rw e refl
+
+-- a call that was refused refuses what goes on from it
+pub goes_on-Err : {A B : Type 0} (r : Result A ErrorKind) (f : A → Result B ErrorKind) (k : ErrorKind) → IsRefusal r k → IsRefusal (r >>= f) k
+goes_on-Err r f k (inl m) = inl m
+goes_on-Err r f k (inr e) = inr (rw e refl)
+
+readable : {B : Type 0} (places : List Place) (name : List ℕ) (f : Relation → Result B ErrorKind) (columns : List ColumnDef) (rows : Option (List (List ValueRef)))
+    → (or_refused InvalidData (option_map (rows_values places) rows) >>= λ rows. f (record { name = name; columns = columns; rows = rows }))
+    ≡ ((or_refused InvalidData rows >>= λ rows. Ok (record { name = name; columns = columns; rows = rows })) >>= λ r. f (relation_values places r))
+readable places name f columns None = refl
+readable places name f columns (Some rows) = refl
+
+found : {B : Type 0} (places : List Place) (name : List ℕ) (f : Relation → Result B ErrorKind) (found : Option TableCells)
+    → (or_refused NotFound (option_map (table_values places) found) >>= λ t. or_refused InvalidData t.rows >>= λ rows. f (record { name = name; columns = t.columns; rows = rows }))
+    ≡ ((or_refused NotFound found >>= λ t. or_refused InvalidData t.rows >>= λ rows. Ok (record { name = name; columns = t.columns; rows = rows })) >>= λ r. f (relation_values places r))
+found places name f None = refl
+found places name f (Some t) = readable places name f t.columns t.rows
+
+-- a table as queries see it
+pub table_goes_on : {B : Type 0} (places : List Place) (tables : List ℕ → Option TableCells) (name : List ℕ) (f : Relation → Result B ErrorKind)
+    → (or_refused NotFound (tables_values places tables name) >>= λ t. or_refused InvalidData t.rows >>= λ rows. f (record { name = name; columns = t.columns; rows = rows }))
+    ≡ (whole_table tables name >>= λ r. f (relation_values places r))
+table_goes_on places tables name f = found places name f (tables name)
+
+-- an error that is passed on
+pub err_passed : {A B : Type 0} (r : Result A ErrorKind) (k : ErrorKind) (answer : Result B ErrorKind) → IsErrAnd r (λ e. e ≡ k) → IsRefusal answer k → IfErr r (IsRefusal answer)
+err_passed (Ok x) k answer e h = tt
+err_passed (Err l) k answer e h = subst (IsRefusal answer) (sym e) h

@@ -1,0 +1,173 @@
+-- What is selected of rows that are as wide as their columns is so too.
+use Rattle.std.proofs.Common.{◌≡◌, ℕ, ◌+◌, List, [], ◌∷◌, ◌++◌, length, map, filter, replicate, get_or, Bool, true, false, not, Option, Some, None, cond, suc, refl, ap, subst, sym, ◌∙◌, length-append}
+use Rattle.std.specs.Prelude.{Result, Ok, Err, IfOk, option_map, if◌then◌else◌, option_and_then, slice_get, is_some, bytes_eq, ◌==◌}
+use Rattle.std.specs.List.{filter_map, flat_map, cons_option}
+use mathlib.Core.Bool.{true≢false}
+use Rattle.std.proofs.lemmas.List.{length-map, length-replicate}
+use Rattle.std.proofs.lemmas.List.Quantifiers.{position-Some}
+use Rattle.std.proofs.lemmas.Option.{slice_get-get_or}
+use Rattle.std.proofs.lemmas.Bool.{and_parts, not-false}
+use Rattle.msi_text_base.specs.declared.errors.ErrorKind.{ErrorKind}
+use Rattle.msi_text_base.specs.declared.errors.ErrorKind.TheVariants.{InvalidData, InvalidInput, NotFound}
+use Rattle.msi_text_pool.specs.Pool.{Place}
+use Rattle.msi_table_values.specs.declared.value.Value.{Value}
+use Rattle.msi_table_values.specs.declared.value.Value.TheVariants.{Null}
+use Rattle.msi_table_values.specs.declared.value.ValueRef.{ValueRef}
+use Rattle.msi_table_values.specs.Columns.{ColumnDef, begun_column, column_index, column_named, has_column}
+use Rattle.msi_table.proofs.ColumnLemmas.{column_found}
+use Rattle.msi_query.specs.declared.query.JoinKind.{JoinKind}
+use Rattle.msi_query.specs.declared.query.JoinKind.TheVariants.{Inner, Left}
+use Rattle.msi_query_expressions.specs.Expressions.{Expression, names_in}
+use Rattle.msi_query_expressions.specs.Conditions.{meets}
+use Rattle.msi_query.specs.Queries.{Clauses, Query, table, join}
+use Rattle.msi_query_rows.specs.Refusals.{unless_refused, or_refused, ◌>>=◌}
+use Rattle.msi_query_rows.specs.Rows.{TableCells, RelationCells, relation_values, rows_values, table_values, tables_values}
+use Rattle.msi_query_rows.specs.Selection.{Relation, TableValues, condition_names, has_columns, is_left, joined, joined_columns, joined_narrowed, narrowed, nullable_if, or_nulls, pairs_of, prefixed, projected_row, relation_of, rows_of_row, selected}
+use Rattle.msi_query_rows.specs.Width.{AreWide, HasWidth, TablesAreWide, ValuesAreWide}
+
+-- rows of cells are as wide as the rows that they stand for
+pub wide_values : (places : List Place) (n : ℕ) (rows : List (List ValueRef)) → HasWidth n rows → HasWidth n (rows_values places rows)
+wide_values places n [] w = tt
+wide_values places n (row ∷ rows) w = (length-map row _ ∙ w.0, wide_values places n rows w.1)
+
+pub wide_cells : (places : List Place) (n : ℕ) (rows : List (List ValueRef)) → HasWidth n (rows_values places rows) → HasWidth n rows
+wide_cells places n [] w = tt
+wide_cells places n (row ∷ rows) w = (sym (length-map row _) ∙ w.0, wide_cells places n rows w.1)
+
+one_kept : {X : Type 0} (b : Bool) (n : ℕ) (row : List X) (rows : List (List X)) → length row ≡ n → HasWidth n rows → HasWidth n (cond b (row ∷ rows) rows)
+one_kept true n row rows h w = (h, w)
+one_kept false n row rows h w = w
+
+wide_filter : {X : Type 0} (p : List X → Bool) (n : ℕ) (rows : List (List X)) → HasWidth n rows → HasWidth n (filter p rows)
+wide_filter p n [] w = tt
+wide_filter p n (row ∷ rows) w = one_kept (p row) n row (filter p rows) w.0 (wide_filter p n rows w.1)
+
+wide_append : {X : Type 0} (n : ℕ) (rows others : List (List X)) → HasWidth n rows → HasWidth n others → HasWidth n (rows ++ others)
+wide_append n [] others w v = v
+wide_append n (row ∷ rows) others w v = (w.0, wide_append n rows others w.1 v)
+
+wide_projected : (columns : List ColumnDef) (names : List (List ℕ)) (n : ℕ) (rows : List (List Value)) → length names ≡ n → HasWidth n (map (projected_row columns names) rows)
+wide_projected columns names n [] h = tt
+wide_projected columns names n (row ∷ rows) h = (length-map names _ ∙ h, wide_projected columns names n rows h)
+
+-- a name that is known is one of a column
+present_at : (columns : List ColumnDef) (n : List ℕ) (o : Option ℕ) → column_index n columns ≡ o → has_column n columns ≡ true
+    → (c : ColumnDef) × (column_named n columns ≡ Some c)
+present_at columns n None e t = absurd (true≢false (sym t ∙ sym (column_found columns n (column_index n columns) refl) ∙ ap is_some e))
+present_at columns n (Some i) e t =
+    (get_or columns i (begun_column []), ap (option_and_then (slice_get columns)) e ∙ slice_get-get_or columns i (begun_column []) (position-Some (λ (c : ColumnDef). bytes_eq c.name n) columns i (begun_column []) e).0)
+
+one_more : (columns : List ColumnDef) (o : Option ColumnDef) (m : ℕ) → (c : ColumnDef) × (o ≡ Some c) → length columns ≡ m → length (cons_option o columns) ≡ suc m
+one_more columns None m c h = cc c.1
+one_more columns (Some c) m d h = ap suc h
+
+length_kept : (columns : List ColumnDef) (names : List (List ℕ)) → has_columns columns names ≡ true
+    → length (filter_map (λ n. column_named n columns) names) ≡ length names
+length_kept columns [] e = refl
+length_kept columns (n ∷ ns) e =
+    let each = and_parts (has_column n columns) (has_columns columns ns) e in
+    one_more (filter_map (λ n. column_named n columns) ns) (column_named n columns) (length ns)
+    (present_at columns n (column_index n columns) refl each.0) (length_kept columns ns each.1)
+
+either_wide : (b : Bool) (r s : Relation) → ValuesAreWide r → ValuesAreWide s → ValuesAreWide (if b then r else s)
+either_wide true r s w v = w
+either_wide false r s w v = v
+
+selected_wide : (c : Clauses) (r : Relation) → has_columns r.columns c.columns ≡ true → ValuesAreWide r → ValuesAreWide (selected c r)
+selected_wide c r known w =
+    let kept = wide_filter (meets r.columns c.condition) (length r.columns) r.rows w in
+    either_wide (length c.columns == 0) (record r { rows = filter (meets r.columns c.condition) r.rows })
+    (record {
+      name = [];
+      columns = filter_map (λ n. column_named n r.columns) c.columns;
+      rows = map (projected_row r.columns c.columns) (filter (meets r.columns c.condition) r.rows);
+    }) kept (wide_projected r.columns c.columns _ (filter (meets r.columns c.condition) r.rows) (sym (length_kept r.columns c.columns known)))
+
+wide_pairs : (row : List Value) (n : ℕ) (others : List (List Value)) → HasWidth n others → HasWidth (length row + n) (map (λ other. row ++ other) others)
+wide_pairs row n [] w = tt
+wide_pairs row n (o ∷ os) w = (length-append row o ∙ ap (λ k. length row + k) w.0, wide_pairs row n os w.1)
+
+wide_nulls : (kind : JoinKind) (row : List Value) (n : ℕ) (pairs : List (List Value)) → HasWidth (length row + n) pairs → HasWidth (length row + n) (or_nulls kind row n pairs)
+wide_nulls Left row n [] w = (length-append row (replicate n Null) ∙ ap (λ k. length row + k) (length-replicate n Null), tt)
+wide_nulls Left row n (p ∷ ps) w = w
+wide_nulls Inner row n ps w = w
+
+wide_rows : (kind : JoinKind) (test : List Value → Bool) (m n : ℕ) (right left : List (List Value)) → HasWidth n right → HasWidth m left
+    → HasWidth (m + n) (flat_map (rows_of_row kind test n right) left)
+wide_rows kind test m n right [] w v = tt
+wide_rows kind test m n right (row ∷ rows) w v =
+    wide_append (m + n) (rows_of_row kind test n right row) (flat_map (rows_of_row kind test n right) rows)
+    (subst (λ k. HasWidth (k + n) (rows_of_row kind test n right row)) v.0
+    (wide_nulls kind row n (pairs_of test right row) (wide_filter test (length row + n) (map (λ other. row ++ other) right) (wide_pairs row n right w))))
+    (wide_rows kind test m n right rows w v.1)
+
+joined_wide : (kind : JoinKind) (on : Expression) (l r : Relation) → ValuesAreWide l → ValuesAreWide r → ValuesAreWide (joined kind on l r)
+joined_wide kind on l r w v =
+    subst (λ k. HasWidth k (flat_map (rows_of_row kind (meets (joined_columns kind l r) (Some on)) (length r.columns) r.rows) l.rows))
+    (sym (length-append (map (prefixed l.name) l.columns) (map (λ c. nullable_if (is_left kind) (prefixed r.name c)) r.columns)
+    ∙ ap (λ k. k + length (map (λ c. nullable_if (is_left kind) (prefixed r.name c)) r.columns)) (length-map l.columns _)
+    ∙ ap (λ k. length l.columns + k) (length-map r.columns _)))
+    (wide_rows kind (meets (joined_columns kind l r) (Some on)) (length l.columns) (length r.columns) r.rows l.rows v w)
+
+-- what is given was not refused
+given : (a b : Bool) (s k : Relation) → unless_refused ((a, InvalidInput) ∷ (b, InvalidInput) ∷ []) s ≡ Ok k → (a ≡ false) × (s ≡ k)
+given true b s k e = cc
+given false true s k e = cc
+given false false s k e = (refl, (cc))
+
+given_by_join : (u a b : Bool) (s k : Relation) → unless_refused ((u, InvalidInput) ∷ (a, InvalidInput) ∷ (b, InvalidInput) ∷ []) s ≡ Ok k → (a ≡ false) × (s ≡ k)
+given_by_join true a b s k e = cc
+given_by_join false a b s k e = given a b s k e
+
+narrowed_wide : (c : Clauses) (r k : Relation) → ValuesAreWide r → narrowed c r ≡ Ok k → ValuesAreWide k
+narrowed_wide c r k w e =
+    let g = given (not (has_columns r.columns c.columns)) (not (has_columns r.columns (condition_names c.condition))) (selected c r) k e in
+    subst ValuesAreWide g.1 (selected_wide c r (not-false (has_columns r.columns c.columns) g.0) w)
+
+join_wide : (kind : JoinKind) (on : Expression) (c : Clauses) (l r k : Relation) → ValuesAreWide l → ValuesAreWide r → joined_narrowed kind on c l r ≡ Ok k → ValuesAreWide k
+join_wide kind on c l r k w v e =
+    let columns = joined_columns kind l r in
+    let g = given_by_join (not (has_columns columns (names_in on))) (not (has_columns columns c.columns)) (not (has_columns columns (condition_names c.condition)))
+    (selected c (joined kind on l r)) k e in
+    subst ValuesAreWide g.1 (selected_wide c (joined kind on l r) (not-false (has_columns columns c.columns) g.0) (joined_wide kind on l r w v))
+
+table_wide : (name : List ℕ) (c : Clauses) (columns : List ColumnDef) (rows : Option (List (List Value))) (k : Relation) → ((rs : List (List Value)) → rows ≡ Some rs → HasWidth (length columns) rs)
+    → (or_refused InvalidData rows >>= λ rows. narrowed c (record { name = name; columns = columns; rows = rows })) ≡ Ok k → ValuesAreWide k
+table_wide name c columns None k w e = cc
+table_wide name c columns (Some rows) k w e = narrowed_wide c (record { name = name; columns = columns; rows = rows }) k (w rows refl) e
+
+found_wide : (name : List ℕ) (c : Clauses) (found : Option TableValues) (k : Relation) → ((t : TableValues) → found ≡ Some t → (rs : List (List Value)) → t.rows ≡ Some rs → HasWidth (length t.columns) rs)
+    → (or_refused NotFound found >>= λ t. or_refused InvalidData t.rows >>= λ rows. narrowed c (record { name = name; columns = t.columns; rows = rows })) ≡ Ok k → ValuesAreWide k
+found_wide name c None k w e = cc
+found_wide name c (Some t) k w e = table_wide name c t.columns t.rows k (w t refl) e
+
+sides_wide : (kind : JoinKind) (on : Expression) (c : Clauses) (left right : Result Relation ErrorKind) (k : Relation) → ((l : Relation) → left ≡ Ok l → ValuesAreWide l) → ((r : Relation) → right ≡ Ok r → ValuesAreWide r)
+    → (left >>= λ l. right >>= λ r. joined_narrowed kind on c l r) ≡ Ok k → ValuesAreWide k
+sides_wide kind on c (Err x) right k w v e = cc
+sides_wide kind on c (Ok l) (Err x) k w v e = cc
+sides_wide kind on c (Ok l) (Ok r) k w v e = join_wide kind on c l r k (w l refl) (v r refl) e
+
+pub relation_wide : (tables : List ℕ → Option TableValues) (q : Query) (k : Relation) → TablesAreWide tables → relation_of tables q ≡ Ok k → ValuesAreWide k
+relation_wide tables (table name c) k w e = found_wide name c (tables name) k (w name) e
+relation_wide tables (join kind l r on c) k w e =
+    sides_wide kind on c (relation_of tables l) (relation_of tables r) k (λ s h. relation_wide tables l s w h) (λ s h. relation_wide tables r s w h) e
+
+rows_found : (places : List Place) (columns : List ColumnDef) (rows : Option (List (List ValueRef))) (t : TableValues) → ((rs : List (List ValueRef)) → rows ≡ Some rs → HasWidth (length columns) rs)
+    → table_values places (record { columns = columns; rows = rows }) ≡ t → (rs : List (List Value)) → t.rows ≡ Some rs → HasWidth (length t.columns) rs
+rows_found places columns None t w e rs f = cc (ap (λ (u : TableValues). u.rows) e)
+rows_found places columns (Some cells) t w e rs f =
+    let same : Some (rows_values places cells) ≡ Some rs = ap (λ (u : TableValues). u.rows) e ∙ f in
+    let here : rows_values places cells ≡ rs = cc in
+    subst (λ n. HasWidth n rs) (ap (λ (u : TableValues). length u.columns) e) (subst (HasWidth (length columns)) here (wide_values places (length columns) cells (w cells refl)))
+
+cells_found : (places : List Place) (o : Option TableCells) → ((t : TableCells) → o ≡ Some t → (rows : List (List ValueRef)) → t.rows ≡ Some rows → HasWidth (length t.columns) rows)
+    → (t : TableValues) → option_map (table_values places) o ≡ Some t → (rs : List (List Value)) → t.rows ≡ Some rs → HasWidth (length t.columns) rs
+cells_found places None w t e rs f = cc
+cells_found places (Some s) w t e rs f = rows_found places s.columns s.rows t (w s refl) (cc) rs f
+
+-- what is selected of wide tables is wide
+pub answer_wide : (places : List Place) (tables : List ℕ → Option TableCells) (q : Query) (answer : Result RelationCells ErrorKind) → IfOk answer (λ r. relation_of (tables_values places tables) q ≡ Ok (relation_values places r))
+    → IfOk answer (λ r. AreWide tables → HasWidth (length r.columns) r.rows)
+answer_wide places tables q (Err k) e = e
+answer_wide places tables q (Ok r) e =
+    λ w. wide_cells places (length r.columns) r.rows (relation_wide (tables_values places tables) q (relation_values places r) (λ name. cells_found places (tables name) (w name)) e)

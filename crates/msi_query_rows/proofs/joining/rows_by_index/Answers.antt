@@ -1,0 +1,16 @@
+use Rattle.std.proofs.Common.{rules, ◌∙◌}
+use Rattle.msi_query_expressions.specs.Conditions.{meets}
+use Rattle.msi_query_rows.specs.Rows.{rows_values}
+use Rattle.msi_query_rows.proofs.IndexLemmas.{row_joined}
+use Rattle.msi_query_rows.proofs.joining.rows_by_index.Goals as goal
+
+pub loop-row-preserved : goal.loop-row-preserved
+loop-row-preserved c =
+    let places = c.args.pool.now.places in
+    let join = c.args.join.now in
+    record {
+      rows = λ right e. row_joined places (meets join.filter.now.columns join.filter.now.condition) join.kind join.width
+          (rows_values places c.loop-row.rows.items) (rows_values places c.add_row.new.rows.items) c.args.left.now right c.rows_with-found.result.now c.args.at
+          c.loop-row.row-index c.as_slice-row.result.now c.cell_of.result c.requires c.loop-row-test.true (search rules) c.cell_of.ensures
+          (c.rows_with-found.ensures right (c.as_slice.ensures.value ∙ e)) c.in_ok-add_row.ensures.ok (c.loop-row.invariant.rows right e);
+    }

@@ -1,0 +1,16 @@
+use Rattle.std.proofs.Common.{◌≡◌, List, take}
+use Rattle.std.specs.List.{flat_map}
+use Rattle.msi_table_values.specs.declared.value.ValueRef.{ValueRef}
+use Rattle.msi_query_expressions.specs.Conditions.{meets}
+use Rattle.msi_query_rows.specs.Index.{in_place_order}
+use Rattle.msi_query_rows.specs.Rows.{rows_values}
+use Rattle.msi_query_rows.specs.Selection.{rows_of_row}
+use Rattle.msi_query_rows.proofs.joining.rows_by_index.Given as goal
+
+abbrev pub invariant-loop-row : goal.invariant-loop-row
+invariant-loop-row l = record {
+  rows : (right : List (List ValueRef)) → l.sorted.items ≡ in_place_order l.pool.places l.other right
+      → rows_values l.pool.places l.rows.items
+      ≡ flat_map (rows_of_row l.join.kind (meets l.join.filter.now.columns l.join.filter.now.condition) l.join.width (rows_values l.pool.places right))
+      (rows_values l.pool.places (take l.row-index l.left));
+}

@@ -1,0 +1,17 @@
+use Rattle.std.proofs.Common.{refl}
+use Rattle.msi_query.specs.QueryTrees.{query_of}
+use Rattle.msi_query_rows.specs.Rows.{tables_values}
+use Rattle.msi_query_rows.proofs.JoinLemmas.{join_answer, table_answer}
+use Rattle.msi_query_rows.proofs.selection.+relation_of_tree.Goals as goal
+
+pub returns-in_ok-relation-in-Table-clause-ok : goal.returns-in_ok-relation-in-Table-clause-ok
+returns-in_ok-relation-in-Table-clause-ok g t c =
+    table_answer c.args.pool.now.places (g.T.Tables.table c.args.tables.now) (query_of c.args.tree.now) c.as_str.result.now c.in-Table.clauses
+    c.in_ok-relation-in-Table.relation c.narrowed.result (rw (c.in-Table.is, c.as_str.ensures) refl) c.in_ok-relation-in-Table.ensures.ok c.narrowed.ensures.ok
+
+pub returns-in_ok-right-in-Join-clause-ok : goal.returns-in_ok-right-in-Join-clause-ok
+returns-in_ok-right-in-Join-clause-ok g t c =
+    join_answer (tables_values c.args.pool.now.places (g.T.Tables.table c.args.tables.now)) c.args.pool.now.places (query_of c.args.tree.now) c.in-Join.kind
+    (query_of c.deref.result.now) (query_of c.deref-in-Join.result.now) c.in-Join.on c.in-Join.clauses
+    c.in_ok-left-in-Join.left c.in_ok-right-in-Join.right c.joined.result (rw (c.in-Join.is, c.deref.ensures, c.deref-in-Join.ensures) refl)
+    c.in_ok-left-in-Join.ensures.ok c.in_ok-right-in-Join.ensures.ok c.joined.ensures.ok

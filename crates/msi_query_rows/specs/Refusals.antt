@@ -1,0 +1,35 @@
+-- Refusals in order: each is a condition and the kind of error that answers where it holds.
+use Rattle.std.specs.Prelude.{◌≡◌, ◌⊎◌, Bool, List, [], ◌∷◌, Option, Some, None, Result, Ok, Err, if◌then◌else◌}
+use Rattle.msi_text_base.specs.declared.errors.ErrorKind.{ErrorKind}
+use Rattle.msi_text_base.specs.declared.errors.ErrorKind.TheVariants.{OutOfMemory}
+
+abbrev pub Refusals : Type 0
+Refusals = List (Bool × ErrorKind)
+
+-- the kind of the first that holds
+abbrev pub first_refusal : Refusals → Option ErrorKind
+first_refusal [] = None
+first_refusal (r ∷ rs) = if r.0 then Some r.1 else first_refusal rs
+
+-- the answer, or the refusal
+abbrev pub unless : {A : Type 0} → Option ErrorKind → A → Result A ErrorKind
+unless None answer = Ok answer
+unless (Some kind) answer = Err kind
+
+abbrev pub unless_refused : {A : Type 0} → Refusals → A → Result A ErrorKind
+unless_refused refusals answer = unless (first_refusal refusals) answer
+
+-- the value, or this refusal where there is none
+abbrev pub or_refused : {A : Type 0} → ErrorKind → Option A → Result A ErrorKind
+or_refused kind None = Err kind
+or_refused kind (Some x) = Ok x
+
+-- steps that each may be refused
+infixl 10 ◌>>=◌
+abbrev pub ◌>>=◌ : {A B : Type 0} → Result A ErrorKind → (A → Result B ErrorKind) → Result B ErrorKind
+(Ok x) >>= f = f x
+(Err kind) >>= f = Err kind
+
+-- why a call is refused that has this answer where memory suffices
+abbrev pub IsRefusal : {A : Type 0} → Result A ErrorKind → ErrorKind → Type 0
+IsRefusal answer kind = (kind ≡ OutOfMemory) ⊎ (answer ≡ Err kind)

@@ -1,0 +1,171 @@
+//! The columns of relations.
+
+ghost use Rattle.std.specs.Prelude.{◌≡◌, ◌++◌, ◌∷◌, ◌==◌, map, IfOk, OnOk, if◌then◌else◌, length, List, option_copied};
+ghost use Rattle.std.specs.Prelude.{string_bytes};
+ghost use Rattle.std.specs.List.{filter_map};
+ghost use Rattle.msi_text_pool.specs.Pool.{Place};
+ghost use Rattle.msi_text_base.specs.Results.{OnlyMemory};
+ghost use Rattle.msi_table_values.specs.Columns.{column_index as index_of};
+ghost use Rattle.msi_query_rows.specs.Rows.{column_at as column_there, relation_values};
+ghost use Rattle.msi_query_rows.specs.Selection.{condition_names, has_columns as has_each, is_left as keeps_left};
+ghost use Rattle.msi_query_rows.specs.Selection.{joined_columns as joined_by, nullable_if, prefixed as prefixed_by};
+
+use crate::relation::Relation;
+use msi_query::expr::Expr;
+use msi_query::parts::knows_names;
+use msi_query::query::JoinKind;
+use msi_table::column::Column;
+use msi_table::parts::{column_index, has_column, nullable, renamed};
+use msi_text::errors::Error;
+use msi_text::text::{Items, Text};
+use std::alloc::Global;
+
+/// Whether each of the names is that of a column.
+pub(crate) fn has_columns(columns: &[Column], names: &[Text]) -> bool
+    ensures { result ≡ has_each columns.now names.now }
+{
+    names.iter().all(|name| has_column(columns, name.as_str()))
+}
+
+/// Whether each name in a condition is that of a column.
+pub(crate) fn knows_condition(columns: &[Column], condition: Option<&Expr>) -> bool
+    ensures { result ≡ has_each columns.now (condition_names (option_copied condition.entry)) }
+{
+    match condition {
+        Some(condition) => knows_names(condition, columns),
+        None => true,
+    }
+}
+
+/// Where the columns of the names stand.
+///
+/// # Errors
+/// `OutOfMemory`.
+pub(crate) fn places_of(
+    alloc: Global,
+    columns: &[Column],
+    names: &[Text],
+) -> Result<Vec<Option<usize>>, Error>
+    ensures ok { IfOk result (λ places. places.items ≡ map (λ name. index_of name columns.now) names.now) }
+    ensures kind { OnlyMemory result }
+{
+    let mut places = Vec::new(alloc);
+    for name in names {
+        places.push(column_index(columns, name.as_str()))?;
+    }
+    Ok(places)
+}
+
+/// The column at a place, if any.
+fn column_at(columns: &[Column], place: Option<usize>) -> Option<&Column>
+    ensures { option_copied result ≡ column_there columns.now place }
+{
+    match place {
+        Some(place) => columns.get(place),
+        None => None,
+    }
+}
+
+/// The columns at the places, in the places' order.
+///
+/// # Errors
+/// `OutOfMemory`.
+pub(crate) fn columns_of(
+    alloc: Global,
+    columns: &[Column],
+    places: &[Option<usize>],
+) -> Result<Items<Column>, Error>
+    ensures ok { IfOk result (λ kept. kept ≡ filter_map (column_there columns.now) places.now) }
+    ensures kind { OnlyMemory result }
+{
+    let mut kept = Vec::new(alloc);
+    for place in places {
+        if let Some(column) = column_at(columns, *place) {
+            kept.push(column.clone(alloc)?)?;
+        }
+    }
+    Ok(Items::from_vec(kept))
+}
+
+/// A column's name behind its side's name, where that isn't empty.
+///
+/// # Errors
+/// `OutOfMemory`.
+fn prefixed(alloc: Global, side: &str, name: &str) -> Result<String, Error>
+    ensures ok { IfOk result (λ whole. string_bytes whole
+        ≡ (if length side.now == 0 then name.now else side.now ++ 46 ∷ name.now)) }
+    ensures kind { OnlyMemory result }
+{
+    if side.is_empty() {
+        return Ok(String::from_str(alloc, name)?);
+    }
+    let mut whole = String::from_str(alloc, side)?;
+    whole.push('.')?;
+    whole.push_str(name)?;
+    Ok(whole)
+}
+
+/// A side's column as a join has it; it takes null where it did, or where that is asked.
+///
+/// # Errors
+/// `OutOfMemory`.
+fn side_column(alloc: Global, side: &str, nulls: bool, column: &Column) -> Result<Column, Error>
+    ensures ok { IfOk result (λ joined. joined ≡ nullable_if nulls (prefixed_by side.now column.now)) }
+    ensures kind { OnlyMemory result }
+{
+    let name = prefixed(alloc, side, column.name())?;
+    let column = renamed(alloc, column, name)?;
+    Ok(if nulls { nullable(column) } else { column })
+}
+
+/// Adds a side's columns to those of a join.
+///
+/// # Errors
+/// `OutOfMemory`.
+fn add_columns(
+    alloc: Global,
+    side: &str,
+    nulls: bool,
+    columns: &[Column],
+    joined: &mut Vec<Column>,
+) -> Result<(), Error>
+    ensures ok { OnOk result (joined.new.items
+        ≡ joined.old.items ++ map (λ c. nullable_if nulls (prefixed_by side.now c)) columns.now) }
+    ensures kind { OnlyMemory result }
+{
+    for column in columns {
+        joined.push(side_column(alloc, side, nulls, column)?)?;
+    }
+    Ok(())
+}
+
+/// Whether a join keeps a left row without a pair.
+pub(crate) fn is_left(kind: JoinKind) -> bool
+    ensures { result ≡ keeps_left kind }
+{
+    match kind {
+        JoinKind::Inner => false,
+        JoinKind::Left => true,
+    }
+}
+
+/// The columns of a join of two sides.
+///
+/// # Errors
+/// `OutOfMemory`.
+pub(crate) fn joined_columns(
+    alloc: Global,
+    kind: JoinKind,
+    left: &Relation,
+    right: &Relation,
+) -> Result<Items<Column>, Error>
+    ensures ok { IfOk result (λ columns. (places : List Place)
+        → columns ≡ joined_by kind (relation_values places left.now) (relation_values places right.now)) }
+    ensures kind { OnlyMemory result }
+{
+    let (name, nulls) = (right.name(), is_left(kind));
+    let mut columns = Vec::new(alloc);
+    add_columns(alloc, left.name(), false, left.columns(), &mut columns)?;
+    add_columns(alloc, name, nulls, right.columns(), &mut columns)?;
+    Ok(Items::from_vec(columns))
+}

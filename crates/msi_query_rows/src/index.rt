@@ -1,0 +1,96 @@
+//! Rows in the order of their values in a column, so that those with a value are found by halving.
+
+ghost use Rattle.std.specs.Prelude.{◌≡◌, List, Some, IfSome, OnOk, filter};
+ghost use Rattle.msi_text_pool.specs.Pool.{Place};
+ghost use Rattle.msi_text_base.specs.Results.{OnlyMemory};
+ghost use Rattle.msi_table_values.specs.CellValues.{value_of_cell};
+ghost use Rattle.msi_table_values.specs.declared.value.ValueRef.{ValueRef as Cell};
+ghost use Rattle.msi_table_values.specs.Values.{value_cmp};
+ghost use Rattle.msi_query_expressions.specs.Conditions.{meets};
+ghost use Rattle.msi_query_rows.specs.Index.{PassWithEqual, has_value, has_width as have_width, in_place_order};
+ghost use Rattle.msi_query_rows.specs.Index.{place_cmp, places_asked as asked, value_there};
+
+use crate::rows::cell_of;
+use msi_query::expr::Expr;
+use msi_query::parts::equated_places;
+use msi_table::column::Column;
+use msi_table::parts::compare_values;
+use msi_table::value::ValueRef;
+use msi_text::errors::Error;
+use msi_text::stringpool::StringPool;
+use msi_text::text::Items;
+use std::cmp::Ordering;
+
+/// Whether each row has so many cells.
+fn has_width(width: usize, rows: &[Items<ValueRef>]) -> bool
+    ensures { result ≡ have_width width rows.now }
+{
+    rows.iter().all(|row| row.as_slice().len() == width)
+}
+
+/// The places, of a left row and of a right one, where pairs that meet a condition have equal values, if it names
+/// such. A left row that is too short or too long would put the right one's columns elsewhere, so then there are
+/// none.
+pub(crate) fn places_asked(
+    columns: &[Column],
+    width: usize,
+    on: &Expr,
+    left: &[Items<ValueRef>],
+) -> Option<(usize, usize)>
+    ensures places { result ≡ asked columns.now width on.now left.now }
+    ensures equal { (places : List Place)
+        → IfSome result (PassWithEqual places (meets columns.now (Some on.now)) left.now) }
+{
+    if !has_width(width, left) {
+        return None;
+    }
+    equated_places(on, columns, width)
+}
+
+/// How the values of two rows at a place stand to one another.
+fn compare_rows(pool: &StringPool, place: usize, row: &[ValueRef], other: &[ValueRef]) -> Ordering
+    ensures { result ≡ place_cmp pool.now.places place row.now other.now }
+{
+    compare_values(pool, cell_of(row, Some(place)), cell_of(other, Some(place)))
+}
+
+/// How the value of a row at a place stands to that of a cell.
+fn compare_with(pool: &StringPool, place: usize, row: &[ValueRef], cell: ValueRef) -> Ordering
+    ensures { result
+        ≡ value_cmp (value_there pool.now.places place row.now) (value_of_cell pool.now.places cell) }
+{
+    compare_values(pool, cell_of(row, Some(place)), cell)
+}
+
+/// Puts rows into the order of their values at a place; those with one value stay in their order.
+///
+/// # Errors
+/// `OutOfMemory`.
+pub(crate) fn sort_by_place(
+    pool: &StringPool,
+    place: usize,
+    rows: &mut Vec<Items<ValueRef>>,
+) -> Result<(), Error>
+    ensures ok { OnOk result (rows.new.items ≡ in_place_order pool.now.places place rows.old.items) }
+    ensures kind { OnlyMemory result }
+{
+    rows.sort_by(|row, other| compare_rows(pool, place, row.as_slice(), other.as_slice()))?;
+    Ok(())
+}
+
+/// Of rows in that order those with a cell's value there, in the order in which they stood before.
+pub(crate) fn rows_with<'a>(
+    pool: &StringPool,
+    place: usize,
+    rows: &'a [Items<ValueRef>],
+    cell: ValueRef,
+) -> &'a [Items<ValueRef>]
+    ensures { let places = pool.now.places in (before : List (List Cell))
+        → rows.now ≡ in_place_order places place before
+        → result.now ≡ filter (has_value places place (value_of_cell places cell)) before }
+{
+    let start = rows.partition_point(|row| compare_with(pool, place, row.as_slice(), cell).is_lt());
+    let rows = &rows[start..];
+    let end = rows.partition_point(|row| compare_with(pool, place, row.as_slice(), cell).is_le());
+    &rows[..end]
+}

@@ -1,0 +1,180 @@
+//! Joins.
+
+ghost use Rattle.std.specs.Prelude.{◌≡◌, ◌++◌, IfOk, OnOk, Some, length};
+ghost use Rattle.std.specs.List.{flat_map};
+ghost use Rattle.msi_text_base.specs.Results.{OnlyMemory};
+ghost use Rattle.msi_table_values.specs.CellValues.{row_values};
+ghost use Rattle.msi_query_expressions.specs.Conditions.{meets};
+ghost use Rattle.msi_query_rows.specs.Index.{PassWithEqual};
+ghost use Rattle.msi_query_rows.specs.Rows.{rows_values};
+ghost use Rattle.msi_query_rows.specs.Selection.{pairs_of, rows_of_row};
+
+use crate::columns::is_left;
+use crate::index::{places_asked, rows_with, sort_by_place};
+use crate::relation::Relation;
+use crate::rows::{cell_of, pair, with_nulls};
+use msi_query::expr::Expr;
+use msi_query::parts::RowFilter;
+use msi_query::query::JoinKind;
+use msi_table::column::Column;
+use msi_table::value::ValueRef;
+use msi_text::errors::Error;
+use msi_text::stringpool::StringPool;
+use msi_text::text::Items;
+use std::alloc::Global;
+
+/// A join: its kind, its condition on pairs, and how many columns its right side has.
+#[derive(Clone, Copy, Drop)]
+struct Join<'a, 'b> {
+    kind: JoinKind,
+    filter: &'a RowFilter<'b>,
+    width: usize,
+}
+
+/// Adds the pairs of a left row with right rows that a filter lets through. No row is made for a pair that is only
+/// tried.
+///
+/// # Errors
+/// `OutOfMemory`.
+fn add_pairs(
+    alloc: Global,
+    pool: &StringPool,
+    filter: &RowFilter,
+    right: &[Items<ValueRef>],
+    row: &[ValueRef],
+    rows: &mut Vec<Items<ValueRef>>,
+) -> Result<(), Error>
+    ensures ok { let values = rows_values pool.now.places in
+        let test = meets filter.now.columns filter.now.condition in
+        OnOk result (values rows.new.items
+        ≡ values rows.old.items ++ pairs_of test (values right.now) (row_values pool.now.places row.now)) }
+    ensures kind { OnlyMemory result }
+{
+    for other in right {
+        let other = other.as_slice();
+        if filter.meets_pair(alloc, pool, row, other)? {
+            rows.push(pair(alloc, row, other)?)?;
+        }
+    }
+    Ok(())
+}
+
+/// Adds what a join gives of a left row: its pairs, or in a left join where it has none the row with nulls.
+///
+/// # Errors
+/// `OutOfMemory`.
+fn add_row(
+    alloc: Global,
+    pool: &StringPool,
+    join: &Join,
+    right: &[Items<ValueRef>],
+    row: &[ValueRef],
+    rows: &mut Vec<Items<ValueRef>>,
+) -> Result<(), Error>
+    ensures ok { let values = rows_values pool.now.places in
+        let test = meets join.now.filter.now.columns join.now.filter.now.condition in
+        OnOk result (values rows.new.items ≡ values rows.old.items
+        ++ rows_of_row join.now.kind test join.now.width (values right.now) (row_values pool.now.places row.now)) }
+    ensures kind { OnlyMemory result }
+{
+    let before = rows.len();
+    add_pairs(alloc, pool, join.filter, right, row, rows)?;
+    if is_left(join.kind) && rows.len() == before {
+        rows.push(with_nulls(alloc, row, join.width)?)?;
+    }
+    Ok(())
+}
+
+/// The rows of a join, each left row beside all right ones.
+///
+/// # Errors
+/// `OutOfMemory`.
+fn rows_by_scan(
+    alloc: Global,
+    pool: &StringPool,
+    join: &Join,
+    left: &[Items<ValueRef>],
+    right: &[Items<ValueRef>],
+) -> Result<Vec<Items<ValueRef>>, Error>
+    ensures ok { let values = rows_values pool.now.places in
+        let test = meets join.now.filter.now.columns join.now.filter.now.condition in
+        IfOk result (λ rows. values rows.items
+        ≡ flat_map (rows_of_row join.now.kind test join.now.width (values right.now)) (values left.now)) }
+    ensures kind { OnlyMemory result }
+{
+    let mut rows = Vec::new(alloc);
+    for row in left {
+        add_row(alloc, pool, join, right, row.as_slice(), &mut rows)?;
+    }
+    Ok(rows)
+}
+
+/// The rows of a join, each left row beside those right ones that have its value: pairs that meet the condition have
+/// equal ones at these places of the two.
+///
+/// # Errors
+/// `OutOfMemory`.
+fn rows_by_index(
+    alloc: Global,
+    pool: &StringPool,
+    join: &Join,
+    at: (usize, usize),
+    left: &[Items<ValueRef>],
+    right: Vec<Items<ValueRef>>,
+) -> Result<Vec<Items<ValueRef>>, Error>
+    requires { let test = meets join.now.filter.now.columns join.now.filter.now.condition in
+        PassWithEqual pool.now.places test left.now at }
+    ensures ok { let values = rows_values pool.now.places in
+        let test = meets join.now.filter.now.columns join.now.filter.now.condition in
+        IfOk result (λ rows. values rows.items
+        ≡ flat_map (rows_of_row join.now.kind test join.now.width (values right.items)) (values left.now)) }
+    ensures kind { OnlyMemory result }
+{
+    let (place, other) = at;
+    let mut sorted = right;
+    sort_by_place(pool, other, &mut sorted)?;
+    let mut rows = Vec::new(alloc);
+    for row in left {
+        let row = row.as_slice();
+        let found = rows_with(pool, other, sorted.as_slice(), cell_of(row, Some(place)));
+        add_row(alloc, pool, join, found, row, &mut rows)?;
+    }
+    Ok(rows)
+}
+
+/// The rows of a join of two sides under a condition on the columns of both. Where it wants columns to be equal, one
+/// of each side, the right side is sorted by its column and looked up.
+///
+/// # Errors
+/// `OutOfMemory`.
+pub(crate) fn joined_rows(
+    alloc: Global,
+    pool: &StringPool,
+    kind: JoinKind,
+    columns: &[Column],
+    on: &Expr,
+    left: &Relation,
+    right: Relation,
+) -> Result<Vec<Items<ValueRef>>, Error>
+    ensures ok { let values = rows_values pool.now.places in
+        let test = meets columns.now (Some on.now) in
+        IfOk result (λ rows. values rows.items
+        ≡ flat_map (rows_of_row kind test (length right.columns) (values right.rows)) (values left.now.rows)) }
+    ensures kind { OnlyMemory result }
+{
+    let filter = RowFilter::new(alloc, columns, Some(on))?;
+    let Relation {
+        name: _name,
+        columns: right_columns,
+        rows: right,
+    } = right;
+    let join = Join {
+        kind,
+        filter: &filter,
+        width: right_columns.as_slice().len(),
+    };
+    match places_asked(columns, left.columns().len(), on, left.rows()) {
+        Some(at) => rows_by_index(alloc, pool, &join, at, left.rows(), right),
+        None => rows_by_scan(alloc, pool, &join, left.rows(), right.as_slice()),
+    }
+}

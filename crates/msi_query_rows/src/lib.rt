@@ -1,0 +1,14 @@
+//! Selects rows: carries out a query for rows (filters, projections, joins) over any tables.
+#![tactic(auto)]
+
+mod columns;
+mod index;
+mod joining;
+mod narrowing;
+mod reasons;
+pub mod relation;
+mod rows;
+pub mod selection;
+
+pub use relation::Relation;
+pub use selection::{Tables, select};

@@ -1,0 +1,163 @@
+//! Selection and projection.
+
+ghost use Rattle.std.specs.Prelude.{◌≡◌, map, filter, IfOk, IfErr, Ok, option_copied};
+ghost use Rattle.msi_text_base.specs.Results.{OnlyMemory};
+ghost use Rattle.msi_query_expressions.specs.Conditions.{meets};
+ghost use Rattle.msi_query_rows.specs.Refusals.{IsRefusal, unless_refused};
+ghost use Rattle.msi_query_rows.specs.Rows.{cells_at, projected_cells, relation_values, rows_values};
+ghost use Rattle.msi_query_rows.specs.Selection.{clause_refusals, narrowed as narrowed_by, selected as selected_by};
+
+use crate::columns::{columns_of, has_columns, knows_condition, places_of};
+use crate::reasons;
+use crate::relation::Relation;
+use crate::rows::projected_row;
+use msi_query::expr::Expr;
+use msi_query::parts::{Clauses, RowFilter};
+use msi_table::column::Column;
+use msi_table::value::ValueRef;
+use msi_text::errors::{Error, ErrorKind};
+use msi_text::stringpool::StringPool;
+use msi_text::text::{Items, Text};
+use std::alloc::Global;
+
+/// The rows that a filter lets through.
+///
+/// # Errors
+/// `OutOfMemory`.
+fn filtered(
+    alloc: Global,
+    pool: &StringPool,
+    test: &RowFilter,
+    rows: Vec<Items<ValueRef>>,
+) -> Result<Vec<Items<ValueRef>>, Error>
+    ensures ok { IfOk result (λ kept. rows_values pool.now.places kept.items
+        ≡ filter (meets test.now.columns test.now.condition) (rows_values pool.now.places rows.items)) }
+    ensures kind { OnlyMemory result }
+{
+    let mut kept = Vec::new(alloc);
+    for row in rows {
+        if test.meets(alloc, pool, row.as_slice())? {
+            kept.push(row)?;
+        }
+    }
+    Ok(kept)
+}
+
+/// The rows that meet a condition. Its columns are looked up once.
+///
+/// # Errors
+/// `OutOfMemory`.
+fn kept_rows(
+    alloc: Global,
+    pool: &StringPool,
+    columns: &[Column],
+    condition: Option<&Expr>,
+    rows: Vec<Items<ValueRef>>,
+) -> Result<Vec<Items<ValueRef>>, Error>
+    ensures ok { IfOk result (λ kept. rows_values pool.now.places kept.items
+        ≡ filter (meets columns.now (option_copied condition.entry)) (rows_values pool.now.places rows.items)) }
+    ensures kind { OnlyMemory result }
+{
+    let test = RowFilter::new(alloc, columns, condition)?;
+    filtered(alloc, pool, &test, rows)
+}
+
+/// The cells at the places of each row.
+///
+/// # Errors
+/// `OutOfMemory`.
+fn projected_rows(
+    alloc: Global,
+    places: &[Option<usize>],
+    rows: &[Items<ValueRef>],
+) -> Result<Vec<Items<ValueRef>>, Error>
+    ensures ok { IfOk result (λ projected. projected.items ≡ map (cells_at places.now) rows.now) }
+    ensures kind { OnlyMemory result }
+{
+    let mut projected = Vec::new(alloc);
+    for row in rows {
+        projected.push(projected_row(alloc, places, row.as_slice())?)?;
+    }
+    Ok(projected)
+}
+
+/// The columns of the names, in the names' order.
+///
+/// # Errors
+/// `OutOfMemory`.
+fn projected(
+    alloc: Global,
+    names: &[Text],
+    columns: &[Column],
+    rows: &[Items<ValueRef>],
+) -> Result<Relation, Error>
+    ensures ok { IfOk result (λ kept. kept ≡ projected_cells names.now columns.now rows.now) }
+    ensures kind { OnlyMemory result }
+{
+    let places = places_of(alloc, columns, names)?;
+    let kept = columns_of(alloc, columns, places.as_slice())?;
+    let rows = projected_rows(alloc, places.as_slice(), rows)?;
+    let name = Text::from_string(String::new(alloc));
+    Ok(Relation::new(name, kept, rows))
+}
+
+/// The rows that meet the condition, then the columns that are selected. No name has to be unknown.
+///
+/// # Errors
+/// `OutOfMemory`.
+pub(crate) fn selected(
+    alloc: Global,
+    pool: &StringPool,
+    clauses: &Clauses,
+    relation: Relation,
+) -> Result<Relation, Error>
+    ensures ok { IfOk result (λ kept. relation_values pool.now.places kept
+        ≡ selected_by clauses.now (relation_values pool.now.places relation)) }
+    ensures kind { OnlyMemory result }
+{
+    let Relation {
+        name,
+        columns,
+        rows,
+    } = relation;
+    let rows = kept_rows(alloc, pool, columns.as_slice(), clauses.condition(), rows)?;
+    let names = clauses.columns();
+    if names.is_empty() {
+        return Ok(Relation::new(name, columns, rows));
+    }
+    projected(alloc, names, columns.as_slice(), rows.as_slice())
+}
+
+/// Refuses clauses with a name that is none of a column.
+///
+/// # Errors
+/// `InvalidInput` where a column that is selected, or one in the condition, isn't there.
+pub(crate) fn refuse_unknown(columns: &[Column], clauses: &Clauses) -> Result<(), Error>
+    ensures { result ≡ unless_refused (clause_refusals clauses.now columns.now) tt }
+{
+    if !has_columns(columns, clauses.columns()) {
+        return Err(Error::new(ErrorKind::InvalidInput, reasons::KEPT_COLUMN));
+    }
+    if !knows_condition(columns, clauses.condition()) {
+        return Err(Error::new(ErrorKind::InvalidInput, reasons::CONDITION_COLUMN));
+    }
+    Ok(())
+}
+
+/// What the clauses of a query keep of a relation.
+///
+/// # Errors
+/// `InvalidInput` where a column that is selected, or one in the condition, isn't there; `OutOfMemory`.
+pub(crate) fn narrowed(
+    alloc: Global,
+    pool: &StringPool,
+    clauses: &Clauses,
+    relation: Relation,
+) -> Result<Relation, Error>
+    ensures ok { IfOk result (λ kept. narrowed_by clauses.now (relation_values pool.now.places relation)
+        ≡ Ok (relation_values pool.now.places kept)) }
+    ensures kind { IfErr result (IsRefusal (narrowed_by clauses.now (relation_values pool.now.places relation))) }
+{
+    refuse_unknown(relation.columns(), clauses)?;
+    selected(alloc, pool, clauses, relation)
+}

@@ -1,0 +1,83 @@
+//! The result of a query: a relation.
+
+ghost use Rattle.std.specs.Prelude.{◌≡◌, IfOk};
+ghost use Rattle.msi_text_base.specs.Results.{OnlyMemory};
+ghost use Rattle.msi_table.specs.Rows.{AreAsWide};
+
+use msi_table::column::Column;
+use msi_table::parts;
+use msi_table::row::Rows;
+use msi_table::value::ValueRef;
+use msi_text::errors::Error;
+use msi_text::stringpool::StringPool;
+use msi_text::text::{Items, Text};
+use std::alloc::Global;
+use std::marker::Model;
+
+/// A name, columns, and rows of cells, whose texts are in a pool. Contracts see the cells.
+#[derive(Drop)]
+pub struct Relation {
+    pub(crate) name: Text,
+    pub(crate) columns: Items<Column>,
+    pub(crate) rows: Vec<Items<ValueRef>>,
+}
+
+impl Model for Relation {
+    ghost use Rattle.msi_query_rows.specs.Rows.{RelationCells};
+
+    ghost Value = { RelationCells };
+
+    ghost view = { λ r. record { name = r.name; columns = r.columns; rows = r.rows.items } };
+}
+
+impl Relation {
+    /// Returns the relation of a name, columns and rows. The name is empty but for a whole table.
+    pub fn new(name: Text, columns: Items<Column>, rows: Vec<Items<ValueRef>>) -> Relation
+        ensures { result ≡ record { name = name; columns = columns; rows = rows.items } }
+    {
+        Relation {
+            name,
+            columns,
+            rows,
+        }
+    }
+
+    /// Returns the name.
+    pub fn name(&self) -> &str
+        ensures { result.now ≡ self.now.name }
+    {
+        self.name.as_str()
+    }
+
+    /// Returns the columns.
+    pub fn columns(&self) -> &[Column]
+        ensures { result.now ≡ self.now.columns }
+    {
+        self.columns.as_slice()
+    }
+
+    /// Returns the rows.
+    pub fn rows(&self) -> &[Items<ValueRef>]
+        ensures { result.now ≡ self.now.rows }
+    {
+        self.rows.as_slice()
+    }
+
+    /// Returns the rows as callers see them, over the pool of their texts. Each has to have a cell for each column.
+    ///
+    /// # Errors
+    /// Fails with `OutOfMemory`.
+    pub fn into_rows<'a>(self, alloc: Global, pool: &'a StringPool) -> Result<Rows<'a>, Error>
+        requires { AreAsWide self.columns self.rows }
+        ensures ok { IfOk result (λ rows.
+            rows ≡ record { columns = self.columns; places = pool.now.places; rows = self.rows }) }
+        ensures kind { OnlyMemory result }
+    {
+        let Relation {
+            name: _name,
+            columns,
+            rows,
+        } = self;
+        parts::rows(alloc, pool, columns, rows)
+    }
+}

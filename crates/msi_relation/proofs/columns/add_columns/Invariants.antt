@@ -1,9 +1,0 @@
-use Rattle.std.proofs.Common.{◌≡◌, ◌++◌, map, take}
-use Rattle.msi_relation.specs.Selection.{nullable_if, prefixed}
-use Rattle.msi_relation.proofs.columns.add_columns.Given as goal
-
-abbrev pub invariant-loop-column : goal.invariant-loop-column
-invariant-loop-column l = record {
-  joined : l.joined.items
-      ≡ l.initial.joined.items ++ map (λ c. nullable_if l.nulls (prefixed l.side c)) (take l.column-index l.columns);
-}

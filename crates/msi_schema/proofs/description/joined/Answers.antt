@@ -1,8 +1,0 @@
-use Rattle.std.proofs.Common.{◌∙◌}
-use Rattle.std.specs.Prelude.{string_bytes}
-use Rattle.msi_schema.proofs.DescriptionLemmas.{joined_text}
-use Rattle.msi_schema.proofs.description.joined.Goals as goal
-
-pub returns-clause-ok : goal.returns-clause-ok
-returns-clause-ok c = joined_text c.args.texts.now c.in-Some.first.now c.in-Some.others.now c.loop-other.other-index (string_bytes c.loop-other.text) (string_bytes c.in_ok-text.text) c.from_string.result
-    c.in-Some.ensures.cases.0 c.loop-other-test.false (c.in_ok-text.ensures.ok ∙ c.as_str.ensures) c.loop-other.invariant.so_far c.from_string.ensures

@@ -1,6 +1,0 @@
--- The lemmas of this crate.
-pub mod CursorLemmas
-pub mod DeskLemmas
-pub mod NameLemmas
-pub mod CursorRows
-pub mod ListingRows

@@ -1,0 +1,13 @@
+//! Readers and writers for the binary streams of a package, and the names of those that it lists.
+#![tactic(auto)]
+
+pub mod faults;
+pub mod names;
+pub mod reader;
+mod reasons;
+mod seeking;
+pub mod writer;
+
+pub use names::Streams;
+pub use reader::StreamReader;
+pub use writer::{OpenStream, StreamWriter};

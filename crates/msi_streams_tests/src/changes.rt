@@ -1,0 +1,101 @@
+//! A new package, changes of its tables, and code pages that can't encode their texts.
+
+use crate::answers::Told::{self, Done, Page, Refused, Rows, Tables};
+use crate::calls::Make::{self, Create, Delete, Drop, Insert};
+use crate::calls::{Look, NumberRow, Sent};
+use crate::runs::{Step, has_rows, has_tables, is_refused, replayed};
+use msi::PackageType;
+use msi_text::{CodePage, ErrorKind};
+use std::test::Fail;
+
+/// The system's tables.
+const SYSTEM_TABLES: [&str; 3] = ["_Columns", "_Tables", "_Validation"];
+
+#[test]
+fn no_calls_leave_a_new_package(rt: HostRuntime) -> Result<(), Fail> {
+    let (count, bytes) = replayed(rt.alloc(), PackageType::Installer, &[])?;
+    // The header, two sectors of the directory's seven entries, one of the mini FAT, three of the mini stream, the
+    // FAT.
+    assert_eq!(rt; (count, bytes.len()), (0, 4096));
+    assert!(rt; has_tables(rt.alloc(), bytes, &SYSTEM_TABLES)?);
+    Ok(())
+}
+
+/// Rows of `Numbers`, in the order of their numbers.
+const WORDS: &[NumberRow] = &[(1, "One"), (2, "Two"), (4, "Four")];
+
+/// `Numbers` is made and filled, and then nothing more is accepted.
+const NUMBERS: [Step; 9] = [
+    (Sent::Make(Create("Numbers")), Done),
+    (
+        Sent::Make(Insert("Numbers", &[(2, "Two"), (4, "Four"), (1, "One")])),
+        Done,
+    ),
+    (Sent::Select("Numbers"), Rows(WORDS)),
+    (Sent::Flush, Done),
+    (
+        Sent::Make(Insert("Numbers", &[(6, "Six"), (6, "Six")])),
+        Refused(ErrorKind::InvalidInput),
+    ),
+    (
+        Sent::Make(Insert("Numbers", &[(2, "x")])),
+        Refused(ErrorKind::AlreadyExists),
+    ),
+    (
+        Sent::Make(Insert("_Tables", &[(2, "x")])),
+        Refused(ErrorKind::InvalidInput),
+    ),
+    (
+        Sent::Make(Delete("_Validation")),
+        Refused(ErrorKind::InvalidInput),
+    ),
+    (Sent::Make(Drop("Words")), Refused(ErrorKind::NotFound)),
+];
+
+#[test]
+fn what_is_refused_is_not_written(rt: HostRuntime) -> Result<(), Fail> {
+    let (count, bytes) = replayed(rt.alloc(), PackageType::Installer, &NUMBERS)?;
+    assert_eq!(rt; count, NUMBERS.len());
+    assert!(rt; has_rows(rt.alloc(), bytes, WORDS)?);
+    Ok(())
+}
+
+/// A row whose word Windows-932 doesn't carry here, and for which Windows-1252 has a question mark.
+const ONE: &[NumberRow] = &[(1, "\u{4E00}")];
+
+/// The page is set, and the flush is refused until there is one that carries the text.
+const PAGES: [Step; 10] = [
+    (Sent::Make(Create("Numbers")), Done),
+    (Sent::Make(Insert("Numbers", ONE)), Done),
+    (Sent::Make(Make::Page(CodePage::Windows932)), Done),
+    (
+        Sent::Look(Look::DatabaseCodepage),
+        Page(CodePage::Windows932),
+    ),
+    (Sent::Flush, Refused(ErrorKind::InvalidInput)),
+    (Sent::Image, Refused(ErrorKind::InvalidInput)),
+    (Sent::Select("Numbers"), Rows(ONE)),
+    (
+        Sent::Look(Look::Tables),
+        Tables(&["Numbers", "_Columns", "_Tables", "_Validation"]),
+    ),
+    (Sent::DeviceFailed, Told::Flag(false)),
+    (Sent::Make(Make::Page(CodePage::Windows1252)), Done),
+];
+
+/// The page is set, and the last flush is refused.
+const UNCARRIED: [Step; 3] = [
+    (Sent::Make(Create("Numbers")), Done),
+    (Sent::Make(Insert("Numbers", ONE)), Done),
+    (Sent::Make(Make::Page(CodePage::Windows932)), Done),
+];
+
+#[test]
+fn a_page_that_does_not_carry_a_text_is_refused_by_flushes(rt: HostRuntime) -> Result<(), Fail> {
+    let alloc = rt.alloc();
+    let (count, bytes) = replayed(alloc, PackageType::Installer, &PAGES)?;
+    assert_eq!(rt; count, PAGES.len());
+    assert!(rt; has_rows(alloc, bytes, &[(1, "?")])?);
+    assert!(rt; is_refused(alloc, &UNCARRIED, ErrorKind::InvalidInput)?);
+    Ok(())
+}

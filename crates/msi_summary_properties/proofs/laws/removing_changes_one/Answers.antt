@@ -1,0 +1,5 @@
+use Rattle.msi_summary_properties.proofs.PropertiesLemmas as laws
+use Rattle.msi_summary_properties.proofs.laws.removing_changes_one.Goals as goal
+
+pub returns : goal.returns
+returns c = laws.removing_changes_one

@@ -1,0 +1,11 @@
+-- The words of this crate.
+pub mod Refusals
+pub mod Values
+pub mod Columns
+pub mod ValidValues
+pub mod CellValues
+pub mod Views
+pub mod CellOrder
+pub mod OrderLaws
+pub mod Fitting
+pub mod StoredValues

@@ -1,0 +1,18 @@
+//! Values and columns: the cells that stand for values, which values a column takes, and how its type is stored.
+#![tactic(auto)]
+
+pub mod column;
+mod columns;
+mod conversions;
+mod fitting;
+pub mod laws;
+pub mod parts;
+mod printing;
+mod reasons;
+mod texts;
+mod valid_values;
+pub mod value;
+mod views;
+
+pub use column::{Column, ColumnBuilder, ColumnType};
+pub use value::{Value, ValueRef};

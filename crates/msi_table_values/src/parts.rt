@@ -1,0 +1,134 @@
+//! What the crates above need beyond the surface.
+
+ghost use Rattle.std.specs.Prelude.{◌≡◌, ◌<◌, ◌≤◌, ◌↔◌, IfOk, IfErr, IsErr, Some, None, true};
+ghost use Rattle.msi_text_base.specs.Results.{OnlyMemory};
+ghost use Rattle.msi_text_base.specs.declared.errors.ErrorKind.TheVariants.{InvalidData};
+ghost use Rattle.msi_table_values.specs.Columns.{HasShortLength, bit_if as number_if, column_of_bits as column_in};
+ghost use Rattle.msi_table_values.specs.Columns.{has_bit as is_set, is_of_category_binary as is_binary};
+ghost use Rattle.msi_table_values.specs.Columns.{kind_bits as bits_of_kind, type_bits as bits_of};
+ghost use Rattle.msi_table_values.specs.Columns.{type_of_bits as type_in};
+
+use crate::column::{Column, ColumnBuilder, ColumnType};
+pub use crate::columns::{column_index, copied_columns, has_column};
+pub use crate::fitting::{MAX_ROWS, fits_table};
+use crate::reasons;
+pub use crate::texts::copied_list;
+pub use crate::views::{ValueView, compare_values};
+use msi_text::errors::{Error, ErrorKind};
+use msi_text::text::IntoText;
+use std::alloc::Global;
+
+/// The bits of a type without flags.
+fn kind_bits(coltype: ColumnType) -> u16
+    requires { HasShortLength coltype }
+    ensures value { result ≡ bits_of_kind coltype }
+    ensures small { result ≤ 0xDFF }
+{
+    match coltype {
+        ColumnType::Int16 => 0x502,
+        ColumnType::Int32 => 0x104,
+        ColumnType::Str(length) => 0xD00 + length as u16,
+        ColumnType::Binary => 0x900,
+    }
+}
+
+/// A number where a flag is set, else 0.
+fn bit_if(flag: bool, number: u16) -> u16
+    ensures { result ≡ number_if flag number }
+{
+    if flag { number } else { 0 }
+}
+
+/// Returns the bits of a column's type and flags (MSI SDK, "_Columns table"). The length of its texts has to be below
+/// 256.
+pub fn type_bits(column: &Column) -> u16
+    requires { HasShortLength column.now.coltype }
+    ensures { result ≡ bits_of column.now }
+{
+    kind_bits(column.coltype())
+        + bit_if(column.is_localizable(), 0x200)
+        + bit_if(column.is_nullable(), 0x1000)
+        + bit_if(column.is_primary_key(), 0x2000)
+}
+
+/// Whether bits have the one of a mask.
+fn has_bit(bits: u16, mask: u16) -> bool
+    requires { 0 < mask }
+    ensures { result ≡ is_set bits mask }
+{
+    bits / mask % 2 == 1
+}
+
+/// Returns the type that bits name (MSI SDK, "_Columns table"), whether or not a column could have been written with
+/// them.
+///
+/// # Errors
+/// Fails with `InvalidData` if they name none.
+fn type_of_bits(bits: u16) -> Result<ColumnType, Error>
+    ensures ok { IfOk result (λ coltype. type_in bits ≡ Some coltype) }
+    ensures refused { IsErr result ↔ (type_in bits ≡ None) }
+    ensures kind { IfErr result (λ kind. kind ≡ InvalidData) }
+{
+    if bits == 0x900 || bits == 0x1900 {
+        return Ok(ColumnType::Binary);
+    }
+    if has_bit(bits, 0x800) {
+        return Ok(ColumnType::Str((bits % 256) as usize));
+    }
+    let size = bits % 256;
+    if size == 4 {
+        return Ok(if has_bit(bits, 0x400) {
+            ColumnType::Binary
+        } else {
+            ColumnType::Int32
+        });
+    }
+    if size <= 2 {
+        return Ok(ColumnType::Int16);
+    }
+    Err(Error::new(ErrorKind::InvalidData, reasons::TYPE_BITS))
+}
+
+/// Ends a builder with the type and the flags that bits name: the column is nullable by them or as the builder left
+/// it.
+///
+/// # Errors
+/// Fails with `InvalidData` if they name no type.
+pub fn column_of_bits(builder: ColumnBuilder, bits: u16) -> Result<Column, Error>
+    ensures ok { IfOk result (λ column. column_in builder bits ≡ Some column) }
+    ensures refused { IsErr result ↔ (column_in builder bits ≡ None) }
+    ensures kind { IfErr result (λ kind. kind ≡ InvalidData) }
+{
+    let coltype = type_of_bits(bits)?;
+    Ok(builder.with_flags(
+        coltype,
+        has_bit(bits, 0x200),
+        has_bit(bits, 0x1000),
+        has_bit(bits, 0x2000),
+    ))
+}
+
+/// Returns a copy of a column under another name.
+///
+/// # Errors
+/// Fails with `OutOfMemory`.
+pub fn renamed<S: IntoText>(alloc: Global, column: &Column, name: S) -> Result<Column, Error>
+    ensures ok { IfOk result (λ renamed. renamed ≡ record column.now { name = S.text name }) }
+    ensures kind { OnlyMemory result }
+{
+    column.renamed(alloc, name.into_text(alloc)?)
+}
+
+/// Returns a column that takes null, and else is as it was.
+pub fn nullable(column: Column) -> Column
+    ensures { result ≡ record column { is_nullable = true } }
+{
+    column.nullable()
+}
+
+/// Returns whether the column's cells stand for streams, which have no order.
+pub fn is_of_category_binary(column: &Column) -> bool
+    ensures { result ≡ is_binary column.now.category }
+{
+    column.is_of_category_binary()
+}

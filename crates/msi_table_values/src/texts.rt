@@ -1,0 +1,38 @@
+//! Copies of texts.
+
+ghost use Rattle.std.specs.Prelude.{◌≡◌, IfOk, map};
+ghost use Rattle.msi_text_base.specs.Results.{OnlyMemory};
+
+use msi_text::errors::Error;
+use msi_text::text::{IntoText, Items, Text};
+use std::alloc::Global;
+
+/// Returns copies of the texts, in order.
+///
+/// # Errors
+/// Fails with `OutOfMemory`.
+pub fn copied_list(alloc: Global, texts: &[&str]) -> Result<Items<Text>, Error>
+    ensures ok { IfOk result (λ copies. copies ≡ map (λ text. text.now) texts.now) }
+    ensures kind { OnlyMemory result }
+{
+    let mut copies = Vec::new(alloc);
+    for text in texts {
+        copies.push((*text).into_text(alloc)?)?;
+    }
+    Ok(Items::from_vec(copies))
+}
+
+/// Returns copies of the texts, in order.
+///
+/// # Errors
+/// Fails with `OutOfMemory`.
+pub fn copied_texts(alloc: Global, texts: &[Text]) -> Result<Items<Text>, Error>
+    ensures ok { IfOk result (λ copies. copies ≡ texts.now) }
+    ensures kind { OnlyMemory result }
+{
+    let mut copies = Vec::new(alloc);
+    for text in texts {
+        copies.push(text.clone(alloc)?)?;
+    }
+    Ok(Items::from_vec(copies))
+}

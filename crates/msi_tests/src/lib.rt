@@ -1,0 +1,19 @@
+//! Tests of packages: opening, creating, querying, changing and writing them.
+#![tactic(auto)]
+
+#[cfg(test)]
+mod containers;
+#[cfg(test)]
+mod creating;
+#[cfg(test)]
+mod flushing;
+#[cfg(test)]
+mod looking;
+#[cfg(test)]
+mod readme;
+#[cfg(test)]
+mod samples;
+#[cfg(test)]
+mod steps;
+#[cfg(test)]
+mod tables;

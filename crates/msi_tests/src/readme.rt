@@ -1,0 +1,28 @@
+//! The library example of the README, to the letter, and a test that it works.
+
+use msi::{Column, Error, Insert, Memory, Package, PackageType, Select, Value};
+use std::alloc::Global;
+use std::test::Fail;
+
+/// The file of a package with a table of one row.
+fn numbers(alloc: Global) -> Result<Vec<u8>, Error> {
+    let device = Memory::from_vec(Vec::new(alloc));
+    let mut package = Package::create(alloc, PackageType::Installer, device)?;
+    let number = Column::build(alloc, "Number")?.primary_key().int16();
+    package.create_table("Numbers", vec![in alloc; number]?)?;
+    let row = vec![in alloc; Value::Int(1)]?;
+    package.insert_rows(Insert::into(alloc, "Numbers")?.row(row)?)?;
+    package.flush()?;
+    Ok(package.into_reader().into_vec())
+}
+
+#[test]
+fn the_example_makes_a_package_with_a_row(rt: HostRuntime) -> Result<(), Fail> {
+    let alloc = rt.alloc();
+    let package = Package::open(alloc, Memory::from_vec(numbers(alloc)?))?;
+    let count = package
+        .select_rows(Select::table(alloc, "Numbers")?)?
+        .count();
+    assert_eq!(rt; count, 1);
+    Ok(())
+}

@@ -1,0 +1,11 @@
+-- The lemmas of this crate.
+pub mod BoolLemmas
+pub mod OptionLemmas
+pub mod ResultLemmas
+pub mod ListLemmas
+pub mod ReadFieldLemmas
+pub mod PageTablesLemmas
+pub mod PagesLemmas
+pub mod ReadLemmas
+pub mod WriteLemmas
+pub mod NumberLemmas

@@ -1,0 +1,15 @@
+//! The lowest layer: errors, texts, numbers as bytes, and code pages, which every other crate uses.
+#![tactic(auto)]
+
+pub mod codepage;
+pub mod errors;
+mod faults;
+pub mod fields;
+pub mod laws;
+pub mod parts;
+pub mod reasons;
+pub mod text;
+
+pub use codepage::CodePage;
+pub use errors::{Error, ErrorKind, Reason};
+pub use text::{IntoText, Items, Text};

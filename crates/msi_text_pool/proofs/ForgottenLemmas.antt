@@ -1,0 +1,73 @@
+-- The texts of free places are lost: one after the other, where a test says so, and when the pool is written.
+use Rattle.std.proofs.Common.{◌≡◌, ℕ, zero, suc, ◌+◌, ◌<◌, ◌≤◌, Bool, true, false, cond, ◌&&◌, List, [], ◌∷◌, ◌++◌, length, map, get_or, set, take, drop, take_all, refl, sym, ap, ◌∙◌, arith, inl, inr}
+use Rattle.std.specs.List.{enumerate_from}
+use Rattle.std.proofs.lemmas.Bool.{cases_eq, eq-eqb, ne_eqb}
+use Rattle.std.proofs.lemmas.List.{append-nil, drop_all}
+use Rattle.msi_text_pool.specs.Pool.{Place, Pool, PlacesWritten, forgotten, without_unnamed_texts}
+use Rattle.msi_text_pool.specs.PoolLaws.{EmptyPlacesAreWritten, MarksStandForTests}
+
+-- the places when those before place i were gone through
+abbrev pub gone_through : List Bool → List Place → ℕ → List Place
+gone_through marks places i = without_unnamed_texts (take i marks) (take i places) ++ drop i places
+
+gone_through-suc : (marks : List Bool) (places : List Place) (i : ℕ) (m : Bool) (p : Place) → i < length marks → length marks ≡ length places
+    → set (gone_through marks places i) i (forgotten (get_or marks i m) (get_or (gone_through marks places i) i p)) ≡ gone_through marks places (suc i)
+gone_through-suc [] places i m p inside same = absurd (omega arith)
+gone_through-suc (n ∷ ns) [] i m p inside same = absurd (omega arith)
+gone_through-suc (n ∷ ns) (q ∷ qs) zero m p inside same = refl
+gone_through-suc (n ∷ ns) (q ∷ qs) (suc i) m p inside same =
+    ap (λ (ps : List Place). forgotten n q ∷ ps) (gone_through-suc ns qs i m p (omega arith) (omega arith))
+
+-- one place more
+pub gone_through-more : (marks : List Bool) (places now : List Place) (i : ℕ) (m : Bool) (old new : Place) → i < length marks → length marks ≡ length places
+    → now ≡ gone_through marks places i → old ≡ get_or now i old → new ≡ forgotten (get_or marks i m) old
+    → set now i new ≡ gone_through marks places (i + 1)
+gone_through-more marks places now i m old new inside same now_is old_is new_is =
+    let next : suc i ≡ i + 1 = omega arith in
+    ap (set now i) (new_is ∙ ap (forgotten (get_or marks i m)) old_is)
+    ∙ ap (λ (ps : List Place). set ps i (forgotten (get_or marks i m) (get_or ps i old))) now_is
+    ∙ gone_through-suc marks places i m old inside same
+    ∙ ap (gone_through marks places) next
+
+-- all of them
+pub gone_through-all : (marks : List Bool) (places : List Place) (i : ℕ) → length marks ≡ length places → length marks ≤ i
+    → gone_through marks places i ≡ without_unnamed_texts marks places
+gone_through-all marks places i same all =
+    rw (take_all i marks all, take_all i places (omega arith), drop_all i places (omega arith), append-nil) refl
+
+-- a place that is free has the empty text
+kept_empty : (p : Place) → (p.count ≡ 0 → p.text ≡ []) → forgotten false p ≡ p
+kept_empty p written =
+    let text : (forgotten false p).text ≡ p.text = elim (cases_eq p.count 0) [
+      | inl free ↦ ap (λ b. cond (b && true) [] p.text) (eq-eqb p.count 0 free) ∙ sym (written free)
+      | inr used ↦ ap (λ b. cond (b && true) [] p.text) (ne_eqb p.count 0 used)
+    ] in
+    let with_text : List ℕ → Place = λ t. record { text = t; count = p.count } in
+    ap with_text text
+
+all_empty : (places : List Place) → PlacesWritten places → map (forgotten false) places ≡ places
+all_empty [] written = refl
+all_empty (p ∷ ps) written =
+    ap (λ (q : Place). q ∷ map (forgotten false) ps) (kept_empty p written.0) ∙ ap (λ (qs : List Place). p ∷ qs) (all_empty ps written.1)
+
+pub empty_places : EmptyPlacesAreWritten
+empty_places pool written =
+    let with_places : List Place → Pool = λ ps. record { page = pool.page; long = pool.long; places = ps } in
+    ap with_places (all_empty pool.places written)
+
+marks_from : (marks : List Bool) (is_named : ℕ → Bool) (places : List Place) (k : ℕ) → length marks ≡ length places
+    → ((i : ℕ) → i < length marks → get_or marks i false ≡ is_named (k + i))
+    → without_unnamed_texts marks places ≡ map (λ e. forgotten (is_named e.0) e.1) (enumerate_from k places)
+marks_from [] is_named [] k same marks_are = refl
+marks_from [] is_named (p ∷ ps) k same marks_are = absurd (omega arith)
+marks_from (m ∷ ms) is_named [] k same marks_are = absurd (omega arith)
+marks_from (m ∷ ms) is_named (p ∷ ps) k same marks_are =
+    let here : k + 0 ≡ k = omega arith in
+    let first : m ≡ is_named k = marks_are 0 (omega arith) ∙ ap is_named here in
+    let others = marks_from ms is_named ps (k + 1) (omega arith) (λ i lt.
+    let next : k + suc i ≡ k + 1 + i = omega arith in marks_are (suc i) (omega arith) ∙ ap is_named next) in
+    ap (λ b. forgotten b p ∷ without_unnamed_texts ms ps) first ∙ ap (λ (ps : List Place). forgotten (is_named k) p ∷ ps) others
+
+pub marks_stand : MarksStandForTests
+marks_stand marks is_named places same marks_are =
+    marks_from marks is_named places 1 same (λ i lt. let next : i + 1 ≡ 1 + i = omega arith in marks_are i lt ∙ ap is_named next)

@@ -1,0 +1,90 @@
+-- What is written of the places of a pool.
+use Rattle.std.proofs.Common.{◌≡◌, ℕ, ◌^◌, ◌<◌, cond, true, false, List, [], ◌∷◌, ◌++◌, length, map, Option, Some, None, option_map, refl, sym, ap, ◌∙◌}
+use Rattle.std.specs.Prelude.{unwrap_or, option_and_then}
+use Rattle.std.specs.List.{flat_map}
+use Rattle.std.proofs.lemmas.Bool.{not-false, ltb-true, or_parts, eq-eqb}
+use Rattle.std.proofs.lemmas.List.Folds.{flat_map-map}
+use Rattle.msi_text_base.specs.declared.codepage.CodePage.{CodePage}
+use Rattle.msi_text_base.specs.Lists.{all_present}
+use Rattle.msi_text_base.specs.Pages.{bytes_in, page_id}
+use Rattle.msi_text_pool.specs.Pool.{Place, Pool, place_bytes, plain_entries, pool_stream, data_stream, header_of}
+use Rattle.msi_text_pool.specs.PoolWriting.{is_refused_spelling, has_refused_text, is_refused, piece_of, entry_in}
+
+-- bytes that can be told are there
+pub some_told : (o : Option (List ℕ)) → is_refused_spelling o ≡ false → o ≡ Some (unwrap_or o [])
+some_told None told = cc
+some_told (Some bytes) told = refl
+
+-- and what has no length can't be told
+pub none_refused : (o : Option (List ℕ)) → None ≡ option_map length o → true ≡ is_refused_spelling o
+none_refused None none = refl
+none_refused (Some bytes) none = cc
+
+-- and not too many
+pub told_few : (o : Option (List ℕ)) → is_refused_spelling o ≡ false → length (unwrap_or o []) < 2 ^ 32
+told_few None told = cc
+told_few (Some bytes) told = ltb-true (length bytes) (2 ^ 32) (not-false _ told)
+
+-- a free place has no bytes
+pub free_piece : (page : CodePage) (p : Place) → p.count ≡ 0 → piece_of page p ≡ []
+free_piece page p free = ap (λ b. unwrap_or (cond b (Some []) (bytes_in page p.text)) []) (eq-eqb p.count 0 free)
+
+pub pieces_told : (page : CodePage) (places : List Place) → has_refused_text page places ≡ false → all_present (map (place_bytes page) places) ≡ Some (map (piece_of page) places)
+pieces_told page [] told = refl
+pieces_told page (p ∷ ps) told =
+    let parts = or_parts (is_refused_spelling (place_bytes page p)) (has_refused_text page ps) told in
+    ap (option_and_then (λ x. option_map (λ xs. x ∷ xs) (all_present (map (place_bytes page) ps)))) (some_told (place_bytes page p) (parts.0))
+    ∙ ap (option_map (λ xs. piece_of page p ∷ xs)) (pieces_told page ps (parts.1))
+
+pub entries_told : (page : CodePage) (places : List Place) → plain_entries places (map (piece_of page) places) ≡ flat_map (entry_in page) places
+entries_told page [] = refl
+entries_told page (p ∷ ps) = ap (λ bytes. entry_in page p ++ bytes) (entries_told page ps)
+
+-- the streams of a pool that isn't refused
+pub pool_stream_told : (pool : Pool) → is_refused pool ≡ false → pool_stream pool ≡ Some (header_of (page_id pool.page) pool.long ++ flat_map (entry_in pool.page) pool.places)
+pool_stream_told pool told =
+    let header = header_of (page_id pool.page) pool.long in
+    ap (option_map (λ pieces. header ++ plain_entries pool.places pieces)) (pieces_told pool.page pool.places told)
+    ∙ ap (λ bytes. Some (header ++ bytes)) (entries_told pool.page pool.places)
+
+pub data_stream_told : (pool : Pool) → is_refused pool ≡ false → data_stream pool ≡ Some (flat_map (piece_of pool.page) pool.places)
+data_stream_told pool told =
+    ap (option_map (flat_map (λ piece. piece))) (pieces_told pool.page pool.places told)
+    ∙ ap Some (flat_map-map (λ piece. piece) (piece_of pool.page) pool.places)
+
+-- the pool of a page and places of which none is refused
+pub not_refused : (pool : Pool) (page : CodePage) (places : List Place) → page ≡ pool.page → places ≡ pool.places
+    → has_refused_text page places ≡ false → is_refused pool ≡ false
+not_refused pool page places page_is places_is told =
+    ap (λ p. has_refused_text p pool.places) (sym page_is) ∙ ap (has_refused_text page) (sym places_is) ∙ told
+
+-- bytes that were written of such a pool
+pub pool_written : (pool : Pool) (page : CodePage) (places : List Place) (header held : List ℕ)
+    → page ≡ pool.page
+    → places ≡ pool.places
+    → has_refused_text page places ≡ false
+    → header ≡ header_of (page_id pool.page) pool.long
+    → held ≡ header ++ flat_map (entry_in page) places
+    → pool_stream pool ≡ Some held
+pool_written pool page places header held page_is places_is told header_is held_is =
+    let told_here = not_refused pool page places page_is places_is told in
+    pool_stream_told pool told_here
+    ∙ ap Some (sym (held_is
+    ∙ ap (λ bytes. bytes ++ flat_map (entry_in page) places) header_is
+    ∙ ap (λ p. header_of (page_id pool.page) pool.long ++ flat_map (entry_in p) places) page_is
+    ∙ ap (λ ps. header_of (page_id pool.page) pool.long ++ flat_map (entry_in pool.page) ps) places_is))
+
+pub data_written : (pool : Pool) (page : CodePage) (places : List Place) (start held : List ℕ)
+    → page ≡ pool.page
+    → places ≡ pool.places
+    → has_refused_text page places ≡ false
+    → start ≡ []
+    → held ≡ start ++ flat_map (piece_of page) places
+    → data_stream pool ≡ Some held
+data_written pool page places start held page_is places_is told start_is held_is =
+    let told_here = not_refused pool page places page_is places_is told in
+    data_stream_told pool told_here
+    ∙ ap Some (sym (held_is
+    ∙ ap (λ bytes. bytes ++ flat_map (piece_of page) places) start_is
+    ∙ ap (λ p. flat_map (piece_of p) places) page_is
+    ∙ ap (flat_map (piece_of pool.page)) places_is))

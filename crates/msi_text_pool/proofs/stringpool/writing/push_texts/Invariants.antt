@@ -1,0 +1,7 @@
+use Rattle.std.proofs.Common.{◌≡◌, ◌++◌, take}
+use Rattle.std.specs.List.{flat_map}
+use Rattle.msi_text_pool.specs.PoolWriting.{piece_of}
+use Rattle.msi_text_pool.proofs.stringpool.writing.push_texts.Given as goal
+
+abbrev pub invariant-loop-place : goal.invariant-loop-place
+invariant-loop-place l = l.held.items ≡ l.fn.held.items ++ flat_map (piece_of l.page) (take l.place-index l.places)

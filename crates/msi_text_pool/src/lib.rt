@@ -1,0 +1,9 @@
+//! The string pool, the texts that cells of a database refer to: reads and writes its streams, and counts references.
+#![tactic(auto)]
+
+pub mod laws;
+pub mod parts;
+pub mod reasons;
+pub mod stringpool;
+
+pub use stringpool::{StringPool, StringPoolBuilder, StringRef};

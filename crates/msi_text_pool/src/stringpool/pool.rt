@@ -1,0 +1,211 @@
+//! The string pool.
+
+ghost use Rattle.std.specs.Prelude.{◌≡◌, IfOk, IfErr, OnOk, OnErr, Some, is_some, if◌then◌else◌, [], false, length};
+ghost use Rattle.std.specs.Prelude.{string_bytes, ◌≤◌, vec_len};
+ghost use Rattle.std.specs.Option.{option_copied};
+ghost use Rattle.msi_text_pool.specs.Pool.{CountsFit, without_unnamed_texts};
+ghost use Rattle.msi_text_pool.specs.FirstFit.{taken, given_back};
+ghost use Rattle.msi_text_pool.specs.FirstFitLaws.{Holds, place_at, text_at, count_at};
+ghost use Rattle.msi_text_base.specs.Results.{OnlyMemory};
+ghost use Rattle.msi_text_base.specs.declared.errors.ErrorKind.TheVariants.{InvalidData, InvalidInput, OutOfMemory};
+
+use crate::stringpool::indexed::IndexedPlaces;
+use crate::stringpool::places::Place;
+use crate::stringpool::reference::StringRef;
+use msi_text_base::codepage::CodePage;
+use msi_text_base::errors::Error;
+use std::alloc::Global;
+use std::marker::Model;
+
+/// The bit above the page's id that says that references are long.
+pub(crate) const LONG: u32 = 1 << 31;
+
+/// The string pool: texts by number. Contracts see its page, whether references are long, and its places.
+#[derive(Drop)]
+pub struct StringPool {
+    codepage: CodePage,
+    long: bool,
+    indexed: IndexedPlaces,
+}
+
+impl Model for StringPool {
+    ghost use Rattle.msi_text_pool.specs.Pool.{Pool, CountsFit};
+    ghost use Rattle.msi_text_pool.specs.Indexing.{IsKept};
+
+    ghost Value = { Pool };
+
+    ghost view = { λ p. record { page = p.codepage; long = p.long; places = p.indexed.places } };
+
+    ghost invariant = { λ p. IsKept p.indexed };
+}
+
+impl StringPool {
+    /// Returns an empty pool of a page, with short references.
+    pub fn new(alloc: Global, page: CodePage) -> StringPool
+        ensures { result ≡ record { page = page; long = false; places = [] } }
+    {
+        StringPool {
+            codepage: page,
+            long: false,
+            indexed: IndexedPlaces::new(alloc),
+        }
+    }
+
+    /// A pool of its parts, with indexes made of its places. The only error is `OutOfMemory`.
+    pub(crate) fn from_parts(
+        codepage: CodePage,
+        long: bool,
+        places: Vec<Place>,
+    ) -> Result<StringPool, Error>
+        requires most { vec_len places ≤ 16777215 }
+        requires counts { CountsFit places.items }
+        ensures ok { IfOk result (λ pool. pool ≡ record { page = codepage; long = long; places = places.items }) }
+        ensures kind { OnlyMemory result }
+    {
+        Ok(StringPool {
+            codepage,
+            long,
+            indexed: IndexedPlaces::from_places(places)?,
+        })
+    }
+
+    /// Returns the code page of the texts.
+    pub fn codepage(&self) -> CodePage
+        ensures { result ≡ self.now.page }
+    {
+        self.codepage
+    }
+
+    /// Sets the page.
+    pub fn set_codepage(&mut self, page: CodePage)
+        ensures { self.new ≡ record self.old { page = page } }
+    {
+        self.codepage = page;
+    }
+
+    /// Returns whether references have three bytes; otherwise they have two.
+    pub fn long_string_refs(&self) -> bool
+        ensures { result ≡ self.now.long }
+    {
+        self.long
+    }
+
+    /// Returns the number of places, free ones included: at most 16777215. At most 65535 cells refer to each.
+    pub fn num_strings(&self) -> u32
+        ensures many { result ≡ length self.now.places }
+        ensures most { result ≤ 16777215 }
+        ensures counts { CountsFit self.now.places }
+    {
+        self.indexed.len() as u32
+    }
+
+    /// The place of a reference, unless that leads past the end.
+    fn place_of(&self, reference: StringRef) -> Option<&Place>
+        ensures { option_copied result ≡ place_at self.now.places reference }
+    {
+        self.places().get(reference.to_number() as usize - 1)
+    }
+
+    /// Returns the text of a place, which is empty past the end.
+    pub fn get(&self, reference: StringRef) -> &str
+        ensures { result.now ≡ text_at self.now.places reference }
+    {
+        match self.place_of(reference) {
+            Some(place) => place.text(),
+            None => "",
+        }
+    }
+
+    /// Returns how many cells refer to a place: 0 past the end.
+    pub fn refcount(&self, reference: StringRef) -> u16
+        ensures { result ≡ count_at self.now.places reference }
+    {
+        match self.place_of(reference) {
+            Some(place) => place.count(),
+            None => 0,
+        }
+    }
+
+    /// Returns a copy of the pool.
+    ///
+    /// # Errors
+    /// Fails with `OutOfMemory`.
+    pub fn clone(&self) -> Result<StringPool, Error>
+        ensures ok { IfOk result (λ pool. pool ≡ self.now) }
+        ensures kind { OnlyMemory result }
+    {
+        Ok(StringPool {
+            codepage: self.codepage,
+            long: self.long,
+            indexed: self.indexed.clone()?,
+        })
+    }
+
+    /// The places, from number 1 on.
+    pub(crate) fn places(&self) -> &[Place]
+        ensures places { result.now ≡ self.now.places }
+        ensures most { length self.now.places ≤ 16777215 }
+        ensures counts { CountsFit self.now.places }
+    {
+        self.indexed.as_slice()
+    }
+
+    /// The allocator that the pool keeps.
+    pub(crate) fn allocator(&self) -> Global {
+        self.indexed.allocator()
+    }
+
+    /// Returns how many operations the last `incref` or `decref` made on the places and their indexes, also if it
+    /// failed: at most 8. It is 0 before the first, and in a clone. Equal pools may differ in it.
+    pub fn operations(&self) -> u32
+        ensures { result ≤ 8 }
+    {
+        self.indexed.operations()
+    }
+
+    /// Stores a text and returns its place: the first that is free, or that has the text and fewer than 65535 cells,
+    /// or else a new one.
+    ///
+    /// # Errors
+    /// Fails with `InvalidInput` if the pool is full, and otherwise with `OutOfMemory`. Then the pool is as it was,
+    /// and the text is dropped.
+    pub fn incref(&mut self, text: String) -> Result<StringRef, Error>
+        ensures ok { IfOk result (λ number.
+            taken self.old.long self.old.places (string_bytes text) ≡ Some (number, self.new.places)) }
+        ensures holds { IfOk result (λ number. Holds self.new.places number (string_bytes text)) }
+        ensures kind { let room = is_some (taken self.old.long self.old.places (string_bytes text)) in
+            IfErr result (λ kind. kind ≡ (if room then OutOfMemory else InvalidInput)) }
+        ensures err { OnErr result (self.new ≡ self.old) }
+        ensures page { self.new.page ≡ self.old.page }
+        ensures long { self.new.long ≡ self.old.long }
+    {
+        let at = self.indexed.take(text, self.long)?;
+        Ok(StringRef::from_number(at + 1))
+    }
+
+    /// Gives a place back: one cell less refers to it. The text is dropped with the last.
+    ///
+    /// # Errors
+    /// Fails with `InvalidData` past the end and for a free place, and otherwise with `OutOfMemory`. Then the pool is
+    /// as it was.
+    pub fn decref(&mut self, reference: StringRef) -> Result<(), Error>
+        ensures ok { OnOk result (given_back self.old.places reference ≡ Some self.new.places) }
+        ensures err { OnErr result (self.new ≡ self.old) }
+        ensures kind { let used = is_some (given_back self.old.places reference) in
+            IfErr result (λ kind. kind ≡ (if used then OutOfMemory else InvalidData)) }
+        ensures page { self.new.page ≡ self.old.page }
+        ensures long { self.new.long ≡ self.old.long }
+        ensures many { length self.new.places ≡ length self.old.places }
+    {
+        self.indexed.give_back(reference.to_number())
+    }
+
+    /// Empties the text of each place that is free and isn't named: `is_named` says which are, from number 1 on. All
+    /// else stays. It takes no memory.
+    pub fn forget_texts(&mut self, is_named: &[bool])
+        requires { length is_named.now ≡ length self.old.places }
+        ensures { self.new ≡ record self.old { places = without_unnamed_texts is_named.now self.old.places } }
+    {
+        self.indexed.forget_texts(is_named);
+    }
+}

@@ -1,0 +1,253 @@
+//! Reading the pool's two streams.
+
+ghost use Rattle.std.specs.Prelude.{◌≡◌, ◌⊎◌, ◌<◌, ◌^◌, List, IfOk, IfErr, IfSome, Some};
+ghost use Rattle.msi_text_base.specs.declared.errors.ErrorKind.TheVariants.{Io, InvalidData, OutOfMemory};
+ghost use Rattle.msi_text_base.specs.Pages.{page_with_id, text_in};
+ghost use Rattle.msi_text_pool.specs.Pool as pools;
+ghost use Rattle.msi_text_pool.specs.Pool.{CountsFit, IsPoolStream, PoolStream, SpellsEntries, SpellsTexts, pool_with};
+ghost use Rattle.msi_text_pool.specs.PoolReading.{entry_at, place_in_front, header_in};
+ghost use Rattle.msi_text_base.specs.Results.{Gives, IsStreamFault, IsUnlessFault, IsUnlessMemory};
+
+use crate::reasons;
+use crate::stringpool::MAX_PLACES;
+use crate::stringpool::places::Place;
+use crate::stringpool::pool::{LONG, StringPool};
+use crate::stringpool::shared::SharedText;
+use msi_text_base::codepage::CodePage;
+use msi_text_base::errors::{Error, ErrorKind};
+use msi_text_base::fields::{u16_at, u32_at};
+use std::alloc::Global;
+use std::io::Read;
+use std::marker::Model;
+
+/// An entry of the pool's stream: how many bytes its text has in the data stream, and its count.
+#[derive(Drop)]
+pub(crate) struct Entry {
+    len: u32,
+    count: u16,
+}
+
+impl Model for Entry {
+    ghost use Rattle.msi_text_pool.specs.Pool as pools;
+
+    ghost Value = { pools.Entry };
+
+    ghost view = { λ e. record { len = e.len; count = e.count } };
+}
+
+/// What the pool's stream says: the page, whether references are long, and the entries.
+#[derive(Drop)]
+pub struct StringPoolBuilder {
+    codepage: CodePage,
+    long: bool,
+    entries: Vec<Entry>,
+}
+
+impl Model for StringPoolBuilder {
+    ghost use Rattle.msi_text_pool.specs.Pool.{PoolStream};
+    ghost use Rattle.std.specs.Prelude.{◌≤◌, vec_len};
+
+    ghost Value = { PoolStream };
+
+    ghost view = { λ b. record { page = b.codepage; long = b.long; entries = b.entries.items } };
+
+    ghost invariant = { λ b. vec_len b.entries ≤ 16777215 };
+}
+
+impl StringPoolBuilder {
+    /// Returns what the pool's stream (`_StringPool`) says. It reads all that the reader has left.
+    ///
+    /// # Errors
+    /// Fails with `InvalidData` if the bytes encode no pool: an entry is cut, no page has the id, or there are more
+    /// than 16777215 places. Fails with `OutOfMemory`, or with `Io` if the reader fails.
+    pub fn read_from_pool<R: Read + Drop>(
+        alloc: Global,
+        reader: R,
+    ) -> Result<StringPoolBuilder, Error>
+        // What is read is spelled.
+        ensures found { IfSome (R.remaining reader) (λ bytes. IfOk result (λ stream. IsPoolStream bytes stream)) }
+        // What is spelled is read, and nothing else.
+        ensures only { IfSome (R.remaining reader) (λ bytes.
+            (stream : PoolStream) → IsPoolStream bytes stream → IsUnlessFault result stream) }
+        ensures kinds { IfErr result (λ kind. IsStreamFault kind) }
+    {
+        let bytes = bytes_of(alloc, reader)?;
+        pool_builder_of(alloc, bytes.as_slice())
+    }
+
+    /// Returns the pool whose texts stand in the data stream (`_StringData`), in order; bytes past the last are
+    /// ignored.
+    ///
+    /// # Errors
+    /// Fails with `InvalidData` if the bytes end before a text does, or the page can't read a text. Fails with
+    /// `OutOfMemory`, or with `Io` if the reader fails.
+    pub fn build_from_data<R: Read + Drop>(
+        self,
+        alloc: Global,
+        reader: R,
+    ) -> Result<StringPool, Error>
+        // The pool has the texts that are spelled.
+        ensures found { IfSome (R.remaining reader) (λ bytes. IfOk result (λ pool.
+            (pool ≡ pool_with self pool.places) × SpellsTexts self.page bytes self.entries pool.places)) }
+        // Texts that are spelled are read, and nothing else.
+        ensures only { IfSome (R.remaining reader) (λ bytes. (places : List pools.Place)
+            → SpellsTexts self.page bytes self.entries places → IsUnlessFault result (pool_with self places)) }
+        ensures kinds { IfErr result (λ kind. IsStreamFault kind) }
+    {
+        let bytes = bytes_of(alloc, reader)?;
+        pool_of(alloc, self, bytes.as_slice())
+    }
+}
+
+/// All that a reader has left.
+fn bytes_of<R: Read + Drop>(alloc: Global, mut reader: R) -> Result<Vec<u8>, Error>
+    ensures ok { IfSome (R.remaining reader) (λ bytes. IfOk result (λ all. all.items ≡ bytes)) }
+    ensures kinds { IfErr result (λ kind. (kind ≡ Io) ⊎ (kind ≡ OutOfMemory)) }
+{
+    let mut bytes = Vec::new(alloc);
+    reader.read_to_end(&mut bytes)?;
+    Ok(bytes)
+}
+
+/// Returns what the bytes of the pool's stream (`_StringPool`) say, as `StringPoolBuilder::read_from_pool` reads
+/// them.
+///
+/// # Errors
+/// Fails with `InvalidData` if the bytes encode no pool, and otherwise with `OutOfMemory`.
+pub fn pool_builder_of(alloc: Global, bytes: &[u8]) -> Result<StringPoolBuilder, Error>
+    ensures found { IfOk result (λ stream. IsPoolStream bytes.now stream) }
+    ensures only { (stream : PoolStream) → IsPoolStream bytes.now stream → IsUnlessMemory result stream }
+    ensures kinds { IfErr result (λ kind. (kind ≡ InvalidData) ⊎ (kind ≡ OutOfMemory)) }
+{
+    let (header, rest) = u32_at(bytes, reasons::POOL_CUT)?;
+    let (codepage, long) = page_of(header)?;
+    let entries = entries_of(alloc, rest)?;
+    if entries.len() > MAX_PLACES {
+        return Err(Error::new(ErrorKind::InvalidData, reasons::POOL_PLACES));
+    }
+    Ok(StringPoolBuilder {
+        codepage,
+        long,
+        entries,
+    })
+}
+
+/// Returns the pool whose texts the bytes of the data stream (`_StringData`) encode, as
+/// `StringPoolBuilder::build_from_data` reads them.
+///
+/// # Errors
+/// Fails with `InvalidData` if the bytes end before a text does, or the page can't read a text, and otherwise with
+/// `OutOfMemory`.
+pub fn pool_of(alloc: Global, stream: StringPoolBuilder, bytes: &[u8]) -> Result<StringPool, Error>
+    ensures found { IfOk result (λ pool.
+        (pool ≡ pool_with stream pool.places) × SpellsTexts stream.page bytes.now stream.entries pool.places) }
+    ensures only { (places : List pools.Place)
+        → SpellsTexts stream.page bytes.now stream.entries places → IsUnlessMemory result (pool_with stream places) }
+    ensures kinds { IfErr result (λ kind. (kind ≡ InvalidData) ⊎ (kind ≡ OutOfMemory)) }
+{
+    let places = places_of(alloc, stream.codepage, stream.entries.as_slice(), bytes)?;
+    StringPool::from_parts(stream.codepage, stream.long, places)
+}
+
+/// The page of a header, and whether references are long.
+fn page_of(header: u32) -> Result<(CodePage, bool), Error>
+    ensures { Gives (λ x. x) result (header_in header) }
+{
+    if header < LONG {
+        return Ok((known_page(header)?, false));
+    }
+    Ok((known_page(header - LONG)?, true))
+}
+
+/// The page of an id.
+fn known_page(id: u32) -> Result<CodePage, Error>
+    requires { id < 2 ^ 31 }
+    ensures { Gives (λ page. page) result (page_with_id id) }
+{
+    match CodePage::from_id(id as i32) {
+        Some(codepage) => Ok(codepage),
+        None => Err(Error::new(ErrorKind::InvalidData, reasons::POOL_PAGE)),
+    }
+}
+
+/// The entries that the bytes encode. Each is stored only once its bytes are there.
+fn entries_of(alloc: Global, bytes: &[u8]) -> Result<Vec<Entry>, Error>
+    ensures found { IfOk result (λ entries. SpellsEntries bytes.now entries.items) }
+    ensures only { (entries : List pools.Entry)
+        → SpellsEntries bytes.now entries → Gives (λ v. v.items) result (Some entries) }
+    ensures kinds { IfErr result (λ kind. (kind ≡ InvalidData) ⊎ (kind ≡ OutOfMemory)) }
+{
+    let mut entries = Vec::new(alloc);
+    let mut rest = bytes;
+    while rest.len() >= 2 {
+        let (entry, after) = entry_of(rest)?;
+        entries.push(entry)?;
+        rest = after;
+    }
+    Ok(entries)
+}
+
+/// The entry in front, and the bytes after it.
+#[tactic(auto, unfolding(crate::specs::PoolReading::entry_at))]
+fn entry_of(bytes: &[u8]) -> Result<(Entry, &[u8]), Error>
+    ensures { Gives (λ x. (x.0, x.1.now)) result (entry_at bytes.now) }
+{
+    let (short, rest) = u16_at(bytes, reasons::POOL_CUT)?;
+    let (count, rest) = u16_at(rest, reasons::POOL_CUT)?;
+    if short > 0 || count == 0 {
+        let len = short as u32;
+        return Ok((Entry { len, count }, rest));
+    }
+    let (len, rest) = u32_at(rest, reasons::POOL_CUT)?;
+    Ok((Entry { len, count }, rest))
+}
+
+/// The places whose texts the bytes encode.
+fn places_of(
+    alloc: Global,
+    codepage: CodePage,
+    entries: &[Entry],
+    bytes: &[u8],
+) -> Result<Vec<Place>, Error>
+    ensures found { IfOk result (λ places. SpellsTexts codepage bytes.now entries.now places.items) }
+    ensures counts { IfOk result (λ places. CountsFit places.items) }
+    ensures only { (places : List pools.Place)
+        → SpellsTexts codepage bytes.now entries.now places → Gives (λ v. v.items) result (Some places) }
+    ensures kinds { IfErr result (λ kind. (kind ≡ InvalidData) ⊎ (kind ≡ OutOfMemory)) }
+{
+    let mut places = Vec::new(alloc);
+    let mut rest = bytes;
+    for entry in entries {
+        let (place, after) = place_of(alloc, codepage, entry, rest)?;
+        places.push(place)?;
+        rest = after;
+    }
+    Ok(places)
+}
+
+/// The place whose text stands in front, and the bytes after it. Nothing is asked for a text that is not there.
+fn place_of<'a>(
+    alloc: Global,
+    codepage: CodePage,
+    entry: &Entry,
+    bytes: &'a [u8],
+) -> Result<(Place, &'a [u8]), Error>
+    ensures gives { Gives (λ x. (x.0, x.1.now)) result (place_in_front codepage entry.now bytes.now) }
+    ensures count { IfOk result (λ x. x.0.count < 2 ^ 16) }
+{
+    let len = entry.len as usize;
+    if bytes.len() < len {
+        return Err(Error::new(ErrorKind::InvalidData, reasons::POOL_DATA));
+    }
+    let (piece, rest) = bytes.split_at(len);
+    let text = text_of(alloc, codepage, piece)?;
+    Ok((Place::new(text, entry.count), rest))
+}
+
+/// The text that the bytes read as.
+fn text_of(alloc: Global, codepage: CodePage, bytes: &[u8]) -> Result<SharedText, Error>
+    ensures { Gives (λ text. text) result (text_in codepage bytes.now) }
+{
+    let text = codepage.decode(alloc, bytes)?;
+    SharedText::from_string(text).into_shared()
+}

@@ -1,0 +1,217 @@
+//! Writing the pool's two streams.
+
+ghost use Rattle.std.specs.Prelude.{◌≡◌, ℕ, ◌+◌, ◌<◌, ◌^◌, ◌⊎◌, ◌↔◌, ◌++◌, List, [], IsTrue, false, length, OnErr};
+ghost use Rattle.std.specs.Prelude.{OnOk, IfOk, IfErr, IsErrOf, Some, option_map, unwrap_or, is_some, if◌then◌else◌};
+ghost use Rattle.std.specs.List.{flat_map};
+ghost use Rattle.std.specs.Io.KnownBytes.{Appends};
+ghost use Rattle.msi_text_base.specs.Faults.{AppendsPart};
+ghost use Rattle.msi_text_base.specs.Pages.{page_id};
+ghost use Rattle.msi_text_pool.specs.Pool.{place_bytes, plain_entry, pool_stream, data_stream};
+ghost use Rattle.msi_text_pool.specs.PoolLaws.{ReadsBack};
+ghost use Rattle.msi_text_pool.specs.PoolWriting.{is_refused_spelling, has_refused_text, is_refused, piece_of};
+ghost use Rattle.msi_text_pool.specs.PoolWriting.{entry_in};
+ghost use Rattle.msi_text_base.specs.Results.{OnlyMemory};
+ghost use Rattle.msi_text_base.specs.declared.errors.ErrorKind.TheVariants.{InvalidInput, Io, OutOfMemory};
+
+use crate::reasons;
+use crate::stringpool::places::Place;
+use crate::stringpool::pool::{LONG, StringPool};
+use msi_text_base::codepage::CodePage;
+use msi_text_base::errors::{Error, ErrorKind, Reason};
+use msi_text_base::fields::{push_u16, push_u32};
+use msi_text_base::parts::{encoded_len, write_fully};
+use msi_text_base::reasons::PAGE_CHARACTER;
+use std::alloc::AllocError;
+use std::io::Write;
+
+/// From how many bytes on a text has a long entry.
+const SHORT_END: u32 = 65536;
+
+/// From how many bytes on a text isn't written.
+const LONG_END: usize = 1 << 32;
+
+impl StringPool {
+    /// Writes the stream of the entries (`_StringPool`) in its plain encoding, behind what the writer has.
+    ///
+    /// # Errors
+    /// Fails with `InvalidInput` if the page can't encode a text in use, or if its encoding has 2^32 bytes or more;
+    /// nothing is written then. Fails with `OutOfMemory`, or with `Io` if the writer fails. It may then have taken a
+    /// prefix of the bytes.
+    pub fn write_pool<W: Write>(&self, writer: &mut W) -> Result<(), Error>
+        ensures ok { OnOk result ((bytes : List ℕ) × (pool_stream self.now ≡ Some bytes)
+            × Appends (W.contents writer.old) (W.contents writer.new) bytes) }
+        ensures spelled { OnOk result (ReadsBack self.now) }
+        ensures refused { IsErrOf result InvalidInput ↔ IsTrue (is_refused self.now) }
+        ensures unwritten { IsErrOf result InvalidInput → writer.new ≡ writer.old }
+        ensures part { OnErr result
+            (AppendsPart (W.contents writer.old) (W.contents writer.new) (unwrap_or (pool_stream self.now) [])) }
+        ensures kinds { IfErr result (λ kind. (kind ≡ InvalidInput) ⊎ (kind ≡ OutOfMemory) ⊎ (kind ≡ Io)) }
+    {
+        let bytes = pool_stream_of(self)?;
+        write_fully(writer, bytes.as_slice())
+    }
+
+    /// Writes the stream of the texts (`_StringData`), behind what the writer has.
+    ///
+    /// # Errors
+    /// Fails with `InvalidInput` if the page can't encode a text in use, or if its encoding has 2^32 bytes or more;
+    /// nothing is written then. Fails with `OutOfMemory`, or with `Io` if the writer fails. It may then have taken a
+    /// prefix of the bytes.
+    pub fn write_data<W: Write>(&self, writer: &mut W) -> Result<(), Error>
+        ensures ok { OnOk result ((bytes : List ℕ) × (data_stream self.now ≡ Some bytes)
+            × Appends (W.contents writer.old) (W.contents writer.new) bytes) }
+        ensures spelled { OnOk result (ReadsBack self.now) }
+        ensures refused { IsErrOf result InvalidInput ↔ IsTrue (is_refused self.now) }
+        ensures unwritten { IsErrOf result InvalidInput → writer.new ≡ writer.old }
+        ensures part { OnErr result
+            (AppendsPart (W.contents writer.old) (W.contents writer.new) (unwrap_or (data_stream self.now) [])) }
+        ensures kinds { IfErr result (λ kind. (kind ≡ InvalidInput) ⊎ (kind ≡ OutOfMemory) ⊎ (kind ≡ Io)) }
+    {
+        let bytes = data_stream_of(self)?;
+        write_fully(writer, bytes.as_slice())
+    }
+}
+
+/// Returns the stream of the entries (`_StringPool`) in its plain encoding.
+///
+/// # Errors
+/// Fails with `InvalidInput` if the page can't encode a text in use, or if its encoding has 2^32 bytes or more.
+/// Otherwise it fails with `OutOfMemory`.
+pub fn pool_stream_of(pool: &StringPool) -> Result<Vec<u8>, Error>
+    ensures ok { IfOk result (λ bytes. pool_stream pool.now ≡ Some bytes.items) }
+    ensures spelled { OnOk result (ReadsBack pool.now) }
+    ensures refused { IsErrOf result InvalidInput ↔ IsTrue (is_refused pool.now) }
+    ensures kinds { IfErr result (λ kind. (kind ≡ InvalidInput) ⊎ (kind ≡ OutOfMemory)) }
+{
+    let page = pool.codepage();
+    let places = pool.places();
+    if let Some(reason) = refusal(page, places) {
+        return Err(Error::new(ErrorKind::InvalidInput, reason));
+    }
+    let mut held = Vec::new(pool.allocator());
+    push_u32(&mut held, header(page, pool.long_string_refs()))?;
+    push_entries(&mut held, page, places)?;
+    Ok(held)
+}
+
+/// Returns the stream of the texts (`_StringData`).
+///
+/// # Errors
+/// Fails with `InvalidInput` if the page can't encode a text in use, or if its encoding has 2^32 bytes or more.
+/// Otherwise it fails with `OutOfMemory`.
+pub fn data_stream_of(pool: &StringPool) -> Result<Vec<u8>, Error>
+    ensures ok { IfOk result (λ bytes. data_stream pool.now ≡ Some bytes.items) }
+    ensures spelled { OnOk result (ReadsBack pool.now) }
+    ensures refused { IsErrOf result InvalidInput ↔ IsTrue (is_refused pool.now) }
+    ensures kinds { IfErr result (λ kind. (kind ≡ InvalidInput) ⊎ (kind ≡ OutOfMemory)) }
+{
+    let page = pool.codepage();
+    let places = pool.places();
+    if let Some(reason) = refusal(page, places) {
+        return Err(Error::new(ErrorKind::InvalidInput, reason));
+    }
+    let mut held = Vec::new(pool.allocator());
+    push_texts(&mut held, page, places)?;
+    Ok(held)
+}
+
+/// The page's id, with the bit for long references.
+fn header(page: CodePage, long: bool) -> u32
+    ensures { result ≡ page_id page + (if long then 2 ^ 31 else 0) }
+{
+    let id = page.id() as u32;
+    if long { id + LONG } else { id }
+}
+
+/// Why one of the places can't be written.
+fn refusal(page: CodePage, places: &[Place]) -> Option<Reason>
+    ensures { is_some result ≡ has_refused_text page places.now }
+{
+    for place in places {
+        let reason = place_refusal(page, place);
+        if reason.is_some() {
+            return reason;
+        }
+    }
+    None
+}
+
+/// Why a place can't be written.
+fn place_refusal(page: CodePage, place: &Place) -> Option<Reason>
+    ensures { is_some result ≡ is_refused_spelling (place_bytes page place.now) }
+{
+    match place_len(page, place) {
+        None => Some(PAGE_CHARACTER),
+        Some(len) if len < LONG_END => None,
+        Some(_) => Some(reasons::TEXT_LONG),
+    }
+}
+
+/// How many bytes a place has in the data stream, where the page carries its text.
+fn place_len(page: CodePage, place: &Place) -> Option<usize>
+    ensures { result ≡ option_map length (place_bytes page place.now) }
+{
+    if place.count() == 0 {
+        return Some(0);
+    }
+    encoded_len(page, place.text())
+}
+
+/// Adds the entries of the places.
+fn push_entries(held: &mut Vec<u8>, page: CodePage, places: &[Place]) -> Result<(), AllocError>
+    requires { has_refused_text page places.now ≡ false }
+    ensures { OnOk result (held.new.items ≡ held.old.items ++ flat_map (entry_in page) places.now) }
+{
+    for place in places {
+        push_place(held, page, place)?;
+    }
+    Ok(())
+}
+
+/// Adds the entry of a place.
+fn push_place(held: &mut Vec<u8>, page: CodePage, place: &Place) -> Result<(), AllocError>
+    requires { is_refused_spelling (place_bytes page place.now) ≡ false }
+    ensures { OnOk result (held.new.items ≡ held.old.items ++ entry_in page place.now) }
+{
+    let len = place_len(page, place).unwrap_or(0);
+    push_entry(held, len as u32, place.count())
+}
+
+/// Adds an entry: a long one for a long text, and for an empty one in use.
+fn push_entry(held: &mut Vec<u8>, len: u32, count: u16) -> Result<(), AllocError>
+    requires { count ≡ 0 → len ≡ 0 }
+    ensures { OnOk result (held.new.items ≡ held.old.items ++ plain_entry (record { len = len; count = count })) }
+{
+    if count == 0 || (0 < len && len < SHORT_END) {
+        push_u16(held, len as u16)?;
+        return push_u16(held, count);
+    }
+    push_u16(held, 0)?;
+    push_u16(held, count)?;
+    push_u32(held, len)
+}
+
+/// Adds the bytes of the texts, one behind the other.
+fn push_texts(held: &mut Vec<u8>, page: CodePage, places: &[Place]) -> Result<(), Error>
+    requires { has_refused_text page places.now ≡ false }
+    ensures ok { OnOk result (held.new.items ≡ held.old.items ++ flat_map (piece_of page) places.now) }
+    ensures kind { OnlyMemory result }
+{
+    for place in places {
+        push_text(held, page, place)?;
+    }
+    Ok(())
+}
+
+/// Adds the bytes of a place's text, and none of a free place.
+fn push_text(held: &mut Vec<u8>, page: CodePage, place: &Place) -> Result<(), Error>
+    requires { is_refused_spelling (place_bytes page place.now) ≡ false }
+    ensures ok { OnOk result (held.new.items ≡ held.old.items ++ piece_of page place.now) }
+    ensures kind { OnlyMemory result }
+{
+    if place.count() > 0 {
+        let bytes = page.encode(*held.allocator(), place.text())?;
+        held.extend_from_slice(bytes.as_slice())?;
+    }
+    Ok(())
+}

@@ -1,6 +1,0 @@
-pub mod ColumnTypesLemmas
-pub mod FittingLemmas
-pub mod StoredValuesLemmas
-pub mod TypeBitsLemmas
-pub mod ValidValuesLemmas
-pub mod WorkedRows

@@ -1,5 +1,0 @@
-use Rattle.msi_value.specs.OrderLaws.{value_cmp-total, values_tie}
-use Rattle.msi_value.proofs.laws.values_are_ordered.Goals as goal
-
-pub returns : goal.returns
-returns c = (value_cmp-total, values_tie)
