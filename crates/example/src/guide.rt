@@ -9,16 +9,30 @@ use std::io::{self, Read, Write};
 
 /// Does the tasks in turn.
 pub(crate) fn follow(rt: &(impl Print + AllocGlobal)) -> Result<(), Error> {
-    let mut package = make_package(rt)?;
-    create_table(rt, &mut package)?;
-    insert_rows(rt, &mut package)?;
-    change_rows(rt, &mut package)?;
-    select_rows(rt, &package)?;
-    join_tables(rt, &mut package)?;
-    put_and_take_stream(rt, &mut package)?;
-    set_summary(rt, &mut package)?;
-    open_and_handle_errors(rt, written(package)?)?;
+    let file = fill_package(rt)?;
+    open_and_handle_errors(rt, file)?;
     open_and_handle_errors(rt, b"Dear reader".to_vec(rt.alloc())?)
+}
+
+/// Makes a package, does the tasks that change it, and returns the bytes of its file.
+fn fill_package(rt: &(impl Print + AllocGlobal)) -> Result<Vec<u8>, Error> {
+    let mut package = make_package(rt)?;
+    change_package(rt, &mut package)?;
+    written(package)
+}
+
+/// Does the tasks that change a package.
+fn change_package(
+    rt: &(impl Print + AllocGlobal),
+    package: &mut Package<Memory>,
+) -> Result<(), Error> {
+    create_table(rt, package)?;
+    insert_rows(rt, package)?;
+    change_rows(rt, package)?;
+    select_rows(rt, package)?;
+    join_tables(rt, package)?;
+    put_and_take_stream(rt, package)?;
+    set_summary(rt, package)
 }
 
 /// Makes a package in memory, with a title and the system tables.
@@ -36,16 +50,20 @@ fn written(mut package: Package<Memory>) -> Result<Vec<u8>, Error> {
     Ok(package.into_reader().into_vec())
 }
 
+/// Returns the columns of a table of features.
+fn feature_columns(alloc: Global) -> Result<Vec<Column>, Error> {
+    let feature = Column::build(alloc, "Feature")?.primary_key().id_string(38);
+    let title = Column::build(alloc, "Title")?.nullable().text_string(64);
+    let level = Column::build(alloc, "Level")?.range(0, 32767).int16();
+    Ok(vec![in alloc; feature, title, level]?)
+}
+
 /// Creates a table of the features that can be installed.
 fn create_table(
     rt: &(impl Print + AllocGlobal),
     package: &mut Package<Memory>,
 ) -> Result<(), Error> {
-    let alloc = rt.alloc();
-    let feature = Column::build(alloc, "Feature")?.primary_key().id_string(38);
-    let title = Column::build(alloc, "Title")?.nullable().text_string(64);
-    let level = Column::build(alloc, "Level")?.range(0, 32767).int16();
-    package.create_table("Feature", vec![in alloc; feature, title, level]?)?;
+    package.create_table("Feature", feature_columns(rt.alloc())?)?;
     println!(rt; "tables: {}", package.tables().len())?;
     Ok(())
 }
@@ -62,18 +80,21 @@ fn count_rows(alloc: Global, package: &Package<Memory>, table: &str) -> Result<u
     Ok(package.select_rows(Select::table(alloc, table)?)?.len())
 }
 
+/// Returns the query that inserts three rows.
+fn insert_features(alloc: Global) -> Result<Insert, Error> {
+    Insert::into(alloc, "Feature")?
+        .row(feature(alloc, "Main", "Program", 1)?)?
+        .row(feature(alloc, "Help", "Help pages", 3)?)?
+        .row(feature(alloc, "Samples", "Sample files", 4)?)
+}
+
 /// Inserts three rows.
 fn insert_rows(
     rt: &(impl Print + AllocGlobal),
     package: &mut Package<Memory>,
 ) -> Result<(), Error> {
-    let alloc = rt.alloc();
-    let features = Insert::into(alloc, "Feature")?
-        .row(feature(alloc, "Main", "Program", 1)?)?
-        .row(feature(alloc, "Help", "Help pages", 3)?)?
-        .row(feature(alloc, "Samples", "Sample files", 4)?)?;
-    package.insert_rows(features)?;
-    println!(rt; "features: {}", count_rows(alloc, package, "Feature")?)?;
+    package.insert_rows(insert_features(rt.alloc())?)?;
+    println!(rt; "features: {}", count_rows(rt.alloc(), package, "Feature")?)?;
     Ok(())
 }
 
@@ -83,47 +104,67 @@ fn is_feature(alloc: Global, name: &str) -> Result<Expr, Error> {
     Expr::col(alloc, "Feature")?.eq(alloc, name)
 }
 
+/// Returns the query that lowers the level of one feature.
+fn lower_level(alloc: Global) -> Result<Update, Error> {
+    let lower = Update::table(alloc, "Feature")?.set("Level", Value::Int(2))?;
+    lower.with(is_feature(alloc, "Help")?)
+}
+
+/// Returns the query that deletes one feature.
+fn delete_samples(alloc: Global) -> Result<Delete, Error> {
+    Delete::from(alloc, "Feature")?.with(is_feature(alloc, "Samples")?)
+}
+
 /// Changes one row, and deletes another.
 fn change_rows(
     rt: &(impl Print + AllocGlobal),
     package: &mut Package<Memory>,
 ) -> Result<(), Error> {
     let alloc = rt.alloc();
-    let lower = Update::table(alloc, "Feature")?.set("Level", Value::Int(2))?;
-    package.update_rows(lower.with(is_feature(alloc, "Help")?)?)?;
-    let unwanted = Delete::from(alloc, "Feature")?;
-    package.delete_rows(unwanted.with(is_feature(alloc, "Samples")?)?)?;
+    package.update_rows(lower_level(alloc)?)?;
+    package.delete_rows(delete_samples(alloc)?)?;
     println!(rt; "features: {}", count_rows(alloc, package, "Feature")?)?;
+    Ok(())
+}
+
+/// Returns the query that selects the features whose level is at most 3.
+fn low_levels(alloc: Global) -> Result<Select, Error> {
+    let condition = Expr::col(alloc, "Level")?.le(alloc, Expr::integer(3))?;
+    Select::table(alloc, "Feature")?.with(condition)
+}
+
+/// Prints the title of a feature.
+fn print_title(rt: &impl Print, feature: &Row) -> io::Result<()> {
+    if feature.has_column("Title") {
+        println!(rt; "selected: {}", feature["Title"])?;
+    }
     Ok(())
 }
 
 /// Prints the titles of the features whose level is at most 3.
 fn select_rows(rt: &(impl Print + AllocGlobal), package: &Package<Memory>) -> Result<(), Error> {
-    let alloc = rt.alloc();
-    let condition = Expr::col(alloc, "Level")?.le(alloc, Expr::integer(3))?;
-    let query = Select::table(alloc, "Feature")?.with(condition)?;
-    for row in package.select_rows(query)? {
-        let row = row?;
-        if row.has_column("Title") {
-            println!(rt; "selected: {}", row["Title"])?;
-        }
+    for row in package.select_rows(low_levels(rt.alloc())?)? {
+        print_title(rt, &row?)?;
     }
     Ok(())
 }
 
-/// Creates a table of the components of features, and inserts two rows.
-fn add_components(alloc: Global, package: &mut Package<Memory>) -> Result<(), Error> {
+/// Returns the columns of a table of the components of features.
+fn component_columns(alloc: Global) -> Result<Vec<Column>, Error> {
     let feature = Column::build(alloc, "Feature_")?
         .primary_key()
         .id_string(38);
     let component = Column::build(alloc, "Component_")?
         .primary_key()
         .id_string(72);
-    package.create_table("FeatureComponents", vec![in alloc; feature, component]?)?;
-    let components = Insert::into(alloc, "FeatureComponents")?
+    Ok(vec![in alloc; feature, component]?)
+}
+
+/// Returns the query that inserts two of them.
+fn insert_components(alloc: Global) -> Result<Insert, Error> {
+    Insert::into(alloc, "FeatureComponents")?
         .row(component_of(alloc, "Main", "Editor")?)?
-        .row(component_of(alloc, "Main", "Viewer")?)?;
-    package.insert_rows(components)
+        .row(component_of(alloc, "Main", "Viewer")?)
 }
 
 /// Returns the values of a row that gives a component to a feature.
@@ -143,19 +184,24 @@ fn print_row(rt: &impl Print, row: &Row) -> io::Result<()> {
     println!(rt; "")
 }
 
-/// Prints the title of each feature beside each of its components.
+/// Returns the query that selects the title of each feature beside each of its components.
+fn titles_and_components(alloc: Global) -> Result<Select, Error> {
+    let component_feature = Expr::col(alloc, "FeatureComponents.Feature_")?;
+    let on = Expr::col(alloc, "Feature.Feature")?.eq(alloc, component_feature)?;
+    Select::table(alloc, "Feature")?
+        .inner_join(Select::table(alloc, "FeatureComponents")?, on)?
+        .columns(&["Feature.Title", "FeatureComponents.Component_"])
+}
+
+/// Creates a table of components, and prints the title of each feature beside each of its components.
 fn join_tables(
     rt: &(impl Print + AllocGlobal),
     package: &mut Package<Memory>,
 ) -> Result<(), Error> {
     let alloc = rt.alloc();
-    add_components(alloc, package)?;
-    let component_feature = Expr::col(alloc, "FeatureComponents.Feature_")?;
-    let on = Expr::col(alloc, "Feature.Feature")?.eq(alloc, component_feature)?;
-    let query = Select::table(alloc, "Feature")?
-        .inner_join(Select::table(alloc, "FeatureComponents")?, on)?
-        .columns(&["Feature.Title", "FeatureComponents.Component_"])?;
-    for row in package.select_rows(query)? {
+    package.create_table("FeatureComponents", component_columns(alloc)?)?;
+    package.insert_rows(insert_components(alloc)?)?;
+    for row in package.select_rows(titles_and_components(alloc)?)? {
         print_row(rt, &row?)?;
     }
     Ok(())
@@ -189,11 +235,15 @@ fn set_summary(
     Ok(())
 }
 
+/// Returns the query that inserts one feature.
+fn insert_main(alloc: Global) -> Result<Insert, Error> {
+    Insert::into(alloc, "Feature")?.row(feature(alloc, "Main", "Program", 1)?)
+}
+
 /// Opens a package that another program made, adds a feature to it, and writes it.
 fn add_feature(alloc: Global, file: Vec<u8>) -> Result<(), Error> {
     let mut package = Package::open(alloc, Memory::from_vec(file))?;
-    let row = feature(alloc, "Main", "Program", 1)?;
-    package.insert_rows(Insert::into(alloc, "Feature")?.row(row)?)?;
+    package.insert_rows(insert_main(alloc)?)?;
     package.flush()
 }
 

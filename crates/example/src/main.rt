@@ -7,9 +7,9 @@ mod guide;
 
 use csv::Writer;
 use failure::Failure;
-use msi::{Select, Value};
+use msi::{Row, Rows, Select, Value};
 use std::alloc::{AllocError, Global};
-use std::io::{Read, Seek};
+use std::io::{Read, Seek, Write};
 use std::process::ExitCode;
 use std::rt::{Env, Files};
 use std::{env, io};
@@ -22,20 +22,40 @@ where
 {
     let package = msi::open(rt, file)?;
     let rows = package.select_rows(Select::table(rt.alloc(), table)?)?;
-    let mut output = Writer::from_writer(io::writer(rt));
+    write_table(rt.alloc(), &mut Writer::from_writer(io::writer(rt)), rows)
+}
+
+/// Writes the names of the columns of rows, and the rows.
+fn write_table<W>(alloc: Global, output: &mut Writer<W>, rows: Rows) -> Result<(), Failure>
+where
+    W: Write + Drop,
+{
+    write_names(output, &rows)?;
+    for row in rows {
+        write_row(alloc, output, &row?)?;
+    }
+    output.flush()?;
+    Ok(())
+}
+
+/// Writes the names of the columns of rows as a line.
+fn write_names<W: Write + Drop>(output: &mut Writer<W>, rows: &Rows) -> Result<(), csv::Error> {
     for column in rows.columns() {
         output.write_field(column.name().as_bytes())?;
     }
-    output.end_record()?;
-    for row in rows {
-        let row = row?;
-        for i in 0..row.len() {
-            let text = text_of(rt.alloc(), &row[i])?;
-            output.write_field(text.as_bytes())?;
-        }
-        output.end_record()?;
+    output.end_record()
+}
+
+/// Writes the values of a row as a line.
+fn write_row<W>(alloc: Global, output: &mut Writer<W>, row: &Row) -> Result<(), Failure>
+where
+    W: Write + Drop,
+{
+    for i in 0..row.len() {
+        let text = text_of(alloc, &row[i])?;
+        output.write_field(text.as_bytes())?;
     }
-    output.flush()?;
+    output.end_record()?;
     Ok(())
 }
 

@@ -5,7 +5,7 @@ use msi::{Package, PackageType};
 use msi_container_device::Metered;
 use msi_text::Error;
 use std::fs::{self, OpenOptions};
-use std::io::{Read, Seek, Write};
+use std::io::{self, Read, Seek, Write};
 use std::rt::Files;
 
 /// A package whose file is only read.
@@ -21,14 +21,18 @@ where
     Package::open(rt.alloc(), Metered::new(file))
 }
 
-/// A file as a device that is there and is to be read and written.
+/// Opens a file that is there, for reading and writing.
+pub(crate) fn open_rw<R: Files>(rt: &R, path: &str) -> io::Result<R::File> {
+    OpenOptions::new().read(true).write(true).open(rt, path)
+}
+
+/// A file that is there, as a device.
 pub(crate) fn device<R>(rt: &R, path: &str) -> Result<Metered<Buffered<R::File>>, Error>
 where
     R: Files + AllocGlobal,
     R::File: Read + Write + Seek + Drop,
 {
-    let file = OpenOptions::new().read(true).write(true).open(rt, path)?;
-    let file = Buffered::new(rt.alloc(), file)?;
+    let file = Buffered::new(rt.alloc(), open_rw(rt, path)?)?;
     Ok(Metered::new(file))
 }
 

@@ -47,18 +47,19 @@ where
     Ok(())
 }
 
-/// Stores standard input as a stream of a package, and writes the package. The input is read before the package is,
-/// since its errors are reported first.
+/// Stores standard input as a stream of a package, and writes the package. Whether the file can be opened is reported
+/// first, then the input's errors, and then the package's. The file is closed while the input is read: if the program
+/// was started without a standard input, the file has its descriptor, and would be stored in itself.
 pub(crate) fn store_input<R, I>(rt: &R, file: &str, name: &str, input: &mut I) -> Result<(), Error>
 where
     R: Files + AllocGlobal,
     R::File: Read + Write + Seek + Drop,
     I: Read,
 {
-    let device = packages::device(rt, file)?;
+    drop(packages::open_rw(rt, file)?);
     let mut bytes = Vec::new(rt.alloc());
     input.read_to_end(&mut bytes)?;
-    let mut package = Package::open(rt.alloc(), device)?;
+    let mut package = Package::open(rt.alloc(), packages::device(rt, file)?)?;
     fill_stream(&mut package, name, bytes)?;
     package.flush()
 }

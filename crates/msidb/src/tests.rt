@@ -173,6 +173,41 @@ fn what_is_put_is_listed_and_comes_back(rt: HostRuntime) -> Result<(), Fail> {
     Ok(fs::remove_file(&rt, path.as_str())?)
 }
 
+/// An empty standard input that moves a file onto another path when it is read.
+#[derive(Drop)]
+struct Mover<'a> {
+    rt: &'a HostRuntime,
+    from: &'a str,
+    to: &'a str,
+}
+
+impl Read for Mover<'_> {
+    fn read(&mut self, _buffer: &mut [u8]) -> io::Result<usize> {
+        fs::rename(self.rt, self.from, self.to)?;
+        Ok(0)
+    }
+}
+
+/// Whether a stream is put where another file takes the place of the package while standard input is read.
+fn puts_moved(rt: &HostRuntime, path: &str, moved: &str) -> Result<bool, Fail> {
+    let words = words(rt.alloc(), &["put", "FILE", "a"], path)?;
+    let mut input = Mover { rt, from: moved, to: path };
+    let mut printed = Vec::new(rt.alloc());
+    let mut errors = Vec::new(rt.alloc());
+    let status = run(rt, words.as_slice(), &mut input, &mut printed, &mut errors);
+    Ok(status == 0 && prints(rt, &["streams", "FILE"], path, b"", "a\n")?)
+}
+
+#[test]
+fn the_file_is_closed_while_standard_input_is_read(rt: HostRuntime) -> Result<(), Fail> {
+    let (path, moved) = (path(&rt, "closed")?, path(&rt, "moved")?);
+    let made = prints(&rt, &["new", "FILE"], path.as_str(), b"", "")?
+        && prints(&rt, &["new", "FILE"], moved.as_str(), b"", "")?;
+    let put = puts_moved(&rt, path.as_str(), moved.as_str())?;
+    assert!(rt; made && put);
+    Ok(fs::remove_file(&rt, path.as_str())?)
+}
+
 /// All that a summary may tell.
 const SUMMARY: &str = "codepage: 1252
 title: Title
