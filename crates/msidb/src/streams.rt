@@ -2,10 +2,11 @@
 
 use crate::buffered::buffer;
 use crate::packages;
-use msi::Package;
+use msi::{Package, StreamReader};
 use msi_container_device::{Device, Source};
 use msi_streams::Streams;
 use msi_text::Error;
+use std::alloc::Global;
 use std::io::{self, Read, Seek, Write};
 use std::rt::Files;
 
@@ -17,18 +18,17 @@ where
     O: Write,
 {
     let package = packages::open(rt, file)?;
-    let mut lines = buffer(rt.alloc(), output)?;
-    write_names(package.streams(), &mut lines)?;
-    lines.flush()?;
-    Ok(())
+    write_names(rt.alloc(), package.streams(), output)
 }
 
 /// Writes names, each on a line.
-fn write_names<W: Write>(names: Streams<'_>, lines: &mut W) -> Result<(), Error> {
+fn write_names<W: Write>(alloc: Global, names: Streams<'_>, output: &mut W) -> Result<(), Error> {
+    let mut lines = buffer(alloc, output)?;
     for name in names {
         let name = name?;
         writeln!(lines, "{name}")?;
     }
+    lines.flush()?;
     Ok(())
 }
 
@@ -40,11 +40,18 @@ where
     O: Write,
 {
     let package = packages::open(rt, file)?;
-    let mut stream = package.read_stream(name)?;
-    let mut bytes = buffer(rt.alloc(), output)?;
+    Ok(copy_buffered(rt.alloc(), package.read_stream(name)?, output)?)
+}
+
+/// Writes the bytes of a stream through a buffer.
+fn copy_buffered<W: Write>(
+    alloc: Global,
+    mut stream: StreamReader<'_>,
+    output: &mut W,
+) -> io::Result<()> {
+    let mut bytes = buffer(alloc, output)?;
     io::copy(&mut stream, &mut bytes)?;
-    bytes.flush()?;
-    Ok(())
+    bytes.flush()
 }
 
 /// Stores standard input as a stream of a package, and writes the package. Whether the file can be opened is reported
@@ -59,6 +66,15 @@ where
     drop(packages::open_rw(rt, file)?);
     let mut bytes = Vec::new(rt.alloc());
     input.read_to_end(&mut bytes)?;
+    store_bytes(rt, file, name, bytes)
+}
+
+/// Stores bytes as a stream of a package, and writes the package.
+fn store_bytes<R>(rt: &R, file: &str, name: &str, bytes: Vec<u8>) -> Result<(), Error>
+where
+    R: Files + AllocGlobal,
+    R::File: Read + Write + Seek + Drop,
+{
     let mut package = Package::open(rt.alloc(), packages::device(rt, file)?)?;
     fill_stream(&mut package, name, bytes)?;
     package.flush()

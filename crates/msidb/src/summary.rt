@@ -4,6 +4,7 @@ use crate::buffered::buffer;
 use crate::packages;
 use msi_summary::SummaryInfo;
 use msi_text::{Error, Timestamp};
+use std::alloc::Global;
 use std::fmt::Display;
 use std::io::{self, Read, Seek, Write};
 use std::rt::Files;
@@ -16,8 +17,17 @@ where
     O: Write,
 {
     let package = packages::open(rt, file)?;
-    let mut lines = buffer(rt.alloc(), output)?;
-    write_summary(package.summary_info(), &mut lines)?;
+    write_buffered(rt.alloc(), package.summary_info(), output)
+}
+
+/// Writes a summary through a buffer.
+fn write_buffered<W: Write>(
+    alloc: Global,
+    summary: &SummaryInfo,
+    output: &mut W,
+) -> Result<(), Error> {
+    let mut lines = buffer(alloc, output)?;
+    write_summary(summary, &mut lines)?;
     lines.flush()?;
     Ok(())
 }

@@ -19,19 +19,17 @@ where
     O: Write,
 {
     let package = packages::open(rt, file)?;
-    let mut lines = buffer(rt.alloc(), output)?;
-    write_names(package.tables(), &mut lines)?;
-    lines.flush()?;
-    Ok(())
+    Ok(write_names(rt.alloc(), package.tables(), output)?)
 }
 
 /// Writes the names of tables, each on a line.
-fn write_names<W: Write>(tables: &[Table], lines: &mut W) -> io::Result<()> {
+fn write_names<W: Write>(alloc: Global, tables: &[Table], output: &mut W) -> io::Result<()> {
+    let mut lines = buffer(alloc, output)?;
     for table in tables {
         let name = table.name();
         writeln!(lines, "{name}")?;
     }
-    Ok(())
+    lines.flush()
 }
 
 /// Prints the names of a table's columns on a line, and then each row on one of its own.
@@ -42,8 +40,18 @@ where
     O: Write,
 {
     let package = packages::open(rt, file)?;
-    let mut lines = buffer(rt.alloc(), output)?;
-    write_rows(rt.alloc(), &package, table, &mut lines)?;
+    write_table(rt.alloc(), &package, table, output)
+}
+
+/// Writes a table through a buffer.
+fn write_table<F: Source, W: Write>(
+    alloc: Global,
+    package: &Package<F>,
+    table: &str,
+    output: &mut W,
+) -> Result<(), Error> {
+    let mut lines = buffer(alloc, output)?;
+    write_rows(alloc, package, table, &mut lines)?;
     lines.flush()?;
     Ok(())
 }

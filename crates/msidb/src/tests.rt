@@ -191,7 +191,11 @@ impl Read for Mover<'_> {
 /// Whether a stream is put where another file takes the place of the package while standard input is read.
 fn puts_moved(rt: &HostRuntime, path: &str, moved: &str) -> Result<bool, Fail> {
     let words = words(rt.alloc(), &["put", "FILE", "a"], path)?;
-    let mut input = Mover { rt, from: moved, to: path };
+    let mut input = Mover {
+        rt,
+        from: moved,
+        to: path,
+    };
     let mut printed = Vec::new(rt.alloc());
     let mut errors = Vec::new(rt.alloc());
     let status = run(rt, words.as_slice(), &mut input, &mut printed, &mut errors);
