@@ -75,33 +75,39 @@ const TEXTS: [(Category, &str, bool); 47] = [
 
 #[test]
 fn texts_are_accepted_by_the_rule_of_the_category(rt: HostRuntime) {
-    for (category, text, accepted) in TEXTS {
-        assert_eq!(rt; category.validate(text), accepted, "{category}: {text}");
+    for (category, text, accepted) in &TEXTS {
+        assert!(rt; category.validate(*text) == *accepted, "{category}: {text}");
     }
+}
+
+/// Categories without a rule.
+const FREE: [Category; 16] = [
+    Category::Text,
+    Category::TimeDate,
+    Category::Filename,
+    Category::WildCardFilename,
+    Category::Path,
+    Category::Paths,
+    Category::AnyPath,
+    Category::DefaultDir,
+    Category::RegPath,
+    Category::Formatted,
+    Category::FormattedSddlText,
+    Category::Template,
+    Category::Condition,
+    Category::Binary,
+    Category::CustomSource,
+    Category::Shortcut,
+];
+
+/// Whether a category accepts the empty text, letters, and characters of all kinds.
+fn is_free(category: Category) -> bool {
+    category.validate("") && category.validate("aB") && category.validate("\0|*?<>\"é")
 }
 
 #[test]
 fn categories_without_a_rule_accept_every_text(rt: HostRuntime) {
-    for category in [
-        Category::Text,
-        Category::TimeDate,
-        Category::Filename,
-        Category::WildCardFilename,
-        Category::Path,
-        Category::Paths,
-        Category::AnyPath,
-        Category::DefaultDir,
-        Category::RegPath,
-        Category::Formatted,
-        Category::FormattedSddlText,
-        Category::Template,
-        Category::Condition,
-        Category::Binary,
-        Category::CustomSource,
-        Category::Shortcut,
-    ] {
-        for text in ["", "aB", "\0|*?<>\"é"] {
-            assert!(rt; category.validate(text), "{category}: {text}");
-        }
+    for category in &FREE {
+        assert!(rt; is_free(*category), "{category}");
     }
 }

@@ -1,42 +1,26 @@
 //! The pool's indexes: which place a text takes where many are free, and how many operations that is.
 
 use msi_text::parts::{pool_builder_of, pool_of, string_ref};
-use msi_text::{CodePage, Error, StringPool};
+use msi_text::{CodePage, Error, StringPool, StringRef};
 use std::alloc::Global;
-use std::process::Abort;
 use std::test::Fail;
 
-/// The place that a text takes, in how many operations.
-fn take(alloc: Global, pool: &mut StringPool, text: &str) -> Result<(i32, u32), Error> {
-    let place = pool.incref(String::from_str(alloc, text)?)?;
-    Ok((place.number(), pool.operations()))
-}
-
-/// Asserts that a text takes this place, in 1 to 8 operations.
-fn assert_takes(
-    rt: &impl Abort,
-    alloc: Global,
-    pool: &mut StringPool,
-    text: &str,
-    number: i32,
-) -> Result<(), Error> {
-    let (place, operations) = take(alloc, pool, text)?;
-    assert!(rt;
-        place == number && 1 <= operations && operations <= 8,
-        "{text}: {place} in {operations}"
-    );
-    Ok(())
-}
-
-/// Asserts that a place is given back, in 1 to 8 operations.
-fn assert_given_back(rt: &impl Abort, pool: &mut StringPool, number: u16) -> Result<(), Error> {
-    pool.decref(string_ref(u32::from(number.max(1))))?;
+/// Whether the last call on a pool took 1 to 8 operations.
+fn was_short(pool: &StringPool) -> bool {
     let operations = pool.operations();
-    assert!(rt;
-        1 <= operations && operations <= 8,
-        "{number} in {operations}"
-    );
-    Ok(())
+    1 <= operations && operations <= 8
+}
+
+/// Whether a text takes this place, in 1 to 8 operations.
+fn takes(alloc: Global, pool: &mut StringPool, text: &str, number: i32) -> Result<bool, Error> {
+    let place = pool.incref(String::from_str(alloc, text)?)?;
+    Ok(place.number() == number && was_short(pool))
+}
+
+/// Whether a place is given back, in 1 to 8 operations.
+fn gives_back(pool: &mut StringPool, number: u16) -> Result<bool, Error> {
+    pool.decref(string_ref(u32::from(number.max(1))))?;
+    Ok(was_short(pool))
 }
 
 /// A step of a pool's life.
@@ -48,43 +32,41 @@ enum Step {
     GiveBack(u16),
 }
 
-/// Asserts that a step goes as it says.
-fn assert_goes(
-    rt: &impl Abort,
-    alloc: Global,
-    pool: &mut StringPool,
-    step: Step,
-) -> Result<(), Error> {
+/// Whether a step goes as it says.
+fn goes(alloc: Global, pool: &mut StringPool, step: Step) -> Result<bool, Error> {
     match step {
-        Step::Take(text, number) => assert_takes(rt, alloc, pool, text, number),
-        Step::GiveBack(number) => assert_given_back(rt, pool, number),
+        Step::Take(text, number) => takes(alloc, pool, text, number),
+        Step::GiveBack(number) => gives_back(pool, number),
     }
 }
 
-/// A pool that was made, with no operation behind it yet, once these steps are gone.
-fn after(
-    rt: &impl Abort,
-    alloc: Global,
-    pool: Result<StringPool, Error>,
-    steps: &[Step],
-) -> Result<StringPool, Error> {
-    let mut pool = pool?;
-    assert!(rt; pool.operations() == 0, "a pool that was made");
+/// Whether a pool has no operation behind it yet, and then each step goes as it says.
+fn all_go(alloc: Global, pool: &mut StringPool, steps: &[Step]) -> Result<bool, Error> {
+    if pool.operations() != 0 {
+        return Ok(false);
+    }
     for step in steps {
-        assert_goes(rt, alloc, &mut pool, *step)?;
+        if !goes(alloc, pool, *step)? {
+            return Ok(false);
+        }
     }
-    Ok(pool)
+    Ok(true)
 }
 
-/// Asserts that both places hold b, for one cell each.
-fn assert_twice_b(rt: &impl Abort, pool: &StringPool) {
-    for number in [1, 2] {
-        let place = string_ref(number);
-        assert!(rt;
-            pool.get(place) == "b" && pool.refcount(place) == 1,
-            "{number}"
-        );
-    }
+/// Whether a place holds b, for one cell.
+fn holds_b(pool: &StringPool, place: StringRef) -> bool {
+    pool.get(place) == "b" && pool.refcount(place) == 1
+}
+
+/// Whether both places hold b, for one cell each.
+fn is_twice_b(pool: &StringPool) -> bool {
+    holds_b(pool, string_ref(1)) && holds_b(pool, string_ref(2))
+}
+
+/// Whether the clone of a pool has no operation behind it, and both places hold b.
+fn clone_is_twice_b(pool: &StringPool) -> Result<bool, Error> {
+    let clone = pool.clone()?;
+    Ok(clone.operations() == 0 && is_twice_b(&clone))
 }
 
 /// A free place comes before a later one with the text.
@@ -95,13 +77,15 @@ const FREED: [Step; 4] = [
     Step::Take("b", 1),
 ];
 
+/// Whether a pool's free place is taken, and its clone has the same texts.
+fn free_place_is_taken(alloc: Global, pool: &mut StringPool) -> Result<bool, Error> {
+    Ok(all_go(alloc, pool, &FREED)? && is_twice_b(pool) && clone_is_twice_b(pool)?)
+}
+
 #[test]
 fn a_free_place_before_the_text_is_taken(rt: HostRuntime) -> Result<(), Fail> {
-    let alloc = rt.alloc();
-    let pool = StringPool::new(alloc, CodePage::Utf8);
-    let pool = after(&rt, alloc, Ok(pool), &FREED)?;
-    assert_twice_b(&rt, &pool);
-    assert_twice_b(&rt, &after(&rt, alloc, pool.clone(), &[])?);
+    let mut pool = StringPool::new(rt.alloc(), CodePage::Utf8);
+    assert!(rt; free_place_is_taken(rt.alloc(), &mut pool)?);
     Ok(())
 }
 
@@ -114,55 +98,79 @@ const FULL: [Step; 5] = [
     Step::Take("Foobar", 2),
 ];
 
+/// The entries of a pool with that place.
+const ENTRIES: [u8; 8] = [0xE9, 0xFD, 0, 0, 6, 0, 0xFE, 0xFF];
+
+/// The pool of these entries.
+fn nearly_full(alloc: Global) -> Result<StringPool, Error> {
+    let builder = pool_builder_of(alloc, ENTRIES.as_slice())?;
+    pool_of(alloc, builder, b"Foobar".as_slice())
+}
+
 #[test]
 fn a_full_place_is_left_until_it_is_given_back(rt: HostRuntime) -> Result<(), Fail> {
-    let entries = [0xE9, 0xFD, 0, 0, 6, 0, 0xFE, 0xFF];
-    let builder = pool_builder_of(rt.alloc(), entries.as_slice())?;
-    let pool = pool_of(rt.alloc(), builder, b"Foobar".as_slice());
-    let _pool = after(&rt, rt.alloc(), pool, &FULL)?;
+    let mut pool = nearly_full(rt.alloc())?;
+    assert!(rt; all_go(rt.alloc(), &mut pool, &FULL)?);
     Ok(())
 }
 
-/// Takes so many texts, that begin with these letters, from a place on; the next is so many places further.
-fn take_many(
-    rt: &impl Abort,
+/// Whether the text of a letter and a number takes the place of the number.
+fn takes_numbered(
     alloc: Global,
     pool: &mut StringPool,
-    letters: &str,
+    letter: &str,
+    number: u16,
+) -> Result<bool, Error> {
+    let text = format!(in alloc; "{letter}{number}")?;
+    takes(alloc, pool, text.as_str(), i32::from(number))
+}
+
+/// Whether many texts that begin with a letter take their places, each so many further than the last.
+fn takes_many(
+    alloc: Global,
+    pool: &mut StringPool,
+    letter: &str,
     step: u16,
-) -> Result<(), Error> {
+) -> Result<bool, Error> {
     for number in 1..=65535_u16 {
-        if number % step.max(1) == 1 % step.max(1) {
-            let text = format!(in alloc; "{letters}{number}")?;
-            assert_takes(rt, alloc, pool, text.as_str(), i32::from(number))?;
+        if number % step.max(1) == 1 % step.max(1)
+            && !takes_numbered(alloc, pool, letter, number)?
+        {
+            return Ok(false);
         }
     }
-    Ok(())
+    Ok(true)
 }
 
-/// Gives back each third place, from the first on.
-fn give_back_thirds(rt: &impl Abort, pool: &mut StringPool) -> Result<(), Error> {
+/// Whether each third place is given back, from the first on.
+fn gives_back_thirds(pool: &mut StringPool) -> Result<bool, Error> {
     for number in 1..=65535_u16 {
-        if number % 3 == 1 {
-            assert_given_back(rt, pool, number)?;
+        if number % 3 == 1 && !gives_back(pool, number)? {
+            return Ok(false);
         }
     }
-    Ok(())
+    Ok(true)
 }
 
-/// Asserts that a full pool refuses a text, in at most 8 operations.
-fn assert_full(rt: &impl Abort, alloc: Global, pool: &mut StringPool) {
-    let is_refused = take(alloc, pool, "c").is_err();
-    assert!(rt; is_refused && pool.operations() <= 8, "a full pool");
+/// Whether a full pool refuses a text, in at most 8 operations.
+fn is_full(alloc: Global, pool: &mut StringPool) -> Result<bool, Error> {
+    let refused = pool.incref(String::from_str(alloc, "c")?).is_err();
+    Ok(refused && pool.operations() <= 8)
+}
+
+/// Whether places of a pool that is filled are given back and taken again, until it is full.
+fn is_refilled(alloc: Global, pool: &mut StringPool) -> Result<bool, Error> {
+    Ok(
+        takes_many(alloc, pool, "a", 1)?
+            && gives_back_thirds(pool)?
+            && takes_many(alloc, pool, "b", 3)?
+            && is_full(alloc, pool)?,
+    )
 }
 
 #[test]
 fn new_texts_take_the_places_given_back_in_order(rt: HostRuntime) -> Result<(), Fail> {
-    let alloc = rt.alloc();
-    let mut pool = StringPool::new(alloc, CodePage::Utf8);
-    take_many(&rt, alloc, &mut pool, "a", 1)?;
-    give_back_thirds(&rt, &mut pool)?;
-    take_many(&rt, alloc, &mut pool, "b", 3)?;
-    assert_full(&rt, alloc, &mut pool);
+    let mut pool = StringPool::new(rt.alloc(), CodePage::Utf8);
+    assert!(rt; is_refilled(rt.alloc(), &mut pool)?);
     Ok(())
 }

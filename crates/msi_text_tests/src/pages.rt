@@ -45,15 +45,18 @@ fn spell(alloc: Global, page: CodePage, bytes: &[u8], text: &str) -> Result<bool
     Ok(read.as_str() == text && written.as_slice() == bytes)
 }
 
+/// Pages, and their characters for the bytes from 0x80 on.
+const TABLES: [(CodePage, &str); 3] = [
+    (CodePage::MacintoshRoman, MAC_ROMAN),
+    (CodePage::Windows1252, CP1252),
+    (CodePage::Iso88591, CP1252),
+];
+
 #[test]
 fn bytes_past_ascii_are_pythons(rt: HostRuntime) -> Result<(), Fail> {
     let bytes = bytes_from(rt.alloc(), 0x80)?;
-    for (page, text) in [
-        (CodePage::MacintoshRoman, MAC_ROMAN),
-        (CodePage::Windows1252, CP1252),
-        (CodePage::Iso88591, CP1252),
-    ] {
-        let same = spell(rt.alloc(), page, bytes.as_slice(), text)?;
+    for (page, text) in &TABLES {
+        let same = spell(rt.alloc(), *page, bytes.as_slice(), *text)?;
         assert!(rt; same, "{page:?}");
     }
     Ok(())
@@ -104,9 +107,9 @@ const READ: [(CodePage, &[u8], Result<&str, ErrorKind>); 7] = [
 
 #[test]
 fn bytes_are_read_or_replaced_or_refused(rt: HostRuntime) {
-    for (page, bytes, text) in READ {
+    for (page, bytes, text) in &READ {
         assert!(rt;
-            is_read(rt.alloc(), page, bytes, text),
+            is_read(rt.alloc(), *page, *bytes, *text),
             "{page:?}: {bytes:?}"
         );
     }
@@ -135,30 +138,37 @@ const WRITTEN: [(CodePage, &str, Result<&[u8], ErrorKind>); 8] = [
 
 #[test]
 fn characters_are_written_or_replaced_or_refused(rt: HostRuntime) {
-    for (page, text, bytes) in WRITTEN {
+    for (page, text, bytes) in &WRITTEN {
         assert!(rt;
-            is_written(rt.alloc(), page, text, bytes),
+            is_written(rt.alloc(), *page, *text, *bytes),
             "{page:?}: {text}"
         );
     }
 }
 
+/// Ids, and the ids and names of their pages.
+const NAMES: [(i32, Option<(i32, &str)>); 10] = [
+    (932, Some((932, "Windows Japanese Shift JIS"))),
+    (951, Some((951, "Windows Chinese (traditional) Big5-HKSCS"))),
+    (1252, Some((1252, "Windows Latin 1"))),
+    (10000, Some((10000, "Mac OS Roman"))),
+    (20127, Some((20127, "US-ASCII"))),
+    (28595, Some((28595, "ISO Latin/Cyrillic"))),
+    (65001, Some((65001, "UTF-8"))),
+    (0, Some((65001, "UTF-8"))),
+    (1, None),
+    (-1, None),
+];
+
+/// The id and the name of the page of an id.
+fn named(id: i32) -> Option<(i32, &'static str)> {
+    CodePage::from_id(id).map(|page| (page.id(), page.name()))
+}
+
 #[test]
 fn pages_have_ids_and_names(rt: HostRuntime) {
-    for (id, page) in [
-        (932, Some((932, "Windows Japanese Shift JIS"))),
-        (951, Some((951, "Windows Chinese (traditional) Big5-HKSCS"))),
-        (1252, Some((1252, "Windows Latin 1"))),
-        (10000, Some((10000, "Mac OS Roman"))),
-        (20127, Some((20127, "US-ASCII"))),
-        (28595, Some((28595, "ISO Latin/Cyrillic"))),
-        (65001, Some((65001, "UTF-8"))),
-        (0, Some((65001, "UTF-8"))),
-        (1, None),
-        (-1, None),
-    ] {
-        let found = CodePage::from_id(id).map(|page| (page.id(), page.name()));
-        assert!(rt; found == page, "{id}");
+    for (id, page) in &NAMES {
+        assert!(rt; named(*id) == *page, "{id}");
     }
     assert_eq!(rt; CodePage::default().id(), 65001);
 }

@@ -4,14 +4,13 @@ use crate::samples::told;
 use msi_text::parts::string_ref;
 use msi_text::{CodePage, Error, ErrorKind, StringPool, StringPoolBuilder, StringRef, Text};
 use std::alloc::Global;
-use std::process::Abort;
 use std::test::Fail;
 
 /// The two streams of a pool: its entries, and its texts.
 type Streams<'a> = (&'a [u8], &'a [u8]);
 
 /// A step of a pool's life.
-#[derive(Clone, Copy, Debug)]
+#[derive(Clone, Copy)]
 enum Step<'a> {
     /// A text takes this place.
     Take(&'a str, i32),
@@ -68,19 +67,6 @@ fn has_places(pool: &StringPool, places: &[(&str, u16)]) -> bool {
         number = number.saturating_add(1);
     }
     pool.num_strings() as usize == places.len() && pool.get(reference(number)) == ""
-}
-
-/// Asserts that a pool has these places, and is written as these streams.
-fn assert_pool(
-    rt: &impl Abort,
-    alloc: Global,
-    pool: &StringPool,
-    places: &[(&str, u16)],
-    streams: Streams,
-) -> Result<(), Error> {
-    assert!(rt; has_places(pool, places), "{places:?}");
-    assert!(rt; is_written(alloc, pool, streams)?, "{places:?}");
-    Ok(())
 }
 
 /// The streams of a pool in UTF-8 without places.
@@ -153,73 +139,60 @@ const LIVES: [Life; 6] = [
     ),
 ];
 
-/// Asserts that each step goes as it says.
-fn assert_steps(
-    rt: &impl Abort,
-    alloc: Global,
-    pool: &mut StringPool,
-    steps: &[Step],
-) -> Result<(), Error> {
+/// Whether each step goes as it says.
+fn all_go(alloc: Global, pool: &mut StringPool, steps: &[Step]) -> Result<bool, Error> {
     for step in steps {
-        assert!(rt; goes(alloc, pool, *step)?, "{step:?}");
+        if !goes(alloc, pool, *step)? {
+            return Ok(false);
+        }
     }
-    Ok(())
+    Ok(true)
 }
 
-/// The pool that two streams hold, once these steps are gone.
-fn pool_after(
-    rt: &impl Abort,
-    alloc: Global,
-    start: Streams,
-    steps: &[Step],
-) -> Result<StringPool, Error> {
-    let mut pool = pool_in(alloc, start)?;
-    assert_steps(rt, alloc, &mut pool, steps)?;
-    Ok(pool)
+/// Whether a pool has the places of a life's end, and is written as its streams.
+fn has_ended(alloc: Global, pool: &StringPool, life: &Life) -> Result<bool, Error> {
+    let (_, _, places, end) = life;
+    Ok(has_places(pool, *places) && is_written(alloc, pool, *end)?)
 }
 
-/// Asserts that a pool that was made has these places, and is written as these streams.
-fn assert_made(
-    rt: &impl Abort,
-    alloc: Global,
-    pool: Result<StringPool, Error>,
-    places: &[(&str, u16)],
-    streams: Streams,
-) -> Result<(), Error> {
-    assert_pool(rt, alloc, &pool?, places, streams)
+/// Whether a pool and its clone are as at a life's end.
+fn both_have_ended(alloc: Global, pool: &StringPool, life: &Life) -> Result<bool, Error> {
+    Ok(has_ended(alloc, pool, life)? && has_ended(alloc, &pool.clone()?, life)?)
 }
 
-/// Asserts the same of a pool and of its clone.
-fn assert_both_made(
-    rt: &impl Abort,
-    alloc: Global,
-    pool: Result<StringPool, Error>,
-    places: &[(&str, u16)],
-    streams: Streams,
-) -> Result<(), Error> {
-    let pool = pool?;
-    assert_made(rt, alloc, pool.clone(), places, streams)?;
-    assert_pool(rt, alloc, &pool, places, streams)
+/// Whether the steps of a life go as they say, and lead to its end.
+fn is_lived(alloc: Global, life: &Life) -> Result<bool, Error> {
+    let (start, steps, _, _) = life;
+    let mut pool = pool_in(alloc, *start)?;
+    Ok(all_go(alloc, &mut pool, *steps)? && both_have_ended(alloc, &pool, life)?)
+}
+
+/// Whether the streams at a life's end hold its places.
+fn is_read_back(alloc: Global, life: &Life) -> Result<bool, Error> {
+    let (_, _, _, end) = life;
+    has_ended(alloc, &pool_in(alloc, *end)?, life)
 }
 
 #[test]
 fn texts_take_the_first_place_that_fits(rt: HostRuntime) -> Result<(), Fail> {
-    let alloc = rt.alloc();
-    for (start, steps, places, end) in &LIVES {
-        let pool = pool_after(&rt, alloc, *start, *steps);
-        assert_both_made(&rt, alloc, pool, *places, *end)?;
-        assert_made(&rt, alloc, pool_in(alloc, *end), *places, *end)?;
+    for (row, life) in LIVES.iter().enumerate() {
+        let lived = is_lived(rt.alloc(), life)?;
+        assert!(rt; lived && is_read_back(rt.alloc(), life)?, "row {row}");
     }
     Ok(())
 }
 
+/// Whether two streams hold a text of 70000 bytes, and are written of it.
+fn hold_long_text(alloc: Global, streams: Streams) -> Result<bool, Error> {
+    let pool = pool_in(alloc, streams)?;
+    let text = pool.get(reference(1));
+    Ok(text.len() == 70000 && is_written(alloc, &pool, streams)?)
+}
+
 #[test]
 fn a_text_of_70000_bytes_is_written_long(rt: HostRuntime) -> Result<(), Fail> {
-    let alloc = rt.alloc();
-    let data = vec![in alloc; b'x'; 70000]?;
-    let pool = pool_in(alloc, (LONG, data.as_slice()))?;
-    assert_eq!(rt; pool.get(reference(1)).len(), 70000);
-    assert!(rt; is_written(alloc, &pool, (LONG, data.as_slice()))?);
+    let data = vec![in rt.alloc(); b'x'; 70000]?;
+    assert!(rt; hold_long_text(rt.alloc(), (LONG, data.as_slice()))?);
     Ok(())
 }
 
@@ -231,21 +204,23 @@ fn is_refused(alloc: Global, pool: &StringPool) -> bool {
         && written.is_empty()
 }
 
-#[test]
-fn what_the_page_lacks_is_not_written(rt: HostRuntime) -> Result<(), Fail> {
-    let mut pool = StringPool::new(rt.alloc(), CodePage::Windows1250);
-    assert!(rt; goes(rt.alloc(), &mut pool, Step::Take("é", 1))?);
-    assert!(rt; is_refused(rt.alloc(), &pool));
+/// Whether a pool is written as these streams in UTF-8, and not at all before.
+fn needs_utf8(alloc: Global, pool: &mut StringPool, streams: Streams) -> Result<bool, Error> {
+    let refused = is_refused(alloc, pool);
     pool.set_codepage(CodePage::Utf8);
-    assert!(rt; is_written(rt.alloc(), &pool, ACUTE)?);
-    Ok(())
+    Ok(refused && is_written(alloc, pool, streams)?)
 }
 
-/// How many places the pool has that streams hold, in UTF-8 and with short references.
-fn place_count(rt: &impl Abort, alloc: Global, streams: Streams) -> Result<u32, Error> {
-    let pool = pool_in(alloc, streams)?;
-    assert!(rt; pool.codepage() == CodePage::Utf8 && !pool.long_string_refs());
-    Ok(pool.num_strings())
+/// Whether `é` needs UTF-8 in a pool whose page lacks it.
+fn acute_needs_utf8(alloc: Global) -> Result<bool, Error> {
+    let mut pool = StringPool::new(alloc, CodePage::Windows1250);
+    Ok(goes(alloc, &mut pool, Step::Take("é", 1))? && needs_utf8(alloc, &mut pool, ACUTE)?)
+}
+
+#[test]
+fn what_the_page_lacks_is_not_written(rt: HostRuntime) -> Result<(), Fail> {
+    assert!(rt; acute_needs_utf8(rt.alloc())?);
+    Ok(())
 }
 
 /// Streams, how many places they hold, and what they are.
@@ -282,30 +257,44 @@ const CUTS: [(Streams<'static>, Result<u32, ErrorKind>, &str); 6] = [
     ),
 ];
 
-#[test]
-fn cut_pools_are_refused(rt: HostRuntime) {
-    for (streams, expected, what) in CUTS {
-        let found = told(place_count(&rt, rt.alloc(), streams));
-        assert!(rt; found == expected, "{what}");
+/// Whether a pool has so many places, UTF-8 and short references.
+fn has_count(pool: &StringPool, count: u32) -> bool {
+    pool.codepage() == CodePage::Utf8 && !pool.long_string_refs() && pool.num_strings() == count
+}
+
+/// Whether streams hold a pool of so many places, or are refused.
+fn hold(alloc: Global, streams: Streams, expected: Result<u32, ErrorKind>) -> bool {
+    match told(pool_in(alloc, streams)) {
+        Ok(pool) => expected.is_ok_and(|count| has_count(&pool, count)),
+        Err(kind) => expected == Err(kind),
     }
 }
 
-/// The number that is read, or none, of which the same bytes are written.
-fn number(rt: &impl Abort, alloc: Global, bytes: &[u8], long: bool) -> Result<i32, Error> {
-    let mut reader = bytes;
+#[test]
+fn cut_pools_are_refused(rt: HostRuntime) {
+    for (streams, expected, what) in &CUTS {
+        assert!(rt; hold(rt.alloc(), *streams, *expected), "{what}");
+    }
+}
+
+/// Whether a reference, or none, is written as these bytes.
+fn is_spelled(
+    alloc: Global,
+    place: Option<StringRef>,
+    bytes: &[u8],
+    long: bool,
+) -> Result<bool, Error> {
     let mut written = Vec::new(alloc);
-    let number = match StringRef::read(&mut reader, long)? {
-        Some(place) => {
-            StringRef::write(&mut written, Some(place), long)?;
-            place.number()
-        }
-        None => {
-            StringRef::write(&mut written, None, long)?;
-            0
-        }
-    };
-    assert_eq!(rt; written.as_slice(), bytes);
-    Ok(number)
+    StringRef::write(&mut written, place, long)?;
+    Ok(written.as_slice() == bytes)
+}
+
+/// The number that is read, or 0 where it is none, and whether the same bytes are written of it.
+fn number(alloc: Global, bytes: &[u8], long: bool) -> Result<(i32, bool), Error> {
+    let mut reader = bytes;
+    let place = StringRef::read(&mut reader, long)?;
+    let number = place.map_or(0, |place| place.number());
+    Ok((number, is_spelled(alloc, place, bytes, long)?))
 }
 
 /// Bytes, whether references are long, and the number that is read, 0 where it is none.
@@ -316,13 +305,25 @@ const REFERENCES: [(&[u8], bool, Result<i32, ErrorKind>); 4] = [
     (&[1], false, Err(ErrorKind::InvalidData)),
 ];
 
+/// Whether this number is read, and the same bytes are written of it, or the bytes are refused.
+fn spell(alloc: Global, bytes: &[u8], long: bool, expected: Result<i32, ErrorKind>) -> bool {
+    match told(number(alloc, bytes, long)) {
+        Ok((number, same)) => same && expected == Ok(number),
+        Err(kind) => expected == Err(kind),
+    }
+}
+
+/// Whether a reference that needs three bytes is not written in two.
+fn wide_is_refused(alloc: Global) -> bool {
+    let mut written = Vec::new(alloc);
+    let wide = StringRef::write(&mut written, Some(string_ref(65541)), false);
+    told(wide) == Err(ErrorKind::InvalidInput)
+}
+
 #[test]
 fn references_have_two_or_three_bytes(rt: HostRuntime) {
-    for (bytes, long, expected) in REFERENCES {
-        let found = told(number(&rt, rt.alloc(), bytes, long));
-        assert!(rt; found == expected, "{bytes:?}");
+    for (bytes, long, expected) in &REFERENCES {
+        assert!(rt; spell(rt.alloc(), *bytes, *long, *expected), "{bytes:?}");
     }
-    let mut written = Vec::new(rt.alloc());
-    let wide = StringRef::write(&mut written, Some(string_ref(65541)), false);
-    assert!(rt; told(wide) == Err(ErrorKind::InvalidInput));
+    assert!(rt; wide_is_refused(rt.alloc()));
 }
