@@ -45,11 +45,21 @@ fn bits_of(column: &Column) -> Option<u16> {
     }
 }
 
+/// Whether the column of a type and flags has these bits.
+fn is_written(alloc: Global, coltype: ColumnType, flags: Flags, bits: u16) -> Result<bool, Error> {
+    let column = flagged(alloc, coltype, flags)?;
+    Ok(bits_of(&column) == Some(bits))
+}
+
+/// Whether a type and flags are read from these bits.
+fn is_read(alloc: Global, coltype: ColumnType, flags: Flags, bits: u16) -> Result<bool, Error> {
+    let column = column_of_bits(Column::build(alloc, "Word")?, bits)?;
+    Ok(is_flagged(&column, coltype, flags))
+}
+
 /// Whether a type and flags have these bits, and are read from them.
 fn has_bits(alloc: Global, coltype: ColumnType, flags: Flags, bits: u16) -> Result<bool, Error> {
-    let column = flagged(alloc, coltype, flags)?;
-    let read = column_of_bits(Column::build(alloc, "Word")?, bits)?;
-    Ok(bits_of(&column) == Some(bits) && is_flagged(&read, coltype, flags))
+    Ok(is_written(alloc, coltype, flags, bits)? && is_read(alloc, coltype, flags, bits)?)
 }
 
 /// Whether the bits of a number of 3 bytes are refused.
@@ -117,11 +127,15 @@ fn is_told(column: &Column) -> bool {
         && column.enum_values().map_or(0, |values| values.len()) == 2
 }
 
+/// Whether a column and its copy are as they were told.
+fn both_are_told(alloc: Global, column: &Column) -> Result<bool, Error> {
+    Ok(is_told(column) && is_told(&column.clone(alloc)?))
+}
+
 #[test]
 fn columns_and_their_copies_are_as_they_were_told(rt: HostRuntime) -> Result<(), Fail> {
     let column = told(rt.alloc())?;
-    assert!(rt; is_told(&column));
-    assert!(rt; is_told(&column.clone(rt.alloc())?));
+    assert!(rt; both_are_told(rt.alloc(), &column)?);
     Ok(())
 }
 
@@ -153,10 +167,14 @@ fn is_keyed(alloc: Global, table: &Table) -> Result<bool, Error> {
     )
 }
 
+/// Whether a table and its copy are of these columns, and the first is their key.
+fn both_are_keyed(alloc: Global, table: &Table) -> Result<bool, Error> {
+    Ok(is_keyed(alloc, table)? && is_keyed(alloc, &table.clone(alloc)?)?)
+}
+
 #[test]
 fn tables_and_their_copies_tell_their_columns_and_keys(rt: HostRuntime) -> Result<(), Fail> {
     let table = keyed(&rt, rt.alloc())?;
-    assert!(rt; is_keyed(rt.alloc(), &table)?);
-    assert!(rt; is_keyed(rt.alloc(), &table.clone(rt.alloc())?)?);
+    assert!(rt; both_are_keyed(rt.alloc(), &table)?);
     Ok(())
 }

@@ -106,19 +106,28 @@ fn row(
     Ok(Items::from_vec(vec![in alloc; ValueRef::Int(number), word]?))
 }
 
-/// Rows whose texts stand in the pool in another order than their own.
-fn rows(alloc: Global, pool: &mut StringPool) -> Result<Vec<Items<ValueRef>>, Error> {
-    let last = row(alloc, pool, 1, Str("b"))?;
-    let second = row(alloc, pool, 2, Str("a"))?;
-    let first = row(alloc, pool, 3, Null)?;
-    Ok(vec![in alloc; last, second, first]?)
+/// Rows, as a test tells them: a number, and a text or another value, which is the key.
+type Rows = &'static [(i32, Given)];
+
+/// These rows.
+fn rows(alloc: Global, pool: &mut StringPool, told: Rows) -> Result<Vec<Items<ValueRef>>, Error> {
+    let mut rows = Vec::new(alloc);
+    for (number, word) in told {
+        rows.push(row(alloc, pool, *number, *word)?)?;
+    }
+    Ok(rows)
+}
+
+/// Sorts rows by their keys.
+fn sort(alloc: Global, pool: &StringPool, rows: &mut Vec<Items<ValueRef>>) -> Result<(), Error> {
+    sort_by_keys(columns(alloc)?.as_slice(), pool, rows)
 }
 
 /// These rows in the order of their keys.
-fn sorted(alloc: Global) -> Result<Vec<Items<ValueRef>>, Error> {
+fn sorted(alloc: Global, told: Rows) -> Result<Vec<Items<ValueRef>>, Error> {
     let mut pool = StringPool::new(alloc, CodePage::Utf8);
-    let mut rows = rows(alloc, &mut pool)?;
-    sort_by_keys(columns(alloc)?.as_slice(), &pool, &mut rows)?;
+    let mut rows = rows(alloc, &mut pool, told)?;
+    sort(alloc, &pool, &mut rows)?;
     Ok(rows)
 }
 
@@ -129,41 +138,27 @@ fn are_numbered(rows: &[Items<ValueRef>], numbers: &[i32]) -> bool {
     same && rows.len() == numbers.len()
 }
 
-#[test]
-fn rows_are_sorted_by_the_texts_of_their_keys_and_null_is_first(
-    rt: HostRuntime,
-) -> Result<(), Fail> {
-    let rows = sorted(rt.alloc())?;
-    assert!(rt; are_numbered(rows.as_slice(), &[3, 2, 1]));
-    Ok(())
+/// Whether rows that are sorted are of these numbers, in order.
+fn is_order(alloc: Global, told: Rows, numbers: &[i32]) -> Result<bool, Error> {
+    let rows = sorted(alloc, told)?;
+    Ok(are_numbered(rows.as_slice(), numbers))
 }
 
-/// Two rows in the order of their keys: the first is of number 1, the second of 0.
-fn pair_sorted(alloc: Global, key: Given, other: Given) -> Result<Vec<Items<ValueRef>>, Error> {
-    let mut pool = StringPool::new(alloc, CodePage::Utf8);
-    let first = row(alloc, &mut pool, 1, key)?;
-    let second = row(alloc, &mut pool, 0, other)?;
-    let mut rows = vec![in alloc; first, second]?;
-    sort_by_keys(columns(alloc)?.as_slice(), &pool, &mut rows)?;
-    Ok(rows)
-}
-
-/// Two keys, and the order of their rows.
-static KEYS: [(Given, Given, [i32; 2]); 4] = [
-    (Str("b"), Str("a"), [0, 1]),
-    (Str("a"), Null, [0, 1]),
-    (Str("b"), Str("b"), [1, 0]),
-    (Binary, Int(2), [0, 1]),
+/// Rows, whose texts come to stand in the pool in this order, and the order of their keys.
+static ORDERS: [(Rows, &[i32]); 5] = [
+    (&[(1, Str("b")), (2, Str("a")), (3, Null)], &[3, 2, 1]),
+    (&[(1, Str("b")), (0, Str("a"))], &[0, 1]),
+    (&[(1, Str("a")), (0, Null)], &[0, 1]),
+    (&[(1, Str("b")), (0, Str("b"))], &[1, 0]),
+    (&[(1, Binary), (0, Int(2))], &[0, 1]),
 ];
 
 #[test]
-fn keys_are_compared_by_their_values(rt: HostRuntime) -> Result<(), Fail> {
-    for (row, (key, other, numbers)) in KEYS.iter().enumerate() {
-        let rows = pair_sorted(rt.alloc(), *key, *other)?;
-        assert!(rt;
-            are_numbered(rows.as_slice(), numbers.as_slice()),
-            "row {row}"
-        );
+fn rows_are_sorted_by_the_values_of_their_keys_and_null_is_first(
+    rt: HostRuntime,
+) -> Result<(), Fail> {
+    for (told, numbers) in &ORDERS {
+        assert!(rt; is_order(rt.alloc(), *told, *numbers)?, "{numbers:?}");
     }
     Ok(())
 }

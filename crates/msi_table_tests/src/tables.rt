@@ -94,7 +94,9 @@ fn holds(
 }
 
 /// Columns, rows as they are handed in and as they are stored, and the bytes of the stream.
-static STREAMS: [(&[ColumnType], Numbers, Numbers, &[u8]); 9] = [
+type Stream = (&'static [ColumnType], Numbers, Numbers, &'static [u8]);
+
+static STREAMS: [Stream; 9] = [
     (&[Int16], &[&[Some(-32767)]], &[&[Some(-32767)]], &[1, 0]),
     (
         &[Int16],
@@ -132,24 +134,42 @@ static STREAMS: [(&[ColumnType], Numbers, Numbers, &[u8]); 9] = [
     ),
 ];
 
+/// Whether a table stores the rows that are handed in as the bytes of the stream.
+fn is_written(alloc: Global, table: &Table, stream: &Stream) -> Result<bool, Error> {
+    let (types, handed, _, bytes) = stream;
+    stores(alloc, table, rows(alloc, *types, *handed)?, *bytes)
+}
+
+/// Whether the bytes of the stream are read as the rows that are stored.
+fn is_read(alloc: Global, table: &Table, stream: &Stream) -> Result<bool, Error> {
+    let (types, _, stored, bytes) = stream;
+    holds(alloc, table, &rows(alloc, *types, *stored)?, *bytes)
+}
+
+/// Whether a table of these columns writes and reads the stream.
+fn is_kept(rt: &impl Abort, alloc: Global, stream: &Stream) -> Result<bool, Error> {
+    let table = table(rt, alloc, stream.0)?;
+    Ok(is_written(alloc, &table, stream)? && is_read(alloc, &table, stream)?)
+}
+
 #[test]
 fn cells_are_stored_column_by_column_and_rows_in_order(rt: HostRuntime) -> Result<(), Fail> {
-    let alloc = rt.alloc();
-    for (types, handed, stored, bytes) in &STREAMS {
-        let table = table(&rt, alloc, *types)?;
-        let written = stores(alloc, &table, rows(alloc, *types, *handed)?, *bytes)?;
-        let read = holds(alloc, &table, &rows(alloc, *types, *stored)?, *bytes)?;
-        assert!(rt; written && read, "{bytes:?}");
+    for stream in &STREAMS {
+        assert!(rt; is_kept(&rt, rt.alloc(), stream)?, "{:?}", stream.3);
     }
     Ok(())
 }
 
+/// How many rows of a table so many bytes hold, or why they are refused.
+fn rows_in(alloc: Global, table: &Table, len: usize) -> Result<usize, Error> {
+    let bytes = vec![in alloc; 0; len]?;
+    let rows = read_rows(alloc, table, bytes.as_slice())?;
+    Ok(rows.len())
+}
+
 /// How many rows of one number of 16 bits so many bytes hold, or why they are refused.
 fn row_count(rt: &impl Abort, alloc: Global, len: usize) -> Result<usize, Error> {
-    let table = table(rt, alloc, &[Int16])?;
-    let bytes = vec![in alloc; 0; len]?;
-    let rows = read_rows(alloc, &table, bytes.as_slice())?;
-    Ok(rows.len())
+    rows_in(alloc, &table(rt, alloc, &[Int16])?, len)
 }
 
 static LENGTHS: [(usize, Result<usize, ErrorKind>); 5] = [

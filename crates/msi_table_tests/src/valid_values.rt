@@ -63,11 +63,15 @@ fn column(alloc: Global, rules: Rules) -> Result<Column, Error> {
     Ok(of_type(builder, rules.coltype))
 }
 
-/// Whether a column of these rules takes a value.
-fn takes(alloc: Global, rules: Rules, given: Given) -> Result<bool, Error> {
-    let column = column(alloc, rules)?;
+/// Whether a value is valid in a column.
+fn is_valid(alloc: Global, column: &Column, given: Given) -> Result<bool, Error> {
     let value = value(alloc, given)?;
     Ok(column.is_valid_value(&value))
+}
+
+/// Whether a column of these rules takes a value.
+fn takes(alloc: Global, rules: Rules, given: Given) -> Result<bool, Error> {
+    is_valid(alloc, &column(alloc, rules)?, given)
 }
 
 /// Numbers from -5 to 7.
