@@ -30,7 +30,6 @@ use std::marker::Model;
 
 /// A package over a source or a device: a database, a summary and streams. It has what the file had, and what was
 /// changed since; only `flush` writes the file.
-#[derive(Drop)]
 pub struct Package<F: Source> {
     pub(crate) device: F,
     pub(crate) alloc: Global,
@@ -43,6 +42,25 @@ pub struct Package<F: Source> {
     pub(crate) is_unwritten: bool,
     pub(crate) is_summary_lent: bool,
     pub(crate) is_pool_changed: bool,
+}
+
+/// Written out, so that a function that owns one calls one drop, and its proof doesn't go through those of the parts.
+impl<F: Source + Drop> Drop for Package<F> {
+    fn drop(self) {
+        let Package {
+            device: _,
+            alloc: _,
+            kind: _,
+            summary: _,
+            database: _,
+            open: _,
+            current: _,
+            has_storages: _,
+            is_unwritten: _,
+            is_summary_lent: _,
+            is_pool_changed: _,
+        } = self;
+    }
 }
 
 impl<F: Source> Model for Package<F> {
@@ -109,7 +127,19 @@ impl<F: Source> Package<F> {
         ensures held { F.held result ≡ self.held }
         ensures failed { F.failed result ≡ self.failed }
     {
-        let Package { device, .. } = self;
+        let Package {
+            device,
+            alloc: _,
+            kind: _,
+            summary: _,
+            database: _,
+            open: _,
+            current: _,
+            has_storages: _,
+            is_unwritten: _,
+            is_summary_lent: _,
+            is_pool_changed: _,
+        } = self;
         device
     }
 

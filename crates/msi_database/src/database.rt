@@ -28,13 +28,25 @@ use std::alloc::Global;
 use std::marker::Model;
 
 /// A database in its container. It has all streams of the container's root, and touches only those of tables.
-#[derive(Drop)]
 pub struct Database {
     pub(crate) alloc: Global,
     pub(crate) pool: StringPool,
     pub(crate) tables: Items<Table>,
     pub(crate) streams: StreamMap,
     pub(crate) is_sound: bool,
+}
+
+/// Written out, so that a function that owns one calls one drop, and its proof doesn't go through those of the parts.
+impl Drop for Database {
+    fn drop(self) {
+        let Database {
+            alloc: _,
+            pool: _,
+            tables: _,
+            streams: _,
+            is_sound: _,
+        } = self;
+    }
 }
 
 impl Model for Database {

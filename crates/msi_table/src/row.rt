@@ -19,10 +19,19 @@ use std::ops::Index;
 use std::rc::Rc;
 
 /// A row: a value for each column.
-#[derive(Drop)]
 pub struct Row {
     columns: Rc<Items<Column>>,
     values: Items<Value>,
+}
+
+/// Written out, so that a function that owns one calls one drop, and its proof doesn't go through those of the parts.
+impl Drop for Row {
+    fn drop(self) {
+        let Row {
+            columns: _,
+            values: _,
+        } = self;
+    }
 }
 
 impl Model for Row {
@@ -184,13 +193,25 @@ fn row_of(
 }
 
 /// Rows, each of which is returned once. After `OutOfMemory` none is left.
-#[derive(Drop)]
 pub struct Rows<'a> {
     alloc: Global,
     pool: &'a StringPool,
     columns: Rc<Items<Column>>,
     rows: Vec<Items<ValueRef>>,
     given: usize,
+}
+
+/// Written out, so that a function that owns one calls one drop, and its proof doesn't go through those of the parts.
+impl Drop for Rows<'_> {
+    fn drop(self) {
+        let Rows {
+            alloc: _,
+            pool: _,
+            columns: _,
+            rows: _,
+            given: _,
+        } = self;
+    }
 }
 
 impl<'a> Model for Rows<'a> {

@@ -16,11 +16,21 @@ use std::marker::Model;
 pub const MAX_COLUMNS: usize = 32_767;
 
 /// A table's name and columns, and whether its references to texts are long.
-#[derive(Drop)]
 pub struct Table {
     name: Text,
     columns: Items<Column>,
     long: bool,
+}
+
+/// Written out, so that a function that owns one calls one drop, and its proof doesn't go through those of the parts.
+impl Drop for Table {
+    fn drop(self) {
+        let Table {
+            name: _,
+            columns: _,
+            long: _,
+        } = self;
+    }
 }
 
 impl Model for Table {

@@ -58,12 +58,23 @@ impl fmt::Display for Assignment {
 
 /// A query that sets columns in rows of a table. A contract sees the table's name, the columns with their values, and
 /// the condition.
-#[derive(Drop)]
 pub struct Update {
     alloc: Global,
     table: Text,
     sets: Items<Assignment>,
     condition: Option<Expr>,
+}
+
+/// Written out, so that a function that owns one calls one drop, and its proof doesn't go through those of the parts.
+impl Drop for Update {
+    fn drop(self) {
+        let Update {
+            alloc: _,
+            table: _,
+            sets: _,
+            condition: _,
+        } = self;
+    }
 }
 
 impl Model for Update {
