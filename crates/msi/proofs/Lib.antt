@@ -34,6 +34,7 @@ pub mod LawLemmas
 pub mod CallLemmas
 pub mod RenewedLemmas
 pub mod OverwritingLemmas
+pub mod FlushAmongLemmas
 pub mod FlushStepLemmas
 pub mod OpenStepLemmas
 pub mod CreatingLemmas

@@ -107,7 +107,7 @@ runs_keep_sessions old new (c ∷ cs) [] h fits run = absurd run
 runs_keep_sessions old new (c ∷ cs) (a ∷ others) h fits run = runs_keep_sessions run.0 new cs others (session_step old run.0 c a fits.0 run.1 h) fits.1 run.2
 
 -- a flush that is done leaves nothing unwritten
-no_answer : {P : Type 0} (kind : ErrorKind) {a : Answer} → ◌≡◌ {A = Result Answer ErrorKind} (Err kind) (Ok a) → P
+pub no_answer : {P : Type 0} (kind : ErrorKind) {a : Answer} → ◌≡◌ {A = Result Answer ErrorKind} (Err kind) (Ok a) → P
 no_answer kind e = absurd cc
 
 clean_by : (s y : State) (answer : Answer) (unwritten : Bool) (r : Result Streams ErrorKind) → s.is_unwritten ≡ unwritten → (if unwritten then flushed s r else (Ok calls.done, s)) ≡ (Ok answer, y) → y.is_unwritten ≡ false

@@ -1,5 +1,5 @@
 -- What holds of every step, of runs, and of what bytes mean: statements that public contracts name.
-use Rattle.std.specs.Prelude.{◌≡◌, ℕ, ◌<◌, ◌^◌, ◌⊎◌, true, false, List, length, Some, Result, Ok, Err}
+use Rattle.std.specs.Prelude.{◌≡◌, ℕ, ◌<◌, ◌^◌, ◌⊎◌, true, false, List, ◌∷◌, ◌++◌, length, Some, Result, Ok, Err}
 use Rattle.std.specs.List.{AllByRecursion}
 use Rattle.msi_text_base.specs.declared.errors.ErrorKind.{ErrorKind}
 use Rattle.msi_text_base.specs.declared.errors.ErrorKind.TheVariants.{Io, OutOfMemory}
@@ -113,6 +113,38 @@ RunsKeepSessions = (old new : Session) (sent : List Call) (answers : List (Resul
 abbrev pub FlushedIsHeld : Type 0
 FlushedIsHeld = (old new : Session) → IsSession old → SessionStep old calls.flush (Ok calls.done) new
     → (new.state.is_unwritten ≡ false) × (TextsAreWritable new.state → HoldsPackage new)
+
+-- What a flush leaves: one that is done nothing unwritten, no part changed, and a device that holds the package where
+-- its texts can be written; one that is refused the package as it was
+pub record IsFlushed (old new : Session) : Type 0 where
+  pub written : new.state.is_unwritten ≡ false
+  pub parts : parts_of new.state ≡ parts_of old.state
+  pub holds : TextsAreWritable new.state → HoldsPackage new
+
+abbrev pub FlushEnds : Session → Result Answer ErrorKind → Session → Type 0
+FlushEnds old (Ok answer) new = IsFlushed old new
+FlushEnds old (Err kind) new = new.state ≡ old.state
+
+-- A flush between calls of a run: the calls before it lead to the session that it finds, and those after it go on from
+-- the session that it leaves
+pub record FlushAmong (old : Session) (earlier later : List Call) (answers : List (Result Answer ErrorKind))
+    (new : Session) : Type 0 where
+  pub found : Session
+  pub left : Session
+  pub first : List (Result Answer ErrorKind)
+  pub answer : Result Answer ErrorKind
+  pub others : List (Result Answer ErrorKind)
+  pub answered : answers ≡ first ++ answer ∷ others
+  pub before : Run old earlier first found
+  pub flush : SessionStep found calls.flush answer left
+  pub ends : FlushEnds found answer left
+  pub is_session : IsSession left
+  pub after : Run left later others new
+
+abbrev pub FlushesAreSteps : Type 0
+FlushesAreSteps = (old new : Session) (earlier later : List Call) (answers : List (Result Answer ErrorKind))
+    → IsSession old → AllByRecursion FitsCall earlier
+    → Run old (earlier ++ calls.flush ∷ later) answers new → FlushAmong old earlier later answers new
 
 -- the bytes are those that `image` answers
 abbrev pub FlushHoldsImage : Type 0

@@ -4,7 +4,7 @@ ghost use Rattle.msi.specs.Laws.{BytesMeanOne, BytesOpenToOne, OpenedArePackages
 ghost use Rattle.msi.specs.Laws.{FlushKeepsParts, RemovesItsStream, RemovesSignature, WritesItsStream};
 ghost use Rattle.msi.specs.Laws.{RunsKeepPackages, StepsAreFixed, StepsKeepPackages};
 ghost use Rattle.msi.specs.Laws.{CreatedIsSession, FlushHoldsImage, FlushedIsHeld, OpenedIsSession, RunsKeepSessions};
-ghost use Rattle.msi.specs.Laws.{ReplaysMean};
+ghost use Rattle.msi.specs.Laws.{FlushesAreSteps, ReplaysMean};
 
 /// Bytes mean at most one package.
 pub fn bytes_mean_one()
@@ -90,6 +90,15 @@ pub fn runs_keep_sessions()
 /// package that is left, and opening them gives it.
 pub fn flushed_is_held()
     ensures { FlushedIsHeld }
+{}
+
+/// A flush may stand anywhere among the calls of a run, and is a step like the others: the calls before it lead to what
+/// it finds, and those after it go on from what it leaves. If it succeeds it changes no part of the package, and leaves
+/// nothing unwritten; if each text can be written in its page, the device's bytes then mean the parts that the calls
+/// before it made, and opening them gives the package that it left. If it fails the package is as it was. In both cases
+/// what it leaves is again a package over its device, of which every law of runs holds.
+pub fn flushes_are_steps()
+    ensures { FlushesAreSteps }
 {}
 
 /// A flush writes the bytes that `image` returns for the earlier length.
