@@ -13,7 +13,8 @@ abbrev pub is_io : {T : Type 0} → Result T ErrorKind → Bool
 is_io (Err Io) = true
 is_io answer = false
 
--- a value, and whether a call of it failed
+-- a value, whether a call of it failed, and whether something was written that was not yet passed on
 pub record Watched (F : Type 0) : Type 0 where
   pub inner : F
   pub failed : Bool
+  pub pending : Bool

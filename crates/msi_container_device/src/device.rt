@@ -1,6 +1,7 @@
 //! What can be read and written.
 
-ghost use Rattle.std.specs.Prelude.{◌≡◌, ◌≤◌, ◌||◌, length, take, option_map, is_err, IfOk, IfSome, OnOk, OnErr};
+ghost use Rattle.std.specs.Prelude.{◌≡◌, ◌≤◌, ◌||◌, Bool, false, length, take, option_map, is_err};
+ghost use Rattle.std.specs.Prelude.{IfOk, IfSome, IsOk, OnOk, OnErr};
 ghost use Rattle.msi_container_device.specs.Faults.{is_write_fault};
 ghost use Rattle.msi_container_device.specs.Held.{all_bytes, at_end, bytes_told, with_piece};
 
@@ -9,6 +10,9 @@ use std::io;
 
 /// A source that can be written.
 pub trait Device: Source {
+    /// Whether `length`, `write` and `flush` can fail at all.
+    ghost writes_can_fail: { Bool };
+
     /// Goes to the end, and returns how many bytes there are.
     ///
     /// # Errors
@@ -17,7 +21,9 @@ pub trait Device: Source {
         ensures count { IfOk result (λ n. IfSome (Self.held self.old) (λ h. n ≡ length (all_bytes h))) }
         ensures held { OnOk result (Self.held self.new ≡ option_map at_end (Self.held self.old)) }
         ensures bytes { bytes_told (Self.held self.new) ≡ bytes_told (Self.held self.old) }
-        ensures failed { Self.failed self.new ≡ (Self.failed self.old || is_err result) };
+        ensures failed { Self.failed self.new ≡ (Self.failed self.old || is_err result) }
+        ensures pending { Self.pending self.new ≡ Self.pending self.old }
+        ensures sound { writes_can_fail ≡ false → IsOk result };
 
     /// Writes a prefix of the piece over the bytes from the position on and past the end, and moves behind it. It
     /// returns how many bytes it took; taking none of a piece that has some sets the flag, as a failed call does.
@@ -29,14 +35,17 @@ pub trait Device: Source {
         ensures held { IfOk result
             (λ n. Self.held self.new ≡ option_map (with_piece (take n piece.now)) (Self.held self.old)) }
         ensures bytes { OnErr result (bytes_told (Self.held self.new) ≡ bytes_told (Self.held self.old)) }
-        ensures failed { Self.failed self.new ≡ (Self.failed self.old || is_write_fault piece.now result) };
+        ensures failed { Self.failed self.new ≡ (Self.failed self.old || is_write_fault piece.now result) }
+        ensures sound { writes_can_fail ≡ false → is_write_fault piece.now result ≡ false };
 
-    /// Passes on what was written, if the device has buffered it.
+    /// Passes on what was written, if the device has buffered it: then nothing is pending.
     ///
     /// # Errors
     /// Fails as the device does.
     fn flush(&mut self) -> io::Result<()>
         ensures held { OnOk result (Self.held self.new ≡ Self.held self.old) }
         ensures bytes { bytes_told (Self.held self.new) ≡ bytes_told (Self.held self.old) }
-        ensures failed { Self.failed self.new ≡ (Self.failed self.old || is_err result) };
+        ensures failed { Self.failed self.new ≡ (Self.failed self.old || is_err result) }
+        ensures handed_on { OnOk result (Self.pending self.new ≡ false) }
+        ensures sound { writes_can_fail ≡ false → IsOk result };
 }

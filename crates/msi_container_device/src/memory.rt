@@ -63,6 +63,11 @@ impl Source for Memory {
 
     ghost failed = { λ m. m.failed };
 
+    /// What is written is there at once.
+    ghost pending = { λ _. false };
+
+    ghost can_fail = { false };
+
     fn failed(&self) -> bool {
         self.failed
     }
@@ -93,6 +98,9 @@ impl Source for Memory {
 }
 
 impl Device for Memory {
+    /// A write fails if memory is refused for it.
+    ghost writes_can_fail = { true };
+
     fn length(&mut self) -> io::Result<u64>
         ensures count { result ≡ Ok (length (all_bytes self.old.held)) }
         ensures after { self.new ≡ record self.old { held = at_end self.old.held } }

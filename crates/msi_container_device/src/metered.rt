@@ -1,6 +1,6 @@
 //! A device over any reader, writer and seeker of `std`.
 
-ghost use Rattle.std.specs.Prelude.{◌≡◌, ◌≤◌, ◌||◌, IfOk, None, false, is_err, length, pos};
+ghost use Rattle.std.specs.Prelude.{◌≡◌, ◌≤◌, ◌||◌, IfOk, None, OnOk, false, is_err, length, pos, true};
 ghost use Rattle.std.specs.Io.KnownBytes.{Keeps, ReadConsumes, WriteAppends};
 ghost use Rattle.std.specs.Io.Seek.{MovesTo, SeekMoves};
 ghost use Rattle.msi_container_device.specs.Faults.{is_write_fault};
@@ -11,12 +11,13 @@ use std::io;
 use std::io::{Read, Seek, SeekFrom, Write};
 use std::marker::Model;
 
-/// A device over any reader, writer and seeker: it passes each call on, and records whether one failed. Contracts
-/// don't see its bytes, so nothing is promised of them.
+/// A device over any reader, writer and seeker: it passes each call on, and records whether one failed, and whether
+/// anything was written since the last flush. Contracts don't see its bytes, so nothing is promised of them.
 #[derive(Drop)]
 pub struct Metered<F> {
     inner: F,
     failed: bool,
+    pending: bool,
 }
 
 impl<F> Model for Metered<F> {
@@ -24,7 +25,7 @@ impl<F> Model for Metered<F> {
 
     ghost Value = { Watched F };
 
-    ghost view = { λ m. record { inner = m.inner; failed = m.failed } };
+    ghost view = { λ m. record { inner = m.inner; failed = m.failed; pending = m.pending } };
 }
 
 impl<F> Metered<F> {
@@ -32,10 +33,12 @@ impl<F> Metered<F> {
     pub fn new(inner: F) -> Metered<F>
         ensures inner { result.inner ≡ inner }
         ensures failed { result.failed ≡ false }
+        ensures pending { result.pending ≡ false }
     {
         Metered {
             inner,
             failed: false,
+            pending: false,
         }
     }
 
@@ -43,7 +46,11 @@ impl<F> Metered<F> {
     pub fn into_inner(self) -> F
         ensures { result ≡ self.inner }
     {
-        let Metered { inner, failed: _ } = self;
+        let Metered {
+            inner,
+            failed: _,
+            pending: _,
+        } = self;
         inner
     }
 
@@ -52,6 +59,7 @@ impl<F> Metered<F> {
         ensures same { result ≡ answer }
         ensures inner { self.new.inner ≡ self.old.inner }
         ensures failed { self.new.failed ≡ (self.old.failed || is_err answer) }
+        ensures pending { self.new.pending ≡ self.old.pending }
     {
         if answer.is_err() {
             self.failed = true;
@@ -65,6 +73,10 @@ impl<F: Read + Seek> Source for Metered<F> {
 
     ghost failed = { λ m. m.failed };
 
+    ghost pending = { λ m. m.pending };
+
+    ghost can_fail = { true };
+
     fn failed(&self) -> bool {
         self.failed
     }
@@ -76,6 +88,7 @@ impl<F: Read + Seek> Source for Metered<F> {
     fn rewind(&mut self) -> io::Result<()>
         ensures passed { MovesTo (F.stream_position self.old.inner) (F.stream_position self.new.inner) 0 result }
         ensures failed { self.new.failed ≡ (self.old.failed || is_err result) }
+        ensures pending { self.new.pending ≡ self.old.pending }
     {
         let answer = self.inner.seek(SeekFrom::Start(0));
         self.watch(answer)?;
@@ -86,6 +99,7 @@ impl<F: Read + Seek> Source for Metered<F> {
         ensures count { IfOk result (λ n. n ≤ length buf.old) }
         ensures passed { ReadConsumes (F.remaining self.old.inner) (F.remaining self.new.inner) result buf.new }
         ensures failed { self.new.failed ≡ (self.old.failed || is_err result) }
+        ensures pending { self.new.pending ≡ self.old.pending }
     {
         let answer = self.inner.read(buf);
         self.watch(answer)
@@ -93,10 +107,13 @@ impl<F: Read + Seek> Source for Metered<F> {
 }
 
 impl<F: Read + Write + Seek> Device for Metered<F> {
+    ghost writes_can_fail = { true };
+
     fn length(&mut self) -> io::Result<u64>
         ensures passed { SeekMoves (F.stream_position self.old.inner)
             (F.stream_position self.new.inner) (F.stream_bytes self.old.inner) (SeekFrom.End (pos 0)) result }
         ensures failed { self.new.failed ≡ (self.old.failed || is_err result) }
+        ensures pending { self.new.pending ≡ self.old.pending }
     {
         let answer = self.inner.seek(SeekFrom::End(0));
         self.watch(answer)
@@ -107,6 +124,7 @@ impl<F: Read + Write + Seek> Device for Metered<F> {
         ensures passed { WriteAppends (F.contents self.old.inner) (F.contents self.new.inner) result piece.now }
         ensures failed { self.new.failed ≡ (self.old.failed || is_write_fault piece.now result) }
     {
+        self.pending = true;
         let answer = self.inner.write(piece);
         if let Ok(0) = answer
             && !piece.is_empty()
@@ -119,8 +137,12 @@ impl<F: Read + Write + Seek> Device for Metered<F> {
     fn flush(&mut self) -> io::Result<()>
         ensures passed { Keeps (F.contents self.old.inner) (F.contents self.new.inner) }
         ensures failed { self.new.failed ≡ (self.old.failed || is_err result) }
+        ensures handed_on { OnOk result (self.new.pending ≡ false) }
     {
         let answer = self.inner.flush();
+        if answer.is_ok() {
+            self.pending = false;
+        }
         self.watch(answer)
     }
 }

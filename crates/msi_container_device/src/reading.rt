@@ -1,6 +1,6 @@
 //! Reading all that a source holds.
 
-ghost use Rattle.std.specs.Prelude.{◌≡◌, ◌⊎◌, ◌||◌, option_map, IfErr, IfOk, IfSome, OnOk};
+ghost use Rattle.std.specs.Prelude.{◌≡◌, ◌⊎◌, ◌||◌, false, option_map, IfErr, IfOk, IfSome, OnOk};
 ghost use Rattle.msi_container_device.specs.Faults.{is_io};
 ghost use Rattle.msi_container_device.specs.Held.{all_bytes, at_end, bytes_told};
 ghost use Rattle.msi_text_base.specs.declared.errors.ErrorKind.TheVariants.{Io, OutOfMemory};
@@ -23,6 +23,8 @@ pub fn read_all<S: Source>(alloc: Global, source: &mut S) -> Result<Vec<u8>, Err
     ensures held { OnOk result (S.held source.new ≡ option_map at_end (S.held source.old)) }
     ensures bytes { bytes_told (S.held source.new) ≡ bytes_told (S.held source.old) }
     ensures failed { S.failed source.new ≡ (S.failed source.old || is_io result) }
+    ensures faultless { S.can_fail ≡ false → is_io result ≡ false }
+    ensures pending { S.pending source.new ≡ S.pending source.old }
     ensures kinds { IfErr result (λ kind. (kind ≡ Io) ⊎ (kind ≡ OutOfMemory)) }
 {
     source.rewind().map_err(fault)?;

@@ -1,6 +1,6 @@
 //! Writing a whole piece, however little a device takes at a time.
 
-ghost use Rattle.std.specs.Prelude.{◌≡◌, ◌||◌, is_err, option_map, IfErr, OnErr, OnOk};
+ghost use Rattle.std.specs.Prelude.{◌≡◌, ◌||◌, false, is_err, option_map, IfErr, IsOk, OnErr, OnOk};
 ghost use Rattle.msi_container_device.specs.Held.{StandsInPart, with_piece};
 ghost use Rattle.msi_text_base.specs.declared.errors.ErrorKind.TheVariants.{Io};
 
@@ -19,6 +19,7 @@ pub fn write_all<W: Device>(device: &mut W, piece: &[u8]) -> Result<(), Error>
     ensures ok { OnOk result (W.held device.new ≡ option_map (with_piece piece.now) (W.held device.old)) }
     ensures part { OnErr result (StandsInPart piece.now (W.held device.old) (W.held device.new)) }
     ensures failed { W.failed device.new ≡ (W.failed device.old || is_err result) }
+    ensures faultless { W.writes_can_fail ≡ false → IsOk result }
     ensures kind { IfErr result (λ kind. kind ≡ Io) }
 {
     let mut written = 0;

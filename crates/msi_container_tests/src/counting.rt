@@ -1,6 +1,6 @@
 //! A device that counts its calls, takes little at a time, and fails once.
 
-ghost use Rattle.std.specs.Prelude.{◌≡◌, OnErr, OnOk, Some, true};
+ghost use Rattle.std.specs.Prelude.{◌≡◌, OnErr, OnOk, Some, false, true};
 
 use msi_container_device::{Device, Memory, Source};
 use std::io;
@@ -55,6 +55,11 @@ impl Source for Counting {
 
     ghost failed = { λ d. d.failed };
 
+    /// What is written is there at once.
+    ghost pending = { λ _. false };
+
+    ghost can_fail = { true };
+
     fn failed(&self) -> bool {
         self.failed
     }
@@ -75,6 +80,8 @@ impl Source for Counting {
 }
 
 impl Device for Counting {
+    ghost writes_can_fail = { true };
+
     fn length(&mut self) -> io::Result<u64> {
         self.begin()?;
         self.memory.length()

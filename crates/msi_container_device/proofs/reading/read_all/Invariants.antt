@@ -9,6 +9,7 @@ invariant-loop-bytes g l = record {
   held : g.S.Source.held l.source ≡ option_map (λ h. further (length l.bytes.items) (at_start h)) (g.S.Source.held l.fn.source);
   told : bytes_told (g.S.Source.held l.source) ≡ bytes_told (g.S.Source.held l.fn.source);
   failed : g.S.Source.failed l.source ≡ g.S.Source.failed l.fn.source;
+  pending : g.S.Source.pending l.source ≡ g.S.Source.pending l.fn.source;
 }
 
 abbrev pub decreases-loop-bytes : goal.decreases-loop-bytes
