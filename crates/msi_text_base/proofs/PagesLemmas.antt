@@ -1,10 +1,10 @@
 -- What callers need of code pages.
 use Rattle.std.proofs.Common.{◌≡◌, ℕ, zero, suc, ◌+◌, ◌-◌, ◌^◌, ◌<◌, true, cond, ◌&&◌, List, [], ◌∷◌, map, Option, Some, None, is_some, option_map, position, slice_get, chars, encode_utf8_all, eqb, refl, sym, ap, ◌∙◌, arith, rules, nat_lt}
-use Rattle.std.specs.Prelude.{unwrap_or, option_and_then}
+use Rattle.std.specs.Prelude.{unwrap_or, option_and_then, ◌↔◌, IsUtf8}
 use Rattle.std.specs.List.{list_all}
 use Rattle.std.specs.Str.{IsAscii}
-use Rattle.std.proofs.Math.Utf8.{scalars}
-use Rattle.std.proofs.lemmas.Bool.{and_parts, ltb-true}
+use Rattle.std.proofs.Math.Utf8.{scalar, scalars}
+use Rattle.std.proofs.lemmas.Bool.{and_parts, and_from, ltb-true}
 use Rattle.std.proofs.lemmas.Str.{IsUtf8-from_ascii, encodes-IsAscii, chars-IsAscii, encodes-chars, chars-encodes}
 use Rattle.std.proofs.lemmas.Option.{same_Some}
 use Rattle.bstr.specs.Utf8.{pieces_from}
@@ -12,9 +12,10 @@ use Rattle.bstr.proofs.lemmas.EncodeLemmas.{lossy_chars-utf8}
 use Rattle.msi_text_base.specs.declared.codepage.CodePage.{CodePage}
 use Rattle.msi_text_base.specs.declared.codepage.CodePage.TheVariants as page
 use Rattle.msi_text_base.specs.PageTables.{upper_characters, character_read, byte_written, character_of, byte_of}
-use Rattle.msi_text_base.specs.Pages.{is_ascii, single_byte_text, single_byte_spelling, text_in, bytes_in, page_id, page_with_id, PageTextsComeBack, PageBytesComeBack, Utf8TextsComeBack, AsciiStandsForItself}
+use Rattle.msi_text_base.specs.Pages.{is_ascii, single_byte_text, single_byte_spelling, text_in, bytes_in, page_id, page_with_id, PageTextsComeBack, PageBytesComeBack, Utf8TextsComeBack, AsciiStandsForItself, IsWritable}
 use Rattle.msi_text_base.proofs.PageTablesLemmas.{is_table, page_has_table, byte_again, character_again, character_scalar}
-use Rattle.msi_text_base.proofs.OptionLemmas.{some_there}
+use Rattle.msi_text_base.proofs.OptionLemmas.{none_there, some_there}
+use Rattle.msi_text_base.proofs.BoolLemmas.{by_test, yes_is_no}
 
 pub IsAscii-from_test : (bytes : List ℕ) → is_ascii bytes ≡ true → IsAscii bytes
 IsAscii-from_test [] h i = grind (arith, rules)
@@ -96,6 +97,48 @@ bytes_come_back page upper bytes text has known reads =
     table_spelling page upper text has
     ∙ ap (λ ds. Some (map (byte_written upper) ds)) characters
     ∙ ap Some (bytes_again upper bytes table known)
+
+-- only a text whose characters all have a byte reads back: `?`, which stands for the others, has one
+read_there : (upper : List ℕ) (c : ℕ) → character_read upper (byte_written upper c) ≡ c → is_some (byte_of upper c) ≡ true
+read_there upper c again = by_test (is_some (byte_of upper c)) (λ there. there)
+    (λ none.
+    let mark : c ≡ 63 = sym again ∙ ap (λ o. character_read upper (unwrap_or o 63)) (none_there (byte_of upper c) none) in
+    yes_is_no (is_some (byte_of upper c)) (ap (λ d. is_some (byte_of upper d)) mark) none)
+
+abbrev front : List ℕ → ℕ
+front [] = 0
+front (c ∷ cs) = c
+
+abbrev behind : List ℕ → List ℕ
+behind [] = []
+behind (c ∷ cs) = cs
+
+all_there : (upper cs : List ℕ) → map (character_read upper) (map (byte_written upper) cs) ≡ cs → list_all (λ c. is_some (byte_of upper c)) cs ≡ true
+all_there upper [] again = refl
+all_there upper (c ∷ cs) again = and_from (is_some (byte_of upper c)) (list_all (λ d. is_some (byte_of upper d)) cs) (read_there upper c (ap front again)) (all_there upper cs (ap behind again))
+
+scalar_read : (upper : List ℕ) → is_table upper ≡ true → (b : ℕ) → scalar (character_read upper b) ≡ true
+scalar_read upper table b = by_test (is_some (character_of upper b))
+    (λ there. character_scalar upper table b (character_read upper b) (some_there (character_of upper b) 0xFFFD there))
+    (λ none. ap (λ o. scalar (unwrap_or o 0xFFFD)) (none_there (character_of upper b) none))
+
+all_scalars : (upper bytes : List ℕ) → is_table upper ≡ true → scalars (map (character_read upper) bytes) ≡ true
+all_scalars upper [] table = refl
+all_scalars upper (b ∷ bytes) table = ap (λ t. t && scalars (map (character_read upper) bytes)) (scalar_read upper table b) ∙ all_scalars upper bytes table
+
+-- a text in a page with a table reads back where, and only where, each of its characters has a byte
+only_there : (page : CodePage) (upper text : List ℕ) → upper_characters page ≡ Some upper → IsWritable page text
+    → list_all (λ c. is_some (byte_of upper c)) (chars text) ≡ true
+only_there page upper text has writable =
+    let bytes = map (byte_written upper) (chars text) in
+    let again = map (character_read upper) bytes in
+    let whole = ap (option_and_then (text_in page)) (table_spelling page upper text has) ∙ table_text page upper bytes has in
+    let same = same_Some (encode_utf8_all again) text (sym whole ∙ writable) in
+    all_there upper (chars text) (sym (chars-encodes again (all_scalars upper bytes (page_has_table page upper has))) ∙ ap chars same)
+
+pub texts_in_table : (page : CodePage) (upper text : List ℕ) → upper_characters page ≡ Some upper → IsUtf8 text
+    → (list_all (λ c. is_some (byte_of upper c)) (chars text) ≡ true) ↔ IsWritable page text
+texts_in_table page upper text has utf8 = (λ places. texts_come_back page upper text has utf8 places, λ writable. only_there page upper text has writable)
 
 -- each page has an id, which names it
 pub page_named : (page : CodePage) → page_with_id (page_id page) ≡ Some page

@@ -1,16 +1,18 @@
 //! Code pages.
 
 ghost use Rattle.std.specs.Prelude.{◌≡◌, ◌==◌, ◌<◌, ◌≤◌, ◌^◌, pos, true, false, if◌then◌else◌, is_some, length};
-ghost use Rattle.std.specs.Prelude.{option_map, MatchOption, IfOk, IfErr, IfSome, string_bytes};
+ghost use Rattle.std.specs.Prelude.{option_map, MatchOption, IfOk, IfErr, IfSome, IsTrue, ◌↔◌, string_bytes};
 ghost use Rattle.std.specs.Option.{option_copied};
-ghost use Rattle.msi_text_base.specs.Pages.{Reads, Writes, all_pages, bytes_in, is_ascii, page_id, page_name};
+ghost use Rattle.msi_text_base.specs.Pages.{IsWritable, Reads, Writes, all_pages, bytes_in, is_ascii, page_id, page_name};
 ghost use Rattle.msi_text_base.specs.Pages.{page_with_id, page_with_signed_id, single_byte_spelling, single_byte_text};
 ghost use Rattle.msi_text_base.specs.Pages.{text_in};
 ghost use Rattle.msi_text_base.specs.declared.errors.ErrorKind.TheVariants.{InvalidData, InvalidInput, OutOfMemory};
 
 mod tables;
 
-use crate::codepage::tables::{bytes_written, character_count, text_read, upper_characters};
+use crate::codepage::tables::{
+    bytes_written, character_count, has_bytes, text_read, upper_characters,
+};
 use crate::errors::{Error, ErrorKind};
 use crate::reasons;
 use bstr::ByteSlice;
@@ -263,6 +265,19 @@ impl CodePage {
         match self {
             CodePage::Utf8 => true,
             _ => upper_characters(self).is_some() || is_ascii(text.as_bytes()),
+        }
+    }
+
+    /// Returns whether a text that is encoded in the page reads back as it was. It takes no memory.
+    pub fn reads_back(self, text: &str) -> bool
+        ensures { IsTrue result ↔ IsWritable self text.now }
+    {
+        match self {
+            CodePage::Utf8 => true,
+            _ => match upper_characters(self) {
+                Some(upper) => has_bytes(upper, text),
+                None => is_ascii(text.as_bytes()),
+            },
         }
     }
 

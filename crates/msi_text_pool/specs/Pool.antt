@@ -1,6 +1,6 @@
 -- The two streams of the string pool (`_StringPool` and `_StringData`).
 use Rattle.std.specs.Prelude.{◌≡◌, ℕ, ◌+◌, ◌^◌, ◌<◌, ◌≤◌, ◌⊎◌, Bool, false, not, List, [], ◌∷◌, ◌++◌, map, length}
-use Rattle.std.specs.Prelude.{Option, Some, option_map, nat_lt, ◌==◌, ◌&&◌, ◌||◌, if◌then◌else◌, zip}
+use Rattle.std.specs.Prelude.{Option, Some, option_map, nat_lt, ◌==◌, ◌&&◌, ◌||◌, if◌then◌else◌, zip, IsUtf8}
 use Rattle.std.specs.Int.{w16, w32, to_le_bytes}
 use Rattle.std.specs.List.{enumerate_from, flat_map}
 use Rattle.std.specs.List as lists
@@ -108,6 +108,10 @@ pool_stream pool = option_map (λ pieces. header_of (page_id pool.page) pool.lon
 -- each text in use can be written in the page
 abbrev pub AreWritable : Pool → Type 0
 AreWritable pool = lists.AllByRecursion (λ p. (0 < p.count) → IsWritable pool.page p.text) pool.places
+
+-- each text is UTF-8
+abbrev pub HaveUtf8Texts : List Place → Type 0
+HaveUtf8Texts places = lists.AllByRecursion (λ p. IsUtf8 p.text) places
 
 -- a place loses its text where it is free and no cell names it
 abbrev pub forgotten : Bool → Place → Place

@@ -9,6 +9,7 @@ pub(crate) mod reading;
 mod reference;
 mod shared;
 mod texts;
+mod writable;
 pub(crate) mod writing;
 
 /// How many places a pool may have: as many as long references can name.

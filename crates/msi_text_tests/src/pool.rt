@@ -223,6 +223,32 @@ fn what_the_page_lacks_is_not_written(rt: HostRuntime) -> Result<(), Fail> {
     Ok(())
 }
 
+/// Texts, and whether they can be written in Windows-1252 and in UTF-8. `?` is written for the last two.
+const WRITABLE: [(&str, (bool, bool)); 4] = [
+    ("é?", (true, true)),
+    ("\u{81}", (true, true)),
+    ("数", (false, true)),
+    ("\u{FFFD}", (false, true)),
+];
+
+/// Whether a pool with a text can be written in Windows-1252 and in UTF-8.
+fn writable(alloc: Global, text: &'static str) -> Result<(bool, bool), Error> {
+    let mut pool = StringPool::new(alloc, CodePage::Windows1252);
+    goes(alloc, &mut pool, Step::Take(text, 1))?;
+    let narrow = pool.is_writable();
+    pool.set_codepage(CodePage::Utf8);
+    Ok((narrow, pool.is_writable()))
+}
+
+#[test]
+fn utf8_writes_what_a_page_lacks(rt: HostRuntime) -> Result<(), Fail> {
+    for (text, expected) in &WRITABLE {
+        let pages = writable(rt.alloc(), *text)?;
+        assert!(rt; pages == *expected, "{text}");
+    }
+    Ok(())
+}
+
 /// Streams, how many places they hold, and what they are.
 const CUTS: [(Streams<'static>, Result<u32, ErrorKind>, &str); 6] = [
     (

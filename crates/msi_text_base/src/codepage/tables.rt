@@ -1,9 +1,11 @@
 //! The tables of the pages that have one byte for a character.
 
 ghost use Rattle.std.specs.Prelude.{◌≡◌, ◌==◌, ◌≤◌, IfOk, IfSome, length, map, position, string_bytes, encode_utf8_all};
+ghost use Rattle.std.specs.Prelude.{is_some};
+ghost use Rattle.std.specs.List.{list_all};
 ghost use Rattle.std.specs.Option.{option_copied};
 ghost use Rattle.std.specs.Str.{chars};
-ghost use Rattle.msi_text_base.specs.PageTables.{upper_characters, character_read, byte_written};
+ghost use Rattle.msi_text_base.specs.PageTables.{upper_characters, character_read, byte_of, byte_written};
 
 use crate::codepage::CodePage;
 use std::alloc::{AllocError, Global};
@@ -95,6 +97,20 @@ fn byte_written(upper: &[char], character: char) -> u8
         Some(place) => 0x80 + place as u8,
         None => b'?',
     }
+}
+
+/// Whether a byte stands for a character.
+fn has_byte(upper: &[char], character: char) -> bool
+    ensures { result ≡ is_some (byte_of upper.now character) }
+{
+    character < '\u{80}' || place_of(upper, character).is_some()
+}
+
+/// Whether each character of a text has a byte.
+pub(crate) fn has_bytes(upper: &[char], text: &str) -> bool
+    ensures { result ≡ list_all (λ c. is_some (byte_of upper.now c)) (chars text.now) }
+{
+    text.chars().all(|character| has_byte(upper, character))
 }
 
 /// The text of the characters that are read for the bytes.
