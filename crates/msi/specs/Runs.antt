@@ -94,7 +94,28 @@ Run old (c ∷ cs) [] new = ⊥
 abbrev pub FitsCall : Call → Type 0
 FitsCall (calls.summary_info_mut summary_calls) = AllByRecursion FitsSummaryCall summary_calls
 FitsCall (calls.write_stream name stream_calls) = IsUtf8 name
-FitsCall _ = Unit {0}
+FitsCall calls.package_type = Unit {0}
+FitsCall calls.database_codepage = Unit {0}
+FitsCall (calls.has_table name) = Unit {0}
+FitsCall (calls.get_table name) = Unit {0}
+FitsCall calls.tables = Unit {0}
+FitsCall (calls.has_stream name) = Unit {0}
+FitsCall calls.streams = Unit {0}
+FitsCall calls.has_digital_signature = Unit {0}
+FitsCall (calls.select_rows query) = Unit {0}
+FitsCall (calls.insert_rows query) = Unit {0}
+FitsCall (calls.update_rows query) = Unit {0}
+FitsCall (calls.delete_rows query) = Unit {0}
+FitsCall (calls.create_table name columns) = Unit {0}
+FitsCall (calls.drop_table name) = Unit {0}
+FitsCall (calls.set_database_codepage page) = Unit {0}
+FitsCall (calls.remove_stream name) = Unit {0}
+FitsCall calls.remove_digital_signature = Unit {0}
+FitsCall (calls.image n) = Unit {0}
+FitsCall calls.flush = Unit {0}
+FitsCall calls.device_failed = Unit {0}
+FitsCall (calls.summary_info questions) = Unit {0}
+FitsCall (calls.read_stream name stream_calls) = Unit {0}
 
 -- each text of the pool and the summary can be written in its page
 abbrev pub TextsAreWritable : State → Type 0
