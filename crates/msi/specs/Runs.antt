@@ -10,7 +10,7 @@ use Rattle.msi_text_pool.specs.Pool as pools
 use Rattle.msi_summary.specs.Summary.{new_summary}
 use Rattle.msi_summary_properties.specs.PropertyStream as properties
 use Rattle.msi_container_write.specs.Layout.{layout}
-use Rattle.msi_database_changes.specs.Database.{CountsAreExact}
+use Rattle.msi_database_changes.specs.Database.{CountsAreExact, is_sound}
 use Rattle.msi_database_changes.specs.Laws.{KeysAreDistinct}
 use Rattle.msi_database.specs.Fresh as databases
 use Rattle.msi.specs.declared.kinds.PackageType.{PackageType}
@@ -155,4 +155,30 @@ abbrev pub IsReplayRefused : PackageType → List Call → ErrorKind → Type 0
 IsReplayRefused kind sent error = (error ≡ OutOfMemory) ⊎ (error ≡ Io)
     ⊎ (written_for (unwritten kind) 0 ≡ Err error)
     ⊎ ((answers : List (Result Answer ErrorKind)) × (last : Session) × Run (created kind) sent answers last
+    × (written_for last.state (length last.held) ≡ Err error))
+
+-- The calls were carried out on the package that the bytes open to, and it was flushed: the bytes that are left mean
+-- what the accepted calls define, and opening them gives the package that was left. A sound database stays sound, so no
+-- count is below the number of its cells; exact counts stay exact, and distinct keys distinct
+pub record IsReplayOver (bytes : List ℕ) (sent : List Call) (answers : List (Result Answer ErrorKind))
+    (written : List ℕ) : Type 0 where
+  pub start : State
+  pub last : Session
+  pub left : Session
+  pub opens : OpensTo bytes (Ok start)
+  pub run : Run (opened bytes start) sent answers last
+  pub flush : SessionStep last calls.flush (Ok calls.done) left
+  pub held : written ≡ left.held
+  pub means : TextsAreWritable left.state → HoldsPackage left
+  pub sound : is_sound start.kept.database ≡ true → is_sound left.state.kept.database ≡ true
+  pub counts : is_sound start.kept.database ≡ true
+      → CountsAreExact start.kept.database → CountsAreExact left.state.kept.database
+  pub keys : is_sound start.kept.database ≡ true
+      → KeysAreDistinct start.kept.database → KeysAreDistinct left.state.kept.database
+
+-- it is refused only for want of memory, for a fault of the device, or as opening the bytes or the last flush was
+abbrev pub IsReplayOverRefused : List ℕ → List Call → ErrorKind → Type 0
+IsReplayOverRefused bytes sent error = (error ≡ OutOfMemory) ⊎ (error ≡ Io) ⊎ OpensTo bytes (Err error)
+    ⊎ ((start : State) × (answers : List (Result Answer ErrorKind)) × (last : Session)
+    × OpensTo bytes (Ok start) × Run (opened bytes start) sent answers last
     × (written_for last.state (length last.held) ≡ Err error))
