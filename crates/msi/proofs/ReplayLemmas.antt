@@ -15,10 +15,11 @@ use Rattle.msi.specs.declared.kinds.PackageType.TheVariants as kind
 use Rattle.msi.specs.State.{State}
 use Rattle.msi.specs.Calls as calls
 use Rattle.msi.specs.Steps.{streams_written, image_refusals, contents_of, written_for}
-use Rattle.msi.specs.Runs.{Session, IsSession, created, created_over, fresh, unwritten}
-use Rattle.msi.specs.Laws.{CreatedIsSession, ReplaysMean, IsExact}
+use Rattle.msi.specs.Runs.{Session, IsSession, created, created_over, fresh, opened, unwritten}
+use Rattle.msi.specs.Laws.{CreatedIsSession, ReplaysMean, ReplaysOverMean, IsExact}
 use Rattle.msi.proofs.FreshLemmas.{unwritten_package, fresh_package, fresh_written, fresh_sound, fresh_counts, fresh_keys}
 use Rattle.msi.proofs.FlushLemmas.{flush_package}
+use Rattle.msi.proofs.OpenedLemmas.{opened_is_session}
 use Rattle.msi.proofs.StepLemmas.{written_is}
 use Rattle.msi.proofs.RunLemmas.{runs_keep, session_keeps}
 use Rattle.msi.proofs.SessionLemmas.{left_by, laid_out, runs_keep_sessions, session_step, flushed_clean}
@@ -82,4 +83,26 @@ replays_mean k sent answers last left fits run flush =
       means = after.held clean;
       counts = flushed.counts sound (kept.counts start.1.sound start.1.counts);
       keys = flushed.keys sound (kept.keys start.1.sound start.1.keys);
+    }
+
+-- and on a package that was opened
+pub replays_over_mean : ReplaysOverMean
+replays_over_mean bytes start sent answers last left small opens fits run flush =
+    let first = opened_is_session bytes start small opens in
+    let before : IsSession last = runs_keep_sessions (opened bytes start) last sent answers first fits run in
+    let after : IsSession left = session_step last left calls.flush (Ok calls.done) tt flush before in
+    let kept = runs_keep (opened bytes start) last sent answers first.is_package fits run in
+    let flushed = session_keeps last left calls.flush (Ok calls.done) before.is_package tt flush in
+    record {
+      start = start;
+      last = last;
+      left = left;
+      opens = opens;
+      run = run;
+      flush = flush;
+      held = refl;
+      means = after.held (flushed_clean last left calls.done flush);
+      sound = λ sound. flushed.sound (kept.sound sound);
+      counts = λ sound counts. flushed.counts (kept.sound sound) (kept.counts sound counts);
+      keys = λ sound keys. flushed.keys (kept.sound sound) (kept.keys sound keys);
     }

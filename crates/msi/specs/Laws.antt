@@ -16,7 +16,7 @@ use Rattle.msi.specs.Calls as calls
 use Rattle.msi.specs.Steps.{Step, outcome, is_lending, image_of, streams_written, as_written, with_streams}
 use Rattle.msi.specs.Steps.{without_signature}
 use Rattle.msi.specs.Runs.{Session, SessionStep, Run, FitsCall, TextsAreWritable, HoldsPackage, IsSession, IsReplay}
-use Rattle.msi.specs.Runs.{created, created_over, opened}
+use Rattle.msi.specs.Runs.{IsReplayOver, created, created_over, opened}
 
 -- each of them is a byte
 abbrev pub AreBytes : List ℕ → Type 0
@@ -164,3 +164,10 @@ abbrev pub ReplaysMean : Type 0
 ReplaysMean = (kind : PackageType) (sent : List Call) (answers : List (Result Answer ErrorKind)) (last left : Session)
     → AllByRecursion FitsCall sent → Run (created kind) sent answers last
     → SessionStep last calls.flush (Ok calls.done) left → IsReplay kind sent answers left.held
+
+-- any calls on a package that was opened, and a last flush that is done
+abbrev pub ReplaysOverMean : Type 0
+ReplaysOverMean = (bytes : List ℕ) (start : State) (sent : List Call) (answers : List (Result Answer ErrorKind))
+    (last left : Session) → AreBytes bytes → OpensTo bytes (Ok start) → AllByRecursion FitsCall sent
+    → Run (opened bytes start) sent answers last → SessionStep last calls.flush (Ok calls.done) left
+    → IsReplayOver bytes sent answers left.held

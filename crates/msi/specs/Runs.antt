@@ -10,7 +10,7 @@ use Rattle.msi_text_pool.specs.Pool as pools
 use Rattle.msi_summary.specs.Summary.{new_summary}
 use Rattle.msi_summary_properties.specs.PropertyStream as properties
 use Rattle.msi_container_write.specs.Layout.{layout}
-use Rattle.msi_database_changes.specs.Database.{CountsAreExact}
+use Rattle.msi_database_changes.specs.Database.{CountsAreExact, is_sound}
 use Rattle.msi_database_changes.specs.Laws.{KeysAreDistinct}
 use Rattle.msi_database.specs.Fresh as databases
 use Rattle.msi.specs.declared.kinds.PackageType.{PackageType}
@@ -94,7 +94,28 @@ Run old (c ∷ cs) [] new = ⊥
 abbrev pub FitsCall : Call → Type 0
 FitsCall (calls.summary_info_mut summary_calls) = AllByRecursion FitsSummaryCall summary_calls
 FitsCall (calls.write_stream name stream_calls) = IsUtf8 name
-FitsCall _ = Unit {0}
+FitsCall calls.package_type = Unit {0}
+FitsCall calls.database_codepage = Unit {0}
+FitsCall (calls.has_table name) = Unit {0}
+FitsCall (calls.get_table name) = Unit {0}
+FitsCall calls.tables = Unit {0}
+FitsCall (calls.has_stream name) = Unit {0}
+FitsCall calls.streams = Unit {0}
+FitsCall calls.has_digital_signature = Unit {0}
+FitsCall (calls.select_rows query) = Unit {0}
+FitsCall (calls.insert_rows query) = Unit {0}
+FitsCall (calls.update_rows query) = Unit {0}
+FitsCall (calls.delete_rows query) = Unit {0}
+FitsCall (calls.create_table name columns) = Unit {0}
+FitsCall (calls.drop_table name) = Unit {0}
+FitsCall (calls.set_database_codepage page) = Unit {0}
+FitsCall (calls.remove_stream name) = Unit {0}
+FitsCall calls.remove_digital_signature = Unit {0}
+FitsCall (calls.image n) = Unit {0}
+FitsCall calls.flush = Unit {0}
+FitsCall calls.device_failed = Unit {0}
+FitsCall (calls.summary_info questions) = Unit {0}
+FitsCall (calls.read_stream name stream_calls) = Unit {0}
 
 -- each text of the pool and the summary can be written in its page
 abbrev pub TextsAreWritable : State → Type 0
@@ -134,4 +155,30 @@ abbrev pub IsReplayRefused : PackageType → List Call → ErrorKind → Type 0
 IsReplayRefused kind sent error = (error ≡ OutOfMemory) ⊎ (error ≡ Io)
     ⊎ (written_for (unwritten kind) 0 ≡ Err error)
     ⊎ ((answers : List (Result Answer ErrorKind)) × (last : Session) × Run (created kind) sent answers last
+    × (written_for last.state (length last.held) ≡ Err error))
+
+-- The calls were carried out on the package that the bytes open to, and it was flushed: the bytes that are left mean
+-- what the accepted calls define, and opening them gives the package that was left. A sound database stays sound, so no
+-- count is below the number of its cells; exact counts stay exact, and distinct keys distinct
+pub record IsReplayOver (bytes : List ℕ) (sent : List Call) (answers : List (Result Answer ErrorKind))
+    (written : List ℕ) : Type 0 where
+  pub start : State
+  pub last : Session
+  pub left : Session
+  pub opens : OpensTo bytes (Ok start)
+  pub run : Run (opened bytes start) sent answers last
+  pub flush : SessionStep last calls.flush (Ok calls.done) left
+  pub held : written ≡ left.held
+  pub means : TextsAreWritable left.state → HoldsPackage left
+  pub sound : is_sound start.kept.database ≡ true → is_sound left.state.kept.database ≡ true
+  pub counts : is_sound start.kept.database ≡ true
+      → CountsAreExact start.kept.database → CountsAreExact left.state.kept.database
+  pub keys : is_sound start.kept.database ≡ true
+      → KeysAreDistinct start.kept.database → KeysAreDistinct left.state.kept.database
+
+-- it is refused only for want of memory, for a fault of the device, or as opening the bytes or the last flush was
+abbrev pub IsReplayOverRefused : List ℕ → List Call → ErrorKind → Type 0
+IsReplayOverRefused bytes sent error = (error ≡ OutOfMemory) ⊎ (error ≡ Io) ⊎ OpensTo bytes (Err error)
+    ⊎ ((start : State) × (answers : List (Result Answer ErrorKind)) × (last : Session)
+    × OpensTo bytes (Ok start) × Run (opened bytes start) sent answers last
     × (written_for last.state (length last.held) ≡ Err error))

@@ -206,14 +206,56 @@ Lends s (calls.read_stream name stream_calls) (calls.stream_says answers) new = 
     × RunsTo reader_outcome reader_wants_memory (at_start (bytes_of_stream (parts_of s) name))
     stream_calls answers cursor
     × (new ≡ s)
-Lends s _ _ new = ⊥
+Lends s (calls.summary_info questions) _ new = ⊥
+Lends s (calls.summary_info_mut summary_calls) _ new = ⊥
+Lends s (calls.write_stream name stream_calls) _ new = ⊥
+Lends s (calls.read_stream name stream_calls) _ new = ⊥
+Lends s calls.package_type _ new = ⊥
+Lends s calls.database_codepage _ new = ⊥
+Lends s (calls.has_table name) _ new = ⊥
+Lends s (calls.get_table name) _ new = ⊥
+Lends s calls.tables _ new = ⊥
+Lends s (calls.has_stream name) _ new = ⊥
+Lends s calls.streams _ new = ⊥
+Lends s calls.has_digital_signature _ new = ⊥
+Lends s (calls.select_rows query) _ new = ⊥
+Lends s (calls.insert_rows query) _ new = ⊥
+Lends s (calls.update_rows query) _ new = ⊥
+Lends s (calls.delete_rows query) _ new = ⊥
+Lends s (calls.create_table name columns) _ new = ⊥
+Lends s (calls.drop_table name) _ new = ⊥
+Lends s (calls.set_database_codepage page) _ new = ⊥
+Lends s (calls.remove_stream name) _ new = ⊥
+Lends s calls.remove_digital_signature _ new = ⊥
+Lends s (calls.image n) _ new = ⊥
+Lends s calls.flush _ new = ⊥
+Lends s calls.device_failed _ new = ⊥
 
 abbrev pub is_lending : Call → Bool
 is_lending (calls.summary_info questions) = true
 is_lending (calls.summary_info_mut summary_calls) = true
 is_lending (calls.write_stream name stream_calls) = true
 is_lending (calls.read_stream name stream_calls) = true
-is_lending _ = false
+is_lending calls.package_type = false
+is_lending calls.database_codepage = false
+is_lending (calls.has_table name) = false
+is_lending (calls.get_table name) = false
+is_lending calls.tables = false
+is_lending (calls.has_stream name) = false
+is_lending calls.streams = false
+is_lending calls.has_digital_signature = false
+is_lending (calls.select_rows query) = false
+is_lending (calls.insert_rows query) = false
+is_lending (calls.update_rows query) = false
+is_lending (calls.delete_rows query) = false
+is_lending (calls.create_table name columns) = false
+is_lending (calls.drop_table name) = false
+is_lending (calls.set_database_codepage page) = false
+is_lending (calls.remove_stream name) = false
+is_lending calls.remove_digital_signature = false
+is_lending (calls.image n) = false
+is_lending calls.flush = false
+is_lending calls.device_failed = false
 
 abbrev pub LendsOrRefuses : State → Call → Result Answer ErrorKind × State → Result Answer ErrorKind → State → Type 0
 LendsOrRefuses s call (Ok lent, after) (Ok answer) new = Lends after call answer new
@@ -235,11 +277,44 @@ may_want_memory s (calls.read_stream name c) = true
 may_want_memory s (calls.remove_stream name) = true
 may_want_memory s (calls.image n) = true
 may_want_memory s calls.flush = s.is_unwritten
-may_want_memory s _ = false
+may_want_memory s calls.package_type = false
+may_want_memory s calls.database_codepage = false
+may_want_memory s (calls.has_table name) = false
+may_want_memory s (calls.get_table name) = false
+may_want_memory s calls.tables = false
+may_want_memory s (calls.has_stream name) = false
+may_want_memory s calls.streams = false
+may_want_memory s calls.has_digital_signature = false
+may_want_memory s calls.remove_digital_signature = false
+may_want_memory s calls.device_failed = false
+may_want_memory s (calls.summary_info questions) = false
+may_want_memory s (calls.summary_info_mut summary_calls) = false
 
 abbrev pub may_meet_fault : State → Call → Bool
 may_meet_fault s calls.flush = s.is_unwritten
-may_meet_fault s _ = false
+may_meet_fault s calls.package_type = false
+may_meet_fault s calls.database_codepage = false
+may_meet_fault s (calls.has_table name) = false
+may_meet_fault s (calls.get_table name) = false
+may_meet_fault s calls.tables = false
+may_meet_fault s (calls.has_stream name) = false
+may_meet_fault s calls.streams = false
+may_meet_fault s calls.has_digital_signature = false
+may_meet_fault s (calls.select_rows query) = false
+may_meet_fault s (calls.insert_rows query) = false
+may_meet_fault s (calls.update_rows query) = false
+may_meet_fault s (calls.delete_rows query) = false
+may_meet_fault s (calls.create_table name columns) = false
+may_meet_fault s (calls.drop_table name) = false
+may_meet_fault s (calls.set_database_codepage page) = false
+may_meet_fault s (calls.remove_stream name) = false
+may_meet_fault s calls.remove_digital_signature = false
+may_meet_fault s (calls.image n) = false
+may_meet_fault s calls.device_failed = false
+may_meet_fault s (calls.summary_info questions) = false
+may_meet_fault s (calls.summary_info_mut summary_calls) = false
+may_meet_fault s (calls.write_stream name stream_calls) = false
+may_meet_fault s (calls.read_stream name stream_calls) = false
 
 -- One call: the first refusal that holds, and nothing changes; or its effect. Want of memory and a fault of the device
 -- change nothing

@@ -4,7 +4,7 @@ ghost use Rattle.msi.specs.Laws.{BytesMeanOne, BytesOpenToOne, OpenedArePackages
 ghost use Rattle.msi.specs.Laws.{FlushKeepsParts, RemovesItsStream, RemovesSignature, WritesItsStream};
 ghost use Rattle.msi.specs.Laws.{RunsKeepPackages, StepsAreFixed, StepsKeepPackages};
 ghost use Rattle.msi.specs.Laws.{CreatedIsSession, FlushHoldsImage, FlushedIsHeld, OpenedIsSession, RunsKeepSessions};
-ghost use Rattle.msi.specs.Laws.{FlushesAreSteps, ReplaysMean};
+ghost use Rattle.msi.specs.Laws.{FlushesAreSteps, ReplaysMean, ReplaysOverMean};
 
 /// Bytes mean at most one package.
 pub fn bytes_mean_one()
@@ -111,4 +111,12 @@ pub fn flush_holds_image()
 /// bytes mean what the accepted calls define, and opening them gives the package that was left.
 pub fn replays_mean()
     ensures { ReplaysMean }
+{}
+
+/// After any calls on a package that was opened and a last flush that succeeds: if each text can be written in its
+/// page, the bytes mean what the accepted calls define, and opening them gives the package that was left. If the opened
+/// database was sound, it still is, so no count is below the number of its cells; then exact counts stay exact, and
+/// distinct keys distinct.
+pub fn replays_over_mean()
+    ensures { ReplaysOverMean }
 {}
