@@ -1,9 +1,11 @@
 //! Writing a compound file, to memory or to a device.
 
-ghost use Rattle.std.specs.Prelude.{◌≡◌, ◌↔◌, ◌<◌, ◌≤◌, ◌^◌, ◌⊎◌, ◌||◌, is_err, option_map, IfOk, IfErr, IsErr};
+ghost use Rattle.std.specs.Prelude.{◌≡◌, ◌↔◌, ◌<◌, ◌≤◌, ◌^◌, ◌⊎◌, ◌||◌, false, is_err, option_map};
+ghost use Rattle.std.specs.Prelude.{IfErr, IfOk, IsErr, IsOk};
 ghost use Rattle.std.specs.Prelude.{IsErrOf, IsTrue, OnErr, OnOk, IfSome, IsNone, not};
 ghost use Rattle.std.specs.FinMap as finite;
 ghost use Rattle.msi_text_base.specs.declared.errors.ErrorKind.TheVariants.{InvalidInput, Io, OutOfMemory};
+ghost use Rattle.msi_container_device.specs.Faults.{is_io};
 ghost use Rattle.msi_container_device.specs.Held.{StandsInPart, with_piece};
 ghost use Rattle.msi_container_format.specs.Container.{Holds};
 ghost use Rattle.msi_container_write.specs.Borrowed.{contents_of};
@@ -74,6 +76,7 @@ pub fn write_to<W: Device>(
     ensures untouched { IfErr result (λ kind. (kind ≡ Io) ⊎ (W.held device.new ≡ W.held device.old)) }
     ensures refused { IsErrOf result InvalidInput ↔ IsTrue (spec.refuses contents.now earlier_len) }
     ensures failed { IsErrOf result Io ↔ IsTrue (W.failed device.new) }
+    ensures faultless { W.writes_can_fail ≡ false → is_io result ≡ false }
     ensures kinds { IfErr result (λ kind. (kind ≡ InvalidInput) ⊎ (kind ≡ OutOfMemory) ⊎ (kind ≡ Io)) }
 {
     image_to(alloc, &borrowed(contents), earlier_len, device)
@@ -138,6 +141,7 @@ pub fn image_to<W: Device>(
     ensures untouched { IfErr result (λ kind. (kind ≡ Io) ⊎ (W.held device.new ≡ W.held device.old)) }
     ensures refused { IsErrOf result InvalidInput ↔ IsTrue (spec.refuses (contents_of contents.now) earlier_len) }
     ensures failed { IsErrOf result Io ↔ IsTrue (W.failed device.new) }
+    ensures faultless { W.writes_can_fail ≡ false → is_io result ≡ false }
     ensures kinds { IfErr result (λ kind. (kind ≡ InvalidInput) ⊎ (kind ≡ OutOfMemory) ⊎ (kind ≡ Io)) }
 {
     device.clear_failed();
@@ -168,6 +172,7 @@ fn write_sectors<W: Device>(layout: &Layout, device: &mut W) -> Result<(), Error
     ensures ok { OnOk result (W.held device.new ≡ option_map (with_piece (file_of layout.now)) (W.held device.old)) }
     ensures part { OnErr result (StandsInPart (file_of layout.now) (W.held device.old) (W.held device.new)) }
     ensures failed { W.failed device.new ≡ (W.failed device.old || is_err result) }
+    ensures faultless { W.writes_can_fail ≡ false → IsOk result }
     ensures kind { IfErr result (λ kind. kind ≡ Io) }
 {
     let mut sector = [0; SECTOR_SIZE_3];
