@@ -1,11 +1,12 @@
 //! The summary of a package: a property set of one format, by the names of its properties. The ids and types
 //! are those of the Windows Installer SDK, "Summary Information Stream Property Set".
 
-ghost use Rattle.std.specs.Prelude.{◌≡◌, ◌≢◌, IfOk, IfErr, OnOk, OnErr};
+ghost use Rattle.std.specs.Prelude.{◌≡◌, ◌≢◌, ◌↔◌, IfOk, IfErr, IsTrue, OnOk, OnErr};
 ghost use Rattle.std.specs.Option.{option_copied};
 ghost use Rattle.msi_text_base.specs.Results.{OnlyMemory};
 ghost use Rattle.msi_text_base.specs.declared.errors.ErrorKind.TheVariants.{InvalidData};
 ghost use Rattle.msi_summary_properties.specs.Properties.{page_of, with_page, with_value, without_value};
+ghost use Rattle.msi_summary_properties.specs.PropertyStream.{AreWritable, HaveUtf8Texts};
 ghost use Rattle.msi_summary.specs.Summary.{new_summary, summary_format, number_with_id, text_with_id, time_with_id};
 ghost use Rattle.msi_summary.specs.Summary.{with_number, with_text, with_time};
 
@@ -106,6 +107,14 @@ impl SummaryInfo {
         ensures err { OnErr result (self.new ≡ self.old) }
     {
         self.properties.set_codepage(page)
+    }
+
+    /// Returns whether each text reads back as it was, once it is written in the summary's page. It takes no memory.
+    pub fn is_writable(&self) -> bool
+        ensures exact { IsTrue result ↔ AreWritable self.now }
+        ensures utf8 { HaveUtf8Texts self.now.values }
+    {
+        self.properties.is_writable()
     }
 
     /// What new texts and lists take their memory from.

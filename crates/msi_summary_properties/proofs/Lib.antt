@@ -15,3 +15,4 @@ pub mod PropertiesLemmas
 pub mod KeptSetLemmas
 mod PropertiesRows
 mod PropertyStreamRows
+pub mod WritableLemmas

@@ -1,6 +1,6 @@
 -- The stream of a property set (MS-OLEPS 2.20, 2.21 and 2.15).
 use Rattle.std.specs.Prelude.{◌≡◌, ℕ, ◌+◌, ◌-◌, ◌*◌, ◌%◌, ◌^◌, ◌<◌, ◌≤◌, ◌⊎◌, Bool, true, false, ◌==◌, if◌then◌else◌}
-use Rattle.std.specs.Prelude.{List, [], ◌∷◌, ◌++◌, map, length, replicate, zip, Option, Some, option_map, IsSome}
+use Rattle.std.specs.Prelude.{List, [], ◌∷◌, ◌++◌, map, length, replicate, zip, Option, Some, option_map, IsSome, IsUtf8}
 use Rattle.std.specs.List.{flat_map, list_any, AllByRecursion, AllZip}
 use Rattle.std.specs.Ordering.{nat_cmp}
 use Rattle.std.specs.Int.RustNames.{FitsSigned}
@@ -156,3 +156,11 @@ IsWritableValue page _ = Unit {0}
 
 abbrev pub AreWritable : Properties → Type 0
 AreWritable set = AllByRecursion (λ e. IsWritableValue (page_of set) e.1) set.values
+
+-- each text is UTF-8
+abbrev pub IsUtf8Value : PropertyValue → Type 0
+IsUtf8Value (LpStr text) = IsUtf8 text
+IsUtf8Value _ = Unit {0}
+
+abbrev pub HaveUtf8Texts : List (ℕ × PropertyValue) → Type 0
+HaveUtf8Texts values = AllByRecursion (λ e. IsUtf8Value e.1) values

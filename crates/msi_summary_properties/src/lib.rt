@@ -8,6 +8,7 @@ pub mod propset;
 mod reading;
 mod reasons;
 mod values;
+mod writable;
 mod writing;
 
 pub use propset::{OperatingSystem, PropertySet, PropertyValue};

@@ -271,6 +271,19 @@ fn a_lacking_page_and_a_short_writer_are_told(rt: HostRuntime) -> Result<(), Fai
     Ok(())
 }
 
+/// Whether a set with a text that Windows-1252 lacks can be written in a page.
+fn is_writable(alloc: Global, page: CodePage) -> Result<bool, Error> {
+    let set = made(alloc, page, &[(2, Given::Text("数"))])?;
+    Ok(set.is_writable())
+}
+
+#[test]
+fn utf8_writes_what_a_page_lacks(rt: HostRuntime) -> Result<(), Fail> {
+    assert!(rt; !is_writable(rt.alloc(), CodePage::Windows1252)?);
+    assert!(rt; is_writable(rt.alloc(), CodePage::Utf8)?);
+    Ok(())
+}
+
 /// What is done to property 1.
 #[derive(Clone, Copy)]
 enum Step {
