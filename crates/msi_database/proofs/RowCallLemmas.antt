@@ -226,3 +226,8 @@ module _ (pool : Pool) (tables : List TableDef) (m : maps.Streams) (known : Bool
       (ap₂ (λ (p : Pool) (cs : List ColumnDef). first_refusal (row_refusals p.places (table_with cs held) values)) (sym pool_is) (sym columns_is) ∙ passed) began
       (ap (λ (cs : List ColumnDef). cells_added before.pool.long cs (in_use before) held values) (sym columns_is) ∙ added) in
       subst (λ (q : InsertQuery). Called k (insert_rows k.database q) t rows before after) same (called (insert_rows k.database seen) made (inserted seen made))
+
+-- a database that was changed is sound
+pub makes_sound : (old : Kept) (r : Result Change ErrorKind) (pool : Pool) (tables : List TableDef) (stored : List Stored) → Makes old r pool tables stored → is_sound old.database ≡ true
+makes_sound old (Ok c) pool tables stored made = made.1
+makes_sound old (Err kind) pool tables stored made = absurd made

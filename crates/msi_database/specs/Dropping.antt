@@ -1,21 +1,13 @@
 -- A table that is dropped, step by step: which texts go back to the pool, and which streams are stored.
 use Rattle.std.specs.Prelude.{ℕ, not, List, [], ◌∷◌, ◌++◌, filter, None}
 use Rattle.std.specs.Option.{option_map_or}
-use Rattle.msi_text_base.specs.declared.errors.ErrorKind.TheVariants.{InvalidInput}
-use Rattle.msi_query_rows.specs.Refusals.{Refusals}
-use Rattle.msi_database_schema.specs.Keys.{is_table_name, table_key}
-use Rattle.msi_database_schema.specs.System.{is_system_table}
+use Rattle.msi_database_schema.specs.Keys.{table_key}
 use Rattle.msi_database_changes.specs.Database.{Database, table_at, rows_of}
-use Rattle.msi_database_changes.specs.Changes.{PoolInUse, sound_refusal}
+use Rattle.msi_database_changes.specs.Changes.{PoolInUse}
 use Rattle.msi_database_changes.specs.Drop.{is_row_about}
 use Rattle.msi_database_changes.specs.Texts.{rows_released}
 use Rattle.msi_database_storage.specs.declared.storing.Stored.{Stored}
 use Rattle.msi_database_storage.specs.Streams.{stream_of_rows}
-
--- what refuses a drop before its table is looked for
-abbrev pub drop_refusals : Database → List ℕ → Refusals
-drop_refusals d name = sound_refusal d
-    ++ (is_system_table name, InvalidInput) ∷ (not (is_table_name name), InvalidInput) ∷ []
 
 -- the pool after the table's own rows, and after those about it of a system table
 abbrev pub rows_given_back : Database → List ℕ → PoolInUse → PoolInUse

@@ -1,15 +1,13 @@
 -- What a change makes of a kept database: the database that it leaves, and the parts in which that is kept.
 use Rattle.std.specs.Prelude.{◌≡◌, ◌++◌, Bool, true, List, [], ◌∷◌, Result, Ok, Err}
 use Rattle.msi_text_base.specs.declared.errors.ErrorKind.{ErrorKind}
-use Rattle.msi_text_base.specs.declared.errors.ErrorKind.TheVariants.{InvalidInput}
 use Rattle.msi_text_pool.specs.Pool.{Pool}
 use Rattle.msi_table.specs.Tables.{TableDef}
 use Rattle.msi_query.specs.declared.query.insert.InsertParts.{InsertParts}
 use Rattle.msi_query.specs.declared.query.delete.DeleteParts.{DeleteParts}
 use Rattle.msi_query.specs.Queries.{InsertQuery, DeleteQuery}
-use Rattle.msi_query_rows.specs.Refusals.{Refusals}
 use Rattle.msi_database_changes.specs.Database.{Database, is_sound}
-use Rattle.msi_database_changes.specs.Changes.{Change, sound_refusal}
+use Rattle.msi_database_changes.specs.Changes.{Change}
 use Rattle.msi_database_storage.specs.declared.storing.Stored.{Stored}
 use Rattle.msi_database_storage.specs.Storing.{stored_in}
 use Rattle.msi_database_storage.specs.Kept.{Kept, after_change}
@@ -42,7 +40,3 @@ insert_of parts = record { table = parts.table; rows = parts.rows }
 
 abbrev pub delete_of : DeleteParts → DeleteQuery
 delete_of parts = record { table = parts.table; condition = parts.condition }
-
--- what refuses a change before its table is looked for
-abbrev pub early_refusals : Database → Bool → Refusals
-early_refusals d is_barred = sound_refusal d ++ (is_barred, InvalidInput) ∷ []

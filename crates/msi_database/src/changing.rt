@@ -5,13 +5,13 @@ ghost use Rattle.std.specs.Prelude.{option_copied, true};
 ghost use Rattle.std.specs.FinMap.{entries};
 ghost use Rattle.msi_text_base.specs.Results.{OnlyMemory};
 ghost use Rattle.msi_query_rows.specs.Refusals.{IsRefusal, first_refusal, unless_refused};
+ghost use Rattle.msi_database_changes.specs.Changes.{barred_refusals};
 ghost use Rattle.msi_database_changes.specs.Database.{is_sound as is_sound_one, table_at};
 ghost use Rattle.msi_database_changes.specs.Insert.{table_with};
 ghost use Rattle.msi_database_storage.specs.Kept.{kept_of, without_table_kept};
 ghost use Rattle.msi_database_storage.specs.Storing.{HaveOwnNames, stored_in};
 ghost use Rattle.msi_database.specs.Keeping.{AreKept};
 ghost use Rattle.msi_database.specs.Listed.{IsKnown, table_def_at, tables_listed};
-ghost use Rattle.msi_database.specs.Making.{early_refusals};
 
 use crate::database::Database;
 use crate::reasons;
@@ -47,11 +47,13 @@ impl Database {
     /// # Errors
     /// `InvalidData` where it isn't sound, then `InvalidInput` where it is barred.
     pub(crate) fn refuse_change(&self, is_barred: bool) -> Result<(), Error>
-        ensures passed { OnOk result (first_refusal (early_refusals self.now.database is_barred) ≡ None) }
+        ensures passed { OnOk result (first_refusal (barred_refusals self.now.database is_barred) ≡ None) }
         ensures sound { OnOk result (is_sound_one self.now.database ≡ true) }
         ensures free { OnOk result (is_barred ≡ false) }
-        ensures kind { let refusals = early_refusals self.now.database is_barred in
+        ensures kind { let refusals = barred_refusals self.now.database is_barred in
             IfErr result (IsRefusal {A = Unit {0}} (unless_refused refusals tt)) }
+        ensures early { let refusals = barred_refusals self.now.database is_barred in
+            IfErr result (λ kind. first_refusal refusals ≡ Some kind) }
     {
         self.check_sound()?;
         if is_barred {

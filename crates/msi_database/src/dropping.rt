@@ -1,15 +1,16 @@
 //! Dropping a table, with the rows about it.
 
-ghost use Rattle.std.specs.Prelude.{◌≡◌, ◌++◌, IfErr, IfOk, OnErr, OnOk, false, true};
+ghost use Rattle.std.specs.Prelude.{◌≡◌, ◌++◌, IfErr, IfOk, None, OnErr, OnOk, Some, false, true};
 ghost use Rattle.msi_text_base.specs.Results.{OnlyMemory};
-ghost use Rattle.msi_query_rows.specs.Refusals.{IsRefusal, unless_refused};
+ghost use Rattle.msi_query_rows.specs.Refusals.{AnswersFirst, IsRefusal, first_refusal, unless_refused};
 ghost use Rattle.msi_database_schema.specs.Keys.{is_table_name as is_of_table};
 ghost use Rattle.msi_database_schema.specs.System.{is_system_table as is_of_system};
 ghost use Rattle.msi_database_changes.specs.Database.{is_sound as is_sound_one};
 ghost use Rattle.msi_database_changes.specs.Drop as drops;
+ghost use Rattle.msi_database_changes.specs.Drop.{drop_refusals, early_drop_refusals};
 ghost use Rattle.msi_database_changes.specs.Texts.{in_use};
 ghost use Rattle.msi_database_storage.specs.Storing.{HaveOwnNames};
-ghost use Rattle.msi_database.specs.Dropping.{about_given_back, drop_refusals, own_stream, rows_given_back};
+ghost use Rattle.msi_database.specs.Dropping.{about_given_back, own_stream, rows_given_back};
 ghost use Rattle.msi_database.specs.Dropping.{system_stream};
 ghost use Rattle.msi_database.specs.Listed.{IsKnown};
 ghost use Rattle.msi_database.specs.Making.{Leaves, Makes, TellsUse};
@@ -50,12 +51,35 @@ impl Database {
         ensures named { OnOk result (is_of_table name.now ≡ true) }
         ensures kind { let refusals = drop_refusals self.now.database name.now in
             IfErr result (IsRefusal {A = Unit {0}} (unless_refused refusals tt)) }
+        ensures early { IfErr result (λ kind. first_refusal (drop_refusals self.now.database name.now) ≡ Some kind) }
+        ensures passed { OnOk result (first_refusal (drop_refusals self.now.database name.now) ≡ None) }
     {
         self.refuse_change(is_system_table(name))?;
         if !is_table_name(name) {
             return Err(Error::new(ErrorKind::InvalidInput, reasons::TABLE_NAME));
         }
         Ok(())
+    }
+
+    /// The table that is to be dropped. It takes no memory.
+    ///
+    /// # Errors
+    /// Those of `drop_table`.
+    fn table_to_drop(&self, name: &str) -> Result<&Table, Error>
+        ensures sound { OnOk result (is_sound_one self.now.database ≡ true) }
+        ensures free { OnOk result (is_of_system name.now ≡ false) }
+        ensures named { OnOk result (is_of_table name.now ≡ true) }
+        ensures known { IfOk result (λ table. IsKnown self.now.database name.now table.now) }
+        ensures kind { IfErr result (IsRefusal (drops.drop_table self.now.database name.now)) }
+        ensures early { IfErr result (λ kind.
+            first_refusal (early_drop_refusals self.now.database name.now) ≡ Some kind) }
+        ensures passed { OnOk result (first_refusal (early_drop_refusals self.now.database name.now) ≡ None) }
+    {
+        self.refuse_drop(name)?;
+        match self.known_table(name) {
+            Some(table) => Ok(table),
+            None => Err(Error::new(ErrorKind::NotFound, reasons::NO_TABLE)),
+        }
     }
 
     /// Begins with the table itself: the texts of its rows are given back, and its stream is to go.
@@ -105,22 +129,22 @@ impl Database {
         Ok(())
     }
 
-    /// What dropping a table makes.
+    /// What dropping a table makes that may be dropped.
     ///
     /// # Errors
-    /// Those of `drop_table`.
-    fn table_dropped(&self, name: &str) -> Result<Dropped, Error>
+    /// `OutOfMemory`.
+    fn dropped(&self, name: &str, table: &Table) -> Result<Dropped, Error>
+        requires sound { is_sound_one self.now.database ≡ true }
+        requires free { is_of_system name.now ≡ false }
+        requires named { is_of_table name.now ≡ true }
+        requires known { IsKnown self.now.database name.now table.now }
         ensures ok { let change = drops.drop_table self.now.database name.now in IfOk result (λ dropped.
             Makes self.now change dropped.made.pool dropped.made.tables dropped.made.stored.items) }
         ensures used { IfOk result (λ dropped.
             TellsUse (drops.drop_table self.now.database name.now) dropped.is_pool_used) }
         ensures names { IfOk result (λ dropped. HaveOwnNames dropped.made.stored.items) }
-        ensures kind { IfErr result (IsRefusal (drops.drop_table self.now.database name.now)) }
+        ensures kind { OnlyMemory result }
     {
-        self.refuse_drop(name)?;
-        let Some(table) = self.known_table(name) else {
-            return Err(Error::new(ErrorKind::NotFound, reasons::NO_TABLE));
-        };
         let mut dropping = Dropping {
             pool: PoolInUse::new(self.pool.clone()?),
             stored: Vec::new(self.alloc),
@@ -142,18 +166,36 @@ impl Database {
         })
     }
 
+    /// What dropping a table makes.
+    ///
+    /// # Errors
+    /// Those of `drop_table`.
+    fn table_dropped(&self, name: &str) -> Result<Dropped, Error>
+        ensures ok { let change = drops.drop_table self.now.database name.now in IfOk result (λ dropped.
+            Makes self.now change dropped.made.pool dropped.made.tables dropped.made.stored.items) }
+        ensures used { IfOk result (λ dropped.
+            TellsUse (drops.drop_table self.now.database name.now) dropped.is_pool_used) }
+        ensures names { IfOk result (λ dropped. HaveOwnNames dropped.made.stored.items) }
+        ensures kind { IfErr result (IsRefusal (drops.drop_table self.now.database name.now)) }
+        ensures early { AnswersFirst (early_drop_refusals self.now.database name.now) result }
+    {
+        let table = self.table_to_drop(name)?;
+        self.dropped(name, table)
+    }
+
     /// Drops a table with all its rows, and deletes the rows about it from the system tables. It returns whether a
     /// text was given back to the pool.
     ///
     /// # Errors
     /// Fails with the first of these that applies: `InvalidData` if the database isn't sound; `InvalidInput` for a
-    /// system table, and for a name that no table may have; `NotFound` if there is no such table. It may fail with
-    /// `OutOfMemory` in place of any of these. Then nothing has changed.
+    /// system table, and for a name that no table may have; `NotFound` if there is no such table. If none applies, it
+    /// fails with `OutOfMemory`, which never comes in place of the others. Then nothing has changed.
     pub fn drop_table(&mut self, name: &str) -> Result<bool, Error>
         ensures ok { OnOk result (Leaves self.old (drops.drop_table self.old.database name.now) self.new) }
         ensures used { IfOk result (TellsUse (drops.drop_table self.old.database name.now)) }
         ensures same { OnErr result (self.new ≡ self.old) }
         ensures kind { IfErr result (IsRefusal (drops.drop_table self.old.database name.now)) }
+        ensures early { AnswersFirst (early_drop_refusals self.old.database name.now) result }
     {
         let Dropped { made, is_pool_used } = self.table_dropped(name)?;
         self.finish_tables(made)?;

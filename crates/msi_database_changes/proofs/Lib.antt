@@ -16,6 +16,7 @@ pub mod DropLemmas
 pub mod DropRowsLemmas
 pub mod DropTracksLemmas
 pub mod DroppedLemmas
+pub mod EarlyLemmas
 pub mod FitTestLemmas
 pub mod FitsKeptLemmas
 pub mod InTurnLemmas

@@ -1,8 +1,9 @@
 -- A change of tables: what it leaves.
-use Rattle.std.specs.Prelude.{ℕ, Bool, false, not, List, [], ◌∷◌, ◌++◌, Some}
-use Rattle.msi_text_base.specs.declared.errors.ErrorKind.TheVariants.{InvalidData}
+use Rattle.std.specs.Prelude.{ℕ, Bool, true, false, not, List, [], ◌∷◌, ◌++◌, Option, Some, None}
+use Rattle.msi_text_base.specs.declared.errors.ErrorKind.TheVariants.{InvalidData, InvalidInput, NotFound}
 use Rattle.msi_text_pool.specs.Pool.{Place}
 use Rattle.msi_query_rows.specs.Refusals.{Refusals}
+use Rattle.msi_query_rows.specs.Rows.{TableCells}
 use Rattle.msi_table_values.specs.declared.value.ValueRef.{ValueRef}
 use Rattle.msi_table_values.specs.Columns.{ColumnDef}
 use Rattle.msi_table.specs.StoredOrder.{in_stored_order}
@@ -37,3 +38,12 @@ with_stored name columns rows pool c = record {
 -- nothing that isn't sound is changed
 abbrev pub sound_refusal : Database → Refusals
 sound_refusal d = (not (is_sound d), InvalidData) ∷ []
+
+-- what refuses a change before its table is looked for
+abbrev pub barred_refusals : Database → Bool → Refusals
+barred_refusals d is_barred = sound_refusal d ++ (is_barred, InvalidInput) ∷ []
+
+-- that there is no such table, or what it refuses
+abbrev pub missing_or : Option TableCells → (TableCells → Refusals) → Refusals
+missing_or None refusals = (true, NotFound) ∷ []
+missing_or (Some t) refusals = refusals t

@@ -5,7 +5,7 @@ use Rattle.std.specs.List.{fold}
 use Rattle.msi_text_base.specs.declared.errors.ErrorKind.{ErrorKind}
 use Rattle.msi_text_base.specs.declared.errors.ErrorKind.TheVariants.{InvalidInput, NotFound}
 use Rattle.msi_text_pool.specs.Pool.{Place}
-use Rattle.msi_query_rows.specs.Refusals.{unless_refused, or_refused, ◌>>=◌}
+use Rattle.msi_query_rows.specs.Refusals.{Refusals, unless_refused, or_refused, ◌>>=◌}
 use Rattle.msi_table_values.specs.declared.value.Value.TheVariants.{Str}
 use Rattle.msi_table_values.specs.declared.value.ValueRef.{ValueRef}
 use Rattle.msi_table_values.specs.CellValues.{row_values}
@@ -14,7 +14,7 @@ use Rattle.msi_database_schema.specs.Keys.{is_table_name}
 use Rattle.msi_database_schema.specs.System.{tables_name, columns_name, validation_name, is_system_table}
 use Rattle.msi_database_changes.specs.Database.{Database, table_at, without_table, with_places, rows_of}
 use Rattle.msi_query_rows.specs.Rows.{TableCells}
-use Rattle.msi_database_changes.specs.Changes.{Change, no_change, pool_of, with_stored, sound_refusal}
+use Rattle.msi_database_changes.specs.Changes.{Change, no_change, pool_of, with_stored, barred_refusals, missing_or}
 use Rattle.msi_database_changes.specs.Texts.{rows_released}
 
 -- Drop: every text of the table's rows and of the rows about it is given back
@@ -36,10 +36,16 @@ table_released name t c = let pool = rows_released (pool_of c) (rows_of t) in
       stored = c.stored ++ name ∷ [];
     }
 
+-- what refuses a drop before its table is looked for
+abbrev pub drop_refusals : Database → List ℕ → Refusals
+drop_refusals d name = barred_refusals d (is_system_table name) ++ (not (is_table_name name), InvalidInput) ∷ []
+
+-- what refuses a drop: telling it takes no memory
+abbrev pub early_drop_refusals : Database → List ℕ → Refusals
+early_drop_refusals d name = drop_refusals d name ++ missing_or (table_at name d) (λ t. [])
+
 abbrev pub drop_table : Database → List ℕ → Result Change ErrorKind
-drop_table d name = unless_refused
-    (sound_refusal d ++ (is_system_table name, InvalidInput) ∷ (not (is_table_name name), InvalidInput) ∷ [])
-    (no_change d) >>=
+drop_table d name = unless_refused (drop_refusals d name) (no_change d) >>=
     λ c. or_refused NotFound (table_at name d) >>=
     λ t. Ok (fold (λ c system. rows_forgotten name d.pool.places system c)
     (table_released name t c) (validation_name ∷ columns_name ∷ tables_name ∷ []))

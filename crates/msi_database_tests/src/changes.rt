@@ -197,7 +197,7 @@ fn rows_of_a_condition_are_changed(rt: HostRuntime) -> Result<(), Fail> {
 }
 
 /// Changes that break a rule, each another, over the two tables; and at the end one that just keeps them.
-const REFUSED: [Step; 14] = [
+const REFUSED: [Step; 18] = [
     CREATED,
     FILLED,
     Made(MAPPING, ("Mapping", None, &[])),
@@ -227,6 +227,18 @@ const REFUSED: [Step; 14] = [
         UpdateWhere("Numbers", &[("Word", Str("x"))], ("Letter", Int(1))),
         ErrorKind::InvalidInput,
     ),
+    // A value that its column doesn't take.
+    Refused(
+        Update("Mapping", &[("Value", Str("x"))]),
+        ErrorKind::InvalidInput,
+    ),
+    // Tables that aren't there, and a name that no table may have.
+    Refused(
+        Update("Letters", &[("Word", Str("x"))]),
+        ErrorKind::NotFound,
+    ),
+    Refused(Delete("Letters"), ErrorKind::NotFound),
+    Refused(Drop(""), ErrorKind::InvalidInput),
     // System tables.
     Refused(
         Insert("_Tables", &[&[Str("Other")]]),

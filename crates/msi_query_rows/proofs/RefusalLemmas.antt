@@ -1,13 +1,13 @@
 -- Refusals in order, and what they leave.
 use Rattle.std.proofs.Common.{◌≡◌, ℕ, List, ◌∷◌, Bool, true, false, Option, Some, None, Result, Ok, Err, option_map, refl, ap, subst, sym, ◌∙◌}
-use Rattle.std.specs.Prelude.{IsErrAnd, IfErr}
+use Rattle.std.specs.Prelude.{IsErrAnd, IfErr, IfSome}
 use Rattle.std.proofs.Common.{inl, inr}
 use Rattle.msi_text_base.specs.declared.errors.ErrorKind.{ErrorKind}
 use Rattle.msi_text_base.specs.declared.errors.ErrorKind.TheVariants.{InvalidData, NotFound}
 use Rattle.msi_text_pool.specs.Pool.{Place}
 use Rattle.msi_table_values.specs.declared.value.ValueRef.{ValueRef}
 use Rattle.msi_table_values.specs.Columns.{ColumnDef}
-use Rattle.msi_query_rows.specs.Refusals.{Refusals, IsRefusal, first_refusal, unless, unless_refused, or_refused, ◌>>=◌}
+use Rattle.msi_query_rows.specs.Refusals.{AnswersFirst, Refusals, IsRefusal, first_refusal, unless, unless_refused, or_refused, ◌>>=◌}
 use Rattle.msi_query_rows.specs.Selection.{Relation}
 use Rattle.msi_query_rows.specs.Rows.{TableCells, relation_values, rows_values, table_values, tables_values, whole_table}
 
@@ -61,3 +61,40 @@ table_goes_on places tables name f = found places name f (tables name)
 pub err_passed : {A B : Type 0} (r : Result A ErrorKind) (k : ErrorKind) (answer : Result B ErrorKind) → IsErrAnd r (λ e. e ≡ k) → IsRefusal answer k → IfErr r (IsRefusal answer)
 err_passed (Ok x) k answer e h = tt
 err_passed (Err l) k answer e h = subst (IsRefusal answer) (sym e) h
+
+-- WHERE THE FIRST REFUSAL IS THE ANSWER
+
+answers_where : {A : Type 0} (o : Option ErrorKind) (r : Result A ErrorKind) (k : ErrorKind) → IsErrAnd r (λ e. e ≡ k) → o ≡ Some k → IfSome o (λ kind. r ≡ Err kind)
+answers_where None r k e h = tt
+answers_where (Some l) (Ok x) k e h = absurd e
+answers_where (Some l) (Err m) k e h = cc (e, h)
+
+-- an error that is the first refusal
+pub first_answered : {A : Type 0} (rs : Refusals) (r : Result A ErrorKind) (k : ErrorKind) → IsErrAnd r (λ e. e ≡ k) → first_refusal rs ≡ Some k → AnswersFirst rs r
+first_answered rs r k e h = answers_where (first_refusal rs) r k e h
+
+-- none holds
+pub none_answered : {A : Type 0} (rs : Refusals) (r : Result A ErrorKind) → first_refusal rs ≡ None → AnswersFirst rs r
+none_answered rs r h = rw h tt
+
+passed_where : (A : Type 0) {B : Type 0} (o : Option ErrorKind) (k : ErrorKind) (r : Result B ErrorKind) → IsErrAnd r (λ e. e ≡ k) → IfSome o (λ kind. ◌≡◌ {A = Result A ErrorKind} (Err k) (Err kind)) → IfSome o (λ kind. r ≡ Err kind)
+passed_where A None k r e h = tt
+passed_where A (Some l) k (Ok x) e h = absurd e
+passed_where A (Some l) k (Err m) e h = cc (e, h)
+
+-- an error that is passed on
+pub first_passed : (A : Type 0) {B : Type 0} (rs : Refusals) (k : ErrorKind) (r : Result B ErrorKind) → IsErrAnd r (λ e. e ≡ k) → AnswersFirst {A = A} rs (Err k) → AnswersFirst rs r
+first_passed A rs k r e h = passed_where A (first_refusal rs) k r e h
+
+accepted_where : {A B : Type 0} (o : Option ErrorKind) (x : A) (r : Result B ErrorKind) → IfSome o (λ kind. ◌≡◌ {A = Result A ErrorKind} (Ok x) (Err kind)) → IfSome o (λ kind. r ≡ Err kind)
+accepted_where None x r h = tt
+accepted_where (Some l) x r h = cc (h)
+
+-- an answer that was given, so that none holds
+pub accepted_first : {A B : Type 0} (rs : Refusals) (x : A) (r : Result B ErrorKind) → AnswersFirst rs (Ok x) → AnswersFirst rs r
+accepted_first rs x r h = accepted_where (first_refusal rs) x r h
+
+-- an error that stays the first refusal
+pub err_is : {A : Type 0} (r : Result A ErrorKind) (k : ErrorKind) (rs : Refusals) → IsErrAnd r (λ e. e ≡ k) → first_refusal rs ≡ Some k → IfErr r (λ kind. first_refusal rs ≡ Some kind)
+err_is (Ok x) k rs e h = tt
+err_is (Err l) k rs e h = h ∙ ap Some (sym e)

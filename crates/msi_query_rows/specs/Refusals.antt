@@ -1,5 +1,6 @@
 -- Refusals in order: each is a condition and the kind of error that answers where it holds.
-use Rattle.std.specs.Prelude.{◌≡◌, ◌⊎◌, Bool, List, [], ◌∷◌, Option, Some, None, Result, Ok, Err, if◌then◌else◌}
+use Rattle.std.specs.Prelude.{◌≡◌, ◌⊎◌, Bool, List, [], ◌∷◌, Option, Some, None, Result, Ok, Err, IfSome}
+use Rattle.std.specs.Prelude.{if◌then◌else◌}
 use Rattle.msi_text_base.specs.declared.errors.ErrorKind.{ErrorKind}
 use Rattle.msi_text_base.specs.declared.errors.ErrorKind.TheVariants.{OutOfMemory}
 
@@ -33,3 +34,7 @@ abbrev pub ◌>>=◌ : {A B : Type 0} → Result A ErrorKind → (A → Result B
 -- why a call is refused that has this answer where memory suffices
 abbrev pub IsRefusal : {A : Type 0} → Result A ErrorKind → ErrorKind → Type 0
 IsRefusal answer kind = (kind ≡ OutOfMemory) ⊎ (answer ≡ Err kind)
+
+-- where a refusal holds, the first of them is the answer, and want of memory never comes in its place
+abbrev pub AnswersFirst : {A : Type 0} → Refusals → Result A ErrorKind → Type 0
+AnswersFirst refusals answer = IfSome (first_refusal refusals) (λ kind. answer ≡ Err kind)

@@ -1,5 +1,6 @@
-use Rattle.msi_database_changes.specs.Drop.{drop_table}
-use Rattle.msi_database.proofs.RowCallLemmas.{makes_kept, makes_leaves}
+use Rattle.msi_query_rows.proofs.RefusalLemmas.{accepted_first, first_passed}
+use Rattle.msi_database_changes.specs.Drop.{drop_table, early_drop_refusals}
+use Rattle.msi_database.proofs.RowCallLemmas.{makes_kept, makes_leaves, makes_sound}
 use Rattle.msi_database.proofs.database.Database.drop_table.Goals as goal
 
 pub finish_tables-requires-clause-kept : goal.finish_tables-requires-clause-kept
@@ -9,3 +10,19 @@ finish_tables-requires-clause-kept c = let old = c.args.self.now in let made = c
 pub returns-clause-ok : goal.returns-clause-ok
 returns-clause-ok c = let old = c.args.self.now in let made = c.in_ok-made.field-0.made in
     makes_leaves old c.finish_tables.new.self (drop_table old.database c.args.name.now) made.pool made.tables made.stored.items c.in_ok-made.ensures.ok c.in_ok-finish_tables.ensures.ok
+
+pub finish_tables-requires-clause-sound : goal.finish_tables-requires-clause-sound
+finish_tables-requires-clause-sound c = let old = c.args.self.now in let made = c.in_ok-made.field-0.made in
+    makes_sound old (drop_table old.database c.args.name.now) made.pool made.tables made.stored.items c.in_ok-made.ensures.ok
+
+pub returns-in_err-made-clause-early : goal.returns-in_err-made-clause-early
+returns-in_err-made-clause-early c =
+    first_passed _ (early_drop_refusals c.args.self.now.database c.args.name.now) c.in_err-made.field-0.0 c.from_residual.result c.from_residual.ensures.1 c.in_err-made.ensures.early
+
+pub returns-in_err-finish_tables-clause-early : goal.returns-in_err-finish_tables-clause-early
+returns-in_err-finish_tables-clause-early c =
+    accepted_first (early_drop_refusals c.args.self.now.database c.args.name.now) c.in_ok-made.field-0 c.from_residual-in_err-finish_tables.result c.in_ok-made.ensures.early
+
+pub returns-clause-early : goal.returns-clause-early
+returns-clause-early c =
+    accepted_first (early_drop_refusals c.args.self.now.database c.args.name.now) c.in_ok-made.field-0 _ c.in_ok-made.ensures.early
