@@ -12,6 +12,7 @@ mod imaging;
 mod keys;
 pub mod kinds;
 pub mod laws;
+pub mod listing;
 mod opening;
 pub mod package;
 mod reasons;
@@ -19,6 +20,7 @@ pub mod streams;
 
 pub use files::{open, open_rw};
 pub use kinds::PackageType;
+pub use listing::Tables;
 pub use msi_container::{compound, streamname};
 pub use msi_container_device::{Device, Memory, Metered, Source};
 pub use msi_query::{Delete, Expr, Insert, Select, Update};

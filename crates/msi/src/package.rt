@@ -15,6 +15,7 @@ ghost use Rattle.msi.specs.Steps.{storage_refusal};
 ghost use Rattle.msi.specs.Whole.{IsOpen, with_open, with_state};
 
 use crate::kinds::PackageType;
+use crate::listing::Tables;
 use crate::reasons;
 use msi_container_device::Source;
 use msi_container_format::name::Name;
@@ -107,11 +108,11 @@ impl<F: Source> Package<F> {
         self.database.get_table(name)
     }
 
-    /// Returns the tables, by name.
-    pub fn tables(&self) -> &[Table]
-        ensures { result.now ≡ tables_listed self.now.state.kept.database }
+    /// Returns an iterator over the tables, by name in the order of their bytes.
+    pub fn tables(&self) -> Tables<'_>
+        ensures { result ≡ tables_listed self.now.state.kept.database }
     {
-        self.database.tables()
+        Tables::new(self.database.tables())
     }
 
     /// Returns whether a call of the device failed since the flag was last cleared; a call of the package clears it

@@ -104,7 +104,7 @@ pub(crate) fn look_up(
             Ok(Ok(Answer::Table(table)))
         }
         LookUp::Tables => {
-            let tables = copied_tables(alloc, target.tables())?;
+            let tables = copied_tables(alloc, target.tables().as_slice())?;
             Ok(Ok(Answer::Tables(tables)))
         }
         LookUp::HasStream(name) => Ok(Ok(Answer::Flag(target.has_stream(name.as_str())))),

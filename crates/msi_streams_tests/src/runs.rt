@@ -66,7 +66,7 @@ pub(crate) fn is_refused(alloc: Global, steps: &[Step], kind: ErrorKind) -> Resu
 /// Whether bytes open to a package with tables of these names.
 pub(crate) fn has_tables(alloc: Global, bytes: Vec<u8>, names: &[&str]) -> Result<bool, Error> {
     let package = Package::open(alloc, Memory::from_vec(bytes))?;
-    Ok(are_tables(package.tables(), names))
+    Ok(are_tables(package.tables().as_slice(), names))
 }
 
 /// Whether rows are these.

@@ -81,7 +81,7 @@ fn queries_are_answered(rt: HostRuntime) -> Result<(), Fail> {
 
 /// Whether the names of a package's tables are these.
 fn has_names(package: &Package<Memory>, names: &[&str]) -> bool {
-    let tables = package.tables();
+    let tables = package.tables().as_slice();
     if tables.len() != names.len() {
         return false;
     }

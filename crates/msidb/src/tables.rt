@@ -2,10 +2,10 @@
 
 use crate::buffered::buffer;
 use crate::packages;
-use msi::Package;
+use msi::{Package, Tables};
 use msi_container_device::Source;
 use msi_query::Select;
-use msi_table::{Column, Row, Table};
+use msi_table::{Column, Row};
 use msi_text::Error;
 use std::alloc::Global;
 use std::io::{self, Read, Seek, Write};
@@ -23,7 +23,7 @@ where
 }
 
 /// Writes the names of tables, each on a line.
-fn write_names<W: Write>(alloc: Global, tables: &[Table], output: &mut W) -> io::Result<()> {
+fn write_names<W: Write>(alloc: Global, tables: Tables<'_>, output: &mut W) -> io::Result<()> {
     let mut lines = buffer(alloc, output)?;
     for table in tables {
         let name = table.name();
