@@ -1,11 +1,11 @@
 -- What a change of a package's tables leaves is sound.
-use Rattle.std.proofs.Common.{◌≡◌, ℕ, true, false, not, ◌||◌, List, [], ◌∷◌, Option, None, IfSome, Bool, ◌⊎◌, inl, inr, refl, sym, ap, subst, ◌∙◌}
+use Rattle.std.proofs.Common.{◌≡◌, ℕ, true, false, not, ◌||◌, List, [], ◌∷◌, ◌++◌, Option, None, IfSome, Bool, ◌⊎◌, inl, inr, refl, sym, ap, subst, ◌∙◌}
 use Rattle.std.specs.Prelude.{Result, Ok, Err}
 use Rattle.msi_text_base.specs.declared.errors.ErrorKind.{ErrorKind}
 use Rattle.msi_text_base.specs.declared.errors.ErrorKind.TheVariants.{InvalidData, InvalidInput}
 use Rattle.msi_table_values.specs.Columns.{ColumnDef}
 use Rattle.msi_query.specs.Queries.{InsertQuery, UpdateQuery, DeleteQuery}
-use Rattle.msi_query_rows.specs.Refusals.{IsRefusal, unless_refused, ◌>>=◌}
+use Rattle.msi_query_rows.specs.Refusals.{AnswersFirst, Refusals, IsRefusal, unless_refused, ◌>>=◌}
 use Rattle.msi_database_changes.specs.Changes.{Change, sound_refusal}
 use Rattle.msi_database_changes.specs.Create.{create_table}
 use Rattle.msi_database_changes.specs.Database.{Database, is_sound}
@@ -110,3 +110,27 @@ module _ (view old : Whole) (is : view ≡ old) (f : Database → Result Change 
       let by_old : IsRefusal (f old.state.kept.database) kind =
       subst (λ (k : Kept). IsRefusal (f k.database) kind) (same ∙ ap (λ (w : Whole). w.state.kept) is) refused in
       subst (λ (r : Result Change ErrorKind). IsRefusal r kind) (sym changing_is) by_old
+
+-- WHAT IS REFUSED BEFORE MEMORY IS TAKEN
+
+behind_storages : {A : Type 0} (b : Bool) (rs : Refusals) (r : Result A ErrorKind) → ◌≡◌ {A = Result (Unit {0}) ErrorKind} (Ok tt) (unless_refused ((b, InvalidInput) ∷ []) tt)
+    → AnswersFirst rs r → AnswersFirst ((b, InvalidInput) ∷ [] ++ rs) r
+behind_storages true rs r passes h = absurd cc
+behind_storages false rs r passes h = h
+
+-- no storages lie below the root, so what the database refuses the package refuses
+pub answered_behind : {A : Type 0} (view old : Whole) → view ≡ old → (f : Database → Refusals) → ◌≡◌ {A = Result (Unit {0}) ErrorKind} (Ok tt) (unless_refused (storage_refusal (parts_of old.state)) tt)
+    → (k : Kept) → k ≡ view.state.kept → (r : Result A ErrorKind) → AnswersFirst (f k.database) r → AnswersFirst (storage_refusal (parts_of old.state) ++ f old.state.kept.database) r
+answered_behind view old is f passes k same r h =
+    behind_storages old.state.has_storages (f old.state.kept.database) r passes
+    (subst (λ (k : Kept). AnswersFirst (f k.database) r) (same ∙ ap (λ (w : Whole). w.state.kept) is) h)
+
+refused_at : {A : Type 0} (b : Bool) (rs : Refusals) (kind : ErrorKind) (r : Result A ErrorKind) → r ≡ Err kind → ◌≡◌ {A = Result (Unit {0}) ErrorKind} (Err kind) (unless_refused ((b, InvalidInput) ∷ []) tt)
+    → AnswersFirst ((b, InvalidInput) ∷ [] ++ rs) r
+refused_at true rs kind r is e = cc (is, e)
+refused_at false rs kind r is e = absurd cc
+
+-- storages lie below the root
+pub answered_storages : {A : Type 0} (old : Whole) (rs : Refusals) (kind : ErrorKind) (r : Result A ErrorKind) → r ≡ Err kind
+    → ◌≡◌ {A = Result (Unit {0}) ErrorKind} (Err kind) (unless_refused (storage_refusal (parts_of old.state)) tt) → AnswersFirst (storage_refusal (parts_of old.state) ++ rs) r
+answered_storages old rs kind r is e = refused_at old.state.has_storages rs kind r is e

@@ -1,11 +1,12 @@
 //! Changes of a package's tables.
 
 ghost use Rattle.std.specs.Prelude.{◌≡◌, ◌++◌, IfErr, OnErr, OnOk};
-ghost use Rattle.msi_query_rows.specs.Refusals.{IsRefusal, unless_refused};
+ghost use Rattle.msi_query_rows.specs.Refusals.{AnswersFirst, IsRefusal, unless_refused};
 ghost use Rattle.msi_database_changes.specs.Changes.{sound_refusal};
 ghost use Rattle.msi_database_changes.specs.Create as creates;
 ghost use Rattle.msi_database_changes.specs.Delete as deletes;
 ghost use Rattle.msi_database_changes.specs.Drop as drops;
+ghost use Rattle.msi_database_changes.specs.Drop.{early_drop_refusals};
 ghost use Rattle.msi_database_changes.specs.Insert as inserts;
 ghost use Rattle.msi_database_changes.specs.Update as updates;
 ghost use Rattle.msi.specs.State.{parts_of};
@@ -155,14 +156,16 @@ impl<F: Source> Package<F> {
     /// # Errors
     /// Fails with the first of these that applies: `InvalidInput` if storages lie below the root; `InvalidData` if
     /// the package isn't sound; `InvalidInput` for a system table and for a name that no table may have; `NotFound`
-    /// if there is none. If none applies, it fails with `OutOfMemory`, which may also come in place of the others.
-    /// Then nothing has changed.
+    /// if there is none. If none applies, it fails with `OutOfMemory`, which never comes in place of the others. Then
+    /// nothing has changed.
     pub fn drop_table(&mut self, name: &str) -> Result<(), Error>
         ensures ok { let change = changing (parts_of self.old.state) (λ d. drops.drop_table d name.now) in
             OnOk result (Leaves self.old change self.new) }
         ensures same { OnErr result (self.new ≡ self.old) }
         ensures kind { let change = changing (parts_of self.old.state) (λ d. drops.drop_table d name.now) in
             IfErr result (IsRefusal change) }
+        ensures early { let s = self.old.state in
+            AnswersFirst (storage_refusal (parts_of s) ++ early_drop_refusals s.kept.database name.now) result }
     {
         self.check_storages()?;
         settle(&mut self.database, &mut self.open, &mut self.current);
