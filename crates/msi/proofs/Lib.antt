@@ -38,3 +38,4 @@ pub mod FlushStepLemmas
 pub mod OpenStepLemmas
 pub mod CreatingLemmas
 pub mod ImagingLemmas
+pub mod WritableLemmas

@@ -5,6 +5,7 @@ ghost use Rattle.msi.specs.Laws.{FlushKeepsParts, RemovesItsStream, RemovesSigna
 ghost use Rattle.msi.specs.Laws.{RunsKeepPackages, StepsAreFixed, StepsKeepPackages};
 ghost use Rattle.msi.specs.Laws.{CreatedIsSession, FlushHoldsImage, FlushedIsHeld, OpenedIsSession, RunsKeepSessions};
 ghost use Rattle.msi.specs.Laws.{ReplaysMean};
+ghost use Rattle.msi.specs.Writable.{Utf8TextsAreWritable};
 
 /// Bytes mean at most one package.
 pub fn bytes_mean_one()
@@ -102,4 +103,10 @@ pub fn flush_holds_image()
 /// bytes mean what the accepted calls define, and opening them gives the package that was left.
 pub fn replays_mean()
     ensures { ReplaysMean }
+{}
+
+/// If the page of the database and that of the summary are UTF-8, each text can be written in its page, since every
+/// text is UTF-8, which `Package::is_writable` says of its package.
+pub fn utf8_texts_are_writable()
+    ensures { Utf8TextsAreWritable }
 {}
