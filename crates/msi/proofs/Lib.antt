@@ -39,3 +39,4 @@ pub mod FlushStepLemmas
 pub mod OpenStepLemmas
 pub mod CreatingLemmas
 pub mod ImagingLemmas
+pub mod WritableLemmas

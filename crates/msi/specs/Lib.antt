@@ -8,6 +8,7 @@ pub mod Steps
 pub mod Runs
 pub mod Whole
 pub mod Laws
+pub mod Writable
 pub mod Selected
 pub mod Lending
 pub mod Flushing

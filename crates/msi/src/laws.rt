@@ -5,6 +5,7 @@ ghost use Rattle.msi.specs.Laws.{FlushKeepsParts, RemovesItsStream, RemovesSigna
 ghost use Rattle.msi.specs.Laws.{RunsKeepPackages, StepsAreFixed, StepsKeepPackages};
 ghost use Rattle.msi.specs.Laws.{CreatedIsSession, FlushHoldsImage, FlushedIsHeld, OpenedIsSession, RunsKeepSessions};
 ghost use Rattle.msi.specs.Laws.{FlushesAreSteps, ReplaysMean, ReplaysOverMean};
+ghost use Rattle.msi.specs.Writable.{Utf8TextsAreWritable};
 
 /// Bytes mean at most one package.
 pub fn bytes_mean_one()
@@ -119,4 +120,10 @@ pub fn replays_mean()
 /// distinct keys distinct.
 pub fn replays_over_mean()
     ensures { ReplaysOverMean }
+{}
+
+/// If the page of the database and that of the summary are UTF-8, each text can be written in its page, since every
+/// text is UTF-8, which `Package::is_writable` says of its package.
+pub fn utf8_texts_are_writable()
+    ensures { Utf8TextsAreWritable }
 {}

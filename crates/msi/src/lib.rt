@@ -17,6 +17,7 @@ mod opening;
 pub mod package;
 mod reasons;
 pub mod streams;
+mod writable;
 
 pub use files::{open, open_rw};
 pub use kinds::PackageType;

@@ -2,7 +2,7 @@
 
 use crate::samples::Given::{Int, Str};
 use crate::samples::{Lines, Set, both, condition, gives};
-use crate::steps::{numbers, opened};
+use crate::steps::{created, numbers, opened};
 use msi::{CodePage, ColumnType, Error, ErrorKind, Memory, Package, Select};
 use std::alloc::Global;
 use std::test::Fail;
@@ -187,6 +187,33 @@ fn pages_and_titles_come_back(rt: HostRuntime) -> Result<(), Fail> {
         bytes = retitled(rt.alloc(), bytes.as_slice(), page, title)?;
         let is_kept = is_titled(rt.alloc(), bytes.as_slice(), page, title)?;
         assert!(rt; is_kept, "{title}");
+    }
+    Ok(())
+}
+
+/// Sets the page of a package's summary, and its title.
+fn set_title_in(package: &mut Package<Memory>, page: CodePage, title: &str) -> Result<(), Error> {
+    let summary = package.summary_info_mut()?;
+    summary.set_codepage(page)?;
+    summary.set_title(title)
+}
+
+/// Whether a new package with this title can be written, if its summary has this page.
+fn is_writable(alloc: Global, page: CodePage, title: &str) -> Result<bool, Error> {
+    let mut package = created(alloc)?;
+    set_title_in(&mut package, page, title)?;
+    Ok(package.is_writable())
+}
+
+#[test]
+fn utf8_writes_what_a_page_lacks(rt: HostRuntime) -> Result<(), Fail> {
+    for (page, title, expected) in [
+        (CodePage::Windows1252, "Zahlen", true),
+        (CodePage::Windows1252, "\u{6570}", false),
+        (CodePage::Utf8, "\u{6570}", true),
+    ] {
+        let same = is_writable(rt.alloc(), page, title)? == expected;
+        assert!(rt; same, "{page:?}: {title}");
     }
     Ok(())
 }
