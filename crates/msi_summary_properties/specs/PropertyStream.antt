@@ -1,6 +1,7 @@
 -- The stream of a property set (MS-OLEPS 2.20, 2.21 and 2.15).
 use Rattle.std.specs.Prelude.{◌≡◌, ℕ, ◌+◌, ◌-◌, ◌*◌, ◌%◌, ◌^◌, ◌<◌, ◌≤◌, ◌⊎◌, Bool, true, false, ◌==◌, if◌then◌else◌}
-use Rattle.std.specs.Prelude.{List, [], ◌∷◌, ◌++◌, map, length, replicate, zip, Option, Some, option_map, IsSome, IsUtf8}
+use Rattle.std.specs.Prelude.{List, [], ◌∷◌, ◌++◌, map, length, replicate, zip, Option, Some, option_map, IsSome}
+use Rattle.std.specs.Prelude.{IsUtf8}
 use Rattle.std.specs.List.{flat_map, list_any, AllByRecursion, AllZip}
 use Rattle.std.specs.Ordering.{nat_cmp}
 use Rattle.std.specs.Int.RustNames.{FitsSigned}

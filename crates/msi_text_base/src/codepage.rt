@@ -3,9 +3,9 @@
 ghost use Rattle.std.specs.Prelude.{◌≡◌, ◌==◌, ◌<◌, ◌≤◌, ◌^◌, pos, true, false, if◌then◌else◌, is_some, length};
 ghost use Rattle.std.specs.Prelude.{option_map, MatchOption, IfOk, IfErr, IfSome, IsTrue, ◌↔◌, string_bytes};
 ghost use Rattle.std.specs.Option.{option_copied};
-ghost use Rattle.msi_text_base.specs.Pages.{IsWritable, Reads, Writes, all_pages, bytes_in, is_ascii, page_id, page_name};
+ghost use Rattle.msi_text_base.specs.Pages.{IsWritable, Reads, Writes, all_pages, bytes_in, is_ascii, page_id};
 ghost use Rattle.msi_text_base.specs.Pages.{page_with_id, page_with_signed_id, single_byte_spelling, single_byte_text};
-ghost use Rattle.msi_text_base.specs.Pages.{text_in};
+ghost use Rattle.msi_text_base.specs.Pages.{page_name, text_in};
 ghost use Rattle.msi_text_base.specs.declared.errors.ErrorKind.TheVariants.{InvalidData, InvalidInput, OutOfMemory};
 
 mod tables;
