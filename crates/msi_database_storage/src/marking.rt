@@ -14,7 +14,7 @@ use crate::decoding::readable_rows;
 use msi_container_format::contents::StreamMap;
 use msi_table::{Table, ValueRef};
 use msi_text::errors::Error;
-use msi_text::parts::place_number;
+use msi_text::parts::{forget_texts, place_number};
 use msi_text::stringpool::StringPool;
 use msi_text::text::Items;
 use std::alloc::Global;
@@ -144,6 +144,6 @@ pub fn with_named_texts(
     let mut named = Marks::new(alloc, pool.num_strings())?;
     named.mark_tables(alloc, streams, tables)?;
     named.mark_rows(rows);
-    pool.forget_texts(named.marks.as_slice());
+    forget_texts(&mut pool, named.marks.as_slice());
     Ok(pool)
 }

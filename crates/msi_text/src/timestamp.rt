@@ -50,9 +50,9 @@ impl Timestamp {
 
     /// Returns the time so many seconds, and so many nanoseconds more, after the start of 1970 (the Unix epoch). What
     /// makes no whole tick is cut towards that epoch. A time before 1601 is tick 0, and one past the last tick is the
-    /// last. `nanos` is below 1000000000, also before 1970, so -1 s and 999999950 ns lie 50 ns before it.
+    /// last. `nanos` counts forward also before 1970, so -1 s and 999999950 ns lie 50 ns before it; a count of
+    /// 1000000000 or more reaches into later seconds.
     pub fn from_unix(secs: i64, nanos: u32) -> Timestamp
-        requires { nanos < 1000000000 }
         ensures { result ≡ ticks_of_unix secs nanos }
     {
         let ticks = unbounded_ticks(secs, nanos);

@@ -1,11 +1,12 @@
 //! What the crates above need beyond the surface.
 
-ghost use Rattle.std.specs.Prelude.{◌≡◌, ◌≤◌};
+ghost use Rattle.std.specs.Prelude.{◌≡◌, ◌≤◌, length};
+ghost use Rattle.msi_text_pool.specs.Pool.{without_unnamed_texts};
 
-use crate::stringpool::StringRef;
 pub use crate::stringpool::indexed::most_places;
 pub use crate::stringpool::reading::{pool_builder_of, pool_of};
 pub use crate::stringpool::writing::{data_stream_of, pool_stream_of};
+use crate::stringpool::{StringPool, StringRef};
 
 /// Returns the place of a number.
 pub fn string_ref(number: u32) -> StringRef
@@ -21,4 +22,13 @@ pub fn place_number(reference: StringRef) -> u32
     ensures { result ≡ reference }
 {
     reference.to_number()
+}
+
+/// Empties the text of each place that is free and isn't named: `is_named` says which are, from number 1 on. All else
+/// stays. It takes no memory.
+pub fn forget_texts(pool: &mut StringPool, is_named: &[bool])
+    requires { length is_named.now ≡ length pool.old.places }
+    ensures { pool.new ≡ record pool.old { places = without_unnamed_texts is_named.now pool.old.places } }
+{
+    pool.forget_texts(is_named);
 }

@@ -12,6 +12,7 @@ fn moments_from_unix(rt: HostRuntime) {
         (-11_644_473_600, 0, 0),
         (-11_644_473_601, 0, 0),
         (1_489_862_796, 0, 131_343_363_960_000_000),
+        (0, u32::MAX, 116_444_736_042_949_672),
     ] {
         let moment = Timestamp::from_unix(secs, nanos);
         assert_eq!(rt; moment.ticks(), ticks, "{secs} {nanos}");

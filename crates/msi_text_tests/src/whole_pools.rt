@@ -1,6 +1,8 @@
 //! The string pool whole: made of its two streams and written as them, and a writer that has no room left.
 
-use msi_text::parts::{data_stream_of, pool_builder_of, pool_of, pool_stream_of, string_ref};
+use msi_text::parts::{
+    data_stream_of, forget_texts, pool_builder_of, pool_of, pool_stream_of, string_ref,
+};
 use msi_text::{CodePage, Error, ErrorKind, StringPool};
 use std::alloc::Global;
 use std::process::Abort;
@@ -41,7 +43,7 @@ fn a_pool_comes_from_its_streams_and_goes_back(rt: HostRuntime) -> Result<(), Fa
 fn forgotten(rt: &impl Abort, alloc: Global, marks: [bool; 2]) -> Result<StringPool, Error> {
     let mut pool = two_places(alloc)?;
     assert!(rt; pool.num_strings() == 2);
-    pool.forget_texts(marks.as_slice());
+    forget_texts(&mut pool, marks.as_slice());
     Ok(pool)
 }
 

@@ -212,7 +212,7 @@ impl StringPool {
 
     /// Empties the text of each place that is free and isn't named: `is_named` says which are, from number 1 on. All
     /// else stays. It takes no memory.
-    pub fn forget_texts(&mut self, is_named: &[bool])
+    pub(crate) fn forget_texts(&mut self, is_named: &[bool])
         requires { length is_named.now ≡ length self.old.places }
         ensures { self.new ≡ record self.old { places = without_unnamed_texts is_named.now self.old.places } }
     {
