@@ -5,20 +5,22 @@ ghost use Rattle.msi_text_base.specs.declared.errors.ErrorKind.TheVariants.{Io, 
 ghost use Rattle.msi.specs.Opening.{OpensSource};
 
 use crate::package::Package;
-use msi_container_device::Metered;
+use msi_container_device::{Buffered, Metered};
 use msi_text::errors::Error;
 use std::fs::{self, OpenOptions};
 use std::io::{Read, Seek, Write};
+use std::path::AsPath;
 use std::rt::Files;
 
 /// Opens the package in a file, for reading alone.
 ///
 /// # Errors
 /// Fails with `Io` if the path can't be opened, and otherwise as [`Package::open`] does.
-pub fn open<R>(rt: &R, path: &str) -> Result<Package<Metered<R::File>>, Error>
+pub fn open<R, P>(rt: &R, path: P) -> Result<Package<Metered<R::File>>, Error>
 where
     R: Files + AllocGlobal,
     R::File: Read + Seek + Drop,
+    P: AsPath,
     ensures ok { IfOk result (λ opened. OpensSource None (Ok opened.state)) }
     ensures kind { IfErr result (λ kind. (kind ≡ Io) ⊎ (kind ≡ OutOfMemory) ⊎ OpensSource None (Err kind)) }
 {
@@ -26,17 +28,20 @@ where
     Package::open(rt.alloc(), Metered::new(file))
 }
 
-/// Opens the package in a file, for reading and writing. The file has to be there; `Package::create` makes new ones.
+/// Opens the package in a file, for reading and writing, behind a buffer. The file has to be there; `Package::create`
+/// makes new ones.
 ///
 /// # Errors
 /// Fails with `Io` if the path can't be opened, and otherwise as [`Package::open`] does.
-pub fn open_rw<R>(rt: &R, path: &str) -> Result<Package<Metered<R::File>>, Error>
+pub fn open_rw<R, P>(rt: &R, path: P) -> Result<Package<Buffered<R::File>>, Error>
 where
     R: Files + AllocGlobal,
     R::File: Read + Write + Seek + Drop,
+    P: AsPath,
     ensures ok { IfOk result (λ opened. OpensSource None (Ok opened.state)) }
     ensures kind { IfErr result (λ kind. (kind ≡ Io) ⊎ (kind ≡ OutOfMemory) ⊎ OpensSource None (Err kind)) }
 {
     let file = OpenOptions::new().read(true).write(true).open(rt, path)?;
-    Package::open(rt.alloc(), Metered::new(file))
+    let device = Buffered::new(rt.alloc(), file)?;
+    Package::open(rt.alloc(), device)
 }

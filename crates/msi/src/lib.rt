@@ -23,7 +23,7 @@ pub use files::{open, open_rw};
 pub use kinds::PackageType;
 pub use listing::Tables;
 pub use msi_container::{compound, streamname};
-pub use msi_container_device::{Device, Memory, Metered, Source};
+pub use msi_container_device::{Buffered, Device, Memory, Metered, Source};
 pub use msi_query::{Delete, Expr, Insert, Select, Update};
 pub use msi_streams::{StreamReader, StreamWriter, Streams};
 pub use msi_summary::{OperatingSystem, PropertySet, PropertyValue, SummaryInfo};

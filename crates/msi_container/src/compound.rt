@@ -1,6 +1,6 @@
 //! The compound file: named streams in one file (MS-CFB).
 
-pub use msi_container_device::{Device, Memory, Metered, Source};
+pub use msi_container_device::{Buffered, Device, Memory, Metered, Source};
 pub use msi_container_format::contents::{Bytes, Contents, StreamMap};
 pub use msi_container_format::name::Name;
 pub use msi_container_read::{Listing, Sizes, Steps, list, read, read_counted};

@@ -1,6 +1,7 @@
 //! Readers and devices for packages and compound files, whose contracts speak of the bytes that they hold.
 #![tactic(auto)]
 
+pub mod buffered;
 pub mod device;
 pub mod faults;
 pub mod laws;
@@ -12,6 +13,7 @@ pub mod reasons;
 pub mod source;
 mod writing;
 
+pub use buffered::Buffered;
 pub use device::Device;
 pub use memory::Memory;
 pub use metered::Metered;

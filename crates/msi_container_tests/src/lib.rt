@@ -3,6 +3,8 @@
 #![tactic(auto)]
 
 #[cfg(test)]
+mod buffered;
+#[cfg(test)]
 mod container;
 pub mod counting;
 #[cfg(test)]

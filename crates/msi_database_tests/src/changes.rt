@@ -63,7 +63,7 @@ pub(crate) const WORDS: Change = Insert(
 const WORDS_STREAM: &[u8] = &[1, 0x80, 2, 0x80, 4, 0x80, 23, 0, 21, 0, 22, 0];
 
 /// The table `Mapping`.
-const MAPPING: Change = Create("Mapping", &[("Key", Key), ("Value", Number)]);
+pub(crate) const MAPPING: Change = Create("Mapping", &[("Key", Key), ("Value", Number)]);
 
 /// The stream of `_Columns`: those of `Numbers` stand behind those of `_Validation`, with the types 0x2502 and
 /// 0x1D32.

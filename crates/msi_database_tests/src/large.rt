@@ -1,7 +1,7 @@
-//! A database whose pool is full, and one of many rows.
+//! A database whose pool is full, one of many rows, and a full table.
 
 use crate::changes::{NUMBERS, WORDS};
-use crate::samples::Change::{self, Create, Insert, UpdateWhere};
+use crate::samples::Change::{self, Create, Delete, Insert, UpdateWhere};
 use crate::samples::Given::{Int, Str};
 use crate::samples::Kind::{Key, LongKey, Word};
 use crate::samples::{both, done, insert, make};
@@ -36,7 +36,7 @@ fn with_letters(alloc: Global, pool: &StringPool) -> Result<StringPool, Error> {
 }
 
 /// Streams once more.
-fn copied(alloc: Global, streams: &StreamMap) -> Result<StreamMap, Error> {
+pub(crate) fn copied(alloc: Global, streams: &StreamMap) -> Result<StreamMap, Error> {
     let mut copies = StreamMap::new(alloc);
     for (name, bytes) in streams.iter() {
         let bytes = Vec::from_slice(alloc, bytes.as_slice())?;
@@ -166,5 +166,45 @@ fn fifty_thousand_rows_are_inserted_at_once(rt: HostRuntime) -> Result<(), Fail>
 fn fifty_thousand_rows_are_inserted_in_fifty_calls(rt: HostRuntime) -> Result<(), Fail> {
     let found = filled(rt.alloc(), Database::new(rt.alloc()), 50, 1_000)?;
     assert_eq!(rt; found, FOUND);
+    Ok(())
+}
+
+/// A table of keys alone.
+const KEYS: Change = Create("Keys", &[("Key", LongKey)]);
+
+/// The rows of the keys from 0 on and before this one.
+fn keys(alloc: Global, to: i32) -> Result<Vec<Vec<Value>>, Error> {
+    let mut rows = Vec::new(alloc);
+    for number in 0..to {
+        rows.push(Vec::from_array(alloc, [Value::Int(number)])?)?;
+    }
+    Ok(rows)
+}
+
+/// A database with `Keys`, whose rows are inserted at once.
+fn with_keys(alloc: Global, database: Result<Database, Error>, to: i32) -> Result<Database, Error> {
+    let mut database = database?;
+    make(alloc, &mut database, &KEYS)?;
+    done(database.insert_rows(insert(alloc, "Keys", keys(alloc, to))?))?;
+    Ok(database)
+}
+
+/// What is told of 65536 rows.
+const IN_FULL_TABLE: [Step; 4] = [
+    // That a key is stored comes before that there are too many rows.
+    Refused(Insert("Keys", &[&[Int(0)]]), ErrorKind::AlreadyExists),
+    Refused(Insert("Keys", &[&[Int(65536)]]), ErrorKind::InvalidInput),
+    Made(Delete("Keys"), ("Keys", None, &[])),
+    Made(
+        Insert("Keys", &[&[Int(65536)]]),
+        ("Keys", Some(&[0, 0, 1, 0x80]), &[]),
+    ),
+];
+
+#[test]
+fn a_full_table_takes_no_row(rt: HostRuntime) -> Result<(), Fail> {
+    let database = with_keys(rt.alloc(), Database::new(rt.alloc()), 65_536);
+    let count = gone(rt.alloc(), database, &IN_FULL_TABLE)?;
+    assert_eq!(rt; count, IN_FULL_TABLE.len());
     Ok(())
 }

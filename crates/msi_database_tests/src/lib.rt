@@ -6,6 +6,8 @@ mod changes;
 #[cfg(test)]
 mod described;
 #[cfg(test)]
+mod foreign;
+#[cfg(test)]
 mod large;
 #[cfg(test)]
 mod names;

@@ -1,39 +1,20 @@
-//! Packages in files: `new FILE`, and how the other commands open theirs.
+//! Packages in files: `new FILE`, and whether the file of `put` can be opened.
 
-use crate::buffered::Buffered;
 use msi::{Package, PackageType};
-use msi_container_device::Metered;
+use msi_container_device::Buffered;
 use msi_text::Error;
 use std::fs::{self, OpenOptions};
 use std::io::{self, Read, Seek, Write};
 use std::rt::Files;
 
-/// A package whose file is only read.
-pub(crate) type ReadPackage<F> = Package<Metered<F>>;
-
-/// The package in a file, which is opened for reading alone.
-pub(crate) fn open<R>(rt: &R, path: &str) -> Result<ReadPackage<R::File>, Error>
+/// Opens a file that is there, for reading and writing, and closes it: `Ok` if that can be done.
+pub(crate) fn check_writable<R>(rt: &R, path: &str) -> io::Result<()>
 where
-    R: Files + AllocGlobal,
-    R::File: Read + Seek + Drop,
+    R: Files,
+    R::File: Drop,
 {
-    let file = fs::open(rt, path)?;
-    Package::open(rt.alloc(), Metered::new(file))
-}
-
-/// Opens a file that is there, for reading and writing.
-pub(crate) fn open_rw<R: Files>(rt: &R, path: &str) -> io::Result<R::File> {
-    OpenOptions::new().read(true).write(true).open(rt, path)
-}
-
-/// A file that is there, as a device.
-pub(crate) fn device<R>(rt: &R, path: &str) -> Result<Metered<Buffered<R::File>>, Error>
-where
-    R: Files + AllocGlobal,
-    R::File: Read + Write + Seek + Drop,
-{
-    let file = Buffered::new(rt.alloc(), open_rw(rt, path)?)?;
-    Ok(Metered::new(file))
+    drop(OpenOptions::new().read(true).write(true).open(rt, path)?);
+    Ok(())
 }
 
 /// Makes a file or empties it, and writes a new installer package to it.
@@ -42,7 +23,7 @@ where
     R: Files + AllocGlobal,
     R::File: Read + Write + Seek + Drop,
 {
-    let file = Buffered::new(rt.alloc(), fs::create(rt, path)?)?;
-    Package::create(rt.alloc(), PackageType::Installer, Metered::new(file))?;
+    let device = Buffered::new(rt.alloc(), fs::create(rt, path)?)?;
+    Package::create(rt.alloc(), PackageType::Installer, device)?;
     Ok(())
 }

@@ -17,7 +17,7 @@ where
     R::File: Read + Seek + Drop,
     O: Write,
 {
-    let package = packages::open(rt, file)?;
+    let package = msi::open(rt, file)?;
     write_names(rt.alloc(), package.streams(), output)
 }
 
@@ -39,7 +39,7 @@ where
     R::File: Read + Seek + Drop,
     O: Write,
 {
-    let package = packages::open(rt, file)?;
+    let package = msi::open(rt, file)?;
     Ok(copy_buffered(rt.alloc(), package.read_stream(name)?, output)?)
 }
 
@@ -63,7 +63,7 @@ where
     R::File: Read + Write + Seek + Drop,
     I: Read,
 {
-    drop(packages::open_rw(rt, file)?);
+    packages::check_writable(rt, file)?;
     let mut bytes = Vec::new(rt.alloc());
     input.read_to_end(&mut bytes)?;
     store_bytes(rt, file, name, bytes)
@@ -75,7 +75,7 @@ where
     R: Files + AllocGlobal,
     R::File: Read + Write + Seek + Drop,
 {
-    let mut package = Package::open(rt.alloc(), packages::device(rt, file)?)?;
+    let mut package = msi::open_rw(rt, file)?;
     fill_stream(&mut package, name, bytes)?;
     package.flush()
 }

@@ -1,7 +1,6 @@
 //! `summary FILE`.
 
 use crate::buffered::buffer;
-use crate::packages;
 use msi_summary::SummaryInfo;
 use msi_text::{Error, Timestamp};
 use std::alloc::Global;
@@ -16,7 +15,7 @@ where
     R::File: Read + Seek + Drop,
     O: Write,
 {
-    let package = packages::open(rt, file)?;
+    let package = msi::open(rt, file)?;
     write_buffered(rt.alloc(), package.summary_info(), output)
 }
 

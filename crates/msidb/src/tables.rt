@@ -1,7 +1,6 @@
 //! `tables FILE` and `rows FILE TABLE`.
 
 use crate::buffered::buffer;
-use crate::packages;
 use msi::{Package, Tables};
 use msi_container_device::Source;
 use msi_query::Select;
@@ -18,7 +17,7 @@ where
     R::File: Read + Seek + Drop,
     O: Write,
 {
-    let package = packages::open(rt, file)?;
+    let package = msi::open(rt, file)?;
     Ok(write_names(rt.alloc(), package.tables(), output)?)
 }
 
@@ -39,7 +38,7 @@ where
     R::File: Read + Seek + Drop,
     O: Write,
 {
-    let package = packages::open(rt, file)?;
+    let package = msi::open(rt, file)?;
     write_table(rt.alloc(), &package, table, output)
 }
 

@@ -2,7 +2,7 @@
 
 use crate::{USAGE, run};
 use msi::{Package, PackageType};
-use msi_container_device::Metered;
+use msi_container_device::Buffered;
 use msi_summary::SummaryInfo;
 use msi_text::{CodePage, LanguageId, Timestamp};
 use std::alloc::Global;
@@ -264,7 +264,8 @@ fn set_numbers(summary: &mut SummaryInfo) -> Result<(), Fail> {
 fn all_that_a_summary_tells_is_printed_in_order(rt: HostRuntime) -> Result<(), Fail> {
     let path = path(&rt, "summary")?;
     let file = fs::create(&rt, path.as_str())?;
-    let mut package = Package::create(rt.alloc(), PackageType::Patch, Metered::new(file))?;
+    let device = Buffered::new(rt.alloc(), file)?;
+    let mut package = Package::create(rt.alloc(), PackageType::Patch, device)?;
     set_texts(rt.alloc(), package.summary_info_mut()?)?;
     set_numbers(package.summary_info_mut()?)?;
     package.flush()?;

@@ -9,8 +9,7 @@ ghost use Rattle.msi_container_format.specs.Names.{utf16_units};
 ghost use Rattle.msi_container_format.specs.StreamNames.{encoded_name, is_valid_name};
 ghost use Rattle.msidb.specs.Wrapped.{wrapped};
 
-use crate::buffered::Buffered;
-use msi_container::compound::{self, Bytes, Contents, Device, Metered, Name, StreamMap};
+use msi_container::compound::{self, Buffered, Bytes, Contents, Device, Name, StreamMap};
 use msi_container::streamname;
 use msi_container_device::parts::fault;
 use msi_text::{Error, ErrorKind, Reason};
@@ -43,8 +42,8 @@ where
     if !compound::is_writable(&contents, 0) {
         return Err(Error::new(ErrorKind::InvalidInput, INPUT_TOO_LARGE));
     }
-    let file = Buffered::new(rt.alloc(), fs::create(rt, out)?)?;
-    write_whole(rt.alloc(), &contents, &mut Metered::new(file))
+    let mut device = Buffered::new(rt.alloc(), fs::create(rt, out)?)?;
+    write_whole(rt.alloc(), &contents, &mut device)
 }
 
 /// The container's name of an accepted stream name.

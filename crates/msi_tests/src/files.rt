@@ -1,0 +1,72 @@
+//! Packages in files of the folder for temporary ones.
+
+use crate::steps::{new_bytes, numbers};
+use msi::{Error, ErrorKind};
+use std::test::Fail;
+use std::{env, fs, process};
+
+/// What stands at a path before it is opened.
+#[derive(Clone, Copy, Debug)]
+enum Given {
+    Nothing,
+    Text(&'static str),
+    NewPackage,
+    Numbers,
+}
+
+/// What is given, and the kind of the refusal, if there is one.
+const OPENED: [(Given, Option<ErrorKind>); 5] = [
+    (Given::NewPackage, None),
+    (Given::Numbers, None),
+    (Given::Text("no package"), Some(ErrorKind::InvalidData)),
+    (Given::Text(""), Some(ErrorKind::InvalidData)),
+    (Given::Nothing, Some(ErrorKind::Io)),
+];
+
+/// A path that no other test uses, where nothing stands yet.
+fn path(rt: &HostRuntime) -> Result<String, Fail> {
+    let folder = env::temp_dir(rt)?;
+    let id = process::id(rt.process());
+    Ok(format!(in rt.alloc(); "{}/msi-{id}-files", folder.as_path().display())?)
+}
+
+/// Puts what is given at a path.
+fn put(rt: &HostRuntime, path: &str, given: Given) -> Result<(), Fail> {
+    match given {
+        Given::Nothing => {}
+        Given::Text(text) => fs::write(rt, path, text)?,
+        Given::NewPackage => fs::write(rt, path, new_bytes(rt.alloc())?)?,
+        Given::Numbers => fs::write(rt, path, numbers(rt.alloc())?)?,
+    }
+    Ok(())
+}
+
+/// Why a package isn't opened. One that is opened is dropped.
+fn refusal<P: Drop>(opened: Result<P, Error>) -> Option<ErrorKind> {
+    match opened {
+        Ok(_package) => None,
+        Err(error) => Some(error.kind()),
+    }
+}
+
+/// Whether a file is opened or refused so, for reading alone and for changing, and stays as it was. A file that isn't
+/// there stays missing.
+fn is_left_alone(rt: &HostRuntime, path: &str, kind: Option<ErrorKind>) -> bool {
+    let before = fs::read(rt, path).ok();
+    let read = refusal(msi::open(rt, path));
+    let changed = refusal(msi::open_rw(rt, path));
+    let after = fs::read(rt, path).ok();
+    read == kind && changed == kind && before.as_deref() == after.as_deref()
+}
+
+#[test]
+fn opening_leaves_the_file_as_it_was(rt: HostRuntime) -> Result<(), Fail> {
+    let path = path(&rt)?;
+    for (given, kind) in OPENED {
+        put(&rt, path.as_str(), given)?;
+        let left = is_left_alone(&rt, path.as_str(), kind);
+        assert!(rt; left, "{given:?}");
+        let _ = fs::remove_file(&rt, path.as_str());
+    }
+    Ok(())
+}
