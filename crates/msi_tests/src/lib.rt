@@ -14,6 +14,8 @@ mod readme;
 #[cfg(test)]
 mod samples;
 #[cfg(test)]
+mod sharing;
+#[cfg(test)]
 mod steps;
 #[cfg(test)]
 mod tables;
