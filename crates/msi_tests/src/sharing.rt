@@ -51,8 +51,9 @@ fn refused(alloc: Global, sharing: u32, many: usize) -> Result<Option<ErrorKind>
     Ok(error.map(|error| error.kind()))
 }
 
-/// How many columns share a text, its letters, and why the package isn't opened. A text of 20000 letters may be copied
-/// seven times, since four times the pool and 64 KiB are less than 160000 bytes.
+/// How many columns share a text, its letters, and why the package isn't opened. The pool has the text and less than
+/// 4000 bytes beside it, so that four times its bytes, 64 for each row and 65536 are more than 140000 and less than
+/// 180000.
 const SHARING: [(u32, usize, Option<ErrorKind>); 4] = [
     (2, 20_000, None),
     (7, 20_000, None),
