@@ -17,9 +17,10 @@ returns-then-is_some-clause-gives c =
 
 pub loop-id-preserved : goal.loop-id-preserved
 loop-id-preserved c =
-    rw c.in_ok-before.ensures.entries
-    (puts_next c.args.version c.args.page c.args.bytes.now c.args.section c.args.pairs.now c.loop-id.id-index c.loop-id.values.entries c.rest_from-rest.result.now c.in_ok-value.value c.in_ok-before.before (put_values c.args.version c.args.page c.args.bytes.now c.args.section c.args.pairs.now []) c.loop-id-test.true c.rest_from-rest.ensures c.in_ok-value.ensures.gives c.in_ok-before.ensures.old (rw (← c.is_some.ensures) c.if-is_some.false) c.loop-id.invariant.0,
-    room_after c.loop-id.values.entries (get_or c.args.pairs.now c.loop-id.id-index (0, 0)).0 c.in_ok-value.value c.loop-id.left c.in_ok-value.others (most_text (length c.args.bytes.now)) c.loop-id.invariant.1 c.in_ok-value.ensures.within)
+    rw c.in_ok-before.ensures.entries (
+      puts_next c.args.version c.args.page c.args.bytes.now c.args.section c.args.pairs.now c.loop-id.id-index c.loop-id.values.entries c.rest_from-rest.result.now c.in_ok-value.value c.in_ok-before.before (put_values c.args.version c.args.page c.args.bytes.now c.args.section c.args.pairs.now []) c.loop-id-test.true c.rest_from-rest.ensures c.in_ok-value.ensures.gives c.in_ok-before.ensures.old (rw (← c.is_some.ensures) c.if-is_some.false) c.loop-id.invariant.0,
+      room_after c.loop-id.values.entries (get_or c.args.pairs.now c.loop-id.id-index (0, 0)).0 c.in_ok-value.value c.loop-id.left c.in_ok-value.others (most_text (length c.args.bytes.now)) c.loop-id.invariant.1 c.in_ok-value.ensures.within,
+    )
 
 pub returns-clause-gives : goal.returns-clause-gives
 returns-clause-gives c = puts_done c.args.version c.args.page c.args.bytes.now c.args.section c.args.pairs.now c.loop-id.id-index c.loop-id.values.entries (put_values c.args.version c.args.page c.args.bytes.now c.args.section c.args.pairs.now []) c.loop-id-test.false c.loop-id.invariant.0
