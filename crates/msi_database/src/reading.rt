@@ -15,6 +15,7 @@ ghost use Rattle.msi_database.specs.Agreement.{described_by, schema_in};
 ghost use Rattle.msi_database.specs.Reading.{IsDatabaseOf};
 
 use crate::database::Database;
+use crate::reasons;
 use msi_container_format::contents::StreamMap;
 use msi_database_schema::schema::{SchemaRows, named_table, tables_described};
 use msi_database_schema::system::{
@@ -27,7 +28,8 @@ use msi_database_storage::soundness::are_sound;
 use msi_table::column::Column;
 use msi_table::parts::values;
 use msi_table::{Table, Value, ValueRef};
-use msi_text::errors::Error;
+use msi_text::errors::{Error, ErrorKind};
+use msi_text::parts::string_ref;
 use msi_text::stringpool::StringPool;
 use msi_text::text::Items;
 use std::alloc::Global;
@@ -48,10 +50,55 @@ fn look_at(streams: &StreamMap)
     }
 }
 
-/// The values of rows, whose texts stand in a pool.
+/// How many bytes the texts of a pool have.
+fn pool_size(pool: &StringPool) -> usize {
+    let mut size = 0_usize;
+    for i in 0..pool.num_strings() {
+        size = size.saturating_add(pool.get(string_ref(i + 1)).len());
+    }
+    size
+}
+
+/// How many bytes the text that a cell names has; none where it names no text.
+fn text_size(pool: &StringPool, cell: ValueRef) -> usize {
+    match cell {
+        ValueRef::Str(reference) => pool.get(reference).len(),
+        _ => 0,
+    }
+}
+
+/// How many of the bytes that are left for texts are left behind a row; nothing where it has more.
+fn left_behind(pool: &StringPool, row: &[ValueRef], left: usize) -> Option<usize> {
+    let mut left = left;
+    for cell in row {
+        let Some(others) = left.checked_sub(text_size(pool, *cell)) else {
+            return None;
+        };
+        left = others;
+    }
+    Some(left)
+}
+
+/// Whether the texts that rows name, each as often as it is named, have at most four times the bytes of the pool's
+/// texts, and 64 bytes for each row, and 64 KiB.
+fn have_few_texts(pool: &StringPool, rows: &[Items<ValueRef>]) -> bool {
+    let of_pool = pool_size(pool).saturating_mul(4);
+    let of_rows = rows.len().saturating_mul(64).saturating_add(65536);
+    let mut left = of_pool.saturating_add(of_rows);
+    for row in rows {
+        let Some(others) = left_behind(pool, row.as_slice(), left) else {
+            return false;
+        };
+        left = others;
+    }
+    true
+}
+
+/// The values of rows, whose texts stand in a pool. Each value has a copy of its text, so rows that name the same long
+/// texts again and again are refused.
 ///
 /// # Errors
-/// `OutOfMemory`.
+/// `OutOfMemory`, also where the texts are more than `have_few_texts` allows.
 fn values_of_rows(
     alloc: Global,
     pool: &StringPool,
@@ -60,6 +107,9 @@ fn values_of_rows(
     ensures ok { IfOk result (λ described. described.items ≡ map (row_values pool.now.places) rows.now) }
     ensures kind { OnlyMemory result }
 {
+    if !have_few_texts(pool, rows) {
+        return Err(Error::new(ErrorKind::OutOfMemory, reasons::SHARED_TEXTS));
+    }
     let mut described = Vec::with_capacity(alloc, rows.len())?;
     for row in rows {
         described.push(values(alloc, pool, row.as_slice())?)?;
@@ -139,7 +189,8 @@ impl Database {
     ///
     /// # Errors
     /// Fails with `InvalidData` if the stream of a system table can't be read, and if its rows describe no tables, or
-    /// with `OutOfMemory`.
+    /// with `OutOfMemory`. That comes too if the rows of a system table name texts that have, each counted as often as
+    /// it is named, more than four times the bytes of the pool's texts, 64 bytes for each row and 64 KiB.
     pub fn read(alloc: Global, pool: StringPool, streams: StreamMap) -> Result<Database, Error>
         ensures ok { IfOk result (IsDatabaseOf pool (entries streams)) }
         ensures only { IfOk result (λ d. (k : Kept) → IsDatabaseOf pool (entries streams) k → k ≡ d) }

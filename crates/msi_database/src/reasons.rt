@@ -15,3 +15,7 @@ pub(crate) const TABLE_EXISTS: Reason = Reason("there is a table of this name al
 pub(crate) const NO_VALIDATION: Reason = Reason(
     "a table is created only where _Validation is a table",
 );
+
+pub(crate) const SHARED_TEXTS: Reason = Reason(
+    "rows of a system table share texts that would take far more memory than the pool",
+);

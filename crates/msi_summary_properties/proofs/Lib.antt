@@ -5,6 +5,7 @@ pub mod SpelledSetLemmas
 pub mod PairsLoopLemmas
 pub mod ValuesLoopLemmas
 pub mod SetPartsLemmas
+pub mod TextSizesLemmas
 pub mod PlainValueLemmas
 pub mod SortedIdsLemmas
 pub mod PutInLemmas

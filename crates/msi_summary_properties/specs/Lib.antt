@@ -5,3 +5,4 @@ pub mod PropertyWriting
 pub mod PropertyLaws
 pub mod Reading
 pub mod HeaderView
+pub mod TextSizes

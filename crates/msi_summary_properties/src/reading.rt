@@ -1,17 +1,18 @@
 //! Reading a set from its bytes.
 
-ghost use Rattle.std.specs.Prelude.{◌≡◌, ◌+◌, ◌==◌, ◌⊎◌, [], drop, Some, IfOk, IfErr};
+ghost use Rattle.std.specs.Prelude.{◌≡◌, ◌+◌, ◌==◌, ◌≤◌, ◌⊎◌, [], drop, length, Some, IfOk, IfErr};
 ghost use Rattle.msi_text_base.specs.declared.errors.ErrorKind.TheVariants.{InvalidData, OutOfMemory};
 ghost use Rattle.msi_summary_properties.specs.PropertyStream.{Spells};
 ghost use Rattle.msi_text_base.specs.Lists.{entry_where};
 ghost use Rattle.msi_summary_properties.specs.Properties.{Properties, page_in};
 ghost use Rattle.msi_text_base.specs.Results.{Gives};
 ghost use Rattle.msi_summary_properties.specs.Reading.{page_stated, put_values, set_put};
+ghost use Rattle.msi_summary_properties.specs.TextSizes.{most_text as most_text_of, texts_size};
 
 use crate::header::{header_at, section_at};
 use crate::propset::{PropertySet, PropertyValue, page_named};
 use crate::reasons;
-use crate::values::value_at;
+use crate::values::{value_at, value_within};
 use msi_text::codepage::CodePage;
 use msi_text::errors::{Error, ErrorKind};
 use std::alloc::Global;
@@ -70,6 +71,13 @@ fn page_in_section(
     }
 }
 
+/// How many bytes the texts of a set may have, however many ids share one.
+fn most_text(bytes: &[u8]) -> usize
+    ensures { result ≤ most_text_of (length bytes.now) }
+{
+    bytes.len().saturating_mul(4).saturating_add(65536)
+}
+
 /// The values of the pairs by id, no id twice.
 fn values_of(
     alloc: Global,
@@ -79,12 +87,15 @@ fn values_of(
     section: u32,
     pairs: &[(u32, u32)],
 ) -> Result<BTreeMap<u32, PropertyValue>, Error>
-    ensures { Gives (λ m. m.entries) result (put_values version page bytes.now section pairs.now []) }
+    ensures gives { Gives (λ m. m.entries) result (put_values version page bytes.now section pairs.now []) }
+    ensures bounded { IfOk result (λ m. texts_size m.entries ≤ most_text_of (length bytes.now)) }
 {
     let mut values = BTreeMap::new(alloc);
+    let mut left = most_text(bytes);
     for &(id, place) in pairs {
         let rest = rest_from(bytes, section, place);
-        let value = value_at(alloc, version, page, rest)?;
+        let (value, others) = value_within(alloc, version, page, rest, left)?;
+        left = others;
         let before = values.insert(id, value)?;
         if before.is_some() {
             return Err(Error::new(ErrorKind::InvalidData, reasons::PROPERTY_TWICE));
@@ -96,7 +107,8 @@ fn values_of(
 /// The set that the bytes encode, as its parts give it.
 #[tactic(auto, unfolding(crate::specs::Reading::set_put))]
 fn set_at(alloc: Global, bytes: &[u8]) -> Result<PropertySet, Error>
-    ensures { Gives (λ s. s) result (set_put bytes.now) }
+    ensures gives { Gives (λ s. s) result (set_put bytes.now) }
+    ensures bounded { IfOk result (λ s. texts_size s.values ≤ most_text_of (length bytes.now)) }
 {
     let head = header_at(bytes)?;
     let rest = rest_from(bytes, head.section, 0);
@@ -123,12 +135,15 @@ impl PropertySet {
     /// the version, the system or the reserved number is none that is known; a type is unknown, or an 8-bit number
     /// stands in a set of version 0; a text ends in no null, or isn't read in its page; property 1 is no 16-bit
     /// number of a known page; an id is listed twice. Otherwise it fails with `OutOfMemory` if the values can't be
-    /// stored.
+    /// stored, or if the texts have more than four times the bytes of the stream and 64 KiB in UTF-8, where a text that
+    /// several ids share counts once for each.
     pub fn read(alloc: Global, bytes: &[u8]) -> Result<PropertySet, Error>
         // What is read is spelled.
         ensures found { IfOk result (λ set. Spells bytes.now set) }
         // What is spelled is read, and nothing else, unless memory runs out.
         ensures only { (set : Properties) → Spells bytes.now set → Gives (λ s. s) result (Some set) }
+        // However many ids share a text, what is kept is bounded by the bytes.
+        ensures bounded { IfOk result (λ set. texts_size set.values ≤ most_text_of (length bytes.now)) }
         ensures kinds { IfErr result (λ kind. (kind ≡ InvalidData) ⊎ (kind ≡ OutOfMemory)) }
     {
         set_at(alloc, bytes)

@@ -1,8 +1,10 @@
 //! Reading values from their bytes.
 
+ghost use Rattle.std.specs.Prelude.{◌≡◌, ◌+◌, IfOk};
 ghost use Rattle.msi_text_base.specs.Pages.{text_in};
 ghost use Rattle.msi_text_base.specs.Results.{Gives};
 ghost use Rattle.msi_summary_properties.specs.Reading.{string_at, value_at, payload_at};
+ghost use Rattle.msi_summary_properties.specs.TextSizes.{text_size as size_of_text};
 
 use crate::propset::PropertyValue;
 use crate::reasons::{self, PROPERTY_CUT};
@@ -73,4 +75,32 @@ pub(crate) fn value_at(
 {
     let (kind, rest) = u32_at(bytes, PROPERTY_CUT)?;
     payload_at(alloc, version, page, kind, rest)
+}
+
+/// How many bytes the text of a value has; none where it is no text.
+fn text_size(value: &PropertyValue) -> usize
+    ensures { result ≡ size_of_text value.now }
+{
+    match value {
+        PropertyValue::LpStr(text) => text.as_str().len(),
+        _ => 0,
+    }
+}
+
+/// The value whose bytes begin here, of which a text may have `left` bytes, and how many are left for others.
+pub(crate) fn value_within(
+    alloc: Global,
+    version: u16,
+    page: CodePage,
+    bytes: &[u8],
+    left: usize,
+) -> Result<(PropertyValue, usize), Error>
+    ensures gives { Gives (λ read. read.0) result (value_at version page bytes.now) }
+    ensures within { IfOk result (λ read. size_of_text read.0 + read.1 ≡ left) }
+{
+    let value = value_at(alloc, version, page, bytes)?;
+    match left.checked_sub(text_size(&value)) {
+        Some(others) => Ok((value, others)),
+        None => Err(Error::new(ErrorKind::OutOfMemory, reasons::SHARED_TEXTS)),
+    }
 }

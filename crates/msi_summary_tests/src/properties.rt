@@ -248,6 +248,56 @@ fn what_spells_no_set_is_refused(rt: HostRuntime) -> Result<(), Fail> {
     Ok(())
 }
 
+/// A section of one text of `x`, which so many ids share, the first of them 2.
+fn shared(alloc: Global, ids: u32, letters: u32) -> Result<Vec<u8>, Error> {
+    let place = ids.saturating_mul(8).saturating_add(8);
+    let mut section = Vec::new(alloc);
+    section.extend_from_slice(&place.to_le_bytes())?;
+    section.extend_from_slice(&ids.to_le_bytes())?;
+    for id in 0..ids {
+        section.extend_from_slice(&id.saturating_add(2).to_le_bytes())?;
+        section.extend_from_slice(&place.to_le_bytes())?;
+    }
+    with_letters(section, letters)
+}
+
+/// The bytes, and behind them the value of a text of so many `x`.
+fn with_letters(bytes: Vec<u8>, letters: u32) -> Result<Vec<u8>, Error> {
+    let mut bytes = bytes;
+    bytes.extend_from_slice(&30_u32.to_le_bytes())?;
+    bytes.extend_from_slice(&letters.saturating_add(1).to_le_bytes())?;
+    for _ in 0..letters {
+        bytes.push(b'x')?;
+    }
+    bytes.push(0)?;
+    Ok(bytes)
+}
+
+/// Why a set isn't read in which so many ids share a text of so many bytes.
+fn sharing_refused(alloc: Global, ids: u32, letters: u32) -> Result<Option<ErrorKind>, Error> {
+    let section = shared(alloc, ids, letters)?;
+    let error = read(alloc, &VERSION_0, section.as_slice()).err();
+    Ok(error.map(|error| error.kind()))
+}
+
+/// How many ids share a text, how long it is, and why the set isn't read. The stream has 65 bytes more than the text,
+/// and 8 for each id, so a text of 20000 bytes may be shared by 7 ids: 4 * 20121 + 65536 is less than 8 * 20000.
+static SHARING: [(u32, u32, Option<ErrorKind>); 4] = [
+    (2, 20_000, None),
+    (7, 20_000, None),
+    (8, 20_000, Some(ErrorKind::OutOfMemory)),
+    (2000, 20_000, Some(ErrorKind::OutOfMemory)),
+];
+
+#[test]
+fn ids_share_a_long_text_in_bounds(rt: HostRuntime) -> Result<(), Fail> {
+    for (ids, letters, wanted) in &SHARING {
+        let found = sharing_refused(rt.alloc(), *ids, *letters)?;
+        assert!(rt; found == *wanted, "{ids} ids");
+    }
+    Ok(())
+}
+
 /// Whether a text that the page lacks is refused, and nothing is written.
 fn lacking_page_is_told(alloc: Global) -> Result<bool, Error> {
     let set = made(alloc, CodePage::Windows1250, &[(2, Given::Text("é"))])?;

@@ -16,6 +16,8 @@ mod readme;
 #[cfg(test)]
 mod samples;
 #[cfg(test)]
+mod sharing;
+#[cfg(test)]
 mod steps;
 #[cfg(test)]
 mod tables;
