@@ -5,10 +5,13 @@ ghost use Rattle.msi_query_rows.specs.Refusals.{AnswersFirst, IsRefusal, unless_
 ghost use Rattle.msi_database_changes.specs.Changes.{sound_refusal};
 ghost use Rattle.msi_database_changes.specs.Create as creates;
 ghost use Rattle.msi_database_changes.specs.Delete as deletes;
+ghost use Rattle.msi_database_changes.specs.Delete.{early_delete_refusals};
 ghost use Rattle.msi_database_changes.specs.Drop as drops;
 ghost use Rattle.msi_database_changes.specs.Drop.{early_drop_refusals};
 ghost use Rattle.msi_database_changes.specs.Insert as inserts;
+ghost use Rattle.msi_database_changes.specs.Insert.{early_insert_refusals};
 ghost use Rattle.msi_database_changes.specs.Update as updates;
+ghost use Rattle.msi_database_changes.specs.Update.{early_update_refusals};
 ghost use Rattle.msi.specs.State.{parts_of};
 ghost use Rattle.msi.specs.Steps.{changing, storage_refusal, with_page};
 ghost use Rattle.msi.specs.Whole.{Leaves, with_state};
@@ -49,13 +52,16 @@ impl<F: Source> Package<F> {
     /// `InvalidInput` for a wrong number of values and for an invalid one; `InvalidData` if two stored rows share a
     /// key; row by row `AlreadyExists` if the key is stored, and `InvalidInput` if an earlier new row has it;
     /// `InvalidInput` above 65536 rows, and if the pool has no place left. If none applies, it fails with
-    /// `OutOfMemory`, which may also come in place of the others. Then nothing has changed.
+    /// `OutOfMemory`, which may also come in place of the refusals for keys, for the number of rows, and of the pool.
+    /// Then nothing has changed.
     pub fn insert_rows(&mut self, query: Insert) -> Result<(), Error>
         ensures ok { let change = changing (parts_of self.old.state) (λ d. inserts.insert_rows d query) in
             OnOk result (Leaves self.old change self.new) }
         ensures same { OnErr result (self.new ≡ self.old) }
         ensures kind { let change = changing (parts_of self.old.state) (λ d. inserts.insert_rows d query) in
             IfErr result (IsRefusal change) }
+        ensures early { let s = self.old.state in
+            AnswersFirst (storage_refusal (parts_of s) ++ early_insert_refusals s.kept.database query) result }
     {
         self.check_storages()?;
         settle(&mut self.database, &mut self.open, &mut self.current);
@@ -71,7 +77,7 @@ impl<F: Source> Package<F> {
     /// the package isn't sound; `InvalidInput` for a system table, but for Description in `_Validation`; `NotFound`
     /// if there is none; `InvalidInput` if a column that is set isn't there or doesn't take its value, and if one of
     /// the condition isn't there; `AlreadyExists` if two rows would share a key; `InvalidInput` if the pool has no
-    /// place left. If none applies, it fails with `OutOfMemory`, which may also come in place of the others. Then
+    /// place left. If none applies, it fails with `OutOfMemory`, which may also come in place of the last two. Then
     /// nothing has changed.
     pub fn update_rows(&mut self, query: Update) -> Result<(), Error>
         ensures ok { let change = changing (parts_of self.old.state) (λ d. updates.update_rows d query) in
@@ -79,6 +85,8 @@ impl<F: Source> Package<F> {
         ensures same { OnErr result (self.new ≡ self.old) }
         ensures kind { let change = changing (parts_of self.old.state) (λ d. updates.update_rows d query) in
             IfErr result (IsRefusal change) }
+        ensures early { let s = self.old.state in
+            AnswersFirst (storage_refusal (parts_of s) ++ early_update_refusals s.kept.database query) result }
     {
         self.check_storages()?;
         settle(&mut self.database, &mut self.open, &mut self.current);
@@ -92,14 +100,16 @@ impl<F: Source> Package<F> {
     /// # Errors
     /// Fails with the first of these that applies: `InvalidInput` if storages lie below the root; `InvalidData` if
     /// the package isn't sound; `InvalidInput` for a system table; `NotFound` if there is none; `InvalidInput` if a
-    /// column of the condition isn't there. If none applies, it fails with `OutOfMemory`, which may also come in
-    /// place of the others. Then nothing has changed.
+    /// column of the condition isn't there. If none applies, it fails with `OutOfMemory`, which never comes in place
+    /// of the others. Then nothing has changed.
     pub fn delete_rows(&mut self, query: Delete) -> Result<(), Error>
         ensures ok { let change = changing (parts_of self.old.state) (λ d. deletes.delete_rows d query) in
             OnOk result (Leaves self.old change self.new) }
         ensures same { OnErr result (self.new ≡ self.old) }
         ensures kind { let change = changing (parts_of self.old.state) (λ d. deletes.delete_rows d query) in
             IfErr result (IsRefusal change) }
+        ensures early { let s = self.old.state in
+            AnswersFirst (storage_refusal (parts_of s) ++ early_delete_refusals s.kept.database query) result }
     {
         self.check_storages()?;
         settle(&mut self.database, &mut self.open, &mut self.current);

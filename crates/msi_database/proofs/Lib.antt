@@ -9,6 +9,7 @@ pub mod SchemaLemmas
 pub mod FitLemmas
 pub mod DescribedLemmas
 pub mod RowChangeLemmas
+pub mod EarlyCallLemmas
 pub mod KindsLemmas
 pub mod ComesLemmas
 pub mod RowsComeLemmas
@@ -48,3 +49,4 @@ pub mod FreshCallLemmas
 pub mod FreshStepLemmas
 pub mod FreshMadeLemmas
 pub mod FreshKeptLemmas
+pub mod UpdateCallLemmas

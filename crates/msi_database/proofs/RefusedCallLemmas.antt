@@ -52,7 +52,7 @@ pub option_refused : {A C : Type 0} (kind k : ErrorKind) (g : A → C) (o : Opti
 option_refused kind k g o (inl memory) = inl memory
 option_refused kind k g o (inr e) = inr (none_refused kind k g o e)
 
-becomes : {A : Type 0} (r s : Result A ErrorKind) (k : ErrorKind) → r ≡ s → IsRefusal s k → IsRefusal r k
+pub becomes : {A : Type 0} (r s : Result A ErrorKind) (k : ErrorKind) → r ≡ s → IsRefusal s k → IsRefusal r k
 becomes r s k e h = subst (λ (r : Result _ ErrorKind). IsRefusal r k) (sym e) h
 
 -- ROWS THAT ARE INSERTED, from any change on

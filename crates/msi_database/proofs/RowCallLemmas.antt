@@ -165,7 +165,7 @@ pub record Called (k : Kept) (r : Result Change ErrorKind) (t : TableDef) (rows 
   pub makes : (new : Pool) (e : Stored) → after.pool.page ≡ before.pool.page → after.pool.long ≡ before.pool.long → new ≡ after.pool → e.name ≡ table_key t.name → e.bytes ≡ stream_of_rows t.long t.columns rows → MakesRows k r new e
   pub uses : (used : Bool) → used ≡ after.is_used → TellsUse r used
 
-passes_one : (b : Bool) (kind : ErrorKind) (x : Unit {0}) → Ok x ≡ unless_refused ((not b, kind) ∷ []) tt → b ≡ true
+pub passes_one : (b : Bool) (kind : ErrorKind) (x : Unit {0}) → Ok x ≡ unless_refused ((not b, kind) ∷ []) tt → b ≡ true
 passes_one true kind x e = refl
 passes_one false kind x e = absurd cc
 
@@ -188,17 +188,15 @@ module _ (pool : Pool) (tables : List TableDef) (m : maps.Streams) (known : Bool
     uses = λ used e. subst (λ (r : Result Change ErrorKind). TellsUse r used) (sym made) e;
   }
 
-  pub delete_called : (q : DeleteQuery) → name ≡ q.table → (b : Bool) → b ≡ is_system_table name → b ≡ false
-      → (x : Unit {0}) → Ok x ≡ unless_refused ((not (has_columns columns (condition_names q.condition)), InvalidInput) ∷ []) tt
+  pub delete_called : (q : DeleteQuery) → name ≡ q.table → is_system_table name ≡ false → has_columns t.columns (condition_names q.condition) ≡ true
       → rows ≡ rows_meeting pool.places (table_with columns held) q.condition false
       → in_use after ≡ rows_released (in_use before) (rows_meeting pool.places (table_with columns held) q.condition true)
       → Called k (delete_rows k.database q) t rows before after
-  delete_called q named b b_is free x judged rows_is released =
+  delete_called q named free fits rows_is released =
       let seen : DeleteQuery = record { table = name; condition = q.condition } in
       let same : seen ≡ q = λ i. record { table = named i; condition = q.condition } in
       let meeting = λ (places : List Place) (cs : List ColumnDef) (wanted : Bool). rows_meeting places (table_with cs held) q.condition wanted in
-      let made : delete_rows k.database seen ≡ Ok (with_stored name t.columns rows (in_use after) (no_change k.database)) = delete_is k.database seen t held rows before after sound (sym b_is ∙ free) here
-      (sym (ap (λ (cs : List ColumnDef). has_columns cs (condition_names q.condition)) columns_is) ∙ passes_one (has_columns columns (condition_names q.condition)) InvalidInput x judged) began
+      let made : delete_rows k.database seen ≡ Ok (with_stored name t.columns rows (in_use after) (no_change k.database)) = delete_is k.database seen t held rows before after sound free here fits began
       (rows_is ∙ ap₂ (λ (p : Pool) (cs : List ColumnDef). meeting p.places cs false) pool_is columns_is)
       (released ∙ ap₂ (λ (p : Pool) (cs : List ColumnDef). rows_released (in_use before) (meeting p.places cs true)) pool_is columns_is) in
       subst (λ (q : DeleteQuery). Called k (delete_rows k.database q) t rows before after) same (called (delete_rows k.database seen) made (deleted seen made))

@@ -5,7 +5,7 @@ ghost use Rattle.std.specs.Prelude.{option_copied, true};
 ghost use Rattle.std.specs.FinMap.{entries};
 ghost use Rattle.msi_text_base.specs.Results.{OnlyMemory};
 ghost use Rattle.msi_query_rows.specs.Refusals.{IsRefusal, first_refusal, unless_refused};
-ghost use Rattle.msi_database_changes.specs.Changes.{barred_refusals};
+ghost use Rattle.msi_database_changes.specs.Changes.{absent_refusals, barred_refusals};
 ghost use Rattle.msi_database_changes.specs.Database.{is_sound as is_sound_one, table_at};
 ghost use Rattle.msi_database_changes.specs.Insert.{table_with};
 ghost use Rattle.msi_database_storage.specs.Kept.{kept_of, without_table_kept};
@@ -69,6 +69,25 @@ impl Database {
             (IsKnown self.now.database name.now) }
     {
         self.get_table(name)
+    }
+
+    /// The table whose rows are to be changed. It takes no memory.
+    ///
+    /// # Errors
+    /// `InvalidData` where the database isn't sound, `InvalidInput` where the change is barred, then `NotFound`.
+    pub(crate) fn table_to_change(&self, name: &str, is_barred: bool) -> Result<&Table, Error>
+        ensures sound { OnOk result (is_sound_one self.now.database ≡ true) }
+        ensures free { OnOk result (is_barred ≡ false) }
+        ensures known { IfOk result (λ table. IsKnown self.now.database name.now table.now) }
+        ensures passed { OnOk result (first_refusal (barred_refusals self.now.database is_barred) ≡ None) }
+        ensures early { IfErr result (λ kind.
+            first_refusal (absent_refusals self.now.database is_barred name.now) ≡ Some kind) }
+    {
+        self.refuse_change(is_barred)?;
+        match self.known_table(name) {
+            Some(table) => Ok(table),
+            None => Err(Error::new(ErrorKind::NotFound, reasons::NO_TABLE)),
+        }
     }
 
     /// The rows of a table of a sound database.

@@ -4,7 +4,7 @@ ghost use Rattle.std.specs.Prelude.{◌≡◌, ◌≤◌, IfErr, IfOk, IsTrue, O
 ghost use Rattle.msi_text_pool.specs.FirstFit.{most_places};
 ghost use Rattle.msi_text_base.specs.Results.{OnlyMemory};
 ghost use Rattle.msi_table.specs.Tables.{most_columns};
-ghost use Rattle.msi_query_rows.specs.Refusals.{IsRefusal, unless_refused};
+ghost use Rattle.msi_query_rows.specs.Refusals.{AnswersFirst, IsRefusal, unless_refused};
 ghost use Rattle.msi_database_schema.specs.Description.{have_short_lengths};
 ghost use Rattle.msi_database_schema.specs.Keys.{is_table_name as is_name_of_table};
 ghost use Rattle.msi_database_changes.specs.Create as creates;
@@ -189,6 +189,7 @@ impl Database {
             IfOk result (λ made. TellsUse change made.is_pool_used) }
         ensures names { IfOk result (λ made. HaveOwnNames made.new.stored.items) }
         ensures kind { IfErr result (IsRefusal (creates.create_table self.now.database name.now columns)) }
+        ensures early { AnswersFirst (create_refusals self.now.database name.now columns) result }
     {
         self.refuse_create(name, columns.as_slice())?;
         let mut pool = PoolInUse::new(self.pool.clone()?);
@@ -213,14 +214,16 @@ impl Database {
     /// Fails with the first of these that applies: `InvalidData` if the database isn't sound; `InvalidInput` if no
     /// table may have the name, and for columns as `refuse_columns` does; `AlreadyExists` if there is such a table;
     /// `NotFound` if `_Validation` is no table; then for the rows that describe it, those of `_Columns`, of `_Tables`
-    /// and of `_Validation` in turn, as `refuse_rows` does, and `InvalidInput` if the pool is full. It may fail with
-    /// `OutOfMemory` in place of any of these. Then nothing has changed.
+    /// and of `_Validation` in turn, as `refuse_rows` does, and `InvalidInput` if the pool is full. If none applies, it
+    /// fails with `OutOfMemory`, which may also come in place of the refusals of these rows and of the pool. Then
+    /// nothing has changed.
     pub fn create_table(&mut self, name: &str, columns: Items<Column>) -> Result<bool, Error>
         ensures ok { let change = creates.create_table self.old.database name.now columns in
             OnOk result (Leaves self.old change self.new) }
         ensures used { IfOk result (TellsUse (creates.create_table self.old.database name.now columns)) }
         ensures same { OnErr result (self.new ≡ self.old) }
         ensures kind { IfErr result (IsRefusal (creates.create_table self.old.database name.now columns)) }
+        ensures early { AnswersFirst (create_refusals self.old.database name.now columns) result }
     {
         let Created { new, is_pool_used } = self.table_created(name, columns)?;
         self.finish_tables(new)?;

@@ -63,6 +63,11 @@ pub front_holds : (rs ss : Refusals) (k : ErrorKind) → first_refusal rs ≡ So
 front_holds [] ss k e = cc
 front_holds (r ∷ rs) ss k e = holds_at r.0 r.1 k (first_refusal rs) (first_refusal (rs ++ ss)) (front_holds rs ss k) e
 
+-- the same with others in place of those behind
+pub tail_holds : (rs ss ts : Refusals) (k : ErrorKind) → (first_refusal ss ≡ Some k → first_refusal ts ≡ Some k) → first_refusal (rs ++ ss) ≡ Some k → first_refusal (rs ++ ts) ≡ Some k
+tail_holds [] ss ts k h e = h e
+tail_holds (r ∷ rs) ss ts k h e = holds_at r.0 r.1 k (first_refusal (rs ++ ss)) (first_refusal (rs ++ ts)) (tail_holds rs ss ts k h) e
+
 pub unless_err : {A : Type 0} (o : Option ErrorKind) (x : A) (k : ErrorKind) → unless o x ≡ Err k → o ≡ Some k
 unless_err None x k e = cc
 unless_err (Some l) x k e = cc

@@ -1,5 +1,5 @@
 -- An update of rows: its new values, and why it is refused.
-use Rattle.std.proofs.Common.{◌≡◌, ℕ, ◌+◌, ◌<◌, Bool, true, false, not, ◌&&◌, List, [], ◌∷◌, ◌++◌, length, map, take, set, get_or, Some, None, fold, refl, sym, ap, ◌∙◌, ⊎_elim}
+use Rattle.std.proofs.Common.{◌≡◌, ℕ, ◌+◌, ◌<◌, Bool, true, false, not, ◌&&◌, List, [], ◌∷◌, ◌++◌, length, map, take, set, get_or, Option, Some, None, Result, Ok, Err, fold, refl, sym, ap, ◌∙◌, ⊎_elim}
 use Rattle.std.specs.List.{list_all}
 use Rattle.std.proofs.lemmas.Bool.{and_parts, cases_Bool}
 use Rattle.std.proofs.lemmas.List.{get_or-map, take_more}
@@ -7,7 +7,7 @@ use Rattle.msi_text_base.specs.declared.errors.ErrorKind.{ErrorKind}
 use Rattle.msi_text_base.specs.declared.errors.ErrorKind.TheVariants.{AlreadyExists, InvalidInput}
 use Rattle.msi_text_base.specs.Lists.{has_pair}
 use Rattle.msi_text_pool.specs.Pool.{Place}
-use Rattle.msi_query_rows.specs.Refusals.{IsRefusal, Refusals, first_refusal, unless_refused}
+use Rattle.msi_query_rows.specs.Refusals.{IsRefusal, Refusals, first_refusal, unless, unless_refused}
 use Rattle.msi_query_rows.specs.Selection.{condition_names, has_columns}
 use Rattle.msi_table_values.specs.declared.value.Value.{Value}
 use Rattle.msi_table_values.specs.declared.value.ValueRef.{ValueRef}
@@ -17,8 +17,9 @@ use Rattle.msi_query.specs.Queries.{UpdateQuery}
 use Rattle.msi_database_changes.specs.Insert.{table_with}
 use Rattle.msi_database_changes.specs.Keyed.{key_of, same_key}
 use Rattle.msi_database_changes.specs.RowUpdates.{RowUpdateDef, row_set}
-use Rattle.msi_database_changes.specs.Update.{index_of, set_is_valid, sets_key, update_refusals, values_after, values_set}
+use Rattle.msi_database_changes.specs.Update.{index_of, keys_collide, set_is_valid, set_refusals, sets_key, values_after, values_set}
 use Rattle.msi_database_changes.proofs.KeySetLemmas.{refused}
+use Rattle.msi_database_changes.proofs.RefusedLemmas.{first_refused}
 
 fold_pushed : {A B : Type 0} (f : B → A → B) (b : B) (xs : List A) (x : A) → fold f b (xs ++ x ∷ []) ≡ f (fold f b xs) x
 fold_pushed f b [] x = refl
@@ -52,37 +53,44 @@ module _ {X : Type 0} (p : X → Bool) (kind : ErrorKind) where
   all_pass [] others e = refl
   all_pass (x ∷ xs) others e = let parts = and_parts (p x) (list_all p xs) e in rw parts.0 (all_pass xs others parts.1)
 
--- why an update is refused
-module _ (places : List Place) (columns : List ColumnDef) (rows : List (List ValueRef)) (q : UpdateQuery) where
-  abbrev pub refusals : Refusals
-  refusals = update_refusals places (table_with columns rows) q
-
+-- why new values are refused
+module _ (columns : List ColumnDef) (q : UpdateQuery) where
   abbrev pub sets_valid : Bool
   sets_valid = list_all (set_is_valid columns) q.sets
 
   abbrev pub names_known : Bool
   names_known = has_columns columns (condition_names q.condition)
 
-  abbrev pub keys_collide : Bool
-  keys_collide = has_pair same_key (map (key_of columns) (values_after (table_with columns rows) q (map (row_values places) rows)))
-
   abbrev late : Refusals
-  late = (not names_known, InvalidInput) ∷ (sets_key columns q.sets && keys_collide, AlreadyExists) ∷ []
+  late = (not names_known, InvalidInput) ∷ []
 
-  pub set_refused : sets_valid ≡ false → IsRefusal {A = Unit {0}} (unless_refused refusals tt) InvalidInput
-  set_refused e = refused refusals InvalidInput (one_fails (set_is_valid columns) InvalidInput q.sets late e)
+  pub set_refused : sets_valid ≡ false → ◌≡◌ {A = Result (Unit {0}) ErrorKind} (Err InvalidInput) (unless_refused (set_refusals columns q) tt)
+  set_refused e = sym (first_refused (set_refusals columns q) tt InvalidInput (one_fails (set_is_valid columns) InvalidInput q.sets late e))
 
-  pub condition_refused : sets_valid ≡ true → names_known ≡ false → IsRefusal {A = Unit {0}} (unless_refused refusals tt) InvalidInput
-  condition_refused e k = refused refusals InvalidInput (all_pass (set_is_valid columns) InvalidInput q.sets late e ∙ rw k refl)
+  pub condition_refused : sets_valid ≡ true → names_known ≡ false → ◌≡◌ {A = Result (Unit {0}) ErrorKind} (Err InvalidInput) (unless_refused (set_refusals columns q) tt)
+  condition_refused e k = sym (first_refused (set_refusals columns q) tt InvalidInput (all_pass (set_is_valid columns) InvalidInput q.sets late e ∙ rw k refl))
 
-  pub collision_refused : sets_valid ≡ true → names_known ≡ true → sets_key columns q.sets ≡ true → keys_collide ≡ true → IsRefusal {A = Unit {0}} (unless_refused refusals tt) AlreadyExists
-  collision_refused e k s h = refused refusals AlreadyExists (all_pass (set_is_valid columns) InvalidInput q.sets late e ∙ rw (k, s, h) refl)
+  pub sets_accepted : sets_valid ≡ true → names_known ≡ true → ◌≡◌ {A = Result (Unit {0}) ErrorKind} (Ok tt) (unless_refused (set_refusals columns q) tt)
+  sets_accepted e k =
+      let none : first_refusal (set_refusals columns q) ≡ None = all_pass (set_is_valid columns) InvalidInput q.sets late e ∙ rw k refl in
+      sym (ap (λ (o : Option ErrorKind). unless {A = Unit {0}} o tt) none)
 
-  pub no_key_set : sets_valid ≡ true → names_known ≡ true → sets_key columns q.sets ≡ false → first_refusal refusals ≡ None
-  no_key_set e k s = all_pass (set_is_valid columns) InvalidInput q.sets late e ∙ rw (k, s) refl
+-- why an update is refused whose new values aren't
+module _ (places : List Place) (columns : List ColumnDef) (rows : List (List ValueRef)) (q : UpdateQuery) where
+  abbrev pub share_key : Bool
+  share_key = has_pair same_key (map (key_of columns) (values_after (table_with columns rows) q (map (row_values places) rows)))
 
-  pub no_collision : sets_valid ≡ true → names_known ≡ true → sets_key columns q.sets ≡ true → keys_collide ≡ false → first_refusal refusals ≡ None
-  no_collision e k s h = all_pass (set_is_valid columns) InvalidInput q.sets late e ∙ rw (k, s, h) refl
+  abbrev pub collide : Bool
+  collide = keys_collide places (table_with columns rows) q
+
+  pub collision_refused : sets_key columns q.sets ≡ true → share_key ≡ true → IsRefusal {A = Unit {0}} (unless_refused ((collide, AlreadyExists) ∷ []) tt) AlreadyExists
+  collision_refused s h = refused ((collide, AlreadyExists) ∷ []) AlreadyExists (rw (s, h) refl)
+
+  pub no_key_set : sets_key columns q.sets ≡ false → collide ≡ false
+  no_key_set s = rw s refl
+
+  pub no_collision : sets_key columns q.sets ≡ true → share_key ≡ false → collide ≡ false
+  no_collision s h = rw (s, h) refl
 
 -- the keys after an update, row by row
 pub keys_are : (u : RowUpdateDef) (places : List Place) (rows : List (List ValueRef))

@@ -27,7 +27,7 @@ use Rattle.msi_database_changes.specs.Database.{Database, table_at, rows_of, is_
 use Rattle.msi_query_rows.specs.Rows.{TableCells}
 use Rattle.msi_database_changes.specs.Changes.{Change, PoolInUse, no_change, pool_of, with_stored, sound_refusal}
 use Rattle.msi_database_changes.specs.Texts.{in_turn}
-use Rattle.msi_database_changes.specs.Update.{set_is_valid, index_of, values_set, sets_key, values_after, update_refusals, row_updated, rows_updated, is_update_barred, update_rows}
+use Rattle.msi_database_changes.specs.Update.{set_is_valid, index_of, values_set, sets_key, values_after, keys_collide, update_refusals, row_updated, rows_updated, is_update_barred, update_rows}
 use Rattle.msi_database_changes.specs.Laws.{rows_at, OthersStay}
 use Rattle.msi_database_changes.proofs.TurnLemmas.{map_some}
 use Rattle.msi_database_changes.proofs.RefusedLemmas.{bind_ok, not_refused, value_there, first_fails, front_fails, each_passes, none_holds}
@@ -62,9 +62,11 @@ updated_from d q c = or_refused NotFound (table_at q.table d) >>= λ t. updated_
 abbrev set_faults : UpdateQuery → TableCells → Refusals
 set_faults q t = map (λ s. (not (set_is_valid t.columns s), InvalidInput)) q.sets
 
-abbrev late_faults : Database → UpdateQuery → TableCells → Refusals
-late_faults d q t = (not (has_columns t.columns (condition_names q.condition)), InvalidInput)
-    ∷ (sets_key t.columns q.sets && has_pair same_key (map (key_of t.columns) (values_after t q (map (row_values d.pool.places) (rows_of t)))), AlreadyExists) ∷ []
+abbrev name_faults : UpdateQuery → TableCells → Refusals
+name_faults q t = (not (has_columns t.columns (condition_names q.condition)), InvalidInput) ∷ []
+
+abbrev key_faults : Database → UpdateQuery → TableCells → Refusals
+key_faults d q t = (keys_collide d.pool.places t q, AlreadyExists) ∷ []
 
 with_table_found : (d : Database) (q : UpdateQuery) (c : Change) (t : TableCells) → is_sound d ≡ true → table_at q.table d ≡ Some t → updated_in d q t (no_change d) ≡ Ok c → Updated d q c
 with_table_found d q c t sound found e =
@@ -80,8 +82,8 @@ with_table_found d q c t sound found e =
       rows = r;
       rows_are = r_is;
       stored = whole;
-      valid = each_passes (set_is_valid t.columns) InvalidInput q.sets (front_fails (set_faults q t) (late_faults d q t) passed.0).0;
-      keys = (none_holds (late_faults d q t) (front_fails (set_faults q t) (late_faults d q t) passed.0).1).1.0;
+      valid = each_passes (set_is_valid t.columns) InvalidInput q.sets (front_fails (set_faults q t) (name_faults q t) (front_fails (set_faults q t ++ name_faults q t) (key_faults d q t) passed.0).0).0;
+      keys = (none_holds (key_faults d q t) (front_fails (set_faults q t ++ name_faults q t) (key_faults d q t) passed.0).1).0;
     }))
 
 pub update_parts : (d : Database) (q : UpdateQuery) (c : Change) → update_rows d q ≡ Ok c → Updated d q c

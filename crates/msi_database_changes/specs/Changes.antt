@@ -7,7 +7,7 @@ use Rattle.msi_query_rows.specs.Rows.{TableCells}
 use Rattle.msi_table_values.specs.declared.value.ValueRef.{ValueRef}
 use Rattle.msi_table_values.specs.Columns.{ColumnDef}
 use Rattle.msi_table.specs.StoredOrder.{in_stored_order}
-use Rattle.msi_database_changes.specs.Database.{Database, with_table, with_places, is_sound}
+use Rattle.msi_database_changes.specs.Database.{Database, table_at, with_table, with_places, is_sound}
 
 -- a change of tables: the parts after it, whether a text was taken or given back, and the tables that are stored anew
 pub record Change : Type 0 where
@@ -47,3 +47,7 @@ barred_refusals d is_barred = sound_refusal d ++ (is_barred, InvalidInput) ∷ [
 abbrev pub missing_or : Option TableCells → (TableCells → Refusals) → Refusals
 missing_or None refusals = (true, NotFound) ∷ []
 missing_or (Some t) refusals = refusals t
+
+-- what refuses a change of a table's rows, whatever the table has
+abbrev pub absent_refusals : Database → Bool → List ℕ → Refusals
+absent_refusals d is_barred name = barred_refusals d is_barred ++ missing_or (table_at name d) (λ t. [])

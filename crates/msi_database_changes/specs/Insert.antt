@@ -18,7 +18,8 @@ use Rattle.msi_query.specs.Queries.{InsertQuery}
 use Rattle.msi_database_schema.specs.System.{is_system_table}
 use Rattle.msi_database_changes.specs.Database.{Database, table_at, rows_of}
 use Rattle.msi_query_rows.specs.Rows.{TableCells}
-use Rattle.msi_database_changes.specs.Changes.{Change, no_change, PoolInUse, pool_of, with_stored, sound_refusal}
+use Rattle.msi_database_changes.specs.Changes.{Change, no_change, PoolInUse, pool_of, with_stored}
+use Rattle.msi_database_changes.specs.Changes.{barred_refusals, missing_or}
 use Rattle.msi_database_changes.specs.Texts.{rows_put}
 
 abbrev pub key_refusals : List (List Value) → List (List Value) → List (List Value) → Refusals
@@ -34,8 +35,12 @@ keys_of places t = map (λ row. key_of t.columns (row_values places row)) (rows_
 abbrev pub row_fits : List ColumnDef → List Value → Bool
 row_fits columns row = (length row == length columns) && list_all (λ e. is_valid_value e.0 e.1) (zip columns row)
 
+-- that a row doesn't fit the columns
+abbrev pub misfit_refusals : List ColumnDef → List (List Value) → Refusals
+misfit_refusals columns rows = map (λ row. (not (row_fits columns row), InvalidInput)) rows
+
 abbrev pub row_refusals : List Place → TableCells → List (List Value) → Refusals
-row_refusals places t rows = map (λ row. (not (row_fits t.columns row), InvalidInput)) rows
+row_refusals places t rows = misfit_refusals t.columns rows
     ++ (has_pair same_key (keys_of places t), InvalidData)
     ∷ key_refusals (keys_of places t) [] (map (key_of t.columns) rows)
     ++ (nat_lt 65536 (length (rows_of t) + length rows), InvalidInput) ∷ []
@@ -62,6 +67,11 @@ rows_inserted name rows c =
     λ t. unless_refused (row_refusals c.database.pool.places t rows) t >>=
     λ t. or_refused InvalidInput (rows_added name t rows c)
 
+-- what refuses an insert before the table's rows are looked at: telling it takes no memory
+abbrev pub early_insert_refusals : Database → InsertQuery → Refusals
+early_insert_refusals d q = barred_refusals d (is_system_table q.table)
+    ++ missing_or (table_at q.table d) (λ t. misfit_refusals t.columns q.rows)
+
 abbrev pub insert_rows : Database → InsertQuery → Result Change ErrorKind
-insert_rows d q = unless_refused (sound_refusal d ++ (is_system_table q.table, InvalidInput) ∷ [])
-    (no_change d) >>= rows_inserted q.table q.rows
+insert_rows d q = unless_refused (barred_refusals d (is_system_table q.table)) (no_change d)
+    >>= rows_inserted q.table q.rows

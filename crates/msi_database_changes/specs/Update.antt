@@ -21,7 +21,8 @@ use Rattle.msi_query_rows.specs.Selection.{has_columns, condition_names}
 use Rattle.msi_database_schema.specs.System.{validation_name, is_schema_table}
 use Rattle.msi_database_changes.specs.Database.{Database, table_at, rows_of}
 use Rattle.msi_query_rows.specs.Rows.{TableCells}
-use Rattle.msi_database_changes.specs.Changes.{Change, no_change, PoolInUse, pool_of, with_stored, sound_refusal}
+use Rattle.msi_database_changes.specs.Changes.{Change, no_change, PoolInUse, pool_of, with_stored}
+use Rattle.msi_database_changes.specs.Changes.{barred_refusals, missing_or}
 use Rattle.msi_database_changes.specs.Texts.{in_turn, cell_put, cell_released}
 
 -- Update: the sets in order, so that the last set of a column wins
@@ -42,15 +43,18 @@ abbrev pub values_after : TableCells → UpdateQuery → List (List Value) → L
 values_after t q rows = map (λ row. if meets t.columns q.condition row then values_set t.columns q.sets row
     else row) rows
 
+-- that a column that is set isn't there or doesn't take its value, and that one of the condition isn't there
+abbrev pub set_refusals : List ColumnDef → UpdateQuery → Refusals
+set_refusals columns q = map (λ s. (not (set_is_valid columns s), InvalidInput)) q.sets
+    ++ (not (has_columns columns (condition_names q.condition)), InvalidInput) ∷ []
+
+-- whether a column of the key is set, and two rows would share a key
+abbrev pub keys_collide : List Place → TableCells → UpdateQuery → Bool
+keys_collide places t q = sets_key t.columns q.sets
+    && has_pair same_key (map (key_of t.columns) (values_after t q (map (row_values places) (rows_of t))))
+
 abbrev pub update_refusals : List Place → TableCells → UpdateQuery → Refusals
-update_refusals places t q = map (λ s. (not (set_is_valid t.columns s), InvalidInput)) q.sets
-    ++ (not (has_columns t.columns (condition_names q.condition)), InvalidInput)
-    ∷ (
-      sets_key t.columns q.sets
-          && has_pair same_key (map (key_of t.columns)
-          (values_after t q (map (row_values places) (rows_of t)))),
-      AlreadyExists,
-    ) ∷ []
+update_refusals places t q = set_refusals t.columns q ++ (keys_collide places t q, AlreadyExists) ∷ []
 
 -- per row as the table lists them and per set, the old text is given back and then the new one taken
 abbrev pub cells_set : Bool → List ColumnDef → PoolInUse → List ValueRef
@@ -76,8 +80,13 @@ abbrev pub is_update_barred : UpdateQuery → Bool
 is_update_barred q = is_schema_table q.table
     || (bytes_eq q.table validation_name && not (list_all (λ s. bytes_eq s.0 (codes "Description")) q.sets))
 
+-- what refuses an update before its rows are looked at: telling it takes no memory
+abbrev pub early_update_refusals : Database → UpdateQuery → Refusals
+early_update_refusals d q = barred_refusals d (is_update_barred q)
+    ++ missing_or (table_at q.table d) (λ t. set_refusals t.columns q)
+
 abbrev pub update_rows : Database → UpdateQuery → Result Change ErrorKind
-update_rows d q = unless_refused (sound_refusal d ++ (is_update_barred q, InvalidInput) ∷ []) (no_change d) >>=
+update_rows d q = unless_refused (barred_refusals d (is_update_barred q)) (no_change d) >>=
     λ c. or_refused NotFound (table_at q.table d) >>=
     λ t. unless_refused (update_refusals d.pool.places t q) t >>=
     λ t. or_refused InvalidInput (rows_updated t q c)

@@ -1,14 +1,16 @@
 //! Inserting rows: why new rows are refused, and the rows of a table with new ones.
 
-ghost use Rattle.std.specs.Prelude.{◌≡◌, map, not, Some, None, IfOk, IfErr, OnOk};
+ghost use Rattle.std.specs.Prelude.{◌≡◌, Some, None, IfOk, IfErr, OnOk};
 ghost use Rattle.msi_text_base.specs.declared.errors.ErrorKind.TheVariants.{InvalidInput};
 ghost use Rattle.msi_query_rows.specs.Refusals.{IsRefusal, first_refusal, or_refused, unless_refused};
-ghost use Rattle.msi_database_changes.specs.Insert.{cells_added, row_fits as fits_columns, row_refusals, table_with};
+ghost use Rattle.msi_database_changes.specs.Insert.{cells_added, misfit_refusals, row_fits as fits_columns};
+ghost use Rattle.msi_database_changes.specs.Insert.{row_refusals, table_with};
 ghost use Rattle.msi_database_changes.specs.Texts.{in_use};
 
 use crate::keys::refuse_clashes;
 use crate::reasons;
 use crate::texts::PoolInUse;
+use msi_query::parts::NewRow;
 use msi_table::column::Column;
 use msi_table::parts::{MAX_ROWS, sort_by_keys};
 use msi_table::value::{Value, ValueRef};
@@ -37,10 +39,25 @@ fn row_fits(columns: &[Column], row: &[Value]) -> bool
 /// # Errors
 /// `InvalidInput` where a row doesn't fit.
 fn refuse_misfits(columns: &[Column], rows: &[Items<Value>]) -> Result<(), Error>
-    ensures { result ≡ unless_refused (map (λ row. (not (fits_columns columns.now row), InvalidInput)) rows.now) tt }
+    ensures { result ≡ unless_refused (misfit_refusals columns.now rows.now) tt }
 {
     for row in rows {
         if !row_fits(columns, row.as_slice()) {
+            return Err(Error::new(ErrorKind::InvalidInput, reasons::ROW_MISFITS));
+        }
+    }
+    Ok(())
+}
+
+/// Refuses the rows of an insert that don't fit the columns of its table. It takes no memory.
+///
+/// # Errors
+/// Fails with `InvalidInput` if a row has a value too few or too many, or one that its column doesn't take.
+pub fn refuse_new_rows(columns: &[Column], rows: &[NewRow]) -> Result<(), Error>
+    ensures { result ≡ unless_refused (misfit_refusals columns.now rows.now) tt }
+{
+    for row in rows {
+        if !row_fits(columns, row.values()) {
             return Err(Error::new(ErrorKind::InvalidInput, reasons::ROW_MISFITS));
         }
     }

@@ -1,12 +1,12 @@
 //! Updates of a table's rows.
 
-ghost use Rattle.std.specs.Prelude.{◌≡◌, map, set, List, IfOk, IfErr, OnOk, None, Some, false};
+ghost use Rattle.std.specs.Prelude.{◌≡◌, ◌∷◌, [], map, set, List, IfOk, IfErr, OnOk, Some, false};
 ghost use Rattle.std.specs.List.{list_all};
 ghost use Rattle.std.specs.Option.{option_map_or};
 ghost use Rattle.msi_text_base.specs.Lists.{has_pair};
 ghost use Rattle.msi_text_base.specs.Results.{OnlyMemory};
-ghost use Rattle.msi_text_base.specs.declared.errors.ErrorKind.TheVariants.{InvalidInput};
-ghost use Rattle.msi_query_rows.specs.Refusals.{IsRefusal, first_refusal, or_refused, unless_refused};
+ghost use Rattle.msi_text_base.specs.declared.errors.ErrorKind.TheVariants.{AlreadyExists, InvalidInput};
+ghost use Rattle.msi_query_rows.specs.Refusals.{IsRefusal, or_refused, unless_refused};
 ghost use Rattle.msi_table_values.specs.Fitting.{cell_of};
 ghost use Rattle.msi_table_values.specs.Columns.{ColumnDef, column_named};
 ghost use Rattle.msi_table_values.specs.CellValues.{row_values};
@@ -14,8 +14,8 @@ ghost use Rattle.msi_database_changes.specs.Insert.{table_with};
 ghost use Rattle.msi_database_changes.specs.Keyed.{key_of, same_key};
 ghost use Rattle.msi_database_changes.specs.RowUpdates.{cell_exchanged, row_set, update_of};
 ghost use Rattle.msi_database_changes.specs.Texts.{in_turn, in_use};
-ghost use Rattle.msi_database_changes.specs.Update.{cells_set, index_of, row_updated, set_is_valid};
-ghost use Rattle.msi_database_changes.specs.Update.{sets_key as sets_a_key, update_refusals, values_after, values_set};
+ghost use Rattle.msi_database_changes.specs.Update.{cells_set, index_of, keys_collide, row_updated, set_is_valid};
+ghost use Rattle.msi_database_changes.specs.Update.{set_refusals, sets_key as sets_a_key, values_after, values_set};
 ghost use Rattle.msi_database_changes.specs.Views.{seen_row};
 
 use crate::conditions::knows_condition;
@@ -364,13 +364,29 @@ fn shares_key(
     update.keys_collide(alloc, pool, rows)
 }
 
-/// Refuses an update of a table's rows, whose texts stand in the pool.
+/// Refuses an update whose new values or whose condition don't go with a table's columns. It takes no memory.
 ///
 /// # Errors
-/// Fails with the first of these that applies: `InvalidInput` if a new value names no column, or its column doesn't
-/// take it, and if the condition names no column; `AlreadyExists` if a key column is set, and two rows would share a
-/// key. It may fail with `OutOfMemory` in place of any of these.
-pub fn refuse_update(
+/// Fails with `InvalidInput` if a new value names no column, or its column doesn't take it, and if the condition names
+/// no column.
+pub fn refuse_sets(columns: &[Column], update: &UpdateParts) -> Result<(), Error>
+    ensures { result ≡ unless_refused (set_refusals columns.now (update_of update.now)) tt }
+{
+    if !are_valid_sets(columns, update.sets.as_slice()) {
+        return Err(Error::new(ErrorKind::InvalidInput, reasons::NEW_VALUE));
+    }
+    if !knows_condition(columns, update.condition.as_ref()) {
+        return Err(Error::new(ErrorKind::InvalidInput, reasons::CONDITION_COLUMN));
+    }
+    Ok(())
+}
+
+/// Refuses an update after which two of a table's rows would share a key. The rows' texts stand in the pool.
+///
+/// # Errors
+/// Fails with `AlreadyExists` if a key column is set, and two rows would share a key. It may fail with `OutOfMemory`
+/// in place of that.
+pub fn refuse_collisions(
     alloc: Global,
     pool: &StringPool,
     columns: &[Column],
@@ -378,20 +394,12 @@ pub fn refuse_update(
     update: &UpdateParts,
 ) -> Result<(), Error>
     ensures ok { let t = table_with columns.now rows.now in
-        let refusals = update_refusals pool.now.places t (update_of update.now) in
-        OnOk result (first_refusal refusals ≡ None) }
+        OnOk result (keys_collide pool.now.places t (update_of update.now) ≡ false) }
     ensures kind { let t = table_with columns.now rows.now in
-        let refusals = update_refusals pool.now.places t (update_of update.now) in
+        let refusals = (keys_collide pool.now.places t (update_of update.now), AlreadyExists) ∷ [] in
         IfErr result (IsRefusal {A = Unit {0}} (unless_refused refusals tt)) }
 {
-    let sets = update.sets.as_slice();
-    if !are_valid_sets(columns, sets) {
-        return Err(Error::new(ErrorKind::InvalidInput, reasons::NEW_VALUE));
-    }
-    if !knows_condition(columns, update.condition.as_ref()) {
-        return Err(Error::new(ErrorKind::InvalidInput, reasons::CONDITION_COLUMN));
-    }
-    if !sets_key(columns, sets) {
+    if !sets_key(columns, update.sets.as_slice()) {
         return Ok(());
     }
     if shares_key(alloc, pool, columns, rows, update)? {

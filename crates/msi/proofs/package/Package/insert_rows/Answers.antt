@@ -1,5 +1,8 @@
 use Rattle.std.proofs.Common.{true, refl}
-use Rattle.msi.proofs.ChangeLemmas.{after_insert}
+use Rattle.msi_query_rows.proofs.RefusalLemmas.{accepted_first, first_passed}
+use Rattle.msi_database_changes.specs.Database.{Database}
+use Rattle.msi_database_changes.specs.Insert.{early_insert_refusals}
+use Rattle.msi.proofs.ChangeLemmas.{after_insert, answered_behind}
 use Rattle.msi.proofs.package.Package.insert_rows.Goals as goal
 
 pub invariant_of-self-2 : goal.invariant_of-self-2
@@ -11,3 +14,13 @@ pub note_change-requires : goal.note_change-requires
 note_change-requires g c = λ used.
     (after_insert c.settle.new.database c.insert_rows.new.self c.settle.new.name true c.settle.ensures.taken c.settle.ensures.kept
     c.args.query c.in_ok-is_pool_used.ensures.ok).changed refl
+
+pub returns-in_err-is_pool_used-clause-early : goal.returns-in_err-is_pool_used-clause-early
+returns-in_err-is_pool_used-clause-early g c = let d = c.settle.new.database in let r = c.from_residual-in_err-is_pool_used.result in
+    answered_behind _ c.args.self.now c.self.view_is (λ (d : Database). early_insert_refusals d c.args.query) c.in_ok-check_storages.ensures d c.settle.ensures.database r
+    (first_passed _ (early_insert_refusals d.database c.args.query) c.in_err-is_pool_used.field-0.0 r c.from_residual-in_err-is_pool_used.ensures.1 c.in_err-is_pool_used.ensures.early)
+
+pub returns-clause-early : goal.returns-clause-early
+returns-clause-early g c = let d = c.settle.new.database in
+    answered_behind _ c.args.self.now c.self.view_is (λ (d : Database). early_insert_refusals d c.args.query) c.in_ok-check_storages.ensures d c.settle.ensures.database _
+    (accepted_first (early_insert_refusals d.database c.args.query) c.in_ok-is_pool_used.is_pool_used _ c.in_ok-is_pool_used.ensures.early)

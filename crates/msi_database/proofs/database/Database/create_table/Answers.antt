@@ -1,5 +1,7 @@
+use Rattle.msi_query_rows.proofs.RefusalLemmas.{accepted_first, first_passed}
 use Rattle.msi_database_changes.specs.Create.{create_table}
-use Rattle.msi_database.proofs.RowCallLemmas.{makes_kept, makes_leaves}
+use Rattle.msi_database.specs.Creating.{create_refusals}
+use Rattle.msi_database.proofs.RowCallLemmas.{makes_kept, makes_leaves, makes_sound}
 use Rattle.msi_database.proofs.database.Database.create_table.Goals as goal
 
 pub finish_tables-requires-clause-kept : goal.finish_tables-requires-clause-kept
@@ -9,3 +11,19 @@ finish_tables-requires-clause-kept c = let old = c.args.self.now in let new = c.
 pub returns-clause-ok : goal.returns-clause-ok
 returns-clause-ok c = let old = c.args.self.now in let new = c.in_ok-new.field-0.new in
     makes_leaves old c.finish_tables.new.self (create_table old.database c.args.name.now c.args.columns) new.pool new.tables new.stored.items c.in_ok-new.ensures.ok c.in_ok-finish_tables.ensures.ok
+
+pub finish_tables-requires-clause-sound : goal.finish_tables-requires-clause-sound
+finish_tables-requires-clause-sound c = let old = c.args.self.now in let new = c.in_ok-new.field-0.new in
+    makes_sound old (create_table old.database c.args.name.now c.args.columns) new.pool new.tables new.stored.items c.in_ok-new.ensures.ok
+
+pub returns-in_err-new-clause-early : goal.returns-in_err-new-clause-early
+returns-in_err-new-clause-early c =
+    first_passed _ (create_refusals c.args.self.now.database c.args.name.now c.args.columns) c.in_err-new.field-0.0 c.from_residual.result c.from_residual.ensures.1 c.in_err-new.ensures.early
+
+pub returns-in_err-finish_tables-clause-early : goal.returns-in_err-finish_tables-clause-early
+returns-in_err-finish_tables-clause-early c =
+    accepted_first (create_refusals c.args.self.now.database c.args.name.now c.args.columns) c.in_ok-new.field-0 c.from_residual-in_err-finish_tables.result c.in_ok-new.ensures.early
+
+pub returns-clause-early : goal.returns-clause-early
+returns-clause-early c =
+    accepted_first (create_refusals c.args.self.now.database c.args.name.now c.args.columns) c.in_ok-new.field-0 _ c.in_ok-new.ensures.early

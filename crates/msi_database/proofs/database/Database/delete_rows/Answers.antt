@@ -1,12 +1,14 @@
 use Rattle.std.proofs.Common.{◌≡◌, ◌∷◌, [], subst, sym}
 use Rattle.std.proofs.lemmas.Result.{IfOk-weaker, on_ok_weaker}
 use Rattle.msi_query.specs.Queries.{DeleteQuery}
-use Rattle.msi_database_changes.specs.Delete.{delete_rows}
+use Rattle.msi_query_rows.proofs.RefusalLemmas.{accepted_first, first_passed}
+use Rattle.msi_query_rows.specs.Refusals.{AnswersFirst}
+use Rattle.msi_database_changes.specs.Delete.{delete_rows, early_delete_refusals}
 use Rattle.msi_database_storage.specs.Kept.{kept_of}
 use Rattle.msi_database_storage.specs.Storing.{stored_in}
 use Rattle.msi_database.specs.Listed.{tables_listed}
 use Rattle.msi_database.specs.Making.{Leaves, TellsUse, delete_of}
-use Rattle.msi_database.proofs.RowCallLemmas.{makes_kept, makes_leaves}
+use Rattle.msi_database.proofs.RowCallLemmas.{makes_kept, makes_leaves, makes_sound}
 use Rattle.msi_database.proofs.database.Database.delete_rows.Goals as goal
 
 pub finish_rows-requires-clause-kept : goal.finish_rows-requires-clause-kept
@@ -28,3 +30,19 @@ returns-clause-used c = let old = c.args.self.now in
     (λ used e. subst (λ (q : DeleteQuery). TellsUse (delete_rows old.database q) used) same
     (subst (TellsUse (delete_rows old.database (delete_of c.delete_parts.result))) (sym e) c.in_ok-new.ensures.used))
     c.finish_rows.ensures.used
+
+pub finish_rows-requires-clause-sound : goal.finish_rows-requires-clause-sound
+finish_rows-requires-clause-sound c = let old = c.args.self.now in
+    makes_sound old (delete_rows old.database (delete_of c.delete_parts.result)) c.in_ok-new.new.pool (tables_listed old.database) (c.in_ok-new.new.stored ∷ []) c.in_ok-new.ensures.ok
+
+pub returns-in_err-new-clause-early : goal.returns-in_err-new-clause-early
+returns-in_err-new-clause-early c = let d = c.args.self.now.database in
+    let same : delete_of c.delete_parts.result ≡ c.args.query = λ i. record { table = c.delete_parts.ensures.table i; condition = c.delete_parts.ensures.condition i } in
+    subst (λ (q : DeleteQuery). AnswersFirst (early_delete_refusals d q) c.from_residual.result) same
+    (first_passed _ (early_delete_refusals d (delete_of c.delete_parts.result)) c.in_err-new.field-0.0 c.from_residual.result c.from_residual.ensures.1 c.in_err-new.ensures.early)
+
+pub returns-clause-early : goal.returns-clause-early
+returns-clause-early c = let d = c.args.self.now.database in
+    let same : delete_of c.delete_parts.result ≡ c.args.query = λ i. record { table = c.delete_parts.ensures.table i; condition = c.delete_parts.ensures.condition i } in
+    subst (λ (q : DeleteQuery). AnswersFirst (early_delete_refusals d q) c.finish_rows.result) same
+    (accepted_first (early_delete_refusals d (delete_of c.delete_parts.result)) c.in_ok-new.new c.finish_rows.result c.in_ok-new.ensures.early)

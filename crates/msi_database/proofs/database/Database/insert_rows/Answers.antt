@@ -1,12 +1,14 @@
 use Rattle.std.proofs.Common.{◌≡◌, ◌∷◌, [], subst, sym}
 use Rattle.std.proofs.lemmas.Result.{IfOk-weaker, on_ok_weaker}
 use Rattle.msi_query.specs.Queries.{InsertQuery}
-use Rattle.msi_database_changes.specs.Insert.{insert_rows}
+use Rattle.msi_query_rows.proofs.RefusalLemmas.{accepted_first, first_passed}
+use Rattle.msi_query_rows.specs.Refusals.{AnswersFirst}
+use Rattle.msi_database_changes.specs.Insert.{early_insert_refusals, insert_rows}
 use Rattle.msi_database_storage.specs.Kept.{kept_of}
 use Rattle.msi_database_storage.specs.Storing.{stored_in}
 use Rattle.msi_database.specs.Listed.{tables_listed}
 use Rattle.msi_database.specs.Making.{Leaves, TellsUse, insert_of}
-use Rattle.msi_database.proofs.RowCallLemmas.{makes_kept, makes_leaves}
+use Rattle.msi_database.proofs.RowCallLemmas.{makes_kept, makes_leaves, makes_sound}
 use Rattle.msi_database.proofs.database.Database.insert_rows.Goals as goal
 
 pub finish_rows-requires-clause-kept : goal.finish_rows-requires-clause-kept
@@ -28,3 +30,19 @@ returns-clause-used c = let old = c.args.self.now in
     (λ used e. subst (λ (q : InsertQuery). TellsUse (insert_rows old.database q) used) same
     (subst (TellsUse (insert_rows old.database (insert_of c.insert_parts.result))) (sym e) c.in_ok-new.ensures.used))
     c.finish_rows.ensures.used
+
+pub finish_rows-requires-clause-sound : goal.finish_rows-requires-clause-sound
+finish_rows-requires-clause-sound c = let old = c.args.self.now in
+    makes_sound old (insert_rows old.database (insert_of c.insert_parts.result)) c.in_ok-new.new.pool (tables_listed old.database) (c.in_ok-new.new.stored ∷ []) c.in_ok-new.ensures.ok
+
+pub returns-in_err-new-clause-early : goal.returns-in_err-new-clause-early
+returns-in_err-new-clause-early c = let d = c.args.self.now.database in
+    let same : insert_of c.insert_parts.result ≡ c.args.query = λ i. record { table = c.insert_parts.ensures.table i; rows = c.insert_parts.ensures.rows i } in
+    subst (λ (q : InsertQuery). AnswersFirst (early_insert_refusals d q) c.from_residual.result) same
+    (first_passed _ (early_insert_refusals d (insert_of c.insert_parts.result)) c.in_err-new.field-0.0 c.from_residual.result c.from_residual.ensures.1 c.in_err-new.ensures.early)
+
+pub returns-clause-early : goal.returns-clause-early
+returns-clause-early c = let d = c.args.self.now.database in
+    let same : insert_of c.insert_parts.result ≡ c.args.query = λ i. record { table = c.insert_parts.ensures.table i; rows = c.insert_parts.ensures.rows i } in
+    subst (λ (q : InsertQuery). AnswersFirst (early_insert_refusals d q) c.finish_rows.result) same
+    (accepted_first (early_insert_refusals d (insert_of c.insert_parts.result)) c.in_ok-new.new c.finish_rows.result c.in_ok-new.ensures.early)

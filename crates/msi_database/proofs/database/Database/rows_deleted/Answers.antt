@@ -1,22 +1,11 @@
+use Rattle.msi_query_rows.proofs.RefusalLemmas.{first_answered, none_answered}
+use Rattle.msi_database_changes.specs.Delete.{early_delete_refusals}
 use Rattle.msi_database.specs.Making.{delete_of}
-use Rattle.msi_database.proofs.RowCallLemmas.{delete_called}
 use Rattle.msi_database.proofs.database.Database.rows_deleted.Goals as goal
 
-pub stream_of-requires-clause-storable : goal.stream_of-requires-clause-storable
-stream_of-requires-clause-storable c = let d = c.self.inside in
-    (delete_called d.pool d.tables d.streams d.is_sound c.self.invariant c.args.self.now c.self.view_is c.in_ok-refuse_change.ensures.sound c.as_str-name.result.now c.in-Some.table.now c.in-Some.ensures
-    c.columns-columns.result.now c.columns-columns.ensures.columns c.in_ok-held.held.items c.in_ok-held.ensures.ok c.in_ok-clone.field-0 c.in_ok-clone.ensures.ok c.new-pool.result c.new-pool.ensures c.in_ok-all.all.items c.remaining_rows.new.pool
-    (delete_of c.args.delete.now) c.as_str-name.ensures c.is_system_table.result c.is_system_table.ensures c.in_ok-refuse_change.ensures.free c.in_ok-refuse_delete.field-0 c.in_ok-refuse_delete.ensures c.in_ok-all.ensures.ok c.in_ok-all.ensures.released).can_store
+pub returns-in_err-table-clause-early : goal.returns-in_err-table-clause-early
+returns-in_err-table-clause-early c =
+    first_answered (early_delete_refusals c.args.self.now.database (delete_of c.args.delete.now)) c.from_residual.result c.in_err-table.field-0.0 c.from_residual.ensures.1 c.in_err-table.ensures.early
 
-pub returns-clause-ok : goal.returns-clause-ok
-returns-clause-ok c = let d = c.self.inside in
-    (delete_called d.pool d.tables d.streams d.is_sound c.self.invariant c.args.self.now c.self.view_is c.in_ok-refuse_change.ensures.sound c.as_str-name.result.now c.in-Some.table.now c.in-Some.ensures
-    c.columns-columns.result.now c.columns-columns.ensures.columns c.in_ok-held.held.items c.in_ok-held.ensures.ok c.in_ok-clone.field-0 c.in_ok-clone.ensures.ok c.new-pool.result c.new-pool.ensures c.in_ok-all.all.items c.remaining_rows.new.pool
-    (delete_of c.args.delete.now) c.as_str-name.ensures c.is_system_table.result c.is_system_table.ensures c.in_ok-refuse_change.ensures.free c.in_ok-refuse_delete.field-0 c.in_ok-refuse_delete.ensures c.in_ok-all.ensures.ok c.in_ok-all.ensures.released).makes
-    c.into_pool.result c.in_ok-stored.stored c.in_ok-all.ensures.page c.in_ok-all.ensures.long c.into_pool.ensures c.in_ok-stored.ensures.name c.in_ok-stored.ensures.bytes
-
-pub returns-clause-used : goal.returns-clause-used
-returns-clause-used c = let d = c.self.inside in
-    (delete_called d.pool d.tables d.streams d.is_sound c.self.invariant c.args.self.now c.self.view_is c.in_ok-refuse_change.ensures.sound c.as_str-name.result.now c.in-Some.table.now c.in-Some.ensures
-    c.columns-columns.result.now c.columns-columns.ensures.columns c.in_ok-held.held.items c.in_ok-held.ensures.ok c.in_ok-clone.field-0 c.in_ok-clone.ensures.ok c.new-pool.result c.new-pool.ensures c.in_ok-all.all.items c.remaining_rows.new.pool
-    (delete_of c.args.delete.now) c.as_str-name.ensures c.is_system_table.result c.is_system_table.ensures c.in_ok-refuse_change.ensures.free c.in_ok-refuse_delete.field-0 c.in_ok-refuse_delete.ensures c.in_ok-all.ensures.ok c.in_ok-all.ensures.released).uses c.is_used.result c.is_used.ensures
+pub returns-clause-early : goal.returns-clause-early
+returns-clause-early c = none_answered (early_delete_refusals c.args.self.now.database (delete_of c.args.delete.now)) c.deleted.result c.in_ok-table.ensures.passed

@@ -1,38 +1,11 @@
-use Rattle.std.proofs.Common.{◌∙◌, ap, ap₂, sym, List}
-use Rattle.msi_table_values.specs.declared.value.Value.{Value}
-use Rattle.msi_table_values.specs.declared.value.ValueRef.{ValueRef}
-use Rattle.msi_query_rows.specs.Refusals.{first_refusal}
-use Rattle.msi_query_rows.proofs.RefusalLemmas.{err_passed}
-use Rattle.msi_database_changes.specs.Insert.{row_refusals, table_with}
-use Rattle.msi_database_storage.specs.Kept.{Kept}
+use Rattle.msi_query_rows.proofs.RefusalLemmas.{first_answered, none_answered}
+use Rattle.msi_database_changes.specs.Insert.{early_insert_refusals}
 use Rattle.msi_database.specs.Making.{insert_of}
-use Rattle.msi_database.proofs.InsertCallLemmas.{insert_full}
-use Rattle.msi_database.proofs.RowCallLemmas.{insert_called}
 use Rattle.msi_database.proofs.database.Database.rows_inserted.Goals as goal
 
-pub returns-in_err-all-clause-kind : goal.returns-in_err-all-clause-kind
-returns-in_err-all-clause-kind c = let d = c.self.inside in
-    err_passed c.from_residual-in_err-all.result c.in_err-all.field-0.0 _ c.from_residual-in_err-all.ensures.1
-    (insert_full d.pool c.args.self.now.database (ap (λ (k : Kept). k.database.pool) c.self.view_is) c.in_ok-refuse_change.ensures.sound c.as_str-name.result.now c.in-Some.table.now c.in-Some.ensures
-    c.columns-columns.result.now c.columns-columns.ensures.columns c.in_ok-held.held.items c.in_ok-held.ensures.ok c.in_ok-clone.field-0 c.in_ok-clone.ensures.ok c.new-pool.result c.new-pool.ensures
-    (insert_of c.args.insert) c.in_ok-values.values.items c.as_str-name.ensures (c.in_ok-values.ensures.ok ∙ c.into_vec.ensures) c.is_system_table.result c.is_system_table.ensures c.in_ok-refuse_change.ensures.free (ap₂ (λ (rows : List (List ValueRef)) (values : List (List Value)). first_refusal (row_refusals d.pool.places (table_with c.columns-columns.result.now rows) values)) (sym c.as_slice-rows.ensures.value) (sym c.as_slice.ensures.value) ∙ c.in_ok-refuse_rows.ensures.ok)
-    c.in_err-all.field-0.0 c.in_err-all.ensures.kind)
+pub returns-in_err-table-clause-early : goal.returns-in_err-table-clause-early
+returns-in_err-table-clause-early c =
+    first_answered (early_insert_refusals c.args.self.now.database (insert_of c.args.insert)) c.from_residual.result c.in_err-table.field-0.0 c.from_residual.ensures.1 c.in_err-table.ensures.early
 
-pub stream_of-requires-clause-storable : goal.stream_of-requires-clause-storable
-stream_of-requires-clause-storable c = let d = c.self.inside in
-    (insert_called d.pool d.tables d.streams d.is_sound c.self.invariant c.args.self.now c.self.view_is c.in_ok-refuse_change.ensures.sound c.as_str-name.result.now c.in-Some.table.now c.in-Some.ensures
-    c.columns-columns.result.now c.columns-columns.ensures.columns c.in_ok-held.held.items c.in_ok-held.ensures.ok c.in_ok-clone.field-0 c.in_ok-clone.ensures.ok c.new-pool.result c.new-pool.ensures c.in_ok-all.all.items c.add_rows.new.pool
-    (insert_of c.args.insert) c.in_ok-values.values.items c.as_str-name.ensures (c.in_ok-values.ensures.ok ∙ c.into_vec.ensures) c.is_system_table.result c.is_system_table.ensures c.in_ok-refuse_change.ensures.free (ap₂ (λ (rows : List (List ValueRef)) (values : List (List Value)). first_refusal (row_refusals d.pool.places (table_with c.columns-columns.result.now rows) values)) (sym c.as_slice-rows.ensures.value) (sym c.as_slice.ensures.value) ∙ c.in_ok-refuse_rows.ensures.ok) c.in_ok-all.ensures.ok).can_store
-
-pub returns-clause-ok : goal.returns-clause-ok
-returns-clause-ok c = let d = c.self.inside in
-    (insert_called d.pool d.tables d.streams d.is_sound c.self.invariant c.args.self.now c.self.view_is c.in_ok-refuse_change.ensures.sound c.as_str-name.result.now c.in-Some.table.now c.in-Some.ensures
-    c.columns-columns.result.now c.columns-columns.ensures.columns c.in_ok-held.held.items c.in_ok-held.ensures.ok c.in_ok-clone.field-0 c.in_ok-clone.ensures.ok c.new-pool.result c.new-pool.ensures c.in_ok-all.all.items c.add_rows.new.pool
-    (insert_of c.args.insert) c.in_ok-values.values.items c.as_str-name.ensures (c.in_ok-values.ensures.ok ∙ c.into_vec.ensures) c.is_system_table.result c.is_system_table.ensures c.in_ok-refuse_change.ensures.free (ap₂ (λ (rows : List (List ValueRef)) (values : List (List Value)). first_refusal (row_refusals d.pool.places (table_with c.columns-columns.result.now rows) values)) (sym c.as_slice-rows.ensures.value) (sym c.as_slice.ensures.value) ∙ c.in_ok-refuse_rows.ensures.ok) c.in_ok-all.ensures.ok).makes
-    c.into_pool.result c.in_ok-stored.stored c.in_ok-all.ensures.page c.in_ok-all.ensures.long c.into_pool.ensures c.in_ok-stored.ensures.name c.in_ok-stored.ensures.bytes
-
-pub returns-clause-used : goal.returns-clause-used
-returns-clause-used c = let d = c.self.inside in
-    (insert_called d.pool d.tables d.streams d.is_sound c.self.invariant c.args.self.now c.self.view_is c.in_ok-refuse_change.ensures.sound c.as_str-name.result.now c.in-Some.table.now c.in-Some.ensures
-    c.columns-columns.result.now c.columns-columns.ensures.columns c.in_ok-held.held.items c.in_ok-held.ensures.ok c.in_ok-clone.field-0 c.in_ok-clone.ensures.ok c.new-pool.result c.new-pool.ensures c.in_ok-all.all.items c.add_rows.new.pool
-    (insert_of c.args.insert) c.in_ok-values.values.items c.as_str-name.ensures (c.in_ok-values.ensures.ok ∙ c.into_vec.ensures) c.is_system_table.result c.is_system_table.ensures c.in_ok-refuse_change.ensures.free (ap₂ (λ (rows : List (List ValueRef)) (values : List (List Value)). first_refusal (row_refusals d.pool.places (table_with c.columns-columns.result.now rows) values)) (sym c.as_slice-rows.ensures.value) (sym c.as_slice.ensures.value) ∙ c.in_ok-refuse_rows.ensures.ok) c.in_ok-all.ensures.ok).uses c.is_used.result c.is_used.ensures
+pub returns-clause-early : goal.returns-clause-early
+returns-clause-early c = none_answered (early_insert_refusals c.args.self.now.database (insert_of c.args.insert)) c.inserted.result c.in_ok-table.ensures.passed

@@ -1,9 +1,13 @@
-use Rattle.std.proofs.Common.{List, subst, sym}
+use Rattle.std.proofs.Common.{List, ap, subst, sym, ◌∙◌}
+use Rattle.msi_table_values.specs.Columns.{ColumnDef}
 use Rattle.msi_table.specs.Tables.{TableDef}
-use Rattle.msi_query_rows.proofs.RefusalLemmas.{err_passed}
+use Rattle.msi_query_rows.specs.Refusals.{first_refusal}
+use Rattle.msi_query_rows.proofs.RefusalLemmas.{err_passed, first_answered, none_answered}
 use Rattle.msi_database_changes.specs.Create.{create_table}
 use Rattle.msi_database_changes.specs.Texts.{in_use}
+use Rattle.msi_database.specs.Creating.{create_refusals}
 use Rattle.msi_database.specs.Making.{Makes, TellsUse}
+use Rattle.msi_database.proofs.EarlyCallLemmas.{first_where_err, none_where_ok}
 use Rattle.msi_database.proofs.CreatingCallLemmas.{call_barred, call_began, call_creates, call_pool, call_refused, pool_within}
 use Rattle.msi_database.proofs.database.Database.table_created.Goals as goal
 
@@ -47,3 +51,28 @@ returns-clause-names c = let d = c.self.inside in let old = c.args.self.now in l
     (call_creates d.pool d.tables d.streams d.is_sound c.self.invariant old c.self.view_is c.in_ok-clone.field-0 c.in_ok-clone.ensures.ok c.new-pool.result c.new-pool.ensures
     c.in_ok-refuse_create.ensures.sound name c.args.columns c.as_slice.result.now c.as_slice.ensures c.in_ok-refuse_create.field-0 c.in_ok-refuse_create.ensures.value
     c.as_slice-2.result.now c.as_slice-2.ensures c.in_ok-stored.stored.items (in_use c.streams_described.new.pool) c.in_ok-stored.ensures.ok).own
+
+pub returns-in_err-refuse_create-clause-early : goal.returns-in_err-refuse_create-clause-early
+returns-in_err-refuse_create-clause-early c = let d = c.args.self.now.database in let name = c.args.name.now in let k = c.in_err-refuse_create.field-0.0 in
+    first_answered (create_refusals d name c.args.columns) c.from_residual.result k c.from_residual.ensures.1
+    (ap (λ (cs : List ColumnDef). first_refusal (create_refusals d name cs)) (sym c.as_slice.ensures) ∙ first_where_err (create_refusals d name c.as_slice.result.now) tt k c.in_err-refuse_create.ensures.value)
+
+pub returns-in_err-clone-clause-early : goal.returns-in_err-clone-clause-early
+returns-in_err-clone-clause-early c = let d = c.args.self.now.database in let name = c.args.name.now in
+    none_answered (create_refusals d name c.args.columns) _
+    (ap (λ (cs : List ColumnDef). first_refusal (create_refusals d name cs)) (sym c.as_slice.ensures) ∙ none_where_ok (create_refusals d name c.as_slice.result.now) tt c.in_ok-refuse_create.field-0 c.in_ok-refuse_create.ensures.value)
+
+pub returns-in_err-stored-clause-early : goal.returns-in_err-stored-clause-early
+returns-in_err-stored-clause-early c = let d = c.args.self.now.database in let name = c.args.name.now in
+    none_answered (create_refusals d name c.args.columns) _
+    (ap (λ (cs : List ColumnDef). first_refusal (create_refusals d name cs)) (sym c.as_slice.ensures) ∙ none_where_ok (create_refusals d name c.as_slice.result.now) tt c.in_ok-refuse_create.field-0 c.in_ok-refuse_create.ensures.value)
+
+pub returns-in_err-tables-clause-early : goal.returns-in_err-tables-clause-early
+returns-in_err-tables-clause-early c = let d = c.args.self.now.database in let name = c.args.name.now in
+    none_answered (create_refusals d name c.args.columns) _
+    (ap (λ (cs : List ColumnDef). first_refusal (create_refusals d name cs)) (sym c.as_slice.ensures) ∙ none_where_ok (create_refusals d name c.as_slice.result.now) tt c.in_ok-refuse_create.field-0 c.in_ok-refuse_create.ensures.value)
+
+pub returns-clause-early : goal.returns-clause-early
+returns-clause-early c = let d = c.args.self.now.database in let name = c.args.name.now in
+    none_answered (create_refusals d name c.args.columns) _
+    (ap (λ (cs : List ColumnDef). first_refusal (create_refusals d name cs)) (sym c.as_slice.ensures) ∙ none_where_ok (create_refusals d name c.as_slice.result.now) tt c.in_ok-refuse_create.field-0 c.in_ok-refuse_create.ensures.value)

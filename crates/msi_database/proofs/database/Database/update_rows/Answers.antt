@@ -2,12 +2,14 @@ use Rattle.std.proofs.Common.{◌≡◌, ◌∷◌, [], subst, sym}
 use Rattle.std.proofs.lemmas.Result.{IfOk-weaker, on_ok_weaker}
 use Rattle.msi_query.specs.Queries.{UpdateQuery}
 use Rattle.msi_database_changes.specs.RowUpdates.{update_of}
-use Rattle.msi_database_changes.specs.Update.{update_rows}
+use Rattle.msi_query_rows.proofs.RefusalLemmas.{accepted_first, first_passed}
+use Rattle.msi_query_rows.specs.Refusals.{AnswersFirst}
+use Rattle.msi_database_changes.specs.Update.{early_update_refusals, update_rows}
 use Rattle.msi_database_storage.specs.Kept.{kept_of}
 use Rattle.msi_database_storage.specs.Storing.{stored_in}
 use Rattle.msi_database.specs.Listed.{tables_listed}
 use Rattle.msi_database.specs.Making.{Leaves, TellsUse}
-use Rattle.msi_database.proofs.RowCallLemmas.{makes_kept, makes_leaves}
+use Rattle.msi_database.proofs.RowCallLemmas.{makes_kept, makes_leaves, makes_sound}
 use Rattle.msi_database.proofs.database.Database.update_rows.Goals as goal
 
 pub finish_rows-requires-clause-kept : goal.finish_rows-requires-clause-kept
@@ -29,3 +31,19 @@ returns-clause-used c = let old = c.args.self.now in
     (λ used e. subst (λ (q : UpdateQuery). TellsUse (update_rows old.database q) used) same
     (subst (TellsUse (update_rows old.database (update_of c.update_parts.result))) (sym e) c.in_ok-new.ensures.used))
     c.finish_rows.ensures.used
+
+pub finish_rows-requires-clause-sound : goal.finish_rows-requires-clause-sound
+finish_rows-requires-clause-sound c = let old = c.args.self.now in
+    makes_sound old (update_rows old.database (update_of c.update_parts.result)) c.in_ok-new.new.pool (tables_listed old.database) (c.in_ok-new.new.stored ∷ []) c.in_ok-new.ensures.ok
+
+pub returns-in_err-new-clause-early : goal.returns-in_err-new-clause-early
+returns-in_err-new-clause-early c = let d = c.args.self.now.database in
+    let same : update_of c.update_parts.result ≡ c.args.query = λ i. record { table = c.update_parts.ensures.table i; sets = c.update_parts.ensures.sets i; condition = c.update_parts.ensures.condition i } in
+    subst (λ (q : UpdateQuery). AnswersFirst (early_update_refusals d q) c.from_residual.result) same
+    (first_passed _ (early_update_refusals d (update_of c.update_parts.result)) c.in_err-new.field-0.0 c.from_residual.result c.from_residual.ensures.1 c.in_err-new.ensures.early)
+
+pub returns-clause-early : goal.returns-clause-early
+returns-clause-early c = let d = c.args.self.now.database in
+    let same : update_of c.update_parts.result ≡ c.args.query = λ i. record { table = c.update_parts.ensures.table i; sets = c.update_parts.ensures.sets i; condition = c.update_parts.ensures.condition i } in
+    subst (λ (q : UpdateQuery). AnswersFirst (early_update_refusals d q) c.finish_rows.result) same
+    (accepted_first (early_update_refusals d (update_of c.update_parts.result)) c.in_ok-new.new c.finish_rows.result c.in_ok-new.ensures.early)

@@ -1,0 +1,11 @@
+use Rattle.std.proofs.Common.{◌≡◌, map, not, drop}
+use Rattle.msi_text_base.specs.declared.errors.ErrorKind.TheVariants.{InvalidInput}
+use Rattle.msi_query_rows.specs.Refusals.{first_refusal}
+use Rattle.msi_database_changes.specs.Insert.{row_fits}
+use Rattle.msi_database_changes.proofs.insert.refuse_new_rows.Given as goal
+
+abbrev pub invariant-loop-row : goal.invariant-loop-row
+invariant-loop-row l = record {
+  passed : first_refusal (map (λ row. (not (row_fits l.columns row), InvalidInput)) (drop l.row-index l.rows))
+      ≡ first_refusal (map (λ row. (not (row_fits l.columns row), InvalidInput)) l.rows);
+}
