@@ -1,4 +1,4 @@
-//! Makes a list of calls on a new package; its contract says what the resulting bytes mean.
+//! Makes a list of calls on a package, new or opened; its contract says what the resulting bytes mean.
 #![tactic(auto)]
 
 pub mod answer;
@@ -16,4 +16,4 @@ pub use call::{
     Call, Change, Clearing, LookUp, NumberProperty, ReaderCall, Setting, SummaryCall,
     SummaryQuestion, TextProperty, TimeProperty, WriterCall,
 };
-pub use replaying::{Replayed, replay};
+pub use replaying::{Replayed, replay, replay_over};

@@ -1,12 +1,16 @@
-//! Calls on a new package in memory, carried out in turn.
+//! Calls on a package in memory, new or opened, carried out in turn.
 
-ghost use Rattle.std.specs.Prelude.{◌≡◌, [], IfErr, IfOk, OnOk, Some, map};
+ghost use Rattle.std.specs.Prelude.{◌≡◌, [], IfErr, IfOk, Ok, OnOk, Some, map};
 ghost use Rattle.std.specs.List.{AllByRecursion};
 ghost use Rattle.msi_text_base.specs.Results.{OnlyMemory};
 ghost use Rattle.msi_container_device.specs.Held.{bytes_told};
-ghost use Rattle.msi.specs.Runs.{FitsCall, IsReplay, IsReplayRefused, Run, SessionStep};
+ghost use Rattle.msi.specs.Laws.{AreBytes};
+ghost use Rattle.msi.specs.Runs.{FitsCall, IsReplay, IsReplayOver, IsReplayOverRefused, IsReplayRefused, Run};
+ghost use Rattle.msi.specs.Meaning.{OpensTo};
+ghost use Rattle.msi.specs.Runs.{SessionStep, created, opened};
+ghost use Rattle.msi.specs.State.{State};
 ghost use Rattle.msi_replay.specs.Sent.{call_sent};
-ghost use Rattle.msi_replay.specs.Taken.{Tells, session_at};
+ghost use Rattle.msi_replay.specs.Taken.{Ends, HoldsIfWritable, IsEndRefused, Tells, session_at};
 ghost use Rattle.msi_replay.specs.Told.{answer_told, told};
 
 use crate::answer::Answer;
@@ -21,13 +25,16 @@ use msi_text::errors::{Error, ErrorKind};
 use msi_text::text::Items;
 use std::alloc::Global;
 
-/// The results of calls, and the bytes that the package was written as in the end.
+/// The results of calls, the bytes that the package was written as in the end, and whether its texts read back.
 #[derive(Drop)]
 pub struct Replayed {
     /// The result of each call, in order.
     pub answers: Items<Result<Answer, ErrorKind>>,
     /// The bytes.
     pub bytes: Vec<u8>,
+    /// Whether each text of the package reads back as it was, once it is written in its page: then the bytes mean the
+    /// package, and opening them gives it. It is true if both pages are UTF-8.
+    pub is_writable: bool,
 }
 
 /// Carries out a call on a package.
@@ -90,6 +97,30 @@ fn empty_device(alloc: Global) -> Memory
     Memory::from_vec(Vec::new(alloc))
 }
 
+/// Carries out calls on a package, one after another, flushes it, and hands out the bytes of its device.
+///
+/// # Errors
+/// Those of the flush; `OutOfMemory` if there is no memory for a result.
+fn carry_out_to_end(
+    alloc: Global,
+    mut target: Package<Memory>,
+    steps: Vec<Call>,
+) -> Result<Replayed, Error>
+    requires { Tells target }
+    ensures ok { IfOk result (λ replayed. Ends (session_at target) (map call_sent steps.items)
+        (map (told answer_told) replayed.answers) replayed.bytes.items replayed.is_writable) }
+    ensures refused { IfErr result (IsEndRefused (session_at target) (map call_sent steps.items)) }
+{
+    let answers = carry_out_all(alloc, &mut target, steps)?;
+    target.flush()?;
+    let is_writable = target.is_writable();
+    Ok(Replayed {
+        answers,
+        bytes: target.into_reader().into_vec(),
+        is_writable,
+    })
+}
+
 /// Creates a package in memory, makes the calls on it one after another, and flushes it. If each text can be written
 /// in its page, that is if it reads back as it was, the bytes mean what the accepted calls define, and opening them
 /// gives the package that the calls left. In any case each count is the number of its cells.
@@ -100,13 +131,37 @@ fn empty_device(alloc: Global) -> Memory
 pub fn replay(alloc: Global, kind: PackageType, steps: Vec<Call>) -> Result<Replayed, Error>
     ensures ok { IfOk result (λ replayed. IsReplay kind (map call_sent steps.items)
         (map (told answer_told) replayed.answers) replayed.bytes.items) }
+    ensures writable { IfOk result (λ replayed. HoldsIfWritable (created kind) (map call_sent steps.items)
+        (map (told answer_told) replayed.answers) replayed.bytes.items replayed.is_writable) }
     ensures refused { IfErr result (IsReplayRefused kind (map call_sent steps.items)) }
 {
-    let mut target = Package::create(alloc, kind, empty_device(alloc))?;
-    let answers = carry_out_all(alloc, &mut target, steps)?;
-    target.flush()?;
-    Ok(Replayed {
-        answers,
-        bytes: target.into_reader().into_vec(),
-    })
+    let target = Package::create(alloc, kind, empty_device(alloc))?;
+    carry_out_to_end(alloc, target, steps)
+}
+
+/// A byte is below 256.
+fn look_at_bytes(bytes: &[u8])
+    ensures { AreBytes bytes.now }
+{}
+
+/// Opens the package that the bytes mean, makes the calls on it one after another, and flushes it. If each text can be
+/// written in its page, that is if it reads back as it was, the new bytes mean what the accepted calls define, and
+/// opening them gives the package that the calls left. If the opened database is sound, it stays so, and no count is
+/// below the number of its cells; then exact counts stay exact, and distinct keys distinct.
+///
+/// # Errors
+/// Fails with `OutOfMemory`, or with `Io` if the device can't grow. Otherwise it fails as [`Package::open`] does on the
+/// bytes, or as the last flush does: with `InvalidInput` if a page can't encode a text, or if the file would pass 2^31
+/// bytes.
+pub fn replay_over(alloc: Global, bytes: Vec<u8>, steps: Vec<Call>) -> Result<Replayed, Error>
+    ensures ok { IfOk result (λ replayed. IsReplayOver bytes.items (map call_sent steps.items)
+        (map (told answer_told) replayed.answers) replayed.bytes.items) }
+    ensures writable { IfOk result (λ replayed. (start : State) × OpensTo bytes.items (Ok start)
+        × HoldsIfWritable (opened bytes.items start) (map call_sent steps.items)
+        (map (told answer_told) replayed.answers) replayed.bytes.items replayed.is_writable) }
+    ensures refused { IfErr result (IsReplayOverRefused bytes.items (map call_sent steps.items)) }
+{
+    look_at_bytes(bytes.as_slice());
+    let target = Package::open(alloc, Memory::from_vec(bytes))?;
+    carry_out_to_end(alloc, target, steps)
 }

@@ -1,11 +1,15 @@
-//! A new package, changes of its tables, and code pages that can't encode their texts.
+//! New and opened packages, changes of their tables, and code pages that can't encode their texts.
 
 use crate::answers::Told::{self, Done, Page, Refused, Rows, Tables};
 use crate::calls::Make::{self, Create, Delete, Drop, Insert};
 use crate::calls::{Look, NumberRow, Sent};
-use crate::runs::{Step, has_rows, has_tables, is_refused, replayed};
+use crate::runs::{
+    Step, has_rows, has_tables, is_refused, is_refused_over, replayed, replayed_over,
+};
+use crate::samples::new_bytes;
 use msi::PackageType;
-use msi_text::{CodePage, ErrorKind};
+use msi_text::{CodePage, Error, ErrorKind};
+use std::alloc::Global;
 use std::test::Fail;
 
 /// The system's tables.
@@ -60,6 +64,37 @@ fn what_is_refused_is_not_written(rt: HostRuntime) -> Result<(), Fail> {
     Ok(())
 }
 
+/// How many of the earlier steps go as they are told, how many of the later ones over the bytes that those leave, and
+/// whether the bytes then are those that all steps in one leave.
+fn goes_on(alloc: Global, earlier: &[Step], later: &[Step]) -> Result<(usize, usize, bool), Error> {
+    let (first, left) = replayed(alloc, PackageType::Installer, earlier)?;
+    let (second, bytes) = replayed_over(alloc, left, later)?;
+    let (_count, whole) = replayed(alloc, PackageType::Installer, &NUMBERS)?;
+    Ok((first, second, bytes == whole))
+}
+
+#[test]
+fn calls_go_on_where_bytes_left_off(rt: HostRuntime) -> Result<(), Fail> {
+    for count in 0..NUMBERS.len() {
+        let (earlier, later) = NUMBERS.split_at(count);
+        let found = goes_on(rt.alloc(), earlier, later)?;
+        assert_eq!(rt; found, (count, later.len(), true), "{count}");
+    }
+    Ok(())
+}
+
+/// Bytes that are no compound file.
+const FOREIGN: [&[u8]; 3] = [b"", b"PK\x03\x04", &[0xD0, 0xCF, 0x11, 0xE0]];
+
+#[test]
+fn bytes_that_are_no_compound_file_are_refused(rt: HostRuntime) -> Result<(), Fail> {
+    for bytes in FOREIGN {
+        let bytes = Vec::from_slice(rt.alloc(), bytes)?;
+        assert!(rt; is_refused_over(rt.alloc(), bytes, &[], ErrorKind::InvalidData)?);
+    }
+    Ok(())
+}
+
 /// A row whose word Windows-932 doesn't carry here, and for which Windows-1252 has a question mark.
 const ONE: &[NumberRow] = &[(1, "\u{4E00}")];
 
@@ -97,5 +132,13 @@ fn a_page_that_does_not_carry_a_text_is_refused_by_flushes(rt: HostRuntime) -> R
     assert_eq!(rt; count, PAGES.len());
     assert!(rt; has_rows(alloc, bytes, &[(1, "?")])?);
     assert!(rt; is_refused(alloc, &UNCARRIED, ErrorKind::InvalidInput)?);
+    assert!(rt;
+        is_refused_over(
+            alloc,
+            new_bytes(alloc)?,
+            &UNCARRIED,
+            ErrorKind::InvalidInput
+        )?
+    );
     Ok(())
 }

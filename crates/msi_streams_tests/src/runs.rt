@@ -5,7 +5,7 @@ use crate::calls::{NumberRow, Sent, call};
 use msi::{Package, PackageType};
 use msi_container_device::Memory;
 use msi_query::Select;
-use msi_replay::{Call, Replayed, replay};
+use msi_replay::{Call, Replayed, replay, replay_over};
 use msi_table::Rows;
 use msi_text::{Error, ErrorKind};
 use std::alloc::Global;
@@ -34,6 +34,18 @@ fn answered(replayed: &Replayed, steps: &[Step]) -> usize {
     count
 }
 
+/// How many calls answer what their steps tell, if there are as many, and the bytes that are written.
+fn counted(replayed: Replayed, steps: &[Step]) -> (usize, Vec<u8>) {
+    let count = answered(&replayed, steps);
+    let Replayed {
+        answers,
+        bytes,
+        is_writable: _,
+    } = replayed;
+    let is_whole = answers.len() == steps.len();
+    (if is_whole { count } else { 0 }, bytes)
+}
+
 /// How many calls answer what their steps tell, up to the first that doesn't, and the bytes that are written.
 pub(crate) fn replayed(
     alloc: Global,
@@ -41,10 +53,17 @@ pub(crate) fn replayed(
     steps: &[Step],
 ) -> Result<(usize, Vec<u8>), Error> {
     let replayed = replay(alloc, kind, calls(alloc, steps)?)?;
-    let count = answered(&replayed, steps);
-    let Replayed { answers, bytes } = replayed;
-    let is_whole = answers.len() == steps.len();
-    Ok((if is_whole { count } else { 0 }, bytes))
+    Ok(counted(replayed, steps))
+}
+
+/// The same of calls on the package that bytes open to.
+pub(crate) fn replayed_over(
+    alloc: Global,
+    bytes: Vec<u8>,
+    steps: &[Step],
+) -> Result<(usize, Vec<u8>), Error> {
+    let replayed = replay_over(alloc, bytes, calls(alloc, steps)?)?;
+    Ok(counted(replayed, steps))
 }
 
 /// Whether an error is of a kind; another is passed on, as refused memory is.
@@ -58,6 +77,19 @@ fn is_kind(error: Error, kind: ErrorKind) -> Result<bool, Error> {
 /// Whether the last flush is refused so, once the calls of steps are made.
 pub(crate) fn is_refused(alloc: Global, steps: &[Step], kind: ErrorKind) -> Result<bool, Error> {
     match replay(alloc, PackageType::Installer, calls(alloc, steps)?) {
+        Ok(_replayed) => Ok(false),
+        Err(error) => is_kind(error, kind),
+    }
+}
+
+/// Whether the calls of steps over bytes are refused so, as the bytes or by the last flush.
+pub(crate) fn is_refused_over(
+    alloc: Global,
+    bytes: Vec<u8>,
+    steps: &[Step],
+    kind: ErrorKind,
+) -> Result<bool, Error> {
+    match replay_over(alloc, bytes, calls(alloc, steps)?) {
         Ok(_replayed) => Ok(false),
         Err(error) => is_kind(error, kind),
     }
