@@ -80,10 +80,10 @@ fn left_behind(pool: &StringPool, row: &[ValueRef], left: usize) -> Option<usize
 }
 
 /// Whether the texts that rows name, each as often as it is named, have at most four times the bytes of the pool's
-/// texts, and 64 bytes for each row, and 64 KiB.
+/// texts, and 64 bytes for each row, and 256 KiB.
 fn have_few_texts(pool: &StringPool, rows: &[Items<ValueRef>]) -> bool {
     let of_pool = pool_size(pool).saturating_mul(4);
-    let of_rows = rows.len().saturating_mul(64).saturating_add(65536);
+    let of_rows = rows.len().saturating_mul(64).saturating_add(262_144);
     let mut left = of_pool.saturating_add(of_rows);
     for row in rows {
         let Some(others) = left_behind(pool, row.as_slice(), left) else {
@@ -190,7 +190,7 @@ impl Database {
     /// # Errors
     /// Fails with `InvalidData` if the stream of a system table can't be read, and if its rows describe no tables, or
     /// with `OutOfMemory`. That comes too if the rows of a system table name texts that have, each counted as often as
-    /// it is named, more than four times the bytes of the pool's texts, 64 bytes for each row and 64 KiB.
+    /// it is named, more than four times the bytes of the pool's texts, 64 bytes for each row and 256 KiB.
     pub fn read(alloc: Global, pool: StringPool, streams: StreamMap) -> Result<Database, Error>
         ensures ok { IfOk result (IsDatabaseOf pool (entries streams)) }
         ensures only { IfOk result (λ d. (k : Kept) → IsDatabaseOf pool (entries streams) k → k ≡ d) }

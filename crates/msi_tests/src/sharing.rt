@@ -51,14 +51,13 @@ fn refused(alloc: Global, sharing: u32, many: usize) -> Result<Option<ErrorKind>
     Ok(error.map(|error| error.kind()))
 }
 
-/// How many columns share a text, its letters, and why the package isn't opened. The pool has the text and less than
-/// 4000 bytes beside it, so that four times its bytes, 64 for each row and 65536 are more than 140000 and less than
-/// 180000.
-const SHARING: [(u32, usize, Option<ErrorKind>); 4] = [
-    (2, 20_000, None),
-    (7, 20_000, None),
-    (9, 20_000, Some(ErrorKind::OutOfMemory)),
-    (100, 20_000, Some(ErrorKind::OutOfMemory)),
+/// How many columns share a text, its letters, and why the package isn't opened. The rows of 1000 columns name about
+/// 267000 bytes of texts, and those of 2000 twice as many. For these, four times the pool's bytes, 64 for each row and
+/// 262144 are less than 450000.
+const SHARING: [(u32, usize, Option<ErrorKind>); 3] = [
+    (2, 255, None),
+    (1000, 255, None),
+    (2000, 255, Some(ErrorKind::OutOfMemory)),
 ];
 
 #[test]
