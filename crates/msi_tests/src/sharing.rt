@@ -1,14 +1,14 @@
 //! Tables whose columns share a long text: opening copies it for each of them, so it is refused where that is too much.
 
 use crate::steps::{created, opened};
-use msi::{Column, Error, ErrorKind};
+use msi::{Column, Error, ErrorKind, Memory, Package};
 use std::alloc::Global;
 use std::test::Fail;
 
-/// A text of so many letters.
-fn letters(alloc: Global, many: usize) -> Result<String, Error> {
+/// A text of as many letters as a column's allowed values may have.
+fn letters(alloc: Global) -> Result<String, Error> {
     let mut text = String::new(alloc);
-    for _ in 0..many {
+    for _ in 0..255 {
         text.push('x')?;
     }
     Ok(text)
@@ -24,47 +24,68 @@ fn column(alloc: Global, number: u32, text: &str) -> Result<Column, Error> {
     Ok(builder.enum_values(&[text])?.string(0))
 }
 
-/// A key, and so many columns that take one text alone.
-fn columns(alloc: Global, sharing: u32, text: &str) -> Result<Vec<Column>, Error> {
+/// A key, and 31 columns that take one text alone.
+fn columns(alloc: Global, text: &str) -> Result<Vec<Column>, Error> {
     let mut columns = Vec::new(alloc);
-    columns.push(column(alloc, 0, text)?)?;
-    for number in 0..sharing {
-        columns.push(column(alloc, number.saturating_add(1), text)?)?;
+    for number in 0..32 {
+        columns.push(column(alloc, number, text)?)?;
     }
     Ok(columns)
 }
 
-/// The bytes of a package with a table of such columns.
-fn image(alloc: Global, columns: Result<Vec<Column>, Error>) -> Result<Vec<u8>, Error> {
-    let columns = columns?;
+/// Makes the table of a number, with such columns.
+fn make(
+    alloc: Global,
+    package: &mut Package<Memory>,
+    number: u32,
+    text: &str,
+) -> Result<(), Error> {
+    let columns = columns(alloc, text)?;
+    package.create_table(format!(in alloc; "T{number}")?, columns)
+}
+
+/// Makes so many tables, and writes the package.
+fn fill(
+    alloc: Global,
+    package: &mut Package<Memory>,
+    tables: u32,
+    text: &str,
+) -> Result<(), Error> {
+    for number in 0..tables {
+        make(alloc, package, number, text)?;
+    }
+    package.flush()
+}
+
+/// The bytes of a package with so many tables.
+fn image(alloc: Global, tables: u32, text: &str) -> Result<Vec<u8>, Error> {
     let mut package = created(alloc)?;
-    package.create_table("Sharing", columns)?;
-    package.flush()?;
+    fill(alloc, &mut package, tables, text)?;
     Ok(package.into_reader().into_vec())
 }
 
-/// Why a package isn't opened, of whose columns so many take one text of so many letters.
-fn refused(alloc: Global, sharing: u32, many: usize) -> Result<Option<ErrorKind>, Error> {
-    let text = letters(alloc, many)?;
-    let bytes = image(alloc, columns(alloc, sharing, text.as_str()))?;
+/// Why a package with so many tables isn't opened.
+fn refused(alloc: Global, tables: u32) -> Result<Option<ErrorKind>, Error> {
+    let text = letters(alloc)?;
+    let bytes = image(alloc, tables, text.as_str())?;
     let error = opened(alloc, bytes.as_slice()).err();
     Ok(error.map(|error| error.kind()))
 }
 
-/// How many columns share a text, its letters, and why the package isn't opened. The rows of 1000 columns name about
-/// 267000 bytes of texts, and those of 2000 twice as many. For these, four times the pool's bytes, 64 for each row and
-/// 262144 are less than 450000.
-const SHARING: [(u32, usize, Option<ErrorKind>); 3] = [
-    (2, 255, None),
-    (1000, 255, None),
-    (2000, 255, Some(ErrorKind::OutOfMemory)),
+/// How many tables have 31 columns each that share a text of 255 letters, and why the package isn't opened. The rows
+/// of 30 tables name about 244000 bytes of texts, and those of 60 twice as many. What is allowed, four times the
+/// pool's bytes, 64 for each row and 262144, is about 327000 and 389000.
+const SHARING: [(u32, Option<ErrorKind>); 3] = [
+    (1, None),
+    (30, None),
+    (60, Some(ErrorKind::OutOfMemory)),
 ];
 
 #[test]
 fn columns_share_a_long_text_in_bounds(rt: HostRuntime) -> Result<(), Fail> {
-    for (sharing, many, wanted) in &SHARING {
-        let found = refused(rt.alloc(), *sharing, *many)?;
-        assert!(rt; found == *wanted, "{sharing} columns");
+    for (tables, wanted) in &SHARING {
+        let found = refused(rt.alloc(), *tables)?;
+        assert!(rt; found == *wanted, "{tables} tables");
     }
     Ok(())
 }
