@@ -73,12 +73,12 @@ fn refused(alloc: Global, tables: u32) -> Result<Option<ErrorKind>, Error> {
 }
 
 /// How many tables have 31 columns each that share a text of 255 letters, and why the package isn't opened. The rows
-/// of 30 tables name about 244000 bytes of texts, and those of 60 twice as many. What is allowed, four times the
-/// pool's bytes, 64 for each row and 262144, is about 327000 and 389000.
+/// of 30 tables name about 244000 bytes of texts, and those of 48 about 390000. What is allowed, four times the pool's
+/// bytes, 64 for each row and 262144, is about 327000 and 364000.
 const SHARING: [(u32, Option<ErrorKind>); 3] = [
     (1, None),
     (30, None),
-    (60, Some(ErrorKind::OutOfMemory)),
+    (48, Some(ErrorKind::OutOfMemory)),
 ];
 
 #[test]
