@@ -1,5 +1,5 @@
 -- What the steps of opening give is what opening answers.
-use Rattle.std.proofs.Common.{◌≡◌, ℕ, List, [], ◌∷◌, ◌++◌, Option, Some, None, Result, Ok, Err, refl, sym, subst, ◌∙◌}
+use Rattle.std.proofs.Common.{◌≡◌, ℕ, Bool, false, List, [], ◌∷◌, ◌++◌, Option, Some, None, Result, Ok, Err, refl, sym, ap, subst, ◌∙◌}
 use Rattle.std.proofs.Common.{inl, inr}
 use Rattle.std.specs.Prelude.{◌⊎◌, IfErr, IfOk, IfSome, IsErrAnd, IsSome, IsSomeAnd}
 use Rattle.std.specs.List.{AllByRecursion}
@@ -10,6 +10,7 @@ use Rattle.msi_text_pool.specs.Pool.{Pool, PoolStream, Entry, IsPool, IsPoolStre
 use Rattle.msi_text_pool.specs.Pool as pools
 use Rattle.msi_text_base.specs.Results.{FailsAs, Gives, IsUnlessMemory}
 use Rattle.msi_text_base.proofs.OptionLemmas.{is_some_by, none_not, some_of}
+use Rattle.msi_container_device.specs.Faults.{is_io}
 use Rattle.msi_container_device.specs.Held.{Held, all_bytes}
 use Rattle.msi_summary_properties.specs.Properties.{Properties}
 use Rattle.msi_summary.specs.Summary.{SpellsSummary}
@@ -286,3 +287,34 @@ source_opens held cleared read bytes s t same told is opens like = (
   subst (λ (o : Option Held). IfSome o (λ h. read ≡ all_bytes h)) same told,
   subst (λ (x : State). OpensTo read (Ok x)) (sym like) (subst (λ (b : List ℕ). OpensTo b (Ok s)) is opens),
 )
+
+-- NO FAULT OF A SOURCE
+
+abbrev pub is_fault : ErrorKind → Bool
+is_fault kind = is_io {T = Unit {0}} (Err kind)
+
+-- no step is refused as a fault
+step_faultless : (s : OpenStep) → is_fault (step_kind s) ≡ false
+step_faultless step.knows_kind = refl
+step_faultless step.has_summary = refl
+step_faultless step.reads_summary = refl
+step_faultless step.has_pool = refl
+step_faultless step.reads_pool = refl
+step_faultless step.has_texts = refl
+step_faultless step.reads_texts = refl
+step_faultless step.reads_schema = refl
+
+fails_faultless : (c : Contents) (kind : ErrorKind) (steps : List OpenStep) → FailsFirst c steps kind → is_fault kind ≡ false
+fails_faultless c kind [] h = absurd h
+fails_faultless c kind (s ∷ ss) (inl fails) = ap is_fault fails.1 ∙ step_faultless s
+fails_faultless c kind (s ∷ ss) (inr later) = fails_faultless c kind ss later.1
+
+-- nor are bytes
+refusal_faultless : (bytes : List ℕ) (kind : ErrorKind) → IsOpenRefusal bytes kind → is_fault kind ≡ false
+refusal_faultless bytes kind (inl memory) = ap is_fault memory
+refusal_faultless bytes kind (inr (inl none)) = ap is_fault none.1
+refusal_faultless bytes kind (inr (inr (c, holds, fails))) = fails_faultless c kind open_steps fails
+
+pub passed_faultless : {A : Type 0} (r : Result A ErrorKind) (bytes : List ℕ) (kind : ErrorKind) → IsErrAnd r (λ e. e ≡ kind) → IsOpenRefusal bytes kind → is_io r ≡ false
+passed_faultless (Ok x) bytes kind e h = absurd e
+passed_faultless (Err other) bytes kind e h = ap is_fault e ∙ refusal_faultless bytes kind h
