@@ -1,5 +1,5 @@
 -- What the steps of opening give is what opening answers.
-use Rattle.std.proofs.Common.{◌≡◌, ℕ, Bool, false, List, [], ◌∷◌, ◌++◌, Option, Some, None, Result, Ok, Err, refl, sym, ap, subst, ◌∙◌}
+use Rattle.std.proofs.Common.{◌≡◌, ℕ, false, List, [], ◌∷◌, ◌++◌, Option, Some, None, Result, Ok, Err, refl, sym, ap, subst, ◌∙◌}
 use Rattle.std.proofs.Common.{inl, inr}
 use Rattle.std.specs.Prelude.{◌⊎◌, IfErr, IfOk, IfSome, IsErrAnd, IsSome, IsSomeAnd}
 use Rattle.std.specs.List.{AllByRecursion}
@@ -10,7 +10,6 @@ use Rattle.msi_text_pool.specs.Pool.{Pool, PoolStream, Entry, IsPool, IsPoolStre
 use Rattle.msi_text_pool.specs.Pool as pools
 use Rattle.msi_text_base.specs.Results.{FailsAs, Gives, IsUnlessMemory}
 use Rattle.msi_text_base.proofs.OptionLemmas.{is_some_by, none_not, some_of}
-use Rattle.msi_container_device.specs.Faults.{is_io}
 use Rattle.msi_container_device.specs.Held.{Held, all_bytes}
 use Rattle.msi_summary_properties.specs.Properties.{Properties}
 use Rattle.msi_summary.specs.Summary.{SpellsSummary}
@@ -26,6 +25,7 @@ use Rattle.msi.specs.Kinds.{clsid_of}
 use Rattle.msi.specs.State.{State}
 use Rattle.msi.specs.Meaning.{OpenStep, Passes, FailsFirst, OpensTo, RawPoolIs, SummaryIs, open_steps, step_kind}
 use Rattle.msi.specs.Meaning as step
+use Rattle.msi.specs.Flushing.{is_fault}
 use Rattle.msi.specs.Opening.{IsOpenRefusal, IsOpened, OpensSource, StopsAmong}
 
 -- STEPS IN TURN
@@ -290,9 +290,6 @@ source_opens held cleared read bytes s t same told is opens like = (
 
 -- NO FAULT OF A SOURCE
 
-abbrev pub is_fault : ErrorKind → Bool
-is_fault kind = is_io {T = Unit {0}} (Err kind)
-
 -- no step is refused as a fault
 step_faultless : (s : OpenStep) → is_fault (step_kind s) ≡ false
 step_faultless step.knows_kind = refl
@@ -310,11 +307,7 @@ fails_faultless c kind (s ∷ ss) (inl fails) = ap is_fault fails.1 ∙ step_fau
 fails_faultless c kind (s ∷ ss) (inr later) = fails_faultless c kind ss later.1
 
 -- nor are bytes
-refusal_faultless : (bytes : List ℕ) (kind : ErrorKind) → IsOpenRefusal bytes kind → is_fault kind ≡ false
-refusal_faultless bytes kind (inl memory) = ap is_fault memory
-refusal_faultless bytes kind (inr (inl none)) = ap is_fault none.1
-refusal_faultless bytes kind (inr (inr (c, holds, fails))) = fails_faultless c kind open_steps fails
-
-pub passed_faultless : {A : Type 0} (r : Result A ErrorKind) (bytes : List ℕ) (kind : ErrorKind) → IsErrAnd r (λ e. e ≡ kind) → IsOpenRefusal bytes kind → is_io r ≡ false
-passed_faultless (Ok x) bytes kind e h = absurd e
-passed_faultless (Err other) bytes kind e h = ap is_fault e ∙ refusal_faultless bytes kind h
+pub opened_faultless : (bytes : List ℕ) (kind : ErrorKind) → IsOpenRefusal bytes kind → is_fault kind ≡ false
+opened_faultless bytes kind (inl memory) = ap is_fault memory
+opened_faultless bytes kind (inr (inl none)) = ap is_fault none.1
+opened_faultless bytes kind (inr (inr (c, holds, fails))) = fails_faultless c kind open_steps fails

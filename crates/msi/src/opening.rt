@@ -169,6 +169,7 @@ impl<F: Source + Drop> Package<F> {
         ensures ok { IfOk result (λ opened. OpensSource (F.held inner) (Ok opened.state)) }
         ensures bytes { IfOk result (λ opened. bytes_told opened.held ≡ bytes_told (F.held inner)) }
         ensures failed { IfOk result (λ opened. opened.failed ≡ false) }
+        ensures pending { IfOk result (λ opened. opened.pending ≡ F.pending inner) }
         ensures kind { IfErr result
             (λ kind. (kind ≡ Io) ⊎ (kind ≡ OutOfMemory) ⊎ OpensSource (F.held inner) (Err kind)) }
         ensures faultless { F.can_fail ≡ false → is_io result ≡ false }

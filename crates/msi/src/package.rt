@@ -74,6 +74,7 @@ impl<F: Source> Model for Package<F> {
           p.has_storages p.is_unwritten p.is_summary_lent p.is_pool_changed;
       held = F.held p.device;
       failed = F.failed p.device;
+      pending = F.pending p.device;
     } };
 
     ghost invariant = { λ p. IsHeld p.database p.open p.is_pool_changed };
@@ -127,6 +128,7 @@ impl<F: Source> Package<F> {
     pub fn into_reader(self) -> F
         ensures held { F.held result ≡ self.held }
         ensures failed { F.failed result ≡ self.failed }
+        ensures pending { F.pending result ≡ self.pending }
     {
         let Package {
             device,

@@ -33,7 +33,7 @@ returns-in_err-flush-clause-refused c =
     at_exit c.from_residual-in_err-flush.result (IsReplayRefused c.args.kind sent) p.0 _ p.1 p.2
     (replay_refused c.args.kind sent (map (told answer_told) c.in_ok-answers.answers)
     c.in_ok-target.target c.carry_out_all.new.target c.flush.new.self start c.in_ok-answers.ensures.run c.in_ok-answers.ensures.tells
-    _ c.in_err-flush.ensures)
+    _ c.in_err-flush.ensures.step)
 
 pub returns-clause-ok : goal.returns-clause-ok
 returns-clause-ok c =
@@ -41,5 +41,5 @@ returns-clause-ok c =
     c.in_ok-target.target c.in_ok-target.ensures.held in
     replay_means c.args.kind (map call_sent c.args.steps.items) (map (told answer_told) c.in_ok-answers.answers)
     c.in_ok-target.target c.carry_out_all.new.target c.flush.new.self start c.in_ok-answers.ensures.run c.in_ok-answers.ensures.tells
-    c.in_ok-answers.ensures.fits c.in_ok-flush.ensures (Some c.into_reader.result.held) c.into_vec.result.items
+    c.in_ok-answers.ensures.fits c.in_ok-flush.ensures.step (Some c.into_reader.result.held) c.into_vec.result.items
     c.into_reader.ensures.held c.into_vec.ensures
