@@ -254,13 +254,14 @@ fn write_parts<F: Device>(
 }
 
 impl<F: Device> Package<F> {
-    /// Writes the whole file anew, over all that the device has. If nothing is unwritten it does nothing, and makes
-    /// no call of the device. If it fails, the package is as it was, and is still unwritten.
+    /// Writes the whole file anew, over all that the device has, and flushes the device. If nothing is unwritten it
+    /// does nothing, and makes no call of the device. If it fails, the package is as it was, and is still unwritten.
     ///
     /// # Errors
     /// Fails with `InvalidInput` if a page can't encode a text, or if the file would pass 2^31 bytes, or with
-    /// `OutOfMemory`, both before anything is written. Fails with `Io` if a call of the device failed, which
-    /// `device_failed` then reports: a prefix of the new bytes may have been written over the old ones.
+    /// `OutOfMemory`, both before anything is written. Fails with `Io` if a call of the device failed: a prefix of the
+    /// new bytes may have been written over the old ones. The device's flag is cleared first, so `device_failed`
+    /// reports afterwards whether this flush failed with `Io`.
     pub fn flush(&mut self) -> Result<(), Error>
         ensures step { FlushStep self.old (flush_answer result) self.new }
         ensures handed_on { OnOk result (self.new.pending ≡ (not self.old.state.is_unwritten && self.old.pending)) }

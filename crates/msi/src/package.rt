@@ -116,8 +116,8 @@ impl<F: Source> Package<F> {
         Tables::new(self.database.tables())
     }
 
-    /// Returns whether a call of the device failed since the flag was last cleared; a call of the package clears it
-    /// before its first call of the device.
+    /// Returns whether a call of the device failed since the flag was last cleared: `open`, `create` and each flush of
+    /// an unwritten package clear it first.
     pub fn device_failed(&self) -> bool
         ensures { result ≡ self.now.failed }
     {
