@@ -304,7 +304,7 @@ step_faultless step.reads_schema = refl
 fails_faultless : (c : Contents) (kind : ErrorKind) (steps : List OpenStep) → FailsFirst c steps kind → is_fault kind ≡ false
 fails_faultless c kind [] h = absurd h
 fails_faultless c kind (s ∷ ss) (inl fails) = ap is_fault fails.1 ∙ step_faultless s
-fails_faultless c kind (s ∷ ss) (inr later) = fails_faultless c kind ss later.1
+fails_faultless c kind (s ∷ ss) (inr (passes, later)) = fails_faultless c kind ss later
 
 -- nor are bytes
 pub opened_faultless : (bytes : List ℕ) (kind : ErrorKind) → IsOpenRefusal bytes kind → is_fault kind ≡ false
