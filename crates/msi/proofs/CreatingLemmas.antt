@@ -74,9 +74,9 @@ created_from k bytes failed y step =
     ap (λ (r : Result Streams ErrorKind). r >>= λ streams. Ok (record { state = as_written (unwritten k) streams; held = layout (contents_of (unwritten k) streams) n; failed = false })) d.written
     ∙ ap (λ (s : Session). Ok s) same
 
-module _ (k : PackageType) (held : Option Held) (failed : Bool) (new : Whole) where
+module _ (k : PackageType) (held : Option Held) (failed pending : Bool) (new : Whole) where
   abbrev before : Whole
-  before = over_device (unwritten k) held failed
+  before = over_device (unwritten k) held failed pending
 
   pub made_state : FlushStep before (Ok calls.done) new → new.state ≡ fresh k
   made_state w = is_fresh k w.earlier_len new.state (step_done k w.earlier_len new.state w.step)

@@ -1,11 +1,12 @@
 -- A flush is a step of its package, and of a session whose device tells its bytes.
 use Rattle.std.proofs.Common.{◌≡◌, ℕ, Bool, true, false, List, [], ◌∷◌, length, Option, Some, None, Result, Ok, Err, refl, sym, ap, subst, ◌∙◌, inl, inr}
-use Rattle.std.specs.Prelude.{IfSome, MatchBool, OnOk, if◌then◌else◌, option_map}
+use Rattle.std.specs.Prelude.{◌&&◌, IfSome, MatchBool, OnOk, if◌then◌else◌, not, option_map}
 use Rattle.std.proofs.lemmas.Bool.{true≢false}
 use Rattle.msi_text_base.specs.declared.errors.ErrorKind.{ErrorKind}
 use Rattle.msi_text_base.specs.declared.errors.ErrorKind.TheVariants.{AlreadyExists, InvalidData, InvalidInput, Io, NotFound, OutOfMemory}
 use Rattle.msi_query_rows.specs.Refusals.{IsRefusal, or_refused, unless_refused, ◌>>=◌}
 use Rattle.msi_container_device.specs.Held.{Held, bytes_told}
+use Rattle.msi_container_format.specs.declared.contents.Contents.{Contents}
 use Rattle.msi_container_write.specs.Layout.{layout, refuses}
 use Rattle.msi_database_storage.specs.Kept.{Kept}
 use Rattle.msi_database_storage.specs.Streams.{Streams}
@@ -16,10 +17,20 @@ use Rattle.msi.specs.Calls as calls
 use Rattle.msi.specs.Steps.{Step, as_written, contents_of, flush_outcome, flushed, image_of, image_refusals, streams_written, written_for}
 use Rattle.msi.specs.Runs.{FlushLeaves, SessionStep, SameDevice, result_or}
 use Rattle.msi.specs.Whole.{Whole}
-use Rattle.msi.specs.Flushing.{FlushStep, FlushTells, Overwrites, Writes, begun_over, flush_answer, left_by, over_device, session_of, told, told_by, with_renewed}
+use Rattle.msi.specs.Flushing.{FlushStep, FlushTells, LeavesBytes, LeavesCleared, Overwrites, Told, Writes, begun_over, flush_answer, left_by, over_device, session_of, told, told_by, with_renewed}
 use Rattle.msi.proofs.OverwritingLemmas.{told_len, told_len_is}
 
 -- WHAT IS WRITTEN
+
+-- where the flag is cleared first, it is still clear where nothing was written
+cleared_of : (old new : Told) → old.failed ≡ false → LeavesBytes old new → LeavesCleared old new
+cleared_of old new clear (same, inl none) = (same, none)
+cleared_of old new clear (same, inr kept) = (same, kept ∙ clear)
+
+pub over_cleared : (c : Contents) (held cleared : Option Held) (flag : Bool) (r : Result (Unit {0}) ErrorKind) (new : Told) → cleared ≡ held → flag ≡ false
+    → Overwrites c (told cleared flag) r new → Overwrites c (told held false) r new
+over_cleared c held cleared flag r new same clear w =
+    subst (λ (b : Bool). Overwrites c (told held b) r new) clear (subst (λ (h : Option Held). Overwrites c (told h flag) r new) same w)
 
 module _ (s : State) (streams : Streams) (n : ℕ) (written : streams_written s ≡ Some streams) where
   abbrev refused : Bool
@@ -59,22 +70,23 @@ module _ (s : State) (streams : Streams) (n : ℕ) (written : streams_written s 
     step_is old new before after (Err InvalidData) k is w = absurd w
     step_is old new before after (Err NotFound) k is w = absurd w
 
-    tells : (old new : Option Held) (before after : Bool) (r : Result (Unit {0}) ErrorKind) (k : Kept) → (r ≡ Ok tt → k.streams ≡ streams)
-        → Writes (contents_of s streams) n (told old before) r (told new after) → FlushTells n (over_device s old before) (flush_answer r) (over_device (left_by r s k) new after)
-    tells old new before after (Ok done) k is w =
+    tells : (old new : Option Held) (before after pending last : Bool) (r : Result (Unit {0}) ErrorKind) (k : Kept) → (r ≡ Ok tt → k.streams ≡ streams)
+        → Writes (contents_of s streams) n (told old false) r (told new after)
+        → FlushTells n (over_device s old before pending) (flush_answer r) (over_device (left_by r s k) new after last)
+    tells old new before after pending last (Ok done) k is w =
         (w.1 ∙ ap (λ (all : Streams). option_map (λ _. layout (contents_of s all) n) (bytes_told old)) (sym (is refl)), w.2)
-    tells old new before after (Err InvalidInput) k is w = w.1
-    tells old new before after (Err OutOfMemory) k is w = w
-    tells old new before after (Err Io) k is w =
+    tells old new before after pending last (Err InvalidInput) k is w = cleared_of (told old false) (told new after) refl w.1
+    tells old new before after pending last (Err OutOfMemory) k is w = cleared_of (told old false) (told new after) refl w
+    tells old new before after pending last (Err Io) k is w =
         (w.0, w.1 ∙ same (bytes_told old), w.2)
       where
         same : (o : Option (List ℕ)) → option_map (λ bytes. begun_over w.0 (if refused then bytes else layout (contents_of s streams) n) bytes) o
             ≡ option_map (λ bytes. begun_over w.0 (result_or bytes (image_of s n)) bytes) o
         same None = refl
         same (Some bytes) = ap (λ image. Some (begun_over w.0 image bytes)) (sym (image_is bytes))
-    tells old new before after (Err AlreadyExists) k is w = absurd w
-    tells old new before after (Err InvalidData) k is w = absurd w
-    tells old new before after (Err NotFound) k is w = absurd w
+    tells old new before after pending last (Err AlreadyExists) k is w = absurd w
+    tells old new before after pending last (Err InvalidData) k is w = absurd w
+    tells old new before after pending last (Err NotFound) k is w = absurd w
 
 pub when_true : (b : Bool) (P Q : Type 0) → b ≡ true → P → MatchBool b P Q
 when_true true P Q is p = p
@@ -82,48 +94,51 @@ when_true false P Q is p = absurd (true≢false (sym is))
 
 -- A FLUSH
 
-pub flush_written : (s : State) (streams : Streams) (k : Kept) (old new : Option Held) (before after : Bool) (r : Result (Unit {0}) ErrorKind)
+pub flush_written : (s : State) (streams : Streams) (k : Kept) (old new : Option Held) (before after pending last : Bool) (r : Result (Unit {0}) ErrorKind)
     → s.is_unwritten ≡ true → streams_written s ≡ Some streams → (r ≡ Ok tt → k.streams ≡ streams)
-    → Overwrites (contents_of s streams) (told old before) r (told new after)
-    → FlushStep (over_device s old before) (flush_answer r) (over_device (left_by r s k) new after)
-flush_written s streams k old new before after r unwritten written is w = record {
+    → Overwrites (contents_of s streams) (told old false) r (told new after)
+    → FlushStep (over_device s old before pending) (flush_answer r) (over_device (left_by r s k) new after last)
+flush_written s streams k old new before after pending last r unwritten written is w = record {
   earlier_len = w.earlier_len;
   are_so_many = w.are_so_many;
-  step = step_is s streams w.earlier_len written unwritten old new before after r k is w.writes;
-  device = when_true s.is_unwritten _ _ unwritten (tells s streams w.earlier_len written unwritten old new before after r k is w.writes);
+  step = step_is s streams w.earlier_len written unwritten old new false after r k is w.writes;
+  device = when_true s.is_unwritten _ _ unwritten (tells s streams w.earlier_len written unwritten old new before after pending last r k is w.writes);
 }
 
 -- one that is refused before it calls the device
 pub written_refused : (s : State) (n : ℕ) (kind : ErrorKind) → or_refused InvalidInput (streams_written s) ≡ Err kind → written_for s n ≡ Err kind
 written_refused s n kind e = ap (λ (r : Result Streams ErrorKind). r >>= λ all. unless_refused (image_refusals s n all) all) e
 
-only_input : (o : Option Streams) (kind : ErrorKind) → or_refused InvalidInput o ≡ Err kind → kind ≡ InvalidInput
+pub only_input : (o : Option Streams) (kind : ErrorKind) → or_refused InvalidInput o ≡ Err kind → kind ≡ InvalidInput
 only_input None kind e = cc
 only_input (Some x) kind e = absurd cc
 
-refused_tells : (n : ℕ) (old : Whole) (kind : ErrorKind) → IsRefusal (or_refused InvalidInput (streams_written old.state)) kind → FlushTells n old (Err kind) old
-refused_tells n old kind (inl memory) = subst (λ k. FlushTells n old (Err k) old) (sym memory) (refl, inr refl)
-refused_tells n old kind (inr e) = subst (λ k. FlushTells n old (Err k) old) (sym (only_input (streams_written old.state) kind e)) (refl, inr refl)
+refused_tells : (n : ℕ) (old new : Whole) (kind : ErrorKind) → LeavesCleared (told_by old) (told_by new) → IsRefusal (or_refused InvalidInput (streams_written old.state)) kind
+    → FlushTells n old (Err kind) new
+refused_tells n old new kind left (inl memory) = subst (λ k. FlushTells n old (Err k) new) (sym memory) left
+refused_tells n old new kind left (inr e) = subst (λ k. FlushTells n old (Err k) new) (sym (only_input (streams_written old.state) kind e)) left
 
 refused_step : (n : ℕ) (s : State) (kind : ErrorKind) → s.is_unwritten ≡ true → IsRefusal (or_refused InvalidInput (streams_written s)) kind → Step n s calls.flush (Err kind) s
 refused_step n s kind unwritten (inl memory) = inr (inl (unwritten, ap Err memory, refl))
 refused_step n s kind unwritten (inr e) =
     inl (ap (λ u. if u then flushed s (written_for s n) else (Ok calls.done, s)) unwritten ∙ ap (flushed s) (written_refused s n kind e))
 
-pub flush_refused : (old : Whole) (kind : ErrorKind) → old.state.is_unwritten ≡ true → IsRefusal (or_refused InvalidInput (streams_written old.state)) kind → FlushStep old (Err kind) old
-flush_refused old kind unwritten refusal =
+flush_refused : (old new : Whole) (kind : ErrorKind) → old.state.is_unwritten ≡ true → new.state ≡ old.state → LeavesCleared (told_by old) (told_by new)
+    → IsRefusal (or_refused InvalidInput (streams_written old.state)) kind → FlushStep old (Err kind) new
+flush_refused old new kind unwritten same left refusal =
     let n : ℕ = told_len (bytes_told old.held) in record {
       earlier_len = n;
       are_so_many = told_len_is (told_by old);
-      step = refused_step n old.state kind unwritten refusal;
-      device = when_true old.state.is_unwritten _ _ unwritten (refused_tells n old kind refusal);
+      step = subst (λ (t : State). Step n old.state calls.flush (Err kind) t) (sym same) (refused_step n old.state kind unwritten refusal);
+      device = when_true old.state.is_unwritten _ _ unwritten (refused_tells n old new kind left refusal);
     }
 
-pub flush_refused_as : (s : State) (held : Option Held) (failed : Bool) (k : Kept) (r : Result (Unit {0}) ErrorKind) (kind : ErrorKind) → r ≡ Err kind → s.is_unwritten ≡ true
-    → IsRefusal (or_refused InvalidInput (streams_written s)) kind → FlushStep (over_device s held failed) (flush_answer r) (over_device (left_by r s k) held failed)
-flush_refused_as s held failed k r kind is unwritten refusal =
-    subst (λ (a : Result (Unit {0}) ErrorKind). FlushStep (over_device s held failed) (flush_answer a) (over_device (left_by a s k) held failed)) (sym is)
-    (flush_refused (over_device s held failed) kind unwritten refusal)
+pub flush_refused_as : (s : State) (held left : Option Held) (failed after pending last : Bool) (k : Kept) (r : Result (Unit {0}) ErrorKind) (kind : ErrorKind) → r ≡ Err kind
+    → s.is_unwritten ≡ true → left ≡ held → after ≡ false → IsRefusal (or_refused InvalidInput (streams_written s)) kind
+    → FlushStep (over_device s held failed pending) (flush_answer r) (over_device (left_by r s k) left after last)
+flush_refused_as s held left failed after pending last k r kind is unwritten same cleared refusal =
+    subst (λ (a : Result (Unit {0}) ErrorKind). FlushStep (over_device s held failed pending) (flush_answer a) (over_device (left_by a s k) left after last)) (sym is)
+    (flush_refused (over_device s held failed pending) (over_device s left after last) kind unwritten refl (ap bytes_told same, cleared) refusal)
 
 -- the streams that are left where a flush is done
 pub left_streams : (r : Result (Unit {0}) ErrorKind) (new old : Kept) (items renewed : Streams) → OnOk r (new ≡ with_streams (with_renewed items) old) → items ≡ renewed
@@ -143,6 +158,13 @@ flush_nothing w clean = record {
   step = inl (ap (λ u. if u then flushed w.state (written_for w.state (told_len (bytes_told w.held))) else (Ok calls.done, w.state)) clean);
   device = when_false w.state.is_unwritten _ _ clean (refl, refl);
 }
+
+-- What is pending after an accepted flush: what was before, if nothing was unwritten, and else nothing
+pub pending_nothing : (w : Whole) → w.state.is_unwritten ≡ false → w.pending ≡ (not w.state.is_unwritten && w.pending)
+pending_nothing w clean = ap (λ (b : Bool). not b && w.pending) (sym clean)
+
+pub pending_written : (w : Whole) (pending : Bool) → w.state.is_unwritten ≡ true → pending ≡ false → pending ≡ (not w.state.is_unwritten && w.pending)
+pending_written w pending unwritten none = none ∙ ap (λ (b : Bool). not b && w.pending) (sym unwritten)
 
 -- A SESSION
 

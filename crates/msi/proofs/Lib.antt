@@ -37,6 +37,7 @@ pub mod OverwritingLemmas
 pub mod FlushAmongLemmas
 pub mod FlushStepLemmas
 pub mod OpenStepLemmas
+pub mod FaultLemmas
 pub mod CreatingLemmas
 pub mod ImagingLemmas
 pub mod WritableLemmas

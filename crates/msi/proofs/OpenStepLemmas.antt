@@ -1,5 +1,5 @@
 -- What the steps of opening give is what opening answers.
-use Rattle.std.proofs.Common.{◌≡◌, ℕ, List, [], ◌∷◌, ◌++◌, Option, Some, None, Result, Ok, Err, refl, sym, subst, ◌∙◌}
+use Rattle.std.proofs.Common.{◌≡◌, ℕ, false, List, [], ◌∷◌, ◌++◌, Option, Some, None, Result, Ok, Err, refl, sym, ap, subst, ◌∙◌}
 use Rattle.std.proofs.Common.{inl, inr}
 use Rattle.std.specs.Prelude.{◌⊎◌, IfErr, IfOk, IfSome, IsErrAnd, IsSome, IsSomeAnd}
 use Rattle.std.specs.List.{AllByRecursion}
@@ -25,6 +25,7 @@ use Rattle.msi.specs.Kinds.{clsid_of}
 use Rattle.msi.specs.State.{State}
 use Rattle.msi.specs.Meaning.{OpenStep, Passes, FailsFirst, OpensTo, RawPoolIs, SummaryIs, open_steps, step_kind}
 use Rattle.msi.specs.Meaning as step
+use Rattle.msi.specs.Flushing.{is_fault}
 use Rattle.msi.specs.Opening.{IsOpenRefusal, IsOpened, OpensSource, StopsAmong}
 
 -- STEPS IN TURN
@@ -286,3 +287,27 @@ source_opens held cleared read bytes s t same told is opens like = (
   subst (λ (o : Option Held). IfSome o (λ h. read ≡ all_bytes h)) same told,
   subst (λ (x : State). OpensTo read (Ok x)) (sym like) (subst (λ (b : List ℕ). OpensTo b (Ok s)) is opens),
 )
+
+-- NO FAULT OF A SOURCE
+
+-- no step is refused as a fault
+step_faultless : (s : OpenStep) → is_fault (step_kind s) ≡ false
+step_faultless step.knows_kind = refl
+step_faultless step.has_summary = refl
+step_faultless step.reads_summary = refl
+step_faultless step.has_pool = refl
+step_faultless step.reads_pool = refl
+step_faultless step.has_texts = refl
+step_faultless step.reads_texts = refl
+step_faultless step.reads_schema = refl
+
+fails_faultless : (c : Contents) (kind : ErrorKind) (steps : List OpenStep) → FailsFirst c steps kind → is_fault kind ≡ false
+fails_faultless c kind [] h = absurd h
+fails_faultless c kind (s ∷ ss) (inl fails) = ap is_fault fails.1 ∙ step_faultless s
+fails_faultless c kind (s ∷ ss) (inr (passes, later)) = fails_faultless c kind ss later
+
+-- nor are bytes
+pub opened_faultless : (bytes : List ℕ) (kind : ErrorKind) → IsOpenRefusal bytes kind → is_fault kind ≡ false
+opened_faultless bytes kind (inl memory) = ap is_fault memory
+opened_faultless bytes kind (inr (inl none)) = ap is_fault none.1
+opened_faultless bytes kind (inr (inr (c, holds, fails))) = fails_faultless c kind open_steps fails

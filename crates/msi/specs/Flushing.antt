@@ -7,6 +7,7 @@ use Rattle.msi_text_base.specs.declared.errors.ErrorKind.{ErrorKind}
 use Rattle.msi_text_base.specs.declared.errors.ErrorKind.TheVariants.{InvalidInput, Io, OutOfMemory}
 use Rattle.msi_text_pool.specs.Pool.{Pool}
 use Rattle.msi_summary_properties.specs.Properties.{Properties}
+use Rattle.msi_container_device.specs.Faults.{is_io}
 use Rattle.msi_container_device.specs.Held.{Held, bytes_told}
 use Rattle.msi_container_format.specs.declared.contents.Contents.{Contents}
 use Rattle.msi_container_write.specs.Layout.{layout, refuses}
@@ -65,6 +66,10 @@ told held failed = record { bytes = bytes_told held; failed = failed }
 abbrev pub told_by : Whole → Told
 told_by w = told w.held w.failed
 
+-- an error that is a fault of the device
+abbrev pub is_fault : ErrorKind → Bool
+is_fault kind = is_io {T = Unit {0}} (Err kind)
+
 -- so many bytes are held
 abbrev pub AreSoMany : ℕ → Told → Type 0
 AreSoMany n old = IfSome old.bytes (λ bytes. n ≡ length bytes)
@@ -72,6 +77,10 @@ AreSoMany n old = IfSome old.bytes (λ bytes. n ≡ length bytes)
 -- nothing was written, though the flag may be cleared
 abbrev pub LeavesBytes : Told → Told → Type 0
 LeavesBytes old new = (new.bytes ≡ old.bytes) × ((new.failed ≡ false) ⊎ (new.failed ≡ old.failed))
+
+-- nothing was written, and the flag is cleared
+abbrev pub LeavesCleared : Told → Told → Type 0
+LeavesCleared old new = (new.bytes ≡ old.bytes) × (new.failed ≡ false)
 
 -- a beginning of an image over the front of bytes
 abbrev pub begun_over : ℕ → List ℕ → List ℕ → List ℕ
@@ -114,7 +123,7 @@ FlushTells n old (Ok answer) new = (bytes_told new.held
 FlushTells n old (Err Io) new = (k : ℕ) × (bytes_told new.held
     ≡ option_map (λ bytes. begun_over k (result_or bytes (image_of old.state n)) bytes) (bytes_told old.held))
     × (new.failed ≡ true)
-FlushTells n old (Err kind) new = LeavesBytes (told_by old) (told_by new)
+FlushTells n old (Err kind) new = LeavesCleared (told_by old) (told_by new)
 
 -- what a flush answers and leaves; a package with nothing unwritten calls no device
 pub record FlushStep (old : Whole) (answer : Result Answer ErrorKind) (new : Whole) : Type 0 where
@@ -137,8 +146,8 @@ abbrev pub left_by : {A : Type 0} → Result A ErrorKind → State → Kept → 
 left_by (Ok done) s k = as_written s k.streams
 left_by (Err kind) s k = s
 
-abbrev pub over_device : State → Option Held → Bool → Whole
-over_device s held failed = record { state = s; held = held; failed = failed }
+abbrev pub over_device : State → Option Held → Bool → Bool → Whole
+over_device s held failed pending = record { state = s; held = held; failed = failed; pending = pending }
 
 -- A NEW PACKAGE
 

@@ -73,7 +73,7 @@ FlushLeaves old (Ok answer) new =
     (new.held ≡ layout (contents_of new.state new.state.kept.streams) (length old.held)) × (new.failed ≡ false)
 FlushLeaves old (Err Io) new =
     (k : ℕ) × (new.held ≡ take k (image_over old) ++ drop k old.held) × (new.failed ≡ true)
-FlushLeaves old (Err kind) new = (new.held ≡ old.held) × ((new.failed ≡ false) ⊎ (new.failed ≡ old.failed))
+FlushLeaves old (Err kind) new = (new.held ≡ old.held) × (new.failed ≡ false)
 
 abbrev pub SameDevice : Session → Session → Type 0
 SameDevice old new = (new.held ≡ old.held) × (new.failed ≡ old.failed)

@@ -13,11 +13,13 @@ use Rattle.msi.specs.declared.kinds.PackageType.{PackageType}
 use Rattle.msi.specs.State.{State}
 use Rattle.msi.specs.Steps.{after_change}
 
--- its state, what the device holds where that tells it, and whether a call of the device failed
+-- its state, what the device holds where that tells it, whether a call of the device failed, and whether bytes were
+-- written that the device has not passed on
 pub record Whole : Type 0 where
   pub state : State
   pub held : Option Held
   pub failed : Bool
+  pub pending : Bool
 
 -- another state over the same device
 abbrev pub with_state : State → Whole → Whole

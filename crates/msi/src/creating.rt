@@ -1,8 +1,9 @@
 //! Creating packages, and turning them back into their devices.
 
-ghost use Rattle.std.specs.Prelude.{◌≡◌, IfErr, IfOk, false};
+ghost use Rattle.std.specs.Prelude.{◌≡◌, ◌&&◌, IfErr, IfOk, false, not};
+ghost use Rattle.msi_container_device.specs.Faults.{is_io};
 ghost use Rattle.msi.specs.Runs.{fresh};
-ghost use Rattle.msi.specs.Flushing.{FlushStep, IsCreateRefused, IsCreated, flush_answer, told};
+ghost use Rattle.msi.specs.Flushing.{FlushStep, IsCreateRefused, IsCreated, flush_answer, is_fault, told};
 ghost use Rattle.msi.specs.Whole.{Whole};
 
 use crate::kinds::PackageType;
@@ -25,7 +26,9 @@ impl<F: Device + Drop> Package<F> {
         ensures state { IfOk result (λ made. made.state ≡ fresh kind) }
         ensures held { IfOk result (λ made. IsCreated kind (told (F.held inner) (F.failed inner)) made) }
         ensures failed { IfOk result (λ made. made.failed ≡ false) }
+        ensures handed_on { IfOk result (λ made. made.pending ≡ false) }
         ensures refused { IfErr result (IsCreateRefused kind (told (F.held inner) (F.failed inner))) }
+        ensures faultless { F.can_fail ≡ false → F.writes_can_fail ≡ false → is_io result ≡ false }
     {
         let mut package = Package {
             device: inner,
@@ -54,7 +57,10 @@ impl<F: Device> Package<F> {
     pub fn into_inner(mut self) -> Result<F, (Error, Package<F>)>
         ensures ok { IfOk result (λ inner. (left : Whole) × FlushStep self (flush_answer (Ok tt)) left
             × (F.held inner ≡ left.held) × (F.failed inner ≡ left.failed)) }
+        ensures handed_on { IfOk result (λ inner. F.pending inner ≡ (not self.state.is_unwritten && self.pending)) }
         ensures refused { IfErr result (λ refused. FlushStep self (flush_answer (Err refused.0)) refused.1) }
+        ensures faultless { F.can_fail ≡ false → F.writes_can_fail ≡ false
+            → IfErr result (λ refused. is_fault refused.0 ≡ false) }
     {
         match self.flush() {
             Ok(()) => Ok(self.into_reader()),

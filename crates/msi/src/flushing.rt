@@ -1,10 +1,12 @@
 //! Writing a package to its device.
 
-ghost use Rattle.std.specs.Prelude.{◌≡◌, ◌||◌, IfErr, IfOk, OnErr, OnOk, Some, is_err, option_map, true};
+ghost use Rattle.std.specs.Prelude.{◌≡◌, ◌&&◌, ◌||◌, IfErr, IfOk, OnErr, OnOk, Some, false, is_err, not, option_map};
+ghost use Rattle.std.specs.Prelude.{true};
 ghost use Rattle.std.specs.Vec.Iter.{into_iter_items};
 ghost use Rattle.msi_text_base.specs.declared.errors.ErrorKind.TheVariants.{InvalidInput, Io};
 ghost use Rattle.msi_text_pool.specs.PoolWriting.{is_refused as is_pool_refused};
 ghost use Rattle.msi_summary_properties.specs.PropertyWriting.{is_refused as is_summary_refused};
+ghost use Rattle.msi_container_device.specs.Faults.{is_io};
 ghost use Rattle.msi_container_device.specs.Held.{at_start, bytes_told};
 ghost use Rattle.msi_container_write.specs.Borrowed.{contents_of};
 ghost use Rattle.msi_query_rows.specs.Refusals.{IsRefusal, or_refused};
@@ -115,6 +117,7 @@ fn go_to_start<F: Device>(device: &mut F) -> Result<u64, Error>
     ensures held { OnOk result (F.held device.new ≡ option_map at_start (F.held device.old)) }
     ensures bytes { bytes_told (F.held device.new) ≡ bytes_told (F.held device.old) }
     ensures failed { F.failed device.new ≡ is_err result }
+    ensures faultless { F.can_fail ≡ false → F.writes_can_fail ≡ false → is_io result ≡ false }
     ensures kind { IfErr result (λ kind. kind ≡ Io) }
 {
     device.clear_failed();
@@ -130,6 +133,8 @@ fn go_to_start<F: Device>(device: &mut F) -> Result<u64, Error>
 fn hand_on<F: Device>(device: &mut F) -> Result<(), Error>
     ensures bytes { bytes_told (F.held device.new) ≡ bytes_told (F.held device.old) }
     ensures failed { F.failed device.new ≡ (F.failed device.old || is_err result) }
+    ensures handed_on { OnOk result (F.pending device.new ≡ false) }
+    ensures faultless { F.writes_can_fail ≡ false → is_io result ≡ false }
     ensures kind { IfErr result (λ kind. kind ≡ Io) }
 {
     device.flush().map_err(fault)
@@ -145,8 +150,10 @@ fn write_image<F: Device>(
     contents: &BorrowedContents,
     device: &mut F,
 ) -> Result<(), Error>
-    ensures { Overwrites (contents_of contents.now) (told (F.held device.old) (F.failed device.old)) result
+    ensures device { Overwrites (contents_of contents.now) (told (F.held device.old) (F.failed device.old)) result
         (told (F.held device.new) (F.failed device.new)) }
+    ensures handed_on { OnOk result (F.pending device.new ≡ false) }
+    ensures faultless { F.can_fail ≡ false → F.writes_can_fail ≡ false → is_io result ≡ false }
 {
     let earlier_len = go_to_start(device)?;
     image_to(alloc, contents, earlier_len, device)?;
@@ -163,8 +170,10 @@ fn write_streams<F: Device>(
     database: &Database,
     device: &mut F,
 ) -> Result<(), Error>
-    ensures { Overwrites (root_contents root.kind root.has_storages database.now.streams)
+    ensures device { Overwrites (root_contents root.kind root.has_storages database.now.streams)
         (told (F.held device.old) (F.failed device.old)) result (told (F.held device.new) (F.failed device.new)) }
+    ensures handed_on { OnOk result (F.pending device.new ≡ false) }
+    ensures faultless { F.can_fail ≡ false → F.writes_can_fail ≡ false → is_io result ≡ false }
 {
     let contents = BorrowedContents {
         clsid: root.kind.clsid(),
@@ -192,6 +201,8 @@ pub(crate) fn write_with<F: Device>(
     ensures device { Overwrites
         (root_contents root.kind root.has_storages (with_renewed (into_iter_items renewed) database.old.streams))
         (told (F.held device.old) (F.failed device.old)) result (told (F.held device.new) (F.failed device.new)) }
+    ensures handed_on { OnOk result (F.pending device.new ≡ false) }
+    ensures faultless { F.can_fail ≡ false → F.writes_can_fail ≡ false → is_io result ≡ false }
 {
     database.kept();
     let Some((name, bytes)) = renewed.next() else {
@@ -207,7 +218,8 @@ pub(crate) fn write_with<F: Device>(
     }
 }
 
-/// Writes an unwritten package: its root's streams, with those of the summary and the pool anew.
+/// Writes an unwritten package: its root's streams, with those of the summary and the pool anew. It clears the
+/// device's flag first, so that the flag is set afterwards exactly where `Io` is returned.
 ///
 /// # Errors
 /// `InvalidInput` where a page doesn't carry a text; else those of `write_image`. Then the database is as it was.
@@ -223,11 +235,14 @@ fn write_parts<F: Device>(
     requires { is_pool_changed ≡ true → is_sound database.old.database ≡ true }
     ensures flushed { let s
         = unwritten_of root.kind root.has_storages summary.now is_summary_lent database.old is_pool_changed in
-        FlushStep (over_device s (F.held device.old) (F.failed device.old)) (flush_answer result)
-        (over_device (left_by result s database.new) (F.held device.new) (F.failed device.new)) }
+        FlushStep (over_device s (F.held device.old) (F.failed device.old) (F.pending device.old)) (flush_answer result)
+        (over_device (left_by result s database.new) (F.held device.new) (F.failed device.new) (F.pending device.new)) }
+    ensures handed_on { OnOk result (F.pending device.new ≡ false) }
+    ensures faultless { F.can_fail ≡ false → F.writes_can_fail ≡ false → is_io result ≡ false }
     ensures tables { database.new.database ≡ database.old.database }
     ensures same { OnErr result (database.new ≡ database.old) }
 {
+    device.clear_failed();
     let renewed = renewed_streams(
         alloc,
         summary,
@@ -239,15 +254,18 @@ fn write_parts<F: Device>(
 }
 
 impl<F: Device> Package<F> {
-    /// Writes the whole file anew, over all that the device has. If nothing is unwritten it does nothing, and makes
-    /// no call of the device. If it fails, the package is as it was, and is still unwritten.
+    /// Writes the whole file anew, over all that the device has, and flushes the device. If nothing is unwritten it
+    /// does nothing, and makes no call of the device. If it fails, the package is as it was, and is still unwritten.
     ///
     /// # Errors
     /// Fails with `InvalidInput` if a page can't encode a text, or if the file would pass 2^31 bytes, or with
-    /// `OutOfMemory`, both before anything is written. Fails with `Io` if a call of the device failed, which
-    /// `device_failed` then reports: a prefix of the new bytes may have been written over the old ones.
+    /// `OutOfMemory`, both before anything is written. Fails with `Io` if a call of the device failed: a prefix of the
+    /// new bytes may have been written over the old ones. The device's flag is cleared first, so `device_failed`
+    /// reports afterwards whether this flush failed with `Io`.
     pub fn flush(&mut self) -> Result<(), Error>
-        ensures { FlushStep self.old (flush_answer result) self.new }
+        ensures step { FlushStep self.old (flush_answer result) self.new }
+        ensures handed_on { OnOk result (self.new.pending ≡ (not self.old.state.is_unwritten && self.old.pending)) }
+        ensures faultless { F.can_fail ≡ false → F.writes_can_fail ≡ false → is_io result ≡ false }
     {
         if !self.is_unwritten {
             return Ok(());

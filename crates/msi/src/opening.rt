@@ -5,6 +5,7 @@ ghost use Rattle.std.specs.FinMap.{entries};
 ghost use Rattle.msi_text_base.specs.declared.errors.ErrorKind.TheVariants.{InvalidData, Io, NotFound, OutOfMemory};
 ghost use Rattle.msi_text_pool.specs.Pool.{Pool, PoolStream};
 ghost use Rattle.msi_text_base.specs.Results.{IsUnlessMemory};
+ghost use Rattle.msi_container_device.specs.Faults.{is_io};
 ghost use Rattle.msi_container_device.specs.Held.{bytes_told};
 ghost use Rattle.msi_database_storage.specs.Streams.{stream_at};
 ghost use Rattle.msi.specs.Kinds.{clsid_of};
@@ -168,8 +169,10 @@ impl<F: Source + Drop> Package<F> {
         ensures ok { IfOk result (λ opened. OpensSource (F.held inner) (Ok opened.state)) }
         ensures bytes { IfOk result (λ opened. bytes_told opened.held ≡ bytes_told (F.held inner)) }
         ensures failed { IfOk result (λ opened. opened.failed ≡ false) }
+        ensures pending { IfOk result (λ opened. opened.pending ≡ F.pending inner) }
         ensures kind { IfErr result
             (λ kind. (kind ≡ Io) ⊎ (kind ≡ OutOfMemory) ⊎ OpensSource (F.held inner) (Err kind)) }
+        ensures faultless { F.can_fail ≡ false → is_io result ≡ false }
     {
         let mut device = inner;
         device.clear_failed();

@@ -74,6 +74,7 @@ impl<F: Source> Model for Package<F> {
           p.has_storages p.is_unwritten p.is_summary_lent p.is_pool_changed;
       held = F.held p.device;
       failed = F.failed p.device;
+      pending = F.pending p.device;
     } };
 
     ghost invariant = { λ p. IsHeld p.database p.open p.is_pool_changed };
@@ -115,8 +116,8 @@ impl<F: Source> Package<F> {
         Tables::new(self.database.tables())
     }
 
-    /// Returns whether a call of the device failed since the flag was last cleared; a call of the package clears it
-    /// before its first call of the device.
+    /// Returns whether a call of the device failed since the flag was last cleared: `open`, `create` and each flush of
+    /// an unwritten package clear it first.
     pub fn device_failed(&self) -> bool
         ensures { result ≡ self.now.failed }
     {
@@ -127,6 +128,7 @@ impl<F: Source> Package<F> {
     pub fn into_reader(self) -> F
         ensures held { F.held result ≡ self.held }
         ensures failed { F.failed result ≡ self.failed }
+        ensures pending { F.pending result ≡ self.pending }
     {
         let Package {
             device,

@@ -18,11 +18,11 @@ returns-in_err-flush-clause-refused c =
     let sent = map call_sent c.args.steps.items in
     at_exit c.from_residual-in_err-flush.result (IsEndRefused (session_at c.args.target) sent) p.0 _ p.1 p.2
     (end_refused c.args.target c.carry_out_all.new.target c.flush.new.self sent (map (told answer_told) c.in_ok-answers.answers)
-    c.in_ok-answers.ensures.run c.in_ok-answers.ensures.tells _ c.in_err-flush.ensures)
+    c.in_ok-answers.ensures.run c.in_ok-answers.ensures.tells _ c.in_err-flush.ensures.step)
 
 pub returns-clause-ok : goal.returns-clause-ok
 returns-clause-ok c =
     ends c.args.target c.carry_out_all.new.target c.flush.new.self (map call_sent c.args.steps.items) (map (told answer_told) c.in_ok-answers.answers)
-    c.in_ok-answers.ensures.run c.in_ok-answers.ensures.tells c.in_ok-answers.ensures.fits c.in_ok-flush.ensures
+    c.in_ok-answers.ensures.run c.in_ok-answers.ensures.tells c.in_ok-answers.ensures.fits c.in_ok-flush.ensures.step
     (Some c.into_reader.result.held) c.into_vec.result.items c.is_writable-is_writable.result c.into_reader.ensures.held c.into_vec.ensures
     c.is_writable-is_writable.ensures.exact c.is_writable-is_writable.ensures.utf8
