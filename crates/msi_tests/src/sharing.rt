@@ -5,7 +5,7 @@ use msi::{Column, Error, ErrorKind, Memory, Package};
 use std::alloc::Global;
 use std::test::Fail;
 
-/// A text of as many letters as a column's allowed values may have.
+/// A text of as many letters as a column's allowed values, or the table that it refers to, may have.
 fn letters(alloc: Global) -> Result<String, Error> {
     let mut text = String::new(alloc);
     for _ in 0..255 {
@@ -14,17 +14,23 @@ fn letters(alloc: Global) -> Result<String, Error> {
     Ok(text)
 }
 
-/// The column of a number, which is the key where that is 0 and otherwise takes one text alone.
+/// The column of a number, which is the key where that is 0, and otherwise has the text as what it refers to and as
+/// the one text that it takes.
 fn column(alloc: Global, number: u32, text: &str) -> Result<Column, Error> {
     let name = format!(in alloc; "C{number}")?;
     let builder = Column::build(alloc, name.as_str())?;
     if number == 0 {
         return Ok(builder.primary_key().int16());
     }
-    Ok(builder.enum_values(&[text])?.string(0))
+    Ok(
+        builder
+            .foreign_key(text, 1)?
+            .enum_values(&[text])?
+            .string(0),
+    )
 }
 
-/// A key, and 31 columns that take one text alone.
+/// A key, and 31 columns that share a text.
 fn columns(alloc: Global, text: &str) -> Result<Vec<Column>, Error> {
     let mut columns = Vec::new(alloc);
     for number in 0..32 {
@@ -72,13 +78,13 @@ fn refused(alloc: Global, tables: u32) -> Result<Option<ErrorKind>, Error> {
     Ok(error.map(|error| error.kind()))
 }
 
-/// How many tables have 31 columns each that share a text of 255 letters, and why the package isn't opened. The rows
-/// of 30 tables name about 244000 bytes of texts, and those of 48 about 390000. What is allowed, four times the pool's
-/// bytes, 64 for each row and 262144, is about 327000 and 364000.
+/// How many tables have 31 columns each that name a text of 255 letters twice, and why the package isn't opened. The
+/// rows of 12 tables name about 193000 bytes of texts, and those of 24 about 385000. What is allowed, four times the
+/// pool's bytes, 64 for each row and 262144, is about 290000 and 315000.
 const SHARING: [(u32, Option<ErrorKind>); 3] = [
     (1, None),
-    (30, None),
-    (48, Some(ErrorKind::OutOfMemory)),
+    (12, None),
+    (24, Some(ErrorKind::OutOfMemory)),
 ];
 
 #[test]
