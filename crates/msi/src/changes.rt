@@ -12,6 +12,7 @@ ghost use Rattle.msi_database_changes.specs.Insert as inserts;
 ghost use Rattle.msi_database_changes.specs.Insert.{early_insert_refusals};
 ghost use Rattle.msi_database_changes.specs.Update as updates;
 ghost use Rattle.msi_database_changes.specs.Update.{early_update_refusals};
+ghost use Rattle.msi_database.specs.Creating.{create_refusals};
 ghost use Rattle.msi.specs.State.{parts_of};
 ghost use Rattle.msi.specs.Steps.{changing, storage_refusal, with_page};
 ghost use Rattle.msi.specs.Whole.{Leaves, with_state};
@@ -22,7 +23,8 @@ use msi_query::{Delete, Insert, Update};
 use msi_table::column::Column;
 use msi_text::codepage::CodePage;
 use msi_text::errors::Error;
-use msi_text::text::{IntoText, Items};
+use msi_text::text::Items;
+use std::convert::AsStr;
 
 impl<F: Source> Package<F> {
     /// Sets the code page of the texts of the database. It takes no memory.
@@ -127,8 +129,8 @@ impl<F: Source> Package<F> {
     /// binary column is of the key or localizable, and if one of a column's values has a `;`; `AlreadyExists` if
     /// there is a table of this name; `NotFound` if `_Validation` isn't there; then as for the rows that describe the
     /// table, put into `_Columns`, `_Tables` and `_Validation` in turn. If none applies, it fails with `OutOfMemory`,
-    /// which may also come in place of the others. Then nothing has changed.
-    pub fn create_table<S: IntoText>(&mut self, name: S, columns: Vec<Column>) -> Result<(), Error>
+    /// which may also come in place of the refusals of these rows. Then nothing has changed.
+    pub fn create_table<S: AsStr + Drop>(&mut self, name: S, columns: Vec<Column>) -> Result<(), Error>
         ensures ok { let change = changing (parts_of self.old.state)
             (λ d. creates.create_table d (S.text name) columns.items) in
             OnOk result (Leaves self.old change self.new) }
@@ -136,8 +138,9 @@ impl<F: Source> Package<F> {
         ensures kind { let change = changing (parts_of self.old.state)
             (λ d. creates.create_table d (S.text name) columns.items) in
             IfErr result (IsRefusal change) }
+        ensures early { let s = self.old.state in AnswersFirst
+            (storage_refusal (parts_of s) ++ create_refusals s.kept.database (S.text name) columns.items) result }
     {
-        let name = name.into_text(self.alloc)?;
         self.make_table(name.as_str(), Items::from_vec(columns))
     }
 
@@ -153,6 +156,8 @@ impl<F: Source> Package<F> {
         ensures kind { let change = changing (parts_of self.old.state)
             (λ d. creates.create_table d name.now columns) in
             IfErr result (IsRefusal change) }
+        ensures early { let s = self.old.state in
+            AnswersFirst (storage_refusal (parts_of s) ++ create_refusals s.kept.database name.now columns) result }
     {
         self.check_storages()?;
         settle(&mut self.database, &mut self.open, &mut self.current);

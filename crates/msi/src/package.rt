@@ -3,9 +3,10 @@
 ghost use Rattle.std.specs.Prelude.{◌≡◌, ◌||◌, IfErr, IfOk, IfSome, None, OnOk, Some, true};
 ghost use Rattle.std.specs.Borrow.{sem};
 ghost use Rattle.std.specs.Option.{option_copied};
-ghost use Rattle.msi_query_rows.specs.Refusals.{IsRefusal, first_refusal, unless_refused};
-ghost use Rattle.msi_query_rows.specs.Selection.{relation_of};
-ghost use Rattle.msi_database_changes.specs.Database.{has_table as has_one, is_sound, values_of};
+ghost use Rattle.msi_query_rows.specs.Refusals.{AnswersWith, IsRefusal, first_refusal, unless_refused};
+ghost use Rattle.msi_query_rows.specs.Rows.{columns_read};
+ghost use Rattle.msi_query_rows.specs.Selection.{early_refusal, relation_of};
+ghost use Rattle.msi_database_changes.specs.Database.{has_table as has_one, is_sound, table_at, values_of};
 ghost use Rattle.msi_database.specs.Keeping.{IsKeptDatabase};
 ghost use Rattle.msi_database.specs.Listed.{table_def_at, tables_listed};
 ghost use Rattle.msi.specs.Lending.{LendsSummary};
@@ -176,10 +177,12 @@ impl<F: Source> Package<F> {
     /// Fails with the first of these that applies, for a join those of the left query, then those of the right:
     /// `NotFound` if a table isn't there, `InvalidData` if it can't be read; then `InvalidInput` if a column isn't
     /// there, in a join's condition, then one that is selected, then in the condition. If none applies, it fails with
-    /// `OutOfMemory`, which may also come in place of the others.
+    /// `OutOfMemory`, which may also come in place of what is refused from the first join's own columns on.
     pub fn select_rows(&self, query: Select) -> Result<Rows<'_>, Error>
         ensures ok { IfOk result (Selects (relation_of (values_of self.now.state.kept.database) query)) }
         ensures kind { IfErr result (IsRefusal (relation_of (values_of self.now.state.kept.database) query)) }
+        ensures early { let tables = λ q. table_at q self.now.state.kept.database in
+            AnswersWith (early_refusal (columns_read tables) query) result }
     {
         let relation = self.database.select(self.alloc, &query)?;
         relation.into_rows(self.alloc, self.database.pool())

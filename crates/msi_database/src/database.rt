@@ -1,11 +1,11 @@
 //! A database: tables over one pool of texts, whose rows stand in the streams of a container.
 
-ghost use Rattle.std.specs.Prelude.{◌≡◌, IfErr, IfOk, Ok, OnErr, OnOk, option_copied};
+ghost use Rattle.std.specs.Prelude.{◌≡◌, Err, IfErr, IfOk, Ok, OnErr, OnOk, Some, option_copied};
 ghost use Rattle.std.specs.FinMap.{entries};
 ghost use Rattle.msi_table.specs.Rows.{AreAsWide};
-ghost use Rattle.msi_query_rows.specs.Refusals.{IsRefusal, unless_refused};
-ghost use Rattle.msi_query_rows.specs.Rows.{relation_values, whole_table};
-ghost use Rattle.msi_query_rows.specs.Selection.{relation_of};
+ghost use Rattle.msi_query_rows.specs.Refusals.{AnswersWith, IsRefusal, refusal_of, unless_refused};
+ghost use Rattle.msi_query_rows.specs.Rows.{columns_read, relation_values, whole_table};
+ghost use Rattle.msi_query_rows.specs.Selection.{early_refusal, relation_of};
 ghost use Rattle.msi_database_changes.specs.Changes.{sound_refusal};
 ghost use Rattle.msi_database_changes.specs.Database.{has_table as has_one, is_sound as is_sound_one, table_at};
 ghost use Rattle.msi_database_changes.specs.Database.{values_of};
@@ -14,10 +14,11 @@ ghost use Rattle.msi_database.specs.Listed.{table_def_at, tables_listed, with_pa
 
 use crate::reasons;
 use msi_container_format::contents::StreamMap;
-use msi_database_storage::decoding::stored_rows;
+use msi_database_storage::decoding::{is_readable, stored_rows};
 use msi_database_storage::listing::table_named;
 use msi_query::Select;
 use msi_query_rows::{Relation, Tables, select};
+use msi_table::column::Column;
 use msi_table::Table;
 use msi_table::parts::copied_columns;
 use msi_text::codepage::CodePage;
@@ -145,6 +146,25 @@ impl Database {
         Ok(())
     }
 
+    /// The table of a name, if it can be read.
+    ///
+    /// # Errors
+    /// `NotFound` where there is none; `InvalidData` where it can't be read.
+    fn readable_table(&self, name: &str) -> Result<&Table, Error>
+        ensures ok { IfOk result (λ table. columns_read (λ q. table_at q self.now.database) name.now
+            ≡ Ok table.now.columns) }
+        ensures known { IfOk result (λ table. table_def_at name.now self.now.database ≡ Some table.now) }
+        ensures kind { IfErr result (λ kind. columns_read (λ q. table_at q self.now.database) name.now ≡ Err kind) }
+    {
+        let Some(table) = table_named(self.tables.as_slice(), name) else {
+            return Err(Error::new(ErrorKind::NotFound, reasons::NO_TABLE));
+        };
+        if !is_readable(&self.streams, table) {
+            return Err(Error::new(ErrorKind::InvalidData, reasons::UNREADABLE));
+        }
+        Ok(table)
+    }
+
     /// The columns and the rows of the table of a name.
     ///
     /// # Errors
@@ -152,10 +172,10 @@ impl Database {
     fn whole(&self, alloc: Global, name: &str) -> Result<Relation, Error>
         ensures ok { IfOk result (λ relation. whole_table (λ q. table_at q self.now.database) name.now ≡ Ok relation) }
         ensures kind { IfErr result (IsRefusal (whole_table (λ q. table_at q self.now.database) name.now)) }
+        ensures early {
+            AnswersWith (refusal_of (whole_table (λ q. table_at q self.now.database) name.now)) result }
     {
-        let Some(table) = table_named(self.tables.as_slice(), name) else {
-            return Err(Error::new(ErrorKind::NotFound, reasons::NO_TABLE));
-        };
+        let table = self.readable_table(name)?;
         let rows = stored_rows(alloc, &self.streams, table)?;
         let columns = copied_columns(alloc, table.columns())?;
         Ok(Relation::new(name.into_text(alloc)?, columns, rows))
@@ -167,12 +187,14 @@ impl Database {
     /// Fails with the first of these that applies, for a join those of the left query, then those of the right:
     /// `NotFound` if a table isn't there, `InvalidData` if it can't be read; then `InvalidInput` if a column isn't
     /// there, in a join's condition, then one that is selected, then in the condition. If none applies, it fails with
-    /// `OutOfMemory`, which may also come in place of the others.
+    /// `OutOfMemory`, which may also come in place of what is refused from the first join's own columns on.
     pub fn select(&self, alloc: Global, query: &Select) -> Result<Relation, Error>
         ensures ok { IfOk result (λ relation. relation_of (values_of self.now.database) query.now
             ≡ Ok (relation_values self.now.database.pool.places relation)) }
         ensures wide { IfOk result (λ relation. AreAsWide relation.columns relation.rows) }
         ensures kind { IfErr result (IsRefusal (relation_of (values_of self.now.database) query.now)) }
+        ensures early {
+            AnswersWith (early_refusal (columns_read (λ q. table_at q self.now.database)) query.now) result }
     {
         select(alloc, &self.pool, self, query)
     }
@@ -182,6 +204,10 @@ impl Tables for Database {
     ghost use Rattle.msi_database_changes.specs.Database.{table_at};
 
     ghost table = { λ d name. table_at name d.database };
+
+    fn columns(&self, name: &str) -> Result<&[Column], Error> {
+        Ok(self.readable_table(name)?.columns())
+    }
 
     fn find(&self, alloc: Global, name: &str) -> Result<Relation, Error> {
         self.whole(alloc, name)

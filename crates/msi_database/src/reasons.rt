@@ -6,6 +6,8 @@ pub(crate) const UNSOUND: Reason = Reason("the database isn't sound");
 
 pub(crate) const NO_TABLE: Reason = Reason("there is no table of this name");
 
+pub(crate) const UNREADABLE: Reason = Reason("a table has too many rows");
+
 pub(crate) const BARRED: Reason = Reason("this change of a system table is barred");
 
 pub(crate) const TABLE_NAME: Reason = Reason("no table may have this name");

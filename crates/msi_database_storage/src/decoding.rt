@@ -1,6 +1,6 @@
 //! Rows of tables, read from the streams of a container.
 
-ghost use Rattle.std.specs.Prelude.{◌≡◌, [], IfErr, IfOk, MatchOption, Some, unwrap_or};
+ghost use Rattle.std.specs.Prelude.{◌≡◌, [], IfErr, IfOk, MatchOption, Some, is_some, unwrap_or};
 ghost use Rattle.std.specs.FinMap.{entries};
 ghost use Rattle.msi_text_base.specs.Results.{OnlyMemory};
 ghost use Rattle.msi_text_base.specs.declared.errors.ErrorKind.TheVariants.{InvalidData};
@@ -11,7 +11,7 @@ ghost use Rattle.msi_database_storage.specs.Streams.{stored_rows as rows_stored,
 
 use msi_container_format::contents::StreamMap;
 use msi_database_schema::names::table_key;
-use msi_table::parts::read_rows;
+use msi_table::parts::{can_read_rows, read_rows};
 use msi_table::{Table, ValueRef};
 use msi_text::errors::{Error, ErrorKind};
 use msi_text::text::Items;
@@ -29,6 +29,15 @@ fn stream_bytes<'a>(streams: &'a StreamMap, name: &str) -> &'a [u8]
         Some(bytes) => bytes.as_slice(),
         None => &[],
     }
+}
+
+/// Returns whether the stream of a table can be read. One without a stream can, too. The streams' names are a
+/// container's, as each `Name` is. It takes no memory.
+pub fn is_readable(streams: &StreamMap, table: &Table) -> bool
+    requires { HaveShortNames (entries streams.now) }
+    ensures { result ≡ is_some (rows_stored (entries streams.now) table.now.long table.now.columns table.now.name) }
+{
+    can_read_rows(table, stream_bytes(streams, table.name()))
 }
 
 /// Returns the rows that the stream of a table encodes, unless it can't be read. A table without a stream has no

@@ -31,10 +31,24 @@ abbrev pub ◌>>=◌ : {A B : Type 0} → Result A ErrorKind → (A → Result B
 (Ok x) >>= f = f x
 (Err kind) >>= f = Err kind
 
+-- the kind of a refusal, where it is one
+abbrev pub refusal_of : {A : Type 0} → Result A ErrorKind → Option ErrorKind
+refusal_of (Ok x) = None
+refusal_of (Err kind) = Some kind
+
+-- the first of two refusals
+abbrev pub earlier : Option ErrorKind → Option ErrorKind → Option ErrorKind
+earlier None second = second
+earlier (Some kind) second = Some kind
+
 -- why a call is refused that has this answer where memory suffices
 abbrev pub IsRefusal : {A : Type 0} → Result A ErrorKind → ErrorKind → Type 0
 IsRefusal answer kind = (kind ≡ OutOfMemory) ⊎ (answer ≡ Err kind)
 
--- where a refusal holds, the first of them is the answer, and want of memory never comes in its place
+-- a refusal is the answer, and want of memory never comes in its place
+abbrev pub AnswersWith : {A : Type 0} → Option ErrorKind → Result A ErrorKind → Type 0
+AnswersWith refusal answer = IfSome refusal (λ kind. answer ≡ Err kind)
+
+-- where a refusal holds, so is the first of them
 abbrev pub AnswersFirst : {A : Type 0} → Refusals → Result A ErrorKind → Type 0
-AnswersFirst refusals answer = IfSome (first_refusal refusals) (λ kind. answer ≡ Err kind)
+AnswersFirst refusals answer = AnswersWith (first_refusal refusals) answer

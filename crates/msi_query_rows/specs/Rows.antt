@@ -42,6 +42,12 @@ whole_table tables name = or_refused NotFound (tables name) >>=
     λ t. or_refused InvalidData t.rows >>=
     λ rows. Ok (record { name = name; columns = t.columns; rows = rows })
 
+-- the columns of a table that can be read, or its refusal
+abbrev pub columns_read : (List ℕ → Option TableCells) → List ℕ → Result (List ColumnDef) ErrorKind
+columns_read tables name = or_refused NotFound (tables name) >>=
+    λ t. or_refused InvalidData t.rows >>=
+    λ rows. Ok t.columns
+
 -- the cell at a place, if any, else null
 abbrev pub cell_at : List ValueRef → Option ℕ → ValueRef
 cell_at row place = unwrap_or (option_and_then (slice_get row) place) cell.Null

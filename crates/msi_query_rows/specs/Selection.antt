@@ -12,7 +12,8 @@ use Rattle.msi_query.specs.declared.query.JoinKind.TheVariants.{Inner, Left}
 use Rattle.msi_query_expressions.specs.Expressions.{Expression, names_in}
 use Rattle.msi_query_expressions.specs.Conditions.{meets, value_in}
 use Rattle.msi_query.specs.Queries.{Query, Clauses, table, join}
-use Rattle.msi_query_rows.specs.Refusals.{Refusals, unless_refused, or_refused, ◌>>=◌}
+use Rattle.msi_query_rows.specs.Refusals.{Refusals, earlier, refusal_of, unless_refused, or_refused}
+use Rattle.msi_query_rows.specs.Refusals.{◌>>=◌}
 
 -- a table as queries see it; no rows where it can't be read
 pub record TableValues : Type 0 where
@@ -106,3 +107,14 @@ relation_of tables (table name c) =
     λ rows. narrowed c (record { name = name; columns = t.columns; rows = rows })
 relation_of tables (join kind left right on c) =
     relation_of tables left >>= λ l. relation_of tables right >>= λ r. joined_narrowed kind on c l r
+
+abbrev pub is_table : Query → Bool
+is_table (table name c) = true
+is_table (join kind left right on c) = false
+
+-- why a query is refused before a row is read, over tables whose columns are these, if they can be read: for the tables
+-- and the columns of its first query, and of further ones up to the first join, whose own columns are still to be named
+abbrev pub early_refusal : (List ℕ → Result (List ColumnDef) ErrorKind) → Query → Option ErrorKind
+early_refusal columns (table name c) = refusal_of (columns name >>= λ cs. unless_refused (clause_refusals c cs) cs)
+early_refusal columns (join kind left right on c) =
+    earlier (early_refusal columns left) (if is_table left then early_refusal columns right else None)

@@ -35,6 +35,13 @@ pub fn table(name: Text, columns: Items<Column>, long: bool) -> Option<Table>
     Table::of_parts(name, columns, long)
 }
 
+/// Returns whether `read_rows` can read the bytes of a table's stream: they have at most 65536 rows.
+pub fn can_read_rows(table: &Table, bytes: &[u8]) -> bool
+    ensures { result ≡ is_some (rows_spelled table.now bytes.now) }
+{
+    reading::are_rows(table.is_long(), table.columns(), bytes)
+}
+
 /// Returns the rows that the bytes of a table's stream encode; bytes past the last whole row are ignored. Each row
 /// has a cell for each column, and a table that has a column can store them.
 ///

@@ -1,6 +1,6 @@
 //! The rows of a table's stream.
 
-ghost use Rattle.std.specs.Prelude.{◌≡◌, ◌<◌, ◌≤◌, length, sum, IfOk, Some};
+ghost use Rattle.std.specs.Prelude.{◌≡◌, ◌<◌, ◌≤◌, is_some, length, sum, IfOk, Some};
 ghost use Rattle.msi_text_base.specs.Results.{OnlyMemory};
 ghost use Rattle.msi_text_base.specs.declared.errors.ErrorKind.TheVariants.{InvalidData};
 ghost use Rattle.msi_table.specs.Cells.{widths, row_count as count_of, row_in, rows_in};
@@ -39,6 +39,14 @@ fn row_count(long: bool, columns: &[Column], bytes: &[u8]) -> usize
         return 0;
     }
     bytes.len() / width
+}
+
+/// Whether the bytes of a stream encode rows: they aren't too many.
+pub(crate) fn are_rows(long: bool, columns: &[Column], bytes: &[u8]) -> bool
+    requires { length columns.now ≤ most_columns }
+    ensures { result ≡ is_some (rows_in long (types_of columns.now) bytes.now) }
+{
+    row_count(long, columns, bytes) <= MAX_ROWS
 }
 
 /// One row of so many.
