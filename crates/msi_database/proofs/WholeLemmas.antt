@@ -1,6 +1,6 @@
 -- Whole tables of a kept database, and how wide their rows are.
-use Rattle.std.proofs.Common.{◌≡◌, ℕ, Bool, true, false, List, [], ◌∷◌, Option, Some, None, Result, Ok, Err, sym, ap, subst, ◌∙◌, cond, option_map}
-use Rattle.std.specs.Prelude.{bytes_eq, IfSome}
+use Rattle.std.proofs.Common.{◌≡◌, ℕ, Bool, true, false, List, [], ◌∷◌, Option, Some, None, Result, Ok, Err, refl, sym, ap, subst, ◌∙◌, cond, option_map}
+use Rattle.std.specs.Prelude.{bytes_eq, is_some, IfErr, IfSome, IsErrAnd}
 use Rattle.std.specs.List.{AllByRecursion}
 use Rattle.std.specs.FinMap.{find}
 use Rattle.std.specs.Ordering.{eq_by_cmp}
@@ -15,8 +15,8 @@ use Rattle.msi_table_values.specs.Fitting.{FitsRow, FitsTable}
 use Rattle.msi_table.specs.Rows.{AreAsWide}
 use Rattle.msi_table_values.proofs.ColumnTypesLemmas.{length-types_of}
 use Rattle.msi_table_values.proofs.FittingLemmas.{fits_length}
-use Rattle.msi_query_rows.specs.Refusals.{IsRefusal, or_refused, ◌>>=◌}
-use Rattle.msi_query_rows.specs.Rows.{TableCells, RelationCells, whole_table}
+use Rattle.msi_query_rows.specs.Refusals.{AnswersWith, IsRefusal, or_refused, refusal_of, ◌>>=◌}
+use Rattle.msi_query_rows.specs.Rows.{TableCells, RelationCells, columns_read, whole_table}
 use Rattle.msi_query_rows.specs.Width.{AreWide}
 use Rattle.msi_query_rows.proofs.RefusalLemmas.{goes_on-Err}
 use Rattle.msi_database_changes.specs.Database.{table_at, Tables}
@@ -24,6 +24,7 @@ use Rattle.msi_database_storage.specs.Streams.{Streams, stored_rows}
 use Rattle.msi_database_storage.specs.Kept.{Kept, table_kept, table_kept_at, database_kept, AreAsLong}
 use Rattle.msi_database_storage.proofs.TableAtLemmas.{table_at_kept}
 use Rattle.msi_database.specs.Keeping.{IsKeptDatabase, HasFittingRows}
+use Rattle.msi_database.specs.Listed.{rows_at}
 
 abbrev pub relation_at : List ℕ → List ColumnDef → List (List ValueRef) → RelationCells
 relation_at name columns rows = record { name = name; columns = columns; rows = rows }
@@ -66,6 +67,90 @@ pub whole_refused : (pool : Pool) (tables : List TableDef) (streams : Streams) (
 whole_refused pool tables streams name t kind all e refused =
     subst (λ (r : Result RelationCells ErrorKind). IsRefusal r kind) (sym (whole_kept pool tables streams name t all e))
     (goes_on-Err (or_refused InvalidData (stored_rows streams t.long t.columns t.name)) (λ rows. Ok (relation_at name t.columns rows)) kind refused)
+
+-- WHAT READING A TABLE GIVES, EACH TIME F OF ITS COLUMNS AND ROWS
+
+read_where : {B : Type 0} (pool : Pool) (tables : List TableDef) (streams : Streams) (name : List ℕ) (f : List ColumnDef → List (List ValueRef) → B) (o : Option TableDef)
+    → AreAsLong pool.long tables → table_kept_at name tables ≡ o
+    → (or_refused NotFound (table_at name (database_kept pool tables streams)) >>= λ t. or_refused InvalidData t.rows >>= λ rows. Ok (f t.columns rows))
+    ≡ (or_refused NotFound o >>= λ t. or_refused InvalidData (stored_rows streams t.long t.columns t.name) >>= λ rows. Ok (f t.columns rows))
+read_where pool tables streams name f None all e =
+    ap (λ (o : Option TableCells). or_refused NotFound o >>= λ t. or_refused InvalidData t.rows >>= λ rows. Ok (f t.columns rows))
+    (table_at_kept pool tables streams name ∙ ap (option_map (λ t. (table_kept streams pool.long t).1)) e)
+read_where pool tables streams name f (Some t) all e =
+    ap (λ (o : Option TableCells). or_refused NotFound o >>= λ t. or_refused InvalidData t.rows >>= λ rows. Ok (f t.columns rows))
+    (table_at_kept pool tables streams name ∙ ap (option_map (λ t. (table_kept streams pool.long t).1)) e)
+    ∙ ap (λ (o : Option (List (List ValueRef))). or_refused InvalidData o >>= λ rows. Ok (f t.columns rows)) (rows_found streams pool.long name tables t all e)
+
+rows_refused : {B : Type 0} (t : TableDef) (rows : Option (List (List ValueRef))) (f : List ColumnDef → List (List ValueRef) → B) (kind : ErrorKind) → or_refused InvalidData rows ≡ Err kind
+    → (or_refused InvalidData rows >>= λ rows. Ok (f t.columns rows)) ≡ Err kind
+rows_refused t None f kind e = cc
+rows_refused t (Some rows) f kind e = cc
+
+found_refused : {B : Type 0} (streams : Streams) (o : Option TableDef) (f : List ColumnDef → List (List ValueRef) → B) (kind : ErrorKind)
+    → (or_refused NotFound o >>= λ t. or_refused InvalidData (stored_rows streams t.long t.columns t.name)) ≡ Err kind
+    → (or_refused NotFound o >>= λ t. or_refused InvalidData (stored_rows streams t.long t.columns t.name) >>= λ rows. Ok (f t.columns rows)) ≡ Err kind
+found_refused streams None f kind e = cc
+found_refused streams (Some t) f kind e = rows_refused t (stored_rows streams t.long t.columns t.name) f kind e
+
+-- a table that isn't there or can't be read
+pub read_refused : {B : Type 0} (pool : Pool) (tables : List TableDef) (streams : Streams) (name : List ℕ) (f : List ColumnDef → List (List ValueRef) → B) (kind : ErrorKind)
+    → AreAsLong pool.long tables → rows_at tables streams name ≡ Err kind
+    → (or_refused NotFound (table_at name (database_kept pool tables streams)) >>= λ t. or_refused InvalidData t.rows >>= λ rows. Ok (f t.columns rows)) ≡ Err kind
+read_refused pool tables streams name f kind all e =
+    read_where pool tables streams name f (table_kept_at name tables) all refl ∙ found_refused streams (table_kept_at name tables) f kind e
+
+rows_given : {B : Type 0} (t : TableDef) (rows : Option (List (List ValueRef))) (f : List ColumnDef → List (List ValueRef) → B) → is_some rows ≡ true
+    → refusal_of (or_refused InvalidData rows >>= λ rows. Ok (f t.columns rows)) ≡ None
+rows_given t None f e = cc
+rows_given t (Some rows) f e = refl
+
+-- one that can be read isn't refused
+pub read_passes : {B : Type 0} (pool : Pool) (tables : List TableDef) (streams : Streams) (name : List ℕ) (f : List ColumnDef → List (List ValueRef) → B) (t : TableDef)
+    → AreAsLong pool.long tables → table_kept_at name tables ≡ Some t → is_some (stored_rows streams t.long t.columns t.name) ≡ true
+    → refusal_of (or_refused NotFound (table_at name (database_kept pool tables streams)) >>= λ t. or_refused InvalidData t.rows >>= λ rows. Ok (f t.columns rows)) ≡ None
+read_passes pool tables streams name f t all e is =
+    ap refusal_of (read_where pool tables streams name f (Some t) all e) ∙ rows_given t (stored_rows streams t.long t.columns t.name) f is
+
+columns_given : (t : TableDef) (rows : Option (List (List ValueRef))) → is_some rows ≡ true → (or_refused InvalidData rows >>= λ rows. Ok t.columns) ≡ Ok t.columns
+columns_given t None e = cc
+columns_given t (Some rows) e = refl
+
+-- and its columns are lent
+pub columns_lent : (pool : Pool) (tables : List TableDef) (streams : Streams) (name : List ℕ) (t : TableDef)
+    → AreAsLong pool.long tables → table_kept_at name tables ≡ Some t → is_some (stored_rows streams t.long t.columns t.name) ≡ true
+    → columns_read (λ q. table_at q (database_kept pool tables streams)) name ≡ Ok t.columns
+columns_lent pool tables streams name t all e is =
+    read_where pool tables streams name (λ columns rows. columns) (Some t) all e ∙ columns_given t (stored_rows streams t.long t.columns t.name) is
+
+none_first : {A : Type 0} (o : Option ErrorKind) (r : Result A ErrorKind) → o ≡ None → AnswersWith o r
+none_first o r e = rw e tt
+
+-- so nothing is to be answered first
+pub read_first : {B A : Type 0} (pool : Pool) (tables : List TableDef) (streams : Streams) (name : List ℕ) (f : List ColumnDef → List (List ValueRef) → B) (t : TableDef) (r : Result A ErrorKind)
+    → AreAsLong pool.long tables → table_kept_at name tables ≡ Some t → is_some (stored_rows streams t.long t.columns t.name) ≡ true
+    → AnswersWith (refusal_of (or_refused NotFound (table_at name (database_kept pool tables streams)) >>= λ t. or_refused InvalidData t.rows >>= λ rows. Ok (f t.columns rows))) r
+read_first pool tables streams name f t r all e is =
+    none_first (refusal_of (or_refused NotFound (table_at name (database_kept pool tables streams)) >>= λ t. or_refused InvalidData t.rows >>= λ rows. Ok (f t.columns rows))) r
+    (read_passes pool tables streams name f t all e is)
+
+erring_with : {B A : Type 0} (w : Result B ErrorKind) (kind : ErrorKind) (r : Result A ErrorKind) → w ≡ Err kind → IsErrAnd r (λ e. e ≡ kind) → AnswersWith (refusal_of w) r
+erring_with (Ok x) kind r e d = cc
+erring_with (Err l) kind (Ok x) e d = absurd d
+erring_with (Err l) kind (Err m) e d = cc (e, d)
+
+-- and one that isn't is refused with its kind
+pub read_errs : {B A : Type 0} (pool : Pool) (tables : List TableDef) (streams : Streams) (name : List ℕ) (f : List ColumnDef → List (List ValueRef) → B) (kind : ErrorKind) (r : Result A ErrorKind)
+    → AreAsLong pool.long tables → rows_at tables streams name ≡ Err kind → IsErrAnd r (λ e. e ≡ kind)
+    → AnswersWith (refusal_of (or_refused NotFound (table_at name (database_kept pool tables streams)) >>= λ t. or_refused InvalidData t.rows >>= λ rows. Ok (f t.columns rows))) r
+read_errs pool tables streams name f kind r all e d =
+    erring_with (or_refused NotFound (table_at name (database_kept pool tables streams)) >>= λ t. or_refused InvalidData t.rows >>= λ rows. Ok (f t.columns rows)) kind r
+    (read_refused pool tables streams name f kind all e) d
+
+-- an error that is passed on
+pub kind_passed : {A : Type 0} (P : ErrorKind → Type 0) (r : Result A ErrorKind) (kind : ErrorKind) → IsErrAnd r (λ e. e ≡ kind) → P kind → IfErr r P
+kind_passed P (Ok x) kind d p = tt
+kind_passed P (Err l) kind d p = subst P (sym d) p
 
 -- rows that fit are as wide as the columns
 each_wide : (long : Bool) (columns : List ColumnDef) (rows : List (List ValueRef)) → AllByRecursion (FitsRow long (types_of columns)) rows → AreAsWide columns rows

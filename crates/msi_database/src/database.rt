@@ -1,6 +1,6 @@
 //! A database: tables over one pool of texts, whose rows stand in the streams of a container.
 
-ghost use Rattle.std.specs.Prelude.{◌≡◌, Err, IfErr, IfOk, Ok, OnErr, OnOk, Some, option_copied};
+ghost use Rattle.std.specs.Prelude.{◌≡◌, Err, IfErr, IfOk, Ok, OnErr, OnOk, Some, is_some, option_copied, true};
 ghost use Rattle.std.specs.FinMap.{entries};
 ghost use Rattle.msi_table.specs.Rows.{AreAsWide};
 ghost use Rattle.msi_query_rows.specs.Refusals.{AnswersWith, IsRefusal, refusal_of, unless_refused};
@@ -9,8 +9,11 @@ ghost use Rattle.msi_query_rows.specs.Selection.{early_refusal, relation_of};
 ghost use Rattle.msi_database_changes.specs.Changes.{sound_refusal};
 ghost use Rattle.msi_database_changes.specs.Database.{has_table as has_one, is_sound as is_sound_one, table_at};
 ghost use Rattle.msi_database_changes.specs.Database.{values_of};
+ghost use Rattle.msi_database_storage.specs.Kept.{table_kept_at};
+ghost use Rattle.msi_database_storage.specs.StreamNames.{HaveShortNames};
+ghost use Rattle.msi_database_storage.specs.Streams.{stored_rows as rows_stored};
 ghost use Rattle.msi_database.specs.Keeping.{IsKeptDatabase};
-ghost use Rattle.msi_database.specs.Listed.{table_def_at, tables_listed, with_page};
+ghost use Rattle.msi_database.specs.Listed.{rows_at, table_def_at, tables_listed, with_page};
 
 use crate::reasons;
 use msi_container_format::contents::StreamMap;
@@ -27,6 +30,26 @@ use msi_text::stringpool::StringPool;
 use msi_text::text::{IntoText, Items};
 use std::alloc::Global;
 use std::marker::Model;
+
+/// The table of a name among these, if its stream can be read. The streams' names are a container's.
+///
+/// # Errors
+/// `NotFound` where there is none; `InvalidData` where it can't be read.
+fn readable_table<'a>(tables: &'a [Table], streams: &StreamMap, name: &str) -> Result<&'a Table, Error>
+    requires { HaveShortNames (entries streams.now) }
+    ensures found { IfOk result (λ table. table_kept_at name.now tables.now ≡ Some table.now) }
+    ensures readable { IfOk result (λ table.
+        is_some (rows_stored (entries streams.now) table.now.long table.now.columns table.now.name) ≡ true) }
+    ensures kind { IfErr result (λ kind. rows_at tables.now (entries streams.now) name.now ≡ Err kind) }
+{
+    let Some(table) = table_named(tables, name) else {
+        return Err(Error::new(ErrorKind::NotFound, reasons::NO_TABLE));
+    };
+    if !is_readable(streams, table) {
+        return Err(Error::new(ErrorKind::InvalidData, reasons::UNREADABLE));
+    }
+    Ok(table)
+}
 
 /// A database in its container. It has all streams of the container's root, and touches only those of tables.
 pub struct Database {
@@ -146,23 +169,17 @@ impl Database {
         Ok(())
     }
 
-    /// The table of a name, if it can be read.
+    /// The columns of the table of a name.
     ///
     /// # Errors
     /// `NotFound` where there is none; `InvalidData` where it can't be read.
-    fn readable_table(&self, name: &str) -> Result<&Table, Error>
-        ensures ok { IfOk result (λ table. columns_read (λ q. table_at q self.now.database) name.now
-            ≡ Ok table.now.columns) }
-        ensures known { IfOk result (λ table. table_def_at name.now self.now.database ≡ Some table.now) }
+    fn columns_of(&self, name: &str) -> Result<&[Column], Error>
+        ensures ok { IfOk result (λ columns. columns_read (λ q. table_at q self.now.database) name.now
+            ≡ Ok columns.now) }
         ensures kind { IfErr result (λ kind. columns_read (λ q. table_at q self.now.database) name.now ≡ Err kind) }
     {
-        let Some(table) = table_named(self.tables.as_slice(), name) else {
-            return Err(Error::new(ErrorKind::NotFound, reasons::NO_TABLE));
-        };
-        if !is_readable(&self.streams, table) {
-            return Err(Error::new(ErrorKind::InvalidData, reasons::UNREADABLE));
-        }
-        Ok(table)
+        let table = readable_table(self.tables.as_slice(), &self.streams, name)?;
+        Ok(table.columns())
     }
 
     /// The columns and the rows of the table of a name.
@@ -175,7 +192,7 @@ impl Database {
         ensures early {
             AnswersWith (refusal_of (whole_table (λ q. table_at q self.now.database) name.now)) result }
     {
-        let table = self.readable_table(name)?;
+        let table = readable_table(self.tables.as_slice(), &self.streams, name)?;
         let rows = stored_rows(alloc, &self.streams, table)?;
         let columns = copied_columns(alloc, table.columns())?;
         Ok(Relation::new(name.into_text(alloc)?, columns, rows))
@@ -206,7 +223,7 @@ impl Tables for Database {
     ghost table = { λ d name. table_at name d.database };
 
     fn columns(&self, name: &str) -> Result<&[Column], Error> {
-        Ok(self.readable_table(name)?.columns())
+        self.columns_of(name)
     }
 
     fn find(&self, alloc: Global, name: &str) -> Result<Relation, Error> {

@@ -1,11 +1,12 @@
-use Rattle.msi_query_rows.proofs.RefusalLemmas.{err_passed}
+use Rattle.msi_query_rows.proofs.RefusalLemmas.{accepted_first, err_passed, first_passed}
 use Rattle.std.proofs.Common.{true, refl, sym, subst}
 use Rattle.msi_database_changes.specs.Create.{create_table}
 use Rattle.msi_database_changes.specs.Database.{Database}
 use Rattle.msi.specs.State.{parts_of}
 use Rattle.msi.specs.Steps.{changing}
 use Rattle.msi.specs.Whole.{Leaves}
-use Rattle.msi.proofs.ChangeLemmas.{after_create, change_left, change_refused}
+use Rattle.msi_database.specs.Creating.{create_refusals}
+use Rattle.msi.proofs.ChangeLemmas.{after_create, answered_behind, change_left, change_refused}
 use Rattle.msi.proofs.package.Package.make_table.Goals as goal
 
 pub invariant_of-self-2 : goal.invariant_of-self-2
@@ -30,3 +31,13 @@ pub note_change-requires : goal.note_change-requires
 note_change-requires g c = λ used.
     (after_create c.settle.new.database c.create_table.new.self c.settle.new.name true c.settle.ensures.taken c.settle.ensures.kept
     c.args.name.now c.args.columns c.in_ok-is_pool_used.ensures.ok).changed refl
+
+pub returns-in_err-is_pool_used-clause-early : goal.returns-in_err-is_pool_used-clause-early
+returns-in_err-is_pool_used-clause-early g c = let d = c.settle.new.database in let r = c.from_residual-in_err-is_pool_used.result in
+    answered_behind _ c.args.self.now c.self.view_is (λ (d : Database). create_refusals d c.args.name.now c.args.columns) c.in_ok-check_storages.ensures d c.settle.ensures.database r
+    (first_passed _ (create_refusals d.database c.args.name.now c.args.columns) c.in_err-is_pool_used.field-0.0 r c.from_residual-in_err-is_pool_used.ensures.1 c.in_err-is_pool_used.ensures.early)
+
+pub returns-clause-early : goal.returns-clause-early
+returns-clause-early g c = let d = c.settle.new.database in
+    answered_behind _ c.args.self.now c.self.view_is (λ (d : Database). create_refusals d c.args.name.now c.args.columns) c.in_ok-check_storages.ensures d c.settle.ensures.database _
+    (accepted_first (create_refusals d.database c.args.name.now c.args.columns) c.in_ok-is_pool_used.is_pool_used _ c.in_ok-is_pool_used.ensures.early)
