@@ -1,10 +1,10 @@
 //! Tables in a list, which tests select from.
 
-ghost use Rattle.std.specs.Prelude.{◌≡◌, IfOk, IfErr, Ok, Some, option_map, option_and_then, option_copied, slice_get};
+ghost use Rattle.std.specs.Prelude.{◌≡◌, [], Err, IfOk, IfErr, Ok, Some, option_map, option_and_then, option_copied, slice_get};
 ghost use Rattle.std.specs.Prelude.{position, bytes_eq};
 ghost use Rattle.msi_text_base.specs.Results.{OnlyMemory};
-ghost use Rattle.msi_query_rows.specs.Refusals.{IsRefusal};
-ghost use Rattle.msi_query_rows.specs.Rows.{whole_table};
+ghost use Rattle.msi_query_rows.specs.Refusals.{AnswersWith, IsRefusal, refusal_of};
+ghost use Rattle.msi_query_rows.specs.Rows.{columns_read, whole_table};
 ghost use Rattle.msi_query_rows_tests.specs.Tables.{cells_of};
 
 use msi_query_rows::{Relation, Tables};
@@ -12,6 +12,10 @@ use msi_table::parts::copied_columns;
 use msi_table::{Column, ValueRef};
 use msi_text::{Error, ErrorKind, IntoText, Items, Reason, Text};
 use std::alloc::Global;
+
+const NO_TABLE: Reason = Reason("there is no such table");
+
+const UNREADABLE: Reason = Reason("the table can't be read");
 
 /// A table; there are no rows where it can't be read.
 #[derive(Drop)]
@@ -69,10 +73,22 @@ fn copied(
 fn found(alloc: Global, name: &str, kept: &Kept) -> Result<Relation, Error>
     ensures ok { IfOk result (λ relation. whole_table (λ _. Some (cells_of kept.now)) name.now ≡ Ok relation) }
     ensures kind { IfErr result (IsRefusal (whole_table (λ _. Some (cells_of kept.now)) name.now)) }
+    ensures early { AnswersWith (refusal_of (whole_table (λ _. Some (cells_of kept.now)) name.now)) result }
 {
     match &kept.rows {
         Some(rows) => copied(alloc, name, kept.columns.as_slice(), rows.as_slice()),
-        None => Err(Error::new(ErrorKind::InvalidData, Reason("the table can't be read"))),
+        None => Err(Error::new(ErrorKind::InvalidData, UNREADABLE)),
+    }
+}
+
+/// The columns of a table, if it can be read.
+fn readable_columns(kept: &Kept) -> Result<&[Column], Error>
+    ensures ok { IfOk result (λ columns. columns_read (λ _. Some (cells_of kept.now)) [] ≡ Ok columns.now) }
+    ensures kind { IfErr result (λ kind. columns_read (λ _. Some (cells_of kept.now)) [] ≡ Err kind) }
+{
+    match kept.rows {
+        Some(_) => Ok(kept.columns.as_slice()),
+        None => Err(Error::new(ErrorKind::InvalidData, UNREADABLE)),
     }
 }
 
@@ -98,10 +114,17 @@ impl Tables for Listed {
     ghost table = { λ listed name. option_map cells_of (option_and_then (slice_get listed.tables.items)
         (position (λ kept. bytes_eq kept.name name) listed.tables.items)) };
 
+    fn columns(&self, name: &str) -> Result<&[Column], Error> {
+        match kept_named(self.tables.as_slice(), name) {
+            Some(kept) => readable_columns(kept),
+            None => Err(Error::new(ErrorKind::NotFound, NO_TABLE)),
+        }
+    }
+
     fn find(&self, alloc: Global, name: &str) -> Result<Relation, Error> {
         match kept_named(self.tables.as_slice(), name) {
             Some(kept) => found(alloc, name, kept),
-            None => Err(Error::new(ErrorKind::NotFound, Reason("there is no such table"))),
+            None => Err(Error::new(ErrorKind::NotFound, NO_TABLE)),
         }
     }
 }
