@@ -130,7 +130,11 @@ impl<F: Source> Package<F> {
     /// there is a table of this name; `NotFound` if `_Validation` isn't there; then as for the rows that describe the
     /// table, put into `_Columns`, `_Tables` and `_Validation` in turn. If none applies, it fails with `OutOfMemory`,
     /// which may also come in place of the refusals of these rows. Then nothing has changed.
-    pub fn create_table<S: AsStr + Drop>(&mut self, name: S, columns: Vec<Column>) -> Result<(), Error>
+    pub fn create_table<S: AsStr + Drop>(
+        &mut self,
+        name: S,
+        columns: Vec<Column>,
+    ) -> Result<(), Error>
         ensures ok { let change = changing (parts_of self.old.state)
             (λ d. creates.create_table d (S.text name) columns.items) in
             OnOk result (Leaves self.old change self.new) }

@@ -21,8 +21,8 @@ use msi_database_storage::decoding::{is_readable, stored_rows};
 use msi_database_storage::listing::table_named;
 use msi_query::Select;
 use msi_query_rows::{Relation, Tables, select};
-use msi_table::column::Column;
 use msi_table::Table;
+use msi_table::column::Column;
 use msi_table::parts::copied_columns;
 use msi_text::codepage::CodePage;
 use msi_text::errors::{Error, ErrorKind};
@@ -35,7 +35,11 @@ use std::marker::Model;
 ///
 /// # Errors
 /// `NotFound` where there is none; `InvalidData` where it can't be read.
-fn readable_table<'a>(tables: &'a [Table], streams: &StreamMap, name: &str) -> Result<&'a Table, Error>
+fn readable_table<'a>(
+    tables: &'a [Table],
+    streams: &StreamMap,
+    name: &str,
+) -> Result<&'a Table, Error>
     requires { HaveShortNames (entries streams.now) }
     ensures found { IfOk result (λ table. table_kept_at name.now tables.now ≡ Some table.now) }
     ensures readable { IfOk result (λ table.
@@ -189,8 +193,7 @@ impl Database {
     fn whole(&self, alloc: Global, name: &str) -> Result<Relation, Error>
         ensures ok { IfOk result (λ relation. whole_table (λ q. table_at q self.now.database) name.now ≡ Ok relation) }
         ensures kind { IfErr result (IsRefusal (whole_table (λ q. table_at q self.now.database) name.now)) }
-        ensures early {
-            AnswersWith (refusal_of (whole_table (λ q. table_at q self.now.database) name.now)) result }
+        ensures early { AnswersWith (refusal_of (whole_table (λ q. table_at q self.now.database) name.now)) result }
     {
         let table = readable_table(self.tables.as_slice(), &self.streams, name)?;
         let rows = stored_rows(alloc, &self.streams, table)?;
@@ -210,8 +213,7 @@ impl Database {
             ≡ Ok (relation_values self.now.database.pool.places relation)) }
         ensures wide { IfOk result (λ relation. AreAsWide relation.columns relation.rows) }
         ensures kind { IfErr result (IsRefusal (relation_of (values_of self.now.database) query.now)) }
-        ensures early {
-            AnswersWith (early_refusal (columns_read (λ q. table_at q self.now.database)) query.now) result }
+        ensures early { AnswersWith (early_refusal (columns_read (λ q. table_at q self.now.database)) query.now) result }
     {
         select(alloc, &self.pool, self, query)
     }

@@ -17,6 +17,6 @@ returns-clause-ok c = let d = c.self.inside in let table = c.in_ok-table.table.n
 pub returns-in_err-table-clause-kind : goal.returns-in_err-table-clause-kind
 returns-in_err-table-clause-kind c = let d = c.self.inside in let kind = c.in_err-table.field-0.0 in
     let refused : rows_at d.tables (entries d.streams) c.args.name.now ≡ Err kind =
-        sym (ap (λ tables. rows_at tables (entries d.streams) c.args.name.now) c.as_slice.ensures) ∙ c.in_err-table.ensures.kind in
+    sym (ap (λ tables. rows_at tables (entries d.streams) c.args.name.now) c.as_slice.ensures) ∙ c.in_err-table.ensures.kind in
     kind_passed (λ kind. columns_read (λ q. table_at q c.args.self.now.database) c.args.name.now ≡ Err kind) c.from_residual.result kind c.from_residual.ensures.1
     (rw (← c.self.view_is) (read_refused d.pool d.tables (entries d.streams) c.args.name.now (λ columns rows. columns) kind c.self.invariant.as_long refused))

@@ -9,14 +9,14 @@ use Rattle.msi_database.proofs.database.Database.whole.Goals as goal
 pub returns-in_err-table-clause-kind : goal.returns-in_err-table-clause-kind
 returns-in_err-table-clause-kind c = let d = c.self.inside in let kind = c.in_err-table.field-0.0 in
     let refused : rows_at d.tables (entries d.streams) c.args.name.now ≡ Err kind =
-        sym (ap (λ tables. rows_at tables (entries d.streams) c.args.name.now) c.as_slice.ensures) ∙ c.in_err-table.ensures.kind in
+    sym (ap (λ tables. rows_at tables (entries d.streams) c.args.name.now) c.as_slice.ensures) ∙ c.in_err-table.ensures.kind in
     err_passed c.from_residual.result kind _ c.from_residual.ensures.1
     (rw (← c.self.view_is) (inr (read_refused d.pool d.tables (entries d.streams) c.args.name.now (relation_at c.args.name.now) kind c.self.invariant.as_long refused)))
 
 pub returns-in_err-table-clause-early : goal.returns-in_err-table-clause-early
 returns-in_err-table-clause-early c = let d = c.self.inside in let kind = c.in_err-table.field-0.0 in
     let refused : rows_at d.tables (entries d.streams) c.args.name.now ≡ Err kind =
-        sym (ap (λ tables. rows_at tables (entries d.streams) c.args.name.now) c.as_slice.ensures) ∙ c.in_err-table.ensures.kind in
+    sym (ap (λ tables. rows_at tables (entries d.streams) c.args.name.now) c.as_slice.ensures) ∙ c.in_err-table.ensures.kind in
     rw (← c.self.view_is) (read_errs d.pool d.tables (entries d.streams) c.args.name.now (relation_at c.args.name.now) kind c.from_residual.result c.self.invariant.as_long refused c.from_residual.ensures.1)
 
 pub returns-in_err-rows-clause-kind : goal.returns-in_err-rows-clause-kind
