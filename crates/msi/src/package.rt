@@ -181,7 +181,8 @@ impl<F: Source> Package<F> {
     pub fn select_rows(&self, query: Select) -> Result<Rows<'_>, Error>
         ensures ok { IfOk result (Selects (relation_of (values_of self.now.state.kept.database) query)) }
         ensures kind { IfErr result (IsRefusal (relation_of (values_of self.now.state.kept.database) query)) }
-        ensures early { AnswersWith (early_refusal (columns_read (λ q. table_at q self.now.state.kept.database)) query) result }
+        ensures early { let d = self.now.state.kept.database in
+            AnswersWith (early_refusal (columns_read (λ q. table_at q d)) query) result }
     {
         let relation = self.database.select(self.alloc, &query)?;
         relation.into_rows(self.alloc, self.database.pool())

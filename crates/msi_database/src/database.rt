@@ -213,7 +213,8 @@ impl Database {
             ≡ Ok (relation_values self.now.database.pool.places relation)) }
         ensures wide { IfOk result (λ relation. AreAsWide relation.columns relation.rows) }
         ensures kind { IfErr result (IsRefusal (relation_of (values_of self.now.database) query.now)) }
-        ensures early { AnswersWith (early_refusal (columns_read (λ q. table_at q self.now.database)) query.now) result }
+        ensures early { let d = self.now.database in
+            AnswersWith (early_refusal (columns_read (λ q. table_at q d)) query.now) result }
     {
         select(alloc, &self.pool, self, query)
     }

@@ -1,7 +1,7 @@
 //! Tables in a list, which tests select from.
 
-ghost use Rattle.std.specs.Prelude.{◌≡◌, [], Err, IfOk, IfErr, Ok, Some, option_map, option_and_then, option_copied, slice_get};
-ghost use Rattle.std.specs.Prelude.{position, bytes_eq};
+ghost use Rattle.std.specs.Prelude.{◌≡◌, [], Err, IfOk, IfErr, Ok, Some, option_map, option_and_then, option_copied};
+ghost use Rattle.std.specs.Prelude.{position, bytes_eq, slice_get};
 ghost use Rattle.msi_text_base.specs.Results.{OnlyMemory};
 ghost use Rattle.msi_query_rows.specs.Refusals.{AnswersWith, IsRefusal, refusal_of};
 ghost use Rattle.msi_query_rows.specs.Rows.{columns_read, whole_table};
