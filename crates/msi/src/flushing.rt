@@ -4,6 +4,7 @@ ghost use Rattle.std.specs.Prelude.{◌≡◌, ◌&&◌, ◌||◌, IfErr, IfOk, 
 ghost use Rattle.std.specs.Prelude.{true};
 ghost use Rattle.std.specs.Vec.Iter.{into_iter_items};
 ghost use Rattle.msi_text_base.specs.declared.errors.ErrorKind.TheVariants.{InvalidInput, Io};
+ghost use Rattle.msi_text_pool.specs.Pool.{unindexed};
 ghost use Rattle.msi_text_pool.specs.PoolWriting.{is_refused as is_pool_refused};
 ghost use Rattle.msi_summary_properties.specs.PropertyWriting.{is_refused as is_summary_refused};
 ghost use Rattle.msi_container_device.specs.Faults.{is_io};
@@ -69,10 +70,11 @@ fn renewed_summary(
 /// `InvalidInput` where the database's page doesn't carry a text. Else `OutOfMemory`.
 fn add_pool(pool: &StringPool, renewed: &mut Vec<(Name, Bytes)>) -> Result<(), Error>
     ensures ok { OnOk result ((streams : Streams)
-        → pool_put pool.now (with_renewed renewed.old.items streams) ≡ Some (with_renewed renewed.new.items streams)) }
+        → pool_put (unindexed pool.now) (with_renewed renewed.old.items streams)
+        ≡ Some (with_renewed renewed.new.items streams)) }
     ensures others { OnOk result ((d : DatabaseValue) → is_sound d ≡ true
         → AreOthers d renewed.old.items → AreOthers d renewed.new.items) }
-    ensures kind { IfErr result (IsUnwritten (is_pool_refused pool.now)) }
+    ensures kind { IfErr result (IsUnwritten (is_pool_refused (unindexed pool.now))) }
 {
     let texts = Bytes::from_vec(data_stream_of(pool)?);
     let entries = Bytes::from_vec(pool_stream_of(pool)?);
@@ -94,11 +96,11 @@ pub(crate) fn renewed_streams(
     is_pool_changed: bool,
 ) -> Result<Vec<(Name, Bytes)>, Error>
     ensures ok { IfOk result (λ renewed. (streams : Streams)
-        → renewed_over is_summary_lent summary.now is_pool_changed pool.now streams
+        → renewed_over is_summary_lent summary.now is_pool_changed (unindexed pool.now) streams
         ≡ Some (with_renewed renewed.items streams)) }
     ensures others { IfOk result (λ renewed. (d : DatabaseValue) → (is_pool_changed ≡ true → is_sound d ≡ true)
         → AreOthers d renewed.items) }
-    ensures kind { let written = renewed_over is_summary_lent summary.now is_pool_changed pool.now in
+    ensures kind { let written = renewed_over is_summary_lent summary.now is_pool_changed (unindexed pool.now) in
         IfErr result (λ kind. (streams : Streams) → IsRefusal (or_refused InvalidInput (written streams)) kind) }
 {
     let mut renewed = renewed_summary(alloc, summary, is_summary_lent)?;

@@ -3,7 +3,7 @@
 ghost use Rattle.std.specs.Prelude.{◌≡◌, ◌⊎◌, ◌∷◌, [], Err, IfErr, IfOk, None, Ok, Some, false};
 ghost use Rattle.std.specs.FinMap.{entries};
 ghost use Rattle.msi_text_base.specs.declared.errors.ErrorKind.TheVariants.{InvalidData, Io, NotFound, OutOfMemory};
-ghost use Rattle.msi_text_pool.specs.Pool.{Pool, PoolStream};
+ghost use Rattle.msi_text_pool.specs.Pool.{Pool, PoolStream, newly_indexed, unindexed};
 ghost use Rattle.msi_text_base.specs.Results.{IsUnlessMemory};
 ghost use Rattle.msi_container_device.specs.Faults.{is_io};
 ghost use Rattle.msi_container_device.specs.Held.{bytes_told};
@@ -112,8 +112,9 @@ fn pool_stream_in(alloc: Global, contents: &Contents) -> Result<StringPoolBuilde
 /// The first that holds: `NotFound` where the first stream isn't there, `InvalidData` where it doesn't have its form,
 /// `NotFound` where the stream of texts isn't there, `InvalidData` where it has no such texts; `OutOfMemory`.
 fn pool_in(alloc: Global, contents: &Contents) -> Result<StringPool, Error>
-    ensures found { IfOk result (RawPoolIs (entries contents.now.streams)) }
-    ensures only { (raw : Pool) → RawPoolIs (entries contents.now.streams) raw → IsUnlessMemory result raw }
+    ensures found { IfOk result (λ pool. RawPoolIs (entries contents.now.streams) (unindexed pool)) }
+    ensures only { (raw : Pool) → RawPoolIs (entries contents.now.streams) raw
+        → IsUnlessMemory result (newly_indexed raw) }
     ensures kind { IfErr result
         (StopsAmong contents.now (has_pool ∷ reads_pool ∷ has_texts ∷ reads_texts ∷ [])) }
 {

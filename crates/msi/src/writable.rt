@@ -27,7 +27,8 @@ impl<F: Source> Package<F> {
 
 /// Whether each text of the two reads back. It looks at both.
 fn all_read_back(pool: &StringPool, summary: &SummaryInfo) -> bool
-    ensures exact { IsTrue result ↔ (pools.AreWritable pool.now × properties.AreWritable summary.now) }
+    ensures exact { IsTrue result
+        ↔ (pools.AreWritable (pools.unindexed pool.now) × properties.AreWritable summary.now) }
     ensures texts { pools.HaveUtf8Texts pool.now.places × properties.HaveUtf8Texts summary.now.values }
     ensures utf8 { (pool.now.page ≡ Utf8) × (page_of summary.now ≡ Utf8) → IsTrue result }
 {

@@ -4,6 +4,7 @@ ghost use Rattle.std.specs.Prelude.{◌≡◌, ◌∷◌, [], false, IfErr, IfOk
 ghost use Rattle.std.specs.Prelude.{option_copied, true};
 ghost use Rattle.std.specs.FinMap.{entries};
 ghost use Rattle.msi_text_base.specs.Results.{OnlyMemory};
+ghost use Rattle.msi_text_pool.specs.Pool.{unindexed};
 ghost use Rattle.msi_query_rows.specs.Refusals.{IsRefusal, first_refusal, unless_refused};
 ghost use Rattle.msi_database_changes.specs.Changes.{absent_refusals, barred_refusals};
 ghost use Rattle.msi_database_changes.specs.Database.{is_sound as is_sound_one, table_at};
@@ -112,9 +113,9 @@ impl Database {
     pub(crate) fn finish_rows(&mut self, new: RowsAnew) -> Result<bool, Error>
         requires sound { is_sound_one self.old.database ≡ true }
         requires kept { let streams = stored_in (new.stored ∷ []) self.old.streams in
-            AreKept new.pool (tables_listed self.old.database) streams true }
+            AreKept (unindexed new.pool) (tables_listed self.old.database) streams true }
         ensures ok { let streams = stored_in (new.stored ∷ []) self.old.streams in
-            OnOk result (self.new ≡ kept_of new.pool (tables_listed self.old.database) streams) }
+            OnOk result (self.new ≡ kept_of (unindexed new.pool) (tables_listed self.old.database) streams) }
         ensures used { IfOk result (λ used. used ≡ new.is_pool_used) }
         ensures same { OnErr result (self.new ≡ self.old) }
         ensures kind { OnlyMemory result }
@@ -138,9 +139,9 @@ impl Database {
     pub(crate) fn finish_tables(&mut self, new: TablesAnew) -> Result<(), Error>
         requires names { HaveOwnNames new.stored.items }
         requires sound { is_sound_one self.old.database ≡ true }
-        requires kept { AreKept new.pool new.tables (stored_in new.stored.items self.old.streams) true }
+        requires kept { AreKept (unindexed new.pool) new.tables (stored_in new.stored.items self.old.streams) true }
         ensures ok { let streams = stored_in new.stored.items self.old.streams in
-            OnOk result (self.new ≡ kept_of new.pool new.tables streams) }
+            OnOk result (self.new ≡ kept_of (unindexed new.pool) new.tables streams) }
         ensures same { OnErr result (self.new ≡ self.old) }
         ensures kind { OnlyMemory result }
     {

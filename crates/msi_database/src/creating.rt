@@ -1,6 +1,7 @@
 //! Creating a table: it is described in the system tables, and put in among the others.
 
 ghost use Rattle.std.specs.Prelude.{◌≡◌, ◌≤◌, IfErr, IfOk, IsTrue, Ok, OnErr, OnOk, length, true};
+ghost use Rattle.msi_text_pool.specs.Pool.{unindexed};
 ghost use Rattle.msi_text_pool.specs.FirstFit.{most_places};
 ghost use Rattle.msi_text_base.specs.Results.{OnlyMemory};
 ghost use Rattle.msi_table.specs.Tables.{most_columns};
@@ -184,7 +185,8 @@ impl Database {
     /// Those of `create_table`.
     fn table_created(&self, name: &str, columns: Items<Column>) -> Result<Created, Error>
         ensures ok { let change = creates.create_table self.now.database name.now columns in
-            IfOk result (λ made. Makes self.now change made.new.pool made.new.tables made.new.stored.items) }
+            IfOk result (λ made.
+            Makes self.now change (unindexed made.new.pool) made.new.tables made.new.stored.items) }
         ensures used { let change = creates.create_table self.now.database name.now columns in
             IfOk result (λ made. TellsUse change made.is_pool_used) }
         ensures names { IfOk result (λ made. HaveOwnNames made.new.stored.items) }

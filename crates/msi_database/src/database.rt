@@ -2,6 +2,7 @@
 
 ghost use Rattle.std.specs.Prelude.{◌≡◌, Err, IfErr, IfOk, Ok, OnErr, OnOk, Some, is_some, option_copied, true};
 ghost use Rattle.std.specs.FinMap.{entries};
+ghost use Rattle.msi_text_pool.specs.Pool.{unindexed};
 ghost use Rattle.msi_table.specs.Rows.{AreAsWide};
 ghost use Rattle.msi_query_rows.specs.Refusals.{AnswersWith, IsRefusal, refusal_of, unless_refused};
 ghost use Rattle.msi_query_rows.specs.Rows.{columns_read, relation_values, whole_table};
@@ -81,18 +82,19 @@ impl Model for Database {
     ghost use Rattle.std.specs.FinMap.{entries};
     ghost use Rattle.msi_database_storage.specs.Kept.{Kept, kept_of};
     ghost use Rattle.msi_database.specs.Keeping.{AreKept};
+    ghost use Rattle.msi_text_pool.specs.Pool.{unindexed};
 
     ghost Value = { Kept };
 
-    ghost view = { λ d. kept_of d.pool d.tables (entries d.streams) };
+    ghost view = { λ d. kept_of (unindexed d.pool) d.tables (entries d.streams) };
 
-    ghost invariant = { λ d. AreKept d.pool d.tables (entries d.streams) d.is_sound };
+    ghost invariant = { λ d. AreKept (unindexed d.pool) d.tables (entries d.streams) d.is_sound };
 }
 
 impl Database {
     /// Returns the pool of texts.
     pub fn pool(&self) -> &StringPool
-        ensures { result.now ≡ self.now.database.pool }
+        ensures { unindexed result.now ≡ self.now.database.pool }
     {
         &self.pool
     }

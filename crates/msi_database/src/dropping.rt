@@ -2,6 +2,7 @@
 
 ghost use Rattle.std.specs.Prelude.{◌≡◌, ◌++◌, IfErr, IfOk, None, OnErr, OnOk, Some, false, true};
 ghost use Rattle.msi_text_base.specs.Results.{OnlyMemory};
+ghost use Rattle.msi_text_pool.specs.Pool.{unindexed};
 ghost use Rattle.msi_query_rows.specs.Refusals.{AnswersFirst, IsRefusal, first_refusal, unless_refused};
 ghost use Rattle.msi_database_schema.specs.Keys.{is_table_name as is_of_table};
 ghost use Rattle.msi_database_schema.specs.System.{is_system_table as is_of_system};
@@ -139,7 +140,7 @@ impl Database {
         requires named { is_of_table name.now ≡ true }
         requires known { IsKnown self.now.database name.now table.now }
         ensures ok { let change = drops.drop_table self.now.database name.now in IfOk result (λ dropped.
-            Makes self.now change dropped.made.pool dropped.made.tables dropped.made.stored.items) }
+            Makes self.now change (unindexed dropped.made.pool) dropped.made.tables dropped.made.stored.items) }
         ensures used { IfOk result (λ dropped.
             TellsUse (drops.drop_table self.now.database name.now) dropped.is_pool_used) }
         ensures names { IfOk result (λ dropped. HaveOwnNames dropped.made.stored.items) }
@@ -172,7 +173,7 @@ impl Database {
     /// Those of `drop_table`.
     fn table_dropped(&self, name: &str) -> Result<Dropped, Error>
         ensures ok { let change = drops.drop_table self.now.database name.now in IfOk result (λ dropped.
-            Makes self.now change dropped.made.pool dropped.made.tables dropped.made.stored.items) }
+            Makes self.now change (unindexed dropped.made.pool) dropped.made.tables dropped.made.stored.items) }
         ensures used { IfOk result (λ dropped.
             TellsUse (drops.drop_table self.now.database name.now) dropped.is_pool_used) }
         ensures names { IfOk result (λ dropped. HaveOwnNames dropped.made.stored.items) }

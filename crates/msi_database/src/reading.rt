@@ -6,6 +6,7 @@ ghost use Rattle.msi_text_base.specs.declared.errors.ErrorKind.TheVariants.{Inva
 ghost use Rattle.msi_text_base.specs.Results.{OnlyMemory};
 ghost use Rattle.msi_table.specs.Tables.{most_columns};
 ghost use Rattle.msi_table_values.specs.CellValues.{row_values};
+ghost use Rattle.msi_text_pool.specs.Pool.{unindexed};
 ghost use Rattle.msi_query_rows.specs.Refusals.{IsRefusal, or_refused};
 ghost use Rattle.msi_database_schema.specs.System.{validation_columns as columns_of_validation, validation_name};
 ghost use Rattle.msi_database_storage.specs.Kept.{AreAsLong, Kept, schema_listed, table_kept_at};
@@ -131,9 +132,9 @@ fn described_rows(
     requires names { HaveShortNames (entries streams.now) }
     requires few { length columns ≤ most_columns }
     ensures ok { IfOk result (λ rows.
-        described_by (entries streams.now) pool.now columns name.now ≡ Some rows.items) }
+        described_by (entries streams.now) (unindexed pool.now) columns name.now ≡ Some rows.items) }
     ensures kind { IfErr result (IsRefusal (or_refused InvalidData
-        (described_by (entries streams.now) pool.now columns name.now))) }
+        (described_by (entries streams.now) (unindexed pool.now) columns name.now))) }
 {
     let table = named_table(alloc, name, columns, pool.long_string_refs())?;
     let rows = stored_rows(alloc, streams, &table)?;
@@ -155,9 +156,11 @@ fn tables_in(
     requires bytes { HoldBytes (entries streams.now) }
     requires validation { rows_stored (entries streams.now) pool.now.long columns_of_validation validation_name
         ≡ Some validation.now }
-    ensures ok { IfOk result (λ tables. schema_in (entries streams.now) pool.now ≡ Some (schema_listed tables)) }
+    ensures ok { let schema = schema_in (entries streams.now) (unindexed pool.now) in
+        IfOk result (λ tables. schema ≡ Some (schema_listed tables)) }
     ensures long { IfOk result (AreAsLong pool.now.long) }
-    ensures kind { IfErr result (IsRefusal (or_refused InvalidData (schema_in (entries streams.now) pool.now))) }
+    ensures kind { let schema = schema_in (entries streams.now) (unindexed pool.now) in
+        IfErr result (IsRefusal (or_refused InvalidData schema)) }
 {
     let tables = described_rows(alloc, pool, streams, TABLES, tables_columns(alloc)?)?;
     let columns = described_rows(alloc, pool, streams, COLUMNS, columns_columns(alloc)?)?;
@@ -192,9 +195,10 @@ impl Database {
     /// with `OutOfMemory`. That comes too if the rows of a system table name texts that have, each counted as often as
     /// it is named, more than four times the bytes of the pool's texts, 64 bytes for each row and 256 KiB.
     pub fn read(alloc: Global, pool: StringPool, streams: StreamMap) -> Result<Database, Error>
-        ensures ok { IfOk result (IsDatabaseOf pool (entries streams)) }
-        ensures only { IfOk result (λ d. (k : Kept) → IsDatabaseOf pool (entries streams) k → k ≡ d) }
-        ensures kind { IfErr result (IsRefusal (or_refused InvalidData (schema_in (entries streams) pool))) }
+        ensures ok { IfOk result (IsDatabaseOf (unindexed pool) (entries streams)) }
+        ensures only { IfOk result (λ d. (k : Kept) → IsDatabaseOf (unindexed pool) (entries streams) k → k ≡ d) }
+        ensures kind { let schema = schema_in (entries streams) (unindexed pool) in
+            IfErr result (IsRefusal (or_refused InvalidData schema)) }
     {
         look_at(&streams);
         let columns = validation_columns(alloc)?;

@@ -3,6 +3,7 @@
 ghost use Rattle.std.specs.Prelude.{◌≡◌, IfErr, IfOk, None, OnErr, OnOk, Some, bytes_eq, codes, false, true};
 ghost use Rattle.std.specs.List.{list_all};
 ghost use Rattle.msi_text_base.specs.Results.{OnlyMemory};
+ghost use Rattle.msi_text_pool.specs.Pool.{unindexed};
 ghost use Rattle.msi_query_rows.specs.Refusals.{AnswersFirst, IsRefusal, first_refusal};
 ghost use Rattle.msi_query_rows.specs.Selection.{condition_names, has_columns};
 ghost use Rattle.msi_database_schema.specs.System.{is_system_table as is_of_system};
@@ -104,8 +105,8 @@ impl Database {
         requires sound { is_sound_one self.now.database ≡ true }
         requires free { is_of_system insert.table ≡ false }
         requires known { IsKnown self.now.database insert.table table.now }
-        ensures ok { IfOk result (λ new.
-            MakesRows self.now (inserts.insert_rows self.now.database (insert_of insert)) new.pool new.stored) }
+        ensures ok { let change = inserts.insert_rows self.now.database (insert_of insert) in
+            IfOk result (λ new. MakesRows self.now change (unindexed new.pool) new.stored) }
         ensures used { IfOk result (λ new.
             TellsUse (inserts.insert_rows self.now.database (insert_of insert)) new.is_pool_used) }
         ensures kind { IfErr result (IsRefusal (inserts.insert_rows self.now.database (insert_of insert))) }
@@ -131,8 +132,8 @@ impl Database {
     /// # Errors
     /// Those of `insert_rows`.
     fn rows_inserted(&self, insert: InsertParts) -> Result<RowsAnew, Error>
-        ensures ok { IfOk result (λ new.
-            MakesRows self.now (inserts.insert_rows self.now.database (insert_of insert)) new.pool new.stored) }
+        ensures ok { let change = inserts.insert_rows self.now.database (insert_of insert) in
+            IfOk result (λ new. MakesRows self.now change (unindexed new.pool) new.stored) }
         ensures used { IfOk result (λ new.
             TellsUse (inserts.insert_rows self.now.database (insert_of insert)) new.is_pool_used) }
         ensures kind { IfErr result (IsRefusal (inserts.insert_rows self.now.database (insert_of insert))) }
@@ -173,8 +174,8 @@ impl Database {
         requires free { updates.is_update_barred (update_of update.now) ≡ false }
         requires known { IsKnown self.now.database update.now.table table.now }
         requires fits { first_refusal (set_refusals table.now.columns (update_of update.now)) ≡ None }
-        ensures ok { IfOk result (λ new.
-            MakesRows self.now (updates.update_rows self.now.database (update_of update.now)) new.pool new.stored) }
+        ensures ok { let change = updates.update_rows self.now.database (update_of update.now) in
+            IfOk result (λ new. MakesRows self.now change (unindexed new.pool) new.stored) }
         ensures used { IfOk result (λ new.
             TellsUse (updates.update_rows self.now.database (update_of update.now)) new.is_pool_used) }
         ensures kind { IfErr result (IsRefusal (updates.update_rows self.now.database (update_of update.now))) }
@@ -197,8 +198,8 @@ impl Database {
     /// # Errors
     /// Those of `update_rows`.
     fn rows_updated(&self, update: &UpdateParts) -> Result<RowsAnew, Error>
-        ensures ok { IfOk result (λ new.
-            MakesRows self.now (updates.update_rows self.now.database (update_of update.now)) new.pool new.stored) }
+        ensures ok { let change = updates.update_rows self.now.database (update_of update.now) in
+            IfOk result (λ new. MakesRows self.now change (unindexed new.pool) new.stored) }
         ensures used { IfOk result (λ new.
             TellsUse (updates.update_rows self.now.database (update_of update.now)) new.is_pool_used) }
         ensures kind { IfErr result (IsRefusal (updates.update_rows self.now.database (update_of update.now))) }
@@ -239,8 +240,8 @@ impl Database {
         requires free { is_of_system delete.now.table ≡ false }
         requires known { IsKnown self.now.database delete.now.table table.now }
         requires fits { has_columns table.now.columns (condition_names delete.now.condition) ≡ true }
-        ensures ok { IfOk result (λ new.
-            MakesRows self.now (deletes.delete_rows self.now.database (delete_of delete.now)) new.pool new.stored) }
+        ensures ok { let change = deletes.delete_rows self.now.database (delete_of delete.now) in
+            IfOk result (λ new. MakesRows self.now change (unindexed new.pool) new.stored) }
         ensures used { IfOk result (λ new.
             TellsUse (deletes.delete_rows self.now.database (delete_of delete.now)) new.is_pool_used) }
         ensures kind { OnlyMemory result }
@@ -262,8 +263,8 @@ impl Database {
     /// # Errors
     /// Those of `delete_rows`.
     fn rows_deleted(&self, delete: &DeleteParts) -> Result<RowsAnew, Error>
-        ensures ok { IfOk result (λ new.
-            MakesRows self.now (deletes.delete_rows self.now.database (delete_of delete.now)) new.pool new.stored) }
+        ensures ok { let change = deletes.delete_rows self.now.database (delete_of delete.now) in
+            IfOk result (λ new. MakesRows self.now change (unindexed new.pool) new.stored) }
         ensures used { IfOk result (λ new.
             TellsUse (deletes.delete_rows self.now.database (delete_of delete.now)) new.is_pool_used) }
         ensures kind { IfErr result (IsRefusal (deletes.delete_rows self.now.database (delete_of delete.now))) }

@@ -3,6 +3,7 @@
 ghost use Rattle.std.specs.Prelude.{◌≡◌, false, Some, IfOk, IfErr, OnOk, unwrap_or};
 ghost use Rattle.std.specs.List.{fold};
 ghost use Rattle.msi_text_pool.specs.FirstFit.{given_back};
+ghost use Rattle.msi_text_pool.specs.Pool.{unindexed};
 ghost use Rattle.msi_text_base.specs.Results.{OnlyMemory};
 ghost use Rattle.msi_text_base.specs.declared.errors.ErrorKind.TheVariants.{InvalidInput};
 ghost use Rattle.msi_query_rows.specs.Refusals.{IsRefusal, or_refused};
@@ -26,16 +27,17 @@ pub struct PoolInUse {
 
 impl Model for PoolInUse {
     ghost use Rattle.msi_database_changes.specs.Texts.{UsedPool};
+    ghost use Rattle.msi_text_pool.specs.Pool.{unindexed};
 
     ghost Value = { UsedPool };
 
-    ghost view = { λ p. record { pool = p.pool; is_used = p.is_used } };
+    ghost view = { λ p. record { pool = unindexed p.pool; is_used = p.is_used } };
 }
 
 impl PoolInUse {
     /// Returns a pool that the change has not used yet.
     pub fn new(pool: StringPool) -> PoolInUse
-        ensures { result ≡ record { pool = pool; is_used = false } }
+        ensures { result ≡ record { pool = unindexed pool; is_used = false } }
     {
         PoolInUse {
             pool,
@@ -45,7 +47,7 @@ impl PoolInUse {
 
     /// Returns the pool.
     pub fn pool(&self) -> &StringPool
-        ensures { result.now ≡ self.now.pool }
+        ensures { unindexed result.now ≡ self.now.pool }
     {
         &self.pool
     }
@@ -59,7 +61,7 @@ impl PoolInUse {
 
     /// Returns the pool, moved out.
     pub fn into_pool(self) -> StringPool
-        ensures { result ≡ self.pool }
+        ensures { unindexed result ≡ self.pool }
     {
         let PoolInUse {
             pool,
@@ -189,9 +191,7 @@ impl PoolInUse {
 /// # Errors
 /// `OutOfMemory`.
 fn give_back(pool: &mut StringPool, reference: StringRef) -> Result<(), Error>
-    ensures ok { OnOk result (pool.new ≡ record pool.old {
-      places = unwrap_or (given_back pool.old.places reference) pool.old.places;
-    }) }
+    ensures ok { OnOk result (pool.new.places ≡ unwrap_or (given_back pool.old.places reference) pool.old.places) }
     ensures kind { OnlyMemory result }
     ensures page { pool.new.page ≡ pool.old.page }
     ensures long { pool.new.long ≡ pool.old.long }

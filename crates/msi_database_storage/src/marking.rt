@@ -2,7 +2,7 @@
 
 ghost use Rattle.std.specs.Prelude.{◌≡◌, ◌∷◌, [], ◌≤◌, Bool, IfOk, OnOk, false, length, map, replicate};
 ghost use Rattle.std.specs.FinMap.{entries};
-ghost use Rattle.msi_text_pool.specs.Pool.{CountsFit};
+ghost use Rattle.msi_text_pool.specs.Pool.{CountsFit, unindexed};
 ghost use Rattle.msi_text_base.specs.Results.{OnlyMemory};
 ghost use Rattle.msi_database_changes.specs.Database.{numbers_of_rows};
 ghost use Rattle.msi_database_storage.specs.Kept.{AreAsLong, table_kept};
@@ -135,7 +135,8 @@ pub fn with_named_texts(
     requires names { HaveShortNames (entries streams.now) }
     requires long { AreAsLong pool.long tables.now }
     ensures ok { IfOk result (λ shown.
-        shown ≡ pool_shown (numbers_named (entries streams.now) pool.long tables.now rows.now) pool) }
+        let numbers = numbers_named (entries streams.now) pool.long tables.now rows.now in
+        unindexed shown ≡ pool_shown numbers (unindexed pool)) }
     ensures few { IfOk result (λ _. length pool.places ≤ 16777215) }
     ensures counts { IfOk result (λ _. CountsFit pool.places) }
     ensures kind { OnlyMemory result }

@@ -5,6 +5,7 @@ ghost use Rattle.std.specs.Prelude.{length, true, bytes_eq};
 ghost use Rattle.std.specs.FinMap.{entries};
 ghost use Rattle.std.specs.Option as options;
 ghost use Rattle.msi_text_pool.specs.FirstFit.{most_places as most_of};
+ghost use Rattle.msi_text_pool.specs.Pool.{unindexed};
 ghost use Rattle.msi_text_base.specs.Results.{OnlyMemory};
 ghost use Rattle.msi_database_schema.specs.System.{validation_columns, validation_name};
 ghost use Rattle.msi_database_changes.specs.Database.{are_alike as alike, is_sound as is_sound_one, names_are_numbers};
@@ -221,10 +222,11 @@ pub fn are_sound(
 ) -> Result<bool, Error>
     requires names { HaveShortNames (entries streams.now) }
     requires long { AreAsLong pool.now.long tables.now }
-    requires numbers { names_are_numbers (database_kept pool.now tables.now (entries streams.now)) ≡ true }
+    requires numbers { names_are_numbers (database_kept (unindexed pool.now) tables.now (entries streams.now)) ≡ true }
     requires unlisted { unlisted.now ≡ unlisted_kept (entries streams.now) pool.now.long tables.now }
     requires standard { standard.now ≡ validation_columns }
-    ensures ok { IfOk result (λ sound. sound ≡ is_sound_one (database_kept pool.now tables.now (entries streams.now))) }
+    ensures ok { let database = database_kept (unindexed pool.now) tables.now (entries streams.now) in
+        IfOk result (λ sound. sound ≡ is_sound_one database) }
     ensures kind { OnlyMemory result }
 {
     if !fits_width(pool) {

@@ -8,6 +8,7 @@ ghost use Rattle.std.specs.Ordering.{as_partial_cmp, eq_by_cmp};
 ghost use Rattle.std.proofs.Common.{refl};
 ghost use Rattle.msi_text_base.specs.Results.{OnlyMemory};
 ghost use Rattle.msi_text_base.specs.declared.errors.ErrorKind.TheVariants.{InvalidData, InvalidInput};
+ghost use Rattle.msi_text_pool.specs.Pool.{unindexed};
 ghost use Rattle.msi_table_values.specs.Values.{value_cmp, is_null, int_of, text_of, value_hash_input};
 ghost use Rattle.msi_table_values.specs.CellOrder.{cell_cmp};
 ghost use Rattle.msi_table_values.specs.CellValues.{value_of_cell, cell_of_value, places_without};
@@ -199,8 +200,8 @@ pub enum ValueRef {
 }
 
 impl ValueRef {
-    /// Returns the cell of a value, whose text the pool takes. If it fails, the pool is as before; only a text can be
-    /// refused, as nothing else takes memory.
+    /// Returns the cell of a value, whose text the pool takes. If it fails, the pool is as before, but for its count
+    /// of operations; only a text can be refused, as nothing else takes memory.
     ///
     /// # Errors
     /// Fails with `InvalidInput` if the pool is full, or with `OutOfMemory`.
@@ -209,7 +210,7 @@ impl ValueRef {
             cell_of_value pool.old.long pool.old.places value ≡ Some (cell, pool.new.places)) }
         ensures kind { FailsWith InvalidInput result (cell_of_value pool.old.long pool.old.places value) }
         ensures only_texts { OnErr result (IsSome (text_of value)) }
-        ensures err { OnErr result (pool.new ≡ pool.old) }
+        ensures err { OnErr result (unindexed pool.new ≡ unindexed pool.old) }
         ensures page { pool.new.page ≡ pool.old.page }
         ensures long { pool.new.long ≡ pool.old.long }
     {
@@ -221,14 +222,15 @@ impl ValueRef {
         }
     }
 
-    /// Gives back the place of the cell's text, if it has one. If it fails, the pool is as before.
+    /// Gives back the place of the cell's text, if it has one. If it fails, the pool is as before, but for its
+    /// count of operations.
     ///
     /// # Errors
     /// Fails with `InvalidData` if that place is free or past the end, and otherwise with `OutOfMemory`.
     pub fn remove(self, pool: &mut StringPool) -> Result<(), Error>
         ensures ok { OnOk result (places_without pool.old.places self ≡ Some pool.new.places) }
         ensures kind { FailsWith InvalidData result (places_without pool.old.places self) }
-        ensures err { OnErr result (pool.new ≡ pool.old) }
+        ensures err { OnErr result (unindexed pool.new ≡ unindexed pool.old) }
         ensures page { pool.new.page ≡ pool.old.page }
         ensures long { pool.new.long ≡ pool.old.long }
     {

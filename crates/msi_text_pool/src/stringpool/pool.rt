@@ -3,7 +3,7 @@
 ghost use Rattle.std.specs.Prelude.{◌≡◌, IfOk, IfErr, OnOk, OnErr, Some, is_some, if◌then◌else◌, [], false, length};
 ghost use Rattle.std.specs.Prelude.{string_bytes, ◌≤◌, vec_len};
 ghost use Rattle.std.specs.Option.{option_copied};
-ghost use Rattle.msi_text_pool.specs.Pool.{CountsFit, without_unnamed_texts};
+ghost use Rattle.msi_text_pool.specs.Pool.{CountsFit, newly_indexed, unindexed, without_unnamed_texts};
 ghost use Rattle.msi_text_pool.specs.FirstFit.{taken, given_back};
 ghost use Rattle.msi_text_pool.specs.FirstFitLaws.{Holds, place_at, text_at, count_at};
 ghost use Rattle.msi_text_base.specs.Results.{OnlyMemory};
@@ -20,7 +20,8 @@ use std::marker::Model;
 /// The bit above the page's id that says that references are long.
 pub(crate) const LONG: u32 = 1 << 31;
 
-/// The string pool: texts by number. Contracts see its page, whether references are long, and its places.
+/// The string pool: texts by number. Contracts see its page, whether references are long, its places, and how many
+/// operations the last `incref` or `decref` made on them.
 pub struct StringPool {
     codepage: CodePage,
     long: bool,
@@ -39,12 +40,17 @@ impl Drop for StringPool {
 }
 
 impl Model for StringPool {
-    ghost use Rattle.msi_text_pool.specs.Pool.{Pool, CountsFit};
+    ghost use Rattle.msi_text_pool.specs.Pool.{IndexedPool};
     ghost use Rattle.msi_text_pool.specs.Indexing.{IsKept};
 
-    ghost Value = { Pool };
+    ghost Value = { IndexedPool };
 
-    ghost view = { λ p. record { page = p.codepage; long = p.long; places = p.indexed.places } };
+    ghost view = { λ p. record {
+      page = p.codepage;
+      long = p.long;
+      places = p.indexed.places;
+      operations = p.indexed.operations;
+    } };
 
     ghost invariant = { λ p. IsKept p.indexed };
 }
@@ -52,7 +58,7 @@ impl Model for StringPool {
 impl StringPool {
     /// Returns an empty pool of a page, with short references.
     pub fn new(alloc: Global, page: CodePage) -> StringPool
-        ensures { result ≡ record { page = page; long = false; places = [] } }
+        ensures { result ≡ newly_indexed (record { page = page; long = false; places = [] }) }
     {
         StringPool {
             codepage: page,
@@ -69,7 +75,8 @@ impl StringPool {
     ) -> Result<StringPool, Error>
         requires most { vec_len places ≤ 16777215 }
         requires counts { CountsFit places.items }
-        ensures ok { IfOk result (λ pool. pool ≡ record { page = codepage; long = long; places = places.items }) }
+        ensures ok { IfOk result (λ pool.
+            pool ≡ newly_indexed (record { page = codepage; long = long; places = places.items })) }
         ensures kind { OnlyMemory result }
     {
         Ok(StringPool {
@@ -141,7 +148,7 @@ impl StringPool {
     /// # Errors
     /// Fails with `OutOfMemory`.
     pub fn clone(&self) -> Result<StringPool, Error>
-        ensures ok { IfOk result (λ pool. pool ≡ self.now) }
+        ensures ok { IfOk result (λ pool. pool ≡ newly_indexed (unindexed self.now)) }
         ensures kind { OnlyMemory result }
     {
         Ok(StringPool {
@@ -166,9 +173,10 @@ impl StringPool {
     }
 
     /// Returns how many operations the last `incref` or `decref` made on the places and their indexes, also if it
-    /// failed: at most 8. It is 0 before the first, and in a clone. Equal pools may differ in it.
+    /// failed: at most 8. It is 0 before the first, and in a clone.
     pub fn operations(&self) -> u32
-        ensures { result ≤ 8 }
+        ensures value { result ≡ self.now.operations }
+        ensures most { result ≤ 8 }
     {
         self.indexed.operations()
     }
@@ -178,14 +186,16 @@ impl StringPool {
     ///
     /// # Errors
     /// Fails with `InvalidInput` if the pool is full, and otherwise with `OutOfMemory`. Then the pool is as it was,
-    /// and the text is dropped.
+    /// but for `operations`, and the text is dropped.
     pub fn incref(&mut self, text: String) -> Result<StringRef, Error>
         ensures ok { IfOk result (λ number.
             taken self.old.long self.old.places (string_bytes text) ≡ Some (number, self.new.places)) }
         ensures holds { IfOk result (λ number. Holds self.new.places number (string_bytes text)) }
         ensures kind { let room = is_some (taken self.old.long self.old.places (string_bytes text)) in
             IfErr result (λ kind. kind ≡ (if room then OutOfMemory else InvalidInput)) }
-        ensures err { OnErr result (self.new ≡ self.old) }
+        ensures err { OnErr result (unindexed self.new ≡ unindexed self.old) }
+        ensures most { self.new.operations ≤ 8 }
+        ensures least { OnOk result (1 ≤ self.new.operations) }
         ensures page { self.new.page ≡ self.old.page }
         ensures long { self.new.long ≡ self.old.long }
     {
@@ -197,10 +207,12 @@ impl StringPool {
     ///
     /// # Errors
     /// Fails with `InvalidData` past the end and for a free place, and otherwise with `OutOfMemory`. Then the pool is
-    /// as it was.
+    /// as it was, but for `operations`.
     pub fn decref(&mut self, reference: StringRef) -> Result<(), Error>
         ensures ok { OnOk result (given_back self.old.places reference ≡ Some self.new.places) }
-        ensures err { OnErr result (self.new ≡ self.old) }
+        ensures err { OnErr result (unindexed self.new ≡ unindexed self.old) }
+        ensures most { self.new.operations ≤ 8 }
+        ensures least { OnOk result (1 ≤ self.new.operations) }
         ensures kind { let used = is_some (given_back self.old.places reference) in
             IfErr result (λ kind. kind ≡ (if used then OutOfMemory else InvalidData)) }
         ensures page { self.new.page ≡ self.old.page }

@@ -4,7 +4,8 @@ ghost use Rattle.std.specs.Prelude.{◌≡◌, ◌⊎◌, ◌<◌, ◌^◌, List
 ghost use Rattle.msi_text_base.specs.declared.errors.ErrorKind.TheVariants.{Io, InvalidData, OutOfMemory};
 ghost use Rattle.msi_text_base.specs.Pages.{page_with_id, text_in};
 ghost use Rattle.msi_text_pool.specs.Pool as pools;
-ghost use Rattle.msi_text_pool.specs.Pool.{CountsFit, IsPoolStream, PoolStream, SpellsEntries, SpellsTexts, pool_with};
+ghost use Rattle.msi_text_pool.specs.Pool.{CountsFit, IsPoolStream, PoolStream, SpellsEntries, SpellsTexts};
+ghost use Rattle.msi_text_pool.specs.Pool.{newly_indexed, pool_with};
 ghost use Rattle.msi_text_pool.specs.PoolReading.{entry_at, place_in_front, header_in};
 ghost use Rattle.msi_text_base.specs.Results.{Gives, IsStreamFault, IsUnlessFault, IsUnlessMemory};
 
@@ -88,10 +89,12 @@ impl StringPoolBuilder {
     ) -> Result<StringPool, Error>
         // The pool has the texts that are spelled.
         ensures found { IfSome (R.remaining reader) (λ bytes. IfOk result (λ pool.
-            (pool ≡ pool_with self pool.places) × SpellsTexts self.page bytes self.entries pool.places)) }
+            (pool ≡ newly_indexed (pool_with self pool.places))
+            × SpellsTexts self.page bytes self.entries pool.places)) }
         // Texts that are spelled are read, and nothing else.
         ensures only { IfSome (R.remaining reader) (λ bytes. (places : List pools.Place)
-            → SpellsTexts self.page bytes self.entries places → IsUnlessFault result (pool_with self places)) }
+            → SpellsTexts self.page bytes self.entries places
+            → IsUnlessFault result (newly_indexed (pool_with self places))) }
         ensures kinds { IfErr result (λ kind. IsStreamFault kind) }
     {
         let bytes = bytes_of(alloc, reader)?;
@@ -140,9 +143,10 @@ pub fn pool_builder_of(alloc: Global, bytes: &[u8]) -> Result<StringPoolBuilder,
 /// `OutOfMemory`.
 pub fn pool_of(alloc: Global, stream: StringPoolBuilder, bytes: &[u8]) -> Result<StringPool, Error>
     ensures found { IfOk result (λ pool.
-        (pool ≡ pool_with stream pool.places) × SpellsTexts stream.page bytes.now stream.entries pool.places) }
-    ensures only { (places : List pools.Place)
-        → SpellsTexts stream.page bytes.now stream.entries places → IsUnlessMemory result (pool_with stream places) }
+        (pool ≡ newly_indexed (pool_with stream pool.places))
+        × SpellsTexts stream.page bytes.now stream.entries pool.places) }
+    ensures only { (places : List pools.Place) → SpellsTexts stream.page bytes.now stream.entries places
+        → IsUnlessMemory result (newly_indexed (pool_with stream places)) }
     ensures kinds { IfErr result (λ kind. (kind ≡ InvalidData) ⊎ (kind ≡ OutOfMemory)) }
 {
     let places = places_of(alloc, stream.codepage, stream.entries.as_slice(), bytes)?;

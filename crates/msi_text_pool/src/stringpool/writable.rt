@@ -3,7 +3,7 @@
 ghost use Rattle.std.specs.Prelude.{◌<◌, ◌↔◌, IsTrue, IsUtf8};
 ghost use Rattle.std.specs.List.{AllByRecursion};
 ghost use Rattle.msi_text_base.specs.Pages.{IsWritable};
-ghost use Rattle.msi_text_pool.specs.Pool.{AreWritable, HaveUtf8Texts};
+ghost use Rattle.msi_text_pool.specs.Pool.{AreWritable, HaveUtf8Texts, unindexed};
 
 use crate::stringpool::places::Place;
 use crate::stringpool::pool::StringPool;
@@ -13,7 +13,7 @@ impl StringPool {
     /// Returns whether each text that a cell refers to reads back as it was, once it is written in the page. It takes
     /// no memory.
     pub fn is_writable(&self) -> bool
-        ensures exact { IsTrue result ↔ AreWritable self.now }
+        ensures exact { IsTrue result ↔ AreWritable (unindexed self.now) }
         ensures utf8 { HaveUtf8Texts self.now.places }
     {
         all_read_back(self.codepage(), self.places())

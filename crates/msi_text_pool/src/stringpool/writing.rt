@@ -6,7 +6,7 @@ ghost use Rattle.std.specs.List.{flat_map};
 ghost use Rattle.std.specs.Io.KnownBytes.{Appends};
 ghost use Rattle.msi_text_base.specs.Faults.{AppendsPart};
 ghost use Rattle.msi_text_base.specs.Pages.{page_id};
-ghost use Rattle.msi_text_pool.specs.Pool.{place_bytes, plain_entry, pool_stream, data_stream};
+ghost use Rattle.msi_text_pool.specs.Pool.{place_bytes, plain_entry, pool_stream, data_stream, unindexed};
 ghost use Rattle.msi_text_pool.specs.PoolLaws.{ReadsBack};
 ghost use Rattle.msi_text_pool.specs.PoolWriting.{is_refused_spelling, has_refused_text, is_refused, piece_of};
 ghost use Rattle.msi_text_pool.specs.PoolWriting.{entry_in};
@@ -38,13 +38,13 @@ impl StringPool {
     /// nothing is written then. Fails with `OutOfMemory`, or with `Io` if the writer fails. It may then have taken a
     /// prefix of the bytes.
     pub fn write_pool<W: Write>(&self, writer: &mut W) -> Result<(), Error>
-        ensures ok { OnOk result ((bytes : List ℕ) × (pool_stream self.now ≡ Some bytes)
+        ensures ok { OnOk result ((bytes : List ℕ) × (pool_stream (unindexed self.now) ≡ Some bytes)
             × Appends (W.contents writer.old) (W.contents writer.new) bytes) }
-        ensures spelled { OnOk result (ReadsBack self.now) }
-        ensures refused { IsErrOf result InvalidInput ↔ IsTrue (is_refused self.now) }
+        ensures spelled { OnOk result (ReadsBack (unindexed self.now)) }
+        ensures refused { IsErrOf result InvalidInput ↔ IsTrue (is_refused (unindexed self.now)) }
         ensures unwritten { IsErrOf result InvalidInput → writer.new ≡ writer.old }
-        ensures part { OnErr result
-            (AppendsPart (W.contents writer.old) (W.contents writer.new) (unwrap_or (pool_stream self.now) [])) }
+        ensures part { let bytes = unwrap_or (pool_stream (unindexed self.now)) [] in
+            OnErr result (AppendsPart (W.contents writer.old) (W.contents writer.new) bytes) }
         ensures kinds { IfErr result (λ kind. (kind ≡ InvalidInput) ⊎ (kind ≡ OutOfMemory) ⊎ (kind ≡ Io)) }
     {
         let bytes = pool_stream_of(self)?;
@@ -58,13 +58,13 @@ impl StringPool {
     /// nothing is written then. Fails with `OutOfMemory`, or with `Io` if the writer fails. It may then have taken a
     /// prefix of the bytes.
     pub fn write_data<W: Write>(&self, writer: &mut W) -> Result<(), Error>
-        ensures ok { OnOk result ((bytes : List ℕ) × (data_stream self.now ≡ Some bytes)
+        ensures ok { OnOk result ((bytes : List ℕ) × (data_stream (unindexed self.now) ≡ Some bytes)
             × Appends (W.contents writer.old) (W.contents writer.new) bytes) }
-        ensures spelled { OnOk result (ReadsBack self.now) }
-        ensures refused { IsErrOf result InvalidInput ↔ IsTrue (is_refused self.now) }
+        ensures spelled { OnOk result (ReadsBack (unindexed self.now)) }
+        ensures refused { IsErrOf result InvalidInput ↔ IsTrue (is_refused (unindexed self.now)) }
         ensures unwritten { IsErrOf result InvalidInput → writer.new ≡ writer.old }
-        ensures part { OnErr result
-            (AppendsPart (W.contents writer.old) (W.contents writer.new) (unwrap_or (data_stream self.now) [])) }
+        ensures part { let bytes = unwrap_or (data_stream (unindexed self.now)) [] in
+            OnErr result (AppendsPart (W.contents writer.old) (W.contents writer.new) bytes) }
         ensures kinds { IfErr result (λ kind. (kind ≡ InvalidInput) ⊎ (kind ≡ OutOfMemory) ⊎ (kind ≡ Io)) }
     {
         let bytes = data_stream_of(self)?;
@@ -78,9 +78,9 @@ impl StringPool {
 /// Fails with `InvalidInput` if the page can't encode a text in use, or if its encoding has 2^32 bytes or more.
 /// Otherwise it fails with `OutOfMemory`.
 pub fn pool_stream_of(pool: &StringPool) -> Result<Vec<u8>, Error>
-    ensures ok { IfOk result (λ bytes. pool_stream pool.now ≡ Some bytes.items) }
-    ensures spelled { OnOk result (ReadsBack pool.now) }
-    ensures refused { IsErrOf result InvalidInput ↔ IsTrue (is_refused pool.now) }
+    ensures ok { IfOk result (λ bytes. pool_stream (unindexed pool.now) ≡ Some bytes.items) }
+    ensures spelled { OnOk result (ReadsBack (unindexed pool.now)) }
+    ensures refused { IsErrOf result InvalidInput ↔ IsTrue (is_refused (unindexed pool.now)) }
     ensures kinds { IfErr result (λ kind. (kind ≡ InvalidInput) ⊎ (kind ≡ OutOfMemory)) }
 {
     let page = pool.codepage();
@@ -100,9 +100,9 @@ pub fn pool_stream_of(pool: &StringPool) -> Result<Vec<u8>, Error>
 /// Fails with `InvalidInput` if the page can't encode a text in use, or if its encoding has 2^32 bytes or more.
 /// Otherwise it fails with `OutOfMemory`.
 pub fn data_stream_of(pool: &StringPool) -> Result<Vec<u8>, Error>
-    ensures ok { IfOk result (λ bytes. data_stream pool.now ≡ Some bytes.items) }
-    ensures spelled { OnOk result (ReadsBack pool.now) }
-    ensures refused { IsErrOf result InvalidInput ↔ IsTrue (is_refused pool.now) }
+    ensures ok { IfOk result (λ bytes. data_stream (unindexed pool.now) ≡ Some bytes.items) }
+    ensures spelled { OnOk result (ReadsBack (unindexed pool.now)) }
+    ensures refused { IsErrOf result InvalidInput ↔ IsTrue (is_refused (unindexed pool.now)) }
     ensures kinds { IfErr result (λ kind. (kind ≡ InvalidInput) ⊎ (kind ≡ OutOfMemory)) }
 {
     let page = pool.codepage();

@@ -1,4 +1,5 @@
 use Rattle.std.proofs.Common.{◌≡◌, ◌∙◌, ap, sym, subst, Some, None}
+use Rattle.msi_text_pool.specs.Pool.{unindexed}
 use Rattle.std.specs.Prelude.{map, option_map}
 use Rattle.std.specs.FinMap.{entries}
 use Rattle.msi_table_values.specs.CellValues.{row_values}
@@ -9,7 +10,7 @@ use Rattle.msi_database.proofs.ReadingLemmas.{described_fails, schema_is, told_k
 use Rattle.msi_database.proofs.reading.tables_in.Goals as goal
 
 pub returns-clause-ok : goal.returns-clause-ok
-returns-clause-ok c = let streams = entries c.args.streams.now in let raw = c.args.pool.now in
+returns-clause-ok c = let streams = entries c.args.streams.now in let raw = unindexed c.args.pool.now in
     let tables : described_by streams raw tables_columns tables_name ≡ Some c.in_ok-tables.tables.items =
     ap (λ columns. described_by streams raw columns tables_name) (sym c.in_ok-tables_columns.ensures.ok) ∙ c.in_ok-tables.ensures.ok in
     let columns : described_by streams raw columns_columns columns_name ≡ Some c.in_ok-columns.columns.items =
@@ -21,10 +22,10 @@ returns-clause-ok c = let streams = entries c.args.streams.now in let raw = c.ar
     c.tables_described.ensures
 
 pub returns-clause-long : goal.returns-clause-long
-returns-clause-long c = told_long (entries c.args.streams.now) c.args.pool.now c.tables_described.result c.long_string_refs.result c.new-rows.result c.long_string_refs.ensures c.tables_described.ensures
+returns-clause-long c = told_long (entries c.args.streams.now) (unindexed c.args.pool.now) c.tables_described.result c.long_string_refs.result c.new-rows.result c.long_string_refs.ensures c.tables_described.ensures
 
 pub returns-clause-kind : goal.returns-clause-kind
-returns-clause-kind c = let streams = entries c.args.streams.now in let raw = c.args.pool.now in
+returns-clause-kind c = let streams = entries c.args.streams.now in let raw = unindexed c.args.pool.now in
     let tables : described_by streams raw tables_columns tables_name ≡ Some c.in_ok-tables.tables.items =
     ap (λ columns. described_by streams raw columns tables_name) (sym c.in_ok-tables_columns.ensures.ok) ∙ c.in_ok-tables.ensures.ok in
     let columns : described_by streams raw columns_columns columns_name ≡ Some c.in_ok-columns.columns.items =

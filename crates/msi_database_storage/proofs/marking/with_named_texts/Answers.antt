@@ -1,4 +1,5 @@
 use Rattle.std.proofs.Common.{◌∙◌, ap, length, map}
+use Rattle.msi_text_pool.specs.Pool.{unindexed}
 use Rattle.std.specs.FinMap.{entries}
 use Rattle.msi_database_changes.specs.Database.{numbers_of_rows}
 use Rattle.msi_database_storage.specs.Kept.{table_kept}
@@ -14,5 +15,5 @@ forget_texts-requires c =
     ∙ c.num_strings.ensures.many
 
 pub returns-clause-ok : goal.returns-clause-ok
-returns-clause-ok c = pool_marked c.args.pool c.forget_texts.new.pool (entries c.args.streams.now) c.args.tables.now c.args.rows.now c.in_ok-named.named c.mark_tables.new.self c.as_slice.result.now c.num_strings.result
-    c.num_strings.ensures.many c.in_ok-named.ensures.ok (c.in_ok-mark_tables.ensures.ok c.args.pool.long c.requires.long) (c.as_slice.ensures.value ∙ c.named-2.view_is ∙ c.mark_rows.ensures) c.forget_texts.ensures
+returns-clause-ok c = pool_marked (unindexed c.args.pool) (unindexed c.forget_texts.new.pool) (entries c.args.streams.now) c.args.tables.now c.args.rows.now c.in_ok-named.named c.mark_tables.new.self c.as_slice.result.now c.num_strings.result
+    c.num_strings.ensures.many c.in_ok-named.ensures.ok (c.in_ok-mark_tables.ensures.ok c.args.pool.long c.requires.long) (c.as_slice.ensures.value ∙ c.named-2.view_is ∙ c.mark_rows.ensures) (ap unindexed c.forget_texts.ensures)

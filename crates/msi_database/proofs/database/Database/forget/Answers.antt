@@ -1,4 +1,5 @@
 use Rattle.std.proofs.Common.{not, ◌++◌, List, subst, ap, ◌∙◌}
+use Rattle.msi_text_pool.specs.Pool.{unindexed}
 use Rattle.msi_database_changes.specs.Drop.{is_row_about}
 use Rattle.msi_database_storage.specs.declared.storing.Stored.{Stored}
 use Rattle.msi_database_storage.specs.Kept.{Kept}
@@ -14,5 +15,5 @@ stream_of-requires-clause-storable c =
 pub returns-clause-stored : goal.returns-clause-stored
 returns-clause-stored c = let d = c.args.self.now.database in
     c.in_ok-push.ensures.items ∙ ap (λ (es : List Stored). c.args.dropping.now.stored.items ++ es)
-    (forgot d c.args.name.now c.args.system.now c.in-Some.table.now c.in-Some.ensures c.in_ok-held.held.items c.in_ok-rows.rows.items c.in_ok-held.ensures.ok c.self.inside.pool (ap (λ (k : Kept). k.database.pool) c.self.view_is)
+    (forgot d c.args.name.now c.args.system.now c.in-Some.table.now c.in-Some.ensures c.in_ok-held.held.items c.in_ok-rows.rows.items c.in_ok-held.ensures.ok (unindexed c.self.inside.pool) (ap (λ (k : Kept). k.database.pool) c.self.view_is)
     c.in_ok-rows.ensures.ok c.in_ok-others.others c.in_ok-others.ensures.name c.in_ok-others.ensures.bytes)

@@ -1,6 +1,6 @@
 use Rattle.std.proofs.Common.{◌≡◌, ◌∙◌, ap, sym, subst, List, Some}
 use Rattle.std.specs.FinMap.{entries}
-use Rattle.msi_text_pool.specs.Pool.{Pool}
+use Rattle.msi_text_pool.specs.Pool.{Pool, unindexed}
 use Rattle.msi_table_values.specs.declared.value.ValueRef.{ValueRef}
 use Rattle.msi_table.specs.Tables.{TableDef}
 use Rattle.msi_query_rows.proofs.RefusalLemmas.{err_passed}
@@ -13,7 +13,7 @@ use Rattle.msi_database.proofs.database.Database.read.Goals as goal
 
 pub returns-in_err-validation-clause-kind : goal.returns-in_err-validation-clause-kind
 returns-in_err-validation-clause-kind c = err_passed c.from_residual-in_err-validation.result c.in_err-validation.field-0.0 _ c.from_residual-in_err-validation.ensures.1
-    (unread_refused (entries c.args.streams) c.args.pool c.in_ok-standard.standard c.in_err-validation.field-0.0
+    (unread_refused (entries c.args.streams) (unindexed c.args.pool) c.in_ok-standard.standard c.in_err-validation.field-0.0
     (standard_is c.in_ok-standard.standard c.long_string_refs.result c.args.pool.long c.in_ok-columns.columns c.in_ok-standard.ensures.ok c.long_string_refs.ensures c.in_ok-columns.ensures.ok)
     c.in_err-validation.ensures.kind)
 
@@ -24,48 +24,48 @@ tables_in-requires-clause-validation c =
     ∙ c.in_ok-validation.ensures.ok ∙ ap Some (sym c.as_slice.ensures.value)
 
 pub are_sound-requires-clause-numbers : goal.are_sound-requires-clause-numbers
-are_sound-requires-clause-numbers c = let raw : Pool = c.args.pool in let streams = entries c.args.streams in let listed : List TableDef = c.as_slice-listed.result.now in let rows : List (List ValueRef) = c.in_ok-validation.validation.items in
+are_sound-requires-clause-numbers c = let raw : Pool = unindexed c.args.pool in let streams = entries c.args.streams in let listed : List TableDef = c.as_slice-listed.result.now in let rows : List (List ValueRef) = c.in_ok-validation.validation.items in
     let reads : Reads raw listed streams rows = reads_by raw c.args.streams c.in_ok-tables.tables listed rows c.in_ok-standard.standard c.look_at.ensures.names c.look_at.ensures.bytes c.in_ok-pool.ensures.few c.in_ok-pool.ensures.counts
     (standard_is c.in_ok-standard.standard c.long_string_refs.result c.args.pool.long c.in_ok-columns.columns c.in_ok-standard.ensures.ok c.long_string_refs.ensures c.in_ok-columns.ensures.ok)
     c.in_ok-validation.ensures.ok c.as_slice-listed.ensures c.in_ok-tables.ensures.long c.in_ok-tables.ensures.ok in
-    let shown : c.in_ok-pool.pool ≡ pool_shown (numbers_named streams raw.long listed rows) raw =
+    let shown : (unindexed c.in_ok-pool.pool) ≡ pool_shown (numbers_named streams raw.long listed rows) raw =
     c.in_ok-pool.ensures.ok ∙ ap (λ (rows : List (List ValueRef)). pool_shown (numbers_named streams raw.long listed rows) raw) c.as_slice-2.ensures.value in
-    read_numbers raw listed streams rows reads c.in_ok-pool.pool shown
+    read_numbers raw listed streams rows reads (unindexed c.in_ok-pool.pool) shown
 
 pub are_sound-requires-clause-unlisted : goal.are_sound-requires-clause-unlisted
-are_sound-requires-clause-unlisted c = let raw : Pool = c.args.pool in let streams = entries c.args.streams in let listed : List TableDef = c.as_slice-listed.result.now in let rows : List (List ValueRef) = c.in_ok-validation.validation.items in
+are_sound-requires-clause-unlisted c = let raw : Pool = unindexed c.args.pool in let streams = entries c.args.streams in let listed : List TableDef = c.as_slice-listed.result.now in let rows : List (List ValueRef) = c.in_ok-validation.validation.items in
     let reads : Reads raw listed streams rows = reads_by raw c.args.streams c.in_ok-tables.tables listed rows c.in_ok-standard.standard c.look_at.ensures.names c.look_at.ensures.bytes c.in_ok-pool.ensures.few c.in_ok-pool.ensures.counts
     (standard_is c.in_ok-standard.standard c.long_string_refs.result c.args.pool.long c.in_ok-columns.columns c.in_ok-standard.ensures.ok c.long_string_refs.ensures c.in_ok-columns.ensures.ok)
     c.in_ok-validation.ensures.ok c.as_slice-listed.ensures c.in_ok-tables.ensures.long c.in_ok-tables.ensures.ok in
-    let shown : c.in_ok-pool.pool ≡ pool_shown (numbers_named streams raw.long listed rows) raw =
+    let shown : (unindexed c.in_ok-pool.pool) ≡ pool_shown (numbers_named streams raw.long listed rows) raw =
     c.in_ok-pool.ensures.ok ∙ ap (λ (rows : List (List ValueRef)). pool_shown (numbers_named streams raw.long listed rows) raw) c.as_slice-2.ensures.value in
-    c.as_slice-beside.ensures.value ∙ c.unlisted_rows-unlisted.ensures ∙ read_unlisted raw listed streams rows reads c.in_ok-pool.pool shown
+    c.as_slice-beside.ensures.value ∙ c.unlisted_rows-unlisted.ensures ∙ read_unlisted raw listed streams rows reads (unindexed c.in_ok-pool.pool) shown
 
 pub invariant_of-result : goal.invariant_of-result
-invariant_of-result c = let raw : Pool = c.args.pool in let streams = entries c.args.streams in let listed : List TableDef = c.as_slice-listed.result.now in let rows : List (List ValueRef) = c.in_ok-validation.validation.items in
+invariant_of-result c = let raw : Pool = unindexed c.args.pool in let streams = entries c.args.streams in let listed : List TableDef = c.as_slice-listed.result.now in let rows : List (List ValueRef) = c.in_ok-validation.validation.items in
     let reads : Reads raw listed streams rows = reads_by raw c.args.streams c.in_ok-tables.tables listed rows c.in_ok-standard.standard c.look_at.ensures.names c.look_at.ensures.bytes c.in_ok-pool.ensures.few c.in_ok-pool.ensures.counts
     (standard_is c.in_ok-standard.standard c.long_string_refs.result c.args.pool.long c.in_ok-columns.columns c.in_ok-standard.ensures.ok c.long_string_refs.ensures c.in_ok-columns.ensures.ok)
     c.in_ok-validation.ensures.ok c.as_slice-listed.ensures c.in_ok-tables.ensures.long c.in_ok-tables.ensures.ok in
-    let shown : c.in_ok-pool.pool ≡ pool_shown (numbers_named streams raw.long listed rows) raw =
+    let shown : (unindexed c.in_ok-pool.pool) ≡ pool_shown (numbers_named streams raw.long listed rows) raw =
     c.in_ok-pool.ensures.ok ∙ ap (λ (rows : List (List ValueRef)). pool_shown (numbers_named streams raw.long listed rows) raw) c.as_slice-2.ensures.value in
-    subst (λ (ts : List TableDef). AreKept c.in_ok-pool.pool ts streams c.in_ok-is_sound.is_sound) c.as_slice-listed.ensures
-    (read_kept raw listed streams rows reads c.in_ok-pool.pool shown c.in_ok-is_sound.is_sound c.in_ok-is_sound.ensures.ok)
+    subst (λ (ts : List TableDef). AreKept (unindexed c.in_ok-pool.pool) ts streams c.in_ok-is_sound.is_sound) c.as_slice-listed.ensures
+    (read_kept raw listed streams rows reads (unindexed c.in_ok-pool.pool) shown c.in_ok-is_sound.is_sound c.in_ok-is_sound.ensures.ok)
 
 pub returns-clause-ok : goal.returns-clause-ok
-returns-clause-ok c = let raw : Pool = c.args.pool in let streams = entries c.args.streams in let listed : List TableDef = c.as_slice-listed.result.now in let rows : List (List ValueRef) = c.in_ok-validation.validation.items in
+returns-clause-ok c = let raw : Pool = unindexed c.args.pool in let streams = entries c.args.streams in let listed : List TableDef = c.as_slice-listed.result.now in let rows : List (List ValueRef) = c.in_ok-validation.validation.items in
     let reads : Reads raw listed streams rows = reads_by raw c.args.streams c.in_ok-tables.tables listed rows c.in_ok-standard.standard c.look_at.ensures.names c.look_at.ensures.bytes c.in_ok-pool.ensures.few c.in_ok-pool.ensures.counts
     (standard_is c.in_ok-standard.standard c.long_string_refs.result c.args.pool.long c.in_ok-columns.columns c.in_ok-standard.ensures.ok c.long_string_refs.ensures c.in_ok-columns.ensures.ok)
     c.in_ok-validation.ensures.ok c.as_slice-listed.ensures c.in_ok-tables.ensures.long c.in_ok-tables.ensures.ok in
-    let shown : c.in_ok-pool.pool ≡ pool_shown (numbers_named streams raw.long listed rows) raw =
+    let shown : (unindexed c.in_ok-pool.pool) ≡ pool_shown (numbers_named streams raw.long listed rows) raw =
     c.in_ok-pool.ensures.ok ∙ ap (λ (rows : List (List ValueRef)). pool_shown (numbers_named streams raw.long listed rows) raw) c.as_slice-2.ensures.value in
-    subst (λ (ts : List TableDef). IsDatabaseOf raw streams (kept_of c.in_ok-pool.pool ts streams)) c.as_slice-listed.ensures
-    (read_database raw listed streams rows reads c.in_ok-pool.pool shown)
+    subst (λ (ts : List TableDef). IsDatabaseOf raw streams (kept_of (unindexed c.in_ok-pool.pool) ts streams)) c.as_slice-listed.ensures
+    (read_database raw listed streams rows reads (unindexed c.in_ok-pool.pool) shown)
 
 pub returns-clause-only : goal.returns-clause-only
-returns-clause-only c = let raw : Pool = c.args.pool in let streams = entries c.args.streams in let listed : List TableDef = c.as_slice-listed.result.now in let rows : List (List ValueRef) = c.in_ok-validation.validation.items in
+returns-clause-only c = let raw : Pool = unindexed c.args.pool in let streams = entries c.args.streams in let listed : List TableDef = c.as_slice-listed.result.now in let rows : List (List ValueRef) = c.in_ok-validation.validation.items in
     let reads : Reads raw listed streams rows = reads_by raw c.args.streams c.in_ok-tables.tables listed rows c.in_ok-standard.standard c.look_at.ensures.names c.look_at.ensures.bytes c.in_ok-pool.ensures.few c.in_ok-pool.ensures.counts
     (standard_is c.in_ok-standard.standard c.long_string_refs.result c.args.pool.long c.in_ok-columns.columns c.in_ok-standard.ensures.ok c.long_string_refs.ensures c.in_ok-columns.ensures.ok)
     c.in_ok-validation.ensures.ok c.as_slice-listed.ensures c.in_ok-tables.ensures.long c.in_ok-tables.ensures.ok in
-    let shown : c.in_ok-pool.pool ≡ pool_shown (numbers_named streams raw.long listed rows) raw =
+    let shown : (unindexed c.in_ok-pool.pool) ≡ pool_shown (numbers_named streams raw.long listed rows) raw =
     c.in_ok-pool.ensures.ok ∙ ap (λ (rows : List (List ValueRef)). pool_shown (numbers_named streams raw.long listed rows) raw) c.as_slice-2.ensures.value in
-    λ k is. read_once raw listed streams rows reads k is c.in_ok-pool.pool shown ∙ ap (λ (ts : List TableDef). kept_of c.in_ok-pool.pool ts streams) c.as_slice-listed.ensures
+    λ k is. read_once raw listed streams rows reads k is (unindexed c.in_ok-pool.pool) shown ∙ ap (λ (ts : List TableDef). kept_of (unindexed c.in_ok-pool.pool) ts streams) c.as_slice-listed.ensures

@@ -1,7 +1,7 @@
 use Rattle.std.proofs.Common.{◌≡◌, ◌++◌, List, ℕ, false, is_some, sym, ap, ◌∙◌}
 use Rattle.std.specs.Int.{to_le_bytes, w32}
 use Rattle.msi_text_base.specs.Pages.{page_id}
-use Rattle.msi_text_pool.specs.Pool.{header_of}
+use Rattle.msi_text_pool.specs.Pool.{header_of, unindexed}
 use Rattle.msi_text_pool.specs.PoolWriting.{has_refused_text}
 use Rattle.msi_text_pool.proofs.PoolReadBackLemmas.{pools_read_back}
 use Rattle.msi_text_pool.proofs.PoolWritingLemmas.{not_refused, pool_written}
@@ -14,7 +14,7 @@ returns-clause-ok c =
     ap (to_le_bytes w32) c.header.ensures
     ∙ ap (λ p. header_of (page_id p) c.long_string_refs.result) c.codepage-page.ensures
     ∙ ap (header_of (page_id c.args.pool.now.page)) c.long_string_refs.ensures in
-    pool_written c.args.pool.now c.codepage-page.result c.places-places.result.now c.push_u32.new.held.items c.push_entries.new.held.items
+    pool_written (unindexed c.args.pool.now) c.codepage-page.result c.places-places.result.now c.push_u32.new.held.items c.push_entries.new.held.items
     c.codepage-page.ensures c.places-places.ensures.places
     told
     (c.in_ok-push_u32.ensures.ok ∙ ap (λ (bytes : List ℕ). bytes ++ to_le_bytes w32 c.header.result) c.new-held.ensures.items ∙ header)
@@ -23,5 +23,5 @@ returns-clause-ok c =
 pub returns-clause-spelled : goal.returns-clause-spelled
 returns-clause-spelled c =
     let told : has_refused_text c.codepage-page.result c.places-places.result.now ≡ false = sym c.refusal.ensures ∙ ap is_some c.in_default.is in
-    pools_read_back c.args.pool.now c.places-places.ensures.most c.places-places.ensures.counts
-    (not_refused c.args.pool.now c.codepage-page.result c.places-places.result.now c.codepage-page.ensures c.places-places.ensures.places told)
+    pools_read_back (unindexed c.args.pool.now) c.places-places.ensures.most c.places-places.ensures.counts
+    (not_refused (unindexed c.args.pool.now) c.codepage-page.result c.places-places.result.now c.codepage-page.ensures c.places-places.ensures.places told)
