@@ -17,7 +17,8 @@ ghost use Rattle.msi_database.specs.Reading.{IsDatabaseOf};
 use crate::database::Database;
 use crate::reasons;
 use msi_container_format::contents::StreamMap;
-use msi_database_schema::schema::{SchemaRows, named_table, tables_described};
+use msi_database_schema::parts::named_table;
+use msi_database_schema::schema::{SchemaRows, tables_described};
 use msi_database_schema::system::{
     COLUMNS, TABLES, VALIDATION, columns_columns, tables_columns, validation_columns,
 };
