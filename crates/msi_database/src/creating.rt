@@ -28,7 +28,7 @@ use msi_database_schema::names::is_table_name;
 use msi_database_schema::parts::{column_rows, named_table, short_table_key};
 use msi_database_schema::system::{COLUMNS, TABLES, VALIDATION};
 use msi_database_storage::listing::copies_with;
-use msi_database_storage::storing::{Stored, stream_of};
+use msi_database_storage::parts::{Stored, stream_of};
 use msi_table::column::Column;
 use msi_table::{Table, Value};
 use msi_text::errors::{Error, ErrorKind};

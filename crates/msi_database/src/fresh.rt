@@ -19,7 +19,7 @@ use msi_database_schema::parts::{column_rows, named_table};
 use msi_database_schema::system::{
     COLUMNS, TABLES, VALIDATION, columns_columns, tables_columns, validation_columns,
 };
-use msi_database_storage::storing::{Stored, store_all, stream_of};
+use msi_database_storage::parts::{Stored, store_all, stream_of};
 use msi_table::Table;
 use msi_table::column::Column;
 use msi_table::value::{Value, ValueRef};

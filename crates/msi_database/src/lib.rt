@@ -14,4 +14,3 @@ mod reasons;
 mod rows;
 
 pub use database::Database;
-pub use msi_database_storage::storing;

@@ -22,10 +22,8 @@ use msi_database_schema::schema::{SchemaRows, tables_described};
 use msi_database_schema::system::{
     COLUMNS, TABLES, VALIDATION, columns_columns, tables_columns, validation_columns,
 };
-use msi_database_storage::decoding::stored_rows;
 use msi_database_storage::listing::table_named;
-use msi_database_storage::marking::with_named_texts;
-use msi_database_storage::soundness::are_sound;
+use msi_database_storage::parts::{are_sound, stored_rows, with_named_texts};
 use msi_table::column::Column;
 use msi_table::parts::values;
 use msi_table::{Table, Value, ValueRef};
