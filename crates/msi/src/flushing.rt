@@ -27,6 +27,7 @@ use msi_container_format::contents::Bytes;
 use msi_container_format::name::Name;
 use msi_container_write::parts::{BorrowedContents, image_to};
 use msi_database::Database;
+use msi_database::parts::{put_back_stream, replace_stream};
 use msi_database_schema::names::{string_data_key, string_pool_key, summary_key};
 use msi_summary::SummaryInfo;
 use msi_summary::parts::summary_bytes;
@@ -210,11 +211,11 @@ pub(crate) fn write_with<F: Device>(
     let Some((name, bytes)) = renewed.next() else {
         return write_streams(alloc, root, database, device);
     };
-    let before = database.replace_stream(name.duplicate(), bytes)?;
+    let before = replace_stream(database, name.duplicate(), bytes)?;
     match write_with(alloc, root, database, renewed, device) {
         Ok(()) => Ok(()),
         Err(error) => {
-            database.put_back_stream(&name, before);
+            put_back_stream(database, &name, before);
             Err(error)
         }
     }

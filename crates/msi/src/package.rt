@@ -21,7 +21,9 @@ use crate::reasons;
 use msi_container_device::Source;
 use msi_container_format::name::Name;
 use msi_database::Database;
+use msi_database::parts::put_back_stream;
 use msi_query::Select;
+use msi_query_rows::parts::into_rows;
 use msi_streams::OpenStream;
 use msi_summary::SummaryInfo;
 use msi_table::{Rows, Table};
@@ -185,7 +187,7 @@ impl<F: Source> Package<F> {
             AnswersWith (early_refusal (columns_read (λ q. table_at q d)) query) result }
     {
         let relation = self.database.select(self.alloc, &query)?;
-        relation.into_rows(self.alloc, self.database.pool())
+        into_rows(self.alloc, relation, self.database.pool())
     }
 
     /// Refuses a change of a package with storages below its root.
@@ -222,7 +224,7 @@ pub(crate) fn settle(database: &mut Database, name: &mut Option<Name>, current: 
     ensures kept { IsKeptDatabase database.new }
 {
     if let Some(name) = name.take() {
-        database.put_back_stream(&name, Some(current.take_bytes()));
+        put_back_stream(database, &name, Some(current.take_bytes()));
     }
     database.kept();
 }

@@ -145,7 +145,7 @@ impl StreamMap {
 
     /// Puts back what `replace` handed back: these bytes, or no stream. A stream of that name has to be there, so it
     /// takes no memory.
-    pub fn put_back(&mut self, name: &Name, bytes: Option<Bytes>)
+    pub(crate) fn put_back(&mut self, name: &Name, bytes: Option<Bytes>)
         requires { finite.contains_key self.old name.now ≡ true }
         ensures { self.new ≡ with_or_without self.old name.now bytes }
     {

@@ -55,24 +55,23 @@ pub fn read(alloc: Global, bytes: &[u8]) -> Result<Contents, Error>
     read_counted(alloc, bytes, &mut steps)
 }
 
-/// Returns the contents that the bytes hold, as `read` returns them. Each successor that is looked up takes a step,
-/// also if the call fails: at most one for each sector that starts inside the file, and one for each mini sector in
-/// the mini stream's sectors. The count that is passed in is at most 2^63. The streams have together no more bytes
-/// than the file, rounded up to a whole sector.
+/// Returns the contents that the bytes hold, as `read` returns them, and counts from 0 on. Each successor that is
+/// looked up takes a step, also if the call fails: at most one for each sector that starts inside the file, and one
+/// for each mini sector in the mini stream's sectors. The streams have together no more bytes than the file, rounded
+/// up to a whole sector.
 ///
 /// # Errors
 /// Fails as `read` does.
 pub fn read_counted(alloc: Global, bytes: &[u8], steps: &mut Steps) -> Result<Contents, Error>
-    requires { steps.old ≤ 2 ^ 63 }
     ensures found { IfOk result (λ contents. container.Holds bytes.now contents) }
     ensures only { (contents : held.Contents) → container.Holds bytes.now contents → IsUnlessMemory result contents }
     ensures kinds { FailsByData result }
-    ensures grows { steps.old ≤ steps.new }
-    ensures bounded { counted.IsWithinSectors bytes.now (steps.new - steps.old) }
+    ensures bounded { counted.IsWithinSectors bytes.now steps.new }
     ensures exact { OnOk result ((plan : container.Plan) → container.IsPlan bytes.now plan
-        → steps.new ≡ steps.old + counted.steps_of plan) }
+        → steps.new ≡ counted.steps_of plan) }
     ensures kept { IfOk result (λ contents. counted.bytes_kept contents ≤ counted.rounded_length bytes.now) }
 {
+    *steps = Steps::new();
     let outline = read_outline(alloc, bytes, steps)?;
     let directory = Directory {
         bytes,

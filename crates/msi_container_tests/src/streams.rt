@@ -1,6 +1,7 @@
 //! Streams stored, changed in place, put back and removed.
 
 use msi_container::compound::{Bytes, Name, StreamMap};
+use msi_container_format::parts::put_back;
 use msi_text::Error;
 use std::alloc::{AllocError, Global};
 use std::test::Fail;
@@ -34,7 +35,7 @@ fn is_put_back(alloc: Global) -> Result<bool, Error> {
     let other = stream(alloc, &[2, 3])?;
     let held = streams.replace(name.duplicate(), other)?;
     let is_put = has(&streams, &name, &[2, 3]);
-    streams.put_back(&name, held);
+    put_back(&mut streams, &name, held);
     Ok(is_put && has(&streams, &name, &[1]))
 }
 
@@ -44,7 +45,7 @@ fn is_gone(alloc: Global) -> Result<bool, Error> {
     let other = Name::new("b")?;
     let held = streams.replace(other.duplicate(), stream(alloc, &[])?)?;
     let was_none = held.is_none();
-    streams.put_back(&other, held);
+    put_back(&mut streams, &other, held);
     Ok(was_none && streams.len() == 1 && has(&streams, &name, &[1]))
 }
 

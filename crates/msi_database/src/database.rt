@@ -18,8 +18,8 @@ ghost use Rattle.msi_database.specs.Listed.{rows_at, table_def_at, tables_listed
 
 use crate::reasons;
 use msi_container_format::contents::StreamMap;
-use msi_database_storage::decoding::{is_readable, stored_rows};
 use msi_database_storage::listing::table_named;
+use msi_database_storage::parts::{is_readable, stored_rows};
 use msi_query::Select;
 use msi_query_rows::{Relation, Tables, select};
 use msi_table::Table;

@@ -23,7 +23,7 @@ use msi_database_changes::drop::rows_without;
 use msi_database_changes::texts::PoolInUse;
 use msi_database_schema::names::is_table_name;
 use msi_database_schema::system::{COLUMNS, TABLES, VALIDATION, is_system_table};
-use msi_database_storage::storing::{Stored, stream_of};
+use msi_database_storage::parts::{Stored, stream_of};
 use msi_table::Table;
 use msi_text::errors::{Error, ErrorKind};
 

@@ -14,12 +14,12 @@ use crate::database::Database;
 use msi_container_format::contents::StreamMap;
 use msi_database_changes::insert::add_rows;
 use msi_database_changes::texts::PoolInUse;
-use msi_database_schema::description::{column_rows, tables_row, validation_rows};
-use msi_database_schema::schema::named_table;
+use msi_database_schema::description::{tables_row, validation_rows};
+use msi_database_schema::parts::{column_rows, named_table};
 use msi_database_schema::system::{
     COLUMNS, TABLES, VALIDATION, columns_columns, tables_columns, validation_columns,
 };
-use msi_database_storage::storing::{Stored, store_all, stream_of};
+use msi_database_storage::parts::{Stored, store_all, stream_of};
 use msi_table::Table;
 use msi_table::column::Column;
 use msi_table::value::{Value, ValueRef};

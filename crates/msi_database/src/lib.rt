@@ -7,10 +7,10 @@ pub mod database;
 mod dropping;
 mod fresh;
 pub mod laws;
-pub mod others;
+mod others;
+pub mod parts;
 mod reading;
 mod reasons;
 mod rows;
 
 pub use database::Database;
-pub use msi_database_storage::storing;

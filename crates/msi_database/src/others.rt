@@ -10,6 +10,7 @@ ghost use Rattle.msi_database.specs.Others.{IsOther, with_streams};
 use crate::database::Database;
 use msi_container_format::contents::Bytes;
 use msi_container_format::name::Name;
+use msi_container_format::parts::put_back;
 use msi_text::errors::Error;
 
 /// Tells that a name has the length of one, which its units do.
@@ -24,8 +25,12 @@ impl Database {
     /// one takes no memory.
     ///
     /// # Errors
-    /// Fails with `OutOfMemory`, and only if there was none; then nothing has changed.
-    pub fn replace_stream(&mut self, name: Name, bytes: Bytes) -> Result<Option<Bytes>, Error>
+    /// `OutOfMemory`, and only if there was none; then nothing has changed.
+    pub(crate) fn replace_stream(
+        &mut self,
+        name: Name,
+        bytes: Bytes,
+    ) -> Result<Option<Bytes>, Error>
         requires { IsOther self.old.database name }
         ensures ok { OnOk result (self.new ≡ with_streams (with_stream name bytes) self.old) }
         ensures held { IfOk result (λ held. held ≡ stream_at name self.old.streams) }
@@ -40,18 +45,18 @@ impl Database {
 
     /// Puts back what `replace_stream` handed back: these bytes, or no stream. A stream of that name has to be there,
     /// so it takes no memory.
-    pub fn put_back_stream(&mut self, name: &Name, bytes: Option<Bytes>)
+    pub(crate) fn put_back_stream(&mut self, name: &Name, bytes: Option<Bytes>)
         requires other { IsOther self.old.database name.now }
         requires there { has_stream_at name.now self.old.streams ≡ true }
         ensures { self.new ≡ with_streams (with_stream_or_none name.now bytes) self.old }
     {
         know_length(name);
-        self.streams.put_back(name, bytes);
+        put_back(&mut self.streams, name, bytes);
     }
 
     /// Takes the stream of a name that is no table's out, if there is one, and hands its bytes back. It takes no
     /// memory.
-    pub fn remove_stream(&mut self, name: &Name) -> Option<Bytes>
+    pub(crate) fn remove_stream(&mut self, name: &Name) -> Option<Bytes>
         requires { IsOther self.old.database name.now }
         ensures held { result ≡ stream_at name.now self.old.streams }
         ensures gone { self.new ≡ with_streams (without_stream name.now) self.old }

@@ -18,14 +18,13 @@ ghost use Rattle.msi_database.specs.Reading.{IsDatabaseOf};
 use crate::database::Database;
 use crate::reasons;
 use msi_container_format::contents::StreamMap;
-use msi_database_schema::schema::{SchemaRows, named_table, tables_described};
+use msi_database_schema::parts::named_table;
+use msi_database_schema::schema::{SchemaRows, tables_described};
 use msi_database_schema::system::{
     COLUMNS, TABLES, VALIDATION, columns_columns, tables_columns, validation_columns,
 };
-use msi_database_storage::decoding::stored_rows;
 use msi_database_storage::listing::table_named;
-use msi_database_storage::marking::with_named_texts;
-use msi_database_storage::soundness::are_sound;
+use msi_database_storage::parts::{are_sound, stored_rows, with_named_texts};
 use msi_table::column::Column;
 use msi_table::parts::values;
 use msi_table::{Table, Value, ValueRef};

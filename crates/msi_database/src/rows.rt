@@ -25,7 +25,7 @@ use msi_database_changes::insert::{add_rows, refuse_new_rows, refuse_rows};
 use msi_database_changes::texts::PoolInUse;
 use msi_database_changes::update::{refuse_collisions, refuse_sets, updated_rows};
 use msi_database_schema::system::{VALIDATION, is_schema_table, is_system_table};
-use msi_database_storage::storing::stream_of;
+use msi_database_storage::parts::stream_of;
 use msi_query::parts::{
     Assignment, DeleteParts, InsertParts, NewRow, UpdateParts, delete_parts, insert_parts,
     update_parts,

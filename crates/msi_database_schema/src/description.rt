@@ -72,12 +72,11 @@ fn column_row(
     Ok(Items::from_vec(Vec::from_array(alloc, row)?))
 }
 
-/// Returns the rows of `_Columns` that describe a table's columns, in order. The bits of their types have to hold
-/// their lengths, which `have_short_lengths` checks, and a table has at most 32767 columns.
+/// The rows of `_Columns` that describe a table's columns, in order. The bits of their types hold their lengths.
 ///
 /// # Errors
-/// Fails with `OutOfMemory`.
-pub fn column_rows(
+/// `OutOfMemory`.
+pub(crate) fn column_rows(
     alloc: Global,
     table: &str,
     columns: &[Column],

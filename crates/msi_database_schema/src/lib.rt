@@ -6,6 +6,7 @@ pub mod description;
 mod faults;
 pub mod names;
 mod orders;
+pub mod parts;
 mod reasons;
 mod rows;
 pub mod schema;

@@ -65,8 +65,8 @@ pub fn table_key(name: &str) -> Option<Name>
     packed_name(name, true)
 }
 
-/// Returns the container's name of the stream of a table whose name isn't too long for one. It takes no memory.
-pub fn short_table_key(name: &str) -> Name
+/// The container's name of the stream of a table whose name isn't too long for one. It takes no memory.
+pub(crate) fn short_table_key(name: &str) -> Name
     requires { is_name_length (length (key_of_table name.now)) ≡ true }
     ensures { result ≡ key_of_table name.now }
 {

@@ -64,11 +64,11 @@ impl SchemaRows {
     }
 }
 
-/// Returns a table of a name and columns, which are at most 32767.
+/// The table of a name and columns, which are at most 32767.
 ///
 /// # Errors
-/// Fails with `OutOfMemory`.
-pub fn named_table(
+/// `OutOfMemory`.
+pub(crate) fn named_table(
     alloc: Global,
     name: &str,
     columns: Items<Column>,

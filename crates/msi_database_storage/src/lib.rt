@@ -1,8 +1,9 @@
 //! Tables in the streams of a container: reads their rows, stores new ones, and checks that a database is sound.
 #![tactic(auto)]
 
-pub mod decoding;
+mod decoding;
 pub mod listing;
-pub mod marking;
-pub mod soundness;
-pub mod storing;
+mod marking;
+pub mod parts;
+mod soundness;
+mod storing;

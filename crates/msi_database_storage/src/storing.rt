@@ -11,7 +11,8 @@ ghost use Rattle.msi_database_storage.specs.Streams.{stream_of_rows};
 
 use msi_container_format::contents::{Bytes, StreamMap};
 use msi_container_format::name::Name;
-use msi_database_schema::names::short_table_key;
+use msi_container_format::parts::put_back;
+use msi_database_schema::parts::short_table_key;
 use msi_table::parts::write_rows;
 use msi_table::{Table, ValueRef};
 use msi_text::errors::Error;
@@ -69,7 +70,7 @@ pub fn store_all(streams: &mut StreamMap, mut changes: IntoIter<Stored>) -> Resu
             match store_all(streams, changes) {
                 Ok(()) => Ok(()),
                 Err(error) => {
-                    streams.put_back(&name, before);
+                    put_back(streams, &name, before);
                     Err(error)
                 }
             }

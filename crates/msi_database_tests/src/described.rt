@@ -1,8 +1,7 @@
 //! The rows that describe tables, and tables that come back from them.
 
-use msi_database_schema::description::{
-    column_rows, have_short_lengths, tables_row, validation_rows,
-};
+use msi_database_schema::description::{have_short_lengths, tables_row, validation_rows};
+use msi_database_schema::parts::column_rows;
 use msi_database_schema::schema::{SchemaRows, tables_described};
 use msi_database_schema::system::{VALIDATION, validation_columns};
 use msi_table::{Column, Table, Value};

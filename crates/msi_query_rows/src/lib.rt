@@ -5,6 +5,7 @@ mod columns;
 mod index;
 mod joining;
 mod narrowing;
+pub mod parts;
 mod reasons;
 pub mod relation;
 mod rows;

@@ -67,7 +67,11 @@ impl Relation {
     ///
     /// # Errors
     /// Fails with `OutOfMemory`.
-    pub fn into_rows<'a>(self, alloc: Global, pool: &'a StringPool) -> Result<Rows<'a>, Error>
+    pub(crate) fn into_rows<'a>(
+        self,
+        alloc: Global,
+        pool: &'a StringPool,
+    ) -> Result<Rows<'a>, Error>
         requires { AreAsWide self.columns self.rows }
         ensures ok { IfOk result (λ rows.
             rows ≡ record { columns = self.columns; places = pool.now.places; rows = self.rows }) }

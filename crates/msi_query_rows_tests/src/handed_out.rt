@@ -4,6 +4,7 @@ ghost use Rattle.std.specs.Prelude.{◌≡◌, IfOk, length};
 ghost use Rattle.std.specs.List.{AllByRecursion};
 
 use msi_query_rows::Relation;
+use msi_query_rows::parts::into_rows;
 use msi_table::{Column, Rows, ValueRef};
 use msi_text::{CodePage, Error, IntoText, Items, StringPool};
 use std::alloc::Global;
@@ -41,7 +42,8 @@ fn rows_are_handed_out_in_their_order(rt: HostRuntime) -> Result<(), Fail> {
     let pool = StringPool::new(alloc, CodePage::Utf8);
     let cells = two_rows(alloc)?;
     let columns = one_column(alloc)?;
-    let mut rows = Relation::new("T".into_text(alloc)?, columns, cells).into_rows(alloc, &pool)?;
+    let relation = Relation::new("T".into_text(alloc)?, columns, cells);
+    let mut rows = into_rows(alloc, relation, &pool)?;
     for number in [7, 8] {
         let found = gives(&mut rows, number)?;
         assert!(rt; found, "row {number}");

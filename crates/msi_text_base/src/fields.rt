@@ -1,8 +1,8 @@
 //! Numbers as bytes, the lowest byte first: read from the front of a slice, and appended to a vector.
 
-ghost use Rattle.std.specs.Prelude.{◌≡◌, ◌<◌, ◌≤◌, ◌^◌, ◌++◌, length, IfOk, OnOk, OnErr};
+ghost use Rattle.std.specs.Prelude.{◌≡◌, ◌++◌, OnOk, OnErr};
 ghost use Rattle.std.specs.Int.{w8, w16, w32, w64, to_le_bytes};
-ghost use Rattle.msi_text_base.specs.Numbers.{bytes_at as front_of, number_at, number_of as number_in};
+ghost use Rattle.msi_text_base.specs.Numbers.{bytes_at as front_of, number_at};
 ghost use Rattle.msi_text_base.specs.Results.{Gives};
 
 use crate::errors::{Error, ErrorKind, Reason};
@@ -77,16 +77,6 @@ pub fn identifier_at(bytes: &[u8], cut: Reason) -> Result<([u8; 16], &[u8]), Err
         Some((identifier, rest)) => Ok((*identifier, rest)),
         None => Err(Error::new(ErrorKind::InvalidData, cut)),
     }
-}
-
-/// Returns the number in one to eight bytes, the lowest first.
-pub fn number_of(bytes: &[u8]) -> u64
-    requires least { 1 ≤ length bytes.now }
-    requires most { length bytes.now ≤ 8 }
-    ensures value { result ≡ number_in bytes.now }
-    ensures below { result < 256 ^ length bytes.now }
-{
-    LittleEndian::read_uint(bytes, bytes.len())
 }
 
 /// Appends a number of 16 bits, the lowest byte first. If memory is refused, the bytes stay as they were.

@@ -11,8 +11,7 @@ use crate::reasons;
 use crate::stringpool::MAX_SHORT_PLACES;
 use byteorder::{ByteOrder, LittleEndian};
 use msi_text_base::errors::{Error, ErrorKind};
-use msi_text_base::fields::number_of;
-use msi_text_base::parts::{read_exactly, write_fully};
+use msi_text_base::parts::{number_of, read_exactly, write_fully};
 use std::io::{Read, Write};
 use std::marker::Model;
 

@@ -55,7 +55,7 @@ unfolding returns-clause-found
 returns-clause-exact c = λ plan h.
     let found = c.in_ok-outline.ensures.found in
     let held = returns-clause-found c in
-    found.2 ∙ ap (λ p. c.args.steps.now + steps_of p) (plan_once c.args.bytes.now found.0 plan held.1 h)
+    found.2 ∙ ap (λ n. n + steps_of found.0) c.new.ensures ∙ ap steps_of (plan_once c.args.bytes.now found.0 plan held.1 h)
 
 pub returns-clause-kept : goal.returns-clause-kept
 returns-clause-kept c = kept c.args.bytes.now _ (returns-clause-found c)

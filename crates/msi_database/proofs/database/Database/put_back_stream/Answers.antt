@@ -8,8 +8,8 @@ put_back-requires c = let d = c.self.inside in
 
 pub invariant_of-self : goal.invariant_of-self
 invariant_of-self c = let d = c.self.inside in
-    (stays (unindexed d.pool) d.tables d.streams d.is_sound c.args.self.now c.self.view_is c.put_back.new.self c.args.name.now c.args.bytes c.self.invariant c.requires.other c.know_length.ensures c.put_back.ensures).kept
+    (stays (unindexed d.pool) d.tables d.streams d.is_sound c.args.self.now c.self.view_is c.put_back.new.streams c.args.name.now c.args.bytes c.self.invariant c.requires.other c.know_length.ensures c.put_back.ensures).kept
 
 pub returns : goal.returns
 returns c = let d = c.self.inside in
-    (stays (unindexed d.pool) d.tables d.streams d.is_sound c.args.self.now c.self.view_is c.put_back.new.self c.args.name.now c.args.bytes c.self.invariant c.requires.other c.know_length.ensures c.put_back.ensures).same
+    (stays (unindexed d.pool) d.tables d.streams d.is_sound c.args.self.now c.self.view_is c.put_back.new.streams c.args.name.now c.args.bytes c.self.invariant c.requires.other c.know_length.ensures c.put_back.ensures).same

@@ -1,7 +1,7 @@
 use Rattle.std.proofs.Common.{arith}
 use Rattle.byteorder.specs.Numbers.{little_from-lt}
 use Rattle.msi_text_base.proofs.NumberLemmas.{little_from-all}
-use Rattle.msi_text_base.proofs.fields.number_of.Goals as goal
+use Rattle.msi_text_base.proofs.parts.number_of.Goals as goal
 
 pub returns-clause-value : goal.returns-clause-value
 returns-clause-value c = rw c.read_uint.ensures (little_from-all c.args.bytes.now)
