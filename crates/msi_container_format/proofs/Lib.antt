@@ -1,6 +1,7 @@
 -- The lemmas of this crate.
 pub mod ByteLemmas
 pub mod Utf16Lemmas
+pub mod SpelledUnitsLemmas
 pub mod NamesLemmas
 pub mod StreamsLemmas
 pub mod PlanOnceLemmas

@@ -37,7 +37,7 @@ other_is_some u h l = grind (arith, nat_tests)
 abbrev is_text_by : ℕ → ℕ → List ℕ → Bool → Bool
 is_text_by u v us pair = not (list_any (λ o. not (is_some o)) (cond pair (Some (surrogate_pair_char u v) ∷ utf16_chars us) (lone_unit_char u ∷ utf16_chars (v ∷ us))))
 
-is_text_pair : (u v : ℕ) (us : List ℕ) → is_high_surrogate u ≡ true → is_low_surrogate v ≡ true → is_text (u ∷ v ∷ us) ≡ is_text us
+pub is_text_pair : (u v : ℕ) (us : List ℕ) → is_high_surrogate u ≡ true → is_low_surrogate v ≡ true → is_text (u ∷ v ∷ us) ≡ is_text us
 unfolding utf16_chars
 is_text_pair u v us h l = ap (λ b. is_text_by u v us (b && is_low_surrogate v)) h ∙ ap (is_text_by u v us) l
 
@@ -51,13 +51,13 @@ is_text_lone u [] apart = turned (is_some (lone_unit_char u)) false
 is_text_lone u (v ∷ us) apart = ap (is_text_by u v us) apart ∙ turned (is_some (lone_unit_char u)) _
 
 -- a high surrogate that no low one follows
-is_text_unpaired : (u : ℕ) (us : List ℕ) → is_high_surrogate u ≡ true → is_low_surrogate (get_or us 0 0) ≡ false → is_text (u ∷ us) ≡ false
+pub is_text_unpaired : (u : ℕ) (us : List ℕ) → is_high_surrogate u ≡ true → is_low_surrogate (get_or us 0 0) ≡ false → is_text (u ∷ us) ≡ false
 is_text_unpaired u us h l = is_text_lone u us (ap (λ b. b && is_low_surrogate (get_or us 0 0)) h ∙ l) ∙ ap (λ b. b && is_text us) (high_is_none u h)
 
-is_text_low : (u : ℕ) (us : List ℕ) → is_low_surrogate u ≡ true → is_text (u ∷ us) ≡ false
+pub is_text_low : (u : ℕ) (us : List ℕ) → is_low_surrogate u ≡ true → is_text (u ∷ us) ≡ false
 is_text_low u us l = is_text_lone u us (ap (λ b. b && is_low_surrogate (get_or us 0 0)) (low_is_not_high u l)) ∙ ap (λ b. b && is_text us) (low_is_none u l)
 
-is_text_other : (u : ℕ) (us : List ℕ) → is_high_surrogate u ≡ false → is_low_surrogate u ≡ false → is_text (u ∷ us) ≡ is_text us
+pub is_text_other : (u : ℕ) (us : List ℕ) → is_high_surrogate u ≡ false → is_low_surrogate u ≡ false → is_text (u ∷ us) ≡ is_text us
 is_text_other u us h l = is_text_lone u us (ap (λ b. b && is_low_surrogate (get_or us 0 0)) h) ∙ ap (λ b. b && is_text us) (other_is_some u h l)
 
 follows_both : (us : List ℕ) → (follows false us ≡ is_text us) × ((h : ℕ) → is_high_surrogate h ≡ true → follows true us ≡ is_text (h ∷ us))

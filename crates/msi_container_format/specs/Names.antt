@@ -1,6 +1,6 @@
 -- Names of a container's entries: rows of UTF-16 units.
-use Rattle.std.specs.Prelude.{ℕ, ◌-◌, nat_lt, nat_le, ◌&&◌, not, Bool, if◌then◌else◌, List, length, map, chars, Option}
-use Rattle.std.specs.Prelude.{Some, None}
+use Rattle.std.specs.Prelude.{◌≡◌, ℕ, ◌-◌, nat_lt, nat_le, ◌&&◌, not, Bool, if◌then◌else◌, List, length, map, chars}
+use Rattle.std.specs.Prelude.{Option, Some, None, IsUtf8}
 use Rattle.std.specs.List.{flat_map}
 use Rattle.std.specs.Ordering.{nat_cmp, on, then_cmp}
 use Rattle.std.specs.Cmp.Lexicographic.{slice_cmp}
@@ -30,6 +30,11 @@ utf16_units characters = flat_map encode_utf16 characters
 
 abbrev pub units_of : List ℕ → List ℕ
 units_of text = utf16_units (chars text)
+
+-- these units spell a text, and no other
+abbrev pub SpellOneText : List ℕ → Type 0
+SpellOneText units = (text : List ℕ) × IsUtf8 text × (units_of text ≡ units)
+    × ((other : List ℕ) → IsUtf8 other → units_of other ≡ units → other ≡ text)
 
 -- how many units a name may have
 abbrev pub is_name_length : ℕ → Bool

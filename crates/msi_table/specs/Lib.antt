@@ -5,6 +5,7 @@ pub mod KeyOrder
 pub mod Tables
 pub mod Rows
 pub mod SortedRows
+pub mod Utf8Rows
 -- The words of the crates below, which public clauses cite.
 pub use Rattle.msi_text_base.specs.declared.errors.ErrorKind
 pub use Rattle.msi_text_base.specs.Results
@@ -22,3 +23,4 @@ pub use Rattle.msi_table_values.specs.CellOrder
 pub use Rattle.msi_table_values.specs.OrderLaws
 pub use Rattle.msi_table_values.specs.Fitting
 pub use Rattle.msi_table_values.specs.StoredValues
+pub use Rattle.msi_table_values.specs.Utf8Texts

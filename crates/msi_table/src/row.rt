@@ -76,6 +76,13 @@ impl Row {
         self.columns.as_slice()
     }
 
+    /// The row's values, in order.
+    pub(crate) fn values(&self) -> &[Value]
+        ensures { result.now ≡ self.now.values }
+    {
+        self.values.as_slice()
+    }
+
     /// Returns a copy of the row.
     ///
     /// # Errors

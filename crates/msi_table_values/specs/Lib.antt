@@ -5,6 +5,7 @@ pub mod Columns
 pub mod ValidValues
 pub mod CellValues
 pub mod Views
+pub mod Utf8Texts
 pub mod CellOrder
 pub mod OrderLaws
 pub mod Fitting

@@ -1,12 +1,18 @@
-//! Laws of the definitions themselves: each is the contract of a function that does nothing.
+//! Laws of the definitions themselves: each is the contract of a function that does nothing, or only looks at what it
+//! is handed.
 
 ghost use Rattle.msi_table_values.specs.CellOrder.{CellsAreOrdered};
 ghost use Rattle.msi_table_values.specs.Columns.{TypeBitsComeBack};
 ghost use Rattle.msi_table_values.specs.StoredValues.{RemovingKeepsValues, StoredValuesComeBack, StoringKeepsValues};
 ghost use Rattle.msi_table_values.specs.StoredValues.{ValidValuesFit};
+ghost use Rattle.msi_table_values.specs.Utf8Texts.{AreUtf8Columns, AreUtf8Texts, AreUtf8Values, IsUtf8Column};
+ghost use Rattle.msi_table_values.specs.Utf8Texts.{IsUtf8Value};
 ghost use Rattle.msi_table_values.specs.Values.{ValuesAreOrdered};
 
-use msi_text::laws::{given_back_takes_one, taken_places_hold_their_text};
+use crate::column::Column;
+use crate::value::Value;
+use msi_text::laws::{given_back_takes_one, taken_places_hold_their_text, texts_are_utf8};
+use msi_text::text::Text;
 
 /// Values have a total order, in which only equal values tie.
 pub fn values_are_ordered()
@@ -51,4 +57,51 @@ pub fn removing_keeps_values()
     ensures { RemovingKeepsValues }
 {
     given_back_takes_one();
+}
+
+/// A text that is a value is UTF-8.
+pub fn value_texts_are_utf8(value: &Value)
+    ensures { IsUtf8Value value.now }
+{
+    if let Value::Str(text) = value {
+        texts_are_utf8(text);
+    }
+}
+
+/// So is each of a list of values.
+pub fn listed_values_are_utf8(values: &[Value])
+    ensures { AreUtf8Values values.now }
+{
+    for value in values {
+        value_texts_are_utf8(value);
+    }
+}
+
+/// Each of a list of texts is UTF-8.
+pub fn listed_texts_are_utf8(texts: &[Text])
+    ensures { AreUtf8Texts texts.now }
+{
+    for text in texts {
+        texts_are_utf8(text);
+    }
+}
+
+/// Each text of a column is UTF-8: its name, that of the table that it refers to, and those that it takes.
+pub fn column_texts_are_utf8(column: &Column)
+    ensures { IsUtf8Column column.now }
+{
+    let _name = column.name();
+    let _key = column.foreign_key();
+    if let Some(texts) = column.enum_values() {
+        listed_texts_are_utf8(texts);
+    }
+}
+
+/// So is each of a list of columns.
+pub fn listed_columns_are_utf8(columns: &[Column])
+    ensures { AreUtf8Columns columns.now }
+{
+    for column in columns {
+        column_texts_are_utf8(column);
+    }
 }

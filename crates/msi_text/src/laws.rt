@@ -7,7 +7,7 @@ ghost use Rattle.msi_text.specs.Times.{MomentsComeBackFromUnix, StoredMomentsCom
 
 pub use msi_text_base::laws::{
     ascii_stands_for_itself, page_bytes_come_back, page_ids_tell_pages, page_tables_agree,
-    page_texts_come_back, utf8_texts_come_back,
+    page_texts_come_back, texts_are_utf8, utf8_texts_come_back,
 };
 pub use msi_text_pool::laws::{
     empty_places_are_written, given_back_stays_in_range, given_back_takes_one,

@@ -1,8 +1,12 @@
-//! Laws of the formats themselves: each is the contract of a function without a body.
+//! Laws of the formats themselves: each is the contract of a function without a body, but for one, which looks at its
+//! text.
 
 ghost use Rattle.msi_text_base.specs.PageTables.{PageTablesAgree};
 ghost use Rattle.msi_text_base.specs.Pages.{AsciiStandsForItself, PageBytesComeBack, PageIdsTellPages};
 ghost use Rattle.msi_text_base.specs.Pages.{PageTextsComeBack, Utf8TextsComeBack};
+ghost use Rattle.std.specs.Prelude.{IsUtf8};
+
+use crate::text::Text;
 
 /// The id of a code page is read as that page.
 pub fn page_ids_tell_pages()
@@ -33,3 +37,10 @@ pub fn ascii_stands_for_itself()
 pub fn page_bytes_come_back()
     ensures { PageBytesComeBack }
 {}
+
+/// Every text is UTF-8.
+pub fn texts_are_utf8(text: &Text)
+    ensures { IsUtf8 text.now }
+{
+    let _text = text.as_str();
+}
