@@ -63,10 +63,10 @@ impl Relation {
         self.rows.as_slice()
     }
 
-    /// Returns the rows as callers see them, over the pool of their texts. Each has to have a cell for each column.
+    /// The rows as callers see them, over the pool of their texts. Each has a cell for each column.
     ///
     /// # Errors
-    /// Fails with `OutOfMemory`.
+    /// `OutOfMemory`.
     pub(crate) fn into_rows<'a>(
         self,
         alloc: Global,
