@@ -1,5 +1,5 @@
 -- How often a successor is looked up, and what its bounds follow from.
-use Rattle.std.proofs.Common.{ℕ, ◌+◌, ◌-◌, ◌≤◌, List, ◌++◌, inl, inr, subst, arith}
+use Rattle.std.proofs.Common.{◌≡◌, ℕ, ◌+◌, ◌-◌, ◌≤◌, List, ◌++◌, inl, inr, subst, arith}
 use Rattle.msi_container_format.specs.Container.{fat_of}
 use Rattle.msi_container_read.specs.Claims.{CanClaim}
 use Rattle.msi_container_read.specs.Reading.{IsStart, IsMini, mini_limit}
@@ -36,3 +36,7 @@ pub within_both : (bytes mini_stream : List ℕ) (old new limit : ℕ)
     → limit ≤ sectors_inside bytes
     → IsWithinSectors bytes (new - old)
 within_both bytes mini_stream old new limit h a b = inr (mini_stream, h, omega arith)
+
+-- steps that were counted from none on
+pub within_from_none : (bytes : List ℕ) (old new : ℕ) → old ≡ 0 → IsWithinSectors bytes (new - old) → IsWithinSectors bytes new
+within_from_none bytes old new none h = subst (IsWithinSectors bytes) (omega (arith, none)) h

@@ -1,4 +1,4 @@
-use Rattle.std.proofs.Common.{◌≡◌, ◌+◌, ℕ, List, ◌∙◌, ap, refl}
+use Rattle.std.proofs.Common.{◌≡◌, ℕ, List, ◌∙◌, ap, arith, refl}
 use Rattle.std.proofs.lemmas.Result.{err_from_is_err_and}
 use Rattle.msi_container_format.specs.Container.{stream_entries, IsPlan}
 use Rattle.msi_container_format.specs.Trees.{members}
@@ -8,12 +8,19 @@ use Rattle.msi_container_read.specs.Steps.{steps_of}
 use Rattle.msi_container_read.proofs.KeptLemmas.{kept}
 use Rattle.msi_container_read.proofs.PlanPartsLemmas.{memory_left}
 use Rattle.msi_container_read.proofs.SharedNamesLemmas.{plan_names}
+use Rattle.msi_container_read.proofs.StepLemmas.{within_from_none}
 use Rattle.msi_container_read.proofs.reading.read_counted.Goals as goal
 
 pub returns-in_err-outline-clause-only : goal.returns-in_err-outline-clause-only
 returns-in_err-outline-clause-only c = λ contents (plan, h, e).
     let p = err_from_is_err_and c.from_residual.result c.from_residual.ensures.1 in
     rw (p.1, p.2) (c.in_err-outline.ensures.only plan h)
+
+pub returns-in_err-streams-clause-bounded : goal.returns-in_err-streams-clause-bounded
+returns-in_err-streams-clause-bounded c = within_from_none c.args.bytes.now c.new.result c.read_outline.new.steps c.new.ensures c.read_outline.ensures.bounded
+
+pub returns-clause-bounded : goal.returns-clause-bounded
+returns-clause-bounded c = within_from_none c.args.bytes.now c.new.result c.read_outline.new.steps c.new.ensures c.read_outline.ensures.bounded
 
 pub collect-requires-clause-storages : goal.collect-requires-clause-storages
 collect-requires-clause-storages c = rw (c.deref.ensures.value, c.deref-3.ensures.value) c.in_ok-outline.ensures.storages
@@ -55,7 +62,8 @@ unfolding returns-clause-found
 returns-clause-exact c = λ plan h.
     let found = c.in_ok-outline.ensures.found in
     let held = returns-clause-found c in
-    found.2 ∙ ap (λ n. n + steps_of found.0) c.new.ensures ∙ ap steps_of (plan_once c.args.bytes.now found.0 plan held.1 h)
+    let same : steps_of found.0 ≡ steps_of plan = ap steps_of (plan_once c.args.bytes.now found.0 plan held.1 h) in
+    omega (arith, found.2, c.new.ensures, same)
 
 pub returns-clause-kept : goal.returns-clause-kept
 returns-clause-kept c = kept c.args.bytes.now _ (returns-clause-found c)
