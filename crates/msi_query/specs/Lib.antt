@@ -3,6 +3,7 @@ pub mod Queries
 pub mod QueryCode
 pub mod QueryTrees
 pub mod QueryTexts
+pub mod Utf8Queries
 -- The words of the crates below, which public clauses cite.
 pub use Rattle.msi_text_base.specs.declared.errors.ErrorKind
 pub use Rattle.msi_table_values.specs.declared.value.Value
@@ -20,3 +21,5 @@ pub use Rattle.msi_query_expressions.specs.Trees
 pub use Rattle.msi_query_expressions.specs.RowFilters
 pub use Rattle.msi_query_expressions.specs.Printing
 pub use Rattle.msi_query_expressions.specs.Vocabulary
+pub use Rattle.msi_query_expressions.specs.Utf8Expressions
+pub use Rattle.msi_table_values.specs.Utf8Texts

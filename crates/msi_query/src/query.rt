@@ -9,6 +9,7 @@ pub(crate) mod delete;
 pub(crate) mod insert;
 mod printing;
 pub(crate) mod select;
+mod texts;
 pub(crate) mod update;
 
 pub use delete::Delete;

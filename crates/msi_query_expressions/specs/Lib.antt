@@ -11,3 +11,4 @@ pub mod Trees
 pub mod RowFilters
 pub mod Printing
 pub mod Vocabulary
+pub mod Utf8Expressions

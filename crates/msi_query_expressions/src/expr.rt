@@ -21,6 +21,7 @@ mod names;
 mod operands;
 mod operators;
 mod printing;
+mod texts;
 
 use equated::equated_places;
 use evaluation::operand_of;

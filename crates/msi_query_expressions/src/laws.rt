@@ -1,7 +1,11 @@
-//! Laws of the definitions themselves: each is the contract of a function without a body.
+//! Laws of the definitions themselves: each is the contract of a function without a body, but for one, which looks at
+//! its expression.
 
 ghost use Rattle.msi_query_expressions.specs.Folding.{FoldingKeepsValues, ConstructorsFold};
+ghost use Rattle.msi_query_expressions.specs.Utf8Expressions.{IsUtf8Expression};
 ghost use Rattle.msi_query_expressions.specs.Vocabulary.{PrintedConditionsAreUnambiguous};
+
+use crate::expr::Expr;
 
 /// Folding changes the value of no expression on any row.
 pub fn folding_keeps_values()
@@ -19,3 +23,10 @@ pub fn constructors_fold()
 pub fn printed_conditions_are_unambiguous()
     ensures { PrintedConditionsAreUnambiguous }
 {}
+
+/// Each text of an expression is UTF-8: the names of its columns, and its literals.
+pub fn expression_texts_are_utf8(expression: &Expr)
+    ensures { IsUtf8Expression expression.now }
+{
+    expression.look_at_texts();
+}

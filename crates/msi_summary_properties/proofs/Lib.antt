@@ -17,3 +17,4 @@ pub mod KeptSetLemmas
 mod PropertiesRows
 mod PropertyStreamRows
 pub mod WritableLemmas
+pub mod WrittenTextsLemmas

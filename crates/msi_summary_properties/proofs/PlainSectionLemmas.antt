@@ -176,7 +176,7 @@ first_missing page e es (Some bytes) is carried more =
     ap (λ (o : Option (List ℕ)). option_and_then (λ x. option_map (λ xs. x ∷ xs) (all_present (map (λ e. piece_of page e.1) es))) (option_map padded_to_four o)) is
     ∙ none (all_present (map (λ e. piece_of page e.1) es)) (padded_to_four bytes) (more carried)
 
-missing : (page : CodePage) (es : List (ℕ × PropertyValue)) → is_carried page es ≡ false → all_present (map (λ e. piece_of page e.1) es) ≡ None
+pub missing : (page : CodePage) (es : List (ℕ × PropertyValue)) → is_carried page es ≡ false → all_present (map (λ e. piece_of page e.1) es) ≡ None
 missing page [] carried = cc
 missing page (e ∷ es) carried = first_missing page e es (value_bytes page e.1) refl carried (missing page es)
 

@@ -9,7 +9,7 @@ use Rattle.msi_summary_properties.specs.declared.propset.PropertyValue.TheVarian
 use Rattle.msi_summary_properties.specs.PropertyStream.{SpellsValue, value_bytes, string_bytes_of, IsWritableValue, needs_version_1}
 use Rattle.msi_text_base.proofs.OptionLemmas.{map_some, some_is}
 
-spelled_length : (piece : List ℕ) → length (string_bytes_of piece) ≡ length piece + 9
+pub spelled_length : (piece : List ℕ) → length (string_bytes_of piece) ≡ length piece + 9
 spelled_length piece = omega (arith, length-append piece (0 ∷ []))
 
 -- a value that needs version 1 stands in a set of version 1

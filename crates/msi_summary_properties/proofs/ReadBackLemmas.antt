@@ -136,7 +136,7 @@ length-header set version fits =
     let format = fits.2 in
     omega arith
 
-told : (set : Properties) → is_refused set ≡ false → can_write (page_of set) set.values ≡ true
+pub told : (set : Properties) → is_refused set ≡ false → can_write (page_of set) set.values ≡ true
 told set kept = by_test (can_write (page_of set) set.values) refl
   where
     both : {A : Type 0} → true ≡ false → A

@@ -1,7 +1,11 @@
-//! What holds of the format and of the definitions themselves: each is the contract of a function without a body.
+//! What holds of the format and of the definitions themselves: each is the contract of a function without a body, or
+//! of one that only looks at its set.
 
 ghost use Rattle.msi_summary_properties.specs.PropertyLaws.{OneSet, SetsReadBack};
 ghost use Rattle.msi_summary_properties.specs.PropertyLaws.{RemovingChangesOne, SettingChangesOne};
+ghost use Rattle.msi_summary_properties.specs.TextSizes.{CanBeRead, StaysWithinBound};
+
+use crate::propset::PropertySet;
 
 /// Bytes encode at most one set.
 pub fn one_set()
@@ -12,6 +16,23 @@ pub fn one_set()
 pub fn sets_read_back()
     ensures { SetsReadBack }
 {}
+
+/// What is written of a set is within the bound of reading: the set's texts have at most four times the bytes of the
+/// stream and 64 KiB.
+pub fn written_sets_are_within_bound(set: &PropertySet)
+    ensures { StaysWithinBound set.now }
+{
+    let _writable = set.is_writable();
+}
+
+/// What is written of a set that isn't refused can be read: it encodes a set whose texts are within the bound. That is
+/// the set itself where each text reads back from its page, and else one whose other texts have changed.
+pub fn written_sets_can_be_read(set: &PropertySet)
+    ensures { CanBeRead set.now }
+{
+    let _writable = set.is_writable();
+    let _values = set.values();
+}
 
 /// A property that is set has the value that it was set to, and no other is changed.
 pub fn setting_changes_one()

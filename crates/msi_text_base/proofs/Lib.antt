@@ -6,6 +6,7 @@ pub mod ListLemmas
 pub mod ReadFieldLemmas
 pub mod PageTablesLemmas
 pub mod PagesLemmas
+pub mod SpelledTextsLemmas
 pub mod ReadLemmas
 pub mod WriteLemmas
 pub mod NumberLemmas

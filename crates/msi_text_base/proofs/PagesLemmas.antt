@@ -122,7 +122,7 @@ scalar_read upper table b = by_test (is_some (character_of upper b))
     (λ there. character_scalar upper table b (character_read upper b) (some_there (character_of upper b) 0xFFFD there))
     (λ none. ap (λ o. scalar (unwrap_or o 0xFFFD)) (none_there (character_of upper b) none))
 
-all_scalars : (upper bytes : List ℕ) → is_table upper ≡ true → scalars (map (character_read upper) bytes) ≡ true
+pub all_scalars : (upper bytes : List ℕ) → is_table upper ≡ true → scalars (map (character_read upper) bytes) ≡ true
 all_scalars upper [] table = refl
 all_scalars upper (b ∷ bytes) table = ap (λ t. t && scalars (map (character_read upper) bytes)) (scalar_read upper table b) ∙ all_scalars upper bytes table
 

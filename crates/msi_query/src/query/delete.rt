@@ -4,11 +4,14 @@ ghost use Rattle.std.specs.Prelude.{◌≡◌, IfOk, IfErr, None};
 ghost use Rattle.msi_text_base.specs.declared.errors.ErrorKind.TheVariants.{OutOfMemory};
 ghost use Rattle.msi_query.specs.Queries.{narrowed as narrowed_by};
 ghost use Rattle.msi_query.specs.QueryTexts.{delete_text};
+ghost use Rattle.msi_query.specs.Utf8Queries.{IsUtf8Delete};
 
 use super::narrowed;
 use super::printing::write_condition;
+use super::texts::look_at_condition;
 use msi_query_expressions::Expr;
 use msi_text::errors::Error;
+use msi_text::laws::texts_are_utf8;
 use msi_text::text::{IntoText, Text};
 use std::alloc::Global;
 use std::fmt;
@@ -87,6 +90,14 @@ impl Delete {
             table,
             condition: Some(both),
         })
+    }
+
+    /// Looks at each text, which is UTF-8.
+    pub(crate) fn look_at_texts(&self)
+        ensures { IsUtf8Delete self.now }
+    {
+        texts_are_utf8(&self.table);
+        look_at_condition(self.condition.as_ref());
     }
 
     /// What it is made of, moved out.

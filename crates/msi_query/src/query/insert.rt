@@ -4,10 +4,13 @@ ghost use Rattle.std.specs.Prelude.{◌≡◌, ◌++◌, ◌∷◌, [], IfOk, If
 ghost use Rattle.std.specs.Fmt.{DisplaysOnOk};
 ghost use Rattle.msi_text_base.specs.declared.errors.ErrorKind.TheVariants.{OutOfMemory};
 ghost use Rattle.msi_query.specs.QueryTexts.{insert_text, row_text, rows_text};
+ghost use Rattle.msi_query.specs.Utf8Queries.{IsUtf8Insert};
 
 use super::printing::write_list;
+use super::texts::look_at_rows;
 use msi_table::value::Value;
 use msi_text::errors::Error;
+use msi_text::laws::texts_are_utf8;
 use msi_text::text::{IntoText, Items, Text};
 use std::alloc::Global;
 use std::fmt;
@@ -137,6 +140,14 @@ impl Insert {
             table,
             rows: Items::from_vec(all),
         })
+    }
+
+    /// Looks at each text, which is UTF-8.
+    pub(crate) fn look_at_texts(&self)
+        ensures { IsUtf8Insert self.now }
+    {
+        texts_are_utf8(&self.table);
+        look_at_rows(self.rows.as_slice());
     }
 
     /// What it is made of, moved out.

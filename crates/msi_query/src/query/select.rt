@@ -6,10 +6,12 @@ ghost use Rattle.msi_text_base.specs.declared.errors.ErrorKind.TheVariants.{OutO
 ghost use Rattle.msi_query.specs.Queries.{table, join, no_clauses, narrowed_query, projected_query};
 ghost use Rattle.msi_query.specs.QueryTexts.{bare_name, columns_text, join_word, query_text, side_text};
 ghost use Rattle.msi_query.specs.QueryTrees.{query_of};
+ghost use Rattle.msi_query.specs.Utf8Queries.{IsUtf8Query};
 
 use super::JoinKind;
 use super::clauses::Clauses;
 use super::printing::{write_condition, write_list};
+use super::texts::look_at_tree;
 use msi_query_expressions::Expr;
 use msi_table::parts::copied_list;
 use msi_text::errors::Error;
@@ -197,6 +199,13 @@ impl Select {
             },
         };
         Ok(Select { alloc, tree })
+    }
+
+    /// Looks at each text, which is UTF-8.
+    pub(crate) fn look_at_texts(&self)
+        ensures { IsUtf8Query self.now }
+    {
+        look_at_tree(&self.tree);
     }
 
     /// Its tree.

@@ -5,12 +5,15 @@ ghost use Rattle.std.specs.Fmt.{DisplaysOnOk};
 ghost use Rattle.msi_text_base.specs.declared.errors.ErrorKind.TheVariants.{OutOfMemory};
 ghost use Rattle.msi_query.specs.Queries.{narrowed as narrowed_by};
 ghost use Rattle.msi_query.specs.QueryTexts.{set_text, sets_text, update_text};
+ghost use Rattle.msi_query.specs.Utf8Queries.{IsUtf8Update};
 
 use super::narrowed;
 use super::printing::{write_condition, write_list};
+use super::texts::{look_at_condition, look_at_sets};
 use msi_query_expressions::Expr;
 use msi_table::value::Value;
 use msi_text::errors::Error;
+use msi_text::laws::texts_are_utf8;
 use msi_text::text::{IntoText, Items, Text};
 use std::alloc::Global;
 use std::fmt;
@@ -162,6 +165,15 @@ impl Update {
             sets,
             condition: Some(both),
         })
+    }
+
+    /// Looks at each text, which is UTF-8.
+    pub(crate) fn look_at_texts(&self)
+        ensures { IsUtf8Update self.now }
+    {
+        texts_are_utf8(&self.table);
+        look_at_sets(self.sets.as_slice());
+        look_at_condition(self.condition.as_ref());
     }
 
     /// What it is made of, moved out.
