@@ -1,4 +1,4 @@
-use Rattle.std.proofs.Common.{◌≡◌, ◌+◌, ℕ, List, ◌∙◌, ap, refl}
+use Rattle.std.proofs.Common.{◌≡◌, ℕ, List, ◌∙◌, ap, refl}
 use Rattle.std.proofs.lemmas.Result.{err_from_is_err_and}
 use Rattle.msi_container_format.specs.Container.{stream_entries, IsPlan}
 use Rattle.msi_container_format.specs.Trees.{members}
@@ -8,6 +8,7 @@ use Rattle.msi_container_read.specs.Steps.{steps_of}
 use Rattle.msi_container_read.proofs.KeptLemmas.{kept}
 use Rattle.msi_container_read.proofs.PlanPartsLemmas.{memory_left}
 use Rattle.msi_container_read.proofs.SharedNamesLemmas.{plan_names}
+use Rattle.msi_container_read.proofs.StepLemmas.{exact_from_zero, from_zero}
 use Rattle.msi_container_read.proofs.reading.read_counted.Goals as goal
 
 pub returns-in_err-outline-clause-only : goal.returns-in_err-outline-clause-only
@@ -35,6 +36,14 @@ returns-in_err-streams-clause-only c = λ contents (plan, h, e).
     let names : HaveNamesApart c.args.bytes.now c.deref.result.now c.deref-3.result.now c.deref-4.result.now = rw (directory, storages, streams) (plan_names c.args.bytes.now plan h) in
     rw (p.1, p.2) (memory_left _ c.in_err-streams.ensures.kinds (λ d. c.in_err-streams.ensures.invalid d names))
 
+pub returns-in_err-streams-clause-bounded : goal.returns-in_err-streams-clause-bounded
+returns-in_err-streams-clause-bounded c =
+    from_zero c.args.bytes.now c.new.result c.read_outline.new.steps c.new.ensures c.in_ok-outline.ensures.bounded
+
+pub returns-clause-bounded : goal.returns-clause-bounded
+returns-clause-bounded c =
+    from_zero c.args.bytes.now c.new.result c.read_outline.new.steps c.new.ensures c.in_ok-outline.ensures.bounded
+
 pub returns-clause-found : goal.returns-clause-found
 returns-clause-found c =
     let bytes = c.args.bytes.now in
@@ -55,7 +64,8 @@ unfolding returns-clause-found
 returns-clause-exact c = λ plan h.
     let found = c.in_ok-outline.ensures.found in
     let held = returns-clause-found c in
-    found.2 ∙ ap (λ n. n + steps_of found.0) c.new.ensures ∙ ap steps_of (plan_once c.args.bytes.now found.0 plan held.1 h)
+    exact_from_zero c.new.result c.read_outline.new.steps _ c.new.ensures found.2
+    ∙ ap steps_of (plan_once c.args.bytes.now found.0 plan held.1 h)
 
 pub returns-clause-kept : goal.returns-clause-kept
 returns-clause-kept c = kept c.args.bytes.now _ (returns-clause-found c)
