@@ -25,13 +25,6 @@ has_mini_stream bytes limit difat fat directory mini_fat mini_stream h s m =
     let both : P (fat_of bytes difat) = subst P s.fats (start, mini) in
     (difat, directory, mini_fat, both.0, both.1)
 
--- what is counted from 0 on is the count
-pub from_zero : (bytes : List ℕ) (old new : ℕ) → old ≡ 0 → IsWithinSectors bytes (new - old) → IsWithinSectors bytes new
-from_zero bytes old new e h = subst (IsWithinSectors bytes) (omega (arith, e)) h
-
-pub exact_from_zero : (old new n : ℕ) → old ≡ 0 → new ≡ old + n → new ≡ n
-exact_from_zero old new n e h = omega (arith, e, h)
-
 -- before the mini stream was found, no more was looked up than what was claimed
 pub within_sectors : (bytes : List ℕ) (old new claimed limit : ℕ) → new ≤ old + claimed → claimed ≤ limit → limit ≤ sectors_inside bytes → IsWithinSectors bytes (new - old)
 within_sectors bytes old new claimed limit a b c = inl (omega arith)
