@@ -28,6 +28,7 @@ pub mod MadeLemmas
 pub mod NamedLemmas
 pub mod OpenedLemmas
 pub mod ReadLemmas
+pub mod NamedTextsLemmas
 pub mod ChangingLemmas
 pub mod KeptLawLemmas
 pub mod FreshLemmas

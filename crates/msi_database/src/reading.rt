@@ -1,6 +1,7 @@
 //! A database that is read from its pool and the streams of a container's root.
 
-ghost use Rattle.std.specs.Prelude.{◌≡◌, [], ◌<◌, ◌≤◌, All, IfErr, IfOk, Some, if◌then◌else◌, is_some, length, map};
+ghost use Rattle.std.specs.Prelude.{◌≡◌, [], ◌<◌, ◌≤◌, All, IfErr, IfOk, OnOk, Some, if◌then◌else◌, is_some, length};
+ghost use Rattle.std.specs.Prelude.{map};
 ghost use Rattle.std.specs.FinMap.{entries};
 ghost use Rattle.msi_text_base.specs.declared.errors.ErrorKind.TheVariants.{InvalidData};
 ghost use Rattle.msi_text_base.specs.Results.{OnlyMemory};
@@ -13,9 +14,11 @@ ghost use Rattle.msi_database_storage.specs.Kept.{AreAsLong, Kept, schema_listed
 ghost use Rattle.msi_database_storage.specs.StreamNames.{HaveShortNames, HoldBytes};
 ghost use Rattle.msi_database_storage.specs.Streams.{stored_rows as rows_stored};
 ghost use Rattle.msi_database.specs.Agreement.{described_by, schema_in};
+ghost use Rattle.msi_database.specs.NamedTexts.{NameFewTexts, RowsNameFewTexts, SystemRowsNameFewTexts};
 ghost use Rattle.msi_database.specs.Reading.{IsDatabaseOf};
 
 use crate::database::Database;
+use crate::named_texts::name_few_texts;
 use crate::reasons;
 use msi_container_format::contents::StreamMap;
 use msi_database_schema::parts::named_table;
@@ -29,7 +32,6 @@ use msi_table::column::Column;
 use msi_table::parts::values;
 use msi_table::{Table, Value, ValueRef};
 use msi_text::errors::{Error, ErrorKind};
-use msi_text::parts::string_ref;
 use msi_text::stringpool::StringPool;
 use msi_text::text::Items;
 use std::alloc::Global;
@@ -50,64 +52,21 @@ fn look_at(streams: &StreamMap)
     }
 }
 
-/// How many bytes the texts of a pool have.
-fn pool_size(pool: &StringPool) -> usize {
-    let mut size = 0_usize;
-    for i in 0..pool.num_strings() {
-        size = size.saturating_add(pool.get(string_ref(i + 1)).len());
-    }
-    size
-}
-
-/// How many bytes the text that a cell names has; none where it names no text.
-fn text_size(pool: &StringPool, cell: ValueRef) -> usize {
-    match cell {
-        ValueRef::Str(reference) => pool.get(reference).len(),
-        _ => 0,
-    }
-}
-
-/// How many of the bytes that are left for texts are left behind a row; nothing where it has more.
-fn left_behind(pool: &StringPool, row: &[ValueRef], left: usize) -> Option<usize> {
-    let mut left = left;
-    for cell in row {
-        let Some(others) = left.checked_sub(text_size(pool, *cell)) else {
-            return None;
-        };
-        left = others;
-    }
-    Some(left)
-}
-
-/// Whether the texts that rows name, each as often as it is named, have at most four times the bytes of the pool's
-/// texts, and 64 bytes for each row, and 256 KiB.
-fn have_few_texts(pool: &StringPool, rows: &[Items<ValueRef>]) -> bool {
-    let of_pool = pool_size(pool).saturating_mul(4);
-    let of_rows = rows.len().saturating_mul(64).saturating_add(262_144);
-    let mut left = of_pool.saturating_add(of_rows);
-    for row in rows {
-        let Some(others) = left_behind(pool, row.as_slice(), left) else {
-            return false;
-        };
-        left = others;
-    }
-    true
-}
-
 /// The values of rows, whose texts stand in a pool. Each value has a copy of its text, so rows that name the same long
 /// texts again and again are refused.
 ///
 /// # Errors
-/// `OutOfMemory`, also where the texts are more than `have_few_texts` allows.
+/// `OutOfMemory`, also where the texts are more than `name_few_texts` allows.
 fn values_of_rows(
     alloc: Global,
     pool: &StringPool,
     rows: &[Items<ValueRef>],
 ) -> Result<Vec<Items<Value>>, Error>
     ensures ok { IfOk result (λ described. described.items ≡ map (row_values pool.now.places) rows.now) }
+    ensures bounded { OnOk result (NameFewTexts pool.now.places rows.now) }
     ensures kind { OnlyMemory result }
 {
-    if !have_few_texts(pool, rows) {
+    if !name_few_texts(pool, rows) {
         return Err(Error::new(ErrorKind::OutOfMemory, reasons::SHARED_TEXTS));
     }
     let mut described = Vec::with_capacity(alloc, rows.len())?;
@@ -132,6 +91,7 @@ fn described_rows(
     requires few { length columns ≤ most_columns }
     ensures ok { IfOk result (λ rows.
         described_by (entries streams.now) (unindexed pool.now) columns name.now ≡ Some rows.items) }
+    ensures bounded { OnOk result (RowsNameFewTexts (entries streams.now) (unindexed pool.now) columns name.now) }
     ensures kind { IfErr result (IsRefusal (or_refused InvalidData
         (described_by (entries streams.now) (unindexed pool.now) columns name.now))) }
 {
@@ -158,6 +118,7 @@ fn tables_in(
     ensures ok { let schema = schema_in (entries streams.now) (unindexed pool.now) in
         IfOk result (λ tables. schema ≡ Some (schema_listed tables)) }
     ensures long { IfOk result (AreAsLong pool.now.long) }
+    ensures bounded { OnOk result (SystemRowsNameFewTexts (entries streams.now) (unindexed pool.now)) }
     ensures kind { let schema = schema_in (entries streams.now) (unindexed pool.now) in
         IfErr result (IsRefusal (or_refused InvalidData schema)) }
 {
@@ -196,6 +157,7 @@ impl Database {
     pub fn read(alloc: Global, pool: StringPool, streams: StreamMap) -> Result<Database, Error>
         ensures ok { IfOk result (IsDatabaseOf (unindexed pool) (entries streams)) }
         ensures only { IfOk result (λ d. (k : Kept) → IsDatabaseOf (unindexed pool) (entries streams) k → k ≡ d) }
+        ensures bounded { OnOk result (SystemRowsNameFewTexts (entries streams) (unindexed pool)) }
         ensures kind { let schema = schema_in (entries streams) (unindexed pool) in
             IfErr result (IsRefusal (or_refused InvalidData schema)) }
     {

@@ -6,6 +6,8 @@ use Rattle.msi_table_values.specs.CellValues.{row_values}
 use Rattle.msi_database_schema.specs.Schema.{SchemaRows, schema_of, tables_of}
 use Rattle.msi_database_schema.specs.System.{columns_columns, columns_name, tables_columns, tables_name, validation_columns, validation_name}
 use Rattle.msi_database.specs.Agreement.{described_by}
+use Rattle.msi_database.specs.NamedTexts.{RowsNameFewTexts, SystemRowsNameFewTexts}
+use Rattle.msi_database.proofs.NamedTextsLemmas.{on_ok, rows_few}
 use Rattle.msi_database.proofs.ReadingLemmas.{described_fails, schema_is, told_kind, told_long, told_ok}
 use Rattle.msi_database.proofs.reading.tables_in.Goals as goal
 
@@ -23,6 +25,14 @@ returns-clause-ok c = let streams = entries c.args.streams.now in let raw = unin
 
 pub returns-clause-long : goal.returns-clause-long
 returns-clause-long c = told_long (entries c.args.streams.now) (unindexed c.args.pool.now) c.tables_described.result c.long_string_refs.result c.new-rows.result c.long_string_refs.ensures c.tables_described.ensures
+
+pub returns-clause-bounded : goal.returns-clause-bounded
+returns-clause-bounded c = let streams = entries c.args.streams.now in let raw = unindexed c.args.pool.now in
+    on_ok (SystemRowsNameFewTexts streams raw) c.tables_described.result (record {
+      tables = subst (λ columns. RowsNameFewTexts streams raw columns tables_name) c.in_ok-tables_columns.ensures.ok c.in_ok-tables.ensures.bounded;
+      columns = subst (λ columns. RowsNameFewTexts streams raw columns columns_name) c.in_ok-columns_columns.ensures.ok c.in_ok-columns.ensures.bounded;
+      validation = rows_few streams raw validation_columns validation_name c.args.validation.now c.requires.validation c.in_ok-validation.ensures.bounded;
+    })
 
 pub returns-clause-kind : goal.returns-clause-kind
 returns-clause-kind c = let streams = entries c.args.streams.now in let raw = unindexed c.args.pool.now in

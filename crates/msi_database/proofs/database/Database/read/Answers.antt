@@ -69,3 +69,6 @@ returns-clause-only c = let raw : Pool = unindexed c.args.pool in let streams = 
     let shown : (unindexed c.in_ok-pool.pool) ≡ pool_shown (numbers_named streams raw.long listed rows) raw =
     c.in_ok-pool.ensures.ok ∙ ap (λ (rows : List (List ValueRef)). pool_shown (numbers_named streams raw.long listed rows) raw) c.as_slice-2.ensures.value in
     λ k is. read_once raw listed streams rows reads k is (unindexed c.in_ok-pool.pool) shown ∙ ap (λ (ts : List TableDef). kept_of (unindexed c.in_ok-pool.pool) ts streams) c.as_slice-listed.ensures
+
+pub returns-clause-bounded : goal.returns-clause-bounded
+returns-clause-bounded c = c.in_ok-tables.ensures.bounded
