@@ -3,6 +3,7 @@ pub use Rattle.msi_query.specs.Queries
 pub use Rattle.msi_query.specs.QueryCode
 pub use Rattle.msi_query.specs.QueryTrees
 pub use Rattle.msi_query.specs.QueryTexts
+pub use Rattle.msi_query.specs.Utf8Queries
 pub use Rattle.msi_query.specs.UnaryOp
 pub use Rattle.msi_query.specs.BinaryOp
 pub use Rattle.msi_query.specs.Expressions
@@ -16,6 +17,7 @@ pub use Rattle.msi_query.specs.Trees
 pub use Rattle.msi_query.specs.RowFilters
 pub use Rattle.msi_query.specs.Printing
 pub use Rattle.msi_query.specs.Vocabulary
+pub use Rattle.msi_query.specs.Utf8Expressions
 pub use Rattle.msi_query_rows.specs.Refusals
 pub use Rattle.msi_query_rows.specs.Selection
 pub use Rattle.msi_query_rows.specs.Rows

@@ -5,6 +5,7 @@ pub use Rattle.msi_table.specs.KeyOrder
 pub use Rattle.msi_table.specs.Tables
 pub use Rattle.msi_table.specs.Rows
 pub use Rattle.msi_table.specs.SortedRows
+pub use Rattle.msi_table.specs.Utf8Rows
 pub use Rattle.msi_table_values.specs.declared.column.ColumnType
 pub use Rattle.msi_table_values.specs.declared.value.Value
 pub use Rattle.msi_table_values.specs.declared.value.ValueRef
@@ -17,3 +18,4 @@ pub use Rattle.msi_table_values.specs.CellOrder
 pub use Rattle.msi_table_values.specs.OrderLaws
 pub use Rattle.msi_table_values.specs.Fitting
 pub use Rattle.msi_table_values.specs.StoredValues
+pub use Rattle.msi_table_values.specs.Utf8Texts

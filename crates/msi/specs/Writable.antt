@@ -15,6 +15,10 @@ HasUtf8Texts s = pools.HaveUtf8Texts s.kept.database.pool.places × properties.H
 abbrev pub HasUtf8Pages : State → Type 0
 HasUtf8Pages s = (s.kept.database.pool.page ≡ Utf8) × (page_of s.summary ≡ Utf8)
 
+-- a package whose pages are UTF-8 can be written so that each text reads back
+abbrev pub IsWritableUnderUtf8 : State → Type 0
+IsWritableUnderUtf8 s = HasUtf8Pages s → TextsAreWritable s
+
 -- under such pages each text can be written so that it reads back
 abbrev pub Utf8TextsAreWritable : Type 0
 Utf8TextsAreWritable = (s : State) → HasUtf8Pages s → HasUtf8Texts s → TextsAreWritable s

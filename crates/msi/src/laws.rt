@@ -1,11 +1,15 @@
-//! Laws of the definitions themselves: each is the contract of a function that does nothing.
+//! Laws of the definitions themselves: each is the contract of a function that does nothing, or only looks at its
+//! package.
 
 ghost use Rattle.msi.specs.Laws.{BytesMeanOne, BytesOpenToOne, OpenedArePackages, PassingMeans, RefusedMeanNothing};
 ghost use Rattle.msi.specs.Laws.{FlushKeepsParts, RemovesItsStream, RemovesSignature, WritesItsStream};
 ghost use Rattle.msi.specs.Laws.{RunsKeepPackages, StepsAreFixed, StepsKeepPackages};
 ghost use Rattle.msi.specs.Laws.{CreatedIsSession, FlushHoldsImage, FlushedIsHeld, OpenedIsSession, RunsKeepSessions};
 ghost use Rattle.msi.specs.Laws.{FlushesAreSteps, ReplaysMean, ReplaysOverMean};
-ghost use Rattle.msi.specs.Writable.{Utf8TextsAreWritable};
+ghost use Rattle.msi.specs.Writable.{IsWritableUnderUtf8, Utf8TextsAreWritable};
+
+use crate::package::Package;
+use msi_container_device::Source;
 
 /// Bytes mean at most one package.
 pub fn bytes_mean_one()
@@ -127,3 +131,11 @@ pub fn replays_over_mean()
 pub fn utf8_texts_are_writable()
     ensures { Utf8TextsAreWritable }
 {}
+
+/// Every package whose two pages are UTF-8 can be written so that each text reads back: nothing is presumed of its
+/// texts, since they are UTF-8 by their type.
+pub fn utf8_packages_are_writable<F: Source>(target: &Package<F>)
+    ensures { IsWritableUnderUtf8 target.now.state }
+{
+    let _writable = target.is_writable();
+}

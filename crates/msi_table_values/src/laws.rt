@@ -59,7 +59,7 @@ pub fn removing_keeps_values()
     given_back_takes_one();
 }
 
-/// A text that is a value is UTF-8.
+/// The text of a value is UTF-8, where it is one.
 pub fn value_texts_are_utf8(value: &Value)
     ensures { IsUtf8Value value.now }
 {
@@ -68,7 +68,7 @@ pub fn value_texts_are_utf8(value: &Value)
     }
 }
 
-/// So is each of a list of values.
+/// Each text in a list of values is UTF-8.
 pub fn listed_values_are_utf8(values: &[Value])
     ensures { AreUtf8Values values.now }
 {
@@ -97,7 +97,7 @@ pub fn column_texts_are_utf8(column: &Column)
     }
 }
 
-/// So is each of a list of columns.
+/// Each text of a list of columns is UTF-8.
 pub fn listed_columns_are_utf8(columns: &[Column])
     ensures { AreUtf8Columns columns.now }
 {
