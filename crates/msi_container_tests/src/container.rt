@@ -154,8 +154,8 @@ const UNSEEN: [(usize, &[u8], usize, &str); 4] = [
 fn what_is_not_looked_at_may_change(rt: HostRuntime) -> Result<(), Fail> {
     let alloc = rt.alloc();
     let file = file_of(alloc, &[(APP_EXE, 4096)])?;
-    for (at, piece, len, what) in UNSEEN {
-        let bytes = changed(alloc, file.as_slice(), at, piece, len)?;
+    for (at, piece, len, what) in &UNSEEN {
+        let bytes = changed(alloc, file.as_slice(), *at, *piece, *len)?;
         let same = holds(alloc, bytes.as_slice(), &[(APP_EXE, 4096)])?;
         assert!(rt; same, "{what}");
     }

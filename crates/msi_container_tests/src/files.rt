@@ -64,8 +64,8 @@ const FILES: [(Sizes<'static>, u64); 9] = [
 
 #[test]
 fn devices_take_what_is_written(rt: HostRuntime) -> Result<(), Fail> {
-    for (all, over) in FILES {
-        let same = takes_what_is_written(rt.alloc(), all, over)?;
+    for (all, over) in &FILES {
+        let same = takes_what_is_written(rt.alloc(), *all, *over)?;
         assert!(rt; same, "{all:?} over {over}");
     }
     Ok(())

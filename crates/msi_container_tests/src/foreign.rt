@@ -134,11 +134,11 @@ fn contents(alloc: Global, version: u8, len: usize) -> Result<Contents, Error> {
 #[test]
 fn files_of_other_software_are_read(rt: HostRuntime) -> Result<(), Fail> {
     let alloc = rt.alloc();
-    for (version, file_len, count, has_storages, name, len, known) in FOREIGN {
-        let contents = contents(alloc, version, file_len)?;
-        assert_eq!(rt; contents.streams.len(), count);
-        assert_eq!(rt; contents.has_storages, has_storages);
-        let found = has_stream(alloc, &contents, name, len, known)?;
+    for (version, file_len, count, has_storages, name, len, known) in &FOREIGN {
+        let contents = contents(alloc, *version, *file_len)?;
+        assert_eq!(rt; contents.streams.len(), *count);
+        assert_eq!(rt; contents.has_storages, *has_storages);
+        let found = has_stream(alloc, &contents, *name, *len, *known)?;
         assert!(rt; found, "{name} in {file_len} bytes");
     }
     Ok(())

@@ -169,19 +169,19 @@ const LARGE: [Layout<'static>; 2] = [
 ];
 
 /// Asserts that streams are written so, and come back.
-fn assert_layout(rt: &impl Abort, alloc: Global, layout: Layout) -> Result<(), Error> {
+fn assert_layout(rt: &impl Abort, alloc: Global, layout: &Layout) -> Result<(), Error> {
     let (streams, over, len, numbers, stretches) = layout;
-    let written = written(alloc, streams, over)?;
+    let written = written(alloc, *streams, *over)?;
     let file = written.as_slice();
-    assert_eq!(rt; file.len(), len, "{streams:?}");
-    assert_laid_out(rt, file, numbers, stretches);
-    assert!(rt; holds(alloc, file, streams)?, "{streams:?}");
+    assert_eq!(rt; file.len(), *len, "{streams:?}");
+    assert_laid_out(rt, file, *numbers, *stretches);
+    assert!(rt; holds(alloc, file, *streams)?, "{streams:?}");
     Ok(())
 }
 
 #[test]
 fn files_are_laid_out_and_hold_their_streams(rt: HostRuntime) -> Result<(), Fail> {
-    for layout in LAYOUTS {
+    for layout in &LAYOUTS {
         assert_layout(&rt, rt.alloc(), layout)?;
     }
     Ok(())
@@ -189,7 +189,7 @@ fn files_are_laid_out_and_hold_their_streams(rt: HostRuntime) -> Result<(), Fail
 
 #[test]
 fn large_files_are_laid_out_and_hold_their_streams(rt: HostRuntime) -> Result<(), Fail> {
-    for layout in LARGE {
+    for layout in &LARGE {
         assert_layout(&rt, rt.alloc(), layout)?;
     }
     Ok(())

@@ -31,9 +31,9 @@ const LISTINGS: [(Sizes<'static>, Sizes<'static>); 3] = [
 
 #[test]
 fn streams_are_listed_in_order(rt: HostRuntime) -> Result<(), Fail> {
-    for (streams, listed) in LISTINGS {
-        let file = file_of(rt.alloc(), streams)?;
-        let same = lists(rt.alloc(), file.as_slice(), listed, false)?;
+    for (streams, listed) in &LISTINGS {
+        let file = file_of(rt.alloc(), *streams)?;
+        let same = lists(rt.alloc(), file.as_slice(), *listed, false)?;
         assert!(rt; same, "{streams:?}");
     }
     Ok(())

@@ -56,10 +56,10 @@ const PACKED: [(&str, &str, bool, bool); 9] = [
 
 #[test]
 fn stream_names_packed_and_unpacked(rt: HostRuntime) -> Result<(), Fail> {
-    for (stored, text, is_table, is_own) in PACKED {
-        let unpacked = is_unpacked(rt.alloc(), stored, text, is_table)?;
+    for (stored, text, is_table, is_own) in &PACKED {
+        let unpacked = is_unpacked(rt.alloc(), *stored, *text, *is_table)?;
         assert!(rt; unpacked, "{text}");
-        let packed = !is_own || is_packed(rt.alloc(), stored, text, is_table)?;
+        let packed = !*is_own || is_packed(rt.alloc(), *stored, *text, *is_table)?;
         assert!(rt; packed, "{text}");
     }
     Ok(())
@@ -100,9 +100,9 @@ const ACCEPTED: [(&str, usize, bool, bool); 20] = [
 
 #[test]
 fn stream_names_accepted(rt: HostRuntime) -> Result<(), Fail> {
-    for (text, count, is_table, wanted) in ACCEPTED {
-        let found = accepted(rt.alloc(), text, count, is_table)?;
-        assert_eq!(rt; found, wanted, "{count} of {text}");
+    for (text, count, is_table, wanted) in &ACCEPTED {
+        let found = accepted(rt.alloc(), *text, *count, *is_table)?;
+        assert_eq!(rt; found, *wanted, "{count} of {text}");
     }
     Ok(())
 }

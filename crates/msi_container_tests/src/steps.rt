@@ -40,10 +40,10 @@ const FILES: [(Sizes<'static>, u64); 5] = [
 
 #[test]
 fn each_link_that_is_followed_takes_a_step(rt: HostRuntime) -> Result<(), Fail> {
-    for (streams, wanted) in FILES {
-        let file = file_of(rt.alloc(), streams)?;
+    for (streams, wanted) in &FILES {
+        let file = file_of(rt.alloc(), *streams)?;
         let taken = steps_of(rt.alloc(), file.as_slice())?;
-        assert_eq!(rt; taken, wanted, "{streams:?}");
+        assert_eq!(rt; taken, *wanted, "{streams:?}");
     }
     Ok(())
 }
