@@ -148,8 +148,8 @@ const ENDS: [&[Step]; 2] = [
 
 #[test]
 fn texts_take_places_and_give_them_back(rt: HostRuntime) -> Result<(), Fail> {
-    for steps in ENDS {
-        let count = gone(rt.alloc(), Database::new(rt.alloc()), steps)?;
+    for steps in &ENDS {
+        let count = gone(rt.alloc(), Database::new(rt.alloc()), *steps)?;
         assert_eq!(rt; count, steps.len());
     }
     Ok(())

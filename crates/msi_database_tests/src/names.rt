@@ -30,17 +30,20 @@ const NAMES: [(&str, bool, bool); 12] = [
 
 #[test]
 fn names_are_identifiers_that_fit(rt: HostRuntime) -> Result<(), Fail> {
-    for (name, is_table, is_stream) in NAMES {
-        assert_eq!(rt; is_table_name(name), is_table, "the table {name}");
-        assert_eq!(rt; is_stream_name(name), is_stream, "the stream {name}");
+    for (name, is_table, is_stream) in &NAMES {
+        assert_eq!(rt; is_table_name(*name), *is_table, "the table {name}");
+        assert_eq!(rt; is_stream_name(*name), *is_stream, "the stream {name}");
     }
     Ok(())
 }
 
 #[test]
 fn a_table_of_a_long_name_has_no_stream(rt: HostRuntime) -> Result<(), Fail> {
-    for (name, is_table, _) in NAMES {
-        assert!(rt; table_key(name).is_some() || !is_table, "the table {name}");
+    for (name, is_table, _) in &NAMES {
+        assert!(rt;
+            table_key(*name).is_some() || !*is_table,
+            "the table {name}"
+        );
     }
     let longest = NAMES[11].0;
     assert!(rt; table_key(longest).is_none());

@@ -88,8 +88,8 @@ const FOREIGN: [&[u8]; 3] = [b"", b"PK\x03\x04", &[0xD0, 0xCF, 0x11, 0xE0]];
 
 #[test]
 fn bytes_that_are_no_compound_file_are_refused(rt: HostRuntime) -> Result<(), Fail> {
-    for bytes in FOREIGN {
-        let bytes = Vec::from_slice(rt.alloc(), bytes)?;
+    for bytes in &FOREIGN {
+        let bytes = Vec::from_slice(rt.alloc(), *bytes)?;
         assert!(rt; is_refused_over(rt.alloc(), bytes, &[], ErrorKind::InvalidData)?);
     }
     Ok(())

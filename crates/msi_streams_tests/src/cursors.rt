@@ -45,8 +45,8 @@ fn goes<S: Seek>(stream: &mut S, told: Told) -> io::Result<bool> {
 
 /// Whether all these seeks go as they are told.
 fn all_go<S: Seek>(stream: &mut S) -> io::Result<bool> {
-    for told in SEEKS {
-        if !goes(stream, told)? {
+    for told in &SEEKS {
+        if !goes(stream, *told)? {
             return Ok(false);
         }
     }

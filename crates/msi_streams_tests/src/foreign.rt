@@ -102,9 +102,9 @@ fn before_and_after(
 
 #[test]
 fn a_signature_is_told_and_taken_out(rt: HostRuntime) -> Result<(), Fail> {
-    for (names, is_signed, count) in SIGNED {
-        let found = before_and_after(rt.alloc(), names, is_signed)?;
-        assert_eq!(rt; found, [(6 + count, count), (6, 0)], "{names:?}");
+    for (names, is_signed, count) in &SIGNED {
+        let found = before_and_after(rt.alloc(), *names, *is_signed)?;
+        assert_eq!(rt; found, [(6 + *count, *count), (6, 0)], "{names:?}");
     }
     Ok(())
 }
@@ -160,9 +160,9 @@ fn unsound_strays(
 
 #[test]
 fn an_unsound_package_still_takes_calls_on_streams(rt: HostRuntime) -> Result<(), Fail> {
-    for (name, at, byte, kind) in SPOILT {
-        let bytes = with_byte(rt.alloc(), name, at, byte)?;
-        let found = unsound_strays(rt.alloc(), bytes, kind)?;
+    for (name, at, byte, kind) in &SPOILT {
+        let bytes = with_byte(rt.alloc(), *name, *at, *byte)?;
+        let found = unsound_strays(rt.alloc(), bytes, *kind)?;
         assert_eq!(rt; found, None, "{byte} at {at}");
     }
     Ok(())

@@ -160,12 +160,12 @@ fn is_name(
 #[test]
 fn names_that_no_stream_may_have_are_refused(rt: HostRuntime) -> Result<(), Fail> {
     let mut package = created(rt.alloc())?;
-    for name in NO_NAMES {
-        let is_refused = is_no_name(rt.alloc(), &mut package, name)?;
+    for name in &NO_NAMES {
+        let is_refused = is_no_name(rt.alloc(), &mut package, *name)?;
         assert!(rt; is_refused, "{name:?}");
     }
-    for name in ACCEPTED {
-        let is_accepted = is_name(rt.alloc(), &mut package, name)?;
+    for name in &ACCEPTED {
+        let is_accepted = is_name(rt.alloc(), &mut package, *name)?;
         assert!(rt; is_accepted, "{name:?}");
     }
     Ok(())

@@ -125,11 +125,11 @@ fn is_entry(
 fn the_streams_of_a_new_package_have_their_places(rt: HostRuntime) -> Result<(), Fail> {
     let image = new_bytes(rt.alloc())?;
     let image = image.as_slice();
-    for (at, number) in NUMBERS {
-        assert_eq!(rt; number_at(image, at), Some(number), "at {at}");
+    for (at, number) in &NUMBERS {
+        assert_eq!(rt; number_at(image, *at), Some(*number), "at {at}");
     }
-    for (at, table, size, start) in STREAMS {
-        let is_there = is_entry(rt.alloc(), image, at, (table, size, start))?;
+    for (at, table, size, start) in &STREAMS {
+        let is_there = is_entry(rt.alloc(), image, *at, (*table, *size, *start))?;
         assert!(rt; is_there, "{table}");
     }
     let pool = stream_of(rt.alloc(), image, "_StringPool")?;
@@ -248,7 +248,7 @@ fn is_told(alloc: Global, flaw: Flaw, kind: Option<ErrorKind>) -> bool {
 
 #[test]
 fn packages_with_flaws_are_told_apart(rt: HostRuntime) {
-    for (flaw, kind) in FLAWS {
-        assert!(rt; is_told(rt.alloc(), flaw, kind), "{flaw:?}");
+    for (flaw, kind) in &FLAWS {
+        assert!(rt; is_told(rt.alloc(), *flaw, *kind), "{flaw:?}");
     }
 }

@@ -62,9 +62,9 @@ fn is_left_alone(rt: &HostRuntime, path: &str, kind: Option<ErrorKind>) -> bool 
 #[test]
 fn opening_leaves_the_file_as_it_was(rt: HostRuntime) -> Result<(), Fail> {
     let path = path(&rt)?;
-    for (given, kind) in OPENED {
-        put(&rt, path.as_str(), given)?;
-        let left = is_left_alone(&rt, path.as_str(), kind);
+    for (given, kind) in &OPENED {
+        put(&rt, path.as_str(), *given)?;
+        let left = is_left_alone(&rt, path.as_str(), *kind);
         assert!(rt; left, "{given:?}");
         let _ = fs::remove_file(&rt, path.as_str());
     }

@@ -81,8 +81,8 @@ const ACCENTS: Lines = &[
 /// The package of `Numbers` with that cell.
 fn accented(alloc: Global, bytes: &[u8]) -> Result<Package<Memory>, Error> {
     let mut package = opened(alloc, bytes)?;
-    for change in UNCARRIED {
-        make(alloc, &mut package, &change)?;
+    for change in &UNCARRIED {
+        make(alloc, &mut package, change)?;
     }
     Ok(package)
 }

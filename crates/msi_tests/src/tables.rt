@@ -122,9 +122,9 @@ fn gone_from(alloc: Global, bytes: &[u8], steps: &[Step]) -> Result<(usize, bool
 #[test]
 fn changes_are_made_or_refused_whole(rt: HostRuntime) -> Result<(), Fail> {
     let bytes = numbers(rt.alloc())?;
-    for (steps, is_kept) in STEPS {
-        let found = gone_from(rt.alloc(), bytes.as_slice(), steps)?;
-        assert_eq!(rt; found, (steps.len(), is_kept));
+    for (steps, is_kept) in &STEPS {
+        let found = gone_from(rt.alloc(), bytes.as_slice(), *steps)?;
+        assert_eq!(rt; found, (steps.len(), *is_kept));
     }
     Ok(())
 }
