@@ -1,6 +1,7 @@
 -- The lesser of the least free place and the least place of the text is the first fit.
-use Rattle.std.proofs.Common.{◌≡◌, ℕ, ◌<◌, ◌≤◌, Bool, true, false, ◌||◌, List, Option, Some, None, inl, inr, refl, sym, ap, ◌∙◌, ◌+◌, subst, length, is_some, Result, Ok, Err, IfOk, IfErr, OnOk, slice_get, nat_lt, if◌then◌else◌, arith, true≢false}
-use Rattle.std.specs.Prelude.{slice_index_or}
+use Rattle.std.proofs.Common.{◌≡◌, ℕ, suc, ◌<◌, ◌≤◌, Bool, true, false, ◌||◌, List, Option, Some, None, inl, inr, refl, sym, ap, ◌∙◌, ◌+◌, subst, length, is_some, Result, Ok, Err, IfOk, IfErr, OnOk, slice_get, nat_lt, if◌then◌else◌, arith, true≢false}
+use Rattle.std.specs.Prelude.{slice_index_or, unwrap_or, ◌∷◌, []}
+use Rattle.std.specs.List.{list_any, position_or_len}
 use Rattle.std.proofs.lemmas.Bool.{cases_Bool, cases_lt, lt-ltb, le-ltb, or_from, or_left, or_right}
 use Rattle.std.proofs.lemmas.Bool.Decides.{nat_tests}
 use Rattle.std.proofs.lemmas.Grind.{common_steps}
@@ -134,3 +135,41 @@ taken_most long before after text number is few =
     let many = (taken_takes long before after text number is).many in
     let range = (taken_in_range long before after text number is).0 in
     omega (arith, many, range, most_places-few long, few)
+
+-- a place fits where the first that does is none past the end
+lt_after : (n m : ℕ) → nat_lt (1 + n) (suc m) ≡ nat_lt n m
+lt_after n m = elim (cases_lt n m) [
+  | inl less ↦ lt-ltb (1 + n) (suc m) (omega (arith, less)) ∙ sym (lt-ltb n m less)
+  | inr more ↦ le-ltb (1 + n) (suc m) (omega (arith, more)) ∙ sym (le-ltb n m more)
+]
+
+any_before_end : (f : Place → Bool) (places : List Place) → nat_lt (position_or_len f places) (length places) ≡ list_any f places
+any_before_end f [] = refl
+any_before_end f (p ∷ ps) = elim (cases_Bool (f p)) [
+  | inl fits_here ↦ rw fits_here (lt-ltb 0 (suc (length ps)) (omega arith))
+  | inr other ↦ rw other (lt_after (position_or_len f ps) (length ps) ∙ any_before_end f ps)
+]
+
+chosen : (b : Bool) (k n : ℕ) → nat_lt k n ≡ b → nat_lt (unwrap_or (if b then Some k else None) n) n ≡ b
+chosen true k n h = h
+chosen false k n h = le-ltb n n (omega arith)
+
+first_fit_before : (text : List ℕ) (places : List Place) → nat_lt (first_fit text places) (length places) ≡ list_any (is_fit text) places
+first_fit_before text places = chosen (nat_lt (position_or_len (is_fit text) places) (length places)) (position_or_len (is_fit text) places) (length places) refl
+    ∙ any_before_end (is_fit text) places
+
+none_if : (i len most : ℕ) (after : List Place) → nat_lt i len ≡ false → nat_lt i most ≡ false
+    → is_some {T = ℕ × List Place} (if nat_lt i len || nat_lt i most then Some (i + 1, after) else None) ≡ false
+none_if i len most after a b = rw (a, b) refl
+
+-- where no place may be added, there is one for a text where one fits
+pub room_past : (long : Bool) (places : List Place) (text : List ℕ) → most_places long ≤ length places
+    → list_any (is_fit text) places ≡ is_some (taken long places text)
+room_past long places text full =
+    let i = first_fit text places in
+    sym (first_fit_before text places) ∙ elim (cases_lt i (length places)) [
+      | inl less ↦ lt-ltb i (length places) less
+          ∙ sym (ap is_some (taken_if long places text i refl (ap (λ b. b || nat_lt i (most_places long)) (lt-ltb i (length places) less))))
+      | inr more ↦ le-ltb i (length places) more
+          ∙ sym (none_if i (length places) (most_places long) (with_text_at places i text) (le-ltb i (length places) more) (le-ltb i (most_places long) (omega (arith, more, full))))
+    ]

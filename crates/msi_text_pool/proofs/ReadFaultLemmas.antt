@@ -4,7 +4,6 @@ use Rattle.std.specs.Prelude.{Result, Ok, Err, IfSome}
 use Rattle.msi_text_base.specs.declared.errors.ErrorKind.{ErrorKind}
 use Rattle.msi_text_pool.specs.Pool.{PoolStream, IsPoolStream}
 use Rattle.msi_text_base.specs.Results.{IsUnlessFault, IsUnlessMemory}
-use Rattle.msi_text_base.proofs.OptionLemmas.{given, some_is, not_given}
 
 fault_or_memory : {X : Type 0} (r : Result X ErrorKind) (x : X) → IsUnlessMemory r x → IsUnlessFault r x
 fault_or_memory (Ok y) x is = is

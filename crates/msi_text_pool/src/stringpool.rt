@@ -2,6 +2,7 @@
 
 mod free;
 pub(crate) mod indexed;
+pub(crate) mod kept;
 mod operations;
 mod places;
 mod pool;

@@ -21,9 +21,10 @@ use crate::stringpool::texts::{Entry, TextIndex};
 use crate::stringpool::{MAX_PLACES, MAX_SHORT_PLACES};
 use msi_text_base::errors::{Error, ErrorKind};
 use std::alloc::Global;
+use std::mem;
 
 /// How many cells may name a place.
-const MOST_CELLS: u16 = 65_535;
+pub(crate) const MOST_CELLS: u16 = 65_535;
 
 /// The places, an index of the free ones, an index from each text to its places that can be named once more, and how
 /// many operations the last call made on them.
@@ -37,34 +38,21 @@ pub(crate) struct IndexedPlaces {
 }
 
 impl IndexedPlaces {
-    /// There is no place.
-    pub(crate) fn new(alloc: Global) -> IndexedPlaces
-        ensures places { result.places ≡ [] }
-        ensures operations { result.operations ≡ 0 }
-        ensures indexed { IsIndexed result }
-    {
-        IndexedPlaces {
-            many: 0,
-            places: Places::from_vec(Vec::new(alloc)),
-            free: FreePlaces::new(alloc),
-            texts: TextIndex::new(alloc),
-            operations: Operations::new(),
-        }
-    }
-
-    /// These places, with indexes made of them. The only error is `OutOfMemory`.
-    pub(crate) fn from_places(items: Vec<Place>) -> Result<IndexedPlaces, Error>
-        requires { length items.items ≤ 16777215 }
-        ensures ok { IfOk result (λ all. all.places ≡ items.items) }
+    /// The places, which are moved out, with indexes made of them. The only error is `OutOfMemory`; then the places
+    /// are as they were.
+    pub(crate) fn of(places: &mut Places) -> Result<IndexedPlaces, Error>
+        requires { length places.old ≤ 16777215 }
+        ensures ok { IfOk result (λ all. all.places ≡ places.old) }
         ensures operations { IfOk result (λ all. all.operations ≡ 0) }
         ensures indexed { IfOk result (λ all. IsIndexed all) }
+        ensures err { OnErr result (places.new ≡ places.old) }
         ensures kind { OnlyMemory result }
     {
-        let alloc = *items.allocator();
-        let (free, texts) = indexes_of(alloc, items.as_slice())?;
+        let alloc = places.allocator();
+        let (free, texts) = indexes_of(alloc, places.as_slice())?;
         Ok(IndexedPlaces {
-            many: items.len(),
-            places: Places::from_vec(items),
+            many: places.as_slice().len(),
+            places: mem::replace(places, Places::from_vec(Vec::new(alloc))),
             free,
             texts,
             operations: Operations::new(),
@@ -93,14 +81,6 @@ impl IndexedPlaces {
         ensures { result ≡ self.now.operations }
     {
         self.operations.count()
-    }
-
-    /// How many places there are.
-    pub(crate) fn len(&self) -> usize
-        requires { IsIndexed self.now }
-        ensures { result ≡ length self.now.places }
-    {
-        self.many
     }
 
     /// The places, from number 1 on.

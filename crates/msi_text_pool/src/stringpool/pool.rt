@@ -9,8 +9,8 @@ ghost use Rattle.msi_text_pool.specs.FirstFitLaws.{Holds, place_at, text_at, cou
 ghost use Rattle.msi_text_base.specs.Results.{OnlyMemory};
 ghost use Rattle.msi_text_base.specs.declared.errors.ErrorKind.TheVariants.{InvalidData, InvalidInput, OutOfMemory};
 
-use crate::stringpool::indexed::IndexedPlaces;
-use crate::stringpool::places::Place;
+use crate::stringpool::kept::KeptPlaces;
+use crate::stringpool::places::{Place, Places};
 use crate::stringpool::reference::StringRef;
 use msi_text_base::codepage::CodePage;
 use msi_text_base::errors::Error;
@@ -25,7 +25,7 @@ pub(crate) const LONG: u32 = 1 << 31;
 pub struct StringPool {
     codepage: CodePage,
     long: bool,
-    indexed: IndexedPlaces,
+    kept: KeptPlaces,
 }
 
 /// Written out, so that a function that owns one calls one drop, and its proof doesn't go through those of the parts.
@@ -34,25 +34,25 @@ impl Drop for StringPool {
         let StringPool {
             codepage: _,
             long: _,
-            indexed: _,
+            kept: _,
         } = self;
     }
 }
 
 impl Model for StringPool {
     ghost use Rattle.msi_text_pool.specs.Pool.{IndexedPool};
-    ghost use Rattle.msi_text_pool.specs.Indexing.{IsKept};
+    ghost use Rattle.msi_text_pool.specs.Indexing.{IsKept, places_of, operations_of};
 
     ghost Value = { IndexedPool };
 
     ghost view = { λ p. record {
       page = p.codepage;
       long = p.long;
-      places = p.indexed.places;
-      operations = p.indexed.operations;
+      places = places_of p.kept;
+      operations = operations_of p.kept;
     } };
 
-    ghost invariant = { λ p. IsKept p.indexed };
+    ghost invariant = { λ p. IsKept p.kept };
 }
 
 impl StringPool {
@@ -63,27 +63,21 @@ impl StringPool {
         StringPool {
             codepage: page,
             long: false,
-            indexed: IndexedPlaces::new(alloc),
+            kept: KeptPlaces::Read(Places::from_vec(Vec::new(alloc))),
         }
     }
 
-    /// A pool of its parts, with indexes made of its places. The only error is `OutOfMemory`.
-    pub(crate) fn from_parts(
-        codepage: CodePage,
-        long: bool,
-        places: Vec<Place>,
-    ) -> Result<StringPool, Error>
+    /// A pool of its parts.
+    pub(crate) fn from_parts(codepage: CodePage, long: bool, places: Vec<Place>) -> StringPool
         requires most { vec_len places ≤ 16777215 }
         requires counts { CountsFit places.items }
-        ensures ok { IfOk result (λ pool.
-            pool ≡ newly_indexed (record { page = codepage; long = long; places = places.items })) }
-        ensures kind { OnlyMemory result }
+        ensures { result ≡ newly_indexed (record { page = codepage; long = long; places = places.items }) }
     {
-        Ok(StringPool {
+        StringPool {
             codepage,
             long,
-            indexed: IndexedPlaces::from_places(places)?,
-        })
+            kept: KeptPlaces::Read(Places::from_vec(places)),
+        }
     }
 
     /// Returns the code page of the texts.
@@ -113,7 +107,7 @@ impl StringPool {
         ensures most { result ≤ 16777215 }
         ensures counts { CountsFit self.now.places }
     {
-        self.indexed.len() as u32
+        self.places().len() as u32
     }
 
     /// The place of a reference, unless that leads past the end.
@@ -154,7 +148,7 @@ impl StringPool {
         Ok(StringPool {
             codepage: self.codepage,
             long: self.long,
-            indexed: self.indexed.clone()?,
+            kept: self.kept.clone()?,
         })
     }
 
@@ -164,12 +158,12 @@ impl StringPool {
         ensures most { length self.now.places ≤ 16777215 }
         ensures counts { CountsFit self.now.places }
     {
-        self.indexed.as_slice()
+        self.kept.places()
     }
 
     /// The allocator that the pool keeps.
     pub(crate) fn allocator(&self) -> Global {
-        self.indexed.allocator()
+        self.kept.allocator()
     }
 
     /// Returns how many operations the last `incref` or `decref` made on the places and their indexes, also if it
@@ -178,7 +172,7 @@ impl StringPool {
         ensures value { result ≡ self.now.operations }
         ensures most { result ≤ 8 }
     {
-        self.indexed.operations()
+        self.kept.operations()
     }
 
     /// Stores a text and returns its place: the first that is free, or that has the text and fewer than 65535 cells,
@@ -199,7 +193,7 @@ impl StringPool {
         ensures page { self.new.page ≡ self.old.page }
         ensures long { self.new.long ≡ self.old.long }
     {
-        let at = self.indexed.take(text, self.long)?;
+        let at = self.kept.take(text, self.long)?;
         Ok(StringRef::from_number(at + 1))
     }
 
@@ -219,7 +213,7 @@ impl StringPool {
         ensures long { self.new.long ≡ self.old.long }
         ensures many { length self.new.places ≡ length self.old.places }
     {
-        self.indexed.give_back(reference.to_number())
+        self.kept.give_back(reference.to_number())
     }
 
     /// Empties the text of each place that is free and isn't named: `is_named` says which are, from number 1 on. All
@@ -228,6 +222,6 @@ impl StringPool {
         requires { length is_named.now ≡ length self.old.places }
         ensures { self.new ≡ record self.old { places = without_unnamed_texts is_named.now self.old.places } }
     {
-        self.indexed.forget_texts(is_named);
+        self.kept.forget_texts(is_named);
     }
 }

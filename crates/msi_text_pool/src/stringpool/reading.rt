@@ -150,7 +150,7 @@ pub fn pool_of(alloc: Global, stream: StringPoolBuilder, bytes: &[u8]) -> Result
     ensures kinds { IfErr result (λ kind. (kind ≡ InvalidData) ⊎ (kind ≡ OutOfMemory)) }
 {
     let places = places_of(alloc, stream.codepage, stream.entries.as_slice(), bytes)?;
-    StringPool::from_parts(stream.codepage, stream.long, places)
+    Ok(StringPool::from_parts(stream.codepage, stream.long, places))
 }
 
 /// The page of a header, and whether references are long.

@@ -1,4 +1,5 @@
 use Rattle.std.proofs.Common.{◌+◌, ap, option_map, string_bytes}
+use Rattle.msi_text_pool.specs.Indexing.{places_of}
 use Rattle.msi_text_pool.proofs.CountLemmas.{taken_in_range}
 use Rattle.msi_text_pool.proofs.IndexedFitLemmas.{taken_most}
 use Rattle.msi_text_pool.proofs.TakenLemmas.{taken_takes}
@@ -6,8 +7,8 @@ use Rattle.msi_text_pool.proofs.stringpool.pool.StringPool.incref.Goals as goal
 
 pub invariant_of-self-2 : goal.invariant_of-self-2
 invariant_of-self-2 c =
-    let before = c.self.inside.indexed.places in
-    let after = c.take.new.self.places in
+    let before = places_of c.self.inside.kept in
+    let after = places_of c.take.new.self in
     let text = string_bytes c.args.text in
     record {
       most = taken_most c.self.inside.long before after text (c.in_ok-at.at + 1) c.in_ok-at.ensures.ok c.self.invariant.most;
@@ -18,5 +19,5 @@ invariant_of-self-2 c =
 
 pub returns-clause-holds : goal.returns-clause-holds
 returns-clause-holds c =
-    let takes = taken_takes c.self.inside.long c.self.inside.indexed.places c.take.new.self.places (string_bytes c.args.text) (c.in_ok-at.at + 1) c.in_ok-at.ensures.ok in
+    let takes = taken_takes c.self.inside.long (places_of c.self.inside.kept) (places_of c.take.new.self) (string_bytes c.args.text) (c.in_ok-at.at + 1) c.in_ok-at.ensures.ok in
     rw c.from_number.ensures (ap (option_map (λ p. p.text)) takes.place)
