@@ -8,7 +8,7 @@ use Rattle.msi_text_pool.specs.Pool.{Pool, Place, PlacesWritten, forgotten, pool
 use Rattle.msi_text_pool.specs.Pool as pools
 use Rattle.msi_text_pool.specs.PoolWriting as pool_writing
 use Rattle.msi_text_pool.proofs.PoolReadBackLemmas.{pools_read_back}
-use Rattle.msi_text_pool.proofs.ForgottenLemmas.{empty_places}
+use Rattle.msi_text_pool.proofs.ForgottenLemmas.{empty_places, none_lost}
 use Rattle.msi_summary_properties.specs.PropertyStream.{property_stream}
 use Rattle.msi_summary_properties.specs.PropertyStream as properties
 use Rattle.msi_summary_properties.specs.PropertyWriting as property_writing
@@ -68,17 +68,8 @@ module _ (s : State) (kept after : Streams) (written : with_summary s kept ≡ S
 -- THE POOL
 
 -- where each free place has the empty text, a pool is shown as it is
-written_text : (p : Place) (named free : Bool) → (p.count == 0) ≡ free → (p.count ≡ 0 → p.text ≡ []) → (if free && not named then [] else p.text) ≡ p.text
-written_text p named false e empty = refl
-written_text p true true e empty = refl
-written_text p false true e empty = sym (empty (eqb-true p.count 0 e))
-
-shown_each : (is_named : ℕ → Bool) (i : ℕ) (places : List Place) → PlacesWritten places → map (λ e. forgotten (is_named e.0) e.1) (enumerate_from i places) ≡ places
-shown_each is_named i [] h = refl
-shown_each is_named i (p ∷ ps) h = λ k. record { text = written_text p (is_named i) (p.count == 0) refl h.0 k; count = p.count } ∷ shown_each is_named (i + 1) ps h.1 k
-
 shown_itself : (is_named : ℕ → Bool) (raw : Pool) → PlacesWritten raw.places → shown_pool is_named raw ≡ raw
-shown_itself is_named raw h = λ k. record raw { places = shown_each is_named 1 raw.places h k }
+shown_itself is_named raw h = λ k. record raw { places = none_lost is_named 1 raw.places h k }
 
 pool_put_is : (P : Streams → Type 0) (refused : Bool) (written texts : Option (List ℕ)) (kept after : Streams)
     → (if refused then None else option_and_then (λ bytes. option_map (λ others. with_stream (table_key string_pool_name) bytes (with_stream (table_key string_data_name) others kept)) texts) written) ≡ Some after

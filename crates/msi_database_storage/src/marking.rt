@@ -14,7 +14,7 @@ use crate::decoding::readable_rows;
 use msi_container_format::contents::StreamMap;
 use msi_table::{Table, ValueRef};
 use msi_text::errors::Error;
-use msi_text::parts::{forget_texts, place_number};
+use msi_text::parts::{forget_texts, free_places_are_empty, place_number};
 use msi_text::stringpool::StringPool;
 use msi_text::text::Items;
 use std::alloc::Global;
@@ -121,7 +121,7 @@ impl Marks {
 }
 
 /// Returns the pool without the texts of free places that no cell names: of tables, and of rows beside them. The
-/// tables refer to texts in the pool's width.
+/// tables refer to texts in the pool's width. No table is read where no free place has a text.
 ///
 /// # Errors
 /// Fails with `OutOfMemory`.
@@ -141,6 +141,9 @@ pub fn with_named_texts(
     ensures counts { IfOk result (λ _. CountsFit pool.places) }
     ensures kind { OnlyMemory result }
 {
+    if free_places_are_empty(&pool) {
+        return Ok(pool);
+    }
     let mut pool = pool;
     let mut named = Marks::new(alloc, pool.num_strings())?;
     named.mark_tables(alloc, streams, tables)?;

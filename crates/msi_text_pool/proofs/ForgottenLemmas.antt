@@ -1,7 +1,8 @@
 -- The texts of free places are lost: one after the other, where a test says so, and when the pool is written.
 use Rattle.std.proofs.Common.{◌≡◌, ℕ, zero, suc, ◌+◌, ◌<◌, ◌≤◌, Bool, true, false, cond, ◌&&◌, List, [], ◌∷◌, ◌++◌, length, map, get_or, set, take, drop, take_all, refl, sym, ap, ◌∙◌, arith, inl, inr}
 use Rattle.std.specs.List.{enumerate_from}
-use Rattle.std.proofs.lemmas.Bool.{cases_eq, eq-eqb, ne_eqb}
+use Rattle.std.specs.Prelude.{◌==◌, not, if◌then◌else◌}
+use Rattle.std.proofs.lemmas.Bool.{cases_eq, eq-eqb, eqb-true, ne_eqb}
 use Rattle.std.proofs.lemmas.List.{append-nil, drop_all}
 use Rattle.msi_text_pool.specs.Pool.{Place, Pool, PlacesWritten, forgotten, without_unnamed_texts}
 use Rattle.msi_text_pool.specs.PoolLaws.{EmptyPlacesAreWritten, MarksStandForTests}
@@ -54,6 +55,16 @@ pub empty_places : EmptyPlacesAreWritten
 empty_places pool written =
     let with_places : List Place → Pool = λ ps. record { page = pool.page; long = pool.long; places = ps } in
     ap with_places (all_empty pool.places written)
+
+-- where no free place has a text, none is lost
+written_text : (p : Place) (named is_free : Bool) → (p.count == 0) ≡ is_free → (p.count ≡ 0 → p.text ≡ []) → (if is_free && not named then [] else p.text) ≡ p.text
+written_text p named false e empty = refl
+written_text p true true e empty = refl
+written_text p false true e empty = sym (empty (eqb-true p.count 0 e))
+
+pub none_lost : (is_named : ℕ → Bool) (i : ℕ) (places : List Place) → PlacesWritten places → map (λ e. forgotten (is_named e.0) e.1) (enumerate_from i places) ≡ places
+none_lost is_named i [] h = refl
+none_lost is_named i (p ∷ ps) h = λ k. record { text = written_text p (is_named i) (p.count == 0) refl h.0 k; count = p.count } ∷ none_lost is_named (i + 1) ps h.1 k
 
 marks_from : (marks : List Bool) (is_named : ℕ → Bool) (places : List Place) (k : ℕ) → length marks ≡ length places
     → ((i : ℕ) → i < length marks → get_or marks i false ≡ is_named (k + i))

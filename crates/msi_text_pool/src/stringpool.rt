@@ -4,7 +4,7 @@ mod free;
 pub(crate) mod indexed;
 pub(crate) mod kept;
 mod operations;
-mod places;
+pub(crate) mod places;
 mod pool;
 pub(crate) mod reading;
 mod reference;

@@ -1,8 +1,8 @@
 //! The places of the pool.
 
 ghost use Rattle.std.specs.Prelude.{◌≡◌, ◌+◌, ◌-◌, ◌<◌, ◌^◌, ◌∷◌, ◌++◌, [], IfOk, OnOk, OnErr, Some, length, set};
-ghost use Rattle.std.specs.Prelude.{slice_get, vec_len};
-ghost use Rattle.msi_text_pool.specs.Pool.{forgotten, without_unnamed_texts};
+ghost use Rattle.std.specs.Prelude.{slice_get, vec_len, IsTrue, ◌↔◌};
+ghost use Rattle.msi_text_pool.specs.Pool.{forgotten, without_unnamed_texts, PlacesWritten};
 ghost use Rattle.msi_text_base.specs.Results.{OnlyMemory};
 
 use crate::stringpool::operations::Operations;
@@ -177,4 +177,22 @@ fn forget_texts(places: &mut Vec<Place>, is_named: &[bool])
     for (i, named) in is_named.iter().enumerate() {
         forget_text(&mut places[i], *named, alloc);
     }
+}
+
+/// Whether a place is in use or has the empty text.
+fn is_written(place: &Place) -> bool
+    ensures { IsTrue result ↔ (place.now.count ≡ 0 → place.now.text ≡ []) }
+{
+    place.count > 0 || place.text().is_empty()
+}
+
+/// Whether each free place has the empty text.
+pub(crate) fn are_written(places: &[Place]) -> bool
+    ensures { IsTrue result ↔ PlacesWritten places.now }
+{
+    let mut all = true;
+    for place in places {
+        all &= is_written(place);
+    }
+    all
 }
