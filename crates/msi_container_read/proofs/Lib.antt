@@ -1,8 +1,4 @@
 -- The lemmas of this crate.
-pub mod ClaimLemmas
-pub mod ChainLemmas
-pub mod WholeChainLemmas
-pub mod FatLemmas
 pub mod OwnNameLemmas
 pub mod TreeLemmas
 pub mod SectorBytesLemmas

@@ -3,7 +3,7 @@ use Rattle.std.specs.Prelude.{◌≡◌, [], ◌∷◌, refl, replicate}
 use Rattle.msi_container_format.specs.Container.{Plan}
 use Rattle.msi_container_format.specs.Trees.{Leaf, Node}
 use Rattle.msi_container_read.specs.Reading.{mini_limit}
-use Rattle.msi_container_read.specs.Steps.{sectors_inside, links, steps_of, rounded_length}
+use Rattle.msi_container_read.specs.Steps.{steps_of, rounded_length}
 
 -- a file of one stream of 4096 bytes, in sectors 1 to 8
 abbrev one_stream : Plan
@@ -36,20 +36,6 @@ six_streams = record {
 -- directory 2, mini FAT 1, mini stream 2, streams 11
 sixteen_steps : steps_of six_streams ≡ 16
 sixteen_steps = refl
-
--- an empty stream has no member, and takes nothing
-no_links : links [] ≡ 0
-no_links = refl
-
--- the header's sector isn't counted, and a sector that starts at the end isn't inside
-two_inside : sectors_inside (replicate 1536 0) ≡ 2
-two_inside = refl
-
-three_inside : sectors_inside (replicate 1537 0) ≡ 3
-three_inside = refl
-
-none_inside : sectors_inside [] ≡ 0
-none_inside = refl
 
 -- eight mini sectors lie in a sector of 512 bytes
 mini_sectors_of_three : mini_limit [] (3 ∷ 4 ∷ 5 ∷ []) ≡ 24

@@ -1,14 +1,11 @@
 -- How often reading a compound file looks up a successor, in the FAT or in the mini FAT, and how many bytes it keeps.
-use Rattle.std.specs.Prelude.{ℕ, ◌+◌, ◌-◌, ◌*◌, ◌/◌, ◌≤◌, List, ◌++◌, length, sum_by, ◌⊎◌}
+use Rattle.std.specs.Prelude.{ℕ, ◌+◌, ◌*◌, ◌≤◌, List, ◌++◌, length, sum_by, ◌⊎◌}
 use Rattle.std.specs.Int.{div_ceil}
 use Rattle.std.specs.FinMap.{entries}
 use Rattle.msi_container_format.specs.declared.contents.Contents.{Contents}
 use Rattle.msi_container_format.specs.Container.{Plan, sector_size, fat_of}
+use Rattle.msi_container_chains.specs.Counts.{sectors_inside, links}
 use Rattle.msi_container_read.specs.Reading.{IsStart, IsMini, mini_limit}
-
--- how many sectors start inside the file, behind its header
-abbrev pub sectors_inside : List ℕ → ℕ
-sectors_inside bytes = (length bytes - 1) / sector_size bytes
 
 -- a mini stream that header, FAT and directory lead to, by sectors that start inside the file, none of them used twice
 abbrev pub HasMiniStream : (bytes mini_stream : List ℕ) → Type 0
@@ -25,10 +22,6 @@ IsWithinSectors bytes n =
     (n ≤ sectors_inside bytes)
     ⊎ ((mini_stream : List ℕ) × HasMiniStream bytes mini_stream
     × (n ≤ sectors_inside bytes + mini_limit bytes mini_stream))
-
--- a chain whose length is known takes a look-up for each member but the last
-abbrev pub links : List ℕ → ℕ
-links chain = length chain - 1
 
 -- how many look-ups a file takes that holds something: directory and mini FAT run to their end marks
 abbrev pub steps_of : Plan → ℕ

@@ -1,20 +1,15 @@
 //! Reads a compound file (MS-CFB): every file that the grammar accepts, and no other.
 #![tactic(auto)]
 
-mod claims;
 mod directory;
-mod fat;
-mod header;
 mod listing;
 mod names;
 mod reading;
 mod reasons;
 mod sizes;
 mod streams;
-mod table;
-mod walks;
 
 pub use listing::list;
+pub use msi_container_chains::parts::Steps;
 pub use reading::{read, read_counted};
 pub use sizes::{Listing, Sizes};
-pub use table::Steps;

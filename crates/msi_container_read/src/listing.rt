@@ -8,14 +8,14 @@ ghost use Rattle.msi_container_format.specs.declared.contents.Contents as held;
 ghost use Rattle.msi_container_format.specs.Chains.{AreBelow};
 ghost use Rattle.msi_container_format.specs.Container as container;
 ghost use Rattle.msi_container_read.specs.Listings.{listing_of, named_sizes};
-ghost use Rattle.msi_container_read.specs.Outcomes.{FailsByData};
+ghost use Rattle.msi_container_chains.specs.Outcomes.{FailsByData};
 ghost use Rattle.msi_container_read.specs.Reading.{HaveNamesApart};
 
 use crate::directory::Directory;
 use crate::names::{insert_size, names_of, own_name};
 use crate::reading::read_outline;
 use crate::sizes::{Listing, Sizes};
-use crate::table::Steps;
+use msi_container_chains::parts::Steps;
 use msi_text_base::Error;
 use std::alloc::Global;
 

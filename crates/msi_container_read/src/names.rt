@@ -7,7 +7,7 @@ ghost use Rattle.msi_text_base.specs.declared.errors.ErrorKind.TheVariants.{Inva
 ghost use Rattle.msi_container_format.specs.Chains.{AreBelow};
 ghost use Rattle.msi_container_format.specs.Container as container;
 ghost use Rattle.msi_container_format.specs.Names.{name_cmp};
-ghost use Rattle.msi_container_read.specs.Outcomes.{FailsByData};
+ghost use Rattle.msi_container_chains.specs.Outcomes.{FailsByData};
 ghost use Rattle.msi_container_read.specs.Reading.{AreNamed, has_name};
 
 use crate::directory::Directory;

@@ -7,25 +7,24 @@ ghost use Rattle.msi_text_base.specs.declared.errors.ErrorKind.TheVariants.{Inva
 ghost use Rattle.std.specs.List.{AllZip};
 ghost use Rattle.msi_container_format.specs.declared.contents.Contents as held;
 ghost use Rattle.msi_container_format.specs.Chains.{AreBelow};
-ghost use Rattle.msi_container_read.specs.Claims.{CanClaim};
-ghost use Rattle.msi_container_read.specs.Outcomes.{ViewIsUnlessMemory, FailsByData};
+ghost use Rattle.msi_container_chains.specs.Claims.{CanClaim};
+ghost use Rattle.msi_container_chains.specs.Outcomes.{ViewIsUnlessMemory, FailsByData};
 ghost use Rattle.msi_container_format.specs.Container as container;
 ghost use Rattle.msi_container_format.specs.Format as marks;
 ghost use Rattle.msi_container_format.specs.Container.{IsMiniFat};
 ghost use Rattle.msi_container_read.specs.Reading.{IsStart, IsNamelessListing, IsMini, AreChained, IsCovered};
 ghost use Rattle.msi_container_read.specs.Reading.{IsOutline, HaveNamesApart, storages_among, mini_limit, views};
 ghost use Rattle.msi_container_read.specs.Steps as counted;
-ghost use Rattle.msi_container_read.specs.Steps.{links};
+ghost use Rattle.msi_container_chains.specs.Counts.{links};
 ghost use Rattle.msi_container_format.specs.Trees.{Tree, members};
 
-use crate::claims::{Claimed, Claims};
 use crate::directory::{Directory, check_kinds, reach};
-use crate::fat::{read_difat, read_fat};
-use crate::header::{check_header, sector_count, sector_size};
 use crate::reasons;
 use crate::streams::{Tables, Uses, collect, has_storage, of_kind, walk_each};
-use crate::table::{AllocationTable, Steps};
-use crate::walks::{walk, walk_to_end};
+use msi_container_chains::parts::{
+    AllocationTable, Claimed, Claims, Steps, check_header, read_difat, read_fat, sector_count,
+    sector_size, walk, walk_to_end,
+};
 use msi_container_format::contents::Contents;
 use msi_container_format::format::{
     DIRECTORY_START_AT, MAX_REGULAR_SECTOR, MINI_FAT_START_AT, MINI_SECTOR_SIZE, ROOT, STORAGE,

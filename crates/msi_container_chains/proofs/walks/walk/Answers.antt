@@ -1,0 +1,49 @@
+use Rattle.std.proofs.Common.{List, arith, ◌≡◌, ℕ, ◌++◌, length, get_or, take, vec_len, ◌∙◌, sym, ap, Some}
+use Rattle.std.proofs.lemmas.Result.{err_from_is_err_and}
+use Rattle.std.proofs.lemmas.List.{append_assoc}
+use Rattle.std.proofs.lemmas.Option.{none-some}
+use Rattle.msi_container_chains.specs.Claims.{IsFree}
+use Rattle.msi_container_chains.specs.Walks.{follower}
+use Rattle.msi_container_format.specs.Container.{successor}
+use Rattle.msi_container_chains.proofs.ClaimLemmas.{claim_lacked_memory}
+use Rattle.msi_container_chains.proofs.ChainLemmas.{chain_push, same_push, follower_is, next_is, free_at}
+use Rattle.msi_container_chains.proofs.walks.walk.Goals as goal
+
+pub returns-in_err-sector-clause-only : goal.returns-in_err-sector-clause-only
+returns-in_err-sector-clause-only c = λ chain is can.
+    let next = successor c.args.table.now.bytes.now c.args.table.now.sectors.now in
+    let there : follower next c.args.start c.loop.chain.items ≡ Some (get_or chain c.loop.counter 0) =
+    ap (follower next c.args.start) (c.loop.invariant.only chain is can)
+    ∙ follower_is next c.args.start c.args.count c.loop.counter chain is c.loop-test.true in
+    absurd (none-some _ (sym (rw c.deref.ensures.value at c.in_err-sector.ensures.value.1) ∙ there))
+
+pub returns-in_err-claim-clause-only : goal.returns-in_err-claim-clause-only
+returns-in_err-claim-clause-only c = λ chain is can.
+    let p = err_from_is_err_and c.from_residual-in_err-claim.result c.from_residual-in_err-claim.ensures.1 in
+    let next = successor c.args.table.now.bytes.now c.args.table.now.sectors.now in
+    let i = c.loop.invariant in
+    let n = c.loop.counter in
+    let used = c.args.claims.now.list.items in
+    let follows : follower next c.args.start c.loop.chain.items ≡ Some c.in_ok-sector.sector =
+    rw c.deref.ensures.value at c.in_ok-sector.ensures.value in
+    let same = next_is next c.args.start c.args.count n c.in_ok-sector.sector _ chain is c.loop-test.true (i.only chain is can) follows in
+    let claimed : c.loop.claims.list.items ≡ used ++ take n chain = rw (← i.only chain is can) i.claimed in
+    let free : IsFree (vec_len c.loop.claims.marks) c.loop.claims.list.items c.in_ok-sector.sector =
+    rw (i.limit, claimed, ← same) (free_at _ n used chain can (omega (arith, is.long))) in
+    rw (p.1, p.2) (claim_lacked_memory _ _ _ _ c.in_err-claim.ensures.kinds c.in_err-claim.ensures.invalid free)
+
+pub loop-preserved : goal.loop-preserved
+loop-preserved c =
+    let next = successor c.args.table.now.bytes.now c.args.table.now.sectors.now in
+    let i = c.loop.invariant in
+    let xs = c.loop.chain.items in
+    let s = c.in_ok-sector.sector in
+    let pushed = c.in_ok-push.ensures.items in
+    let follows : follower next c.args.start xs ≡ Some s = rw c.deref.ensures.value at c.in_ok-sector.ensures.value in
+    record {
+      so_far = rw pushed (chain_push next c.args.start c.loop.counter s xs i.so_far follows);
+      claimed = rw pushed (c.in_ok-claim.ensures.ok.1 ∙ rw i.claimed (append_assoc c.args.claims.now.list.items xs _));
+      limit = c.in_ok-claim.ensures.limit ∙ i.limit;
+      only = λ chain is can. rw pushed (same_push next c.args.start c.args.count c.loop.counter s xs chain is c.loop-test.true (i.only chain is can) follows);
+      steps = omega (arith, i.so_far.long, c.in_ok-sector.ensures.step, ap (λ (q : List ℕ). length q) c.deref.ensures.value);
+    }

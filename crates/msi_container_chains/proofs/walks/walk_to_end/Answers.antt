@@ -1,0 +1,66 @@
+use Rattle.std.proofs.Common.{arith, ◌≡◌, [], ◌∷◌, ◌++◌, length, take, vec_len, ◌∙◌, sym, ap, Some}
+use Rattle.std.proofs.lemmas.Result.{err_from_is_err_and}
+use Rattle.std.proofs.lemmas.Option.{none-some}
+use Rattle.std.proofs.lemmas.List.{append_assoc}
+use Rattle.msi_container_chains.specs.Claims.{IsFree}
+use Rattle.msi_container_format.specs.Container.{successor}
+use Rattle.msi_container_chains.proofs.ClaimLemmas.{claim_lacked_memory}
+use Rattle.msi_container_chains.proofs.ChainLemmas.{chain_push, next_is, free_at}
+use Rattle.msi_container_chains.proofs.WholeChainLemmas.{more_left, none_left, front_push, follower_push, some_follows}
+use Rattle.msi_container_chains.proofs.walks.walk_to_end.Goals as goal
+
+pub returns-in_err-claim-clause-only : goal.returns-in_err-claim-clause-only
+returns-in_err-claim-clause-only c = λ chain whole can.
+    let p = err_from_is_err_and c.from_residual.result c.from_residual.ensures.1 in
+    let next = successor c.args.table.now.bytes.now c.args.table.now.sectors.now in
+    let i = c.loop-link.invariant in
+    let xs = c.loop-link.chain.items in
+    let link = c.loop-link.link in
+    let used = c.args.claims.now.list.items in
+    let front = i.only chain whole can in
+    let left = more_left next c.args.start link chain xs whole front i.follows c.loop-link-test.true in
+    let same = next_is next c.args.start (length chain) (length xs) link xs chain whole.chain left front.front i.follows in
+    let claimed : c.loop-link.claims.list.items ≡ used ++ take (length xs) chain = i.claimed ∙ ap (λ ys. used ++ ys) front.front in
+    let free : IsFree (vec_len c.loop-link.claims.marks) c.loop-link.claims.list.items link =
+    rw (i.limit, claimed, ← same) (free_at _ (length xs) used chain can left) in
+    rw (p.1, p.2) (claim_lacked_memory _ _ _ _ c.in_err-claim.ensures.kinds c.in_err-claim.ensures.invalid free)
+
+pub loop-link-preserved : goal.loop-link-preserved
+loop-link-preserved c =
+    let next = successor c.args.table.now.bytes.now c.args.table.now.sectors.now in
+    let i = c.loop-link.invariant in
+    let xs = c.loop-link.chain.items in
+    let link = c.loop-link.link in
+    let pushed = c.in_ok-push.ensures.items in
+    let long = c.in_ok-push.ensures.len in
+    record {
+      so_far = rw (pushed, long) (chain_push next c.args.start (vec_len c.loop-link.chain) link xs i.so_far i.follows);
+      follows = rw pushed (follower_push next c.args.start link xs ∙ sym c.in-Some.ensures.value);
+      filled = λ _. omega (arith, long);
+      claimed = rw pushed (c.in_ok-claim.ensures.ok.1 ∙ rw i.claimed (append_assoc c.args.claims.now.list.items xs _));
+      limit = c.in_ok-claim.ensures.limit ∙ i.limit;
+      only = λ chain whole can.
+          let front = i.only chain whole can in
+          let left = more_left next c.args.start link chain xs whole front i.follows c.loop-link-test.true in
+          rw pushed (front_push next c.args.start link chain xs whole front i.follows left);
+      counted = omega (arith, i.counted, c.in-Some.ensures.step, long);
+    }
+
+pub returns-in-None-clause-only : goal.returns-in-None-clause-only
+returns-in-None-clause-only c = λ chain whole can.
+    let next = successor c.args.table.now.bytes.now c.args.table.now.sectors.now in
+    let i = c.loop-link.invariant in
+    let xs = c.loop-link.chain.items in
+    let link = c.loop-link.link in
+    let front = i.only chain whole can in
+    let left = more_left next c.args.start link chain xs whole front i.follows c.loop-link-test.true in
+    let longer = front_push next c.args.start link chain xs whole front i.follows left in
+    let some = some_follows next c.args.start chain (xs ++ link ∷ []) whole longer in
+    absurd (none-some some.0 (c.in-None.ensures.value ∙ sym (follower_push next c.args.start link xs) ∙ some.1))
+
+pub returns-clause-only : goal.returns-clause-only
+returns-clause-only c = λ chain whole can.
+    let next = successor c.args.table.now.bytes.now c.args.table.now.sectors.now in
+    let i = c.loop-link.invariant in
+    let ended = i.follows ∙ ap Some c.loop-link-test.false in
+    none_left next c.args.start _ c.args.claims.now.list.items chain c.loop-link.chain.items whole can c.requires.regular (i.only chain whole can) ended

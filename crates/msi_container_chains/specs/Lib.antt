@@ -1,0 +1,5 @@
+-- The words of this crate.
+pub mod Claims
+pub mod Walks
+pub mod Outcomes
+pub mod Counts
