@@ -12,7 +12,8 @@ use Rattle.msi_table_values.specs.CellValues.{row_values}
 use Rattle.msi_database_schema.specs.Keys.{table_key, summary_key, string_pool_name, string_data_name}
 use Rattle.msi_database_schema.specs.System.{tables_name, columns_name, validation_name, tables_columns, columns_columns, validation_columns}
 use Rattle.msi_database_schema.specs.Schema.{schema_of}
-use Rattle.msi_database_changes.specs.Database.{Database, Tables, named_numbers, numbers_of_rows, has_table}
+use Rattle.msi_table.specs.Census.{numbers_of_rows}
+use Rattle.msi_database_changes.specs.Database.{Database, Tables, named_numbers, has_table}
 use Rattle.msi_database_storage.specs.Streams.{Streams, stream_at, stored_rows}
 use Rattle.msi_database_storage.specs.StreamNames as databases
 use Rattle.msi_database_storage.specs.Kept.{Kept}

@@ -21,7 +21,8 @@ use Rattle.msi_database_schema.specs.Keys.{table_key}
 use Rattle.msi_database_schema.specs.System.{tables_name, columns_name, validation_name, tables_columns, columns_columns, validation_columns}
 use Rattle.msi_database_schema.specs.Schema.{SchemaRows, schema_of}
 use Rattle.msi_database_schema.proofs.SchemaLemmas.{table_of}
-use Rattle.msi_database_changes.specs.Database.{Database, table_at, rows_of, number_of_cell, numbers_of_rows}
+use Rattle.msi_table.specs.Census.{number_of_cell, numbers_of_rows}
+use Rattle.msi_database_changes.specs.Database.{Database, table_at, rows_of}
 use Rattle.msi_database_changes.specs.Database.{named_numbers, columns_by_name}
 use Rattle.msi_database_changes.proofs.SchemaKeptLemmas.{shown_table}
 use Rattle.msi_database_storage.specs.Streams.{Streams, stream_at, stored_rows}

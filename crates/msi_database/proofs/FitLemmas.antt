@@ -18,7 +18,8 @@ use Rattle.msi_table_values.proofs.FittingLemmas.{fits_length}
 use Rattle.msi_query_rows.specs.Rows.{TableCells}
 use Rattle.msi_database_schema.specs.System.{validation_columns}
 use Rattle.msi_database_schema.proofs.RowOrderLemmas.{names_total}
-use Rattle.msi_database_changes.specs.Database.{Database, Tables, number_of_cell, numbers_of_rows, rows_of, is_sound}
+use Rattle.msi_table.specs.Census.{number_of_cell, numbers_of_rows}
+use Rattle.msi_database_changes.specs.Database.{Database, Tables, rows_of, is_sound}
 use Rattle.msi_database_changes.proofs.StoredLemmas.{WellFormed, table_is_full}
 use Rattle.msi_database_changes.proofs.TracksLemmas.{TableFits, AllFit}
 use Rattle.msi_database_changes.proofs.RegularLemmas.{IsRegular}

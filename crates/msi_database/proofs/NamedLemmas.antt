@@ -14,7 +14,8 @@ use Rattle.msi_query_rows.specs.Rows.{TableCells}
 use Rattle.msi_database_schema.specs.Keys.{table_key}
 use Rattle.msi_database_schema.specs.System.{validation_name, validation_columns}
 use Rattle.msi_database_schema.proofs.RowOrderLemmas.{names_total}
-use Rattle.msi_database_changes.specs.Database.{Database, Tables, rows_of, numbers_of_rows, named_numbers, are_alike, table_at, validation_is_standard}
+use Rattle.msi_table.specs.Census.{numbers_of_rows}
+use Rattle.msi_database_changes.specs.Database.{Database, Tables, rows_of, named_numbers, are_alike, table_at, validation_is_standard}
 use Rattle.msi_database_changes.proofs.AlikeLemmas.{rows_alike}
 use Rattle.msi_database_storage.specs.Streams.{Streams, stream_at, stored_rows}
 use Rattle.msi_database.specs.Agreement.{TablesAre, UnlistedIs, numbers_stored, shown_numbers}

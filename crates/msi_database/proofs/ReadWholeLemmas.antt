@@ -16,7 +16,8 @@ use Rattle.msi_table.specs.Tables.{TableDef}
 use Rattle.msi_query_rows.specs.Refusals.{IsRefusal, or_refused}
 use Rattle.msi_database_schema.specs.Schema.{table_with}
 use Rattle.msi_database_schema.specs.System.{validation_columns, validation_name}
-use Rattle.msi_database_changes.specs.Database.{Database, Tables, is_sound, names_are_numbers, numbers_of_rows}
+use Rattle.msi_table.specs.Census.{numbers_of_rows}
+use Rattle.msi_database_changes.specs.Database.{Database, Tables, is_sound, names_are_numbers}
 use Rattle.msi_database_storage.specs.Streams.{Streams, stored_rows}
 use Rattle.msi_database_storage.specs.StreamNames.{HaveShortNames, HoldBytes}
 use Rattle.msi_database_storage.specs.Kept.{AreAsLong, Kept, database_kept, kept_of, schema_listed, table_kept, table_kept_at, unlisted_kept}

@@ -23,7 +23,8 @@ use Rattle.msi_table_values.specs.Fitting.{FitsRow}
 use Rattle.msi_database_schema.specs.Schema.{schema_of}
 use Rattle.msi_database_schema.specs.System.{columns_columns, columns_name, tables_columns, tables_name, validation_columns, validation_name}
 use Rattle.msi_database_schema.proofs.SchemaLemmas.{describes_from, names_tie}
-use Rattle.msi_database_changes.specs.Database.{number_of_cell, numbers_of_rows, rows_of}
+use Rattle.msi_table.specs.Census.{number_of_cell, numbers_of_rows}
+use Rattle.msi_database_changes.specs.Database.{rows_of}
 use Rattle.msi_database_storage.specs.Streams.{Streams, stored_rows}
 use Rattle.msi_database_storage.specs.StreamNames.{HoldBytes}
 use Rattle.msi_database_storage.specs.Kept.{schema_listed, table_kept}

@@ -11,7 +11,8 @@ use Rattle.msi_text_base.specs.Lists.{placed, stable_sort}
 use Rattle.msi_text_base.proofs.BoolLemmas.{T_second}
 use Rattle.msi_table_values.specs.declared.value.ValueRef.{ValueRef}
 use Rattle.msi_table_values.specs.declared.value.ValueRef.TheVariants as cell
-use Rattle.msi_database_changes.specs.Database.{Database, Tables, rows_of, number_of_cell, numbers_of_rows, cells_naming}
+use Rattle.msi_table.specs.Census.{number_of_cell, numbers_of_rows}
+use Rattle.msi_database_changes.specs.Database.{Database, Tables, rows_of, cells_naming}
 use Rattle.msi_query_rows.specs.Rows.{TableCells}
 use Rattle.msi_database_schema.proofs.AccountLemmas.{Uses, once}
 use Rattle.msi_database_changes.proofs.TurnLemmas.{total}

@@ -2,7 +2,7 @@
 use Rattle.std.specs.Prelude.{◌≡◌, ℕ, ◌+◌, ◌<◌, Bool, true, false, not, List, [], ◌∷◌, ◌++◌, length, filter, count_by}
 use Rattle.std.specs.Prelude.{Option, Some, None, unwrap_or, option_map, is_some, nat_lt, nat_le, ◌==◌, ◌&&◌, bytes_eq}
 use Rattle.std.specs.Prelude.{slice_get, map}
-use Rattle.std.specs.List.{flat_map, filter_map, list_all}
+use Rattle.std.specs.List.{flat_map, list_all}
 use Rattle.std.specs.FinMap.{find, put, is_sorted}
 use Rattle.std.specs.Ordering.{eq_by_cmp}
 use Rattle.msi_text_pool.specs.Pool.{Pool, Place}
@@ -11,12 +11,12 @@ use Rattle.msi_text_base.specs.Lists.{list_cmp, tabulated}
 use Rattle.msi_table_values.specs.declared.value.ValueRef.{ValueRef}
 use Rattle.msi_table_values.specs.declared.column.ColumnType.{ColumnType}
 use Rattle.msi_table_values.specs.Columns.{ColumnDef}
+use Rattle.msi_table.specs.Census.{numbers_of_rows}
 use Rattle.msi_query_rows.specs.Selection.{TableValues}
 use Rattle.msi_database_schema.specs.Keys.{is_table_name}
 use Rattle.msi_database_schema.specs.System.{validation_name, validation_columns}
 use Rattle.msi_query_rows.specs.Rows.{table_values, TableCells}
 use Rattle.std.specs.Option as options
-use Rattle.msi_table_values.specs.declared.value.ValueRef.TheVariants as cell
 use Rattle.msi_table_values.specs.declared.column.ColumnType.TheVariants as coltype
 
 -- tables stand in the order of their names
@@ -56,13 +56,6 @@ abbrev pub values_of : Database → List ℕ → Option TableValues
 values_of d name = option_map (table_values d.pool.places) (table_at name d)
 
 -- the numbers that cells name, of every table, and of the stream of `_Validation` where it is no table
-abbrev pub number_of_cell : ValueRef → Option ℕ
-number_of_cell (cell.Str number) = Some number
-number_of_cell _ = None
-
-abbrev pub numbers_of_rows : List (List ValueRef) → List ℕ
-numbers_of_rows rows = flat_map (filter_map number_of_cell) rows
-
 abbrev pub named_numbers : Database → List ℕ
 named_numbers d = flat_map (λ t. numbers_of_rows (rows_of t.1)) d.tables ++ numbers_of_rows d.unlisted_validation
 

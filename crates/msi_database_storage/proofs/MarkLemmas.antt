@@ -9,7 +9,8 @@ use Rattle.msi_text_pool.specs.Pool.{Place, Pool, without_unnamed_texts, with_na
 use Rattle.msi_text_pool.proofs.ForgottenLemmas.{marks_stand}
 use Rattle.msi_table_values.specs.declared.value.ValueRef.{ValueRef}
 use Rattle.msi_table.specs.Tables.{TableDef}
-use Rattle.msi_database_changes.specs.Database.{number_of_cell, numbers_of_rows, rows_of}
+use Rattle.msi_table.specs.Census.{number_of_cell, numbers_of_rows}
+use Rattle.msi_database_changes.specs.Database.{rows_of}
 use Rattle.msi_database_storage.specs.Streams.{Streams}
 use Rattle.msi_database_storage.specs.Kept.{AreAsLong, table_kept}
 use Rattle.msi_database_storage.specs.Marks.{marked, all_marked, numbers_of_tables, numbers_named, pool_shown}

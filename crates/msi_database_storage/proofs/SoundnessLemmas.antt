@@ -11,7 +11,8 @@ use Rattle.msi_table_values.specs.Columns.{ColumnDef}
 use Rattle.msi_table.specs.Tables.{TableDef}
 use Rattle.msi_query_rows.specs.Rows.{TableCells}
 use Rattle.msi_database_schema.specs.System.{validation_columns, validation_name}
-use Rattle.msi_database_changes.specs.Database.{Database, are_alike, is_sound, names_are_numbers, numbers_of_rows, pool_fits_width, validation_is_standard}
+use Rattle.msi_table.specs.Census.{numbers_of_rows}
+use Rattle.msi_database_changes.specs.Database.{Database, are_alike, is_sound, names_are_numbers, pool_fits_width, validation_is_standard}
 use Rattle.msi_database_storage.specs.Streams.{Streams}
 use Rattle.msi_database_storage.specs.Kept.{AreAsLong, database_kept, table_kept, table_kept_at, unlisted_kept}
 use Rattle.msi_database_storage.specs.Spending.{all_spent, table_spent, tables_spent}

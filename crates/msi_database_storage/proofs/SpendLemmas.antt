@@ -9,7 +9,8 @@ use Rattle.msi_text_base.proofs.BoolLemmas.{same_truth}
 use Rattle.msi_text_pool.specs.Pool.{Place}
 use Rattle.msi_text_pool.specs.FirstFit.{count_of}
 use Rattle.msi_database_schema.proofs.AccountLemmas.{once, room}
-use Rattle.msi_database_changes.specs.Database.{Database, Tables, is_sound, rows_of, named_numbers, names_are_numbers, numbers_of_rows, counts_suffice, names_stay_in_pool, pool_fits_width, tables_are_readable, validation_is_standard}
+use Rattle.msi_table.specs.Census.{numbers_of_rows}
+use Rattle.msi_database_changes.specs.Database.{Database, Tables, is_sound, rows_of, named_numbers, names_are_numbers, counts_suffice, names_stay_in_pool, pool_fits_width, tables_are_readable, validation_is_standard}
 use Rattle.msi_database_changes.proofs.SoundLemmas.{enough_from_sound, sound_from_enough}
 use Rattle.msi_database_changes.proofs.TablesLemmas.{times, times-cons, naming_is}
 use Rattle.msi_database_storage.specs.Spending.{spent, all_spent, is_readable, tables_spent}

@@ -5,7 +5,8 @@ use Rattle.msi_text_pool.specs.Pool.{Pool, with_named_texts}
 use Rattle.msi_table_values.specs.declared.value.ValueRef.{ValueRef}
 use Rattle.msi_table_values.specs.declared.value.ValueRef.TheVariants as cell
 use Rattle.msi_table.specs.Tables.{TableDef}
-use Rattle.msi_database_changes.specs.Database.{Tables, numbers_of_rows, rows_of}
+use Rattle.msi_table.specs.Census.{numbers_of_rows}
+use Rattle.msi_database_changes.specs.Database.{Tables, rows_of}
 use Rattle.msi_database_storage.specs.Streams.{Streams}
 use Rattle.msi_database_storage.specs.Kept.{table_kept}
 

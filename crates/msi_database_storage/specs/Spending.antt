@@ -5,7 +5,8 @@ use Rattle.msi_table_values.specs.declared.value.ValueRef.{ValueRef}
 use Rattle.msi_table_values.specs.declared.value.ValueRef.TheVariants as cell
 use Rattle.msi_query_rows.specs.Rows.{TableCells}
 use Rattle.msi_database_schema.specs.Keys.{is_table_name}
-use Rattle.msi_database_changes.specs.Database.{Tables, rows_of, numbers_of_rows}
+use Rattle.msi_table.specs.Census.{numbers_of_rows}
+use Rattle.msi_database_changes.specs.Database.{Tables, rows_of}
 
 -- what is left after one was taken at a number, and after one was taken at each; nothing where a count doesn't suffice
 abbrev pub spent : List ℕ → ℕ → Option (List ℕ)

@@ -4,7 +4,7 @@ ghost use Rattle.std.specs.Prelude.{◌≡◌, ◌∷◌, [], ◌≤◌, Bool, I
 ghost use Rattle.std.specs.FinMap.{entries};
 ghost use Rattle.msi_text_pool.specs.Pool.{CountsFit, unindexed};
 ghost use Rattle.msi_text_base.specs.Results.{OnlyMemory};
-ghost use Rattle.msi_database_changes.specs.Database.{numbers_of_rows};
+ghost use Rattle.msi_table.specs.Census.{numbers_of_rows};
 ghost use Rattle.msi_database_storage.specs.Kept.{AreAsLong, table_kept};
 ghost use Rattle.msi_database_storage.specs.Marks.{all_marked, cell_marked, numbers_named, numbers_of_tables};
 ghost use Rattle.msi_database_storage.specs.Marks.{pool_shown};

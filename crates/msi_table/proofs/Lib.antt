@@ -9,4 +9,5 @@ pub mod SortedFitsLemmas
 pub mod SortedRowsLemmas
 pub mod ReadRowsLemmas
 pub mod ColumnLemmas
+pub mod CensusLemmas
 pub mod WorkedRows

@@ -1,5 +1,5 @@
 -- The streams of tables: cells by their positions.
-use Rattle.std.specs.Prelude.{ℕ, ◌+◌, ◌*◌, ◌/◌, Bool, List, [], ◌∷◌, ◌++◌, map, length, take, drop, Option, Some, None}
+use Rattle.std.specs.Prelude.{ℕ, ◌+◌, ◌*◌, ◌/◌, Bool, true, false, List, [], ◌∷◌, ◌++◌, map, length, take, drop, Option, Some, None}
 use Rattle.std.specs.Prelude.{◌^◌, nat_le, ◌==◌, if◌then◌else◌, pos, ◌+ℤ◌, ◌-ℤ◌, sum, slice_get}
 use Rattle.std.specs.Option as options
 use Rattle.std.specs.List.{flat_map}
@@ -17,6 +17,10 @@ width long coltype.Int16 = 2
 width long coltype.Int32 = 4
 width long (coltype.Str n) = reference_width long
 width long coltype.Binary = 2
+
+abbrev pub is_for_texts : ColumnType → Bool
+is_for_texts (coltype.Str n) = true
+is_for_texts _ = false
 
 -- 0 is null, else the number stands above the middle
 abbrev pub cell_of_number : ℕ → ℕ → ValueRef

@@ -6,6 +6,7 @@ pub mod Tables
 pub mod Rows
 pub mod SortedRows
 pub mod Utf8Rows
+pub mod Census
 -- The words of the crates below, which public clauses cite.
 pub use Rattle.msi_text_base.specs.declared.errors.ErrorKind
 pub use Rattle.msi_text_base.specs.Results

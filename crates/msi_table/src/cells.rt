@@ -1,7 +1,7 @@
 //! Cells and their bytes.
 
 ghost use Rattle.std.specs.Prelude.{◌≡◌, ◌<◌, ◌≤◌, ◌+◌, ◌^◌, length, take, drop};
-ghost use Rattle.msi_table.specs.Cells.{width as width_of, cell_of_number, cell_in};
+ghost use Rattle.msi_table.specs.Cells.{width as width_of, cell_of_number, cell_in, is_for_texts};
 
 use msi_table_values::column::ColumnType;
 use msi_table_values::value::ValueRef;
@@ -18,6 +18,13 @@ pub(crate) fn width(long: bool, coltype: ColumnType) -> usize
         ColumnType::Int32 => 4,
         ColumnType::Str(_) => { if long { 3 } else { 2 } }
     }
+}
+
+/// Whether the cells of a column are texts.
+pub(crate) fn holds_texts(coltype: ColumnType) -> bool
+    ensures { result ≡ is_for_texts coltype }
+{
+    matches!(coltype, ColumnType::Str(_))
 }
 
 /// The cell of a number that stands above the middle.

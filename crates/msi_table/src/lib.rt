@@ -2,6 +2,7 @@
 #![tactic(auto)]
 
 mod cells;
+mod census;
 pub mod laws;
 mod order;
 pub mod parts;

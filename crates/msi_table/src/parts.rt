@@ -10,6 +10,7 @@ ghost use Rattle.msi_table.specs.Tables.{CanStore, rows_spelled, stored_bytes, t
 ghost use Rattle.msi_table.specs.Rows.{AreAsWide, value_named as value_in_row};
 ghost use Rattle.msi_table.specs.StoredOrder.{in_stored_order};
 
+pub use crate::census::Census;
 pub use crate::order::sort_by_keys;
 use crate::row::{Row, Rows, values_of};
 use crate::table::Table;

@@ -30,7 +30,7 @@ fn row_width(long: bool, columns: &[Column]) -> usize
 }
 
 /// How many whole rows the bytes hold.
-fn row_count(long: bool, columns: &[Column], bytes: &[u8]) -> usize
+pub(crate) fn row_count(long: bool, columns: &[Column], bytes: &[u8]) -> usize
     requires { length columns.now ≤ most_columns }
     ensures { result ≡ count_of long (types_of columns.now) bytes.now }
 {

@@ -4,7 +4,7 @@ use Rattle.std.specs.List.{list_any}
 use Rattle.msi_text_pool.specs.Pool.{unindexed, PlacesWritten}
 use Rattle.msi_text_pool.proofs.ForgottenLemmas.{none_lost}
 use Rattle.std.specs.FinMap.{entries}
-use Rattle.msi_database_changes.specs.Database.{numbers_of_rows}
+use Rattle.msi_table.specs.Census.{numbers_of_rows}
 use Rattle.msi_database_storage.specs.Kept.{table_kept}
 use Rattle.msi_database_storage.specs.Marks.{numbers_named, numbers_of_tables}
 use Rattle.msi_database_storage.proofs.MarkLemmas.{marks_many, pool_marked}

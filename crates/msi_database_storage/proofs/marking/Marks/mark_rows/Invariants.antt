@@ -1,5 +1,5 @@
 use Rattle.std.proofs.Common.{◌≡◌, drop}
-use Rattle.msi_database_changes.specs.Database.{numbers_of_rows}
+use Rattle.msi_table.specs.Census.{numbers_of_rows}
 use Rattle.msi_database_storage.specs.Marks.{all_marked}
 use Rattle.msi_database_storage.proofs.marking.Marks.mark_rows.Given as goal
 

@@ -1,0 +1,37 @@
+-- How many cells of tables name each place of a pool.
+use Rattle.std.specs.Prelude.{◌≡◌, ℕ, ◌+◌, ◌<◌, ◌==◌, Bool, List, ◌++◌, length, Option, Some, None, count_by, min, nat_le}
+use Rattle.std.specs.Prelude.{slice_index}
+use Rattle.std.specs.List.{filter_map, flat_map, list_all}
+use Rattle.msi_table_values.specs.declared.value.ValueRef.{ValueRef}
+use Rattle.msi_table_values.specs.declared.value.ValueRef.TheVariants as cell
+
+-- the numbers that cells name
+abbrev pub number_of_cell : ValueRef → Option ℕ
+number_of_cell (cell.Str number) = Some number
+number_of_cell _ = None
+
+abbrev pub numbers_of_row : List ValueRef → List ℕ
+numbers_of_row row = filter_map number_of_cell row
+
+abbrev pub numbers_of_rows : List (List ValueRef) → List ℕ
+numbers_of_rows rows = flat_map (filter_map number_of_cell) rows
+
+-- a number of cells for each place, and whether no cell names a place past the last
+pub record CensusDef : Type 0 where
+  pub counts : List ℕ
+  pub is_within : Bool
+
+-- counting ends at the largest number of 32 bits
+abbrev pub most_counted : ℕ
+most_counted = 4294967295
+
+-- The census of cells that name these numbers, in a pool of so many places: places are numbered from 1 on
+pub record IsCensus (many : ℕ) (numbers : List ℕ) (c : CensusDef) : Type 0 where
+  pub many_counts : length c.counts ≡ many
+  pub counts : (i : ℕ) → i < many → slice_index c.counts i ≡ min (count_by (λ n. n == i + 1) numbers) most_counted
+  pub within : c.is_within ≡ list_all (λ n. nat_le n many) numbers
+
+-- what was counted before stays counted, and cells that name these numbers are counted beside it
+abbrev pub CountsMore : List ℕ → CensusDef → CensusDef → Type 0
+CountsMore numbers before after = (many : ℕ) (earlier : List ℕ) → IsCensus many earlier before
+    → IsCensus many (earlier ++ numbers) after
