@@ -21,7 +21,7 @@ use Rattle.msi_database_changes.specs.Database.{Database, Tables, is_sound, name
 use Rattle.msi_database_storage.specs.Streams.{Streams, stored_rows}
 use Rattle.msi_database_storage.specs.StreamNames.{HaveShortNames, HoldBytes}
 use Rattle.msi_database_storage.specs.Kept.{AreAsLong, Kept, database_kept, kept_of, schema_listed, table_kept, table_kept_at, unlisted_kept}
-use Rattle.msi_database_storage.specs.Marks.{numbers_named, numbers_of_tables, pool_shown}
+use Rattle.msi_database_storage.specs.Naming.{numbers_named, numbers_of_tables, pool_shown}
 use Rattle.msi_database.specs.Agreement.{is_shown, schema_in}
 use Rattle.msi_database.specs.Keeping.{AreKept, IsRead}
 use Rattle.msi_database.specs.Listed.{tables_listed}

@@ -95,8 +95,12 @@ names_stay_in_pool d = list_all (λ n. nat_le n (length d.pool.places)) (named_n
 abbrev pub pool_fits_width : Database → Bool
 pool_fits_width d = nat_le (length d.pool.places) (most_places d.pool.long)
 
+-- a table whose rows can be read, under an accepted name
+abbrev pub is_readable_table : List ℕ × TableCells → Bool
+is_readable_table t = is_some t.1.rows && is_table_name t.0
+
 abbrev pub tables_are_readable : Database → Bool
-tables_are_readable d = list_all (λ t. is_some t.1.rows && is_table_name t.0) d.tables
+tables_are_readable d = list_all is_readable_table d.tables
 
 abbrev pub validation_is_standard : Database → Bool
 validation_is_standard d = options.option_map_or

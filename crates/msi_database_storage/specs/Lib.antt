@@ -3,5 +3,4 @@ pub mod Streams
 pub mod StreamNames
 pub mod Kept
 pub mod Storing
-pub mod Spending
-pub mod Marks
+pub mod Naming

@@ -1,8 +1,7 @@
 //! Rows of tables, read from the streams of a container.
 
-ghost use Rattle.std.specs.Prelude.{◌≡◌, [], IfErr, IfOk, MatchOption, Some, is_some, unwrap_or};
+ghost use Rattle.std.specs.Prelude.{◌≡◌, [], IfErr, IfOk, Some, is_some, unwrap_or};
 ghost use Rattle.std.specs.FinMap.{entries};
-ghost use Rattle.msi_text_base.specs.Results.{OnlyMemory};
 ghost use Rattle.msi_text_base.specs.declared.errors.ErrorKind.TheVariants.{InvalidData};
 ghost use Rattle.msi_query_rows.specs.Refusals.{IsRefusal, or_refused};
 ghost use Rattle.msi_database_schema.specs.Keys.{table_key as key_of};
@@ -13,12 +12,12 @@ use msi_container_format::contents::StreamMap;
 use msi_database_schema::names::table_key;
 use msi_table::parts::{can_read_rows, read_rows};
 use msi_table::{Table, ValueRef};
-use msi_text::errors::{Error, ErrorKind};
+use msi_text::errors::Error;
 use msi_text::text::Items;
 use std::alloc::Global;
 
 /// The bytes of a table's stream; none where there is no stream.
-fn stream_bytes<'a>(streams: &'a StreamMap, name: &str) -> &'a [u8]
+pub(crate) fn stream_bytes<'a>(streams: &'a StreamMap, name: &str) -> &'a [u8]
     requires { HaveShortNames (entries streams.now) }
     ensures { result.now ≡ unwrap_or (stream_at (key_of name.now) (entries streams.now)) [] }
 {
@@ -38,30 +37,6 @@ pub fn is_readable(streams: &StreamMap, table: &Table) -> bool
     ensures { result ≡ is_some (rows_stored (entries streams.now) table.now.long table.now.columns table.now.name) }
 {
     can_read_rows(table, stream_bytes(streams, table.name()))
-}
-
-/// Returns the rows that the stream of a table encodes, unless it can't be read. A table without a stream has no
-/// rows. The streams' names are a container's, as each `Name` is.
-///
-/// # Errors
-/// Fails with `OutOfMemory`.
-pub fn readable_rows(
-    alloc: Global,
-    streams: &StreamMap,
-    table: &Table,
-) -> Result<Option<Vec<Items<ValueRef>>>, Error>
-    requires { HaveShortNames (entries streams.now) }
-    ensures ok { IfOk result (λ rows. MatchOption rows
-        (rows_stored (entries streams.now) table.now.long table.now.columns table.now.name ≡ None)
-        (λ rows. rows_stored (entries streams.now) table.now.long table.now.columns table.now.name ≡ Some rows.items)) }
-    ensures kind { OnlyMemory result }
-{
-    let bytes = stream_bytes(streams, table.name());
-    match read_rows(alloc, table, bytes) {
-        Ok(rows) => Ok(Some(rows)),
-        Err(error) if error.kind() == ErrorKind::InvalidData => Ok(None),
-        Err(error) => Err(error),
-    }
 }
 
 /// Returns the rows that the stream of a table encodes. A table without a stream has none. The streams' names are a

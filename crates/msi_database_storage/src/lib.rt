@@ -3,7 +3,7 @@
 
 mod decoding;
 pub mod listing;
-mod marking;
+mod naming;
 pub mod parts;
 mod soundness;
 mod storing;

@@ -1,34 +1,29 @@
-//! Whether a database is sound: decided in one pass over all cells.
+//! Whether a database is sound. All that its cells have to do with it stands in their census.
 
-ghost use Rattle.std.specs.Prelude.{◌≡◌, ◌&&◌, [], ◌∷◌, Bool, IfOk, None, Some, if◌then◌else◌, is_some, map, nat_le};
-ghost use Rattle.std.specs.Prelude.{length, true, bytes_eq};
+ghost use Rattle.std.specs.Prelude.{◌≡◌, ◌&&◌, ℕ, Bool, List, bytes_eq, length, map, nat_le, true};
 ghost use Rattle.std.specs.FinMap.{entries};
+ghost use Rattle.std.specs.List.{list_all};
 ghost use Rattle.std.specs.Option as options;
 ghost use Rattle.msi_text_pool.specs.FirstFit.{most_places as most_of};
 ghost use Rattle.msi_text_pool.specs.Pool.{unindexed};
-ghost use Rattle.msi_text_base.specs.Results.{OnlyMemory};
+ghost use Rattle.msi_table.specs.Census.{IsCensus};
 ghost use Rattle.msi_database_schema.specs.System.{validation_columns, validation_name};
-ghost use Rattle.msi_database_changes.specs.Database.{are_alike as alike, is_sound as is_sound_one, names_are_numbers};
-ghost use Rattle.msi_table.specs.Census.{numbers_of_rows};
-ghost use Rattle.msi_database_changes.specs.Database.{same_bool, same_kind as same_kinds};
-ghost use Rattle.msi_database_changes.specs.Database.{validation_is_standard};
-ghost use Rattle.msi_database_storage.specs.Kept.{AreAsLong, database_kept, table_kept, table_kept_at, unlisted_kept};
-ghost use Rattle.msi_database_storage.specs.Spending.{all_spent, cell_spent, table_spent, tables_spent};
+ghost use Rattle.msi_database_changes.specs.Database.{are_alike as alike, is_readable_table, is_sound as is_sound_one};
+ghost use Rattle.msi_database_changes.specs.Database.{named_numbers, same_bool, same_kind as same_kinds};
+ghost use Rattle.msi_database_storage.specs.Kept.{AreAsLong, database_kept, table_kept, table_kept_at};
+ghost use Rattle.msi_database_storage.specs.Naming.{all_suffice};
 ghost use Rattle.msi_database_storage.specs.StreamNames.{HaveShortNames};
 
-use crate::decoding::readable_rows;
+use crate::decoding::is_readable;
 use crate::listing::table_named;
 use msi_container_format::contents::StreamMap;
 use msi_database_schema::names::is_table_name;
 use msi_database_schema::system::VALIDATION;
+use msi_table::Table;
 use msi_table::column::{Column, ColumnType};
-use msi_table::{Table, ValueRef};
-use msi_text::errors::Error;
-use msi_text::parts::{most_places, place_number, string_ref};
+use msi_table::parts::Census;
+use msi_text::parts::{most_places, string_ref};
 use msi_text::stringpool::StringPool;
-use msi_text::text::Items;
-use std::alloc::Global;
-use std::marker::Model;
 
 /// Whether the pool has no more places than its references can name.
 fn fits_width(pool: &StringPool) -> bool
@@ -85,160 +80,70 @@ fn is_standard(tables: &[Table], standard: &[Column]) -> bool
     }
 }
 
-/// How many cells may still name each place of a pool. A contract sees these counts.
-#[derive(Drop)]
-struct Unspent {
-    counts: Vec<u16>,
-}
-
-impl Model for Unspent {
-    ghost use Rattle.std.specs.Prelude.{List, ℕ};
-
-    ghost Value = { List ℕ };
-
-    ghost view = { λ u. u.counts.items };
-}
-
-impl Unspent {
-    /// The counts of the pool's places.
-    ///
-    /// # Errors
-    /// `OutOfMemory`.
-    fn new(alloc: Global, pool: &StringPool) -> Result<Unspent, Error>
-        ensures ok { IfOk result (λ unspent. unspent ≡ map (λ p. p.count) pool.now.places) }
-        ensures kind { OnlyMemory result }
-    {
-        let many = pool.num_strings();
-        let mut counts = Vec::with_capacity(alloc, many as usize)?;
-        for i in 0..many {
-            counts.push(pool.refcount(string_ref(i + 1)))?;
-        }
-        Ok(Unspent { counts })
-    }
-
-    /// Takes one from the count of the place that a cell names, and answers whether there was one.
-    fn spend(&mut self, cell: ValueRef) -> bool
-        ensures { cell_spent self.old cell ≡ (if result then Some self.new else None) }
-    {
-        let ValueRef::Str(reference) = cell else {
-            return true;
-        };
-        let Some(at) = place_number(reference).checked_sub(1) else {
-            return false;
-        };
-        let at = at as usize;
-        if at >= self.counts.len() || self.counts[at] == 0 {
+/// Whether each place's count is at least the number of the cells that name it.
+fn counts_suffice(pool: &StringPool, census: &Census) -> bool
+    requires { length census.now.counts ≡ length pool.now.places }
+    ensures { (numbers : List ℕ) → IsCensus (length pool.now.places) numbers census.now
+        → result ≡ all_suffice pool.now.places numbers }
+{
+    let counts = census.counts();
+    for i in 0..pool.num_strings() {
+        if counts[i as usize] > u32::from(pool.refcount(string_ref(i + 1))) {
             return false;
         }
-        self.counts[at] -= 1;
-        true
     }
-
-    /// Takes one for each cell of a row.
-    fn spend_row(&mut self, row: &[ValueRef]) -> bool
-        ensures { all_spent self.old (numbers_of_rows (row.now ∷ [])) ≡ (if result then Some self.new else None) }
-    {
-        for cell in row {
-            if !self.spend(*cell) {
-                return false;
-            }
-        }
-        true
-    }
-
-    /// Takes one for each cell of rows.
-    fn spend_rows(&mut self, rows: &[Items<ValueRef>]) -> bool
-        ensures { all_spent self.old (numbers_of_rows rows.now) ≡ (if result then Some self.new else None) }
-    {
-        for row in rows {
-            if !self.spend_row(row.as_slice()) {
-                return false;
-            }
-        }
-        true
-    }
-
-    /// Takes one for each cell of a table, which has to have an accepted name, and rows that can be read.
-    ///
-    /// # Errors
-    /// `OutOfMemory`.
-    fn spend_table(
-        &mut self,
-        alloc: Global,
-        streams: &StreamMap,
-        table: &Table,
-    ) -> Result<bool, Error>
-        requires { HaveShortNames (entries streams.now) }
-        ensures ok { let kept = table_kept (entries streams.now) table.now.long table.now in
-            IfOk result (λ enough. table_spent self.old kept ≡ (if enough then Some self.new else None)) }
-        ensures kind { OnlyMemory result }
-    {
-        if !is_table_name(table.name()) {
-            return Ok(false);
-        }
-        match readable_rows(alloc, streams, table)? {
-            Some(rows) => Ok(self.spend_rows(rows.as_slice())),
-            None => Ok(false),
-        }
-    }
-
-    /// Takes one for each cell of tables.
-    ///
-    /// # Errors
-    /// `OutOfMemory`.
-    fn spend_tables(
-        &mut self,
-        alloc: Global,
-        streams: &StreamMap,
-        tables: &[Table],
-    ) -> Result<bool, Error>
-        requires { HaveShortNames (entries streams.now) }
-        ensures ok { IfOk result (λ enough. (long : Bool) → AreAsLong long tables.now
-            → tables_spent self.old (map (table_kept (entries streams.now) long) tables.now)
-            ≡ (if enough then Some self.new else None)) }
-        ensures kind { OnlyMemory result }
-    {
-        for table in tables {
-            if !self.spend_table(alloc, streams, table)? {
-                return Ok(false);
-            }
-        }
-        Ok(true)
-    }
+    true
 }
 
-/// Returns whether a database of these parts is sound. The rows are those of the stream of `_Validation` where it is
-/// no table, and `standard` its standard columns. The tables refer to texts in the pool's width, and cells name
-/// places from 1 on.
-///
-/// # Errors
-/// Fails with `OutOfMemory`.
+/// Whether a table has an accepted name and rows that can be read.
+fn is_sound_table(streams: &StreamMap, table: &Table) -> bool
+    requires { HaveShortNames (entries streams.now) }
+    ensures { result ≡ is_readable_table (table_kept (entries streams.now) table.now.long table.now) }
+{
+    is_readable(streams, table) && is_table_name(table.name())
+}
+
+/// Whether tables have accepted names and rows that can be read.
+fn are_sound_tables(streams: &StreamMap, tables: &[Table]) -> bool
+    requires { HaveShortNames (entries streams.now) }
+    ensures { (long : Bool) → AreAsLong long tables.now
+        → result ≡ list_all is_readable_table (map (table_kept (entries streams.now) long) tables.now) }
+{
+    for table in tables {
+        if !is_sound_table(streams, table) {
+            return false;
+        }
+    }
+    true
+}
+
+/// Returns whether a database of these parts is sound. The census is that of all cells, and `standard` are the
+/// standard columns of `_Validation`. The tables refer to texts in the pool's width. It takes no memory.
 pub fn are_sound(
-    alloc: Global,
     pool: &StringPool,
     tables: &[Table],
     streams: &StreamMap,
-    unlisted: &[Items<ValueRef>],
+    census: &Census,
     standard: &[Column],
-) -> Result<bool, Error>
+) -> bool
     requires names { HaveShortNames (entries streams.now) }
     requires long { AreAsLong pool.now.long tables.now }
-    requires numbers { names_are_numbers (database_kept (unindexed pool.now) tables.now (entries streams.now)) ≡ true }
-    requires unlisted { unlisted.now ≡ unlisted_kept (entries streams.now) pool.now.long tables.now }
+    requires census { let database = database_kept (unindexed pool.now) tables.now (entries streams.now) in
+        IsCensus (length pool.now.places) (named_numbers database) census.now }
     requires standard { standard.now ≡ validation_columns }
-    ensures ok { let database = database_kept (unindexed pool.now) tables.now (entries streams.now) in
-        IfOk result (λ sound. sound ≡ is_sound_one database) }
-    ensures kind { OnlyMemory result }
+    ensures { result ≡ is_sound_one (database_kept (unindexed pool.now) tables.now (entries streams.now)) }
 {
+    if !counts_suffice(pool, census) {
+        return false;
+    }
+    if !census.is_within() {
+        return false;
+    }
     if !fits_width(pool) {
-        return Ok(false);
+        return false;
     }
-    if !is_standard(tables, standard) {
-        return Ok(false);
+    if !are_sound_tables(streams, tables) {
+        return false;
     }
-    let mut unspent = Unspent::new(alloc, pool)?;
-    if !unspent.spend_tables(alloc, streams, tables)? {
-        return Ok(false);
-    }
-    Ok(unspent.spend_rows(unlisted))
+    is_standard(tables, standard)
 }

@@ -1,9 +1,9 @@
 -- A census: what counting a cell does, that cells add up, and that columns in turn count what rows in turn count.
-use Rattle.std.proofs.Common.{◌≡◌, ◌≢◌, ℕ, zero, suc, ◌+◌, ◌*◌, ◌<◌, ◌≤◌, Bool, true, false, cond, ◌&&◌, ◌==◌, List, [], ◌∷◌, ◌++◌, map, length, take, drop, set, get_or, Option, Some, None, is_some, unwrap_or, pos, ◌-ℤ◌, ◌^◌, refl, sym, ap, subst, ◌∙◌, arith, ⊎_elim, append-nil, append_assoc, get_or-set_same, get_or-set_other}
-use Rattle.std.specs.Prelude.{count_by, min, nat_le, not, replicate, slice_index_or, sum}
-use Rattle.std.specs.List.{filter_map, list_all}
+use Rattle.std.proofs.Common.{◌≡◌, ◌≢◌, ℕ, zero, suc, ◌+◌, ◌*◌, ◌<◌, ◌≤◌, Bool, true, false, cond, ◌&&◌, ◌||◌, ◌==◌, List, [], ◌∷◌, ◌++◌, map, length, take, drop, set, get_or, Option, Some, None, is_some, unwrap_or, pos, ◌-ℤ◌, ◌^◌, refl, sym, ap, subst, ◌∙◌, arith, ⊎_elim, append-nil, append_assoc, get_or-set_same, get_or-set_other}
+use Rattle.std.specs.Prelude.{count_by, min, nat_le, nat_lt, not, replicate, slice_index_or, sum}
+use Rattle.std.specs.List.{filter_map, list_all, list_any}
 use Rattle.std.proofs.Math.Nat as nat
-use Rattle.std.proofs.lemmas.Bool.{cases_eq, cases_lt, eq-eqb, ne_eqb, le-leb, true≢false}
+use Rattle.std.proofs.lemmas.Bool.{cases_eq, cases_lt, eq-eqb, ne_eqb, le-leb, lt-ltb, true≢false}
 use Rattle.std.proofs.lemmas.Bool.Decides.{nat_tests}
 use Rattle.std.proofs.lemmas.List.{length-set, length-replicate, get_or-replicate, take_more}
 use Rattle.std.proofs.lemmas.Grind.{flat_map-append}
@@ -269,3 +269,32 @@ stored_counted long types bytes n b before after many is readable more =
 pub unread_counted : (o : Option (List (List ValueRef))) (b : Bool) (c : CensusDef) → b ≡ is_some o → b ≡ false → CountsMore (numbers_of_rows (unwrap_or o [])) c c
 unread_counted None b c is unread = nothing_more c
 unread_counted (Some rows) b c is unread = absurd (true≢false (sym is ∙ unread))
+
+-- WHAT A CENSUS SAYS
+
+-- a place has a count where a cell names it
+pub any_counted : (p : ℕ → Bool) (xs : List ℕ) → nat_lt 0 (min (count_by p xs) most_counted) ≡ list_any p xs
+any_counted p xs = up_to_some (count_by p xs) ∙ sym (any_by_count p xs) where
+  up_to_some : (n : ℕ) → nat_lt 0 (min n most_counted) ≡ nat_lt 0 n
+  up_to_some n = ⊎_elim
+      (λ (h : n < most_counted). ap (nat_lt 0) (nat.min-eq_left {n = n} {m = most_counted} (omega (arith, h))))
+      (λ (h : most_counted ≤ n). ap (nat_lt 0) (nat.min-eq_right {n = most_counted} {m = n} h) ∙ sym (lt-ltb 0 n (omega (arith, h))))
+      (cases_lt n most_counted)
+
+  by_first : (b rest : Bool) (n : ℕ) → rest ≡ nat_lt 0 n → (b || rest) ≡ nat_lt 0 (cond b 1 0 + n)
+  by_first true rest n e = sym (lt-ltb 0 (1 + n) (omega arith))
+  by_first false rest n e = e ∙ (let z : n ≡ 0 + n = omega arith in ap (nat_lt 0) z)
+
+  any_by_count : (p : ℕ → Bool) (xs : List ℕ) → list_any p xs ≡ nat_lt 0 (count_by p xs)
+  any_by_count p [] = refl
+  any_by_count p (x ∷ xs) = by_first (p x) (list_any p xs) (count_by p xs) (any_by_count p xs) ∙ ap (nat_lt 0) (sym (sum_by-cons (λ x. cond (p x) 1 0) x xs))
+
+-- a count of 16 bits suffices where the census says so
+pub counted_within : (n most : ℕ) → most < 65536 → min n most_counted ≤ most → n ≤ most
+counted_within n most small h = ⊎_elim
+    (λ (few : n < most_counted). omega (arith, h, nat.min-eq_left {n = n} {m = most_counted} (omega (arith, few))))
+    (λ (many : most_counted ≤ n). absurd (omega (arith, small, h, nat.min-eq_right {n = most_counted} {m = n} many)))
+    (cases_lt n most_counted)
+
+pub counted_past : (n most : ℕ) → most < min n most_counted → most < n
+counted_past n most h = omega (arith, h, nat.min-le_left n most_counted)

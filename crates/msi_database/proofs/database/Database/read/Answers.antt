@@ -5,7 +5,7 @@ use Rattle.msi_table_values.specs.declared.value.ValueRef.{ValueRef}
 use Rattle.msi_table.specs.Tables.{TableDef}
 use Rattle.msi_query_rows.proofs.RefusalLemmas.{err_passed}
 use Rattle.msi_database_storage.specs.Kept.{kept_of}
-use Rattle.msi_database_storage.specs.Marks.{numbers_named, pool_shown}
+use Rattle.msi_database_storage.specs.Naming.{numbers_named, pool_shown}
 use Rattle.msi_database.specs.Keeping.{AreKept}
 use Rattle.msi_database.specs.Reading.{IsDatabaseOf}
 use Rattle.msi_database.proofs.ReadWholeLemmas.{Reads, read_database, read_kept, read_numbers, read_once, read_unlisted, reads_by, standard_is, standard_stored, unread_refused}
