@@ -1,7 +1,9 @@
 -- A database that is read: its pool's places, what it keeps to, and what it is.
 use Rattle.std.proofs.Common.{◌≡◌, ℕ, ◌≤◌, Bool, true, false, ◌||◌, ◌==◌, List, [], ◌∷◌, ◌++◌, map, length, Option, Some, is_some, unwrap_or, refl, sym, ap, ap₂, subst, ◌∙◌}
 use Rattle.std.specs.Prelude.{T, if◌then◌else◌}
-use Rattle.std.specs.List.{list_any}
+use Rattle.std.specs.List.{enumerate_from, list_any}
+use Rattle.std.proofs.lemmas.List.{length-map}
+use Rattle.std.proofs.lemmas.List.FromFn.{length-enumerate_from}
 use Rattle.std.specs.FinMap.{entries, entries_sorted, is_sorted}
 use Rattle.std.proofs.lemmas.List.Folds.{list_any-append}
 use Rattle.std.proofs.lemmas.Option.{same_Some}
@@ -9,15 +11,15 @@ use Rattle.msi_container_format.specs.Names.{name_cmp}
 use Rattle.msi_container_format.specs.Streams as maps
 use Rattle.msi_text_base.specs.declared.errors.ErrorKind.{ErrorKind}
 use Rattle.msi_text_base.specs.declared.errors.ErrorKind.TheVariants.{InvalidData}
-use Rattle.msi_text_pool.specs.Pool.{CountsFit, Pool, with_named_texts}
+use Rattle.msi_text_pool.specs.Pool.{CountsFit, Place, Pool, forgotten, with_named_texts}
 use Rattle.msi_table_values.specs.declared.value.ValueRef.{ValueRef}
 use Rattle.msi_table_values.specs.Columns.{ColumnDef}
 use Rattle.msi_table.specs.Tables.{TableDef}
 use Rattle.msi_query_rows.specs.Refusals.{IsRefusal, or_refused}
 use Rattle.msi_database_schema.specs.Schema.{table_with}
 use Rattle.msi_database_schema.specs.System.{validation_columns, validation_name}
-use Rattle.msi_table.specs.Census.{numbers_of_rows}
-use Rattle.msi_database_changes.specs.Database.{Database, Tables, is_sound, names_are_numbers}
+use Rattle.msi_table.specs.Census.{CensusDef, IsCensus, numbers_of_rows}
+use Rattle.msi_database_changes.specs.Database.{Database, Tables, is_sound, named_numbers}
 use Rattle.msi_database_storage.specs.Streams.{Streams, stored_rows}
 use Rattle.msi_database_storage.specs.StreamNames.{HaveShortNames, HoldBytes}
 use Rattle.msi_database_storage.specs.Kept.{AreAsLong, Kept, database_kept, kept_of, schema_listed, table_kept, table_kept_at, unlisted_kept}
@@ -50,6 +52,9 @@ shown_here p ts b rows o e =
     ∙ ap (λ x. x || list_any p (numbers_of_rows rows)) (sym (list_any-append p ts (numbers_of_rows (if b then [] else rows))))
     ∙ sym (list_any-append p (ts ++ numbers_of_rows (if b then [] else rows)) (numbers_of_rows rows))
     ∙ ap (λ (o : Option (List (List ValueRef))). list_any p ((ts ++ numbers_of_rows (if b then [] else unwrap_or o [])) ++ numbers_of_rows (unwrap_or o []))) (sym e)
+
+length-with_named_texts : (is_named : ℕ → Bool) (places : List Place) → length (with_named_texts is_named places) ≡ length places
+length-with_named_texts is_named places = length-map (enumerate_from 1 places) (λ e. forgotten (is_named e.0) e.1) ∙ length-enumerate_from 1 places
 
 -- what is read of a pool, of streams, and of the tables that they describe
 pub record Reads (raw : Pool) (tables : List TableDef) (streams : Streams) (rows : List (List ValueRef)) : Type 0 where
@@ -85,11 +90,17 @@ module _ (raw : Pool) (tables : List TableDef) (streams : Streams) (rows : List 
     schema = schema_read;
   }
 
-  pub read_numbers : (new : Pool) → new ≡ shown → names_are_numbers (database_kept new tables streams) ≡ true
-  read_numbers new e =
-      let d : Database = database_kept shown tables streams in
-      let kept = (read_is_kept raw shown tables streams (is_sound d) is_read refl).kept in
-      subst (λ (p : Pool). names_are_numbers (database_kept p tables streams) ≡ true) (sym e) (well_formed d (tables_sorted streams d kept.spelled.schema) kept.rows kept.unlisted).numbers
+  pub read_unlisted : (new : Pool) → new ≡ shown → (if is_some (table_kept_at validation_name tables) then [] else rows) ≡ unlisted_kept streams new.long tables
+  read_unlisted new e = subst (λ (p : Pool). (if is_some (table_kept_at validation_name tables) then [] else rows) ≡ unlisted_kept streams p.long tables) (sym e)
+      (ap (λ (o : Option (List (List ValueRef))). if is_some (table_kept_at validation_name tables) then [] else unwrap_or o []) (sym h.stored))
+
+  -- the census of its tables, with the rows beside them, is that of the database
+  pub read_census : (new : Pool) → new ≡ shown → (many : ℕ) (beside : List (List ValueRef)) (census : CensusDef) → many ≡ length raw.places → beside ≡ (if is_some (table_kept_at validation_name tables) then [] else rows)
+      → IsCensus many (numbers_of_tables (map (table_kept streams raw.long) tables) ++ numbers_of_rows beside) census → IsCensus (length new.places) (named_numbers (database_kept new tables streams)) census
+  read_census new e many beside census is_many is_beside counted =
+      subst (λ (p : Pool). IsCensus (length p.places) (named_numbers (database_kept p tables streams)) census) (sym e)
+      (subst (λ many. IsCensus many (named_numbers (database_kept shown tables streams)) census) (is_many ∙ sym (length-with_named_texts (λ number. list_any (λ n. n == number) (numbers_named streams raw.long tables rows)) raw.places))
+      (subst (λ (rows : List (List ValueRef)). IsCensus many (numbers_of_tables (map (table_kept streams raw.long) tables) ++ numbers_of_rows rows) census) (is_beside ∙ read_unlisted shown refl) counted))
 
   pub read_kept : (new : Pool) → new ≡ shown → (sound : Bool) → sound ≡ is_sound (database_kept new tables streams) → AreKept new tables streams sound
   read_kept new e sound = subst (λ (p : Pool). sound ≡ is_sound (database_kept p tables streams) → AreKept p tables streams sound) (sym e) (read_is_kept raw shown tables streams sound is_read)
@@ -102,10 +113,6 @@ module _ (raw : Pool) (tables : List TableDef) (streams : Streams) (rows : List 
     places = places_read;
     spelled = parts_spelled shown tables streams schema_read;
   })
-
-  pub read_unlisted : (new : Pool) → new ≡ shown → (if is_some (table_kept_at validation_name tables) then [] else rows) ≡ unlisted_kept streams new.long tables
-  read_unlisted new e = subst (λ (p : Pool). (if is_some (table_kept_at validation_name tables) then [] else rows) ≡ unlisted_kept streams p.long tables) (sym e)
-      (ap (λ (o : Option (List (List ValueRef))). if is_some (table_kept_at validation_name tables) then [] else unwrap_or o []) (sym h.stored))
 
 -- THERE IS NO OTHER
 

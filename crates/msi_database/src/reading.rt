@@ -27,7 +27,7 @@ use msi_database_schema::system::{
     COLUMNS, TABLES, VALIDATION, columns_columns, tables_columns, validation_columns,
 };
 use msi_database_storage::listing::table_named;
-use msi_database_storage::parts::{are_sound, stored_rows, with_named_texts};
+use msi_database_storage::parts::{are_sound, stored_rows, tables_census, with_named_texts};
 use msi_table::column::Column;
 use msi_table::parts::values;
 use msi_table::{Table, Value, ValueRef};
@@ -167,10 +167,11 @@ impl Database {
         let validation = stored_rows(alloc, &streams, &standard)?;
         let tables = tables_in(alloc, &pool, &streams, validation.as_slice())?;
         let listed = tables.as_slice();
-        let pool = with_named_texts(alloc, pool, &streams, listed, validation.as_slice())?;
+        let mut census = tables_census(alloc, pool.num_strings(), &streams, listed)?;
+        let pool = with_named_texts(alloc, pool, &census, validation.as_slice())?;
         let unlisted = unlisted_rows(alloc, listed, validation);
-        let beside = unlisted.as_slice();
-        let is_sound = are_sound(alloc, &pool, listed, &streams, beside, standard.columns())?;
+        census.count_rows(unlisted.as_slice());
+        let is_sound = are_sound(&pool, listed, &streams, &census, standard.columns());
         Ok(Database {
             alloc,
             pool,

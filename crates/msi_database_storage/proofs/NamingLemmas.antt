@@ -65,8 +65,8 @@ marks_name many ms ns a b marks one other is i h =
     ∙ (λ k. any_counted (λ n. n == i + 1) ms k || any_counted (λ n. n == i + 1) ns k)
     ∙ sym (list_any-append (λ n. n == i + 1) ms ns)
   where
-  at_place : (f : ℕ → Bool) (n i : ℕ) → i < n → get_or (tabulated n f) i false ≡ f i
-  at_place f n i h = get_or_from_slice_get (tabulated n f) i (f i) false (tabulated_at f n i h)
+    at_place : (f : ℕ → Bool) (n i : ℕ) → i < n → get_or (tabulated n f) i false ≡ f i
+    at_place f n i h = get_or_from_slice_get (tabulated n f) i (f i) false (tabulated_at f n i h)
 
 pub marks_many : (many : ℕ) (a b : CensusDef) (marks : List Bool) → length a.counts ≡ many → marks ≡ tabulated (length a.counts) (is_named_in a b) → length marks ≡ many
 marks_many many a b marks same is = ap length is ∙ length-tabulated (length a.counts) (is_named_in a b) ∙ same
@@ -76,5 +76,7 @@ pub shown_by : (raw new : Pool) (ms ns : List ℕ) (a b : CensusDef) (marks : Li
     → new ≡ record raw { places = without_unnamed_texts marks raw.places } → new ≡ pool_shown (ms ++ ns) raw
 shown_by raw new ms ns a b marks one other is new_is =
     let many : length marks ≡ length raw.places = marks_many (length raw.places) a b marks one.many_counts is in
-    new_is ∙ (λ k. record raw { places = marks_stand marks (λ number. list_any (λ n. n == number) (ms ++ ns)) raw.places many
-    (λ i h. marks_name (length raw.places) ms ns a b marks one other is i (omega (arith, h, many))) k })
+    new_is ∙ (λ k. record raw {
+      places = marks_stand marks (λ number. list_any (λ n. n == number) (ms ++ ns)) raw.places many
+          (λ i h. marks_name (length raw.places) ms ns a b marks one other is i (omega (arith, h, many))) k;
+    })

@@ -58,12 +58,12 @@ count_lacks places census i counted count h seen is lacks numbers c =
     (λ all. true≢false (sym (all_here places numbers i h all) ∙ short (count_by (λ n. n == i + 1) numbers) (count_of (slice_get places i))
     (subst (λ most. most < count_by (λ n. n == i + 1) numbers) is (counted_past (count_by (λ n. n == i + 1) numbers) count (omega (arith, lacks, seen, c.counts i h))))))
   where
-  by_all : (b : Bool) → (b ≡ true → ⊥) → false ≡ b
-  by_all true no_more = absurd (no_more refl)
-  by_all false no_more = refl
+    by_all : (b : Bool) → (b ≡ true → ⊥) → false ≡ b
+    by_all true no_more = absurd (no_more refl)
+    by_all false no_more = refl
 
-  short : (n most : ℕ) → most < n → nat_le n most ≡ false
-  short n most h = grind (arith, nat_tests)
+    short : (n most : ℕ) → most < n → nat_le n most ≡ false
+    short n most h = grind (arith, nat_tests)
 
 -- TABLES
 
@@ -112,10 +112,10 @@ standard_kept pool tables streams standard e =
     ∙ mapped (table_kept_at validation_name tables)
     ∙ ap (λ (o : Option TableCells). options.option_map_or (λ t. are_alike t.columns validation_columns) o true) (sym (table_at_kept pool tables streams validation_name))
   where
-  mapped : (o : Option TableDef) → options.option_map_or (λ t. are_alike t.columns validation_columns) o true
-      ≡ options.option_map_or (λ (t : TableCells). are_alike t.columns validation_columns) (option_map (λ t. (table_kept streams pool.long t).1) o) true
-  mapped None = refl
-  mapped (Some t) = refl
+    mapped : (o : Option TableDef) → options.option_map_or (λ t. are_alike t.columns validation_columns) o true
+        ≡ options.option_map_or (λ (t : TableCells). are_alike t.columns validation_columns) (option_map (λ t. (table_kept streams pool.long t).1) o) true
+    mapped None = refl
+    mapped (Some t) = refl
 
 -- THE FIVE TESTS IN TURN
 

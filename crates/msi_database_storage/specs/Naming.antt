@@ -1,5 +1,6 @@
 -- The places of a pool that cells of tables name.
-use Rattle.std.specs.Prelude.{ℕ, ◌+◌, ◌==◌, ◌||◌, Bool, List, ◌++◌, count_by, length, map, nat_le, nat_lt, slice_get, slice_index}
+use Rattle.std.specs.Prelude.{ℕ, ◌+◌, ◌==◌, ◌||◌, Bool, List, ◌++◌, count_by, length, map, nat_le, nat_lt, slice_get}
+use Rattle.std.specs.Prelude.{slice_index}
 use Rattle.std.specs.List.{flat_map, list_all, list_any}
 use Rattle.msi_text_base.specs.Lists.{tabulated}
 use Rattle.msi_text_pool.specs.FirstFit.{count_of}

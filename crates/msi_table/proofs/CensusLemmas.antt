@@ -36,9 +36,9 @@ all_by_count : (p : ℕ → Bool) (xs : List ℕ) → list_all p xs ≡ (count_b
 all_by_count p [] = refl
 all_by_count p (x ∷ xs) = by_first (p x) (list_all p xs) (count_by (λ x. not (p x)) xs) (all_by_count p xs)
     ∙ ap (λ n. n == 0) (sym (sum_by-cons (λ x. cond (not (p x)) 1 0) x xs)) where
-  by_first : (b rest : Bool) (n : ℕ) → rest ≡ (n == 0) → (b && rest) ≡ (cond (not b) 1 0 + n == 0)
-  by_first true rest n e = e ∙ (let z : n ≡ 0 + n = omega arith in ap (λ m. m == 0) z)
-  by_first false rest n e = sym (ne_eqb (1 + n) 0 (λ z. omega (arith, z)))
+      by_first : (b rest : Bool) (n : ℕ) → rest ≡ (n == 0) → (b && rest) ≡ (cond (not b) 1 0 + n == 0)
+      by_first true rest n e = e ∙ (let z : n ≡ 0 + n = omega arith in ap (λ m. m == 0) z)
+      by_first false rest n e = sym (ne_eqb (1 + n) 0 (λ z. omega (arith, z)))
 
 all_same : (p : ℕ → Bool) (xs ys : List ℕ) → ((q : ℕ → Bool) → count_by q xs ≡ count_by q ys) → list_all p xs ≡ list_all p ys
 all_same p xs ys same = all_by_count p xs ∙ ap (λ n. n == 0) (same (λ x. not (p x))) ∙ sym (all_by_count p ys)
@@ -76,7 +76,7 @@ up_to : (n : ℕ) → min (min n most_counted + 1) most_counted ≡ min (n + 1) 
 up_to n = ⊎_elim
     (λ (h : n < most_counted). ap (λ m. min (m + 1) most_counted) (nat.min-eq_left {n = n} {m = most_counted} (omega (arith, h))))
     (λ (h : most_counted ≤ n). ap (λ m. min (m + 1) most_counted) (nat.min-eq_right {n = most_counted} {m = n} h)
-        ∙ nat.min-eq_right {n = most_counted} {m = most_counted + 1} (omega arith) ∙ sym (nat.min-eq_right {n = most_counted} {m = n + 1} (omega (arith, h))))
+    ∙ nat.min-eq_right {n = most_counted} {m = most_counted + 1} (omega arith) ∙ sym (nat.min-eq_right {n = most_counted} {m = n + 1} (omega (arith, h))))
     (cases_lt n most_counted)
 
 -- a number that isn't this place's adds nothing to it
@@ -117,11 +117,11 @@ place_counted before after k inside counts within many earlier is =
       many_counts = ap length counts ∙ length-set before.counts k (min (get_or before.counts k 0 + 1) most_counted) ∙ is.many_counts;
       counts = λ i h. ⊎_elim
           (λ (same : i ≡ k). subst (λ i. get_or after.counts i 0 ≡ min (count_by (λ n. n == i + 1) (earlier ++ suc k ∷ [])) most_counted) (sym same)
-              (ap (λ l. get_or l k 0) counts ∙ get_or-set_same before.counts k (min (get_or before.counts k 0 + 1) most_counted) 0 inside
-              ∙ ap (λ n. min (n + 1) most_counted) (is.counts k below) ∙ up_to (count_by (λ n. n == k + 1) earlier)
-              ∙ ap (λ n. min n most_counted) (sym (this_place earlier (suc k) k (omega arith)))))
+          (ap (λ l. get_or l k 0) counts ∙ get_or-set_same before.counts k (min (get_or before.counts k 0 + 1) most_counted) 0 inside
+          ∙ ap (λ n. min (n + 1) most_counted) (is.counts k below) ∙ up_to (count_by (λ n. n == k + 1) earlier)
+          ∙ ap (λ n. min n most_counted) (sym (this_place earlier (suc k) k (omega arith)))))
           (λ (apart : i ≢ k). ap (λ l. get_or l i 0) counts ∙ get_or-set_other before.counts k i (min (get_or before.counts k 0 + 1) most_counted) 0 apart
-              ∙ is.counts i h ∙ ap (λ n. min n most_counted) (sym (other_place earlier (suc k) i (λ e. apart (omega (arith, e))))))
+          ∙ is.counts i h ∙ ap (λ n. min n most_counted) (sym (other_place earlier (suc k) i (λ e. apart (omega (arith, e))))))
           (cases_eq i k);
       within = within ∙ is.within ∙ and_true (list_all (λ n. nat_le n many) earlier) ∙ sym (within_more many (suc k) earlier true (le-leb (suc k) many (omega (arith, below))));
     }
@@ -134,8 +134,8 @@ past_counted before after k past counts within many earlier is =
       counts = λ i h. ap (λ l. get_or l i 0) counts ∙ is.counts i h ∙ ap (λ n. min n most_counted) (sym (other_place earlier (suc k) i (λ e. omega (arith, e, h, above))));
       within = within ∙ and_false (list_all (λ n. nat_le n many) earlier) ∙ sym (within_more many (suc k) earlier false (not_within (suc k) many (omega (arith, above))));
     } where
-  not_within : (n many : ℕ) → many < n → nat_le n many ≡ false
-  not_within n many h = grind (arith, nat_tests)
+      not_within : (n many : ℕ) → many < n → nat_le n many ≡ false
+      not_within n many h = grind (arith, nat_tests)
 
 -- COLUMNS IN TURN
 
@@ -260,11 +260,11 @@ pub stored_counted : (long : Bool) (types : List ColumnType) (bytes : List ℕ) 
     → CountsMore (numbers_of_rows (tabulated n (row_in long types bytes))) before after → CountsMore (numbers_of_rows (unwrap_or (rows_in long types bytes) [])) before after
 stored_counted long types bytes n b before after many is readable more =
     either (nat_le (row_count long types bytes) 65536) (sym is ∙ readable) (ap (λ n. numbers_of_rows (tabulated n (row_in long types bytes))) many) where
-  either : (r : Bool) → is_some (cond r (Some (tabulated (row_count long types bytes) (row_in long types bytes))) None) ≡ true
-      → numbers_of_rows (tabulated n (row_in long types bytes)) ≡ numbers_of_rows (tabulated (row_count long types bytes) (row_in long types bytes))
-      → CountsMore (numbers_of_rows (unwrap_or (cond r (Some (tabulated (row_count long types bytes) (row_in long types bytes))) None) [])) before after
-  either true e same = subst (λ l. CountsMore l before after) same more
-  either false e same = absurd (true≢false (sym e))
+      either : (r : Bool) → is_some (cond r (Some (tabulated (row_count long types bytes) (row_in long types bytes))) None) ≡ true
+          → numbers_of_rows (tabulated n (row_in long types bytes)) ≡ numbers_of_rows (tabulated (row_count long types bytes) (row_in long types bytes))
+          → CountsMore (numbers_of_rows (unwrap_or (cond r (Some (tabulated (row_count long types bytes) (row_in long types bytes))) None) [])) before after
+      either true e same = subst (λ l. CountsMore l before after) same more
+      either false e same = absurd (true≢false (sym e))
 
 pub unread_counted : (o : Option (List (List ValueRef))) (b : Bool) (c : CensusDef) → b ≡ is_some o → b ≡ false → CountsMore (numbers_of_rows (unwrap_or o [])) c c
 unread_counted None b c is unread = nothing_more c

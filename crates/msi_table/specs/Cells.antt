@@ -1,5 +1,6 @@
 -- The streams of tables: cells by their positions.
-use Rattle.std.specs.Prelude.{ℕ, ◌+◌, ◌*◌, ◌/◌, Bool, true, false, List, [], ◌∷◌, ◌++◌, map, length, take, drop, Option, Some, None}
+use Rattle.std.specs.Prelude.{ℕ, ◌+◌, ◌*◌, ◌/◌, Bool, true, false, List, [], ◌∷◌, ◌++◌, map, length, take, drop}
+use Rattle.std.specs.Prelude.{Option, Some, None}
 use Rattle.std.specs.Prelude.{◌^◌, nat_le, ◌==◌, if◌then◌else◌, pos, ◌+ℤ◌, ◌-ℤ◌, sum, slice_get}
 use Rattle.std.specs.Option as options
 use Rattle.std.specs.List.{flat_map}

@@ -1,6 +1,6 @@
 -- How many cells of tables name each place of a pool.
-use Rattle.std.specs.Prelude.{◌≡◌, ℕ, ◌+◌, ◌<◌, ◌==◌, Bool, List, ◌++◌, length, Option, Some, None, count_by, min, nat_le}
-use Rattle.std.specs.Prelude.{slice_index}
+use Rattle.std.specs.Prelude.{◌≡◌, ℕ, ◌+◌, ◌<◌, ◌==◌, Bool, List, ◌++◌, length, Option, Some, None, count_by}
+use Rattle.std.specs.Prelude.{min, nat_le, slice_index}
 use Rattle.std.specs.List.{filter_map, flat_map, list_all}
 use Rattle.msi_table_values.specs.declared.value.ValueRef.{ValueRef}
 use Rattle.msi_table_values.specs.declared.value.ValueRef.TheVariants as cell

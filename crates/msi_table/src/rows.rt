@@ -63,7 +63,7 @@ fn read_row(
     ensures ok { IfOk result (λ row. row ≡ row_in long (types_of columns.now) bytes.now i) }
     ensures kind { OnlyMemory result }
 {
-    let mut row = Vec::new(alloc);
+    let mut row = Vec::with_capacity(alloc, columns.len())?;
     let mut start = 0;
     for column in columns {
         let coltype = column.coltype();
@@ -90,7 +90,7 @@ pub(crate) fn read_rows(
     if count > MAX_ROWS {
         return Err(Error::new(ErrorKind::InvalidData, reasons::ROWS_MANY));
     }
-    let mut rows = Vec::new(alloc);
+    let mut rows = Vec::with_capacity(alloc, count)?;
     for i in 0..count {
         rows.push(read_row(alloc, long, columns, bytes, count, i)?)?;
     }

@@ -10,7 +10,7 @@ pub returns-then-not-counts_suffice : goal.returns-then-not-counts_suffice
 returns-then-not-counts_suffice c = let d : Database = database_kept (unindexed c.args.pool.now) c.args.tables.now (entries c.args.streams.now) in
     first_fails d c.counts_suffice.result (names_stay_in_pool d) (pool_fits_width d) (tables_are_readable d) (validation_is_standard d)
     (c.counts_suffice.ensures (named_numbers d) c.requires.census) refl refl refl refl
-     c.if-not-counts_suffice.true
+    c.if-not-counts_suffice.true
 
 pub returns-then-not-is_within : goal.returns-then-not-is_within
 returns-then-not-is_within c = let d : Database = database_kept (unindexed c.args.pool.now) c.args.tables.now (entries c.args.streams.now) in

@@ -1,14 +1,17 @@
-use Rattle.std.proofs.Common.{◌≡◌, ◌∙◌, ap, sym, subst, List, Some}
+use Rattle.std.proofs.Common.{◌≡◌, ◌∙◌, [], ap, sym, subst, is_some, length, map, List, Some}
+use Rattle.std.specs.Prelude.{if◌then◌else◌}
 use Rattle.std.specs.FinMap.{entries}
 use Rattle.msi_text_pool.specs.Pool.{Pool, unindexed}
 use Rattle.msi_table_values.specs.declared.value.ValueRef.{ValueRef}
 use Rattle.msi_table.specs.Tables.{TableDef}
 use Rattle.msi_query_rows.proofs.RefusalLemmas.{err_passed}
-use Rattle.msi_database_storage.specs.Kept.{kept_of}
-use Rattle.msi_database_storage.specs.Naming.{numbers_named, pool_shown}
+use Rattle.msi_table.specs.Census.{IsCensus}
+use Rattle.msi_database_schema.specs.System.{validation_name}
+use Rattle.msi_database_storage.specs.Kept.{AreAsLong, kept_of, table_kept, table_kept_at}
+use Rattle.msi_database_storage.specs.Naming.{numbers_named, numbers_of_tables, pool_shown}
 use Rattle.msi_database.specs.Keeping.{AreKept}
 use Rattle.msi_database.specs.Reading.{IsDatabaseOf}
-use Rattle.msi_database.proofs.ReadWholeLemmas.{Reads, read_database, read_kept, read_numbers, read_once, read_unlisted, reads_by, standard_is, standard_stored, unread_refused}
+use Rattle.msi_database.proofs.ReadWholeLemmas.{Reads, read_census, read_database, read_kept, read_once, reads_by, standard_is, standard_stored, unread_refused}
 use Rattle.msi_database.proofs.database.Database.read.Goals as goal
 
 pub returns-in_err-validation-clause-kind : goal.returns-in_err-validation-clause-kind
@@ -23,23 +26,32 @@ tables_in-requires-clause-validation c =
     (standard_is c.in_ok-standard.standard c.long_string_refs.result c.args.pool.long c.in_ok-columns.columns c.in_ok-standard.ensures.ok c.long_string_refs.ensures c.in_ok-columns.ensures.ok)
     ∙ c.in_ok-validation.ensures.ok ∙ ap Some (sym c.as_slice.ensures.value)
 
-pub are_sound-requires-clause-numbers : goal.are_sound-requires-clause-numbers
-are_sound-requires-clause-numbers c = let raw : Pool = unindexed c.args.pool in let streams = entries c.args.streams in let listed : List TableDef = c.as_slice-listed.result.now in let rows : List (List ValueRef) = c.in_ok-validation.validation.items in
+pub are_sound-is_sound-requires-clause-long : goal.are_sound-is_sound-requires-clause-long
+are_sound-is_sound-requires-clause-long c = let raw : Pool = unindexed c.args.pool in let streams = entries c.args.streams in let listed : List TableDef = c.as_slice-listed.result.now in let rows : List (List ValueRef) = c.in_ok-validation.validation.items in
     let reads : Reads raw listed streams rows = reads_by raw c.args.streams c.in_ok-tables.tables listed rows c.in_ok-standard.standard c.look_at.ensures.names c.look_at.ensures.bytes c.in_ok-pool.ensures.few c.in_ok-pool.ensures.counts
     (standard_is c.in_ok-standard.standard c.long_string_refs.result c.args.pool.long c.in_ok-columns.columns c.in_ok-standard.ensures.ok c.long_string_refs.ensures c.in_ok-columns.ensures.ok)
     c.in_ok-validation.ensures.ok c.as_slice-listed.ensures c.in_ok-tables.ensures.long c.in_ok-tables.ensures.ok in
     let shown : (unindexed c.in_ok-pool.pool) ≡ pool_shown (numbers_named streams raw.long listed rows) raw =
-    c.in_ok-pool.ensures.ok ∙ ap (λ (rows : List (List ValueRef)). pool_shown (numbers_named streams raw.long listed rows) raw) c.as_slice-2.ensures.value in
-    read_numbers raw listed streams rows reads (unindexed c.in_ok-pool.pool) shown
+    c.in_ok-pool.ensures.ok (numbers_of_tables (map (table_kept streams raw.long) listed))
+    (subst (λ many. IsCensus many (numbers_of_tables (map (table_kept streams raw.long) listed)) c.in_ok-census.census) c.num_strings.ensures.many (c.in_ok-census.ensures.ok raw.long reads.as_long))
+    ∙ ap (λ (rows : List (List ValueRef)). pool_shown (numbers_named streams raw.long listed rows) raw) c.as_slice-2.ensures.value in
+    subst (λ long. AreAsLong long listed) (sym (ap (λ (p : Pool). p.long) shown)) reads.as_long
 
-pub are_sound-requires-clause-unlisted : goal.are_sound-requires-clause-unlisted
-are_sound-requires-clause-unlisted c = let raw : Pool = unindexed c.args.pool in let streams = entries c.args.streams in let listed : List TableDef = c.as_slice-listed.result.now in let rows : List (List ValueRef) = c.in_ok-validation.validation.items in
+pub with_named_texts-requires : goal.with_named_texts-requires
+with_named_texts-requires c = (c.in_ok-census.ensures.ok c.args.pool.long (subst (AreAsLong c.args.pool.long) (sym c.as_slice-listed.ensures) c.in_ok-tables.ensures.long)).many_counts ∙ c.num_strings.ensures.many
+
+pub are_sound-is_sound-requires-clause-census : goal.are_sound-is_sound-requires-clause-census
+are_sound-is_sound-requires-clause-census c = let raw : Pool = unindexed c.args.pool in let streams = entries c.args.streams in let listed : List TableDef = c.as_slice-listed.result.now in let rows : List (List ValueRef) = c.in_ok-validation.validation.items in
     let reads : Reads raw listed streams rows = reads_by raw c.args.streams c.in_ok-tables.tables listed rows c.in_ok-standard.standard c.look_at.ensures.names c.look_at.ensures.bytes c.in_ok-pool.ensures.few c.in_ok-pool.ensures.counts
     (standard_is c.in_ok-standard.standard c.long_string_refs.result c.args.pool.long c.in_ok-columns.columns c.in_ok-standard.ensures.ok c.long_string_refs.ensures c.in_ok-columns.ensures.ok)
     c.in_ok-validation.ensures.ok c.as_slice-listed.ensures c.in_ok-tables.ensures.long c.in_ok-tables.ensures.ok in
     let shown : (unindexed c.in_ok-pool.pool) ≡ pool_shown (numbers_named streams raw.long listed rows) raw =
-    c.in_ok-pool.ensures.ok ∙ ap (λ (rows : List (List ValueRef)). pool_shown (numbers_named streams raw.long listed rows) raw) c.as_slice-2.ensures.value in
-    c.as_slice-beside.ensures.value ∙ c.unlisted_rows-unlisted.ensures ∙ read_unlisted raw listed streams rows reads (unindexed c.in_ok-pool.pool) shown
+    c.in_ok-pool.ensures.ok (numbers_of_tables (map (table_kept streams raw.long) listed))
+    (subst (λ many. IsCensus many (numbers_of_tables (map (table_kept streams raw.long) listed)) c.in_ok-census.census) c.num_strings.ensures.many (c.in_ok-census.ensures.ok raw.long reads.as_long))
+    ∙ ap (λ (rows : List (List ValueRef)). pool_shown (numbers_named streams raw.long listed rows) raw) c.as_slice-2.ensures.value in
+    let beside : c.as_slice-3.result.now ≡ (if is_some (table_kept_at validation_name listed) then [] else rows) = c.as_slice-3.ensures.value ∙ c.unlisted_rows-unlisted.ensures in
+    read_census raw listed streams rows reads (unindexed c.in_ok-pool.pool) shown c.num_strings.result c.as_slice-3.result.now c.count_rows.new.self c.num_strings.ensures.many beside
+    (c.count_rows.ensures c.num_strings.result (numbers_of_tables (map (table_kept streams raw.long) listed)) (c.in_ok-census.ensures.ok raw.long reads.as_long))
 
 pub invariant_of-result : goal.invariant_of-result
 invariant_of-result c = let raw : Pool = unindexed c.args.pool in let streams = entries c.args.streams in let listed : List TableDef = c.as_slice-listed.result.now in let rows : List (List ValueRef) = c.in_ok-validation.validation.items in
@@ -47,9 +59,11 @@ invariant_of-result c = let raw : Pool = unindexed c.args.pool in let streams = 
     (standard_is c.in_ok-standard.standard c.long_string_refs.result c.args.pool.long c.in_ok-columns.columns c.in_ok-standard.ensures.ok c.long_string_refs.ensures c.in_ok-columns.ensures.ok)
     c.in_ok-validation.ensures.ok c.as_slice-listed.ensures c.in_ok-tables.ensures.long c.in_ok-tables.ensures.ok in
     let shown : (unindexed c.in_ok-pool.pool) ≡ pool_shown (numbers_named streams raw.long listed rows) raw =
-    c.in_ok-pool.ensures.ok ∙ ap (λ (rows : List (List ValueRef)). pool_shown (numbers_named streams raw.long listed rows) raw) c.as_slice-2.ensures.value in
-    subst (λ (ts : List TableDef). AreKept (unindexed c.in_ok-pool.pool) ts streams c.in_ok-is_sound.is_sound) c.as_slice-listed.ensures
-    (read_kept raw listed streams rows reads (unindexed c.in_ok-pool.pool) shown c.in_ok-is_sound.is_sound c.in_ok-is_sound.ensures.ok)
+    c.in_ok-pool.ensures.ok (numbers_of_tables (map (table_kept streams raw.long) listed))
+    (subst (λ many. IsCensus many (numbers_of_tables (map (table_kept streams raw.long) listed)) c.in_ok-census.census) c.num_strings.ensures.many (c.in_ok-census.ensures.ok raw.long reads.as_long))
+    ∙ ap (λ (rows : List (List ValueRef)). pool_shown (numbers_named streams raw.long listed rows) raw) c.as_slice-2.ensures.value in
+    subst (λ (ts : List TableDef). AreKept (unindexed c.in_ok-pool.pool) ts streams c.are_sound-is_sound.result) c.as_slice-listed.ensures
+    (read_kept raw listed streams rows reads (unindexed c.in_ok-pool.pool) shown c.are_sound-is_sound.result c.are_sound-is_sound.ensures)
 
 pub returns-clause-ok : goal.returns-clause-ok
 returns-clause-ok c = let raw : Pool = unindexed c.args.pool in let streams = entries c.args.streams in let listed : List TableDef = c.as_slice-listed.result.now in let rows : List (List ValueRef) = c.in_ok-validation.validation.items in
@@ -57,7 +71,9 @@ returns-clause-ok c = let raw : Pool = unindexed c.args.pool in let streams = en
     (standard_is c.in_ok-standard.standard c.long_string_refs.result c.args.pool.long c.in_ok-columns.columns c.in_ok-standard.ensures.ok c.long_string_refs.ensures c.in_ok-columns.ensures.ok)
     c.in_ok-validation.ensures.ok c.as_slice-listed.ensures c.in_ok-tables.ensures.long c.in_ok-tables.ensures.ok in
     let shown : (unindexed c.in_ok-pool.pool) ≡ pool_shown (numbers_named streams raw.long listed rows) raw =
-    c.in_ok-pool.ensures.ok ∙ ap (λ (rows : List (List ValueRef)). pool_shown (numbers_named streams raw.long listed rows) raw) c.as_slice-2.ensures.value in
+    c.in_ok-pool.ensures.ok (numbers_of_tables (map (table_kept streams raw.long) listed))
+    (subst (λ many. IsCensus many (numbers_of_tables (map (table_kept streams raw.long) listed)) c.in_ok-census.census) c.num_strings.ensures.many (c.in_ok-census.ensures.ok raw.long reads.as_long))
+    ∙ ap (λ (rows : List (List ValueRef)). pool_shown (numbers_named streams raw.long listed rows) raw) c.as_slice-2.ensures.value in
     subst (λ (ts : List TableDef). IsDatabaseOf raw streams (kept_of (unindexed c.in_ok-pool.pool) ts streams)) c.as_slice-listed.ensures
     (read_database raw listed streams rows reads (unindexed c.in_ok-pool.pool) shown)
 
@@ -67,7 +83,9 @@ returns-clause-only c = let raw : Pool = unindexed c.args.pool in let streams = 
     (standard_is c.in_ok-standard.standard c.long_string_refs.result c.args.pool.long c.in_ok-columns.columns c.in_ok-standard.ensures.ok c.long_string_refs.ensures c.in_ok-columns.ensures.ok)
     c.in_ok-validation.ensures.ok c.as_slice-listed.ensures c.in_ok-tables.ensures.long c.in_ok-tables.ensures.ok in
     let shown : (unindexed c.in_ok-pool.pool) ≡ pool_shown (numbers_named streams raw.long listed rows) raw =
-    c.in_ok-pool.ensures.ok ∙ ap (λ (rows : List (List ValueRef)). pool_shown (numbers_named streams raw.long listed rows) raw) c.as_slice-2.ensures.value in
+    c.in_ok-pool.ensures.ok (numbers_of_tables (map (table_kept streams raw.long) listed))
+    (subst (λ many. IsCensus many (numbers_of_tables (map (table_kept streams raw.long) listed)) c.in_ok-census.census) c.num_strings.ensures.many (c.in_ok-census.ensures.ok raw.long reads.as_long))
+    ∙ ap (λ (rows : List (List ValueRef)). pool_shown (numbers_named streams raw.long listed rows) raw) c.as_slice-2.ensures.value in
     λ k is. read_once raw listed streams rows reads k is (unindexed c.in_ok-pool.pool) shown ∙ ap (λ (ts : List TableDef). kept_of (unindexed c.in_ok-pool.pool) ts streams) c.as_slice-listed.ensures
 
 pub returns-clause-bounded : goal.returns-clause-bounded
