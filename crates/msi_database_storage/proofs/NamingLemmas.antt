@@ -1,7 +1,7 @@
 -- A census of tables: how far its loop has come, and what it says of free places.
-use Rattle.std.proofs.Common.{◌≡◌, ℕ, zero, suc, ◌+◌, ◌<◌, ◌≤◌, Bool, true, false, cond, ◌||◌, ◌==◌, List, [], ◌∷◌, ◌++◌, map, length, take, drop, get_or, unwrap_or, refl, sym, ap, subst, ◌∙◌, arith, append-nil}
-use Rattle.std.specs.Prelude.{count_by, min, nat_lt, slice_get, slice_index}
-use Rattle.std.specs.List.{AllByRecursion, flat_map, list_any}
+use Rattle.std.proofs.Common.{◌≡◌, ℕ, ◌+◌, ◌<◌, Bool, false, ◌||◌, ◌==◌, List, [], ◌∷◌, ◌++◌, map, length, take, get_or, unwrap_or, sym, ap, subst, ◌∙◌, arith, append-nil}
+use Rattle.std.specs.Prelude.{nat_lt}
+use Rattle.std.specs.List.{AllByRecursion, list_any}
 use Rattle.std.proofs.lemmas.Grind.{flat_map-append}
 use Rattle.std.proofs.lemmas.List.{map_push, take_more}
 use Rattle.std.proofs.lemmas.List.Folds.{list_any-append}
@@ -9,12 +9,11 @@ use Rattle.std.proofs.lemmas.Option.{get_or_from_slice_get}
 use Rattle.std.proofs.Math.Seq.{take-length}
 use Rattle.msi_text_base.specs.Lists.{tabulated}
 use Rattle.msi_text_base.proofs.ListLemmas.{all_dropped, drop_next, tabulated_at}
-use Rattle.msi_text_pool.specs.Pool.{Place, Pool, without_unnamed_texts}
+use Rattle.msi_text_pool.specs.Pool.{Pool, without_unnamed_texts}
 use Rattle.msi_text_pool.proofs.ForgottenLemmas.{marks_stand}
-use Rattle.msi_table_values.specs.declared.value.ValueRef.{ValueRef}
 use Rattle.msi_table_values.specs.Columns.{types_of}
 use Rattle.msi_table.specs.Cells.{rows_in}
-use Rattle.msi_table.specs.Census.{CensusDef, CountsMore, IsCensus, most_counted, numbers_of_rows}
+use Rattle.msi_table.specs.Census.{CensusDef, CountsMore, IsCensus, numbers_of_rows}
 use Rattle.msi_table.specs.Tables.{TableDef, rows_spelled}
 use Rattle.msi_table.proofs.CensusLemmas.{any_counted}
 use Rattle.msi_table.proofs.ReadRowsLemmas.{length-tabulated}

@@ -1,6 +1,6 @@
 -- Soundness: how far each loop has come, and what the parts of the test are of the database.
-use Rattle.std.proofs.Common.{◌≡◌, ◌≢◌, ℕ, suc, ◌+◌, ◌-◌, ◌<◌, ◌≤◌, Bool, true, false, ◌&&◌, ◌==◌, List, [], ◌∷◌, ◌++◌, map, length, take, get_or, Option, Some, None, option_map, slice_get, refl, sym, ap, ◌∙◌, subst, arith}
-use Rattle.std.specs.Prelude.{count_by, min, nat_le, slice_index}
+use Rattle.std.proofs.Common.{◌≡◌, ◌≢◌, ℕ, suc, ◌+◌, ◌-◌, ◌<◌, ◌≤◌, Bool, true, false, ◌&&◌, ◌==◌, List, [], ◌∷◌, map, length, take, get_or, Option, Some, None, option_map, slice_get, refl, sym, ap, ◌∙◌, subst, arith}
+use Rattle.std.specs.Prelude.{count_by, nat_le, slice_index}
 use Rattle.std.specs.List.{list_all}
 use Rattle.std.specs.Option as options
 use Rattle.std.proofs.Math.Seq.{take-length}
@@ -8,14 +8,13 @@ use Rattle.std.proofs.lemmas.Bool.{le-leb, true≢false}
 use Rattle.std.proofs.lemmas.Bool.Decides.{nat_tests}
 use Rattle.std.proofs.lemmas.List.{map_push, take_more}
 use Rattle.std.proofs.lemmas.List.Folds.{list_all-append, list_all-map, list_all_at}
-use Rattle.std.proofs.lemmas.Option.{get_or_from_slice_get}
 use Rattle.msi_text_base.specs.Lists.{numbers_from, tabulated}
 use Rattle.msi_text_base.proofs.ListLemmas.{each_number}
 use Rattle.msi_text_pool.specs.Pool.{Place, Pool}
 use Rattle.msi_text_pool.specs.FirstFit.{count_of}
 use Rattle.msi_text_pool.specs.FirstFitLaws.{count_at}
 use Rattle.msi_table_values.specs.Columns.{ColumnDef}
-use Rattle.msi_table.specs.Census.{CensusDef, IsCensus, most_counted}
+use Rattle.msi_table.specs.Census.{CensusDef, IsCensus}
 use Rattle.msi_table.specs.Tables.{TableDef}
 use Rattle.msi_table.proofs.CensusLemmas.{counted_past, counted_within}
 use Rattle.msi_table.proofs.PlacesLemmas.{tabulated_more}

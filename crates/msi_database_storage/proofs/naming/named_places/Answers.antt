@@ -1,4 +1,4 @@
-use Rattle.std.proofs.Common.{◌≡◌, ◌<◌, ◌∙◌, ◌||◌, ap, get_or, length, arith}
+use Rattle.std.proofs.Common.{◌∙◌, ◌||◌, get_or}
 use Rattle.std.specs.Prelude.{nat_lt}
 use Rattle.msi_table.proofs.PlacesLemmas.{tabulated_push}
 use Rattle.msi_database_storage.specs.Naming.{is_named_in}

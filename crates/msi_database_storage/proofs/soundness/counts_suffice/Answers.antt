@@ -1,4 +1,4 @@
-use Rattle.std.proofs.Common.{◌≡◌, ◌+◌, ◌-◌, ◌<◌, ◌∙◌, ap, length, slice_get, arith}
+use Rattle.std.proofs.Common.{◌≡◌, ◌<◌, ◌∙◌, ap, length, slice_get, arith}
 use Rattle.std.specs.Prelude.{slice_index}
 use Rattle.msi_text_pool.specs.FirstFit.{count_of}
 use Rattle.msi_text_pool.specs.FirstFitLaws.{count_at}

@@ -1,5 +1,4 @@
-use Rattle.std.proofs.Common.{◌≡◌, ◌+◌, ◌*◌, ◌∙◌, ap, sym, take, drop}
-use Rattle.msi_table_values.specs.declared.value.ValueRef.{ValueRef}
+use Rattle.std.proofs.Common.{◌+◌, ◌*◌, ◌∙◌, ap, sym, take, drop}
 use Rattle.msi_table.specs.Cells.{cell_in, width}
 use Rattle.msi_table.proofs.CensusLemmas.{cell_counted, no_texts}
 use Rattle.msi_table.proofs.census.Census.count_column.Goals as goal

@@ -1,5 +1,5 @@
-use Rattle.std.proofs.Common.{◌≡◌, ◌+◌, ◌*◌, ◌≤◌, ◌∙◌, ap, sym, length, arith}
-use Rattle.msi_table_values.specs.Columns.{ColumnDef, types_of}
+use Rattle.std.proofs.Common.{◌∙◌, ap, arith}
+use Rattle.msi_table_values.specs.Columns.{ColumnDef}
 use Rattle.msi_table.specs.Cells.{width}
 use Rattle.msi_table.proofs.CensusLemmas.{column_counted, column_within, columns_counted, nothing_more}
 use Rattle.msi_table.proofs.PlacesLemmas.{start_more}
