@@ -43,15 +43,11 @@ fn left_behind(pool: &StringPool, row: &[ValueRef], most: usize) -> Option<usize
     Some(left)
 }
 
-/// Whether the texts that rows name, each counted as often as it is named, have at most four times the bytes of the
-/// pool's texts, 64 bytes for each row and 256 KiB; and no more than `usize` counts.
-pub(crate) fn name_few_texts(pool: &StringPool, rows: &[Items<ValueRef>]) -> bool
-    ensures { IsTrue result
-        ↔ (NameFewTexts pool.now.places rows.now × (named_bytes pool.now.places rows.now ≤ usize.MAX)) }
+/// Whether the texts that rows name, each counted as often as it is named, have at most so many bytes.
+fn name_at_most(pool: &StringPool, rows: &[Items<ValueRef>], most: usize) -> bool
+    ensures { IsTrue result ↔ (named_bytes pool.now.places rows.now ≤ most) }
 {
-    let of_pool = pool_size(pool).saturating_mul(4);
-    let of_rows = rows.len().saturating_mul(64).saturating_add(262_144);
-    let mut left = of_pool.saturating_add(of_rows);
+    let mut left = most;
     for row in rows {
         let Some(others) = left_behind(pool, row.as_slice(), left) else {
             return false;
@@ -59,4 +55,19 @@ pub(crate) fn name_few_texts(pool: &StringPool, rows: &[Items<ValueRef>]) -> boo
         left = others;
     }
     true
+}
+
+/// Whether the texts that rows name, each counted as often as it is named, have at most four times the bytes of the
+/// pool's texts, 64 bytes for each row and 256 KiB; and no more than `usize` counts. It looks at all of the pool only
+/// where they have more than the last two parts.
+pub(crate) fn name_few_texts(pool: &StringPool, rows: &[Items<ValueRef>]) -> bool
+    ensures { IsTrue result
+        ↔ (NameFewTexts pool.now.places rows.now × (named_bytes pool.now.places rows.now ≤ usize.MAX)) }
+{
+    let of_rows = rows.len().saturating_mul(64).saturating_add(262_144);
+    if name_at_most(pool, rows, of_rows) {
+        return true;
+    }
+    let of_pool = pool_size(pool).saturating_mul(4);
+    name_at_most(pool, rows, of_pool.saturating_add(of_rows))
 }

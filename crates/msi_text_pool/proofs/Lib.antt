@@ -13,3 +13,4 @@ pub mod ReadFaultLemmas
 pub mod TextIndexLemmas
 mod PlaceIndexLemmas
 pub mod IndexedFitLemmas
+pub mod JoinedTextsLemmas

@@ -8,5 +8,6 @@ pub mod PoolReading
 pub mod References
 pub mod PoolIndexes
 pub mod SharedTexts
+pub mod JoinedTexts
 pub mod TextIndexes
 pub mod Indexing

@@ -1,5 +1,6 @@
 -- Scaffolding of proofs: how the pool's two streams are read, one step after the other. The format stands in `Pool`.
-use Rattle.std.specs.Prelude.{ℕ, ◌-◌, ◌^◌, Bool, true, false, List, length, take, drop, Option, Some, None, option_map}
+use Rattle.std.specs.Prelude.{◌≡◌, ℕ, ◌-◌, ◌^◌, Bool, true, false, List, [], ◌∷◌, ◌++◌, length, take, drop, Option}
+use Rattle.std.specs.Prelude.{Some, None, option_map}
 use Rattle.std.specs.Prelude.{nat_lt, ◌==◌, ◌||◌, if◌then◌else◌}
 use Rattle.std.specs.Int.{w16, w32}
 use Rattle.msi_text_base.specs.declared.codepage.CodePage.{CodePage}
@@ -31,3 +32,8 @@ place_with e text = record { text = text; count = e.count }
 abbrev pub place_in_front : CodePage → Entry → List ℕ → Option (Place × List ℕ)
 place_in_front page e bytes = if nat_lt (length bytes) e.len then None
     else option_map (λ text. (place_with e text, drop e.len bytes)) (text_in page (take e.len bytes))
+
+-- the place whose text stands in front is put behind others, and these bytes are left
+abbrev pub IsPut : CodePage → Entry → List ℕ → List Place → List Place → List ℕ → Type 0
+IsPut page e bytes before after rest =
+    (place : Place) × (place_in_front page e bytes ≡ Some (place, rest)) × (after ≡ before ++ place ∷ [])

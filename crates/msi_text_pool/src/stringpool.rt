@@ -2,8 +2,10 @@
 
 mod free;
 pub(crate) mod indexed;
+mod joined;
 pub(crate) mod kept;
 mod operations;
+mod piece;
 pub(crate) mod places;
 mod pool;
 pub(crate) mod reading;

@@ -1,19 +1,21 @@
 //! Reading the pool's two streams.
 
-ghost use Rattle.std.specs.Prelude.{◌≡◌, ◌⊎◌, ◌<◌, ◌^◌, List, IfOk, IfErr, IfSome, Some};
+ghost use Rattle.std.specs.Prelude.{◌≡◌, ◌⊎◌, ◌<◌, ◌^◌, List, IfOk, IfErr, IfSome, OnOk, Some};
 ghost use Rattle.msi_text_base.specs.declared.errors.ErrorKind.TheVariants.{Io, InvalidData, OutOfMemory};
 ghost use Rattle.msi_text_base.specs.Pages.{page_with_id, text_in};
 ghost use Rattle.msi_text_pool.specs.Pool as pools;
 ghost use Rattle.msi_text_pool.specs.Pool.{CountsFit, IsPoolStream, PoolStream, SpellsEntries, SpellsTexts};
 ghost use Rattle.msi_text_pool.specs.Pool.{newly_indexed, pool_with};
-ghost use Rattle.msi_text_pool.specs.PoolReading.{entry_at, place_in_front, header_in};
-ghost use Rattle.msi_text_base.specs.Results.{Gives, IsStreamFault, IsUnlessFault, IsUnlessMemory};
+ghost use Rattle.msi_text_pool.specs.JoinedTexts.{IsJoined, places_joined};
+ghost use Rattle.msi_text_pool.specs.PoolReading.{IsPut, entry_at, place_in_front, header_in};
+ghost use Rattle.msi_text_base.specs.Results.{FailsAs, Gives, IsStreamFault, IsUnlessFault, IsUnlessMemory};
 
 use crate::reasons;
 use crate::stringpool::MAX_PLACES;
+use crate::stringpool::joined::JoinedTexts;
 use crate::stringpool::places::Place;
 use crate::stringpool::pool::{LONG, StringPool};
-use crate::stringpool::shared::SharedText;
+use bstr::ByteSlice;
 use msi_text_base::codepage::CodePage;
 use msi_text_base::errors::{Error, ErrorKind};
 use msi_text_base::fields::{u16_at, u32_at};
@@ -174,14 +176,14 @@ fn known_page(id: u32) -> Result<CodePage, Error>
     }
 }
 
-/// The entries that the bytes encode. Each is stored only once its bytes are there.
+/// The entries that the bytes encode, of which each has at least four.
 fn entries_of(alloc: Global, bytes: &[u8]) -> Result<Vec<Entry>, Error>
     ensures found { IfOk result (λ entries. SpellsEntries bytes.now entries.items) }
     ensures only { (entries : List pools.Entry)
         → SpellsEntries bytes.now entries → Gives (λ v. v.items) result (Some entries) }
     ensures kinds { IfErr result (λ kind. (kind ≡ InvalidData) ⊎ (kind ≡ OutOfMemory)) }
 {
-    let mut entries = Vec::new(alloc);
+    let mut entries = Vec::with_capacity(alloc, bytes.len() / 4)?;
     let mut rest = bytes;
     while rest.len() >= 2 {
         let (entry, after) = entry_of(rest)?;
@@ -219,39 +221,55 @@ fn places_of(
         → SpellsTexts codepage bytes.now entries.now places → Gives (λ v. v.items) result (Some places) }
     ensures kinds { IfErr result (λ kind. (kind ≡ InvalidData) ⊎ (kind ≡ OutOfMemory)) }
 {
-    let mut places = Vec::new(alloc);
-    let mut rest = bytes;
-    for entry in entries {
-        let (place, after) = place_of(alloc, codepage, entry, rest)?;
-        places.push(place)?;
-        rest = after;
-    }
-    Ok(places)
+    texts_of(alloc, codepage, entries, bytes)?.into_places()
 }
 
-/// The place whose text stands in front, and the bytes after it. Nothing is asked for a text that is not there.
-fn place_of<'a>(
+/// The texts that the bytes encode, for which as many bytes are asked as are there.
+fn texts_of(
     alloc: Global,
+    codepage: CodePage,
+    entries: &[Entry],
+    bytes: &[u8],
+) -> Result<JoinedTexts, Error>
+    ensures joined { IfOk result (λ texts. IsJoined texts) }
+    ensures found { IfOk result (λ texts. SpellsTexts codepage bytes.now entries.now (places_joined texts)) }
+    ensures only { (places : List pools.Place)
+        → SpellsTexts codepage bytes.now entries.now places → Gives places_joined result (Some places) }
+    ensures kinds { IfErr result (λ kind. (kind ≡ InvalidData) ⊎ (kind ≡ OutOfMemory)) }
+{
+    let mut texts = JoinedTexts::with_capacity(alloc, entries.len(), bytes.len())?;
+    let mut rest = bytes;
+    for entry in entries {
+        rest = push_text(alloc, &mut texts, codepage, entry, rest)?;
+    }
+    Ok(texts)
+}
+
+/// Puts the text that stands in front behind the others, and returns the bytes after it.
+fn push_text<'a>(
+    alloc: Global,
+    texts: &mut JoinedTexts,
     codepage: CodePage,
     entry: &Entry,
     bytes: &'a [u8],
-) -> Result<(Place, &'a [u8]), Error>
-    ensures gives { Gives (λ x. (x.0, x.1.now)) result (place_in_front codepage entry.now bytes.now) }
-    ensures count { IfOk result (λ x. x.0.count < 2 ^ 16) }
+) -> Result<&'a [u8], Error>
+    requires { IsJoined texts.old }
+    ensures joined { OnOk result (IsJoined texts.new) }
+    ensures ok { IfOk result (λ rest.
+        IsPut codepage entry.now bytes.now (places_joined texts.old) (places_joined texts.new) rest.now) }
+    ensures err { IfErr result (λ kind. FailsAs kind (place_in_front codepage entry.now bytes.now)) }
 {
     let len = entry.len as usize;
     if bytes.len() < len {
         return Err(Error::new(ErrorKind::InvalidData, reasons::POOL_DATA));
     }
     let (piece, rest) = bytes.split_at(len);
-    let text = text_of(alloc, codepage, piece)?;
-    Ok((Place::new(text, entry.count), rest))
-}
-
-/// The text that the bytes read as.
-fn text_of(alloc: Global, codepage: CodePage, bytes: &[u8]) -> Result<SharedText, Error>
-    ensures { Gives (λ text. text) result (text_in codepage bytes.now) }
-{
-    let text = codepage.decode(alloc, bytes)?;
-    SharedText::from_string(text).into_shared()
+    if let CodePage::Utf8 = codepage {
+        let text = piece.to_str_lossy(alloc)?;
+        texts.push(text.as_ref(), entry.count)?;
+    } else {
+        let text = codepage.decode(alloc, piece)?;
+        texts.push(text.as_str(), entry.count)?;
+    }
+    Ok(rest)
 }

@@ -7,6 +7,7 @@ ghost use Rattle.std.specs.Ordering.{nat_cmp};
 ghost use Rattle.std.proofs.Common.{refl};
 ghost use Rattle.msi_text_base.specs.Results.{OnlyMemory};
 
+use crate::stringpool::piece::Piece;
 use msi_text_base::errors::Error;
 use std::alloc::{AllocError, Global};
 use std::cmp::Ordering;
@@ -20,6 +21,8 @@ pub(crate) enum Owned {
     Alone(String),
     /// All the copies together.
     Together(RcStr),
+    /// All the pieces of a longer text together.
+    Piece(Piece),
 }
 
 /// A text. Once it is shared, a copy takes no memory for its bytes. Contracts see the bytes in UTF-8.
@@ -48,6 +51,15 @@ impl SharedText {
         }
     }
 
+    /// A piece of a longer text. Copies of it share that text.
+    pub(crate) fn from_piece(piece: Piece) -> SharedText
+        ensures { result ≡ piece }
+    {
+        SharedText {
+            owned: Owned::Piece(piece),
+        }
+    }
+
     /// The empty text. It takes no memory.
     pub(crate) fn empty(alloc: Global) -> SharedText
         ensures { result ≡ [] }
@@ -62,6 +74,7 @@ impl SharedText {
         match &self.owned {
             Owned::Alone(text) => text.as_str(),
             Owned::Together(text) => text.as_str(),
+            Owned::Piece(piece) => piece.as_str(),
         }
     }
 
@@ -76,6 +89,7 @@ impl SharedText {
             Owned::Together(text) => Ok(SharedText {
                 owned: Owned::Together(text),
             }),
+            Owned::Piece(piece) => Ok(SharedText::from_piece(piece)),
         }
     }
 }
@@ -101,6 +115,7 @@ impl Clone for SharedText {
         let owned = match &self.owned {
             Owned::Alone(text) => Owned::Alone(text.clone()?),
             Owned::Together(text) => Owned::Together(text.clone()?),
+            Owned::Piece(piece) => Owned::Piece(piece.clone()?),
         };
         Ok(SharedText { owned })
     }

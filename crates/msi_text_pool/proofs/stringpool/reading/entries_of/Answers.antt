@@ -6,7 +6,7 @@ use Rattle.msi_text_pool.proofs.ReadEntriesLemmas.{front_start, front_next, fron
 use Rattle.msi_text_pool.proofs.stringpool.reading.entries_of.Goals as goal
 
 pub loop-rest-init : goal.loop-rest-init
-loop-rest-init c = rw c.new-entries.ensures.items (front_start c.args.bytes.now (λ i. omega (arith, c.type_inv.bytes i)))
+loop-rest-init c = rw c.in_ok-entries.ensures.items (front_start c.args.bytes.now (λ i. omega (arith, c.type_inv.bytes i)))
 
 pub loop-rest-preserved : goal.loop-rest-preserved
 loop-rest-preserved c = rw c.in_ok-push.ensures.items (front_next c.args.bytes.now c.loop-rest.entries.items c.loop-rest.rest.now c.in_ok-entry.entry c.in_ok-entry.after.now c.loop-rest.invariant c.loop-rest-test.true c.in_ok-entry.ensures)
@@ -16,7 +16,7 @@ loop-rest-smaller c = entry_shorter c.loop-rest.rest.now c.in_ok-entry.entry c.i
 
 pub returns-in_err-entry-clause-only : goal.returns-in_err-entry-clause-only
 returns-in_err-entry-clause-only c = λ entries spelled.
-    let p = err_from_is_err_and c.from_residual.result c.from_residual.ensures.1 in
+    let p = err_from_is_err_and c.from_residual-in_err-entry.result c.from_residual-in_err-entry.ensures.1 in
     rw (p.1, p.2) (front_cut c.in_err-entry.field-0.0 c.args.bytes.now c.loop-rest.entries.items c.loop-rest.rest.now entries c.loop-rest.invariant c.loop-rest-test.true c.in_err-entry.ensures spelled)
 
 pub returns-clause-found : goal.returns-clause-found
