@@ -114,3 +114,8 @@ pairs_stay Inner places old mid row n pairs h e = e
 pairs_stay Left places old mid row n pairs h e =
     e ∙ ap (λ ps. rows_values places old ++ ps) (sym (some_stay (row_values places row) n pairs
     (λ none. h refl (sym (length-map mid (row_values places)) ∙ ap length (e ∙ ap (λ ps. rows_values places old ++ ps) none ∙ append-nil (rows_values places old)) ∙ length-map old (row_values places)))))
+
+-- without a condition each row is kept
+pub all_kept : (columns : List ColumnDef) (rows : List (List Value)) → rows ≡ filter (meets columns None) rows
+all_kept columns [] = refl
+all_kept columns (row ∷ rows) = ap (λ (kept : List (List Value)). row ∷ kept) (all_kept columns rows)

@@ -43,7 +43,7 @@ fn filtered(
     Ok(kept)
 }
 
-/// The rows that meet a condition. Its columns are looked up once.
+/// The rows that meet a condition, whose columns are looked up once. Without one they are those that were given.
 ///
 /// # Errors
 /// `OutOfMemory`.
@@ -58,8 +58,13 @@ fn kept_rows(
         ≡ filter (meets columns.now (option_copied condition.entry)) (rows_values pool.now.places rows.items)) }
     ensures kind { OnlyMemory result }
 {
-    let test = RowFilter::new(alloc, columns, condition)?;
-    filtered(alloc, pool, &test, rows)
+    match condition {
+        None => Ok(rows),
+        Some(_) => {
+            let test = RowFilter::new(alloc, columns, condition)?;
+            filtered(alloc, pool, &test, rows)
+        }
+    }
 }
 
 /// The cells at the places of each row.
@@ -74,7 +79,7 @@ fn projected_rows(
     ensures ok { IfOk result (λ projected. projected.items ≡ map (cells_at places.now) rows.now) }
     ensures kind { OnlyMemory result }
 {
-    let mut projected = Vec::new(alloc);
+    let mut projected = Vec::with_capacity(alloc, rows.len())?;
     for row in rows {
         projected.push(projected_row(alloc, places, row.as_slice())?)?;
     }

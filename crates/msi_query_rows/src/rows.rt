@@ -32,7 +32,7 @@ pub(crate) fn projected_row(
     ensures ok { IfOk result (λ cells. cells ≡ cells_at places.now row.now) }
     ensures kind { OnlyMemory result }
 {
-    let mut cells = Vec::new(alloc);
+    let mut cells = Vec::with_capacity(alloc, places.len())?;
     for place in places {
         cells.push(cell_of(row, *place))?;
     }

@@ -1,0 +1,6 @@
+use Rattle.msi_query_rows.specs.Rows.{rows_values}
+use Rattle.msi_query_rows.proofs.SelectionLemmas.{all_kept}
+use Rattle.msi_query_rows.proofs.narrowing.kept_rows.Goals as goal
+
+pub returns-in-None-clause-ok : goal.returns-in-None-clause-ok
+returns-in-None-clause-ok c = rw (c.in-None.is) (all_kept c.args.columns.now (rows_values c.args.pool.now.places c.args.rows.items))
