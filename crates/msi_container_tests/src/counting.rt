@@ -1,19 +1,23 @@
-//! A device that counts its calls, takes little at a time, and fails once.
+//! A device that counts its calls, takes and gives little at a time, and fails once.
 
 ghost use Rattle.std.specs.Prelude.{◌≡◌, OnErr, OnOk, Some, false, true};
 
 use msi_container_device::{Device, Memory, Source};
 use std::io;
 
-/// Over memory: it takes at most so many bytes a write, and one call fails.
+/// Over memory: it takes and gives at most so many bytes a call, and one call fails.
 #[derive(Drop)]
 pub struct Counting {
     /// What it holds.
     pub memory: Memory,
     /// How many bytes a write takes.
     pub most: usize,
+    /// How many bytes a read gives; it gives one at least.
+    pub most_read: usize,
     /// Which call fails, from 1 on; none for 0.
     pub failing: usize,
+    /// What that call fails with.
+    pub fault: io::ErrorKind,
     /// How many calls there were.
     pub calls: usize,
     /// How many of them were writes.
@@ -23,12 +27,28 @@ pub struct Counting {
 }
 
 impl Counting {
-    /// A device over these bytes.
+    /// A device over these bytes, whose reads give all that there is room for. Its fault is a broken pipe.
     pub fn new(bytes: Vec<u8>, most: usize, failing: usize) -> Counting {
         Counting {
             memory: Memory::from_vec(bytes),
             most,
+            most_read: usize::MAX,
             failing,
+            fault: io::ErrorKind::BrokenPipe,
+            calls: 0,
+            writes: 0,
+            failed: false,
+        }
+    }
+
+    /// A device over this memory, whose reads give as little as its writes take. Its fault is an interruption.
+    pub fn interrupted(memory: Memory, most: usize, failing: usize) -> Counting {
+        Counting {
+            memory,
+            most,
+            most_read: most,
+            failing,
+            fault: io::ErrorKind::Interrupted,
             calls: 0,
             writes: 0,
             failed: false,
@@ -44,7 +64,7 @@ impl Counting {
         self.calls = self.calls.saturating_add(1);
         if self.calls == self.failing {
             self.failed = true;
-            return Err(io::Error::from(io::ErrorKind::BrokenPipe));
+            return Err(io::Error::from(self.fault));
         }
         Ok(())
     }
@@ -75,7 +95,8 @@ impl Source for Counting {
 
     fn read(&mut self, buf: &mut [u8]) -> io::Result<usize> {
         self.begin()?;
-        self.memory.read(buf)
+        let room = buf.len().min(self.most_read.max(1));
+        self.memory.read(&mut buf[..room])
     }
 }
 

@@ -1,10 +1,10 @@
 //! Files that other software writes: small streams, version 4, and what real files do against the letter.
 
-use crate::samples::{END, FAT, changed, put};
-use msi_container::compound::{Contents, Name, read};
+use crate::container::is_read;
+use crate::samples::{END, FAT, Sizes, changed, put};
+use msi_container::compound::{Name, read};
 use msi_text::Error;
 use std::alloc::{AllocError, Global};
-use std::test::Fail;
 
 /// Puts 32-bit numbers, one behind the other.
 fn put_numbers(file: &mut Vec<u8>, at: usize, numbers: &[u32]) {
@@ -88,58 +88,94 @@ pub(crate) fn small_streams(alloc: Global) -> Result<Vec<u8>, AllocError> {
     Ok(file)
 }
 
-/// Whether a stream has so many bytes, of them these, and zeros elsewhere.
-fn has_stream(
-    alloc: Global,
-    contents: &Contents,
-    name: &str,
-    len: usize,
-    known: &[(usize, u8)],
-) -> Result<bool, Error> {
-    let mut wanted = vec![in alloc; 0; len]?;
+/// Whether bytes are these where they are known, and zeros elsewhere.
+fn is_known(alloc: Global, bytes: &[u8], known: &[(usize, u8)]) -> Result<bool, AllocError> {
+    let mut wanted = vec![in alloc; 0; bytes.len()]?;
     for (at, byte) in known {
         put(&mut wanted, *at, &[*byte]);
     }
+    Ok(wanted.as_slice() == bytes)
+}
+
+/// Whether a stream of a file has these bytes, and zeros elsewhere.
+fn has_stream(
+    alloc: Global,
+    file: &[u8],
+    name: &str,
+    known: &[(usize, u8)],
+) -> Result<bool, Error> {
+    let contents = read(alloc, file)?;
     Ok(match contents.streams.get(&Name::new(name)?) {
-        Some(held) => held.as_slice() == wanted.as_slice(),
+        Some(held) => is_known(alloc, held.as_slice(), known)?,
         None => false,
     })
 }
 
-/// The version, how long the file is made, how many streams it has and whether there are storages, and of a stream
-/// the name, the length and what is known.
-type Foreign<'a> = (u8, usize, usize, bool, &'a str, usize, &'a [(usize, u8)]);
+/// The version, how long the file is made, its streams, whether there are storages, and how many steps it takes to
+/// read; and of a stream the name and what is known.
+type Foreign<'a> = (u8, usize, Sizes<'a>, bool, u64, &'a str, &'a [(usize, u8)]);
 
-const FOREIGN: [Foreign<'static>; 5] = [
-    (4, 16384, 1, false, "s", 4096, &[(0, 7), (4095, 9)]),
+static FOREIGN: [Foreign<'static>; 5] = [
+    // One step is the directory's sector: the stream has a single one.
+    (
+        4,
+        16384,
+        &[("s", 4096)],
+        false,
+        1,
+        "s",
+        &[(0, 7), (4095, 9)],
+    ),
     // A cut last sector reads as followed by zeros, as long as it starts inside the file.
-    (4, 12289, 1, false, "s", 4096, &[(0, 7)]),
-    (3, 2560, 2, true, "b", 100, &[(0, 3), (99, 5)]),
-    (3, 2560, 2, true, "a", 1, &[(0, 4)]),
+    (4, 12289, &[("s", 4096)], false, 1, "s", &[(0, 7)]),
+    // Directory 1, mini FAT 1, and one of the two mini sectors of b.
+    (
+        3,
+        2560,
+        &[("a", 1), ("b", 100)],
+        true,
+        3,
+        "b",
+        &[(0, 3), (99, 5)],
+    ),
+    (3, 2560, &[("a", 1), ("b", 100)], true, 3, "a", &[(0, 4)]),
     // One byte past a whole sector changes nothing.
-    (3, 2561, 2, true, "b", 100, &[(0, 3), (99, 5)]),
+    (
+        3,
+        2561,
+        &[("a", 1), ("b", 100)],
+        true,
+        3,
+        "b",
+        &[(0, 3), (99, 5)],
+    ),
 ];
 
-/// The contents of a file of a version, so many bytes long.
-fn contents(alloc: Global, version: u8, len: usize) -> Result<Contents, Error> {
+/// The file of a version, so many bytes long.
+fn file(alloc: Global, version: u8, len: usize) -> Result<Vec<u8>, AllocError> {
     let file = if version == 4 {
         version_4(alloc)?
     } else {
         small_streams(alloc)?
     };
-    let bytes = changed(alloc, file.as_slice(), 0, &[], len)?;
-    read(alloc, bytes.as_slice())
+    changed(alloc, file.as_slice(), 0, &[], len)
+}
+
+/// Whether a file is read and listed as its row says.
+fn is_told(alloc: Global, row: &Foreign) -> Result<bool, Error> {
+    let (version, len, all, has_storages, steps, name, known) = row;
+    let file = file(alloc, *version, *len)?;
+    let file = file.as_slice();
+    Ok(
+        is_read(alloc, file, *all, *has_storages, *steps)?
+            && has_stream(alloc, file, *name, *known)?,
+    )
 }
 
 #[test]
-fn files_of_other_software_are_read(rt: HostRuntime) -> Result<(), Fail> {
-    let alloc = rt.alloc();
-    for (version, file_len, count, has_storages, name, len, known) in &FOREIGN {
-        let contents = contents(alloc, *version, *file_len)?;
-        assert_eq!(rt; contents.streams.len(), *count);
-        assert_eq!(rt; contents.has_storages, *has_storages);
-        let found = has_stream(alloc, &contents, *name, *len, *known)?;
-        assert!(rt; found, "{name} in {file_len} bytes");
+fn files_of_other_software_are_read_and_listed(rt: HostRuntime) {
+    for row in &FOREIGN {
+        let is_told = is_told(rt.alloc(), row).expect(&rt, "a file");
+        assert!(rt; is_told, "{} in {} bytes", row.5, row.1);
     }
-    Ok(())
 }

@@ -1,69 +1,95 @@
 //! Where the parts of a written file stand: small streams, the DIFAT, and files over longer ones.
 
 use crate::samples::{APP_EXE, DIFAT, END, FAT, FREE, Sizes, contents_of, holds};
-use msi_container::compound::write;
+use msi_container::compound::{Contents, Memory, write, write_to};
 use msi_text::{Error, ErrorKind};
 use std::alloc::Global;
-use std::process::Abort;
-use std::test::Fail;
 
-/// The streams of a file, the length of the file that it is written over, its own length, numbers that stand
-/// somewhere one behind the other, and stretches from a place to another that have one byte again and again.
-type Layout<'a> = (
-    Sizes<'a>,
-    u64,
-    usize,
-    &'a [(usize, &'a [u32])],
-    &'a [(usize, usize, u8)],
-);
+/// Numbers of a file: a place, and those that stand there one behind the other.
+type Numbers<'a> = &'a [(usize, &'a [u32])];
 
-/// The 32-bit number at a position.
-fn number(bytes: &[u8], at: usize) -> Option<u32> {
-    let part = bytes.get(at..at.checked_add(4)?)?;
-    Some(u32::from_le_bytes([*part.first()?, *part.get(1)?, *part.get(2)?, *part.get(3)?]))
-}
+/// Stretches of a file that have one byte again and again: from a place to another.
+type Stretches<'a> = &'a [(usize, usize, u8)];
+
+/// The streams of a file, the length of the file that it is written over, its own length, its numbers and stretches.
+type Layout<'a> = (Sizes<'a>, u64, usize, Numbers<'a>, Stretches<'a>);
 
 /// Whether numbers stand one behind the other.
 fn has_numbers(file: &[u8], at: usize, numbers: &[u32]) -> bool {
     let mut place = at;
-    for one in numbers {
-        if number(file, place) != Some(*one) {
-            return false;
+    for number in numbers {
+        match file.get(place..) {
+            Some(rest) if rest.starts_with(&number.to_le_bytes()) => {}
+            _ => return false,
         }
         place = place.saturating_add(4);
     }
     true
 }
 
-/// Whether a stretch has this byte alone.
-fn is_filled(file: &[u8], from: usize, to: usize, byte: u8) -> bool {
-    match file.get(from..to) {
-        Some(part) => part.iter().all(|one| *one == byte),
-        None => false,
+/// Whether all numbers of a file stand in their places.
+fn has_all_numbers(file: &[u8], all: Numbers) -> bool {
+    for (at, numbers) in all {
+        if !has_numbers(file, *at, *numbers) {
+            return false;
+        }
     }
+    true
 }
 
-/// Asserts that numbers stand in a file, and stretches of one byte.
-fn assert_laid_out(
-    rt: &impl Abort,
-    file: &[u8],
-    numbers: &[(usize, &[u32])],
-    stretches: &[(usize, usize, u8)],
-) {
-    for (at, numbers) in numbers {
-        assert!(rt; has_numbers(file, *at, *numbers), "at {at}: {numbers:?}");
+/// Whether bytes are all this one.
+fn is_filled(part: &[u8], byte: u8) -> bool {
+    for one in part {
+        if *one != byte {
+            return false;
+        }
     }
+    true
+}
+
+/// Whether all stretches of a file have their byte alone.
+fn has_stretches(file: &[u8], stretches: Stretches) -> bool {
     for (from, to, byte) in stretches {
-        assert!(rt; is_filled(file, *from, *to, *byte), "from {from} to {to}");
+        match file.get(*from..*to) {
+            Some(part) if is_filled(part, *byte) => {}
+            _ => return false,
+        }
     }
+    true
 }
 
-/// The file of streams of these sizes, over one of this length.
+/// Whether a device takes this file where contents are written to it.
+fn is_taken(alloc: Global, contents: &Contents, over: u64, image: &[u8]) -> Result<bool, Error> {
+    let mut device = Memory::from_vec(Vec::new(alloc));
+    write_to(alloc, contents, over, &mut device)?;
+    Ok(device.into_vec().as_slice() == image)
+}
+
+/// The file of streams of these sizes, over one of this length, which a device takes too; no bytes if it doesn't.
 fn written(alloc: Global, all: Sizes, over: u64) -> Result<Vec<u8>, Error> {
-    write(alloc, &contents_of(alloc, all)?, over)
+    let contents = contents_of(alloc, all)?;
+    let mut image = write(alloc, &contents, over)?;
+    if !is_taken(alloc, &contents, over, image.as_slice())? {
+        image.clear();
+    }
+    Ok(image)
 }
 
-const LAYOUTS: [Layout<'static>; 9] = [
+/// Whether streams are written as a layout says, and come back.
+fn is_laid_out(alloc: Global, layout: &Layout) -> Result<bool, Error> {
+    let (streams, over, len, numbers, stretches) = layout;
+    let written = written(alloc, *streams, *over)?;
+    let file = written.as_slice();
+    let is_so = file.len() == *len
+        && has_all_numbers(file, *numbers)
+        && has_stretches(file, *stretches);
+    Ok(is_so && holds(alloc, file, *streams)?)
+}
+
+static LAYOUTS: [Layout<'static>; 11] = [
+    // The header, the directory and the FAT.
+    (&[], 0, 1536, &[], &[]),
+    (&[(APP_EXE, 0)], 0, 1536, &[], &[]),
     (
         &[(APP_EXE, 4096)],
         0,
@@ -141,7 +167,7 @@ const LAYOUTS: [Layout<'static>; 9] = [
 ];
 
 /// Layouts of files with as many FAT sectors as the header lists, and with one more.
-const LARGE: [Layout<'static>; 2] = [
+static LARGE: [Layout<'static>; 2] = [
     // The header lists 109 FAT sectors.
     (
         &[(APP_EXE, 7_087_104)],
@@ -168,50 +194,46 @@ const LARGE: [Layout<'static>; 2] = [
     ),
 ];
 
-/// Asserts that streams are written so, and come back.
-fn assert_layout(rt: &impl Abort, alloc: Global, layout: &Layout) -> Result<(), Error> {
-    let (streams, over, len, numbers, stretches) = layout;
-    let written = written(alloc, *streams, *over)?;
-    let file = written.as_slice();
-    assert_eq!(rt; file.len(), *len, "{streams:?}");
-    assert_laid_out(rt, file, *numbers, *stretches);
-    assert!(rt; holds(alloc, file, *streams)?, "{streams:?}");
-    Ok(())
-}
-
 #[test]
-fn files_are_laid_out_and_hold_their_streams(rt: HostRuntime) -> Result<(), Fail> {
+fn files_are_laid_out_and_taken_by_devices_and_hold_their_streams(rt: HostRuntime) {
     for layout in &LAYOUTS {
-        assert_layout(&rt, rt.alloc(), layout)?;
+        let is_so = is_laid_out(rt.alloc(), layout).expect(&rt, "a file");
+        assert!(rt; is_so, "{} streams in {} bytes", layout.0.len(), layout.2);
     }
-    Ok(())
 }
 
 #[test]
-fn large_files_are_laid_out_and_hold_their_streams(rt: HostRuntime) -> Result<(), Fail> {
+fn large_files_are_laid_out_and_taken_by_devices_and_hold_their_streams(rt: HostRuntime) {
     for layout in &LARGE {
-        assert_layout(&rt, rt.alloc(), layout)?;
+        let is_so = is_laid_out(rt.alloc(), layout).expect(&rt, "a file");
+        assert!(rt; is_so, "{} bytes", layout.2);
     }
-    Ok(())
 }
 
-/// What is written of no streams, over a file of this length, where storages are told of or not.
-fn length(alloc: Global, has_storages: bool, over: u64) -> Result<usize, Error> {
+/// What can't be laid out: whether storages are told of, the length of the file that is written over, and what it is.
+type Refused<'a> = (bool, u64, &'a str);
+
+/// Whether no streams can be written so.
+fn is_refused(alloc: Global, row: &Refused) -> Result<bool, Error> {
+    let (has_storages, over, _) = row;
     let mut contents = contents_of(alloc, &[])?;
-    contents.has_storages = has_storages;
-    Ok(write(alloc, &contents, over)?.len())
+    contents.has_storages = *has_storages;
+    Ok(match write(alloc, &contents, *over) {
+        Ok(_image) => false,
+        Err(error) => error.kind() == ErrorKind::InvalidInput,
+    })
 }
+
+const REFUSED: [Refused<'static>; 3] = [
+    (true, 0, "storages"),
+    (false, 2_147_483_649, "over a file of 2^31 bytes and one"),
+    (false, u64::MAX, "over the longest of all files"),
+];
 
 #[test]
 fn what_cannot_be_laid_out_is_refused(rt: HostRuntime) {
-    for (has_storages, over, what) in [
-        (true, 0, "storages"),
-        (false, 2_147_483_649, "over a file of 2^31 bytes and one"),
-        (false, u64::MAX, "over the longest of all files"),
-    ] {
-        match length(rt.alloc(), has_storages, over) {
-            Ok(len) => panic!(rt; "{what}: {len} bytes"),
-            Err(error) => assert_eq!(rt; error.kind(), ErrorKind::InvalidInput, "{what}"),
-        }
+    for row in &REFUSED {
+        let is_refused = is_refused(rt.alloc(), row).expect(&rt, "contents");
+        assert!(rt; is_refused, "{}", row.2);
     }
 }

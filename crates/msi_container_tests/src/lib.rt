@@ -3,12 +3,12 @@
 #![tactic(auto)]
 
 #[cfg(test)]
-mod buffered;
+mod calls;
 #[cfg(test)]
 mod container;
 pub mod counting;
 #[cfg(test)]
-mod faulty;
+mod devices;
 #[cfg(test)]
 mod files;
 #[cfg(test)]
@@ -16,17 +16,9 @@ mod foreign;
 #[cfg(test)]
 mod layouts;
 #[cfg(test)]
-mod listings;
-#[cfg(test)]
-mod memory;
-#[cfg(test)]
-mod metered;
-#[cfg(test)]
 mod names;
 #[cfg(test)]
 mod samples;
-#[cfg(test)]
-mod steps;
 #[cfg(test)]
 mod streams;
 #[cfg(test)]

@@ -3,23 +3,25 @@
 use msi_container::streamname::*;
 use msi_text::Error;
 use std::alloc::Global;
-use std::test::Fail;
+
+/// Names that stand alone, and their texts.
+const SPECIAL: [(&str, &str); 4] = [
+    (DIGITAL_SIGNATURE_STREAM_NAME, "\u{5}DigitalSignature"),
+    (
+        MSI_DIGITAL_SIGNATURE_EX_STREAM_NAME,
+        "\u{5}MsiDigitalSignatureEx",
+    ),
+    (SUMMARY_INFO_STREAM_NAME, "\u{5}SummaryInformation"),
+    (
+        DOCUMENT_SUMMARY_INFO_STREAM_NAME,
+        "\u{5}DocumentSummaryInformation",
+    ),
+];
 
 #[test]
 fn special_stream_names(rt: HostRuntime) {
-    for (name, text) in [
-        (DIGITAL_SIGNATURE_STREAM_NAME, "\u{5}DigitalSignature"),
-        (
-            MSI_DIGITAL_SIGNATURE_EX_STREAM_NAME,
-            "\u{5}MsiDigitalSignatureEx",
-        ),
-        (SUMMARY_INFO_STREAM_NAME, "\u{5}SummaryInformation"),
-        (
-            DOCUMENT_SUMMARY_INFO_STREAM_NAME,
-            "\u{5}DocumentSummaryInformation",
-        ),
-    ] {
-        assert_eq!(rt; name, text);
+    for (name, text) in &SPECIAL {
+        assert!(rt; *name == *text, "{text}");
     }
 }
 
@@ -54,28 +56,35 @@ const PACKED: [(&str, &str, bool, bool); 9] = [
     ("\u{4800}\u{483F}\u{4841}", "0_\u{4841}", false, false),
 ];
 
+/// Whether a name is unpacked as its row says, and its text packed.
+fn is_spelled(alloc: Global, row: &(&str, &str, bool, bool)) -> Result<bool, Error> {
+    let (stored, text, is_table, is_own) = row;
+    let is_unpacked = is_unpacked(alloc, *stored, *text, *is_table)?;
+    Ok(is_unpacked && (!*is_own || is_packed(alloc, *stored, *text, *is_table)?))
+}
+
 #[test]
-fn stream_names_packed_and_unpacked(rt: HostRuntime) -> Result<(), Fail> {
-    for (stored, text, is_table, is_own) in &PACKED {
-        let unpacked = is_unpacked(rt.alloc(), *stored, *text, *is_table)?;
-        assert!(rt; unpacked, "{text}");
-        let packed = !*is_own || is_packed(rt.alloc(), *stored, *text, *is_table)?;
-        assert!(rt; packed, "{text}");
+fn stream_names_packed_and_unpacked(rt: HostRuntime) {
+    for row in &PACKED {
+        let is_so = is_spelled(rt.alloc(), row).expect(&rt, "a name");
+        assert!(rt; is_so, "{}", row.1);
     }
-    Ok(())
 }
 
-/// Whether a name is accepted: a text, so many times.
-fn accepted(alloc: Global, text: &str, count: usize, is_table: bool) -> Result<bool, Error> {
+/// A name as a text so many times, whether it is of a table, and whether it is accepted.
+type Accepted<'a> = (&'a str, usize, bool, bool);
+
+/// Whether a name is accepted or not as its row says.
+fn is_told(alloc: Global, row: &Accepted) -> Result<bool, Error> {
+    let (text, count, is_table, wanted) = row;
     let mut name = String::new(alloc);
-    for _ in 0..count {
-        name.push_str(text)?;
+    for _ in 0..*count {
+        name.push_str(*text)?;
     }
-    Ok(is_valid(name.as_str(), is_table))
+    Ok(is_valid(name.as_str(), *is_table) == *wanted)
 }
 
-/// Names as a text so many times, whether they are of a table, and whether they are accepted.
-const ACCEPTED: [(&str, usize, bool, bool); 20] = [
+const ACCEPTED: [Accepted<'static>; 20] = [
     ("", 1, false, false),
     ("\u{3800}x", 1, false, false),
     ("x\u{483F}", 1, false, false),
@@ -99,10 +108,9 @@ const ACCEPTED: [(&str, usize, bool, bool); 20] = [
 ];
 
 #[test]
-fn stream_names_accepted(rt: HostRuntime) -> Result<(), Fail> {
-    for (text, count, is_table, wanted) in &ACCEPTED {
-        let found = accepted(rt.alloc(), *text, *count, *is_table)?;
-        assert_eq!(rt; found, *wanted, "{count} of {text}");
+fn stream_names_accepted(rt: HostRuntime) {
+    for row in &ACCEPTED {
+        let is_told = is_told(rt.alloc(), row).expect(&rt, "a name");
+        assert!(rt; is_told, "{} of {}", row.1, row.0);
     }
-    Ok(())
 }

@@ -51,23 +51,39 @@ pub(crate) fn file_of(alloc: Global, all: Sizes) -> Result<Vec<u8>, Error> {
     write(alloc, &contents_of(alloc, all)?, 0)
 }
 
-/// Whether a stream of this size is in the contents.
-fn has_stream(alloc: Global, contents: &Contents, name: &str, size: u32) -> Result<bool, Error> {
-    let wanted = content(alloc, size)?;
-    Ok(match contents.streams.get(&Name::new(name)?) {
-        Some(held) => held.as_slice() == wanted.as_slice(),
+/// Whether bytes are those of a stream of this size.
+fn is_content(bytes: &[u8], size: u32) -> bool {
+    for (i, byte) in bytes.iter().enumerate() {
+        if usize::from(*byte) != i % 251 + 1 {
+            return false;
+        }
+    }
+    bytes.len() == size as usize
+}
+
+/// Whether a stream of this size is there.
+fn has_stream(streams: &StreamMap, name: &str, size: u32) -> Result<bool, Error> {
+    Ok(match streams.get(&Name::new(name)?) {
+        Some(held) => is_content(held.as_slice(), size),
         None => false,
     })
+}
+
+/// Whether streams of these sizes are there.
+fn has_streams(streams: &StreamMap, all: Sizes) -> Result<bool, Error> {
+    for (name, size) in all {
+        if !has_stream(streams, *name, *size)? {
+            return Ok(false);
+        }
+    }
+    Ok(streams.len() == all.len())
 }
 
 /// Whether a file holds an installer's streams of these sizes, and nothing else.
 pub(crate) fn holds(alloc: Global, file: &[u8], all: Sizes) -> Result<bool, Error> {
     let contents = read(alloc, file)?;
-    let mut same = contents.clsid == INSTALLER && !contents.has_storages;
-    for (name, size) in all {
-        same = same && has_stream(alloc, &contents, *name, *size)?;
-    }
-    Ok(same && contents.streams.len() == all.len())
+    let is_installers = contents.clsid == INSTALLER && !contents.has_storages;
+    Ok(is_installers && has_streams(&contents.streams, all)?)
 }
 
 /// Puts a piece at a place of a file, as far as the file goes.

@@ -1,105 +1,87 @@
 //! Whole pieces and all bytes, over devices that take and give little, fail, or take nothing.
 
-use crate::faulty::Faulty;
-use crate::memory::digits;
-use msi_container_device::Source;
-use msi_container_device::parts::{read_all, write_all};
-use msi_text::ErrorKind;
+use crate::calls::Call::{ReadAll, WriteAll};
+use crate::calls::End::{Refused, Well};
+use crate::calls::{DIGITS, Step, digits, goes, gone};
+use crate::counting::Counting;
+use msi_text::Error;
 use std::alloc::Global;
-use std::process::Abort;
-use std::test::Fail;
 
-/// The ten digits, at the fifth, behind a device that is well for so many calls.
-fn device(alloc: Global, most: usize, calls_left: usize) -> Result<Faulty, Fail> {
-    Ok(Faulty {
-        memory: digits(alloc)?,
-        most,
-        calls_left,
-        failed: false,
-    })
-}
+/// How many bytes a call takes at most, which call fails, what is written over the digits from the fifth on, and what
+/// is held then.
+type Piece<'a> = (usize, usize, Step, &'a [u8]);
 
-/// Asserts what a device holds that takes at most so many bytes a call, after this piece was written.
-fn assert_written(
-    rt: &impl Abort,
-    alloc: Global,
-    most: usize,
-    piece: &[u8],
-    want: &[u8],
-) -> Result<(), Fail> {
-    let mut device = device(alloc, most, usize::MAX)?;
-    write_all(&mut device, piece)?;
-    assert!(rt; !device.failed());
-    assert_eq!(rt; device.memory.into_vec().as_slice(), want, "by {most}");
-    Ok(())
-}
+static PIECES: [Piece<'static>; 13] = [
+    (1, 0, (WriteAll(b""), Well), DIGITS),
+    (1, 0, (WriteAll(b"abc"), Well), b"0123abc789"),
+    (1, 0, (WriteAll(b"abcdefgh"), Well), b"0123abcdefgh"),
+    (3, 0, (WriteAll(b""), Well), DIGITS),
+    (3, 0, (WriteAll(b"abc"), Well), b"0123abc789"),
+    (3, 0, (WriteAll(b"abcdefgh"), Well), b"0123abcdefgh"),
+    (100, 0, (WriteAll(b""), Well), DIGITS),
+    (100, 0, (WriteAll(b"abc"), Well), b"0123abc789"),
+    (100, 0, (WriteAll(b"abcdefgh"), Well), b"0123abcdefgh"),
+    // A beginning stands after a fault.
+    (1, 1, (WriteAll(b"abc"), Refused), DIGITS),
+    (1, 2, (WriteAll(b"abc"), Refused), b"0123a56789"),
+    (1, 3, (WriteAll(b"abc"), Refused), b"0123ab6789"),
+    // A device that takes nothing fails.
+    (0, 0, (WriteAll(b"abc"), Refused), DIGITS),
+];
 
-#[test]
-fn a_piece_is_written_whole(rt: HostRuntime) -> Result<(), Fail> {
-    for most in [1, 3, 100] {
-        assert_written(&rt, rt.alloc(), most, b"", b"0123456789")?;
-        assert_written(&rt, rt.alloc(), most, b"abc", b"0123abc789")?;
-        assert_written(&rt, rt.alloc(), most, b"abcdefgh", b"0123abcdefgh")?;
-    }
-    Ok(())
-}
-
-/// Asserts that writing three letters, one a call, is refused after so many calls, and what is held then.
-fn assert_write_fails(
-    rt: &impl Abort,
-    alloc: Global,
-    most: usize,
-    calls: usize,
-    want: &[u8],
-) -> Result<(), Fail> {
-    let mut device = device(alloc, most, calls)?;
-    match write_all(&mut device, b"abc") {
-        Ok(()) => panic!(rt; "a fault after {calls} calls was passed over"),
-        Err(error) => assert_eq!(rt; error.kind(), ErrorKind::Io),
-    }
-    assert!(rt; device.failed());
-    assert_eq!(rt;
-        device.memory.into_vec().as_slice(),
-        want,
-        "after {calls} calls"
-    );
-    Ok(())
+/// Whether a piece is written so.
+fn is_written(alloc: Global, piece: &Piece) -> Result<bool, Error> {
+    let (most, failing, step, held) = piece;
+    let mut device = Counting::interrupted(digits(alloc)?, *most, *failing);
+    let is_gone = goes(alloc, &mut device, step);
+    Ok(is_gone && device.memory.into_vec().as_slice() == *held)
 }
 
 #[test]
-fn a_beginning_stands_after_a_fault(rt: HostRuntime) -> Result<(), Fail> {
-    assert_write_fails(&rt, rt.alloc(), 1, 0, b"0123456789")?;
-    assert_write_fails(&rt, rt.alloc(), 1, 1, b"0123a56789")?;
-    assert_write_fails(&rt, rt.alloc(), 1, 2, b"0123ab6789")?;
-    assert_write_fails(&rt, rt.alloc(), 0, usize::MAX, b"0123456789")
+fn a_piece_is_written_whole_or_a_beginning_and_the_fault_is_told(rt: HostRuntime) {
+    for piece in &PIECES {
+        let is_so = is_written(rt.alloc(), piece).expect(&rt, "a device");
+        assert!(rt; is_so, "by {}, call {} fails", piece.0, piece.1);
+    }
 }
 
-/// Asserts that reading all is refused after so many calls, and that it isn't once the device is well.
-fn assert_read_fails(rt: &impl Abort, alloc: Global, calls: usize) -> Result<(), Fail> {
-    let mut device = device(alloc, 1, calls)?;
-    match read_all(alloc, &mut device) {
-        Ok(_) => panic!(rt; "a fault after {calls} calls was passed over"),
-        Err(error) => assert_eq!(rt; error.kind(), ErrorKind::Io),
-    }
-    assert!(rt; device.failed());
-    device.clear_failed();
-    let all = read_all(alloc, &mut device)?;
-    assert_eq!(rt; all.as_slice(), b"0123456789".as_slice());
-    assert!(rt; !device.failed());
-    Ok(())
+/// All bytes come, a byte a call.
+const ALL: [Step; 1] = [(ReadAll(DIGITS), Well)];
+
+/// A fault is told, and then all bytes come.
+const AGAIN: [Step; 2] = [(ReadAll(b""), Refused), (ReadAll(DIGITS), Well)];
+
+/// Which call fails, the steps, and how many calls they take: a rewind, ten reads of a byte, and one at the end.
+type Reading = (usize, &'static [Step], usize);
+
+static READINGS: [Reading; 13] = [
+    (1, &AGAIN, 1 + 12),
+    (2, &AGAIN, 2 + 12),
+    (3, &AGAIN, 3 + 12),
+    (4, &AGAIN, 4 + 12),
+    (5, &AGAIN, 5 + 12),
+    (6, &AGAIN, 6 + 12),
+    (7, &AGAIN, 7 + 12),
+    (8, &AGAIN, 8 + 12),
+    (9, &AGAIN, 9 + 12),
+    (10, &AGAIN, 10 + 12),
+    (11, &AGAIN, 11 + 12),
+    (12, &AGAIN, 12 + 12),
+    (13, &ALL, 12),
+];
+
+/// Whether a device that gives a byte a call goes these steps in so many calls.
+fn is_read(alloc: Global, reading: &Reading) -> Result<bool, Error> {
+    let (failing, steps, calls) = reading;
+    let mut device = Counting::interrupted(digits(alloc)?, 1, *failing);
+    let count = gone(alloc, &mut device, *steps);
+    Ok(count == steps.len() && device.calls == *calls)
 }
 
 #[test]
-fn all_bytes_are_read_or_the_fault_is_told(rt: HostRuntime) -> Result<(), Fail> {
-    // A rewind, ten reads of a byte, and one at the end.
-    for calls in 0..12 {
-        assert_read_fails(&rt, rt.alloc(), calls)?;
+fn all_bytes_are_read_or_the_fault_is_told(rt: HostRuntime) {
+    for reading in &READINGS {
+        let is_so = is_read(rt.alloc(), reading).expect(&rt, "a device");
+        assert!(rt; is_so, "call {} fails", reading.0);
     }
-    let mut device = device(rt.alloc(), 1, 12)?;
-    assert_eq!(rt;
-        read_all(rt.alloc(), &mut device)?.as_slice(),
-        b"0123456789".as_slice()
-    );
-    assert_eq!(rt; device.calls_left, 0);
-    Ok(())
 }

@@ -6,6 +6,8 @@ mod containers;
 #[cfg(test)]
 mod creating;
 #[cfg(test)]
+mod faults;
+#[cfg(test)]
 mod files;
 #[cfg(test)]
 mod flushing;

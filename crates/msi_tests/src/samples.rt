@@ -1,7 +1,7 @@
 //! Changes and rows as tests write them.
 
 use msi::{
-    CodePage, Column, Delete, Error, Expr, Insert, Memory, Package, Row, Rows, Select, Update,
+    CodePage, Column, Delete, Error, Expr, Insert, Package, Row, Rows, Select, Source, Update,
     Value,
 };
 use std::alloc::Global;
@@ -130,9 +130,9 @@ fn delete_where(alloc: Global, name: &str, on: &Set) -> Result<Delete, Error> {
 }
 
 /// Makes the change that is told.
-pub(crate) fn make(
+pub(crate) fn make<F: Source>(
     alloc: Global,
-    package: &mut Package<Memory>,
+    package: &mut Package<F>,
     change: &Change,
 ) -> Result<(), Error> {
     match change {
@@ -182,8 +182,8 @@ fn are_lines(rows: Rows, lines: &[&[Given]]) -> Result<bool, Error> {
 }
 
 /// Whether a query gives the rows that are told.
-pub(crate) fn gives(
-    package: &Package<Memory>,
+pub(crate) fn gives<F: Source>(
+    package: &Package<F>,
     query: Result<Select, Error>,
     lines: &[&[Given]],
 ) -> Result<bool, Error> {
