@@ -80,22 +80,28 @@ pub(crate) fn flush<R: Print + AllocGlobal>(rt: &R, bytes: &[u8]) -> Result<bool
     })
 }
 
+/// Takes a package apart that is still unwritten.
+fn inner(package: Package<Memory>) -> Result<Memory, Error> {
+    match package.into_inner() {
+        Ok(device) => Ok(device),
+        Err((error, _)) => Err(error),
+    }
+}
+
 /// Returns the device of a package that was taken apart, or is now; nothing where it wasn't refused as it should be.
 fn device_of(
     alloc: Global,
     taken: Result<Memory, (Error, Package<Memory>)>,
     before: &[u8],
 ) -> Result<Option<Memory>, Error> {
-    let (error, package) = match taken {
-        Ok(device) => return Ok(Some(device)),
-        Err(refused) => refused,
-    };
-    if !is_refused(alloc, &error, &package, before)? {
-        return Ok(None);
-    }
-    match package.into_inner() {
+    match taken {
         Ok(device) => Ok(Some(device)),
-        Err((error, _)) => Err(error),
+        Err((error, package)) => {
+            if !is_refused(alloc, &error, &package, before)? {
+                return Ok(None);
+            }
+            Ok(Some(inner(package)?))
+        }
     }
 }
 
