@@ -84,7 +84,7 @@ pub(crate) fn flush<R: Print + AllocGlobal>(rt: &R, bytes: &[u8]) -> Result<bool
 fn inner(package: Package<Memory>) -> Result<Memory, Error> {
     match package.into_inner() {
         Ok(device) => Ok(device),
-        Err((error, _)) => Err(error),
+        Err((error, _package)) => Err(error),
     }
 }
 
