@@ -14,8 +14,9 @@
 
    Only the program's own calls count, which are those that return into its file: what the loader and the C library take
    for themselves is left alone. The report is one line, written by calls of the system: at the fault its kind, the
-   function, and how many calls had changed FAULTS_FILE until then (such as an open that empties it); where no fault
-   came, at the end `none`, and how many allocations, file calls and calls of several bytes there were. */
+   function, and how many calls had changed FAULTS_FILE until then (such as an open that empties it), a write that
+   fails among them; where no fault came, at the end `none`, and how many allocations, file calls and calls of several
+   bytes there were. */
 #define _GNU_SOURCE
 #include <errno.h>
 #include <fcntl.h>
@@ -122,7 +123,7 @@ void *realloc(void *old, size_t size) {
     return __libc_realloc(old, size);
 }
 
-/* Notes that a call changed the file, if it did. */
+/* Notes that a call changes the file, if it does. */
 static void note(int fd, int is_changed) {
     changes += is_changed && fd >= 0 && fd < (int)sizeof is_file && is_file[fd];
 }
@@ -157,10 +158,10 @@ static void follow(const char *bytes, size_t len) {
 }
 
 ssize_t write(int fd, const void *bytes, size_t len) {
+    note(fd, len > 0);
     if (FILE_FAILS(fd, "write")) return -1;
     if (len > 1 && fails(SHORT, "write", CALLER)) len = 1;
     if (fd == 1 && has_marks) follow(bytes, len);
-    note(fd, len > 0);
     return syscall(SYS_write, fd, bytes, len);
 }
 
