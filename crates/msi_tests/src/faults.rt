@@ -26,7 +26,7 @@ fn created(alloc: Global, call: usize) -> Result<Package<Counting>, Error> {
 
 /// A new package with `Numbers`, not flushed yet, where this call of the next flush fails.
 fn unflushed(alloc: Global, call: usize) -> Result<Package<Counting>, Error> {
-    let mut package = created(alloc, WRITING + call)?;
+    let mut package = created(alloc, WRITING.saturating_add(call))?;
     for change in &FILLING {
         make(alloc, &mut package, change)?;
     }
@@ -82,7 +82,7 @@ fn made_good(alloc: Global, call: usize) -> Result<Vec<u8>, Error> {
 /// Whether a package whose device fails as it ends is handed back, and can be flushed then.
 fn is_handed_back(alloc: Global, call: usize) -> Result<bool, Error> {
     match unflushed(alloc, call)?.into_inner() {
-        Ok(_) => Ok(false),
+        Ok(_device) => Ok(false),
         Err((error, mut package)) => {
             package.flush()?;
             Ok(error.kind() == ErrorKind::Io && !package.device_failed())
@@ -109,10 +109,10 @@ fn each_failing_call_of_a_flush_leaves_a_beginning(rt: HostRuntime) -> Result<()
     Ok(())
 }
 
-/// The kind of the error with which a call failed.
-fn refusal<T: Drop>(answer: Result<T, Error>) -> Option<ErrorKind> {
-    match answer {
-        Ok(_) => None,
+/// The kind of the error with which a package couldn't be had.
+fn refusal(package: Result<Package<Counting>, Error>) -> Option<ErrorKind> {
+    match package {
+        Ok(_package) => None,
         Err(error) => Some(error.kind()),
     }
 }
