@@ -15,10 +15,10 @@ fn is_spelled(alloc: Global, name: &Name, text: &str) -> bool {
     }
 }
 
-/// Whether streams have these names, in this order.
+/// Whether streams have these names and lengths, in this order.
 fn are_in_order(alloc: Global, streams: &StreamMap, all: Sizes) -> bool {
-    for ((name, _), (text, _)) in streams.iter().zip(all) {
-        if !is_spelled(alloc, name, *text) {
+    for ((name, bytes), (text, wanted)) in streams.iter().zip(all) {
+        if bytes.as_slice().len() != *wanted as usize || !is_spelled(alloc, name, *text) {
             return false;
         }
     }
@@ -125,7 +125,7 @@ fn streams_are_read_and_listed_in_order_a_step_for_each_link(rt: HostRuntime) {
 type Damage<'a> = (usize, &'a [u8], &'a str);
 
 /// Damage to a file of one stream of 4096 bytes: its FAT stands at 5120, and the stream's entry at 640.
-const DAMAGE: [Damage<'static>; 11] = [
+static DAMAGE: [Damage<'static>; 11] = [
     (
         5120,
         &[0, 0, 0, 0],
@@ -152,7 +152,7 @@ const DAMAGE: [Damage<'static>; 11] = [
 ];
 
 /// Damage to a file with a mini stream: its FAT stands at 512, the entries from 1024 on, and the mini FAT at 1536.
-const MINI_DAMAGE: [Damage<'static>; 8] = [
+static MINI_DAMAGE: [Damage<'static>; 8] = [
     (
         1536 + 8,
         &[2, 0, 0, 0],
@@ -210,7 +210,7 @@ fn damage_is_refused_in_bounded_steps(rt: HostRuntime) {
 type Change<'a> = (usize, &'a [u8], usize, &'a str);
 
 /// Changes to the file of one stream that it holds nonetheless.
-const UNSEEN: [Change<'static>; 4] = [
+static UNSEEN: [Change<'static>; 4] = [
     (
         5120 + 4 * 8,
         &[1, 0, 0, 0],

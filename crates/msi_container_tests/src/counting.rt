@@ -1,11 +1,11 @@
-//! A device that counts its calls, takes and gives little at a time, and fails once.
+//! A device that counts its calls, takes and gives little at a time, and fails once, or from some call on.
 
 ghost use Rattle.std.specs.Prelude.{◌≡◌, OnErr, OnOk, Some, false, true};
 
 use msi_container_device::{Device, Memory, Source};
 use std::io;
 
-/// Over memory: it takes and gives at most so many bytes a call, and one call fails.
+/// Over memory: it takes and gives at most so many bytes a call, and one call fails, or all from one on.
 #[derive(Drop)]
 pub struct Counting {
     /// What it holds.
@@ -16,6 +16,8 @@ pub struct Counting {
     pub most_read: usize,
     /// Which call fails, from 1 on; none for 0.
     pub failing: usize,
+    /// Whether each call behind that one fails, too.
+    pub lasts: bool,
     /// What that call fails with.
     pub fault: io::ErrorKind,
     /// How many calls there were.
@@ -34,6 +36,7 @@ impl Counting {
             most,
             most_read: usize::MAX,
             failing,
+            lasts: false,
             fault: io::ErrorKind::BrokenPipe,
             calls: 0,
             writes: 0,
@@ -48,6 +51,7 @@ impl Counting {
             most,
             most_read: most,
             failing,
+            lasts: false,
             fault: io::ErrorKind::Interrupted,
             calls: 0,
             writes: 0,
@@ -62,7 +66,7 @@ impl Counting {
         ensures failed { OnErr result (self.new.failed ≡ true) }
     {
         self.calls = self.calls.saturating_add(1);
-        if self.calls == self.failing {
+        if self.calls == self.failing || (self.lasts && self.calls > self.failing) {
             self.failed = true;
             return Err(io::Error::from(self.fault));
         }

@@ -34,7 +34,7 @@ const WRITES: [Step; 7] = [
 /// Steps of the digits in memory, from the fifth on, and the bytes then.
 type InMemory = (&'static [Step], &'static [u8]);
 
-const IN_MEMORY: [InMemory; 2] = [(&READS, DIGITS), (&WRITES, b"g123ab67cdef")];
+static IN_MEMORY: [InMemory; 2] = [(&READS, DIGITS), (&WRITES, b"g123ab67cdef")];
 
 /// Whether memory goes these steps, and holds these bytes then.
 fn memory_goes(alloc: Global, row: &InMemory) -> Result<bool, Error> {
@@ -131,7 +131,7 @@ const FAULTS: [Step; 7] = [
 /// Whether the file is stubborn, the steps of a device over it, and its bytes then.
 type OverFile = (bool, &'static [Step], &'static [u8]);
 
-const METERED: [OverFile; 2] = [(false, &WRITTEN, b"ab23456789cd"), (true, &FAULTS, DIGITS)];
+static METERED: [OverFile; 2] = [(false, &WRITTEN, b"ab23456789cd"), (true, &FAULTS, DIGITS)];
 
 /// Whether a device over a file goes these steps, and the file has these bytes then.
 fn metered_goes(alloc: Global, row: &OverFile) -> Result<bool, Error> {
@@ -151,7 +151,7 @@ fn files_are_written_and_read_and_faults_raise_the_flag(rt: HostRuntime) {
 }
 
 /// Two pieces over the digits, and two behind them.
-const PIECES: [Step; 6] = [
+static PIECES: [Step; 6] = [
     (WriteAll(b"ab"), Well),
     (WriteAll(b"cd"), Well),
     (Length(10), Well),

@@ -224,7 +224,7 @@ fn is_refused(alloc: Global, row: &Refused) -> Result<bool, Error> {
     })
 }
 
-const REFUSED: [Refused<'static>; 3] = [
+static REFUSED: [Refused<'static>; 3] = [
     (true, 0, "storages"),
     (false, 2_147_483_649, "over a file of 2^31 bytes and one"),
     (false, u64::MAX, "over the longest of all files"),

@@ -5,7 +5,7 @@ use msi_text::Error;
 use std::alloc::Global;
 
 /// Names that stand alone, and their texts.
-const SPECIAL: [(&str, &str); 4] = [
+static SPECIAL: [(&str, &str); 4] = [
     (DIGITAL_SIGNATURE_STREAM_NAME, "\u{5}DigitalSignature"),
     (
         MSI_DIGITAL_SIGNATURE_EX_STREAM_NAME,
@@ -38,7 +38,7 @@ fn is_packed(alloc: Global, stored: &str, text: &str, is_table: bool) -> Result<
 }
 
 /// Stored names, their texts, whether they are of a table, and whether the text is packed to that name.
-const PACKED: [(&str, &str, bool, bool); 9] = [
+static PACKED: [(&str, &str, bool, bool); 9] = [
     (
         "\u{4840}\u{3B3F}\u{43F2}\u{4438}\u{45B1}",
         "_Columns",
@@ -84,7 +84,7 @@ fn is_told(alloc: Global, row: &Accepted) -> Result<bool, Error> {
     Ok(is_valid(name.as_str(), *is_table) == *wanted)
 }
 
-const ACCEPTED: [Accepted<'static>; 20] = [
+static ACCEPTED: [Accepted<'static>; 20] = [
     ("", 1, false, false),
     ("\u{3800}x", 1, false, false),
     ("x\u{483F}", 1, false, false),

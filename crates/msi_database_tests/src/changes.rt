@@ -8,7 +8,7 @@ use crate::steps::{gone, has_places, has_stream};
 use msi_database::Database;
 use msi_text::parts::string_ref;
 use msi_text::{Error, ErrorKind, StringPool};
-use std::test::Fail;
+use std::process::Abort;
 
 /// The stream of `_Columns` in a new database: tables, numbers, names and types, column by column.
 const NEW_COLUMNS: &[u8] = &[
@@ -40,10 +40,9 @@ fn counted(database: Result<Database, Error>) -> Result<Option<(u32, u32)>, Erro
 }
 
 #[test]
-fn a_new_database_describes_its_description(rt: HostRuntime) -> Result<(), Fail> {
-    let found = counted(Database::new(rt.alloc()))?;
+fn a_new_database_describes_its_description(rt: HostRuntime) {
+    let found = counted(Database::new(rt.alloc())).expect(&rt, "no error");
     assert_eq!(rt; found, Some((17, 58)));
-    Ok(())
 }
 
 /// The table `Numbers`.
@@ -141,22 +140,21 @@ const FOLLOWED: Step = Made(
 );
 
 /// How `Numbers` may end.
-const ENDS: [&[Step]; 2] = [
+static ENDS: [&[Step]; 2] = [
     &[CREATED, FILLED, FIVES, EMPTIED],
     &[CREATED, FILLED, FIVES, DROPPED, FOLLOWED],
 ];
 
 #[test]
-fn texts_take_places_and_give_them_back(rt: HostRuntime) -> Result<(), Fail> {
+fn texts_take_places_and_give_them_back(rt: HostRuntime) {
     for steps in &ENDS {
-        let count = gone(rt.alloc(), Database::new(rt.alloc()), *steps)?;
+        let count = gone(rt.alloc(), Database::new(rt.alloc()), *steps).expect(&rt, "no error");
         assert_eq!(rt; count, steps.len());
     }
-    Ok(())
 }
 
 /// `Mapping` is made and filled, and its rows with 17 are changed.
-const CHOSEN: [Step; 4] = [
+static CHOSEN: [Step; 4] = [
     Made(MAPPING, ("Mapping", None, &[(18, "Mapping", 5)])),
     Made(
         Insert(
@@ -190,14 +188,13 @@ const CHOSEN: [Step; 4] = [
 ];
 
 #[test]
-fn rows_of_a_condition_are_changed(rt: HostRuntime) -> Result<(), Fail> {
-    let count = gone(rt.alloc(), Database::new(rt.alloc()), &CHOSEN)?;
+fn rows_of_a_condition_are_changed(rt: HostRuntime) {
+    let count = gone(rt.alloc(), Database::new(rt.alloc()), &CHOSEN).expect(&rt, "no error");
     assert_eq!(rt; count, CHOSEN.len());
-    Ok(())
 }
 
 /// Changes that break a rule, each another, over the two tables; and at the end one that just keeps them.
-const REFUSED: [Step; 18] = [
+static REFUSED: [Step; 18] = [
     CREATED,
     FILLED,
     Made(MAPPING, ("Mapping", None, &[])),
@@ -274,8 +271,7 @@ const REFUSED: [Step; 18] = [
 ];
 
 #[test]
-fn what_is_refused_changes_nothing(rt: HostRuntime) -> Result<(), Fail> {
-    let count = gone(rt.alloc(), Database::new(rt.alloc()), &REFUSED)?;
+fn what_is_refused_changes_nothing(rt: HostRuntime) {
+    let count = gone(rt.alloc(), Database::new(rt.alloc()), &REFUSED).expect(&rt, "no error");
     assert_eq!(rt; count, REFUSED.len());
-    Ok(())
 }

@@ -7,7 +7,7 @@ use msi_database_schema::system::{VALIDATION, validation_columns};
 use msi_table::{Column, Table, Value};
 use msi_text::{Error, Items};
 use std::alloc::Global;
-use std::test::Fail;
+use std::process::Abort;
 
 /// The bits of the types of the columns of `_Validation`, from a package that describes the table by itself.
 const VALIDATION_BITS: [i32; 10] = [
@@ -48,18 +48,13 @@ fn numbers(alloc: Global) -> Result<Items<Column>, Error> {
 }
 
 #[test]
-fn types_are_told_by_bits(rt: HostRuntime) -> Result<(), Fail> {
-    let validation = validation_columns(rt.alloc())?;
-    assert!(rt;
-        are_bits(rt.alloc(), validation, &VALIDATION_BITS)?,
-        "_Validation"
-    );
-    let numbers = numbers(rt.alloc())?;
-    assert!(rt;
-        are_bits(rt.alloc(), numbers, &[0x2502, 0x1D32])?,
-        "Numbers"
-    );
-    Ok(())
+fn types_are_told_by_bits(rt: HostRuntime) {
+    let validation = validation_columns(rt.alloc()).expect(&rt, "no error");
+    let found = are_bits(rt.alloc(), validation, &VALIDATION_BITS).expect(&rt, "no error");
+    assert!(rt; found, "_Validation");
+    let numbers = numbers(rt.alloc()).expect(&rt, "no error");
+    let found = are_bits(rt.alloc(), numbers, &[0x2502, 0x1D32]).expect(&rt, "no error");
+    assert!(rt; found, "Numbers");
 }
 
 /// The tables that the rows of one table describe.
@@ -94,12 +89,14 @@ fn are_like(columns: &[Column], others: &[Column]) -> bool {
 }
 
 #[test]
-fn validation_describes_itself(rt: HostRuntime) -> Result<(), Fail> {
-    let columns = validation_columns(rt.alloc())?;
-    let tables = read_back(rt.alloc(), VALIDATION, columns.as_slice())?.ok_or("too long")?;
+fn validation_describes_itself(rt: HostRuntime) {
+    let columns = validation_columns(rt.alloc()).expect(&rt, "no error");
+    let tables = read_back(rt.alloc(), VALIDATION, columns.as_slice())
+        .expect(&rt, "no error")
+        .ok_or("too long")
+        .expect(&rt, "no error");
     assert_eq!(rt; tables.len(), 3);
     let table = &tables.as_slice()[2];
     assert_eq!(rt; table.name(), VALIDATION);
     assert!(rt; are_like(table.columns(), columns.as_slice()));
-    Ok(())
 }

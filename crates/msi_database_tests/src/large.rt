@@ -14,7 +14,7 @@ use msi_table::Value;
 use msi_text::parts::{data_stream_of, pool_builder_of, pool_of, pool_stream_of};
 use msi_text::{Error, ErrorKind, StringPool};
 use std::alloc::Global;
-use std::test::Fail;
+use std::process::Abort;
 
 /// Bytes with a piece put behind them 65512 times.
 fn extended(bytes: Result<Vec<u8>, Error>, piece: &[u8]) -> Result<Vec<u8>, Error> {
@@ -55,7 +55,7 @@ fn full(alloc: Global, database: Result<Database, Error>) -> Result<Database, Er
 }
 
 /// What is told of 65535 places, none free.
-const IN_FULL: [Step; 4] = [
+static IN_FULL: [Step; 4] = [
     // The first row's text is known, the second one's is new.
     Refused(
         Insert("Numbers", &[&[Int(5), Str("Two")], &[Int(6), Str("Six")]]),
@@ -86,11 +86,10 @@ const IN_FULL: [Step; 4] = [
 ];
 
 #[test]
-fn a_full_pool_takes_no_new_text(rt: HostRuntime) -> Result<(), Fail> {
+fn a_full_pool_takes_no_new_text(rt: HostRuntime) {
     let database = full(rt.alloc(), Database::new(rt.alloc()));
-    let count = gone(rt.alloc(), database, &IN_FULL)?;
+    let count = gone(rt.alloc(), database, &IN_FULL).expect(&rt, "no error");
     assert_eq!(rt; count, IN_FULL.len());
-    Ok(())
 }
 
 /// A table of keys and words.
@@ -156,17 +155,15 @@ fn filled(
 const FOUND: (u32, usize) = (21_020, 300_000);
 
 #[test]
-fn fifty_thousand_rows_are_inserted_at_once(rt: HostRuntime) -> Result<(), Fail> {
-    let found = filled(rt.alloc(), Database::new(rt.alloc()), 1, 50_000)?;
+fn fifty_thousand_rows_are_inserted_at_once(rt: HostRuntime) {
+    let found = filled(rt.alloc(), Database::new(rt.alloc()), 1, 50_000).expect(&rt, "no error");
     assert_eq!(rt; found, FOUND);
-    Ok(())
 }
 
 #[test]
-fn fifty_thousand_rows_are_inserted_in_fifty_calls(rt: HostRuntime) -> Result<(), Fail> {
-    let found = filled(rt.alloc(), Database::new(rt.alloc()), 50, 1_000)?;
+fn fifty_thousand_rows_are_inserted_in_fifty_calls(rt: HostRuntime) {
+    let found = filled(rt.alloc(), Database::new(rt.alloc()), 50, 1_000).expect(&rt, "no error");
     assert_eq!(rt; found, FOUND);
-    Ok(())
 }
 
 /// A table of keys alone.
@@ -190,7 +187,7 @@ fn with_keys(alloc: Global, database: Result<Database, Error>, to: i32) -> Resul
 }
 
 /// What is told of 65536 rows.
-const IN_FULL_TABLE: [Step; 4] = [
+static IN_FULL_TABLE: [Step; 4] = [
     // That a key is stored comes before that there are too many rows.
     Refused(Insert("Keys", &[&[Int(0)]]), ErrorKind::AlreadyExists),
     Refused(Insert("Keys", &[&[Int(65536)]]), ErrorKind::InvalidInput),
@@ -202,9 +199,8 @@ const IN_FULL_TABLE: [Step; 4] = [
 ];
 
 #[test]
-fn a_full_table_takes_no_row(rt: HostRuntime) -> Result<(), Fail> {
+fn a_full_table_takes_no_row(rt: HostRuntime) {
     let database = with_keys(rt.alloc(), Database::new(rt.alloc()), 65_536);
-    let count = gone(rt.alloc(), database, &IN_FULL_TABLE)?;
+    let count = gone(rt.alloc(), database, &IN_FULL_TABLE).expect(&rt, "no error");
     assert_eq!(rt; count, IN_FULL_TABLE.len());
-    Ok(())
 }

@@ -8,7 +8,7 @@ use msi_query_rows::parts::into_rows;
 use msi_table::{Column, Rows, ValueRef};
 use msi_text::{CodePage, Error, IntoText, Items, StringPool};
 use std::alloc::Global;
-use std::test::Fail;
+use std::process::Abort;
 
 /// Two rows of a number.
 fn two_rows(alloc: Global) -> Result<Vec<Items<ValueRef>>, Error>
@@ -37,17 +37,16 @@ fn gives(rows: &mut Rows, number: i32) -> Result<bool, Error> {
 }
 
 #[test]
-fn rows_are_handed_out_in_their_order(rt: HostRuntime) -> Result<(), Fail> {
+fn rows_are_handed_out_in_their_order(rt: HostRuntime) {
     let alloc = rt.alloc();
     let pool = StringPool::new(alloc, CodePage::Utf8);
-    let cells = two_rows(alloc)?;
-    let columns = one_column(alloc)?;
-    let relation = Relation::new("T".into_text(alloc)?, columns, cells);
-    let mut rows = into_rows(alloc, relation, &pool)?;
+    let cells = two_rows(alloc).expect(&rt, "no error");
+    let columns = one_column(alloc).expect(&rt, "no error");
+    let relation = Relation::new("T".into_text(alloc).expect(&rt, "no error"), columns, cells);
+    let mut rows = into_rows(alloc, relation, &pool).expect(&rt, "no error");
     for number in [7, 8] {
-        let found = gives(&mut rows, number)?;
+        let found = gives(&mut rows, number).expect(&rt, "no error");
         assert!(rt; found, "row {number}");
     }
     assert!(rt; rows.next().is_none());
-    Ok(())
 }

@@ -10,9 +10,9 @@ use msi_query_rows::select;
 use msi_table::ValueRef;
 use msi_text::{CodePage, Error, IntoText, Items, StringPool};
 use std::alloc::Global;
-use std::test::Fail;
+use std::process::Abort;
 
-const LINES: [(Asked, &str); 11] = [
+static LINES: [(Asked, &str); 11] = [
     // A left join keeps each left row without a pair, and its right columns take null.
     (
         Left(&Table("A"), &Table("B"), Same("A.k", "B.f")),
@@ -81,11 +81,11 @@ const LINES: [(Asked, &str); 11] = [
 ];
 
 #[test]
-fn joins_give_pairs_in_the_order_of_their_sides(rt: HostRuntime) -> Result<(), Fail> {
+fn joins_give_pairs_in_the_order_of_their_sides(rt: HostRuntime) {
     for (row, (asked, line)) in LINES.iter().enumerate() {
-        assert!(rt; gives(rt.alloc(), asked, line)?, "row {row}");
+        let found = gives(rt.alloc(), asked, line).expect(&rt, "no error");
+        assert!(rt; found, "row {row}");
     }
-    Ok(())
 }
 
 /// A copy of `D` without a name, so that its columns keep theirs.
@@ -94,7 +94,7 @@ const OTHER: Asked = Columns(&Table("D"), &["k", "n"]);
 /// A copy of `M`, likewise.
 const MIXED: Asked = Columns(&Table("M"), &["m", "i"]);
 
-const LOOKED_UP: [(Asked, &str); 8] = [
+static LOOKED_UP: [(Asked, &str); 8] = [
     // Values that are repeated on both sides give all their pairs, in the right side's order.
     (
         Inner(&Table("D"), &OTHER, Same("D.k", "k")),
@@ -152,11 +152,11 @@ const LOOKED_UP: [(Asked, &str); 8] = [
 ];
 
 #[test]
-fn equal_columns_are_looked_up(rt: HostRuntime) -> Result<(), Fail> {
+fn equal_columns_are_looked_up(rt: HostRuntime) {
     for (row, (asked, line)) in LOOKED_UP.iter().enumerate() {
-        assert!(rt; gives(rt.alloc(), asked, line)?, "row {row}");
+        let found = gives(rt.alloc(), asked, line).expect(&rt, "no error");
+        assert!(rt; found, "row {row}");
     }
-    Ok(())
 }
 
 /// The rows of the numbers below a count.
@@ -192,8 +192,8 @@ fn count_of(alloc: Global, query: &Select, count: i32) -> Result<usize, Error> {
 const SAME_NUMBERS: Asked = Inner(&Table("N"), &Columns(&Table("N"), &["k"]), Same("N.k", "k"));
 
 #[test]
-fn two_thousand_rows_are_joined_on_equal_keys(rt: HostRuntime) -> Result<(), Fail> {
-    let query = query(rt.alloc(), &SAME_NUMBERS)?;
-    assert!(rt; count_of(rt.alloc(), &query, 2000)? == 2000);
-    Ok(())
+fn two_thousand_rows_are_joined_on_equal_keys(rt: HostRuntime) {
+    let query = query(rt.alloc(), &SAME_NUMBERS).expect(&rt, "no error");
+    let found = count_of(rt.alloc(), &query, 2000).expect(&rt, "no error") == 2000;
+    assert!(rt; found);
 }

@@ -118,7 +118,7 @@ type Told = (
     Option<&'static [&'static [Given]]>,
 );
 
-const TABLES: [Told; 9] = [
+static TABLES: [Told; 9] = [
     ("A", &["k"], Some(&[&[Given::Int(1)], &[Given::Int(2)]])),
     ("B", &["k", "f"], Some(&[&[Given::Int(7), Given::Int(1)]])),
     (

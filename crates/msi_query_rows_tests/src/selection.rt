@@ -5,9 +5,9 @@ use crate::samples::Given::{Int, Null, Str};
 use crate::samples::On::{Both, Is, Same};
 use crate::samples::{gives, is_refused};
 use msi_text::ErrorKind;
-use std::test::Fail;
+use std::process::Abort;
 
-const LINES: [(Asked, &str); 8] = [
+static LINES: [(Asked, &str); 8] = [
     (Table("A"), "A| k | 1 | 2"),
     (Table("E"), "E| k"),
     // A column may be kept twice, and no columns keep all.
@@ -34,14 +34,14 @@ const LINES: [(Asked, &str); 8] = [
 ];
 
 #[test]
-fn rows_are_filtered_and_columns_kept(rt: HostRuntime) -> Result<(), Fail> {
+fn rows_are_filtered_and_columns_kept(rt: HostRuntime) {
     for (row, (asked, line)) in LINES.iter().enumerate() {
-        assert!(rt; gives(rt.alloc(), asked, line)?, "row {row}");
+        let found = gives(rt.alloc(), asked, line).expect(&rt, "no error");
+        assert!(rt; found, "row {row}");
     }
-    Ok(())
 }
 
-const REFUSED: [(Asked, ErrorKind); 10] = [
+static REFUSED: [(Asked, ErrorKind); 10] = [
     (Table("X"), ErrorKind::NotFound),
     (Table("F"), ErrorKind::InvalidData),
     (Columns(&Table("A"), &["k", "X"]), ErrorKind::InvalidInput),
@@ -78,9 +78,9 @@ const REFUSED: [(Asked, ErrorKind); 10] = [
 ];
 
 #[test]
-fn refusals_come_in_their_order(rt: HostRuntime) -> Result<(), Fail> {
+fn refusals_come_in_their_order(rt: HostRuntime) {
     for (row, (asked, kind)) in REFUSED.iter().enumerate() {
-        assert!(rt; is_refused(rt.alloc(), asked, *kind)?, "row {row}");
+        let found = is_refused(rt.alloc(), asked, *kind).expect(&rt, "no error");
+        assert!(rt; found, "row {row}");
     }
-    Ok(())
 }

@@ -15,8 +15,8 @@ use msi_table::{Column, Row, Value};
 use msi_text::Error;
 use msi_text::text::Items;
 use std::alloc::Global;
+use std::process::Abort;
 use std::rc::Rc;
-use std::test::Fail;
 
 /// The columns of two numbers and a text.
 fn sample_columns(alloc: Global) -> Result<Rc<Items<Column>>, Error>
@@ -83,7 +83,7 @@ fn first_wrong(alloc: Global, rows: &[(Given, Given)]) -> Result<Option<usize>, 
 
 const LEAST: i32 = -2147483648;
 
-const LITERALS: [(Given, Given); 15] = [
+static LITERALS: [(Given, Given); 15] = [
     (Two(&Two(&Int(3), Mul, &Int(4)), Sub, &Int(2)), Int(10)),
     (Two(&Int(-7), Div, &Int(2)), Int(-3)),
     (Two(&Int(7), Div, &Int(0)), Null),
@@ -105,12 +105,12 @@ const LITERALS: [(Given, Given); 15] = [
 ];
 
 #[test]
-fn literals_are_worth_their_result_or_null(rt: HostRuntime) -> Result<(), Fail> {
-    assert_eq!(rt; first_wrong(rt.alloc(), &LITERALS)?, None);
-    Ok(())
+fn literals_are_worth_their_result_or_null(rt: HostRuntime) {
+    let found = first_wrong(rt.alloc(), &LITERALS).expect(&rt, "no error");
+    assert_eq!(rt; found, None);
 }
 
-const COMPARED: [(Given, Given); 6] = [
+static COMPARED: [(Given, Given); 6] = [
     (Two(&Null, Eq, &Null), Int(1)),
     (Two(&Null, Ne, &Null), Int(0)),
     (Two(&Null, Lt, &Int(-5)), Int(1)),
@@ -120,12 +120,12 @@ const COMPARED: [(Given, Given); 6] = [
 ];
 
 #[test]
-fn null_equals_null_and_comes_first(rt: HostRuntime) -> Result<(), Fail> {
-    assert_eq!(rt; first_wrong(rt.alloc(), &COMPARED)?, None);
-    Ok(())
+fn null_equals_null_and_comes_first(rt: HostRuntime) {
+    let found = first_wrong(rt.alloc(), &COMPARED).expect(&rt, "no error");
+    assert_eq!(rt; found, None);
 }
 
-const TRUTHS: [(Given, Given); 5] = [
+static TRUTHS: [(Given, Given); 5] = [
     (One(Not, &Null), Int(1)),
     (One(Not, &Str("")), Int(1)),
     (One(Not, &Bool(true)), Int(0)),
@@ -134,12 +134,12 @@ const TRUTHS: [(Given, Given); 5] = [
 ];
 
 #[test]
-fn null_zero_and_the_empty_text_count_as_false(rt: HostRuntime) -> Result<(), Fail> {
-    assert_eq!(rt; first_wrong(rt.alloc(), &TRUTHS)?, None);
-    Ok(())
+fn null_zero_and_the_empty_text_count_as_false(rt: HostRuntime) {
+    let found = first_wrong(rt.alloc(), &TRUTHS).expect(&rt, "no error");
+    assert_eq!(rt; found, None);
 }
 
-const COLUMNS: [(Given, Given); 13] = [
+static COLUMNS: [(Given, Given); 13] = [
     (
         Two(&Two(&Col("Int1"), Shl, &Int(2)), BitXor, &Col("Int2")),
         Int(-185),
@@ -162,9 +162,9 @@ const COLUMNS: [(Given, Given); 13] = [
 ];
 
 #[test]
-fn columns_are_read_by_name_under_operators(rt: HostRuntime) -> Result<(), Fail> {
-    assert_eq!(rt; first_wrong(rt.alloc(), &COLUMNS)?, None);
-    Ok(())
+fn columns_are_read_by_name_under_operators(rt: HostRuntime) {
+    let found = first_wrong(rt.alloc(), &COLUMNS).expect(&rt, "no error");
+    assert_eq!(rt; found, None);
 }
 
 /// Two columns, of which the first stands on both sides.
@@ -189,10 +189,12 @@ fn is_known(alloc: Global, found: [&str; 3]) -> Result<bool, Error> {
 }
 
 #[test]
-fn names_are_found_on_both_sides(rt: HostRuntime) -> Result<(), Fail> {
+fn names_are_found_on_both_sides(rt: HostRuntime) {
     let alloc = rt.alloc();
-    assert!(rt; has_names(alloc, "A", "B")?);
-    assert!(rt; is_known(alloc, ["B", "C", "A"])?);
-    assert!(rt; !is_known(alloc, ["A", "C", "D"])?);
-    Ok(())
+    let found = has_names(alloc, "A", "B").expect(&rt, "no error");
+    assert!(rt; found);
+    let found = is_known(alloc, ["B", "C", "A"]).expect(&rt, "no error");
+    assert!(rt; found);
+    let found = !is_known(alloc, ["A", "C", "D"]).expect(&rt, "no error");
+    assert!(rt; found);
 }

@@ -14,7 +14,7 @@ use msi_query::{Expr, Select};
 use msi_table::{Column, Value, ValueRef};
 use msi_text::{CodePage, Error, StringPool};
 use std::alloc::Global;
-use std::test::Fail;
+use std::process::Abort;
 
 /// Whether there is a condition, which prints as a text.
 fn is_condition(alloc: Global, condition: Option<&Expr>, text: &str) -> Result<bool, Error> {
@@ -74,12 +74,14 @@ fn gives_insert(alloc: Global) -> Result<bool, Error> {
 }
 
 #[test]
-fn parts_of_changes_are_moved_out(rt: HostRuntime) -> Result<(), Fail> {
+fn parts_of_changes_are_moved_out(rt: HostRuntime) {
     let alloc = rt.alloc();
-    assert!(rt; is_made(alloc, narrowed_delete(alloc).map(delete_parts))?);
-    assert!(rt; is_made(alloc, narrowed_sets(alloc).map(update_parts))?);
-    assert!(rt; gives_insert(alloc)?);
-    Ok(())
+    let found = is_made(alloc, narrowed_delete(alloc).map(delete_parts)).expect(&rt, "no error");
+    assert!(rt; found);
+    let found = is_made(alloc, narrowed_sets(alloc).map(update_parts)).expect(&rt, "no error");
+    assert!(rt; found);
+    let found = gives_insert(alloc).expect(&rt, "no error");
+    assert!(rt; found);
 }
 
 /// Whether a tree is a whole table.
@@ -142,9 +144,9 @@ impl Expected for Select {
 }
 
 #[test]
-fn trees_of_joins_show_sides_and_clauses(rt: HostRuntime) -> Result<(), Fail> {
-    assert!(rt; is_made(rt.alloc(), narrowed_side(rt.alloc()))?);
-    Ok(())
+fn trees_of_joins_show_sides_and_clauses(rt: HostRuntime) {
+    let found = is_made(rt.alloc(), narrowed_side(rt.alloc())).expect(&rt, "no error");
+    assert!(rt; found);
 }
 
 /// The columns of two rows, one behind the other: a number and a word, and another number.
@@ -188,7 +190,7 @@ fn judges(alloc: Global, given: &Given, alone: bool, paired: bool) -> Result<boo
 }
 
 /// Conditions, and whether they hold of the first row alone, where `Other` is Null, and of both.
-const CONDITIONS: [(Given, bool, bool); 7] = [
+static CONDITIONS: [(Given, bool, bool); 7] = [
     (
         Two(
             &Two(&Col("Number"), Eq, &Int(42)),
@@ -211,10 +213,11 @@ const CONDITIONS: [(Given, bool, bool); 7] = [
 ];
 
 #[test]
-fn conditions_judge_rows_and_pairs(rt: HostRuntime) -> Result<(), Fail> {
+fn conditions_judge_rows_and_pairs(rt: HostRuntime) {
     for (given, alone, paired) in &CONDITIONS {
-        assert!(rt; judges(rt.alloc(), given, *alone, *paired)?);
+        let found = judges(rt.alloc(), given, *alone, *paired).expect(&rt, "no error");
+        assert!(rt; found);
     }
-    assert!(rt; lets_all(rt.alloc())?);
-    Ok(())
+    let found = lets_all(rt.alloc()).expect(&rt, "no error");
+    assert!(rt; found);
 }

@@ -6,7 +6,7 @@ use crate::samples::Sign::{Neg, Not};
 use crate::samples::{expression, says};
 use msi_text::Error;
 use std::alloc::Global;
-use std::test::Fail;
+use std::process::Abort;
 
 /// The first of these texts that the expression beside it doesn't print as.
 fn first_unprinted<'a>(
@@ -21,7 +21,7 @@ fn first_unprinted<'a>(
     Ok(None)
 }
 
-const GROUPED: [(Given, &str); 12] = [
+static GROUPED: [(Given, &str); 12] = [
     (
         Two(&Col("Foo"), Sub, &Two(&Col("Bar"), Sub, &Col("Baz"))),
         "Foo - (Bar - Baz)",
@@ -58,12 +58,12 @@ const GROUPED: [(Given, &str); 12] = [
 ];
 
 #[test]
-fn looser_operands_stand_in_brackets(rt: HostRuntime) -> Result<(), Fail> {
-    assert_eq!(rt; first_unprinted(rt.alloc(), &GROUPED)?, None);
-    Ok(())
+fn looser_operands_stand_in_brackets(rt: HostRuntime) {
+    let found = first_unprinted(rt.alloc(), &GROUPED).expect(&rt, "no error");
+    assert_eq!(rt; found, None);
 }
 
-const LITERALS: [(Given, &str); 4] = [
+static LITERALS: [(Given, &str); 4] = [
     (Two(&Two(&Int(3), Mul, &Int(4)), Sub, &Int(2)), "10"),
     (Two(&Str("a"), Add, &Str("b")), "\"ab\""),
     (Two(&Int(1), And, &Int(1)), "1 AND 1"),
@@ -71,7 +71,7 @@ const LITERALS: [(Given, &str); 4] = [
 ];
 
 #[test]
-fn literals_fold_but_under_and_and_stay_texts(rt: HostRuntime) -> Result<(), Fail> {
-    assert_eq!(rt; first_unprinted(rt.alloc(), &LITERALS)?, None);
-    Ok(())
+fn literals_fold_but_under_and_and_stay_texts(rt: HostRuntime) {
+    let found = first_unprinted(rt.alloc(), &LITERALS).expect(&rt, "no error");
+    assert_eq!(rt; found, None);
 }

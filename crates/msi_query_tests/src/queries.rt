@@ -7,7 +7,7 @@ use msi_query::{Delete, Insert, Select, Update};
 use msi_table::Value;
 use msi_text::Error;
 use std::alloc::Global;
-use std::test::Fail;
+use std::process::Abort;
 
 const SAME_KEY: Given = Two(&Col("Foobar.Key"), Eq, &Col("Quux.Quay"));
 
@@ -72,30 +72,34 @@ fn projected_table(alloc: Global) -> Result<Select, Error> {
 }
 
 #[test]
-fn sides_of_joins_that_are_no_whole_table_stand_in_brackets(rt: HostRuntime) -> Result<(), Fail> {
+fn sides_of_joins_that_are_no_whole_table_stand_in_brackets(rt: HostRuntime) {
     let alloc = rt.alloc();
     let narrowed = says(
         alloc,
         narrowed_side(alloc),
         "SELECT Foobar.Foo, Quux.Baz FROM Foobar INNER JOIN \
          (SELECT * FROM Quux WHERE Quay > 42) ON Foobar.Key = Quux.Quay",
-    )?;
+    )
+    .expect(&rt, "no error");
     assert!(rt; narrowed);
     let joined = says(
         alloc,
         joined_side(alloc),
         "SELECT * FROM (SELECT * FROM A INNER JOIN B ON A.k = B.k) LEFT JOIN C ON A.k = C.k",
-    )?;
+    )
+    .expect(&rt, "no error");
     assert!(rt; joined);
     let narrowed = says(
         alloc,
         narrowed_join(alloc),
         "SELECT * FROM A INNER JOIN B ON A.k = B.k WHERE A.n > 42",
-    )?;
+    )
+    .expect(&rt, "no error");
     assert!(rt; narrowed);
-    let projected = says(alloc, projected_table(alloc), "SELECT B, A FROM T")?;
+    let projected = says(alloc, projected_table(alloc), "SELECT B, A FROM T").expect(
+        &rt, "no error",
+    );
     assert!(rt; projected);
-    Ok(())
 }
 
 /// The rows of a query under one more condition.
@@ -123,19 +127,20 @@ pub(crate) fn narrowed_sets(alloc: Global) -> Result<Update, Error> {
 }
 
 #[test]
-fn a_second_condition_is_joined_to_the_first(rt: HostRuntime) -> Result<(), Fail> {
+fn a_second_condition_is_joined_to_the_first(rt: HostRuntime) {
     let text = "DELETE FROM T WHERE (A OR B) AND C";
-    assert!(rt; says(rt.alloc(), narrowed_delete(rt.alloc()), text)?);
-    Ok(())
+    let found = says(rt.alloc(), narrowed_delete(rt.alloc()), text).expect(&rt, "no error");
+    assert!(rt; found);
 }
 
 #[test]
-fn sets_print_in_order_before_the_condition(rt: HostRuntime) -> Result<(), Fail> {
+fn sets_print_in_order_before_the_condition(rt: HostRuntime) {
     let alloc = rt.alloc();
-    assert!(rt; says(alloc, Update::table(alloc, "T"), "UPDATE T")?);
+    let found = says(alloc, Update::table(alloc, "T"), "UPDATE T").expect(&rt, "no error");
+    assert!(rt; found);
     let text = "UPDATE T SET A = -5, B = NULL WHERE C > 42";
-    assert!(rt; says(alloc, narrowed_sets(alloc), text)?);
-    Ok(())
+    let found = says(alloc, narrowed_sets(alloc), text).expect(&rt, "no error");
+    assert!(rt; found);
 }
 
 /// A row of a value and a text.
@@ -164,11 +169,13 @@ fn rows_at_once(alloc: Global) -> Result<Insert, Error> {
 }
 
 #[test]
-fn rows_print_in_order_however_they_were_added(rt: HostRuntime) -> Result<(), Fail> {
+fn rows_print_in_order_however_they_were_added(rt: HostRuntime) {
     let alloc = rt.alloc();
-    assert!(rt; says(alloc, Insert::into(alloc, "T"), "INSERT INTO T")?);
+    let found = says(alloc, Insert::into(alloc, "T"), "INSERT INTO T").expect(&rt, "no error");
+    assert!(rt; found);
     let text = "INSERT INTO T VALUES (1, \"a\"), (NULL, \"b\")";
-    assert!(rt; says(alloc, row_by_row(alloc), text)?);
-    assert!(rt; says(alloc, rows_at_once(alloc), text)?);
-    Ok(())
+    let found = says(alloc, row_by_row(alloc), text).expect(&rt, "no error");
+    assert!(rt; found);
+    let found = says(alloc, rows_at_once(alloc), text).expect(&rt, "no error");
+    assert!(rt; found);
 }

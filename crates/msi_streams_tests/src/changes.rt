@@ -10,19 +10,20 @@ use crate::samples::new_bytes;
 use msi::PackageType;
 use msi_text::{CodePage, Error, ErrorKind};
 use std::alloc::Global;
+use std::process::Abort;
 use std::test::Fail;
 
 /// The system's tables.
 const SYSTEM_TABLES: [&str; 3] = ["_Columns", "_Tables", "_Validation"];
 
 #[test]
-fn no_calls_leave_a_new_package(rt: HostRuntime) -> Result<(), Fail> {
-    let (count, bytes) = replayed(rt.alloc(), PackageType::Installer, &[])?;
+fn no_calls_leave_a_new_package(rt: HostRuntime) {
+    let (count, bytes) = replayed(rt.alloc(), PackageType::Installer, &[]).expect(&rt, "no error");
     // The header, two sectors of the directory's seven entries, one of the mini FAT, three of the mini stream, the
     // FAT.
     assert_eq!(rt; (count, bytes.len()), (0, 4096));
-    assert!(rt; has_tables(rt.alloc(), bytes, &SYSTEM_TABLES)?);
-    Ok(())
+    let found = has_tables(rt.alloc(), bytes, &SYSTEM_TABLES).expect(&rt, "no error");
+    assert!(rt; found);
 }
 
 /// Rows of `Numbers`, in the order of their numbers.
@@ -57,11 +58,13 @@ const NUMBERS: [Step; 9] = [
 ];
 
 #[test]
-fn what_is_refused_is_not_written(rt: HostRuntime) -> Result<(), Fail> {
-    let (count, bytes) = replayed(rt.alloc(), PackageType::Installer, &NUMBERS)?;
+fn what_is_refused_is_not_written(rt: HostRuntime) {
+    let (count, bytes) = replayed(rt.alloc(), PackageType::Installer, &NUMBERS).expect(
+        &rt, "no error",
+    );
     assert_eq!(rt; count, NUMBERS.len());
-    assert!(rt; has_rows(rt.alloc(), bytes, WORDS)?);
-    Ok(())
+    let found = has_rows(rt.alloc(), bytes, WORDS).expect(&rt, "no error");
+    assert!(rt; found);
 }
 
 /// How many of the earlier steps go as they are told, how many of the later ones over the bytes that those leave, and
@@ -74,32 +77,33 @@ fn goes_on(alloc: Global, earlier: &[Step], later: &[Step]) -> Result<(usize, us
 }
 
 #[test]
-fn calls_go_on_where_bytes_left_off(rt: HostRuntime) -> Result<(), Fail> {
+fn calls_go_on_where_bytes_left_off(rt: HostRuntime) {
     for count in 0..NUMBERS.len() {
         let (earlier, later) = NUMBERS.split_at(count);
-        let found = goes_on(rt.alloc(), earlier, later)?;
+        let found = goes_on(rt.alloc(), earlier, later).expect(&rt, "no error");
         assert_eq!(rt; found, (count, later.len(), true), "{count}");
     }
-    Ok(())
 }
 
 /// Bytes that are no compound file.
-const FOREIGN: [&[u8]; 3] = [b"", b"PK\x03\x04", &[0xD0, 0xCF, 0x11, 0xE0]];
+static FOREIGN: [&[u8]; 3] = [b"", b"PK\x03\x04", &[0xD0, 0xCF, 0x11, 0xE0]];
 
 #[test]
-fn bytes_that_are_no_compound_file_are_refused(rt: HostRuntime) -> Result<(), Fail> {
+fn bytes_that_are_no_compound_file_are_refused(rt: HostRuntime) {
     for bytes in &FOREIGN {
-        let bytes = Vec::from_slice(rt.alloc(), *bytes)?;
-        assert!(rt; is_refused_over(rt.alloc(), bytes, &[], ErrorKind::InvalidData)?);
+        let bytes = Vec::from_slice(rt.alloc(), *bytes).expect(&rt, "no error");
+        let found = is_refused_over(rt.alloc(), bytes, &[], ErrorKind::InvalidData).expect(
+            &rt, "no error",
+        );
+        assert!(rt; found);
     }
-    Ok(())
 }
 
 /// A row whose word Windows-932 doesn't carry here, and for which Windows-1252 has a question mark.
 const ONE: &[NumberRow] = &[(1, "\u{4E00}")];
 
 /// The page is set, and the flush is refused until there is one that carries the text.
-const PAGES: [Step; 10] = [
+static PAGES: [Step; 10] = [
     (Sent::Make(Create("Numbers")), Done),
     (Sent::Make(Insert("Numbers", ONE)), Done),
     (Sent::Make(Make::Page(CodePage::Windows932)), Done),
@@ -119,26 +123,27 @@ const PAGES: [Step; 10] = [
 ];
 
 /// The page is set, and the last flush is refused.
-const UNCARRIED: [Step; 3] = [
+static UNCARRIED: [Step; 3] = [
     (Sent::Make(Create("Numbers")), Done),
     (Sent::Make(Insert("Numbers", ONE)), Done),
     (Sent::Make(Make::Page(CodePage::Windows932)), Done),
 ];
 
 #[test]
-fn a_page_that_does_not_carry_a_text_is_refused_by_flushes(rt: HostRuntime) -> Result<(), Fail> {
+fn a_page_that_does_not_carry_a_text_is_refused_by_flushes(rt: HostRuntime) {
     let alloc = rt.alloc();
-    let (count, bytes) = replayed(alloc, PackageType::Installer, &PAGES)?;
+    let (count, bytes) = replayed(alloc, PackageType::Installer, &PAGES).expect(&rt, "no error");
     assert_eq!(rt; count, PAGES.len());
-    assert!(rt; has_rows(alloc, bytes, &[(1, "?")])?);
-    assert!(rt; is_refused(alloc, &UNCARRIED, ErrorKind::InvalidInput)?);
-    assert!(rt;
-        is_refused_over(
-            alloc,
-            new_bytes(alloc)?,
-            &UNCARRIED,
-            ErrorKind::InvalidInput
-        )?
-    );
-    Ok(())
+    let found = has_rows(alloc, bytes, &[(1, "?")]).expect(&rt, "no error");
+    assert!(rt; found);
+    let found = is_refused(alloc, &UNCARRIED, ErrorKind::InvalidInput).expect(&rt, "no error");
+    assert!(rt; found);
+    let found = is_refused_over(
+        alloc,
+        new_bytes(alloc).expect(&rt, "no error"),
+        &UNCARRIED,
+        ErrorKind::InvalidInput,
+    )
+    .expect(&rt, "no error");
+    assert!(rt; found);
 }

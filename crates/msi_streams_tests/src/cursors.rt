@@ -6,13 +6,13 @@ use crate::steps::{answers, fill};
 use msi::{Error, Memory, Package, StreamReader, StreamWriter};
 use std::alloc::Global;
 use std::io::{self, Read, Seek, SeekFrom, Write};
-use std::test::Fail;
+use std::process::Abort;
 
 /// A seek, and the place that it goes to, or the one at which it is refused and leaves the stream.
 type Told = (SeekFrom, Result<u64, u64>);
 
 /// Seeks in five bytes, from the fifth on.
-const SEEKS: [Told; 16] = [
+static SEEKS: [Told; 16] = [
     (SeekFrom::Start(6), Err(4)),
     (SeekFrom::Start(5), Ok(5)),
     (SeekFrom::Current(1), Err(5)),
@@ -80,13 +80,17 @@ fn is_hippo(alloc: Global, package: &Package<Memory>) -> Result<bool, Error> {
 }
 
 #[test]
-fn seeks_past_a_stream_are_refused_and_go_nowhere(rt: HostRuntime) -> Result<(), Fail> {
-    let mut package = created(rt.alloc())?;
-    assert!(rt; writer_goes(&mut package)?);
-    assert!(rt; is_hippo(rt.alloc(), &package)?);
-    let package = opened(rt.alloc(), written(package)?)?;
-    assert!(rt; is_hippo(rt.alloc(), &package)?);
-    Ok(())
+fn seeks_past_a_stream_are_refused_and_go_nowhere(rt: HostRuntime) {
+    let mut package = created(rt.alloc()).expect(&rt, "no error");
+    let found = writer_goes(&mut package).expect(&rt, "no error");
+    assert!(rt; found);
+    let found = is_hippo(rt.alloc(), &package).expect(&rt, "no error");
+    assert!(rt; found);
+    let package = opened(rt.alloc(), written(package).expect(&rt, "no error")).expect(
+        &rt, "no error",
+    );
+    let found = is_hippo(rt.alloc(), &package).expect(&rt, "no error");
+    assert!(rt; found);
 }
 
 /// 100,000 bytes, which are repeated after 251 of them.
@@ -114,7 +118,7 @@ fn in_pieces(alloc: Global, stream: &mut StreamReader<'_>, size: usize) -> Resul
 }
 
 /// A seek, the place that it goes to, and how many bytes are asked for in each read from there on.
-const READS: [(SeekFrom, usize, usize); 6] = [
+static READS: [(SeekFrom, usize, usize); 6] = [
     (SeekFrom::Start(0), 0, 1),
     (SeekFrom::Start(0), 0, 4095),
     (SeekFrom::Start(1), 1, 100_000),
@@ -136,22 +140,25 @@ fn reads_gone(alloc: Global, mut stream: StreamReader<'_>, bytes: &[u8]) -> Resu
 }
 
 #[test]
-fn long_streams_are_read_in_pieces(rt: HostRuntime) -> Result<(), Fail> {
-    let bytes = many_bytes(rt.alloc())?;
-    let mut package = created(rt.alloc())?;
-    fill(&mut package, "App.exe", bytes.as_slice())?;
+fn long_streams_are_read_in_pieces(rt: HostRuntime) {
+    let bytes = many_bytes(rt.alloc()).expect(&rt, "no error");
+    let mut package = created(rt.alloc()).expect(&rt, "no error");
+    fill(&mut package, "App.exe", bytes.as_slice()).expect(&rt, "no error");
     let count = reads_gone(
         rt.alloc(),
-        package.read_stream("App.exe")?,
+        package.read_stream("App.exe").expect(&rt, "no error"),
         bytes.as_slice(),
-    )?;
+    )
+    .expect(&rt, "no error");
     assert_eq!(rt; count, READS.len());
-    let package = opened(rt.alloc(), written(package)?)?;
+    let package = opened(rt.alloc(), written(package).expect(&rt, "no error")).expect(
+        &rt, "no error",
+    );
     let count = reads_gone(
         rt.alloc(),
-        package.read_stream("App.exe")?,
+        package.read_stream("App.exe").expect(&rt, "no error"),
         bytes.as_slice(),
-    )?;
+    )
+    .expect(&rt, "no error");
     assert_eq!(rt; count, READS.len());
-    Ok(())
 }

@@ -8,7 +8,7 @@ use crate::steps::{gone, strays};
 use msi::{Error, ErrorKind, Package};
 use msi_container_tests::counting::Counting;
 use std::alloc::Global;
-use std::test::Fail;
+use std::process::Abort;
 
 /// The bytes of a new package, in whose directory a storage stands to the right of the last stream. Its entry is the
 /// eighth of 128 bytes behind the header of 512: its name is `S`, its name's length is 4 bytes, and its type is 1.
@@ -22,7 +22,7 @@ fn with_storage(alloc: Global) -> Result<Vec<u8>, Error> {
 
 /// What a package with a storage answers and refuses. Without storages each change would be made, but for the insert,
 /// which would be `NotFound`.
-const WITH_STORAGE: [Step; 10] = [
+static WITH_STORAGE: [Step; 10] = [
     Asked(HasTable("_Validation", true)),
     Asked(Selects("_Tables", Ok(1))),
     Asked(Selects("_Validation", Ok(10))),
@@ -45,12 +45,11 @@ fn gone_and_calls(alloc: Global, bytes: Vec<u8>, steps: &[Step]) -> Result<(usiz
 }
 
 #[test]
-fn a_package_with_storages_is_read_and_never_changed(rt: HostRuntime) -> Result<(), Fail> {
-    let bytes = with_storage(rt.alloc())?;
-    let found = gone_and_calls(rt.alloc(), bytes, &WITH_STORAGE)?;
+fn a_package_with_storages_is_read_and_never_changed(rt: HostRuntime) {
+    let bytes = with_storage(rt.alloc()).expect(&rt, "no error");
+    let found = gone_and_calls(rt.alloc(), bytes, &WITH_STORAGE).expect(&rt, "no error");
     // To open it the device is rewound, read, and read at its end.
     assert_eq!(rt; found, (WITH_STORAGE.len(), 3));
-    Ok(())
 }
 
 /// The container's name of the signature.
@@ -60,7 +59,7 @@ const SIGNATURE: &str = "\u{5}DigitalSignature";
 const SIGNATURE_EX: &str = "\u{5}MsiDigitalSignatureEx";
 
 /// The names of streams in the container beside the six of a new package, whether they are a signature, and how many.
-const SIGNED: [(&[&str], bool, usize); 4] = [
+static SIGNED: [(&[&str], bool, usize); 4] = [
     (&[], false, 0),
     (&[SIGNATURE], true, 1),
     (&[SIGNATURE, SIGNATURE_EX], true, 2),
@@ -101,12 +100,11 @@ fn before_and_after(
 }
 
 #[test]
-fn a_signature_is_told_and_taken_out(rt: HostRuntime) -> Result<(), Fail> {
+fn a_signature_is_told_and_taken_out(rt: HostRuntime) {
     for (names, is_signed, count) in &SIGNED {
-        let found = before_and_after(rt.alloc(), *names, *is_signed)?;
+        let found = before_and_after(rt.alloc(), *names, *is_signed).expect(&rt, "no error");
         assert_eq!(rt; found, [(6 + *count, *count), (6, 0)], "{names:?}");
     }
-    Ok(())
 }
 
 /// The container's name of the stream of `_StringPool`.
@@ -117,7 +115,7 @@ const VALIDATION: &str = "\u{4840}\u{3FFF}\u{43E4}\u{41EC}\u{45E4}\u{44AC}\u{483
 
 /// A byte that is put into a stream of a new package's container, and why an insert into a table that isn't there is
 /// refused then.
-const SPOILT: [(&str, usize, u8, ErrorKind); 5] = [
+static SPOILT: [(&str, usize, u8, ErrorKind); 5] = [
     // The count of the pool's first text, `_Validation`, which 21 cells name: it may be above that, and not below.
     (STRING_POOL, 6, 21, ErrorKind::NotFound),
     (STRING_POOL, 6, 22, ErrorKind::NotFound),
@@ -159,11 +157,10 @@ fn unsound_strays(
 }
 
 #[test]
-fn an_unsound_package_still_takes_calls_on_streams(rt: HostRuntime) -> Result<(), Fail> {
+fn an_unsound_package_still_takes_calls_on_streams(rt: HostRuntime) {
     for (name, at, byte, kind) in &SPOILT {
-        let bytes = with_byte(rt.alloc(), *name, *at, *byte)?;
-        let found = unsound_strays(rt.alloc(), bytes, *kind)?;
+        let bytes = with_byte(rt.alloc(), *name, *at, *byte).expect(&rt, "no error");
+        let found = unsound_strays(rt.alloc(), bytes, *kind).expect(&rt, "no error");
         assert_eq!(rt; found, None, "{byte} at {at}");
     }
-    Ok(())
 }

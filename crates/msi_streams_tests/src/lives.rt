@@ -7,10 +7,10 @@ use crate::steps::Step::{self, Asked, Made, Refused};
 use crate::steps::{gone, strays};
 use msi::{Error, ErrorKind, Memory, Package};
 use std::alloc::Global;
-use std::test::Fail;
+use std::process::Abort;
 
 /// A stream is made, written anew, emptied and taken out.
-const CALLS: [&[Step]; 4] = [
+static CALLS: [&[Step]; 4] = [
     &[
         Asked(Has("App.exe", false)),
         Asked(Reads("App.exe", Err(ErrorKind::NotFound))),
@@ -51,15 +51,14 @@ const CALLS: [&[Step]; 4] = [
 ];
 
 #[test]
-fn each_call_of_streams_succeeds(rt: HostRuntime) -> Result<(), Fail> {
-    let package = created(rt.alloc())?;
-    let found = strays(rt.alloc(), package, &CALLS)?;
+fn each_call_of_streams_succeeds(rt: HostRuntime) {
+    let package = created(rt.alloc()).expect(&rt, "no error");
+    let found = strays(rt.alloc(), package, &CALLS).expect(&rt, "no error");
     assert_eq!(rt; found, None);
-    Ok(())
 }
 
 /// Streams are written in an order that isn't the container's, in which names of fewer units come first.
-const LISTED: [&[Step]; 3] = [
+static LISTED: [&[Step]; 3] = [
     &[
         Made(Write("App.exe", b"1")),
         Made(Write("a", b"2")),
@@ -85,11 +84,10 @@ const LISTED: [&[Step]; 3] = [
 ];
 
 #[test]
-fn streams_are_listed_in_the_containers_order(rt: HostRuntime) -> Result<(), Fail> {
-    let package = created(rt.alloc())?;
-    let found = strays(rt.alloc(), package, &LISTED)?;
+fn streams_are_listed_in_the_containers_order(rt: HostRuntime) {
+    let package = created(rt.alloc()).expect(&rt, "no error");
+    let found = strays(rt.alloc(), package, &LISTED).expect(&rt, "no error");
     assert_eq!(rt; found, None);
-    Ok(())
 }
 
 /// 62 letters take 31 units, the most that a name may have.
@@ -158,15 +156,14 @@ fn is_name(
 }
 
 #[test]
-fn names_that_no_stream_may_have_are_refused(rt: HostRuntime) -> Result<(), Fail> {
-    let mut package = created(rt.alloc())?;
+fn names_that_no_stream_may_have_are_refused(rt: HostRuntime) {
+    let mut package = created(rt.alloc()).expect(&rt, "no error");
     for name in &NO_NAMES {
-        let is_refused = is_no_name(rt.alloc(), &mut package, *name)?;
+        let is_refused = is_no_name(rt.alloc(), &mut package, *name).expect(&rt, "no error");
         assert!(rt; is_refused, "{name:?}");
     }
     for name in &ACCEPTED {
-        let is_accepted = is_name(rt.alloc(), &mut package, *name)?;
+        let is_accepted = is_name(rt.alloc(), &mut package, *name).expect(&rt, "no error");
         assert!(rt; is_accepted, "{name:?}");
     }
-    Ok(())
 }

@@ -14,6 +14,7 @@ use msi::PackageType;
 use msi_replay::{NumberProperty, SummaryQuestion, TextProperty, TimeProperty};
 use msi_text::{CodePage, ErrorKind};
 use std::io::SeekFrom;
+use std::process::Abort;
 use std::test::Fail;
 
 /// `Hello` is written, and a piece over it.
@@ -36,7 +37,7 @@ const PIECES: &[ReaderSent] = &[
 ];
 
 /// Streams are written, read and taken out.
-const STREAMS: [Step; 16] = [
+static STREAMS: [Step; 16] = [
     (
         Sent::Write("a", HIPPO),
         Stream(&[
@@ -79,17 +80,18 @@ const STREAMS: [Step; 16] = [
 ];
 
 #[test]
-fn streams_are_written_read_and_taken_out(rt: HostRuntime) -> Result<(), Fail> {
-    let (count, _bytes) = replayed(rt.alloc(), PackageType::Installer, &STREAMS)?;
+fn streams_are_written_read_and_taken_out(rt: HostRuntime) {
+    let (count, _bytes) = replayed(rt.alloc(), PackageType::Installer, &STREAMS).expect(
+        &rt, "no error",
+    );
     assert_eq!(rt; count, STREAMS.len());
-    Ok(())
 }
 
 /// What a summary is asked for.
 const TITLE: SummaryQuestion = SummaryQuestion::Text(TextProperty::Title);
 
 /// The title is set and cleared, and then nothing is told but the page.
-const SUMMARY: [Step; 4] = [
+static SUMMARY: [Step; 4] = [
     (
         Sent::Change(&[
             SummarySent::Ask(TITLE),
@@ -135,14 +137,15 @@ const SUMMARY: [Step; 4] = [
 ];
 
 #[test]
-fn a_title_is_set_and_cleared(rt: HostRuntime) -> Result<(), Fail> {
-    let (count, _bytes) = replayed(rt.alloc(), PackageType::Installer, &SUMMARY)?;
+fn a_title_is_set_and_cleared(rt: HostRuntime) {
+    let (count, _bytes) = replayed(rt.alloc(), PackageType::Installer, &SUMMARY).expect(
+        &rt, "no error",
+    );
     assert_eq!(rt; count, SUMMARY.len());
-    Ok(())
 }
 
 /// What a new package answers, whatever it is for.
-const NEW: [Step; 11] = [
+static NEW: [Step; 11] = [
     (
         Sent::Look(Look::DatabaseCodepage),
         Told::Page(CodePage::Utf8),
@@ -166,7 +169,7 @@ const NEW: [Step; 11] = [
 ];
 
 /// What packages are for, and the titles that they begin with.
-const KINDS: [[Step; 2]; 3] = [
+static KINDS: [[Step; 2]; 3] = [
     [
         (
             Sent::Look(Look::PackageType),
@@ -197,17 +200,16 @@ const KINDS: [[Step; 2]; 3] = [
 ];
 
 #[test]
-fn each_kind_of_package_is_asked(rt: HostRuntime) -> Result<(), Fail> {
+fn each_kind_of_package_is_asked(rt: HostRuntime) {
     let kinds = [
         PackageType::Installer,
         PackageType::Patch,
         PackageType::Transform,
     ];
     for (kind, steps) in kinds.iter().zip(&KINDS) {
-        let (count, _bytes) = replayed(rt.alloc(), *kind, steps)?;
+        let (count, _bytes) = replayed(rt.alloc(), *kind, steps).expect(&rt, "no error");
         assert_eq!(rt; count, 2, "{kind:?}");
-        let (count, _bytes) = replayed(rt.alloc(), *kind, &NEW)?;
+        let (count, _bytes) = replayed(rt.alloc(), *kind, &NEW).expect(&rt, "no error");
         assert_eq!(rt; count, NEW.len(), "{kind:?}");
     }
-    Ok(())
 }

@@ -4,7 +4,7 @@ use crate::samples::{Given, new_set, told, value};
 use msi_summary::{PropertySet, PropertyValue};
 use msi_text::{CodePage, Error, ErrorKind};
 use std::alloc::{AllocError, Global};
-use std::test::Fail;
+use std::process::Abort;
 
 /// The header of a stream of version 0 whose section stands at byte 48.
 const VERSION_0: [u8; 48] = [
@@ -206,12 +206,12 @@ static STREAMS: [Worked; 8] = [
 ];
 
 #[test]
-fn sets_are_read_made_and_written_in_order(rt: HostRuntime) -> Result<(), Fail> {
+fn sets_are_read_made_and_written_in_order(rt: HostRuntime) {
     for (row, worked) in STREAMS.iter().enumerate() {
-        let read = is_read(rt.alloc(), worked)?;
-        assert!(rt; read && is_made(rt.alloc(), worked)?, "row {row}");
+        let read = is_read(rt.alloc(), worked).expect(&rt, "no error");
+        let found = read && is_made(rt.alloc(), worked).expect(&rt, "no error");
+        assert!(rt; found, "row {row}");
     }
-    Ok(())
 }
 
 /// The same bytes, but for four of them from a place on, which are `FF`.
@@ -241,11 +241,11 @@ static MALFORMED: [(&[u8], usize, &str); 4] = [
 ];
 
 #[test]
-fn what_spells_no_set_is_refused(rt: HostRuntime) -> Result<(), Fail> {
+fn what_spells_no_set_is_refused(rt: HostRuntime) {
     for (section, place, what) in &MALFORMED {
-        assert!(rt; is_refused(rt.alloc(), *section, *place)?, "{what}");
+        let found = is_refused(rt.alloc(), *section, *place).expect(&rt, "no error");
+        assert!(rt; found, "{what}");
     }
-    Ok(())
 }
 
 /// A section of one text of `x`, which so many ids share, the first of them 2.
@@ -290,12 +290,11 @@ static SHARING: [(u32, u32, Option<ErrorKind>); 4] = [
 ];
 
 #[test]
-fn ids_share_a_long_text_in_bounds(rt: HostRuntime) -> Result<(), Fail> {
+fn ids_share_a_long_text_in_bounds(rt: HostRuntime) {
     for (ids, letters, wanted) in &SHARING {
-        let found = sharing_refused(rt.alloc(), *ids, *letters)?;
+        let found = sharing_refused(rt.alloc(), *ids, *letters).expect(&rt, "no error");
         assert!(rt; found == *wanted, "{ids} ids");
     }
-    Ok(())
 }
 
 /// Whether a text that the page lacks is refused, and nothing is written.
@@ -315,10 +314,10 @@ fn short_writer_is_told(alloc: Global) -> bool {
 }
 
 #[test]
-fn a_lacking_page_and_a_short_writer_are_told(rt: HostRuntime) -> Result<(), Fail> {
-    assert!(rt; lacking_page_is_told(rt.alloc())?);
+fn a_lacking_page_and_a_short_writer_are_told(rt: HostRuntime) {
+    let found = lacking_page_is_told(rt.alloc()).expect(&rt, "no error");
+    assert!(rt; found);
     assert!(rt; short_writer_is_told(rt.alloc()));
-    Ok(())
 }
 
 /// Whether a set with a text that Windows-1252 lacks can be written in a page.
@@ -328,10 +327,11 @@ fn is_writable(alloc: Global, page: CodePage) -> Result<bool, Error> {
 }
 
 #[test]
-fn utf8_writes_what_a_page_lacks(rt: HostRuntime) -> Result<(), Fail> {
-    assert!(rt; !is_writable(rt.alloc(), CodePage::Windows1252)?);
-    assert!(rt; is_writable(rt.alloc(), CodePage::Utf8)?);
-    Ok(())
+fn utf8_writes_what_a_page_lacks(rt: HostRuntime) {
+    let found = !is_writable(rt.alloc(), CodePage::Windows1252).expect(&rt, "no error");
+    assert!(rt; found);
+    let found = is_writable(rt.alloc(), CodePage::Utf8).expect(&rt, "no error");
+    assert!(rt; found);
 }
 
 /// What is done to property 1.
@@ -422,11 +422,11 @@ static STEPS: [Taken; 9] = [
 ];
 
 #[test]
-fn property_1_is_a_known_page(rt: HostRuntime) -> Result<(), Fail> {
+fn property_1_is_a_known_page(rt: HostRuntime) {
     let alloc = rt.alloc();
     let mut set = new_set(alloc);
     for (row, taken) in STEPS.iter().enumerate() {
-        assert!(rt; goes(alloc, &mut set, taken)?, "row {row}");
+        let found = goes(alloc, &mut set, taken).expect(&rt, "no error");
+        assert!(rt; found, "row {row}");
     }
-    Ok(())
 }

@@ -5,7 +5,7 @@ use msi_summary::parts::{new_summary, summary_bytes, summary_of};
 use msi_summary::{OperatingSystem, PropertySet, PropertyValue, SummaryInfo};
 use msi_text::{CodePage, Error, ErrorKind, LanguageId, Timestamp};
 use std::alloc::Global;
-use std::test::Fail;
+use std::process::Abort;
 use uuid::Uuid;
 
 /// The summary of a new package.
@@ -74,11 +74,13 @@ fn stream_is_read(alloc: Global) -> Result<bool, Error> {
 }
 
 #[test]
-fn a_new_summary_has_112_bytes(rt: HostRuntime) -> Result<(), Fail> {
-    assert!(rt; new_has_stream(rt.alloc())?);
-    assert!(rt; set_writes_stream(rt.alloc())?);
-    assert!(rt; stream_is_read(rt.alloc())?);
-    Ok(())
+fn a_new_summary_has_112_bytes(rt: HostRuntime) {
+    let found = new_has_stream(rt.alloc()).expect(&rt, "no error");
+    assert!(rt; found);
+    let found = set_writes_stream(rt.alloc()).expect(&rt, "no error");
+    assert!(rt; found);
+    let found = stream_is_read(rt.alloc()).expect(&rt, "no error");
+    assert!(rt; found);
 }
 
 /// Whether a set of another format is refused as a summary.
@@ -101,11 +103,12 @@ fn short_number_is_no_count(alloc: Global) -> Result<bool, Error> {
 }
 
 #[test]
-fn another_type_is_no_text_and_another_format_no_summary(rt: HostRuntime) -> Result<(), Fail> {
-    assert!(rt; number_is_no_title(rt.alloc())?);
-    assert!(rt; short_number_is_no_count(rt.alloc())?);
+fn another_type_is_no_text_and_another_format_no_summary(rt: HostRuntime) {
+    let found = number_is_no_title(rt.alloc()).expect(&rt, "no error");
+    assert!(rt; found);
+    let found = short_number_is_no_count(rt.alloc()).expect(&rt, "no error");
+    assert!(rt; found);
     assert!(rt; other_format_is_refused(rt.alloc()));
-    Ok(())
 }
 
 /// What is done to the template.
@@ -187,14 +190,15 @@ fn template_has(alloc: Global, template: &'static str, ids: &[u16]) -> Result<bo
 }
 
 #[test]
-fn architecture_and_languages_share_the_template(rt: HostRuntime) -> Result<(), Fail> {
-    let mut summary = summary(rt.alloc())?;
+fn architecture_and_languages_share_the_template(rt: HostRuntime) {
+    let mut summary = summary(rt.alloc()).expect(&rt, "no error");
     for (row, taken) in STEPS.iter().enumerate() {
-        assert!(rt; goes(rt.alloc(), &mut summary, taken)?, "row {row}");
+        let found = goes(rt.alloc(), &mut summary, taken).expect(&rt, "no error");
+        assert!(rt; found, "row {row}");
     }
     // What is no number is no language.
-    assert!(rt; template_has(rt.alloc(), "x64;+9,abc,,1033", &[9, 1033])?);
-    Ok(())
+    let found = template_has(rt.alloc(), "x64;+9,abc,,1033", &[9, 1033]).expect(&rt, "no error");
+    assert!(rt; found);
 }
 
 /// How keywords are told to a summary.
@@ -267,11 +271,11 @@ static KEYWORDS: [(Told, &str, &[&str]); 8] = [
 ];
 
 #[test]
-fn keywords_are_parted_by_semicolon_and_space(rt: HostRuntime) -> Result<(), Fail> {
+fn keywords_are_parted_by_semicolon_and_space(rt: HostRuntime) {
     for (row, (told, text, words)) in KEYWORDS.iter().enumerate() {
-        assert!(rt; keeps(rt.alloc(), *told, *text, *words)?, "row {row}");
+        let found = keeps(rt.alloc(), *told, *text, *words).expect(&rt, "no error");
+        assert!(rt; found, "row {row}");
     }
-    Ok(())
 }
 
 /// Sets each text that is nothing else.
@@ -411,11 +415,13 @@ fn moments_come_and_go(alloc: Global) -> Result<bool, Error> {
 }
 
 #[test]
-fn texts_numbers_and_moments_are_set_and_removed(rt: HostRuntime) -> Result<(), Fail> {
-    assert!(rt; texts_come_and_go(rt.alloc())?);
-    assert!(rt; numbers_come_and_go(rt.alloc())?);
-    assert!(rt; moments_come_and_go(rt.alloc())?);
-    Ok(())
+fn texts_numbers_and_moments_are_set_and_removed(rt: HostRuntime) {
+    let found = texts_come_and_go(rt.alloc()).expect(&rt, "no error");
+    assert!(rt; found);
+    let found = numbers_come_and_go(rt.alloc()).expect(&rt, "no error");
+    assert!(rt; found);
+    let found = moments_come_and_go(rt.alloc()).expect(&rt, "no error");
+    assert!(rt; found);
 }
 
 /// The UUID of an installer's package, without braces and in small letters.
@@ -439,9 +445,10 @@ fn page_is_set(alloc: Global) -> Result<bool, Error> {
 }
 
 #[test]
-fn the_uuid_is_set_and_removed_and_the_page_is_set(rt: HostRuntime) -> Result<(), Fail> {
-    let uuid = Uuid::parse_str(PACKAGE)?;
-    assert!(rt; uuid_is_kept(rt.alloc(), uuid)?);
-    assert!(rt; page_is_set(rt.alloc())?);
-    Ok(())
+fn the_uuid_is_set_and_removed_and_the_page_is_set(rt: HostRuntime) {
+    let uuid = Uuid::parse_str(PACKAGE).expect(&rt, "no error");
+    let found = uuid_is_kept(rt.alloc(), uuid).expect(&rt, "no error");
+    assert!(rt; found);
+    let found = page_is_set(rt.alloc()).expect(&rt, "no error");
+    assert!(rt; found);
 }

@@ -6,7 +6,6 @@ use msi_table::{Column, ColumnType, Table};
 use msi_text::{Category, Error, ErrorKind, Items, Text};
 use std::alloc::{AllocError, Global};
 use std::process::Abort;
-use std::test::Fail;
 
 /// Whether a column is localizable, nullable, and a part of the key.
 type Flags = [bool; 3];
@@ -77,13 +76,13 @@ static BITS: [(ColumnType, Flags, u16); 5] = [
 ];
 
 #[test]
-fn types_and_flags_have_bits(rt: HostRuntime) -> Result<(), Fail> {
+fn types_and_flags_have_bits(rt: HostRuntime) {
     for (coltype, flags, bits) in &BITS {
-        let has = has_bits(rt.alloc(), *coltype, *flags, *bits)?;
+        let has = has_bits(rt.alloc(), *coltype, *flags, *bits).expect(&rt, "no error");
         assert!(rt; has, "{bits:x}");
     }
-    assert!(rt; three_bytes_are_refused(rt.alloc())?);
-    Ok(())
+    let found = three_bytes_are_refused(rt.alloc()).expect(&rt, "no error");
+    assert!(rt; found);
 }
 
 /// Whether a type prints as a text.
@@ -100,11 +99,11 @@ static NAMES: [(ColumnType, &str); 4] = [
 ];
 
 #[test]
-fn types_print_as_in_sql(rt: HostRuntime) -> Result<(), Fail> {
+fn types_print_as_in_sql(rt: HostRuntime) {
     for (coltype, text) in &NAMES {
-        assert!(rt; prints(rt.alloc(), *coltype, *text)?, "{text}");
+        let found = prints(rt.alloc(), *coltype, *text).expect(&rt, "no error");
+        assert!(rt; found, "{text}");
     }
-    Ok(())
 }
 
 /// A column with each of what a builder is told.
@@ -133,10 +132,10 @@ fn both_are_told(alloc: Global, column: &Column) -> Result<bool, Error> {
 }
 
 #[test]
-fn columns_and_their_copies_are_as_they_were_told(rt: HostRuntime) -> Result<(), Fail> {
-    let column = told(rt.alloc())?;
-    assert!(rt; both_are_told(rt.alloc(), &column)?);
-    Ok(())
+fn columns_and_their_copies_are_as_they_were_told(rt: HostRuntime) {
+    let column = told(rt.alloc()).expect(&rt, "no error");
+    let found = both_are_told(rt.alloc(), &column).expect(&rt, "no error");
+    assert!(rt; found);
 }
 
 /// A table of a key and of another column.
@@ -173,8 +172,8 @@ fn both_are_keyed(alloc: Global, table: &Table) -> Result<bool, Error> {
 }
 
 #[test]
-fn tables_and_their_copies_tell_their_columns_and_keys(rt: HostRuntime) -> Result<(), Fail> {
-    let table = keyed(&rt, rt.alloc())?;
-    assert!(rt; both_are_keyed(rt.alloc(), &table)?);
-    Ok(())
+fn tables_and_their_copies_tell_their_columns_and_keys(rt: HostRuntime) {
+    let table = keyed(&rt, rt.alloc()).expect(&rt, "no error");
+    let found = both_are_keyed(rt.alloc(), &table).expect(&rt, "no error");
+    assert!(rt; found);
 }

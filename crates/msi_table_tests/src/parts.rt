@@ -8,6 +8,7 @@ use msi_table::parts::{
 use msi_table::{Column, Row, Value, ValueRef};
 use msi_text::{CodePage, Error, Items, StringPool, Text};
 use std::alloc::Global;
+use std::process::Abort;
 use std::rc::Rc;
 use std::test::Fail;
 
@@ -86,13 +87,16 @@ fn values_are_named(alloc: Global) -> Result<bool, Error> {
 }
 
 #[test]
-fn columns_and_texts_are_copied_and_names_found(rt: HostRuntime) -> Result<(), Fail> {
+fn columns_and_texts_are_copied_and_names_found(rt: HostRuntime) {
     let alloc = rt.alloc();
-    assert!(rt; columns_are_found_and_copied(alloc)?);
-    assert!(rt; column_is_renamed_and_nullable(alloc)?);
-    assert!(rt; values_are_named(alloc)?);
-    assert!(rt; texts_are_copied(alloc)?);
-    Ok(())
+    let found = columns_are_found_and_copied(alloc).expect(&rt, "no error");
+    assert!(rt; found);
+    let found = column_is_renamed_and_nullable(alloc).expect(&rt, "no error");
+    assert!(rt; found);
+    let found = values_are_named(alloc).expect(&rt, "no error");
+    assert!(rt; found);
+    let found = texts_are_copied(alloc).expect(&rt, "no error");
+    assert!(rt; found);
 }
 
 /// The row of a number, and of a text or another value.
@@ -176,7 +180,7 @@ fn are_stored(values: &[Value]) -> bool {
 }
 
 #[test]
-fn cells_stand_for_their_values_in_order(rt: HostRuntime) -> Result<(), Fail> {
-    assert!(rt; are_stored(stored(rt.alloc())?.as_slice()));
-    Ok(())
+fn cells_stand_for_their_values_in_order(rt: HostRuntime) {
+    let found = are_stored(stored(rt.alloc()).expect(&rt, "no error").as_slice());
+    assert!(rt; found);
 }

@@ -8,7 +8,7 @@ use crate::samples::value;
 use msi_table::{Column, Row, Rows, ValueRef, parts};
 use msi_text::{CodePage, Error, ErrorKind, Items, StringPool};
 use std::alloc::Global;
-use std::test::Fail;
+use std::process::Abort;
 
 /// Whether a cell stands for a value.
 fn stands_for(
@@ -68,11 +68,11 @@ fn is_kept(alloc: Global, row: &Cell) -> Result<bool, Error> {
 }
 
 #[test]
-fn texts_stand_in_the_pool_until_they_are_given_back(rt: HostRuntime) -> Result<(), Fail> {
+fn texts_stand_in_the_pool_until_they_are_given_back(rt: HostRuntime) {
     for row in &CELLS {
-        assert!(rt; is_kept(rt.alloc(), row)?, "{}", row.3);
+        let found = is_kept(rt.alloc(), row).expect(&rt, "no error");
+        assert!(rt; found, "{}", row.3);
     }
-    Ok(())
 }
 
 /// Two rows of a number and a word, of which the second has none.
@@ -137,8 +137,8 @@ fn both_are_given(alloc: Global, pool: &mut StringPool) -> Result<bool, Error> {
 }
 
 #[test]
-fn each_row_is_given_once(rt: HostRuntime) -> Result<(), Fail> {
+fn each_row_is_given_once(rt: HostRuntime) {
     let mut pool = StringPool::new(rt.alloc(), CodePage::Utf8);
-    assert!(rt; both_are_given(rt.alloc(), &mut pool)?);
-    Ok(())
+    let found = both_are_given(rt.alloc(), &mut pool).expect(&rt, "no error");
+    assert!(rt; found);
 }

@@ -7,7 +7,6 @@ use msi_table::{Column, ColumnType, Table, ValueRef};
 use msi_text::{Error, ErrorKind, Items, Text};
 use std::alloc::{AllocError, Global};
 use std::process::Abort;
-use std::test::Fail;
 
 /// Columns of these types.
 fn columns(alloc: Global, types: &[ColumnType]) -> Result<Vec<Column>, Error> {
@@ -153,11 +152,11 @@ fn is_kept(rt: &impl Abort, alloc: Global, stream: &Stream) -> Result<bool, Erro
 }
 
 #[test]
-fn cells_are_stored_column_by_column_and_rows_in_order(rt: HostRuntime) -> Result<(), Fail> {
+fn cells_are_stored_column_by_column_and_rows_in_order(rt: HostRuntime) {
     for stream in &STREAMS {
-        assert!(rt; is_kept(&rt, rt.alloc(), stream)?, "{:?}", stream.3);
+        let found = is_kept(&rt, rt.alloc(), stream).expect(&rt, "no error");
+        assert!(rt; found, "{:?}", stream.3);
     }
-    Ok(())
 }
 
 /// How many rows of a table so many bytes hold, or why they are refused.

@@ -6,7 +6,7 @@ use crate::samples::{of_type, value};
 use msi_table::{Column, ColumnType};
 use msi_text::{Category, Error};
 use std::alloc::Global;
-use std::test::Fail;
+use std::process::Abort;
 
 /// The rules of a column.
 #[derive(Clone, Copy)]
@@ -105,12 +105,11 @@ static NUMBERS: [(Rules, i32, bool); 15] = [
 ];
 
 #[test]
-fn numbers_are_of_the_width_and_in_the_range(rt: HostRuntime) -> Result<(), Fail> {
+fn numbers_are_of_the_width_and_in_the_range(rt: HostRuntime) {
     for (rules, number, valid) in &NUMBERS {
-        let taken = takes(rt.alloc(), *rules, Int(*number))?;
+        let taken = takes(rt.alloc(), *rules, Int(*number)).expect(&rt, "no error");
         assert!(rt; taken == *valid, "{number}");
     }
-    Ok(())
 }
 
 /// The same rules, and null.
@@ -135,15 +134,14 @@ static NULL_AND_STREAMS: [(Rules, bool, bool); 6] = [
 ];
 
 #[test]
-fn null_and_streams_go_by_the_kind_of_column(rt: HostRuntime) -> Result<(), Fail> {
+fn null_and_streams_go_by_the_kind_of_column(rt: HostRuntime) {
     for (rules, null, stream) in &NULL_AND_STREAMS {
         let taken = [
-            takes(rt.alloc(), *rules, Null)?,
-            takes(rt.alloc(), *rules, Binary)?,
+            takes(rt.alloc(), *rules, Null).expect(&rt, "no error"),
+            takes(rt.alloc(), *rules, Binary).expect(&rt, "no error"),
         ];
         assert!(rt; taken == [*null, *stream], "{}", rules.coltype);
     }
-    Ok(())
 }
 
 /// Texts of at most 3 characters.
@@ -193,10 +191,9 @@ static TEXTS: [(Rules, &str, bool); 17] = [
 ];
 
 #[test]
-fn texts_go_by_length_category_and_list(rt: HostRuntime) -> Result<(), Fail> {
+fn texts_go_by_length_category_and_list(rt: HostRuntime) {
     for (rules, text, valid) in &TEXTS {
-        let taken = takes(rt.alloc(), *rules, Str(*text))?;
+        let taken = takes(rt.alloc(), *rules, Str(*text)).expect(&rt, "no error");
         assert!(rt; taken == *valid, "{text}");
     }
-    Ok(())
 }

@@ -8,7 +8,7 @@ use msi_container_format::name::Name;
 use msi_container_format::parts::number32;
 use msi_container_tests::counting::Counting;
 use std::alloc::Global;
-use std::test::Fail;
+use std::process::Abort;
 
 /// How many calls, and how many writes of these, a new package takes over a device that takes at most so many bytes a
 /// write; and the bytes that it holds then.
@@ -20,16 +20,15 @@ fn written(alloc: Global, most: usize) -> Result<(usize, usize, Vec<u8>), Error>
 }
 
 #[test]
-fn each_sector_of_a_new_package_is_a_write(rt: HostRuntime) -> Result<(), Fail> {
-    let image = new_bytes(rt.alloc())?;
+fn each_sector_of_a_new_package_is_a_write(rt: HostRuntime) {
+    let image = new_bytes(rt.alloc()).expect(&rt, "no error");
     assert_eq!(rt; image.len(), 4096);
     // A flush goes to the end and to the start, writes, and flushes the device.
     for (most, calls, writes) in [(512, 11, 8), (1, 4099, 4096)] {
-        let (found_calls, found_writes, bytes) = written(rt.alloc(), most)?;
+        let (found_calls, found_writes, bytes) = written(rt.alloc(), most).expect(&rt, "no error");
         assert_eq!(rt; (found_calls, found_writes), (calls, writes), "by {most}");
         assert!(rt; bytes.as_slice() == image.as_slice(), "by {most}");
     }
-    Ok(())
 }
 
 /// The end of a chain, a sector of the FAT, and a free sector.
@@ -41,7 +40,7 @@ const FREE: u32 = 0xFFFF_FFFF;
 
 /// Where numbers of 32 bits stand in the file of a new package: those of the header; of the FAT, which stands in
 /// sector 6 and so at 3584; and of the root's entry.
-const NUMBERS: [(usize, u32); 19] = [
+static NUMBERS: [(usize, u32); 19] = [
     (44, 1),
     (48, 0),
     (60, 2),
@@ -67,7 +66,7 @@ const NUMBERS: [(usize, u32); 19] = [
 
 /// Where the streams' entries stand in the directory, the tables that they are of, how many bytes each has, and the
 /// mini sector where it begins. The last is the summary.
-const STREAMS: [(usize, &str, u32, u32); 6] = [
+static STREAMS: [(usize, &str, u32, u32); 6] = [
     (640, "_Columns", 80, 0),
     (768, "_Tables", 2, 2),
     (896, "_StringData", 356, 3),
@@ -122,19 +121,20 @@ fn is_entry(
 }
 
 #[test]
-fn the_streams_of_a_new_package_have_their_places(rt: HostRuntime) -> Result<(), Fail> {
-    let image = new_bytes(rt.alloc())?;
+fn the_streams_of_a_new_package_have_their_places(rt: HostRuntime) {
+    let image = new_bytes(rt.alloc()).expect(&rt, "no error");
     let image = image.as_slice();
     for (at, number) in &NUMBERS {
         assert_eq!(rt; number_at(image, *at), Some(*number), "at {at}");
     }
     for (at, table, size, start) in &STREAMS {
-        let is_there = is_entry(rt.alloc(), image, *at, (*table, *size, *start))?;
+        let is_there = is_entry(rt.alloc(), image, *at, (*table, *size, *start)).expect(
+            &rt, "no error",
+        );
         assert!(rt; is_there, "{table}");
     }
-    let pool = stream_of(rt.alloc(), image, "_StringPool")?;
+    let pool = stream_of(rt.alloc(), image, "_StringPool").expect(&rt, "no error");
     assert!(rt; pool.starts_with(&[0xE9, 0xFD, 0, 0, 0x0B, 0, 0x15, 0]));
-    Ok(())
 }
 
 /// What a package is for, as it is told and as its bytes tell it, and its title.
@@ -157,17 +157,16 @@ fn told_again(alloc: Global, device: Memory) -> Result<(PackageType, String), Er
 }
 
 #[test]
-fn packages_tell_what_they_are_for(rt: HostRuntime) -> Result<(), Fail> {
+fn packages_tell_what_they_are_for(rt: HostRuntime) {
     for (kind, title) in [
         (PackageType::Installer, "Installation Database"),
         (PackageType::Patch, "Patch"),
         (PackageType::Transform, "Transform"),
     ] {
-        let (created, read, found) = told(rt.alloc(), kind)?;
+        let (created, read, found) = told(rt.alloc(), kind).expect(&rt, "no error");
         assert_eq!(rt; (created, read), (kind, kind));
         assert_eq!(rt; found.as_str(), title);
     }
-    Ok(())
 }
 
 /// Whether a package is the new one.
@@ -213,7 +212,7 @@ fn flawed(alloc: Global, flaw: Flaw) -> Result<Vec<u8>, Error> {
 }
 
 /// Flaws, and why the package isn't opened, if it isn't.
-const FLAWS: [(Flaw, Option<ErrorKind>); 10] = [
+static FLAWS: [(Flaw, Option<ErrorKind>); 10] = [
     (Flaw::Cut(4096), None),
     // The last sector that the file's end cuts reads as followed by zeros; the FAT can't be missed.
     (Flaw::Cut(4095), None),

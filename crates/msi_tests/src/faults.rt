@@ -5,7 +5,7 @@ use crate::steps::{FILLING, WORDS, is_refused, new_bytes, numbers};
 use msi::{Error, ErrorKind, Package, PackageType, Select};
 use msi_container_tests::counting::Counting;
 use std::alloc::Global;
-use std::test::Fail;
+use std::process::Abort;
 
 /// How many calls writing a file of 4096 bytes takes: to its end, to its start, eight sectors, and a flush.
 const WRITING: usize = 11;
@@ -24,13 +24,18 @@ fn created(alloc: Global, call: usize) -> Result<Package<Counting>, Error> {
     Package::create(alloc, PackageType::Installer, device)
 }
 
-/// A new package with `Numbers`, not flushed yet, where this call of the next flush fails.
-fn unflushed(alloc: Global, call: usize) -> Result<Package<Counting>, Error> {
-    let mut package = created(alloc, WRITING.saturating_add(call))?;
+/// Adds `Numbers` to a package, and doesn't flush it.
+fn filled(alloc: Global, package: Package<Counting>) -> Result<Package<Counting>, Error> {
+    let mut package = package;
     for change in &FILLING {
         make(alloc, &mut package, change)?;
     }
     Ok(package)
+}
+
+/// A new package with `Numbers`, not flushed yet, where this call of the next flush fails.
+fn unflushed(alloc: Global, call: usize) -> Result<Package<Counting>, Error> {
+    filled(alloc, created(alloc, WRITING.saturating_add(call))?)
 }
 
 /// Whether a package isn't flushed, since its device fails, and gives what it gave.
@@ -79,6 +84,15 @@ fn made_good(alloc: Global, call: usize) -> Result<Vec<u8>, Error> {
     }
 }
 
+/// Whether no flush succeeds over a device whose calls all fail from this one on, and the package stays as it was.
+fn stays_unflushed(alloc: Global, call: usize) -> Result<bool, Error> {
+    let mut device = failing(Vec::new(alloc), WRITING.saturating_add(call));
+    device.lasts = true;
+    let package = Package::create(alloc, PackageType::Installer, device)?;
+    let mut package = filled(alloc, package)?;
+    Ok(is_kept(alloc, &mut package)? && is_kept(alloc, &mut package)?)
+}
+
 /// Whether a package whose device fails as it ends is handed back, and can be flushed then.
 fn is_handed_back(alloc: Global, call: usize) -> Result<bool, Error> {
     match unflushed(alloc, call)?.into_inner() {
@@ -91,22 +105,22 @@ fn is_handed_back(alloc: Global, call: usize) -> Result<bool, Error> {
 }
 
 #[test]
-fn each_failing_call_of_a_flush_leaves_a_beginning(rt: HostRuntime) -> Result<(), Fail> {
-    let image = numbers(rt.alloc())?;
+fn each_failing_call_of_a_flush_leaves_a_beginning(rt: HostRuntime) {
+    let image = numbers(rt.alloc()).expect(&rt, "no error");
     for (i, len) in WRITTEN.iter().enumerate() {
         let call = i + 1;
-        assert!(rt; begins(rt.alloc(), call, *len)?, "call {call}");
-        let written = made_good(rt.alloc(), call)?;
+        let found = begins(rt.alloc(), call, *len).expect(&rt, "no error");
+        assert!(rt; found, "call {call}");
+        let written = made_good(rt.alloc(), call).expect(&rt, "no error");
         assert!(rt;
             written.as_slice() == image.as_slice(),
             "call {call}, then none"
         );
-        assert!(rt;
-            is_handed_back(rt.alloc(), call)?,
-            "call {call} of into_inner"
-        );
+        let found = stays_unflushed(rt.alloc(), call).expect(&rt, "no error");
+        assert!(rt; found, "call {call} and all later ones");
+        let found = is_handed_back(rt.alloc(), call).expect(&rt, "no error");
+        assert!(rt; found, "call {call} of into_inner");
     }
-    Ok(())
 }
 
 /// The kind of the error with which a package couldn't be had.
@@ -132,11 +146,11 @@ fn is_opened(alloc: Global, most: usize) -> Result<bool, Error> {
 }
 
 #[test]
-fn packages_are_opened_by_any_piece(rt: HostRuntime) -> Result<(), Fail> {
+fn packages_are_opened_by_any_piece(rt: HostRuntime) {
     for most in [1, 7, 511, 513] {
-        assert!(rt; is_opened(rt.alloc(), most)?, "{most} bytes a read");
+        let found = is_opened(rt.alloc(), most).expect(&rt, "no error");
+        assert!(rt; found, "{most} bytes a read");
     }
-    Ok(())
 }
 
 #[test]

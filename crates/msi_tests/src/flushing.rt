@@ -7,7 +7,7 @@ use crate::steps::{changed, holds, is_refused, new_bytes, numbers, opened};
 use msi::{CodePage, Error, ErrorKind, Memory, Package, PackageType, Select};
 use msi_container_tests::counting::Counting;
 use std::alloc::Global;
-use std::test::Fail;
+use std::process::Abort;
 
 /// The package of `Numbers`, over a device whose sixth call fails. Three calls read it: a rewind, one that gives all
 /// bytes, and one at the end. A flush goes to the end, then to the start, and then writes.
@@ -54,18 +54,18 @@ fn dropped(alloc: Global) -> Result<Vec<u8>, Error> {
 }
 
 #[test]
-fn a_failed_flush_is_made_good_by_the_next(rt: HostRuntime) -> Result<(), Fail> {
-    let (is_so, device) = failed_once(rt.alloc())?;
+fn a_failed_flush_is_made_good_by_the_next(rt: HostRuntime) {
+    let (is_so, device) = failed_once(rt.alloc()).expect(&rt, "no error");
     assert!(rt; is_so);
     // Three calls read, three were those of the first flush, and 11 those of the second; a third flush makes none.
     assert_eq!(rt; (device.calls, device.writes), (17, 8));
     let bytes = device.memory.into_vec();
-    assert!(rt; bytes.as_slice() == dropped(rt.alloc())?.as_slice());
-    Ok(())
+    let found = bytes.as_slice() == dropped(rt.alloc()).expect(&rt, "no error").as_slice();
+    assert!(rt; found);
 }
 
 /// A cell with a character that the page Windows 1250 doesn't carry, since it carries ASCII alone.
-const UNCARRIED: [Change; 2] = [
+static UNCARRIED: [Change; 2] = [
     Insert("Numbers", &[&[Int(8), Str("\u{E9}")]]),
     Page(CodePage::Windows1250),
 ];
@@ -143,14 +143,14 @@ fn inner_bytes(package: Result<Package<Memory>, Error>) -> Result<Vec<u8>, Error
 }
 
 #[test]
-fn a_text_that_the_page_lacks_is_kept_and_not_written(rt: HostRuntime) -> Result<(), Fail> {
-    let bytes = numbers(rt.alloc())?;
+fn a_text_that_the_page_lacks_is_kept_and_not_written(rt: HostRuntime) {
+    let bytes = numbers(rt.alloc()).expect(&rt, "no error");
     let bytes = bytes.as_slice();
-    let under = refusing(rt.alloc(), accented(rt.alloc(), bytes))?;
+    let under = refusing(rt.alloc(), accented(rt.alloc(), bytes)).expect(&rt, "no error");
     assert!(rt; under.as_slice() == bytes);
-    let carried = carried(rt.alloc(), accented(rt.alloc(), bytes))?;
-    assert!(rt; holds(rt.alloc(), carried.as_slice(), ACCENTS)?);
-    Ok(())
+    let carried = carried(rt.alloc(), accented(rt.alloc(), bytes)).expect(&rt, "no error");
+    let found = holds(rt.alloc(), carried.as_slice(), ACCENTS).expect(&rt, "no error");
+    assert!(rt; found);
 }
 
 /// The bytes of a package that is flushed.
@@ -201,15 +201,14 @@ fn are_written(alloc: Global, more: usize, image: &[u8]) -> Result<bool, Error> 
 }
 
 #[test]
-fn each_way_gives_the_same_bytes(rt: HostRuntime) -> Result<(), Fail> {
+fn each_way_gives_the_same_bytes(rt: HostRuntime) {
     // A file is never cut shorter; whole sectors fill it up.
     for (more, under, len) in [(0, 4096, 4096), (1, 4097, 4608), (5904, 10_000, 10_240)] {
-        let image = image_bytes(lengthened(rt.alloc(), more), under)?;
+        let image = image_bytes(lengthened(rt.alloc(), more), under).expect(&rt, "no error");
         assert!(rt; is_filled_up(image.as_slice(), len), "over {under}");
-        let same = are_written(rt.alloc(), more, image.as_slice())?;
+        let same = are_written(rt.alloc(), more, image.as_slice()).expect(&rt, "no error");
         assert!(rt; same, "over {under}");
     }
-    Ok(())
 }
 
 /// The bytes that a new package is, over those that a device holds.
@@ -220,12 +219,11 @@ fn created_over(alloc: Global, len: usize) -> Result<Vec<u8>, Error> {
 }
 
 #[test]
-fn a_new_package_takes_the_place_of_all_bytes(rt: HostRuntime) -> Result<(), Fail> {
-    let new = new_bytes(rt.alloc())?;
+fn a_new_package_takes_the_place_of_all_bytes(rt: HostRuntime) {
+    let new = new_bytes(rt.alloc()).expect(&rt, "no error");
     for (under, len) in [(1, 4096), (4096, 4096), (5000, 5120)] {
-        let bytes = created_over(rt.alloc(), under)?;
+        let bytes = created_over(rt.alloc(), under).expect(&rt, "no error");
         assert!(rt; is_filled_up(bytes.as_slice(), len), "over {under}");
         assert!(rt; bytes.starts_with(new.as_slice()), "over {under}");
     }
-    Ok(())
 }

@@ -5,10 +5,10 @@ use crate::samples::{Lines, Set, both, condition, gives};
 use crate::steps::{created, numbers, opened};
 use msi::{CodePage, ColumnType, Error, ErrorKind, Memory, Package, Select};
 use std::alloc::Global;
-use std::test::Fail;
+use std::process::Abort;
 
 /// Queries of `Numbers`: the columns that are kept, a column with its value, and the rows.
-const QUERIES: [(&[&str], Set, Lines); 4] = [
+static QUERIES: [(&[&str], Set, Lines); 4] = [
     (&[], ("Number", Int(2)), &[&[Int(2), Str("Two")]]),
     (&["Word"], ("Number", Int(4)), &[&[Str("Four")]]),
     (
@@ -36,7 +36,7 @@ fn answered(alloc: Global, package: &Package<Memory>) -> Result<usize, Error> {
 }
 
 /// Queries that are refused: the table, and the column that is kept.
-const REFUSED: [(&str, &str, ErrorKind); 2] = [
+static REFUSED: [(&str, &str, ErrorKind); 2] = [
     ("Other", "Number", ErrorKind::NotFound),
     ("Numbers", "Letter", ErrorKind::InvalidInput),
 ];
@@ -72,11 +72,10 @@ fn judged(alloc: Global, bytes: &[u8]) -> Result<(usize, usize), Error> {
 }
 
 #[test]
-fn queries_are_answered(rt: HostRuntime) -> Result<(), Fail> {
-    let bytes = numbers(rt.alloc())?;
-    let found = judged(rt.alloc(), bytes.as_slice())?;
+fn queries_are_answered(rt: HostRuntime) {
+    let bytes = numbers(rt.alloc()).expect(&rt, "no error");
+    let found = judged(rt.alloc(), bytes.as_slice()).expect(&rt, "no error");
     assert_eq!(rt; found, (QUERIES.len(), REFUSED.len()));
-    Ok(())
 }
 
 /// Whether the names of a package's tables are these.
@@ -94,7 +93,7 @@ fn has_names(package: &Package<Memory>, names: &[&str]) -> bool {
 }
 
 /// Columns by their tables and names, and their types.
-const TYPES: [(&str, &str, Option<ColumnType>); 6] = [
+static TYPES: [(&str, &str, Option<ColumnType>); 6] = [
     ("Numbers", "Number", Some(ColumnType::Int16)),
     ("Numbers", "Word", Some(ColumnType::Str(50))),
     ("Numbers", "Letter", None),
@@ -142,11 +141,10 @@ fn tables_told(alloc: Global, bytes: &[u8]) -> Result<(bool, usize, bool), Error
 }
 
 #[test]
-fn tables_are_listed_and_found(rt: HostRuntime) -> Result<(), Fail> {
-    let bytes = numbers(rt.alloc())?;
-    let found = tables_told(rt.alloc(), bytes.as_slice())?;
+fn tables_are_listed_and_found(rt: HostRuntime) {
+    let bytes = numbers(rt.alloc()).expect(&rt, "no error");
+    let found = tables_told(rt.alloc(), bytes.as_slice()).expect(&rt, "no error");
     assert_eq!(rt; found, (true, TYPES.len(), false));
-    Ok(())
 }
 
 /// Sets a package's title.
@@ -176,19 +174,18 @@ fn is_titled(alloc: Global, bytes: &[u8], page: CodePage, title: &str) -> Result
 }
 
 #[test]
-fn pages_and_titles_come_back(rt: HostRuntime) -> Result<(), Fail> {
-    let mut bytes = numbers(rt.alloc())?;
+fn pages_and_titles_come_back(rt: HostRuntime) {
+    let mut bytes = numbers(rt.alloc()).expect(&rt, "no error");
     for (page, title) in [
         (CodePage::Utf8, "Installation Database"),
         (CodePage::Windows1252, "Zahlen"),
         (CodePage::Windows932, "\u{6570}"),
         (CodePage::UsAscii, ""),
     ] {
-        bytes = retitled(rt.alloc(), bytes.as_slice(), page, title)?;
-        let is_kept = is_titled(rt.alloc(), bytes.as_slice(), page, title)?;
+        bytes = retitled(rt.alloc(), bytes.as_slice(), page, title).expect(&rt, "no error");
+        let is_kept = is_titled(rt.alloc(), bytes.as_slice(), page, title).expect(&rt, "no error");
         assert!(rt; is_kept, "{title}");
     }
-    Ok(())
 }
 
 /// Sets the page of a package's summary, and its title.
@@ -206,14 +203,13 @@ fn is_writable(alloc: Global, page: CodePage, title: &str) -> Result<bool, Error
 }
 
 #[test]
-fn utf8_writes_what_a_page_lacks(rt: HostRuntime) -> Result<(), Fail> {
+fn utf8_writes_what_a_page_lacks(rt: HostRuntime) {
     for (page, title, expected) in [
         (CodePage::Windows1252, "Zahlen", true),
         (CodePage::Windows1252, "\u{6570}", false),
         (CodePage::Utf8, "\u{6570}", true),
     ] {
-        let same = is_writable(rt.alloc(), page, title)? == expected;
+        let same = is_writable(rt.alloc(), page, title).expect(&rt, "no error") == expected;
         assert!(rt; same, "{page:?}: {title}");
     }
-    Ok(())
 }

@@ -2,7 +2,7 @@
 
 use msi::{Column, Error, Insert, Memory, Package, PackageType, Select, Value};
 use std::alloc::Global;
-use std::test::Fail;
+use std::process::Abort;
 
 /// The file of a package with a table of one row.
 fn numbers(alloc: Global) -> Result<Vec<u8>, Error> {
@@ -17,12 +17,16 @@ fn numbers(alloc: Global) -> Result<Vec<u8>, Error> {
 }
 
 #[test]
-fn the_example_makes_a_package_with_a_row(rt: HostRuntime) -> Result<(), Fail> {
+fn the_example_makes_a_package_with_a_row(rt: HostRuntime) {
     let alloc = rt.alloc();
-    let package = Package::open(alloc, Memory::from_vec(numbers(alloc)?))?;
+    let package = Package::open(
+        alloc,
+        Memory::from_vec(numbers(alloc).expect(&rt, "no error")),
+    )
+    .expect(&rt, "no error");
     let count = package
-        .select_rows(Select::table(alloc, "Numbers")?)?
+        .select_rows(Select::table(alloc, "Numbers").expect(&rt, "no error"))
+        .expect(&rt, "no error")
         .count();
     assert_eq!(rt; count, 1);
-    Ok(())
 }

@@ -3,7 +3,7 @@
 use crate::steps::{created, opened};
 use msi::{Column, Error, ErrorKind, Memory, Package};
 use std::alloc::Global;
-use std::test::Fail;
+use std::process::Abort;
 
 /// A text of as many letters as a column's allowed values, or the table that it refers to, may have.
 fn letters(alloc: Global) -> Result<String, Error> {
@@ -81,17 +81,16 @@ fn refused(alloc: Global, tables: u32) -> Result<Option<ErrorKind>, Error> {
 /// How many tables have 31 columns each that name a text of 255 letters twice, and why the package isn't opened. The
 /// rows of 12 tables name about 193000 bytes of texts, and those of 24 about 385000. What is allowed, four times the
 /// pool's bytes, 64 for each row and 262144, is about 290000 and 315000.
-const SHARING: [(u32, Option<ErrorKind>); 3] = [
+static SHARING: [(u32, Option<ErrorKind>); 3] = [
     (1, None),
     (12, None),
     (24, Some(ErrorKind::OutOfMemory)),
 ];
 
 #[test]
-fn columns_share_a_long_text_in_bounds(rt: HostRuntime) -> Result<(), Fail> {
+fn columns_share_a_long_text_in_bounds(rt: HostRuntime) {
     for (tables, wanted) in &SHARING {
-        let found = refused(rt.alloc(), *tables)?;
+        let found = refused(rt.alloc(), *tables).expect(&rt, "no error");
         assert!(rt; found == *wanted, "{tables} tables");
     }
-    Ok(())
 }

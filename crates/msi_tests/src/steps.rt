@@ -15,7 +15,7 @@ pub(crate) enum Step {
 }
 
 /// The table `Numbers`, and three rows of it.
-pub(crate) const FILLING: [Change; 2] = [
+pub(crate) static FILLING: [Change; 2] = [
     Change::Create("Numbers"),
     Change::Insert(
         "Numbers",

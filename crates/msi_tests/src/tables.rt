@@ -7,7 +7,7 @@ use crate::steps::Step::{self, Made, Refused};
 use crate::steps::{WORDS, all_go, changed, gone, holds, numbers, opened};
 use msi::{Error, ErrorKind, Memory, Package};
 use std::alloc::Global;
-use std::test::Fail;
+use std::process::Abort;
 
 /// Whether the table `Numbers` is there whole in these bytes: its rows, and its stream.
 fn is_whole(alloc: Global, bytes: &[u8]) -> Result<bool, Error> {
@@ -24,20 +24,20 @@ fn pool_without(alloc: Global, bytes: &[u8]) -> Result<Vec<u8>, Error> {
 }
 
 #[test]
-fn rows_come_back_in_order_and_places_fall_free(rt: HostRuntime) -> Result<(), Fail> {
-    let bytes = numbers(rt.alloc())?;
-    assert!(rt; is_whole(rt.alloc(), bytes.as_slice())?);
+fn rows_come_back_in_order_and_places_fall_free(rt: HostRuntime) {
+    let bytes = numbers(rt.alloc()).expect(&rt, "no error");
+    let found = is_whole(rt.alloc(), bytes.as_slice()).expect(&rt, "no error");
+    assert!(rt; found);
     // Places 18 to 23 are free: those of the table's name, its columns' names and its texts.
-    let pool = pool_without(rt.alloc(), bytes.as_slice())?;
+    let pool = pool_without(rt.alloc(), bytes.as_slice()).expect(&rt, "no error");
     assert_eq!(rt; pool.len(), 96);
     assert!(rt; pool.ends_with(&[0; 24]));
     // The count of place 17 has one more zero, above what isn't.
     assert!(rt; !pool.ends_with(&[0; 26]));
-    Ok(())
 }
 
 /// Steps of the package of `Numbers`, and whether they leave it as it was.
-const STEPS: [(&[Step], bool); 4] = [
+static STEPS: [(&[Step], bool); 4] = [
     (
         &[
             // The key of an earlier new row, and a key that is stored.
@@ -120,13 +120,12 @@ fn gone_from(alloc: Global, bytes: &[u8], steps: &[Step]) -> Result<(usize, bool
 }
 
 #[test]
-fn changes_are_made_or_refused_whole(rt: HostRuntime) -> Result<(), Fail> {
-    let bytes = numbers(rt.alloc())?;
+fn changes_are_made_or_refused_whole(rt: HostRuntime) {
+    let bytes = numbers(rt.alloc()).expect(&rt, "no error");
     for (steps, is_kept) in &STEPS {
-        let found = gone_from(rt.alloc(), bytes.as_slice(), *steps)?;
+        let found = gone_from(rt.alloc(), bytes.as_slice(), *steps).expect(&rt, "no error");
         assert_eq!(rt; found, (steps.len(), *is_kept));
     }
-    Ok(())
 }
 
 /// The bytes of the package with `Numbers` and 65535 places.
@@ -136,7 +135,7 @@ fn full(alloc: Global) -> Result<Vec<u8>, Error> {
 }
 
 /// What is refused where the pool is full.
-const REFUSED: [Step; 2] = [
+static REFUSED: [Step; 2] = [
     Refused(
         Insert("Numbers", &[&[Int(5), Str("Five")]]),
         ErrorKind::InvalidInput,
@@ -146,7 +145,7 @@ const REFUSED: [Step; 2] = [
 
 /// What isn't, one behind the other; and the length and the count of place 21 then, and the texts from its own on,
 /// which stand behind the 356 bytes of a new package and the 17 of the table's name and those of its columns.
-const TAKEN: [(&[Step], [u8; 4], &[u8]); 2] = [
+static TAKEN: [(&[Step], [u8; 4], &[u8]); 2] = [
     (
         &[Made(
             Insert("Numbers", &[&[Int(5), Str("Two")]]),
@@ -242,8 +241,7 @@ fn full_gone(alloc: Global) -> Result<usize, Error> {
 }
 
 #[test]
-fn a_full_pool_takes_no_new_text(rt: HostRuntime) -> Result<(), Fail> {
-    let count = full_gone(rt.alloc())?;
+fn a_full_pool_takes_no_new_text(rt: HostRuntime) {
+    let count = full_gone(rt.alloc()).expect(&rt, "no error");
     assert_eq!(rt; count, TAKEN.len());
-    Ok(())
 }

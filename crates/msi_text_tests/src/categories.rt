@@ -3,7 +3,7 @@
 use msi_text::Category;
 
 /// Texts, and whether a category accepts them.
-const TEXTS: [(Category, &str, bool); 47] = [
+static TEXTS: [(Category, &str, bool); 47] = [
     (Category::UpperCase, "A-1 é", true),
     (Category::UpperCase, "Ab", false),
     (Category::LowerCase, "a-1 É", true),
@@ -81,7 +81,7 @@ fn texts_are_accepted_by_the_rule_of_the_category(rt: HostRuntime) {
 }
 
 /// Categories without a rule.
-const FREE: [Category; 16] = [
+static FREE: [Category; 16] = [
     Category::Text,
     Category::TimeDate,
     Category::Filename,

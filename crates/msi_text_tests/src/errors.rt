@@ -3,7 +3,7 @@
 use msi_text::reasons::{MEMORY, PAGE_BYTE};
 use msi_text::{Error, ErrorKind, Reason};
 use std::alloc::{AllocError, Global};
-use std::test::Fail;
+use std::process::Abort;
 
 /// A reason of a crate above.
 const OWN: Reason = Reason("a sector is used twice");
@@ -15,7 +15,7 @@ fn tells(alloc: Global, kind: ErrorKind, reason: Reason, text: &str) -> Result<b
     Ok(error.reason() == reason && printed.as_str() == text)
 }
 
-const ERRORS: [(ErrorKind, Reason, &str); 3] = [
+static ERRORS: [(ErrorKind, Reason, &str); 3] = [
     (
         ErrorKind::InvalidData,
         OWN,
@@ -34,9 +34,9 @@ const ERRORS: [(ErrorKind, Reason, &str); 3] = [
 ];
 
 #[test]
-fn errors_tell_kind_and_rule(rt: HostRuntime) -> Result<(), Fail> {
+fn errors_tell_kind_and_rule(rt: HostRuntime) {
     for (kind, reason, text) in &ERRORS {
-        assert!(rt; tells(rt.alloc(), *kind, *reason, *text)?, "{text}");
+        let found = tells(rt.alloc(), *kind, *reason, *text).expect(&rt, "no error");
+        assert!(rt; found, "{text}");
     }
-    Ok(())
 }

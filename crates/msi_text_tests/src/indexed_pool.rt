@@ -3,7 +3,7 @@
 use msi_text::parts::{pool_builder_of, pool_of, string_ref};
 use msi_text::{CodePage, Error, StringPool, StringRef};
 use std::alloc::Global;
-use std::test::Fail;
+use std::process::Abort;
 
 /// Whether the last call on a pool took 1 to 8 operations.
 fn was_short(pool: &StringPool) -> bool {
@@ -70,7 +70,7 @@ fn clone_is_twice_b(pool: &StringPool) -> Result<bool, Error> {
 }
 
 /// A free place comes before a later one with the text.
-const FREED: [Step; 4] = [
+static FREED: [Step; 4] = [
     Step::Take("a", 1),
     Step::Take("b", 2),
     Step::GiveBack(1),
@@ -83,14 +83,14 @@ fn free_place_is_taken(alloc: Global, pool: &mut StringPool) -> Result<bool, Err
 }
 
 #[test]
-fn a_free_place_before_the_text_is_taken(rt: HostRuntime) -> Result<(), Fail> {
+fn a_free_place_before_the_text_is_taken(rt: HostRuntime) {
     let mut pool = StringPool::new(rt.alloc(), CodePage::Utf8);
-    assert!(rt; free_place_is_taken(rt.alloc(), &mut pool)?);
-    Ok(())
+    let found = free_place_is_taken(rt.alloc(), &mut pool).expect(&rt, "no error");
+    assert!(rt; found);
 }
 
 /// The first place has room for one cell more.
-const FULL: [Step; 5] = [
+static FULL: [Step; 5] = [
     Step::Take("Foobar", 1),
     Step::Take("Foobar", 2),
     Step::GiveBack(1),
@@ -108,10 +108,10 @@ fn nearly_full(alloc: Global) -> Result<StringPool, Error> {
 }
 
 #[test]
-fn a_full_place_is_left_until_it_is_given_back(rt: HostRuntime) -> Result<(), Fail> {
-    let mut pool = nearly_full(rt.alloc())?;
-    assert!(rt; all_go(rt.alloc(), &mut pool, &FULL)?);
-    Ok(())
+fn a_full_place_is_left_until_it_is_given_back(rt: HostRuntime) {
+    let mut pool = nearly_full(rt.alloc()).expect(&rt, "no error");
+    let found = all_go(rt.alloc(), &mut pool, &FULL).expect(&rt, "no error");
+    assert!(rt; found);
 }
 
 /// Whether the text of a letter and a number takes the place of the number.
@@ -169,8 +169,8 @@ fn is_refilled(alloc: Global, pool: &mut StringPool) -> Result<bool, Error> {
 }
 
 #[test]
-fn new_texts_take_the_places_given_back_in_order(rt: HostRuntime) -> Result<(), Fail> {
+fn new_texts_take_the_places_given_back_in_order(rt: HostRuntime) {
     let mut pool = StringPool::new(rt.alloc(), CodePage::Utf8);
-    assert!(rt; is_refilled(rt.alloc(), &mut pool)?);
-    Ok(())
+    let found = is_refilled(rt.alloc(), &mut pool).expect(&rt, "no error");
+    assert!(rt; found);
 }

@@ -3,7 +3,7 @@
 use msi_text::LanguageId;
 use std::alloc::{AllocError, Global};
 use std::fmt;
-use std::test::Fail;
+use std::process::Abort;
 
 /// How a language is told.
 #[derive(Clone, Copy)]
@@ -37,7 +37,7 @@ fn is_language(language: LanguageId, id: u16, tag: &str) -> bool {
 }
 
 /// Languages, their ids and their tags.
-const LANGUAGES: [(Told, u16, &str); 10] = [
+static LANGUAGES: [(Told, u16, &str); 10] = [
     (Told::Parts(0x0C, 3), 3084, "fr-CA"),
     (Told::Parts(9, 64), 9, "en"),
     (Told::Lcid(0x10409), 1033, "en-US"),
@@ -94,10 +94,12 @@ fn is_handed_on(alloc: Global, id: LanguageId, text: &str) -> Result<bool, Alloc
 }
 
 #[test]
-fn languages_printed(rt: HostRuntime) -> Result<(), Fail> {
+fn languages_printed(rt: HostRuntime) {
     let id = LanguageId::from_id(3084);
-    assert!(rt; is_decimal(rt.alloc(), id, "3084|  3084|3084  |003084")?);
-    assert!(rt; is_hexadecimal(rt.alloc(), id, "c0c|C0C|0c0c|0x0C0C|  c0c")?);
-    assert!(rt; is_handed_on(rt.alloc(), id, "  c0c  C0C")?);
-    Ok(())
+    let found = is_decimal(rt.alloc(), id, "3084|  3084|3084  |003084").expect(&rt, "no error");
+    assert!(rt; found);
+    let found = is_hexadecimal(rt.alloc(), id, "c0c|C0C|0c0c|0x0C0C|  c0c").expect(&rt, "no error");
+    assert!(rt; found);
+    let found = is_handed_on(rt.alloc(), id, "  c0c  C0C").expect(&rt, "no error");
+    assert!(rt; found);
 }

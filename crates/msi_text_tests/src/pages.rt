@@ -3,8 +3,8 @@
 use crate::samples::told;
 use msi_text::{CodePage, Error, ErrorKind};
 use std::alloc::{AllocError, Global};
+use std::process::Abort;
 use std::str;
-use std::test::Fail;
 
 /// The characters of Python's `mac_roman` for the bytes from 0x80 on.
 const MAC_ROMAN: &str = "\
@@ -46,31 +46,29 @@ fn spell(alloc: Global, page: CodePage, bytes: &[u8], text: &str) -> Result<bool
 }
 
 /// Pages, and their characters for the bytes from 0x80 on.
-const TABLES: [(CodePage, &str); 3] = [
+static TABLES: [(CodePage, &str); 3] = [
     (CodePage::MacintoshRoman, MAC_ROMAN),
     (CodePage::Windows1252, CP1252),
     (CodePage::Iso88591, CP1252),
 ];
 
 #[test]
-fn bytes_past_ascii_are_pythons(rt: HostRuntime) -> Result<(), Fail> {
-    let bytes = bytes_from(rt.alloc(), 0x80)?;
+fn bytes_past_ascii_are_pythons(rt: HostRuntime) {
+    let bytes = bytes_from(rt.alloc(), 0x80).expect(&rt, "no error");
     for (page, text) in &TABLES {
-        let same = spell(rt.alloc(), *page, bytes.as_slice(), *text)?;
+        let same = spell(rt.alloc(), *page, bytes.as_slice(), *text).expect(&rt, "no error");
         assert!(rt; same, "{page:?}");
     }
-    Ok(())
 }
 
 #[test]
-fn ascii_is_the_same_in_each_page(rt: HostRuntime) -> Result<(), Fail> {
-    let bytes = bytes_from(rt.alloc(), 0)?;
+fn ascii_is_the_same_in_each_page(rt: HostRuntime) {
+    let bytes = bytes_from(rt.alloc(), 0).expect(&rt, "no error");
     let text = str::from_utf8(bytes.as_slice()).expect(&rt, "ASCII");
     for page in CodePage::all() {
-        let same = spell(rt.alloc(), page, bytes.as_slice(), text)?;
+        let same = spell(rt.alloc(), page, bytes.as_slice(), text).expect(&rt, "no error");
         assert!(rt; same, "{page:?}");
     }
-    Ok(())
 }
 
 /// `¿Qué pasa?` in Mac OS Roman.
@@ -85,7 +83,7 @@ fn is_read(alloc: Global, page: CodePage, bytes: &[u8], text: Result<&str, Error
 }
 
 /// Bytes in a page, and what they are read as.
-const READ: [(CodePage, &[u8], Result<&str, ErrorKind>); 7] = [
+static READ: [(CodePage, &[u8], Result<&str, ErrorKind>); 7] = [
     (CodePage::MacintoshRoman, ROMAN, Ok("¿Qué pasa?")),
     (
         CodePage::UsAscii,
@@ -124,7 +122,7 @@ fn is_written(alloc: Global, page: CodePage, text: &str, bytes: Result<&[u8], Er
 }
 
 /// Texts, and how a page writes them.
-const WRITTEN: [(CodePage, &str, Result<&[u8], ErrorKind>); 8] = [
+static WRITTEN: [(CodePage, &str, Result<&[u8], ErrorKind>); 8] = [
     (CodePage::UsAscii, "¿Qué pasa?", Ok(b"?Qu? pasa?")),
     (CodePage::MacintoshRoman, "¿Qué pasa?", Ok(ROMAN)),
     (CodePage::MacintoshRoman, "\u{A0}", Ok(&[0xCA])),
@@ -147,7 +145,7 @@ fn characters_are_written_or_replaced_or_refused(rt: HostRuntime) {
 }
 
 /// Ids, and the ids and names of their pages.
-const NAMES: [(i32, Option<(i32, &str)>); 10] = [
+static NAMES: [(i32, Option<(i32, &str)>); 10] = [
     (932, Some((932, "Windows Japanese Shift JIS"))),
     (951, Some((951, "Windows Chinese (traditional) Big5-HKSCS"))),
     (1252, Some((1252, "Windows Latin 1"))),

@@ -4,7 +4,7 @@ use crate::samples::told;
 use msi_text::parts::string_ref;
 use msi_text::{CodePage, Error, ErrorKind, StringPool, StringPoolBuilder, StringRef, Text};
 use std::alloc::Global;
-use std::test::Fail;
+use std::process::Abort;
 
 /// The two streams of a pool: its entries, and its texts.
 type Streams<'a> = (&'a [u8], &'a [u8]);
@@ -86,7 +86,7 @@ type Life = (
     Streams<'static>,
 );
 
-const LIVES: [Life; 6] = [
+static LIVES: [Life; 6] = [
     (
         EMPTY,
         &[
@@ -174,12 +174,12 @@ fn is_read_back(alloc: Global, life: &Life) -> Result<bool, Error> {
 }
 
 #[test]
-fn texts_take_the_first_place_that_fits(rt: HostRuntime) -> Result<(), Fail> {
+fn texts_take_the_first_place_that_fits(rt: HostRuntime) {
     for (row, life) in LIVES.iter().enumerate() {
-        let lived = is_lived(rt.alloc(), life)?;
-        assert!(rt; lived && is_read_back(rt.alloc(), life)?, "row {row}");
+        let lived = is_lived(rt.alloc(), life).expect(&rt, "no error");
+        let found = lived && is_read_back(rt.alloc(), life).expect(&rt, "no error");
+        assert!(rt; found, "row {row}");
     }
-    Ok(())
 }
 
 /// Whether two streams hold a text of 70000 bytes, and are written of it.
@@ -190,10 +190,10 @@ fn hold_long_text(alloc: Global, streams: Streams) -> Result<bool, Error> {
 }
 
 #[test]
-fn a_text_of_70000_bytes_is_written_long(rt: HostRuntime) -> Result<(), Fail> {
-    let data = vec![in rt.alloc(); b'x'; 70000]?;
-    assert!(rt; hold_long_text(rt.alloc(), (LONG, data.as_slice()))?);
-    Ok(())
+fn a_text_of_70000_bytes_is_written_long(rt: HostRuntime) {
+    let data = vec![in rt.alloc(); b'x'; 70000].expect(&rt, "no error");
+    let found = hold_long_text(rt.alloc(), (LONG, data.as_slice())).expect(&rt, "no error");
+    assert!(rt; found);
 }
 
 /// Whether neither stream of a pool can be written, and nothing is.
@@ -218,13 +218,13 @@ fn acute_needs_utf8(alloc: Global) -> Result<bool, Error> {
 }
 
 #[test]
-fn what_the_page_lacks_is_not_written(rt: HostRuntime) -> Result<(), Fail> {
-    assert!(rt; acute_needs_utf8(rt.alloc())?);
-    Ok(())
+fn what_the_page_lacks_is_not_written(rt: HostRuntime) {
+    let found = acute_needs_utf8(rt.alloc()).expect(&rt, "no error");
+    assert!(rt; found);
 }
 
 /// Texts, and whether they can be written in Windows-1252 and in UTF-8. `?` is written for the last two.
-const WRITABLE: [(&str, (bool, bool)); 4] = [
+static WRITABLE: [(&str, (bool, bool)); 4] = [
     ("é?", (true, true)),
     ("\u{81}", (true, true)),
     ("数", (false, true)),
@@ -241,16 +241,15 @@ fn writable(alloc: Global, text: &'static str) -> Result<(bool, bool), Error> {
 }
 
 #[test]
-fn utf8_writes_what_a_page_lacks(rt: HostRuntime) -> Result<(), Fail> {
+fn utf8_writes_what_a_page_lacks(rt: HostRuntime) {
     for (text, expected) in &WRITABLE {
-        let pages = writable(rt.alloc(), *text)?;
+        let pages = writable(rt.alloc(), *text).expect(&rt, "no error");
         assert!(rt; pages == *expected, "{text}");
     }
-    Ok(())
 }
 
 /// Streams, how many places they hold, and what they are.
-const CUTS: [(Streams<'static>, Result<u32, ErrorKind>, &str); 6] = [
+static CUTS: [(Streams<'static>, Result<u32, ErrorKind>, &str); 6] = [
     (
         (&[0xE9, 0xFD, 0, 0, 3, 0, 2, 0, 4, 0, 1, 0], b"FooQuux"),
         Ok(2),
@@ -324,7 +323,7 @@ fn number(alloc: Global, bytes: &[u8], long: bool) -> Result<(i32, bool), Error>
 }
 
 /// Bytes, whether references are long, and the number that is read, 0 where it is none.
-const REFERENCES: [(&[u8], bool, Result<i32, ErrorKind>); 4] = [
+static REFERENCES: [(&[u8], bool, Result<i32, ErrorKind>); 4] = [
     (&[5, 0], false, Ok(5)),
     (&[5, 0, 1], true, Ok(65541)),
     (&[0, 0], false, Ok(0)),

@@ -20,7 +20,7 @@ fn moments_from_unix(rt: HostRuntime) {
 }
 
 /// Ticks, and the seconds and nanoseconds of the moment since 1970.
-const TO_UNIX: [(u64, i64, u32); 3] = [
+static TO_UNIX: [(u64, i64, u32); 3] = [
     (u64::MAX, 1_833_029_933_770, 955_161_500),
     (116_444_735_999_999_999, -1, 999_999_900),
     (0, -11_644_473_600, 0),
@@ -56,7 +56,7 @@ fn spell(alloc: Global, bytes: &[u8], expected: Result<u64, ErrorKind>) -> bool 
     }
 }
 
-const MOMENTS: [(&[u8], Result<u64, ErrorKind>); 2] = [
+static MOMENTS: [(&[u8], Result<u64, ErrorKind>); 2] = [
     (
         &[0x00, 0x80, 0x3E, 0xD5, 0xDE, 0xB1, 0x9D, 0x01],
         Ok(116_444_736_000_000_000),

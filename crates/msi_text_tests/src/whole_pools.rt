@@ -6,7 +6,6 @@ use msi_text::parts::{
 use msi_text::{CodePage, Error, ErrorKind, StringPool};
 use std::alloc::Global;
 use std::process::Abort;
-use std::test::Fail;
 
 /// `Foo` in use, and `bar` free with its text.
 const PLACES: [u8; 12] = [0xE9, 0xFD, 0, 0, 3, 0, 1, 0, 3, 0, 0, 0];
@@ -30,13 +29,13 @@ fn is_written(pool: &StringPool, places: &[u8], data: &[u8]) -> Result<bool, Err
 }
 
 #[test]
-fn a_pool_comes_from_its_streams_and_goes_back(rt: HostRuntime) -> Result<(), Fail> {
-    let pool = two_places(rt.alloc())?;
+fn a_pool_comes_from_its_streams_and_goes_back(rt: HostRuntime) {
+    let pool = two_places(rt.alloc()).expect(&rt, "no error");
     assert!(rt; has_texts(&pool, "Foo", "bar"));
     // What is free is written empty.
     let places = [0xE9, 0xFD, 0, 0, 3, 0, 1, 0, 0, 0, 0, 0];
-    assert!(rt; is_written(&pool, places.as_slice(), b"Foo".as_slice())?);
-    Ok(())
+    let found = is_written(&pool, places.as_slice(), b"Foo".as_slice()).expect(&rt, "no error");
+    assert!(rt; found);
 }
 
 /// The pool of the two places, once the texts of free places without a mark are forgotten.
@@ -48,16 +47,15 @@ fn forgotten(rt: &impl Abort, alloc: Global, marks: [bool; 2]) -> Result<StringP
 }
 
 #[test]
-fn free_texts_without_a_mark_are_forgotten(rt: HostRuntime) -> Result<(), Fail> {
+fn free_texts_without_a_mark_are_forgotten(rt: HostRuntime) {
     for (marks, second) in [
         ([false, true], "bar"),
         ([true, false], ""),
         ([false, false], ""),
     ] {
-        let pool = forgotten(&rt, rt.alloc(), marks)?;
+        let pool = forgotten(&rt, rt.alloc(), marks).expect(&rt, "no error");
         assert!(rt; has_texts(&pool, "Foo", second));
     }
-    Ok(())
 }
 
 /// What a writer with room for six bytes has of a pool's stream, and why no more.
@@ -71,9 +69,8 @@ fn begun(alloc: Global) -> Result<([u8; 6], Option<ErrorKind>), Error> {
 }
 
 #[test]
-fn a_writer_without_room_has_a_beginning(rt: HostRuntime) -> Result<(), Fail> {
-    let (room, told) = begun(rt.alloc())?;
+fn a_writer_without_room_has_a_beginning(rt: HostRuntime) {
+    let (room, told) = begun(rt.alloc()).expect(&rt, "no error");
     assert!(rt; room == [0xE9, 0xFD, 0, 0, 3, 0]);
     assert!(rt; told == Some(ErrorKind::Io));
-    Ok(())
 }
