@@ -1,5 +1,5 @@
 -- Which place a text takes, and what giving a place back leaves.
-use Rattle.std.specs.Prelude.{ℕ, ◌+◌, ◌-◌, Bool, List, [], ◌∷◌, ◌++◌, length, Option, Some, None, nat_lt, ◌==◌, ◌&&◌}
+use Rattle.std.specs.Prelude.{ℕ, ◌+◌, ◌-◌, Bool, false, List, [], ◌∷◌, ◌++◌, length, Option, Some, None, nat_lt, ◌==◌, ◌&&◌}
 use Rattle.std.specs.Prelude.{◌||◌, if◌then◌else◌, bytes_eq, set, slice_get, option_and_then, position, unwrap_or}
 use Rattle.msi_text_pool.specs.Pool.{Place}
 
@@ -14,6 +14,10 @@ first_fit text places = unwrap_or (position (is_fit text) places) (length places
 -- up to how many places one is added
 abbrev pub most_places : Bool → ℕ
 most_places long = if long then 16777215 else 65535
+
+-- whether references have three bytes once the places are these: where they had, or where two don't suffice
+abbrev pub is_long_with : Bool → List Place → Bool
+is_long_with long places = long || nat_lt (most_places false) (length places)
 
 abbrev pub count_of : Option Place → ℕ
 count_of None = 0

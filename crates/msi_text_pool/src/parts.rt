@@ -1,13 +1,17 @@
 //! What the crates above need beyond the surface.
 
-ghost use Rattle.std.specs.Prelude.{◌≡◌, ◌↔◌, ◌≤◌, length, IsTrue};
-ghost use Rattle.msi_text_pool.specs.Pool.{CountsFit, PlacesWritten, without_unnamed_texts};
+ghost use Rattle.std.specs.Prelude.{◌≡◌, ◌↔◌, ◌≤◌, length, IsTrue, IfOk, IfErr, OnOk, OnErr, Some, is_some, true};
+ghost use Rattle.std.specs.Prelude.{if◌then◌else◌, string_bytes};
+ghost use Rattle.msi_text_base.specs.declared.errors.ErrorKind.TheVariants.{InvalidInput, OutOfMemory};
+ghost use Rattle.msi_text_pool.specs.FirstFit.{is_long_with, taken};
+ghost use Rattle.msi_text_pool.specs.Pool.{CountsFit, PlacesWritten, unindexed, without_unnamed_texts};
 
 pub use crate::stringpool::indexed::most_places;
 use crate::stringpool::places::are_written;
 pub use crate::stringpool::reading::{pool_builder_of, pool_of};
 pub use crate::stringpool::writing::{data_stream_of, pool_stream_of};
 use crate::stringpool::{StringPool, StringRef};
+use msi_text_base::errors::Error;
 
 /// Returns the place of a number.
 pub fn string_ref(number: u32) -> StringRef
@@ -23,6 +27,23 @@ pub fn place_number(reference: StringRef) -> u32
     ensures { result ≡ reference }
 {
     reference.to_number()
+}
+
+/// Stores a text as `StringPool::incref` does, and widens the pool's references if it needs a place past 65535.
+///
+/// # Errors
+/// Fails with `InvalidInput` if the pool has 16777215 places and none is free or has the text, and otherwise with
+/// `OutOfMemory`. Then the pool is as it was, but for `operations`, and the text is dropped.
+pub fn incref_widening(pool: &mut StringPool, text: String) -> Result<StringRef, Error>
+    ensures ok { IfOk result (λ number.
+        taken true pool.old.places (string_bytes text) ≡ Some (number, pool.new.places)) }
+    ensures long { OnOk result (pool.new.long ≡ is_long_with pool.old.long pool.new.places) }
+    ensures kind { let room = is_some (taken true pool.old.places (string_bytes text)) in
+        IfErr result (λ kind. kind ≡ (if room then OutOfMemory else InvalidInput)) }
+    ensures err { OnErr result (unindexed pool.new ≡ unindexed pool.old) }
+    ensures page { pool.new.page ≡ pool.old.page }
+{
+    pool.incref_widening(text)
 }
 
 /// Empties the text of each place that is free and isn't named: `is_named` says which are, from number 1 on. All else

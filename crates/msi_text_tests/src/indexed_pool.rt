@@ -1,6 +1,6 @@
 //! The pool's indexes: which place a text takes where many are free, and how many operations that is.
 
-use msi_text::parts::{pool_builder_of, pool_of, string_ref};
+use msi_text::parts::{incref_widening, pool_builder_of, pool_of, string_ref};
 use msi_text::{CodePage, Error, StringPool, StringRef};
 use std::alloc::Global;
 use std::process::Abort;
@@ -158,13 +158,32 @@ fn is_full(alloc: Global, pool: &mut StringPool) -> Result<bool, Error> {
     Ok(refused && pool.operations() <= 8)
 }
 
-/// Whether places of a pool that is filled are given back and taken again, until it is full.
+/// Whether a full pool takes a text at this place once its references are widened, before the call or by it.
+fn grows(alloc: Global, pool: &mut StringPool, place: i32) -> Result<bool, Error> {
+    let mut copy = pool.clone()?;
+    copy.widen();
+    let of_copy = copy.incref(String::from_str(alloc, "c")?)?;
+    let of_pool = incref_widening(pool, String::from_str(alloc, "c")?)?;
+    let is_wide = copy.long_string_refs() && pool.long_string_refs();
+    Ok(is_wide && of_copy.number() == place && of_pool.number() == place)
+}
+
+/// Whether a text that a full pool has is taken without widening its references.
+fn stays_short(alloc: Global, pool: &mut StringPool, text: &str) -> Result<bool, Error> {
+    incref_widening(pool, String::from_str(alloc, text)?)?;
+    Ok(!pool.long_string_refs())
+}
+
+/// Whether places of a pool that is filled are given back and taken again, until it is full, and it then grows past
+/// references of two bytes.
 fn is_refilled(alloc: Global, pool: &mut StringPool) -> Result<bool, Error> {
     Ok(
         takes_many(alloc, pool, "a", 1)?
             && gives_back_thirds(pool)?
             && takes_many(alloc, pool, "b", 3)?
-            && is_full(alloc, pool)?,
+            && is_full(alloc, pool)?
+            && stays_short(alloc, pool, "a2")?
+            && grows(alloc, pool, 65536)?,
     )
 }
 

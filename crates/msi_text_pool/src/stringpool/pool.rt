@@ -1,14 +1,16 @@
 //! The string pool.
 
 ghost use Rattle.std.specs.Prelude.{◌≡◌, IfOk, IfErr, OnOk, OnErr, Some, is_some, if◌then◌else◌, [], false, length};
+ghost use Rattle.std.specs.Prelude.{true};
 ghost use Rattle.std.specs.Prelude.{string_bytes, ◌≤◌, vec_len};
 ghost use Rattle.std.specs.Option.{option_copied};
 ghost use Rattle.msi_text_pool.specs.Pool.{CountsFit, newly_indexed, unindexed, without_unnamed_texts};
-ghost use Rattle.msi_text_pool.specs.FirstFit.{taken, given_back};
+ghost use Rattle.msi_text_pool.specs.FirstFit.{taken, given_back, is_long_with};
 ghost use Rattle.msi_text_pool.specs.FirstFitLaws.{Holds, place_at, text_at, count_at};
 ghost use Rattle.msi_text_base.specs.Results.{OnlyMemory};
 ghost use Rattle.msi_text_base.specs.declared.errors.ErrorKind.TheVariants.{InvalidData, InvalidInput, OutOfMemory};
 
+use crate::stringpool::MAX_SHORT_PLACES;
 use crate::stringpool::kept::KeptPlaces;
 use crate::stringpool::places::{Place, Places};
 use crate::stringpool::reference::StringRef;
@@ -99,6 +101,14 @@ impl StringPool {
         ensures { result ≡ self.now.long }
     {
         self.long
+    }
+
+    /// Gives references three bytes, so that the pool may have up to 16777215 places. It takes no memory, and changes
+    /// no place. References that were written with two bytes have to be written anew.
+    pub fn widen(&mut self)
+        ensures { self.new ≡ record self.old { long = true } }
+    {
+        self.long = true;
     }
 
     /// Returns the number of places, free ones included: at most 16777215. At most 65535 cells refer to each.
@@ -194,6 +204,27 @@ impl StringPool {
         ensures long { self.new.long ≡ self.old.long }
     {
         let at = self.kept.take(text, self.long)?;
+        Ok(StringRef::from_number(at + 1))
+    }
+
+    /// Stores a text as `incref` does, and widens the references if it needs a place past 65535.
+    ///
+    /// # Errors
+    /// Fails with `InvalidInput` if the pool has 16777215 places and none is free or has the text, and otherwise with
+    /// `OutOfMemory`. Then the pool is as it was, but for `operations`, and the text is dropped.
+    pub(crate) fn incref_widening(&mut self, text: String) -> Result<StringRef, Error>
+        ensures ok { IfOk result (λ number.
+            taken true self.old.places (string_bytes text) ≡ Some (number, self.new.places)) }
+        ensures long { OnOk result (self.new.long ≡ is_long_with self.old.long self.new.places) }
+        ensures kind { let room = is_some (taken true self.old.places (string_bytes text)) in
+            IfErr result (λ kind. kind ≡ (if room then OutOfMemory else InvalidInput)) }
+        ensures err { OnErr result (unindexed self.new ≡ unindexed self.old) }
+        ensures page { self.new.page ≡ self.old.page }
+    {
+        let at = self.kept.take(text, true)?;
+        if self.kept.places().len() > MAX_SHORT_PLACES {
+            self.long = true;
+        }
         Ok(StringRef::from_number(at + 1))
     }
 
