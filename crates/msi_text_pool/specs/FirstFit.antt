@@ -1,6 +1,6 @@
 -- Which place a text takes, and what giving a place back leaves.
-use Rattle.std.specs.Prelude.{ℕ, ◌+◌, ◌-◌, Bool, false, List, [], ◌∷◌, ◌++◌, length, Option, Some, None, nat_lt, ◌==◌, ◌&&◌}
-use Rattle.std.specs.Prelude.{◌||◌, if◌then◌else◌, bytes_eq, set, slice_get, option_and_then, position, unwrap_or}
+use Rattle.std.specs.Prelude.{ℕ, ◌+◌, ◌-◌, Bool, false, List, [], ◌∷◌, ◌++◌, length, Option, Some, None, nat_lt, ◌==◌}
+use Rattle.std.specs.Prelude.{◌&&◌, ◌||◌, if◌then◌else◌, bytes_eq, set, slice_get, option_and_then, position, unwrap_or}
 use Rattle.msi_text_pool.specs.Pool.{Place}
 
 -- a free place, or one with this text whose count can rise
