@@ -6,6 +6,8 @@ pub use Rattle.msi_query.specs.QueryTexts
 pub use Rattle.msi_query.specs.Utf8Queries
 pub use Rattle.msi_query.specs.UnaryOp
 pub use Rattle.msi_query.specs.BinaryOp
+pub use Rattle.msi_query.specs.OperatorValues
+pub use Rattle.msi_query.specs.OperatorTexts
 pub use Rattle.msi_query.specs.Expressions
 pub use Rattle.msi_query.specs.ExpressionCode
 pub use Rattle.msi_query.specs.Evaluation

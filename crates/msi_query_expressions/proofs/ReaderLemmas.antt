@@ -5,12 +5,12 @@ use Rattle.std.proofs.Common.{ℕ, suc, ◌+◌, ◌-◌, ◌*◌, Bool, true, f
 use Rattle.std.specs.Char.{is_ascii_digit}
 use Rattle.msi_text.specs.CategoryRules.{starts_name, continues_name}
 use Rattle.msi_table_values.specs.declared.value.Value.TheVariants.{Null, Int, Str}
-use Rattle.msi_query_expressions.specs.declared.expr.UnaryOp.{UnaryOp}
-use Rattle.msi_query_expressions.specs.declared.expr.UnaryOp.TheVariants as one
-use Rattle.msi_query_expressions.specs.declared.expr.BinaryOp.{BinaryOp}
-use Rattle.msi_query_expressions.specs.declared.expr.BinaryOp.TheVariants as two
+use Rattle.msi_query_operators.specs.declared.operators.UnaryOp.{UnaryOp}
+use Rattle.msi_query_operators.specs.declared.operators.UnaryOp.TheVariants as one
+use Rattle.msi_query_operators.specs.declared.operators.BinaryOp.{BinaryOp}
+use Rattle.msi_query_operators.specs.declared.operators.BinaryOp.TheVariants as two
 use Rattle.msi_query_expressions.specs.Expressions.{Expression, literal, column, unary, binary, both, either}
-use Rattle.msi_query_expressions.specs.Printing.{op_level, op_text}
+use Rattle.msi_query_operators.specs.OperatorTexts.{op_level, op_text}
 
 -- what stands between two operands
 pub data Link : Type 0 where

@@ -5,8 +5,7 @@ use Rattle.msi_table_values.specs.declared.value.Value.{Value}
 use Rattle.msi_table_values.specs.declared.value.Value.TheVariants.{Null}
 use Rattle.msi_table_values.specs.Values.{is_true}
 use Rattle.msi_table_values.specs.Columns.{ColumnDef, column_index}
-use Rattle.msi_query_expressions.specs.declared.expr.BinaryOp.{BinaryOp}
-use Rattle.msi_query_expressions.specs.declared.expr.BinaryOp.TheVariants as two
+use Rattle.msi_query_operators.specs.OperatorValues.{is_sum}
 use Rattle.msi_query_expressions.specs.Expressions.{Expression, literal, column, unary, binary, both, either}
 use Rattle.msi_query_expressions.specs.Evaluation.{value_of}
 
@@ -29,11 +28,7 @@ pub record RowFilterDef : Type 0 where
   pub columns : List ColumnDef
   pub condition : Option Expression
 
--- What takes memory: a sum, since texts may be joined, and a copy of a text
-abbrev pub is_sum : BinaryOp → Bool
-is_sum two.Add = true
-is_sum _ = false
-
+-- whether something is added in an expression, which may take memory
 abbrev pub has_sum : Expression → Bool
 has_sum (literal v) = false
 has_sum (column n) = false

@@ -6,7 +6,6 @@ pub mod Conditions
 pub mod Equated
 pub mod Folding
 pub mod Names
-pub mod Operands
 pub mod Trees
 pub mod RowFilters
 pub mod Printing

@@ -1,46 +1,9 @@
 -- How expressions print: the loosest operators have level 1, what needs no brackets level 10.
-use Rattle.std.specs.Prelude.{ℕ, ◌+◌, List, Option, Some, nat_lt, if◌then◌else◌, codes}
+use Rattle.std.specs.Prelude.{ℕ, List, Option, Some, nat_lt, if◌then◌else◌, codes}
 use Rattle.std.specs.Fmt.{◌++?◌}
 use Rattle.msi_table_values.specs.Values.{value_text}
-use Rattle.msi_query_expressions.specs.declared.expr.UnaryOp.{UnaryOp}
-use Rattle.msi_query_expressions.specs.declared.expr.UnaryOp.TheVariants as one
-use Rattle.msi_query_expressions.specs.declared.expr.BinaryOp.{BinaryOp}
-use Rattle.msi_query_expressions.specs.declared.expr.BinaryOp.TheVariants as two
+use Rattle.msi_query_operators.specs.OperatorTexts.{op_level, op_text, right_level, unary_text}
 use Rattle.msi_query_expressions.specs.Expressions.{Expression, literal, column, unary, binary, both, either}
-
-abbrev pub op_level : BinaryOp → ℕ
-op_level two.BitOr = 4
-op_level two.BitXor = 5
-op_level two.BitAnd = 6
-op_level two.Shl = 7
-op_level two.Shr = 7
-op_level two.Add = 8
-op_level two.Sub = 8
-op_level two.Mul = 9
-op_level two.Div = 9
-op_level _ = 3
-
-abbrev pub op_text : BinaryOp → List ℕ
-op_text two.Eq = codes " = "
-op_text two.Ne = codes " != "
-op_text two.Lt = codes " < "
-op_text two.Le = codes " <= "
-op_text two.Gt = codes " > "
-op_text two.Ge = codes " >= "
-op_text two.BitOr = codes " | "
-op_text two.BitXor = codes " ^ "
-op_text two.BitAnd = codes " & "
-op_text two.Shl = codes " << "
-op_text two.Shr = codes " >> "
-op_text two.Add = codes " + "
-op_text two.Sub = codes " - "
-op_text two.Mul = codes " * "
-op_text two.Div = codes " / "
-
-abbrev pub unary_text : UnaryOp → List ℕ
-unary_text one.Neg = codes "-"
-unary_text one.BitNot = codes "~"
-unary_text one.BoolNot = codes "NOT "
 
 abbrev pub level : Expression → ℕ
 level (either l r) = 1
@@ -58,7 +21,7 @@ expression_text (literal v) = value_text v
 expression_text (column n) = Some n
 expression_text (unary op e) = Some (unary_text op) ++? bracketed 10 (level e) (expression_text e)
 expression_text (binary op l r) = bracketed (op_level op) (level l) (expression_text l)
-    ++? Some (op_text op) ++? bracketed (op_level op + 1) (level r) (expression_text r)
+    ++? Some (op_text op) ++? bracketed (right_level op) (level r) (expression_text r)
 expression_text (both l r) =
     bracketed 2 (level l) (expression_text l) ++? Some (codes " AND ") ++? bracketed 3 (level r) (expression_text r)
 expression_text (either l r) =

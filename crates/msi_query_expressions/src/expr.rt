@@ -7,7 +7,8 @@ ghost use Rattle.msi_query_expressions.specs.Expressions.{literal, column, both,
 ghost use Rattle.msi_table_values.specs.Values.{is_text};
 ghost use Rattle.msi_query_expressions.specs.Conditions.{has_sum};
 ghost use Rattle.msi_query_expressions.specs.Equated.{equated as equated_in};
-ghost use Rattle.msi_query_expressions.specs.Evaluation.{knows_names as knows_each, truth, value_of, value_at};
+ghost use Rattle.msi_query_operators.specs.OperatorValues.{truth};
+ghost use Rattle.msi_query_expressions.specs.Evaluation.{knows_names as knows_each, value_of, value_at};
 ghost use Rattle.msi_query_expressions.specs.Evaluation.{HasColumnsOf};
 ghost use Rattle.msi_query_expressions.specs.Folding.{folded_unary, folded_binary};
 ghost use Rattle.msi_query_expressions.specs.Names.{has_name};
@@ -18,14 +19,13 @@ mod evaluation;
 pub(crate) mod filter;
 mod folding;
 mod names;
-mod operands;
-mod operators;
 mod printing;
 mod texts;
 
 use equated::equated_places;
 use evaluation::operand_of;
 use folding::{fold_binary, fold_unary};
+pub use msi_query_operators::operators::{BinaryOp, UnaryOp};
 use msi_table::column::Column;
 use msi_table::row::Row;
 use msi_table::value::Value;
@@ -35,52 +35,6 @@ use names::{collect_names, knows_names};
 use std::alloc::Global;
 use std::collections::HashSet;
 use std::marker::Model;
-
-/// An operator with one operand.
-#[derive(Clone, Copy, PartialEq, Eq, Debug, Drop)]
-pub enum UnaryOp {
-    /// `-`
-    Neg,
-    /// `~`
-    BitNot,
-    /// `NOT`
-    BoolNot,
-}
-
-/// An operator with two operands that folds.
-#[derive(Clone, Copy, PartialEq, Eq, Debug, Drop)]
-pub enum BinaryOp {
-    /// `=`
-    Eq,
-    /// `!=`
-    Ne,
-    /// `<`
-    Lt,
-    /// `<=`
-    Le,
-    /// `>`
-    Gt,
-    /// `>=`
-    Ge,
-    /// `+`
-    Add,
-    /// `-`
-    Sub,
-    /// `*`
-    Mul,
-    /// `/`
-    Div,
-    /// `&`
-    BitAnd,
-    /// `|`
-    BitOr,
-    /// `^`
-    BitXor,
-    /// `<<`
-    Shl,
-    /// `>>`
-    Shr,
-}
 
 /// The tree of an expression, in which columns stand as their names, or as their places in rows.
 #[derive(Drop)]

@@ -2,13 +2,12 @@
 
 ghost use Rattle.std.specs.Prelude.{◌≡◌, IfOk, IfErr, IsErr, IsTrue};
 ghost use Rattle.msi_text_base.specs.declared.errors.ErrorKind.TheVariants.{OutOfMemory};
-ghost use Rattle.msi_query_expressions.specs.Operands.{operand_value};
+ghost use Rattle.msi_query_operators.specs.Operands.{operand_value};
 ghost use Rattle.msi_query_expressions.specs.Trees.{tree_has_sum, tree_value};
 
 use super::Tree;
 use super::column_values::ColumnValues;
-use super::operands::Operand;
-use super::operators::{binary_value, unary_value};
+use msi_query_operators::parts::{Operand, binary_value, unary_value};
 use msi_table::parts::ValueView;
 use msi_table::value::Value;
 use msi_text::errors::Error;

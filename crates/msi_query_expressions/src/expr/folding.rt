@@ -5,9 +5,8 @@ ghost use Rattle.msi_text_base.specs.declared.errors.ErrorKind.TheVariants.{OutO
 ghost use Rattle.msi_query_expressions.specs.Folding.{folded_unary, folded_binary};
 ghost use Rattle.msi_query_expressions.specs.Trees.{expression_of};
 
-use super::operands::Operand;
-use super::operators::{binary_value, unary_value};
 use super::{BinaryOp, Tree, UnaryOp};
+use msi_query_operators::parts::{Operand, binary_value, unary_value};
 use msi_table::parts::ValueView;
 use msi_text::errors::Error;
 use msi_text::text::Text;

@@ -1,77 +1,18 @@
 //! How expressions print: with the fewest brackets that the levels of the operators allow.
 
-ghost use Rattle.std.specs.Prelude.{◌≡◌, ◌<◌, ◌+◌, Some};
+ghost use Rattle.std.specs.Prelude.{◌≡◌, Some};
 ghost use Rattle.std.specs.Fmt.{DisplaysOnOk, ◌++?◌};
-ghost use Rattle.msi_query_expressions.specs.Printing.{bracketed, expression_text, level, op_level, op_text};
-ghost use Rattle.msi_query_expressions.specs.Printing.{unary_text};
+ghost use Rattle.msi_query_expressions.specs.Printing.{bracketed, expression_text, level};
 ghost use Rattle.msi_query_expressions.specs.Trees.{expression_of};
 ghost use Rattle.msi_query_expressions.specs.Vocabulary.{PrintsAlone};
 
-use crate::expr::{BinaryOp, Expr, Tree, UnaryOp};
+use crate::expr::{Expr, Tree};
+use msi_query_operators::parts::{operator_level, operator_text, prefix_text, right_operand_level};
 use msi_text::text::Text;
 use std::fmt;
 
 /// The level of what needs no brackets.
 const TIGHTEST: u8 = 10;
-
-impl UnaryOp {
-    /// The text that stands in front of the operand.
-    fn text(self) -> &'static str
-        ensures { result.now ≡ unary_text self }
-    {
-        match self {
-            UnaryOp::Neg => "-",
-            UnaryOp::BitNot => "~",
-            UnaryOp::BoolNot => "NOT ",
-        }
-    }
-}
-
-impl BinaryOp {
-    /// How tightly the operator binds, where `OR` has 1.
-    fn level(self) -> u8
-        ensures level { result ≡ op_level self }
-        ensures below { result < 10 }
-    {
-        match self {
-            BinaryOp::Eq
-            | BinaryOp::Ne
-            | BinaryOp::Lt
-            | BinaryOp::Le
-            | BinaryOp::Gt
-            | BinaryOp::Ge => 3,
-            BinaryOp::BitOr => 4,
-            BinaryOp::BitXor => 5,
-            BinaryOp::BitAnd => 6,
-            BinaryOp::Shl | BinaryOp::Shr => 7,
-            BinaryOp::Add | BinaryOp::Sub => 8,
-            BinaryOp::Mul | BinaryOp::Div => 9,
-        }
-    }
-
-    /// The text that stands between the operands.
-    fn text(self) -> &'static str
-        ensures { result.now ≡ op_text self }
-    {
-        match self {
-            BinaryOp::Eq => " = ",
-            BinaryOp::Ne => " != ",
-            BinaryOp::Lt => " < ",
-            BinaryOp::Le => " <= ",
-            BinaryOp::Gt => " > ",
-            BinaryOp::Ge => " >= ",
-            BinaryOp::Add => " + ",
-            BinaryOp::Sub => " - ",
-            BinaryOp::Mul => " * ",
-            BinaryOp::Div => " / ",
-            BinaryOp::BitAnd => " & ",
-            BinaryOp::BitOr => " | ",
-            BinaryOp::BitXor => " ^ ",
-            BinaryOp::Shl => " << ",
-            BinaryOp::Shr => " >> ",
-        }
-    }
-}
 
 impl Tree<Text> {
     /// How tightly the top of the tree binds.
@@ -81,7 +22,7 @@ impl Tree<Text> {
         match self {
             Tree::Or(_, _) => 1,
             Tree::And(_, _) => 2,
-            Tree::Binary(op, _, _) => op.level(),
+            Tree::Binary(op, _, _) => operator_level(*op),
             Tree::Literal(_) | Tree::Column(_) | Tree::Unary(_, _) => TIGHTEST,
         }
     }
@@ -97,13 +38,13 @@ fn write_tree<W: fmt::Write>(f: &mut fmt::Formatter<W>, tree: &Tree<Text>) -> fm
         Tree::Literal(value) => write!(f, "{value}"),
         Tree::Column(name) => f.write_str(name.as_str()),
         Tree::Unary(op, operand) => {
-            f.write_str(op.text())?;
+            f.write_str(prefix_text(*op))?;
             write_operand(f, TIGHTEST, operand)
         }
         Tree::Binary(op, left, right) => {
-            write_operand(f, op.level(), left)?;
-            f.write_str(op.text())?;
-            write_operand(f, op.level() + 1, right)
+            write_operand(f, operator_level(*op), left)?;
+            f.write_str(operator_text(*op))?;
+            write_operand(f, right_operand_level(*op), right)
         }
         Tree::And(left, right) => {
             write_operand(f, 2, left)?;

@@ -1,4 +1,4 @@
-use Rattle.std.proofs.Common.{◌≡◌, ℕ, ◌+◌, List, Option, Some, Result, IsOk, arith, rules, codes, nat_lt, refl, sym}
+use Rattle.std.proofs.Common.{◌≡◌, ℕ, List, Option, Some, Result, IsOk, arith, rules, codes, nat_lt, refl, sym}
 use Rattle.std.proofs.lemmas.Bool.{cond-true, lt-ltb}
 use Rattle.std.specs.Fmt.{DisplaysOnOk, ◌++?◌}
 use Rattle.std.specs.declared.fmt.Error.{Error}
@@ -38,9 +38,9 @@ write_operand-returns-in_ok-write_tree g t c =
 pub write_tree-returns-in_ok-write_str-in-Unary : goal.write_tree-returns-in_ok-write_str-in-Unary
 write_tree-returns-in_ok-write_str-in-Unary g t c =
     let took = g.W.Write.write_str_gives in
-    let o : Option (List ℕ) = Some c.text.result.now in
+    let o : Option (List ℕ) = Some c.prefix_text.result.now in
     let p : Option (List ℕ) = operand_text 10 (expression_of c.deref.result.now) in
-    displays_on_ok_of_eq took c.args.f.now c.write_operand.new.f c.write_operand.result (o ++? p) _ (rw (c.in-Unary.is, c.text.ensures, c.deref.ensures) refl)
+    displays_on_ok_of_eq took c.args.f.now c.write_operand.new.f c.write_operand.result (o ++? p) _ (rw (c.in-Unary.is, c.prefix_text.ensures, c.deref.ensures) refl)
     (displays_on_IsOk_append took c.args.f.now c.write_str-in-Unary.new.self c.write_operand.new.f c.write_str-in-Unary.result c.write_operand.result o p
     (λ _. rw c.in_ok-write_str-in-Unary.was refl) c.write_str-in-Unary.ensures.writes c.write_operand.ensures)
 
@@ -48,9 +48,9 @@ pub write_tree-returns-in_ok-write_str-in-Binary : goal.write_tree-returns-in_ok
 write_tree-returns-in_ok-write_str-in-Binary g t c =
     three_writes g.W.Write.write_str_gives c.args.f.now c.write_operand-in-Binary.new.f c.write_str-in-Binary.new.self c.write_operand-in-Binary-2.new.f
     c.write_operand-in-Binary.result c.write_str-in-Binary.result c.write_operand-in-Binary-2.result
-    (operand_text c.level.result (expression_of c.deref-in-Binary.result.now)) (Some c.text-in-Binary.result.now)
-    (operand_text (c.level-in-Binary.result + 1) (expression_of c.deref-in-Binary-2.result.now)) _
-    (rw (c.in-Binary.is, c.level.ensures.level, c.level-in-Binary.ensures.level, c.text-in-Binary.ensures, c.deref-in-Binary.ensures, c.deref-in-Binary-2.ensures) refl)
+    (operand_text c.operator_level.result (expression_of c.deref-in-Binary.result.now)) (Some c.operator_text.result.now)
+    (operand_text c.right_operand_level.result (expression_of c.deref-in-Binary-2.result.now)) _
+    (rw (c.in-Binary.is, c.operator_level.ensures.level, c.right_operand_level.ensures, c.operator_text.ensures, c.deref-in-Binary.ensures, c.deref-in-Binary-2.ensures) refl)
     (rw c.in_ok-write_operand-in-Binary.was refl) (rw c.in_ok-write_str-in-Binary.was refl)
     c.write_operand-in-Binary.ensures c.write_str-in-Binary.ensures.writes c.write_operand-in-Binary-2.ensures
 

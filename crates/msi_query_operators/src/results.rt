@@ -1,19 +1,18 @@
-//! The results of operators.
+//! What operators return.
 
 ghost use Rattle.std.specs.Prelude.{◌≡◌, ◌++◌, IfOk, IfErr, IsErr, IsTrue, None};
 ghost use Rattle.msi_text_base.specs.declared.errors.ErrorKind.TheVariants.{OutOfMemory};
 ghost use Rattle.msi_table_values.specs.Values.{int_of};
-ghost use Rattle.msi_query_expressions.specs.declared.expr.BinaryOp.TheVariants.{Add, Shl, Shr};
-ghost use Rattle.msi_query_expressions.specs.Conditions.{is_sum};
-ghost use Rattle.msi_query_expressions.specs.Evaluation.{of_numbers, of_operands};
-ghost use Rattle.msi_query_expressions.specs.Evaluation.{unary_value as value_of_one, binary_value as value_of_two};
-ghost use Rattle.msi_query_expressions.specs.Operands.{operand_value, number_or_null as value_or_null};
+ghost use Rattle.msi_query_operators.specs.declared.operators.BinaryOp.TheVariants.{Add, Shl, Shr};
+ghost use Rattle.msi_query_operators.specs.OperatorValues.{is_sum, of_numbers, of_operands};
+ghost use Rattle.msi_query_operators.specs.OperatorValues.{unary_value as value_of_one, binary_value as value_of_two};
+ghost use Rattle.msi_query_operators.specs.Operands.{operand_value, number_or_null as value_or_null};
 ghost use Rattle.msi_table_values.specs.Views.{seen_value};
 
-use super::operands::Operand;
-use super::{BinaryOp, UnaryOp};
-use msi_table::parts::ValueView;
-use msi_table::value::Value;
+use crate::operands::Operand;
+use crate::operators::{BinaryOp, UnaryOp};
+use msi_table_values::parts::ValueView;
+use msi_table_values::value::Value;
 use msi_text::errors::Error;
 use msi_text::text::Text;
 use std::alloc::Global;
@@ -28,8 +27,8 @@ fn number_or_null(number: Option<i32>) -> Value
     }
 }
 
-/// What an operator gives of one value.
-pub(crate) fn unary_value(op: UnaryOp, value: ValueView) -> Value
+/// Returns what an operator gives of one value.
+pub fn unary_value(op: UnaryOp, value: ValueView) -> Value
     ensures { result ≡ value_of_one op (seen_value value.entry) }
 {
     match op {
@@ -152,11 +151,11 @@ fn arithmetic(alloc: Global, op: BinaryOp, left: Operand, right: ValueView) -> R
     }
 }
 
-/// What an operator gives of two operands.
+/// Returns what an operator gives of two operands.
 ///
 /// # Errors
-/// `OutOfMemory`, of a sum alone.
-pub(crate) fn binary_value(
+/// Fails with `OutOfMemory`, and only for a sum.
+pub fn binary_value(
     alloc: Global,
     op: BinaryOp,
     left: Operand,

@@ -3,8 +3,8 @@ use Rattle.std.specs.Prelude.{ℤ, Option, Some, None}
 use Rattle.msi_table_values.specs.declared.value.Value.{Value}
 use Rattle.msi_table_values.specs.declared.value.Value.TheVariants.{Null, Int}
 use Rattle.msi_table_values.specs.Views.{seen_value}
-use Rattle.msi_query_expressions.specs.declared.expr.operands.Operand.{Operand}
-use Rattle.msi_query_expressions.specs.declared.expr.operands.Operand.TheVariants.{Borrowed, Computed}
+use Rattle.msi_query_operators.specs.declared.operands.Operand.{Operand}
+use Rattle.msi_query_operators.specs.declared.operands.Operand.TheVariants.{Borrowed, Computed}
 
 -- the value of an operand, wherever it lies
 abbrev pub operand_value : Operand → Value

@@ -3,24 +3,24 @@
 ghost use Rattle.std.specs.Prelude.{◌≡◌, IfOk, IfErr, IsErr, IsTrue};
 ghost use Rattle.msi_text_base.specs.declared.errors.ErrorKind.TheVariants.{OutOfMemory};
 ghost use Rattle.msi_table_values.specs.Values.{is_text};
-ghost use Rattle.msi_query_expressions.specs.Operands.{operand_value};
+ghost use Rattle.msi_query_operators.specs.Operands.{operand_value};
 ghost use Rattle.msi_table_values.specs.Views.{seen_value};
 
-use msi_table::parts::ValueView;
-use msi_table::value::Value;
+use msi_table_values::parts::ValueView;
+use msi_table_values::value::Value;
 use msi_text::errors::Error;
 use std::alloc::Global;
 
 /// A value of a tree or a row, borrowed so that no text is copied, or one that was computed.
 #[derive(Drop)]
-pub(crate) enum Operand<'a> {
+pub enum Operand<'a> {
     Borrowed(ValueView<'a>),
     Computed(Value),
 }
 
 impl<'a> Operand<'a> {
-    /// The value, borrowed.
-    pub(crate) fn as_view(&self) -> ValueView<'_>
+    /// Returns the value, borrowed.
+    pub fn as_view(&self) -> ValueView<'_>
         ensures { seen_value result ≡ operand_value self.now }
     {
         match self {
@@ -29,11 +29,11 @@ impl<'a> Operand<'a> {
         }
     }
 
-    /// The value, copied where it was borrowed.
+    /// Returns the value, copied where it was borrowed.
     ///
     /// # Errors
-    /// `OutOfMemory`, of a text alone.
-    pub(crate) fn into_value(self, alloc: Global) -> Result<Value, Error>
+    /// Fails with `OutOfMemory`, and only for a text.
+    pub fn into_value(self, alloc: Global) -> Result<Value, Error>
         ensures ok { IfOk result (λ value. value ≡ operand_value self.entry) }
         ensures kind { IfErr result (λ kind. kind ≡ OutOfMemory) }
         ensures memory { IsErr result → IsTrue (is_text (operand_value self.entry)) }

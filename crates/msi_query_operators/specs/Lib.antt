@@ -1,0 +1,4 @@
+-- The words of this crate.
+pub mod OperatorValues
+pub mod OperatorTexts
+pub mod Operands
