@@ -1,28 +1,27 @@
 //! Writing a package to its device.
 
-ghost use Rattle.std.specs.Prelude.{◌≡◌, ◌&&◌, ◌||◌, IfErr, IfOk, OnErr, OnOk, Some, false, is_err, not, option_map};
+ghost use Rattle.std.specs.Prelude.{◌≡◌, ◌&&◌, IfErr, IfOk, OnErr, OnOk, Some, false, not, option_map};
 ghost use Rattle.std.specs.Prelude.{true};
 ghost use Rattle.std.specs.Vec.Iter.{into_iter_items};
-ghost use Rattle.msi_text_base.specs.declared.errors.ErrorKind.TheVariants.{InvalidInput, Io};
+ghost use Rattle.msi_text_base.specs.declared.errors.ErrorKind.TheVariants.{InvalidInput};
 ghost use Rattle.msi_text_pool.specs.Pool.{unindexed};
 ghost use Rattle.msi_text_pool.specs.PoolWriting.{is_refused as is_pool_refused};
 ghost use Rattle.msi_summary_properties.specs.PropertyWriting.{is_refused as is_summary_refused};
 ghost use Rattle.msi_container_device.specs.Faults.{is_io};
-ghost use Rattle.msi_container_device.specs.Held.{at_start, bytes_told};
 ghost use Rattle.msi_container_write.specs.Borrowed.{contents_of};
 ghost use Rattle.msi_query_rows.specs.Refusals.{IsRefusal, or_refused};
 ghost use Rattle.msi_database_changes.specs.Database.{Database as DatabaseValue, is_sound};
 ghost use Rattle.msi_database_storage.specs.Streams.{Streams};
 ghost use Rattle.msi_database.specs.Others.{with_streams};
 ghost use Rattle.msi.specs.Steps.{pool_put};
-ghost use Rattle.msi.specs.Flushing.{AreOthers, AreSoMany, FlushStep, IsUnwritten, Overwrites, flush_answer, left_by};
+ghost use Rattle.msi.specs.Flushing.{AreOthers, FlushStep, IsUnwritten, Overwrites, flush_answer, left_by};
 ghost use Rattle.msi.specs.Flushing.{over_device, renewed_over, root_contents, summary_over, told, unwritten_of};
 ghost use Rattle.msi.specs.Flushing.{with_renewed};
 
 use crate::kinds::PackageType;
 use crate::package::{Package, settle};
 use msi_container_device::Device;
-use msi_container_device::parts::fault;
+use msi_container_device::parts::{go_to_start, hand_on};
 use msi_container_format::contents::Bytes;
 use msi_container_format::name::Name;
 use msi_container_write::parts::{BorrowedContents, image_to};
@@ -109,38 +108,6 @@ pub(crate) fn renewed_streams(
         add_pool(pool, &mut renewed)?;
     }
     Ok(renewed)
-}
-
-/// Goes to the first byte of a device, and returns how many there are. It clears the device's flag first.
-///
-/// # Errors
-/// `Io` where a call of the device fails.
-fn go_to_start<F: Device>(device: &mut F) -> Result<u64, Error>
-    ensures count { IfOk result (λ n. AreSoMany n (told (F.held device.old) (F.failed device.old))) }
-    ensures held { OnOk result (F.held device.new ≡ option_map at_start (F.held device.old)) }
-    ensures bytes { bytes_told (F.held device.new) ≡ bytes_told (F.held device.old) }
-    ensures failed { F.failed device.new ≡ is_err result }
-    ensures faultless { F.can_fail ≡ false → F.writes_can_fail ≡ false → is_io result ≡ false }
-    ensures kind { IfErr result (λ kind. kind ≡ Io) }
-{
-    device.clear_failed();
-    let count = device.length().map_err(fault)?;
-    device.rewind().map_err(fault)?;
-    Ok(count)
-}
-
-/// Hands on what was written to a device.
-///
-/// # Errors
-/// `Io` where the call of the device fails.
-fn hand_on<F: Device>(device: &mut F) -> Result<(), Error>
-    ensures bytes { bytes_told (F.held device.new) ≡ bytes_told (F.held device.old) }
-    ensures failed { F.failed device.new ≡ (F.failed device.old || is_err result) }
-    ensures handed_on { OnOk result (F.pending device.new ≡ false) }
-    ensures faultless { F.writes_can_fail ≡ false → is_io result ≡ false }
-    ensures kind { IfErr result (λ kind. kind ≡ Io) }
-{
-    device.flush().map_err(fault)
 }
 
 /// Puts the image of these contents over all that a device holds.

@@ -9,7 +9,6 @@ mod creating;
 pub mod files;
 mod flushing;
 mod imaging;
-mod keys;
 pub mod kinds;
 pub mod laws;
 pub mod listing;

@@ -6,8 +6,6 @@ pub(crate) const STORAGES: Reason = Reason(
     "the package has storages below its root, and is only read",
 );
 
-pub(crate) const STREAM_NAME: Reason = Reason("no stream may have this name");
-
 pub(crate) const NO_STREAM: Reason = Reason("there is no stream of this name");
 
 pub(crate) const NO_KIND: Reason = Reason("the root's CLSID is that of no package");

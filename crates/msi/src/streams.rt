@@ -15,7 +15,6 @@ ghost use Rattle.msi.specs.Steps.{bytes_of_stream, has_stream as has_one, name_r
 ghost use Rattle.msi.specs.Steps.{with_streams, without_signature};
 ghost use Rattle.msi.specs.Whole.{with_state};
 
-use crate::keys::{accepted_key, checked_key};
 use crate::package::{Package, settle};
 use crate::reasons;
 use msi_container_device::Source;
@@ -23,6 +22,7 @@ use msi_container_format::contents::{Bytes, StreamMap};
 use msi_container_format::name::Name;
 use msi_database::parts::{remove_stream, replace_stream};
 use msi_database_schema::names::{signature_ex_key, signature_key};
+use msi_streams::parts::{accepted_key, checked_key};
 use msi_streams::{OpenStream, StreamReader, StreamWriter, Streams};
 use msi_text::errors::{Error, ErrorKind};
 

@@ -7,6 +7,7 @@ pub mod faults;
 pub mod laws;
 pub mod memory;
 pub mod metered;
+mod overwriting;
 pub mod parts;
 mod reading;
 pub mod reasons;

@@ -2,7 +2,9 @@
 #![tactic(auto)]
 
 pub mod faults;
+mod keys;
 pub mod names;
+pub mod parts;
 pub mod reader;
 mod reasons;
 mod seeking;

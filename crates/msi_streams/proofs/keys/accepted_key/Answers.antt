@@ -2,7 +2,7 @@ use Rattle.std.proofs.Common.{◌≡◌, ◌∙◌, ap, sym, chars, false, true}
 use Rattle.std.specs.Prelude.{Some, None, if◌then◌else◌}
 use Rattle.msi_container_format.proofs.AcceptedNamesLemmas.{accepted_named}
 use Rattle.msi_database_schema.specs.Keys.{is_stream_name, stream_key}
-use Rattle.msi.proofs.keys.accepted_key.Goals as goal
+use Rattle.msi_streams.proofs.keys.accepted_key.Goals as goal
 
 pub returns : goal.returns
 returns c =

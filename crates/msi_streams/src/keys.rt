@@ -11,8 +11,8 @@ use msi_container_format::parts::packed_name;
 use msi_database_schema::names::is_stream_name;
 use msi_text::errors::{Error, ErrorKind};
 
-/// The container's name of a stream, where a stream may have this name. It takes no memory.
-pub(crate) fn accepted_key(name: &str) -> Option<Name>
+/// Returns the container's name of a stream, if a stream may have this name. It takes no memory.
+pub fn accepted_key(name: &str) -> Option<Name>
     ensures { result ≡ (if is_accepted name.now then Some (stream_key name.now) else None) }
 {
     if !is_stream_name(name) {
@@ -21,11 +21,11 @@ pub(crate) fn accepted_key(name: &str) -> Option<Name>
     packed_name(name, false)
 }
 
-/// The container's name of a stream. It takes no memory.
+/// Returns the container's name of a stream. It takes no memory.
 ///
 /// # Errors
-/// `InvalidInput` where no stream may have this name.
-pub(crate) fn checked_key(name: &str) -> Result<Name, Error>
+/// Fails with `InvalidInput` if no stream may have this name.
+pub fn checked_key(name: &str) -> Result<Name, Error>
     ensures { result ≡ unless_refused ((not (is_accepted name.now), InvalidInput) ∷ []) (stream_key name.now) }
 {
     match accepted_key(name) {
