@@ -1,88 +1,10 @@
 //! The program `msidb`: inspects and creates Windows Installer packages from a command line.
 #![tactic(auto)]
 
-ghost use Rattle.std.specs.Prelude.{◌≡◌, ◌≤◌, ◌↔◌, false};
-ghost use Rattle.msidb.specs.Commands.{fits_command};
-
-mod buffered;
-mod command;
-mod packages;
-mod raw;
-mod streams;
-mod summary;
-mod tables;
-#[cfg(test)]
-mod tests;
-mod wrap;
-
-use command::Command;
 use msi_text::Error;
-use std::fs::OpenFile;
-use std::io::{Read, Seek, Write};
 use std::process::ExitCode;
-use std::rt::{Env, Files};
+use std::rt::Env;
 use std::{env, io};
-
-/// The message for arguments that match no command.
-const USAGE: &str = "usage: msidb raw|wrap|new|tables|rows|summary|streams|cat|put FILE [NAME]";
-
-/// Runs the program over its arguments, a reader and two writers. It returns the exit status: 0 on success; 1 on an
-/// error, whose kind is written to `errors`; 2, with the usage on `errors`, if the arguments match no command.
-pub fn run<R, I, O, E>(
-    rt: &R,
-    words: &[String],
-    input: &mut I,
-    output: &mut O,
-    errors: &mut E,
-) -> u8
-where
-    R: Files + AllocGlobal,
-    R::File: OpenFile + Read + Write + Seek + Drop,
-    I: Read,
-    O: Write,
-    E: Write,
-    ensures most { result ≤ 2 }
-    ensures usage { (result ≡ 2) ↔ (fits_command words.now ≡ false) }
-{
-    let Some(command) = Command::parse(words) else {
-        let _ = writeln!(errors, "{USAGE}");
-        return 2;
-    };
-    match carry_out(rt, &command, input, output) {
-        Ok(()) => 0,
-        Err(error) => tell(&error, errors),
-    }
-}
-
-/// Carries out a command.
-fn carry_out<R, I, O>(rt: &R, command: &Command, input: &mut I, output: &mut O) -> Result<(), Error>
-where
-    R: Files + AllocGlobal,
-    R::File: OpenFile + Read + Write + Seek + Drop,
-    I: Read,
-    O: Write,
-{
-    match command {
-        Command::Raw { file } => raw::print_streams(rt, file, output),
-        Command::Wrap { out, name } => wrap::wrap_input(rt, out, name, input),
-        Command::New { file } => packages::create(rt, file),
-        Command::Tables { file } => tables::print_tables(rt, file, output),
-        Command::Rows { file, table } => tables::print_rows(rt, file, table, output),
-        Command::Summary { file } => summary::print_summary(rt, file, output),
-        Command::Streams { file } => streams::print_names(rt, file, output),
-        Command::Cat { file, name } => streams::print_bytes(rt, file, name, output),
-        Command::Put { file, name } => streams::store_input(rt, file, name, input),
-    }
-}
-
-/// Writes the kind of an error on a line of its own, and returns the exit status for it.
-fn tell<E: Write>(error: &Error, errors: &mut E) -> u8
-    ensures { result ≡ 1 }
-{
-    let kind = error.kind();
-    let _ = writeln!(errors, "{kind}");
-    1
-}
 
 /// The arguments behind the program's name. If one isn't UTF-8 there are none: it matches no command, and neither do
 /// no arguments.
@@ -102,14 +24,14 @@ fn words<R: Env + AllocGlobal>(rt: &R) -> Result<Vec<String>, Error> {
 
 fn main(rt: HostRuntime) -> ExitCode {
     let status = match words(&rt) {
-        Ok(words) => run(
+        Ok(words) => msidb_commands::run(
             &rt,
             words.as_slice(),
             &mut rt.stdin(),
             &mut rt.stdout(),
             &mut rt.stderr(),
         ),
-        Err(error) => tell(&error, &mut rt.stderr()),
+        Err(error) => msidb_commands::tell(&error, &mut rt.stderr()),
     };
     ExitCode::from(status)
 }

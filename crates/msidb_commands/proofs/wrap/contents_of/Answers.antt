@@ -2,8 +2,8 @@ use Rattle.std.proofs.Common.{◌≡◌, ◌∙◌, List, ℕ, ap, false}
 use Rattle.std.specs.FinMap.{FinMap, empty, insert}
 use Rattle.msi_container_format.specs.declared.contents.Contents.{Contents}
 use Rattle.msi_container_format.specs.Names.{name_cmp}
-use Rattle.msidb.specs.Wrapped.{installer_clsid}
-use Rattle.msidb.proofs.wrap.contents_of.Goals as goal
+use Rattle.msidb_commands.specs.Wrapped.{installer_clsid}
+use Rattle.msidb_commands.proofs.wrap.contents_of.Goals as goal
 
 -- an installer's container with these streams
 abbrev installer : FinMap name_cmp (List ℕ) → Contents

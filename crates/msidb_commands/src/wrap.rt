@@ -7,7 +7,7 @@ ghost use Rattle.msi_container_device.specs.Held.{with_piece};
 ghost use Rattle.msi_container_write.specs.Layout.{layout, refuses};
 ghost use Rattle.msi_container_format.specs.Names.{utf16_units};
 ghost use Rattle.msi_container_format.specs.StreamNames.{encoded_name, is_valid_name};
-ghost use Rattle.msidb.specs.Wrapped.{wrapped};
+ghost use Rattle.msidb_commands.specs.Wrapped.{wrapped};
 
 use msi_container::compound::{self, Buffered, Bytes, Contents, Device, Name, StreamMap};
 use msi_container::streamname;

@@ -2,8 +2,9 @@
 use Rattle.std.specs.Prelude.{ℕ, Bool, false, List, [], ◌∷◌, ◌||◌, map, codes, bytes_eq, string_bytes}
 use Rattle.std.specs.declared.string.String.{String}
 use Rattle.std.specs.declared.alloc.Global.{Global}
-use Rattle.msidb.specs.declared.command.Command.{Command}
-use Rattle.msidb.specs.declared.command.Command.TheVariants.{Raw, Wrap, New, Tables, Rows, Summary, Streams, Cat, Put}
+use Rattle.msidb_commands.specs.declared.command.Command.{Command}
+use Rattle.msidb_commands.specs.declared.command.Command.TheVariants.{Raw, Wrap, New, Tables, Rows}
+use Rattle.msidb_commands.specs.declared.command.Command.TheVariants.{Summary, Streams, Cat, Put}
 
 -- the commands of a file alone
 abbrev pub takes_file : List ℕ → Bool

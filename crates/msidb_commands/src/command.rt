@@ -1,7 +1,7 @@
 //! Parses the command line.
 
 ghost use Rattle.std.specs.Prelude.{◌≡◌, ◌∷◌, [], IfSome, is_some};
-ghost use Rattle.msidb.specs.Commands.{fits_command, takes_file, takes_name, texts_of, words_of};
+ghost use Rattle.msidb_commands.specs.Commands.{fits_command, takes_file, takes_name, texts_of, words_of};
 
 /// A command with its operands.
 #[derive(Clone, Copy, Debug)]

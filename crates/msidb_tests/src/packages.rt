@@ -1,0 +1,83 @@
+//! `new`, `tables`, `rows`, `streams`, `cat` and `put`.
+
+use crate::runs::{check, ends_moving, path, prints, shows};
+use std::process::Abort;
+use std::{fs, io};
+
+/// Words, and what is printed.
+static NEW: [(&'static [&'static str], &'static str); 6] = [
+    (&["new", "FILE"], ""),
+    (&["tables", "FILE"], "_Columns\n_Tables\n_Validation\n"),
+    (&["rows", "FILE", "_Tables"], "Name\n\"_Validation\"\n"),
+    (&["rows", "FILE", "_Columns"], COLUMNS),
+    (
+        &["summary", "FILE"],
+        "codepage: 65001\ntitle: Installation Database\n",
+    ),
+    (&["streams", "FILE"], ""),
+];
+
+/// The rows of a new package's columns. The types are those of MsiDefs.h: 0x2000 for a key, 0x1000 for what may be
+/// null, and 0x0D00, 0x0500 and 0x0100 for a text, a short number and a long one, with the length below.
+const COLUMNS: &str = "Table\tNumber\tName\tType
+\"_Validation\"\t1\t\"Table\"\t11552
+\"_Validation\"\t2\t\"Column\"\t11552
+\"_Validation\"\t3\t\"Nullable\"\t3332
+\"_Validation\"\t4\t\"MinValue\"\t4356
+\"_Validation\"\t5\t\"MaxValue\"\t4356
+\"_Validation\"\t6\t\"KeyTable\"\t7679
+\"_Validation\"\t7\t\"KeyColumn\"\t5378
+\"_Validation\"\t8\t\"Category\"\t7456
+\"_Validation\"\t9\t\"Set\"\t7679
+\"_Validation\"\t10\t\"Description\"\t7679
+";
+
+#[test]
+fn a_new_package_has_its_system_tables_and_a_title(rt: HostRuntime) {
+    let path = path(&rt, "new").expect(&rt, "a path");
+    for row in &NEW {
+        check(&rt, row.0, shows(&rt, row.0, path.as_str(), row.1));
+    }
+    fs::remove_file(&rt, path.as_str()).expect(&rt, "a file");
+}
+
+/// Whether this input, put as a stream, is the only one listed and comes back.
+fn stores(rt: &HostRuntime, path: &str, input: &str) -> io::Result<bool> {
+    let put = ["put", "FILE", "App.exe"];
+    Ok(
+        prints(rt, &put, path, input.as_bytes(), "", "")?
+            && shows(rt, &["streams", "FILE"], path, "App.exe\n")?
+            && shows(rt, &["cat", "FILE", "App.exe"], path, input)?,
+    )
+}
+
+#[test]
+fn what_is_put_is_listed_and_comes_back(rt: HostRuntime) {
+    let path = path(&rt, "put").expect(&rt, "a path");
+    let new = ["new", "FILE"];
+    check(&rt, &new, shows(&rt, &new, path.as_str(), ""));
+    let input = "\n\"\tZ".repeat(rt.alloc(), 25_000).expect(&rt, "memory");
+    for input in [input.as_str(), "less", "", "more than before"] {
+        let found = stores(&rt, path.as_str(), input);
+        check(&rt, &[input.get(..16).unwrap_or(input)], found);
+    }
+    fs::remove_file(&rt, path.as_str()).expect(&rt, "a file");
+}
+
+/// Whether a stream is put where another file takes the place of the package while standard input is read.
+fn puts_moved(rt: &HostRuntime, path: &str, moved: &str) -> io::Result<bool> {
+    Ok(
+        shows(rt, &["new", "FILE"], path, "")?
+            && shows(rt, &["new", "FILE"], moved, "")?
+            && ends_moving(rt, &["put", "FILE", "a"], path, moved, "")?
+            && shows(rt, &["streams", "FILE"], path, "a\n")?,
+    )
+}
+
+#[test]
+fn the_file_is_closed_while_standard_input_is_read(rt: HostRuntime) {
+    let closed = path(&rt, "closed").expect(&rt, "a path");
+    let moved = path(&rt, "moved").expect(&rt, "a path");
+    check(&rt, &[], puts_moved(&rt, closed.as_str(), moved.as_str()));
+    fs::remove_file(&rt, closed.as_str()).expect(&rt, "a file");
+}

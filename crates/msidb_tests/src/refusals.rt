@@ -1,0 +1,126 @@
+//! What is refused, and what is told of it.
+
+use crate::runs::{USAGE, check, ends_moving, path, prints, shows};
+use std::process::Abort;
+use std::{fs, io};
+
+/// Words, and the line of errors. The file is no compound file.
+static FAULTS: [(&'static [&'static str], &'static str); 29] = [
+    (&["wrap", "FILE", "a/b"], "InvalidInput"),
+    (&["raw", "FILE"], "InvalidData"),
+    (&["tables", "FILE"], "InvalidData"),
+    (&["rows", "FILE", "_Tables"], "InvalidData"),
+    (&["summary", "FILE"], "InvalidData"),
+    (&["streams", "FILE"], "InvalidData"),
+    (&["cat", "FILE", "a"], "InvalidData"),
+    (&["put", "FILE", "a"], "InvalidData"),
+    (&["raw", "FILE-missing/file"], "Io"),
+    (&["wrap", "FILE-missing/file", "a"], "Io"),
+    (&["new", "FILE-missing/file"], "Io"),
+    (&["tables", "FILE-missing"], "Io"),
+    (&["rows", "FILE-missing", "_Tables"], "Io"),
+    (&["summary", "FILE-missing"], "Io"),
+    (&["streams", "FILE-missing"], "Io"),
+    (&["cat", "FILE-missing", "a"], "Io"),
+    (&["put", "FILE-missing", "a"], "Io"),
+    // A folder.
+    (&["tables", "."], "Io"),
+    (&["new", "."], "Io"),
+    (&["put", ".", "a"], "Io"),
+    (&[], USAGE),
+    (&["raw"], USAGE),
+    (&["raw", "a", "b"], USAGE),
+    (&["wrap", "a"], USAGE),
+    (&["rows", "a"], USAGE),
+    (&["summary", "a", "b"], USAGE),
+    (&["put", "a", "b", "c"], USAGE),
+    (&["Tables", "a"], USAGE),
+    (&["--help"], USAGE),
+];
+
+#[test]
+fn faults_are_told_and_leave_the_file_as_it_was(rt: HostRuntime) {
+    let path = path(&rt, "faults").expect(&rt, "a path");
+    fs::write(&rt, path.as_str(), "as it was").expect(&rt, "a file");
+    for row in &FAULTS {
+        check(
+            &rt,
+            row.0,
+            prints(&rt, row.0, path.as_str(), b"", "", row.1),
+        );
+    }
+    let left = fs::read(&rt, path.as_str()).expect(&rt, "a file");
+    assert_eq!(rt; left.as_slice(), b"as it was".as_slice());
+    fs::remove_file(&rt, path.as_str()).expect(&rt, "a file");
+}
+
+/// The words that make the file, those of a run, and its line of errors.
+type Refusal<'a> = (&'a [&'a str], &'a [&'a str], &'a str);
+
+/// What a package refuses.
+static REFUSED: [Refusal<'static>; 7] = [
+    // A container without a summary.
+    (&["wrap", "FILE", "a"], &["tables", "FILE"], "NotFound"),
+    (&["wrap", "FILE", "a"], &["cat", "FILE", "a"], "NotFound"),
+    (&["wrap", "FILE", "a"], &["put", "FILE", "a/b"], "NotFound"),
+    (&["new", "FILE"], &["rows", "FILE", "Numbers"], "NotFound"),
+    (&["new", "FILE"], &["cat", "FILE", "a"], "NotFound"),
+    (&["new", "FILE"], &["cat", "FILE", "a/b"], "InvalidInput"),
+    (&["new", "FILE"], &["put", "FILE", "a/b"], "InvalidInput"),
+];
+
+/// Whether a run is refused with this line of errors, and leaves the file as it was.
+fn refuses(rt: &HostRuntime, all: &[&str], path: &str, line: &str) -> io::Result<bool> {
+    let before = fs::read(rt, path)?;
+    let is_told = prints(rt, all, path, b"", "", line)?;
+    let after = fs::read(rt, path)?;
+    Ok(is_told && before.as_slice() == after.as_slice())
+}
+
+#[test]
+fn what_a_package_refuses_leaves_the_file_as_it_was(rt: HostRuntime) {
+    let path = path(&rt, "refused").expect(&rt, "a path");
+    for row in &REFUSED {
+        check(&rt, row.0, shows(&rt, row.0, path.as_str(), ""));
+        check(&rt, row.1, refuses(&rt, row.1, path.as_str(), row.2));
+    }
+    fs::remove_file(&rt, path.as_str()).expect(&rt, "a file");
+}
+
+/// The fault that is told first where standard input and output fail.
+static FIRST: [Refusal<'static>; 10] = [
+    // The name comes before standard input, which comes before the file.
+    (
+        &["wrap", "FILE", "a"],
+        &["wrap", "FILE-missing/file", "a/b"],
+        "InvalidInput",
+    ),
+    (
+        &["wrap", "FILE", "a"],
+        &["wrap", "FILE-missing/file", "a"],
+        "Io",
+    ),
+    (&["wrap", "FILE", "a"], &["raw", "FILE"], "Io"),
+    // Standard input comes before what the file holds and before the name, and standard output comes last.
+    (&["wrap", "FILE", "a"], &["put", "FILE", "a"], "Io"),
+    (&["new", "FILE"], &["put", "FILE", "a/b"], "Io"),
+    (&["wrap", "FILE", "a"], &["tables", "FILE"], "NotFound"),
+    (&["new", "FILE"], &["rows", "FILE", "Numbers"], "NotFound"),
+    (&["new", "FILE"], &["tables", "FILE"], "Io"),
+    (&["new", "FILE"], &["rows", "FILE", "_Tables"], "Io"),
+    (&["new", "FILE"], &["summary", "FILE"], "Io"),
+];
+
+#[test]
+fn the_first_fault_is_told(rt: HostRuntime) {
+    let path = path(&rt, "broken").expect(&rt, "a path");
+    for row in &FIRST {
+        check(&rt, row.0, shows(&rt, row.0, path.as_str(), ""));
+        check(
+            &rt,
+            row.1,
+            ends_moving(&rt, row.1, path.as_str(), "", row.2),
+        );
+    }
+    fs::remove_file(&rt, path.as_str()).expect(&rt, "a file");
+}

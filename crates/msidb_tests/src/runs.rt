@@ -1,0 +1,139 @@
+//! Runs of commands, on a file in the folder for temporary ones.
+
+use msidb_commands::run;
+use std::alloc::{AllocError, Global};
+use std::io::{self, Read, Write};
+use std::process::{self, Abort};
+use std::{env, fs};
+
+/// The message for arguments that match no command.
+pub(crate) const USAGE: &str =
+    "usage: msidb raw|wrap|new|tables|rows|summary|streams|cat|put FILE [NAME]";
+
+/// A path in the folder for temporary files that no other test uses.
+pub(crate) fn path(rt: &HostRuntime, name: &str) -> io::Result<String> {
+    let folder = env::temp_dir(rt)?;
+    let id = process::id(rt.process());
+    Ok(format!(in rt.alloc(); "{}/msidb-{id}-{name}", folder.as_path().display())?)
+}
+
+/// A word as the program is handed it, with a path where it begins with `FILE`.
+fn word(alloc: Global, word: &str, path: &str) -> Result<String, AllocError> {
+    match word.strip_prefix("FILE") {
+        Some(rest) => format!(in alloc; "{path}{rest}"),
+        None => String::from_str(alloc, word),
+    }
+}
+
+/// Words as the program is handed them.
+pub(crate) fn words(alloc: Global, all: &[&str], path: &str) -> io::Result<Vec<String>> {
+    let mut words = Vec::new(alloc);
+    for item in all {
+        words.push(word(alloc, item, path)?)?;
+    }
+    Ok(words)
+}
+
+/// The exit status for this line of errors, or for none.
+fn status_of(line: &str) -> u8 {
+    if line.is_empty() {
+        0
+    } else if line == USAGE {
+        2
+    } else {
+        1
+    }
+}
+
+/// Whether the bytes are this line, or empty where there is none.
+fn is_line(bytes: &[u8], line: &str) -> bool {
+    if line.is_empty() {
+        bytes.is_empty()
+    } else {
+        bytes.strip_suffix(b"\n") == Some(line.as_bytes())
+    }
+}
+
+/// Whether a run over these words ends with this line of errors, or none, and the status for it.
+fn runs<I: Read, O: Write>(
+    rt: &HostRuntime,
+    words: &[String],
+    input: &mut I,
+    output: &mut O,
+    line: &str,
+) -> bool {
+    let mut errors = Vec::new(rt.alloc());
+    let status = run(rt, words, input, output, &mut errors);
+    status == status_of(line) && is_line(errors.as_slice(), line)
+}
+
+/// Whether a run ends with this line of errors, or none, and the status for it.
+pub(crate) fn ends<I: Read, O: Write>(
+    rt: &HostRuntime,
+    all: &[&str],
+    path: &str,
+    input: &mut I,
+    output: &mut O,
+    line: &str,
+) -> io::Result<bool> {
+    let words = words(rt.alloc(), all, path)?;
+    Ok(runs(rt, words.as_slice(), input, output, line))
+}
+
+/// Whether a run with this input prints this, and ends with this line of errors, or none.
+pub(crate) fn prints(
+    rt: &HostRuntime,
+    all: &[&str],
+    path: &str,
+    mut input: &[u8],
+    output: &str,
+    line: &str,
+) -> io::Result<bool> {
+    let mut printed = Vec::new(rt.alloc());
+    let has_ended = ends(rt, all, path, &mut input, &mut printed, line)?;
+    Ok(has_ended && printed.as_slice() == output.as_bytes())
+}
+
+/// Whether a run without input prints this, and succeeds.
+pub(crate) fn shows(rt: &HostRuntime, all: &[&str], path: &str, output: &str) -> io::Result<bool> {
+    prints(rt, all, path, b"", output, "")
+}
+
+/// An empty standard input that moves a file onto another path when it is read, and fails where it can't.
+#[derive(Drop)]
+struct Mover<'a> {
+    rt: &'a HostRuntime,
+    from: &'a str,
+    to: &'a str,
+}
+
+impl Read for Mover<'_> {
+    fn read(&mut self, _buffer: &mut [u8]) -> io::Result<usize> {
+        fs::rename(self.rt, self.from, self.to)?;
+        Ok(0)
+    }
+}
+
+/// Whether a run ends with this line of errors, or none, where standard input moves a file to the path when it is
+/// read, and fails if there is no such file, and where standard output takes nothing.
+pub(crate) fn ends_moving(
+    rt: &HostRuntime,
+    all: &[&str],
+    path: &str,
+    moved: &str,
+    line: &str,
+) -> io::Result<bool> {
+    let mut input = Mover {
+        rt,
+        from: moved,
+        to: path,
+    };
+    let mut output: &mut [u8] = &mut [];
+    ends(rt, all, path, &mut input, &mut output, line)
+}
+
+/// Checks what was found of a run over these words.
+pub(crate) fn check(rt: &impl Abort, all: &[&str], found: io::Result<bool>) {
+    let is_so = found.expect(rt, "memory and files");
+    assert!(rt; is_so, "{all:?}");
+}
