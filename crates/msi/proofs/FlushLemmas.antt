@@ -25,7 +25,8 @@ use Rattle.msi_database.proofs.SoundLemmas.{sound_names}
 use Rattle.msi_database.proofs.StreamLemmas.{AreSorted, sorted_put, stream_at_put, stream_at_other_put}
 use Rattle.msi.specs.State.{State, names_of, others_among, parts_of}
 use Rattle.msi.specs.Meaning.{SummaryIs, PoolIs, shown_pool, IsPackage}
-use Rattle.msi.specs.Steps.{with_summary, with_pool, pool_put, streams_written, as_written}
+use Rattle.msi_streams.specs.Renewing.{pool_put}
+use Rattle.msi.specs.Steps.{with_summary, with_pool, streams_written, as_written}
 use Rattle.msi.proofs.KeyNameLemmas.{pool_keys_are_names, summary_key_is_name}
 use Rattle.msi.proofs.OtherStreamLemmas.{names_with, others_put, owned_by_summary, owned_by_pool, owned_by_texts}
 use Rattle.msi.proofs.SummarySetLemmas.{IsSummarySet}

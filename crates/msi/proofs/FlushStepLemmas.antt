@@ -17,7 +17,8 @@ use Rattle.msi.specs.Calls as calls
 use Rattle.msi.specs.Steps.{Step, as_written, contents_of, flush_outcome, flushed, image_of, image_refusals, streams_written, written_for}
 use Rattle.msi.specs.Runs.{FlushLeaves, SessionStep, SameDevice, result_or}
 use Rattle.msi.specs.Whole.{Whole}
-use Rattle.msi.specs.Flushing.{FlushStep, FlushTells, LeavesBytes, LeavesCleared, Overwrites, Told, Writes, begun_over, flush_answer, left_by, over_device, session_of, told, told_by, with_renewed}
+use Rattle.msi_streams.specs.Renewing.{with_renewed}
+use Rattle.msi.specs.Flushing.{FlushStep, FlushTells, LeavesBytes, LeavesCleared, Overwrites, Told, Writes, begun_over, flush_answer, left_by, over_device, session_of, told, told_by}
 use Rattle.msi.proofs.OverwritingLemmas.{told_len, told_len_is}
 
 -- WHAT IS WRITTEN

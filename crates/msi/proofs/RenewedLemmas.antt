@@ -1,17 +1,14 @@
--- Streams that are put among others, one after another, and put back.
-use Rattle.std.proofs.Common.{◌≡◌, ◌≢◌, ℕ, Bool, true, false, List, [], ◌∷◌, ◌++◌, map, Option, Some, None, refl, sym, ap, subst, ◌∙◌}
-use Rattle.std.specs.Prelude.{if◌then◌else◌, option_and_then, option_map}
+-- The streams that a flush writes anew are no tables', and are put back where it fails.
+use Rattle.std.proofs.Common.{◌≡◌, ◌≢◌, ℕ, Bool, true, false, List, [], ◌∷◌, map, Option, refl, sym, ap, subst, ◌∙◌}
 use Rattle.std.specs.List.{AllByRecursion}
 use Rattle.std.specs.FinMap.{entries, entries_sorted, entries-from_sorted, entries-insert, from_sorted, get, get-entries, insert, same_entries_map}
-use Rattle.msi_text_pool.specs.Pool.{Pool, data_stream, pool_stream}
-use Rattle.msi_text_pool.specs.PoolWriting.{is_refused}
 use Rattle.msi_container_format.specs.Names.{name_cmp}
 use Rattle.msi_container_format.specs.Streams as maps
 use Rattle.msi_container_format.specs.declared.contents.Contents.{Contents}
 use Rattle.msi_container_format.proofs.NamesLemmas.{names_total}
 use Rattle.msi_container_format.proofs.StreamsLemmas.{put_back_same}
 use Rattle.msi_container_format.specs.Names.{named}
-use Rattle.msi_database_schema.specs.Keys.{is_table_name, string_data_name, string_pool_name, table_key}
+use Rattle.msi_database_schema.specs.Keys.{is_table_name, string_data_name, string_pool_name, summary_key, table_key}
 use Rattle.msi_database_schema.specs.System.{columns_name, tables_name, validation_name}
 use Rattle.msi_database_changes.specs.Database.{Database, Tables, is_sound}
 use Rattle.msi_database_storage.specs.Kept.{Kept}
@@ -21,36 +18,11 @@ use Rattle.msi_database.proofs.EntriesLemmas.{entries_either}
 use Rattle.msi_database.proofs.KeyLemmas.{columns_accepted, table_key≢pool, tables_accepted, validation_accepted}
 use Rattle.msi_database.proofs.SoundLemmas.{sound_names}
 use Rattle.msi_database.proofs.StreamLemmas.{AreSorted}
+use Rattle.msi_streams.specs.Renewing.{keys_in, renewed_keys}
 use Rattle.msi.specs.declared.kinds.PackageType.{PackageType}
 use Rattle.msi.specs.Kinds.{clsid_of}
-use Rattle.msi.specs.Steps.{pool_put}
-use Rattle.msi.specs.Flushing.{AreOthers, root_contents, with_renewed}
-
--- THE STREAMS THAT ARE RENEWED
-
--- one more
-renewed_last : (rs : Streams) (name bytes : List ℕ) (m : Streams) → with_renewed (rs ++ (name, bytes) ∷ []) m ≡ with_stream name bytes (with_renewed rs m)
-renewed_last [] name bytes m = refl
-renewed_last (r ∷ rs) name bytes m = renewed_last rs name bytes (with_stream r.0 r.1 m)
-
--- the pool's two
-pool_put_is : (pool : Pool) (m : Streams) (entries texts : List ℕ) → is_refused pool ≡ false → pool_stream pool ≡ Some entries → data_stream pool ≡ Some texts
-    → pool_put pool m ≡ Some (with_stream (table_key string_pool_name) entries (with_stream (table_key string_data_name) texts m))
-pool_put_is pool m entries texts told e t =
-    ap (λ b. if b then None else option_and_then (λ written. option_map (λ texts. with_stream (table_key string_pool_name) written (with_stream (table_key string_data_name) texts m)) (data_stream pool)) (pool_stream pool)) told
-    ∙ ap (option_and_then (λ written. option_map (λ texts. with_stream (table_key string_pool_name) written (with_stream (table_key string_data_name) texts m)) (data_stream pool))) e
-    ∙ ap (option_map (λ texts. with_stream (table_key string_pool_name) entries (with_stream (table_key string_data_name) texts m))) t
-
-pub pool_added : (pool : Pool) (old new : Streams) (entries texts data_key pool_key : List ℕ) → is_refused pool ≡ false → pool_stream pool ≡ Some entries → data_stream pool ≡ Some texts
-    → data_key ≡ table_key string_data_name → pool_key ≡ table_key string_pool_name → new ≡ (old ++ (data_key, texts) ∷ []) ++ (pool_key, entries) ∷ []
-    → (m : Streams) → pool_put pool (with_renewed old m) ≡ Some (with_renewed new m)
-pool_added pool old new entries texts data_key pool_key told e t data_is pool_is new_is m =
-    pool_put_is pool (with_renewed old m) entries texts told e t
-    ∙ ap Some (sym (
-    ap (λ rs. with_renewed rs m) new_is
-    ∙ renewed_last (old ++ (data_key, texts) ∷ []) pool_key entries m
-    ∙ ap (with_stream pool_key entries) (renewed_last old data_key texts m)
-    ∙ (λ i. with_stream (pool_is i) entries (with_stream (data_is i) texts (with_renewed old m)))))
+use Rattle.msi.specs.Flushing.{AreOthers, root_contents}
+use Rattle.msi.proofs.OpenLemmas.{unmarked_is_other}
 
 -- THEIR NAMES
 
@@ -70,18 +42,23 @@ pool_is_other d sound = is_other (table_key string_pool_name) d sound (λ name i
 texts_are_other : (d : Database) → is_sound d ≡ true → IsOther d (table_key string_data_name)
 texts_are_other d sound = is_other (table_key string_data_name) d sound (λ name is e. (table_key≢pool name is).1 (sym e))
 
-others_last : (d : Database) (rs : Streams) (name bytes : List ℕ) → AreOthers d rs → IsOther d name → AreOthers d (rs ++ (name, bytes) ∷ [])
-others_last d [] name bytes all other = (other, tt)
-others_last d (r ∷ rs) name bytes all other = (all.0, others_last d rs name bytes all.1 other)
+summary_is_other : (d : Database) → IsOther d summary_key
+summary_is_other d = unmarked_is_other d summary_key refl
 
-pub pool_others : (old new : Streams) (entries texts data_key pool_key : List ℕ)
-    → data_key ≡ table_key string_data_name → pool_key ≡ table_key string_pool_name → new ≡ (old ++ (data_key, texts) ∷ []) ++ (pool_key, entries) ∷ []
-    → (d : Database) → is_sound d ≡ true → AreOthers d old → AreOthers d new
-pool_others old new entries texts data_key pool_key data_is pool_is new_is d sound all =
-    subst (AreOthers d) (sym new_is)
-    (others_last d (old ++ (data_key, texts) ∷ []) pool_key entries
-    (others_last d old data_key texts all (subst (IsOther d) (sym data_is) (texts_are_other d sound)))
-    (subst (IsOther d) (sym pool_is) (pool_is_other d sound)))
+keys_are_others : (d : Database) (is_lent is_changed : Bool) → (is_changed ≡ true → is_sound d ≡ true) → AllByRecursion (IsOther d) (renewed_keys is_lent is_changed)
+keys_are_others d false false sound = tt
+keys_are_others d true false sound = (summary_is_other d, tt)
+keys_are_others d false true sound = (texts_are_other d (sound refl), (pool_is_other d (sound refl), tt))
+keys_are_others d true true sound = (summary_is_other d, (texts_are_other d (sound refl), (pool_is_other d (sound refl), tt)))
+
+others_by_keys : (d : Database) (rs : Streams) → AllByRecursion (IsOther d) (keys_in rs) → AreOthers d rs
+others_by_keys d [] all = tt
+others_by_keys d (r ∷ rs) all = (all.0, others_by_keys d rs all.1)
+
+pub renewed_are_others : (d : Database) (is_lent is_changed : Bool) (renewed items : Streams) → (is_changed ≡ true → is_sound d ≡ true)
+    → keys_in renewed ≡ renewed_keys is_lent is_changed → items ≡ renewed → AreOthers d items
+renewed_are_others d is_lent is_changed renewed items sound named same =
+    others_by_keys d items (subst (λ (keys : List (List ℕ)). AllByRecursion (IsOther d) keys) (sym (ap keys_in same ∙ named)) (keys_are_others d is_lent is_changed sound))
 
 -- PUT BACK
 

@@ -14,7 +14,8 @@ use Rattle.msi_database_storage.specs.Streams.{Streams, has_stream_at, stream_at
 use Rattle.msi_database.proofs.MapLemmas as lookups
 use Rattle.msi.specs.State.{State, is_other_name, names_of, other_streams, parts_of}
 use Rattle.msi.specs.Steps.{bytes_of_stream, has_stream}
-use Rattle.msi.specs.Whole.{IsOpen, opened}
+use Rattle.msi_streams.specs.Renewing.{opened}
+use Rattle.msi.specs.Whole.{IsOpen}
 use Rattle.msi.proofs.OtherStreamLemmas.{signature_is_other, stream_key_is_other}
 
 -- THE STREAM THAT LIES OPEN stands over one that is there

@@ -17,7 +17,8 @@ use Rattle.msi_database_storage.specs.Kept.{Kept}
 use Rattle.msi_database_storage.specs.Streams.{Streams}
 use Rattle.msi_streams.specs.Listing.{is_listed, listed_names, text_of_key}
 use Rattle.msi.specs.State.{is_other_name, names_of, others_among}
-use Rattle.msi.specs.Whole.{IsOpen, opened}
+use Rattle.msi_streams.specs.Renewing.{opened}
+use Rattle.msi.specs.Whole.{IsOpen}
 use Rattle.msi.proofs.OtherStreamLemmas.{other_key}
 use Rattle.msi.proofs.StreamCallLemmas.{told_at}
 

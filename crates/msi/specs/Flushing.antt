@@ -1,57 +1,33 @@
 -- What a flush does to the streams of a package, and to what its device holds.
-use Rattle.std.specs.Prelude.{◌≡◌, ℕ, ◌⊎◌, Bool, true, false, List, [], ◌∷◌, ◌++◌, length, take, drop, Option, Some}
-use Rattle.std.specs.Prelude.{option_and_then, option_map, IfSome, Result, Ok, Err, MatchBool, if◌then◌else◌}
+use Rattle.std.specs.Prelude.{◌≡◌, ℕ, ◌⊎◌, Bool, true, false, List, ◌++◌, length, take, drop, Option, Some}
+use Rattle.std.specs.Prelude.{option_map, IfSome, Result, Ok, Err, MatchBool, if◌then◌else◌}
 use Rattle.std.specs.List.{AllByRecursion}
 use Rattle.std.specs.FinMap.{from_sorted}
 use Rattle.msi_text_base.specs.declared.errors.ErrorKind.{ErrorKind}
 use Rattle.msi_text_base.specs.declared.errors.ErrorKind.TheVariants.{InvalidInput, Io, OutOfMemory}
-use Rattle.msi_text_pool.specs.Pool.{Pool}
 use Rattle.msi_summary_properties.specs.Properties.{Properties}
 use Rattle.msi_container_device.specs.Faults.{is_io}
 use Rattle.msi_container_device.specs.Held.{Held, bytes_told}
 use Rattle.msi_container_format.specs.declared.contents.Contents.{Contents}
 use Rattle.msi_container_write.specs.Layout.{layout, refuses}
-use Rattle.msi_database_schema.specs.Keys.{summary_key}
 use Rattle.msi_database_changes.specs.Database.{Database}
 use Rattle.msi_database_storage.specs.Kept.{Kept}
-use Rattle.msi_database_storage.specs.Streams.{Streams, with_stream}
+use Rattle.msi_database_storage.specs.Streams.{Streams}
 use Rattle.msi_database.specs.Others.{IsOther}
 use Rattle.msi.specs.declared.kinds.PackageType.{PackageType}
 use Rattle.msi.specs.Kinds.{clsid_of}
 use Rattle.msi.specs.Calls.{Answer}
 use Rattle.msi.specs.Calls as calls
 use Rattle.msi.specs.State.{State}
-use Rattle.msi.specs.Steps.{Step, answer_of, as_written, contents_of, image_of, pool_put, summary_written, written_for}
+use Rattle.msi.specs.Steps.{Step, answer_of, as_written, contents_of, image_of, written_for}
 use Rattle.msi.specs.Runs.{Session, created_over, result_or, unwritten}
 use Rattle.msi.specs.Whole.{Whole, state_of}
 
 -- STREAMS
 
--- streams that are put among others, one after another
-abbrev pub with_renewed : Streams → Streams → Streams
-with_renewed [] streams = streams
-with_renewed (r ∷ rs) streams = with_renewed rs (with_stream r.0 r.1 streams)
-
--- what the summary and the pool put among streams, where they are to be written
-abbrev pub summary_over : Bool → Properties → Streams → Option Streams
-summary_over is_lent summary streams = if is_lent
-    then option_map (λ bytes. with_stream summary_key bytes streams) (summary_written summary)
-    else Some streams
-
-abbrev pub pool_over : Bool → Pool → Streams → Option Streams
-pool_over is_changed pool streams = if is_changed then pool_put pool streams else Some streams
-
-abbrev pub renewed_over : Bool → Properties → Bool → Pool → Streams → Option Streams
-renewed_over is_lent summary is_changed pool streams =
-    option_and_then (pool_over is_changed pool) (summary_over is_lent summary streams)
-
 -- none of these has the name of a table's stream
 abbrev pub AreOthers : Database → Streams → Type 0
 AreOthers d renewed = AllByRecursion (λ r. IsOther d r.0) renewed
-
--- want of memory, or a text that can't be written
-abbrev pub IsUnwritten : Bool → ErrorKind → Type 0
-IsUnwritten is_refused kind = (kind ≡ OutOfMemory) ⊎ (kind ≡ InvalidInput) × (is_refused ≡ true)
 
 -- THE DEVICE
 

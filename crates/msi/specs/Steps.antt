@@ -1,22 +1,17 @@
 -- What each call on a package answers and leaves.
 use Rattle.std.specs.Prelude.{◌≡◌, ℕ, ◌⊎◌, Bool, true, false, not, List, [], ◌∷◌, ◌++◌, map, filter, Option, Some, None}
-use Rattle.std.specs.Prelude.{option_map, option_and_then, unwrap_or, ◌&&◌, ◌||◌, if◌then◌else◌, IsTrue, Result, Ok}
+use Rattle.std.specs.Prelude.{option_and_then, unwrap_or, ◌&&◌, ◌||◌, if◌then◌else◌, IsTrue, Result, Ok}
 use Rattle.std.specs.Prelude.{Err, MatchBool}
 use Rattle.std.specs.FinMap.{from_sorted}
 use Rattle.msi_text_base.specs.declared.codepage.CodePage.{CodePage}
 use Rattle.msi_text_base.specs.declared.errors.ErrorKind.{ErrorKind}
 use Rattle.msi_text_base.specs.declared.errors.ErrorKind.TheVariants.{InvalidInput, NotFound, Io, OutOfMemory}
-use Rattle.msi_text_pool.specs.Pool.{Pool, pool_stream, data_stream}
-use Rattle.msi_text_pool.specs.PoolWriting.{is_refused}
 use Rattle.msi_summary_properties.specs.Properties.{Properties}
-use Rattle.msi_summary_properties.specs.PropertyStream.{property_stream}
-use Rattle.msi_summary_properties.specs.PropertyWriting as properties
 use Rattle.msi_container_format.specs.declared.contents.Contents.{Contents}
 use Rattle.msi_container_write.specs.Layout.{layout, refuses}
 use Rattle.msi_query_rows.specs.Refusals.{Refusals, first_refusal, unless_refused, or_refused, ◌>>=◌}
 use Rattle.msi_query_rows.specs.Selection.{relation_of}
-use Rattle.msi_database_schema.specs.Keys.{is_stream_name, stream_key, table_key, summary_key, signature_key}
-use Rattle.msi_database_schema.specs.Keys.{signature_ex_key, string_pool_name, string_data_name}
+use Rattle.msi_database_schema.specs.Keys.{is_stream_name, stream_key, signature_key, signature_ex_key}
 use Rattle.msi_database_changes.specs.Database.{Database, has_table, values_of}
 use Rattle.msi_database_changes.specs.Changes.{Change, sound_refusal}
 use Rattle.msi_database_changes.specs.Insert.{insert_rows}
@@ -29,6 +24,7 @@ use Rattle.msi_database_storage.specs.Kept as databases
 use Rattle.msi_database.specs.Listed.{table_def_at, tables_listed}
 use Rattle.msi_database.specs.Listed as listed
 use Rattle.msi_streams.specs.Listing.{is_listed, text_of_key}
+use Rattle.msi_streams.specs.Renewing.{pool_over, summary_over}
 use Rattle.msi.specs.Kinds.{clsid_of}
 use Rattle.msi.specs.State.{Parts, State, parts_of}
 use Rattle.msi.specs.Calls.{Call, Answer}
@@ -76,22 +72,11 @@ name_refusals p name = storage_refusal p ++ (not (is_stream_name name), InvalidI
 
 -- What a flush writes: the summary anew where it was lent, the pool where it was changed; nothing where the page can't
 -- carry a text
-abbrev pub summary_written : Properties → Option (List ℕ)
-summary_written summary = if properties.is_refused summary then None else property_stream summary
-
 abbrev pub with_summary : State → Streams → Option Streams
-with_summary s streams = if s.is_summary_lent
-    then option_map (λ bytes. with_stream summary_key bytes streams) (summary_written s.summary)
-    else Some streams
-
-abbrev pub pool_put : Pool → Streams → Option Streams
-pool_put pool streams = if is_refused pool then None else option_and_then
-    (λ written. option_map (λ texts. with_stream (table_key string_pool_name) written
-    (with_stream (table_key string_data_name) texts streams)) (data_stream pool))
-    (pool_stream pool)
+with_summary s streams = summary_over s.is_summary_lent s.summary streams
 
 abbrev pub with_pool : State → Streams → Option Streams
-with_pool s streams = if s.is_pool_changed then pool_put s.kept.database.pool streams else Some streams
+with_pool s streams = pool_over s.is_pool_changed s.kept.database.pool streams
 
 abbrev pub streams_written : State → Option Streams
 streams_written s = option_and_then (with_pool s) (with_summary s s.kept.streams)

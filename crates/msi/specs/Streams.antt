@@ -2,3 +2,4 @@
 pub use Rattle.msi_streams.specs.Cursor
 pub use Rattle.msi_streams.specs.Refusals
 pub use Rattle.msi_streams.specs.Listing
+pub use Rattle.msi_streams.specs.Renewing

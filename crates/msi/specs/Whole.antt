@@ -1,5 +1,5 @@
 -- A package over a device, as contracts see it.
-use Rattle.std.specs.Prelude.{◌≡◌, ℕ, Bool, true, List, Option, Some, None, Result, Ok, Err, IfSome}
+use Rattle.std.specs.Prelude.{◌≡◌, ℕ, Bool, true, List, Option, Some, Result, Ok, Err, IfSome}
 use Rattle.msi_text_base.specs.declared.errors.ErrorKind.{ErrorKind}
 use Rattle.msi_container_device.specs.Held.{Held}
 use Rattle.msi_summary_properties.specs.Properties.{Properties}
@@ -7,8 +7,9 @@ use Rattle.msi_database_schema.specs.Keys.{is_stream_name, stream_key}
 use Rattle.msi_database_changes.specs.Database.{is_sound}
 use Rattle.msi_database_changes.specs.Changes.{Change}
 use Rattle.msi_database_storage.specs.Kept.{Kept}
-use Rattle.msi_database_storage.specs.Streams.{Streams, has_stream_at, with_stream}
+use Rattle.msi_database_storage.specs.Streams.{has_stream_at}
 use Rattle.msi_database.specs.Others.{with_streams}
+use Rattle.msi_streams.specs.Renewing.{opened}
 use Rattle.msi.specs.declared.kinds.PackageType.{PackageType}
 use Rattle.msi.specs.State.{State}
 use Rattle.msi.specs.Steps.{after_change}
@@ -26,10 +27,6 @@ abbrev pub with_state : State → Whole → Whole
 with_state s w = record w { state = s }
 
 -- The parts of a state: the stream that lies open stands over the one that is kept
-abbrev pub opened : Option (List ℕ) → List ℕ → Streams → Streams
-opened None bytes streams = streams
-opened (Some name) bytes streams = with_stream name bytes streams
-
 abbrev pub with_open : Option (List ℕ) → List ℕ → Kept → Kept
 with_open name bytes k = with_streams (opened name bytes) k
 

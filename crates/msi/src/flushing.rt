@@ -1,22 +1,14 @@
 //! Writing a package to its device.
 
-ghost use Rattle.std.specs.Prelude.{◌≡◌, ◌&&◌, IfErr, IfOk, OnErr, OnOk, Some, false, not, option_map};
-ghost use Rattle.std.specs.Prelude.{true};
+ghost use Rattle.std.specs.Prelude.{◌≡◌, ◌&&◌, OnErr, OnOk, false, not, true};
 ghost use Rattle.std.specs.Vec.Iter.{into_iter_items};
-ghost use Rattle.msi_text_base.specs.declared.errors.ErrorKind.TheVariants.{InvalidInput};
-ghost use Rattle.msi_text_pool.specs.Pool.{unindexed};
-ghost use Rattle.msi_text_pool.specs.PoolWriting.{is_refused as is_pool_refused};
-ghost use Rattle.msi_summary_properties.specs.PropertyWriting.{is_refused as is_summary_refused};
 ghost use Rattle.msi_container_device.specs.Faults.{is_io};
 ghost use Rattle.msi_container_write.specs.Borrowed.{contents_of};
-ghost use Rattle.msi_query_rows.specs.Refusals.{IsRefusal, or_refused};
-ghost use Rattle.msi_database_changes.specs.Database.{Database as DatabaseValue, is_sound};
-ghost use Rattle.msi_database_storage.specs.Streams.{Streams};
+ghost use Rattle.msi_database_changes.specs.Database.{is_sound};
 ghost use Rattle.msi_database.specs.Others.{with_streams};
-ghost use Rattle.msi.specs.Steps.{pool_put};
-ghost use Rattle.msi.specs.Flushing.{AreOthers, FlushStep, IsUnwritten, Overwrites, flush_answer, left_by};
-ghost use Rattle.msi.specs.Flushing.{over_device, renewed_over, root_contents, summary_over, told, unwritten_of};
-ghost use Rattle.msi.specs.Flushing.{with_renewed};
+ghost use Rattle.msi_streams.specs.Renewing.{with_renewed};
+ghost use Rattle.msi.specs.Flushing.{AreOthers, FlushStep, Overwrites, flush_answer, left_by, over_device};
+ghost use Rattle.msi.specs.Flushing.{root_contents, told, unwritten_of};
 
 use crate::kinds::PackageType;
 use crate::package::{Package, settle};
@@ -27,12 +19,9 @@ use msi_container_format::name::Name;
 use msi_container_write::parts::{BorrowedContents, image_to};
 use msi_database::Database;
 use msi_database::parts::{put_back_stream, replace_stream};
-use msi_database_schema::names::{string_data_key, string_pool_key, summary_key};
+use msi_streams::parts::{contents_under, renewed_streams};
 use msi_summary::SummaryInfo;
-use msi_summary::parts::summary_bytes;
 use msi_text::errors::Error;
-use msi_text::parts::{data_stream_of, pool_stream_of};
-use msi_text::stringpool::StringPool;
 use std::alloc::Global;
 use std::vec::IntoIter;
 
@@ -41,73 +30,6 @@ use std::vec::IntoIter;
 pub(crate) struct Root {
     pub(crate) kind: PackageType,
     pub(crate) has_storages: bool,
-}
-
-/// The summary's stream, where it is to be written.
-///
-/// # Errors
-/// `InvalidInput` where the summary's page doesn't carry a text. Else `OutOfMemory`.
-fn renewed_summary(
-    alloc: Global,
-    summary: &SummaryInfo,
-    is_lent: bool,
-) -> Result<Vec<(Name, Bytes)>, Error>
-    ensures ok { IfOk result (λ renewed. (streams : Streams)
-        → summary_over is_lent summary.now streams ≡ Some (with_renewed renewed.items streams)) }
-    ensures others { IfOk result (λ renewed. (d : DatabaseValue) → AreOthers d renewed.items) }
-    ensures kind { IfErr result (λ kind. (is_lent ≡ true) × IsUnwritten (is_summary_refused summary.now) kind) }
-{
-    if !is_lent {
-        return Ok(Vec::new(alloc));
-    }
-    let bytes = Bytes::from_vec(summary_bytes(summary)?);
-    Ok(Vec::from_array(alloc, [(summary_key(), bytes)])?)
-}
-
-/// Adds the pool's two streams, that of the texts first.
-///
-/// # Errors
-/// `InvalidInput` where the database's page doesn't carry a text. Else `OutOfMemory`.
-fn add_pool(pool: &StringPool, renewed: &mut Vec<(Name, Bytes)>) -> Result<(), Error>
-    ensures ok { OnOk result ((streams : Streams)
-        → pool_put (unindexed pool.now) (with_renewed renewed.old.items streams)
-        ≡ Some (with_renewed renewed.new.items streams)) }
-    ensures others { OnOk result ((d : DatabaseValue) → is_sound d ≡ true
-        → AreOthers d renewed.old.items → AreOthers d renewed.new.items) }
-    ensures kind { IfErr result (IsUnwritten (is_pool_refused (unindexed pool.now))) }
-{
-    let texts = Bytes::from_vec(data_stream_of(pool)?);
-    let entries = Bytes::from_vec(pool_stream_of(pool)?);
-    renewed.push((string_data_key(), texts))?;
-    renewed.push((string_pool_key(), entries))?;
-    Ok(())
-}
-
-/// Returns the streams that are to be written anew: the summary's if it was borrowed for writing, the pool's if it
-/// was changed.
-///
-/// # Errors
-/// `InvalidInput` where a page doesn't carry a text. Else `OutOfMemory`.
-pub(crate) fn renewed_streams(
-    alloc: Global,
-    summary: &SummaryInfo,
-    is_summary_lent: bool,
-    pool: &StringPool,
-    is_pool_changed: bool,
-) -> Result<Vec<(Name, Bytes)>, Error>
-    ensures ok { IfOk result (λ renewed. (streams : Streams)
-        → renewed_over is_summary_lent summary.now is_pool_changed (unindexed pool.now) streams
-        ≡ Some (with_renewed renewed.items streams)) }
-    ensures others { IfOk result (λ renewed. (d : DatabaseValue) → (is_pool_changed ≡ true → is_sound d ≡ true)
-        → AreOthers d renewed.items) }
-    ensures kind { let written = renewed_over is_summary_lent summary.now is_pool_changed (unindexed pool.now) in
-        IfErr result (λ kind. (streams : Streams) → IsRefusal (or_refused InvalidInput (written streams)) kind) }
-{
-    let mut renewed = renewed_summary(alloc, summary, is_summary_lent)?;
-    if is_pool_changed {
-        add_pool(pool, &mut renewed)?;
-    }
-    Ok(renewed)
 }
 
 /// Puts the image of these contents over all that a device holds.
@@ -145,11 +67,7 @@ fn write_streams<F: Device>(
     ensures handed_on { OnOk result (F.pending device.new ≡ false) }
     ensures faultless { F.can_fail ≡ false → F.writes_can_fail ≡ false → is_io result ≡ false }
 {
-    let contents = BorrowedContents {
-        clsid: root.kind.clsid(),
-        streams: database.streams(),
-        has_storages: root.has_storages,
-    };
+    let contents = contents_under(root.kind.clsid(), root.has_storages, database.streams());
     write_image(alloc, &contents, device)
 }
 

@@ -1,82 +1,14 @@
 //! The bytes that a flush would write.
 
-ghost use Rattle.std.specs.Prelude.{◌≡◌, IfErr, IfOk, Ok, OnOk};
-ghost use Rattle.std.specs.FinMap.{entries};
-ghost use Rattle.std.specs.Vec.Iter.{into_iter_items};
-ghost use Rattle.msi_text_base.specs.Results.{OnlyMemory};
+ghost use Rattle.std.specs.Prelude.{◌≡◌, IfErr, IfOk, Ok};
 ghost use Rattle.msi_query_rows.specs.Refusals.{IsRefusal};
-ghost use Rattle.msi.specs.Flushing.{with_renewed};
 ghost use Rattle.msi.specs.Steps.{image_of as image_of_state};
-ghost use Rattle.msi.specs.Whole.{opened};
 
-use crate::flushing::renewed_streams;
 use crate::package::Package;
 use msi_container_device::Source;
-use msi_container_format::contents::{Bytes, StreamMap};
-use msi_container_format::name::Name;
-use msi_container_write::parts::{BorrowedContents, image_of};
-use msi_streams::OpenStream;
+use msi_container_write::parts::image_of;
+use msi_streams::parts::{contents_under, put_all, renewed_streams, settled_copy};
 use msi_text::errors::Error;
-use std::alloc::{AllocError, Global};
-use std::vec::IntoIter;
-
-/// A copy of bytes.
-fn copied_bytes(alloc: Global, bytes: &[u8]) -> Result<Bytes, AllocError>
-    ensures { IfOk result (λ copy. copy ≡ bytes.now) }
-{
-    let mut held = Vec::new(alloc);
-    held.extend_from_slice(bytes)?;
-    Ok(Bytes::from_vec(held))
-}
-
-/// A copy of streams.
-///
-/// # Errors
-/// `OutOfMemory`.
-fn copied_streams(alloc: Global, streams: &StreamMap) -> Result<StreamMap, Error>
-    ensures ok { IfOk result (λ copy. copy ≡ streams.now) }
-    ensures kind { OnlyMemory result }
-{
-    let mut copy = StreamMap::new(alloc);
-    for (name, bytes) in streams.iter() {
-        copy.insert(name.duplicate(), copied_bytes(alloc, bytes.as_slice())?)?;
-    }
-    Ok(copy)
-}
-
-/// A copy of streams, of which one may lie open.
-///
-/// # Errors
-/// `OutOfMemory`.
-fn settled_copy(
-    alloc: Global,
-    streams: &StreamMap,
-    name: &Option<Name>,
-    current: &OpenStream,
-) -> Result<StreamMap, Error>
-    ensures ok { IfOk result (λ copy. entries copy ≡ opened name.now current.now.bytes (entries streams.now)) }
-    ensures kind { OnlyMemory result }
-{
-    let mut copy = copied_streams(alloc, streams)?;
-    if let Some(name) = name {
-        copy.insert(name.duplicate(), copied_bytes(alloc, current.as_slice())?)?;
-    }
-    Ok(copy)
-}
-
-/// Puts these streams among others.
-///
-/// # Errors
-/// `OutOfMemory`; some may then be put.
-fn put_all(streams: &mut StreamMap, renewed: IntoIter<(Name, Bytes)>) -> Result<(), Error>
-    ensures ok { OnOk result (entries streams.new ≡ with_renewed (into_iter_items renewed) (entries streams.old)) }
-    ensures kind { OnlyMemory result }
-{
-    for (name, bytes) in renewed {
-        streams.insert(name, bytes)?;
-    }
-    Ok(())
-}
 
 impl<F: Source> Package<F> {
     /// Returns the bytes that a flush would write over `earlier_len` bytes. It copies the streams, and changes
@@ -103,11 +35,7 @@ impl<F: Source> Package<F> {
             &self.current,
         )?;
         put_all(&mut streams, renewed.into_iter())?;
-        let contents = BorrowedContents {
-            clsid: self.kind.clsid(),
-            streams: &streams,
-            has_storages: self.has_storages,
-        };
+        let contents = contents_under(self.kind.clsid(), self.has_storages, &streams);
         image_of(self.alloc, &contents, earlier_len)
     }
 }

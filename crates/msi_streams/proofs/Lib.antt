@@ -3,3 +3,5 @@ pub mod CursorLemmas
 pub mod NameLemmas
 pub mod CursorRows
 pub mod ListingRows
+pub mod RenewingLemmas
+pub mod CopyingLemmas

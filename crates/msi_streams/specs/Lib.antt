@@ -2,3 +2,4 @@
 pub mod Cursor
 pub mod Refusals
 pub mod Listing
+pub mod Renewing

@@ -7,6 +7,7 @@ pub mod names;
 pub mod parts;
 pub mod reader;
 mod reasons;
+mod renewing;
 mod seeking;
 pub mod writer;
 

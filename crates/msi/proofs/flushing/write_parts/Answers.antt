@@ -4,10 +4,17 @@ use Rattle.msi_text_base.specs.declared.errors.ErrorKind.TheVariants.{InvalidInp
 use Rattle.msi_text_pool.specs.Pool.{Pool}
 use Rattle.msi_query_rows.specs.Refusals.{IsRefusal, or_refused}
 use Rattle.msi_database_storage.specs.Streams.{Streams}
-use Rattle.msi.specs.Flushing.{Overwrites, renewed_over, root_contents, told, unwritten_of, with_renewed}
+use Rattle.msi_streams.specs.Renewing.{renewed_over, with_renewed}
+use Rattle.msi.specs.Flushing.{Overwrites, root_contents, told, unwritten_of}
 use Rattle.msi.proofs.FaultLemmas.{passed_faultless, unwritten_faultless}
 use Rattle.msi.proofs.FlushStepLemmas.{flush_refused_as, flush_written, left_streams, over_cleared}
+use Rattle.msi.proofs.RenewedLemmas.{renewed_are_others}
 use Rattle.msi.proofs.flushing.write_parts.Goals as goal
+
+pub write_with-requires : goal.write_with-requires
+write_with-requires g c =
+    renewed_are_others c.args.database.now.database c.args.is_summary_lent c.args.is_pool_changed c.in_ok-renewed.renewed.items (into_iter_items c.into_iter.result)
+    c.requires c.in_ok-renewed.ensures.names c.into_iter.ensures.rest
 
 pub returns-in_err-renewed-clause-flushed : goal.returns-in_err-renewed-clause-flushed
 returns-in_err-renewed-clause-flushed g c =

@@ -1,4 +1,4 @@
-use Rattle.std.proofs.Common.{subst}
+use Rattle.std.proofs.Common.{◌∙◌, subst}
 use Rattle.msi_container_format.specs.declared.contents.Contents.{Contents}
 use Rattle.msi.specs.Flushing.{Overwrites, told}
 use Rattle.msi.proofs.RenewedLemmas.{root_contents_are}
@@ -8,5 +8,6 @@ pub returns-clause-device : goal.returns-clause-device
 returns-clause-device g c = subst
     (λ (k : Contents). Overwrites k (told (g.F.Source.held c.args.device.now) (g.F.Source.failed c.args.device.now)) c.write_image.result
     (told (g.F.Source.held c.write_image.new.device) (g.F.Source.failed c.write_image.new.device)))
-    (root_contents_are c.args.root.kind c.args.root.has_storages c.clsid.result c.streams.result.now c.args.database.now.streams c.clsid.ensures c.streams.ensures)
+    (c.contents_under-contents.ensures
+    ∙ root_contents_are c.args.root.kind c.args.root.has_storages c.clsid.result c.streams.result.now c.args.database.now.streams c.clsid.ensures c.streams.ensures)
     c.write_image.ensures.device

@@ -1,15 +1,16 @@
-use Rattle.std.proofs.Common.{◌≡◌, Some, ap, rules, subst}
+use Rattle.std.proofs.Common.{◌≡◌, ◌∙◌, Some, ap, rules, subst}
 use Rattle.std.specs.Prelude.{IfErr, IfOk, Ok}
 use Rattle.msi_text_base.specs.declared.errors.ErrorKind.TheVariants.{InvalidInput}
 use Rattle.msi_text_pool.specs.Pool.{Pool}
+use Rattle.msi_container_write.specs.Borrowed.{contents_of}
 use Rattle.msi_query_rows.specs.Refusals.{IsRefusal, or_refused}
 use Rattle.msi_database_storage.specs.Streams.{Streams}
 use Rattle.std.specs.FinMap.{entries}
 use Rattle.std.specs.Vec.Iter.{into_iter_items}
 use Rattle.msi.specs.State.{State}
 use Rattle.msi.specs.Steps.{image_of, streams_written}
-use Rattle.msi.specs.Flushing.{renewed_over, with_renewed}
-use Rattle.msi.specs.Whole.{Whole, opened, state_of, with_open}
+use Rattle.msi_streams.specs.Renewing.{opened, renewed_over, with_renewed}
+use Rattle.msi.specs.Whole.{Whole, state_of, with_open}
 use Rattle.msi.proofs.CreatingLemmas.{err_as}
 use Rattle.msi.proofs.ImagingLemmas.{all_put, answer_done, answer_failed, image_unwritten}
 use Rattle.msi.proofs.RenewedLemmas.{root_contents_are}
@@ -37,8 +38,9 @@ returns-clause-ok g c =
     subst (λ (pool : Pool). renewed_over p.is_summary_lent p.summary p.is_pool_changed pool kept ≡ Some all) c.pool.ensures (c.in_ok-renewed.ensures.ok kept) in
     subst (λ (w : Whole). IfOk c.image_of.result (λ bytes. image_of w.state c.args.earlier_len ≡ Ok bytes.items)) c.self.view_is
     (answer_done s all c.args.earlier_len written
-    (record { clsid = c.clsid.result; streams = c.put_all.new.streams; has_storages = p.has_storages })
-    (root_contents_are p.kind p.has_storages c.clsid.result c.put_all.new.streams all c.clsid.ensures
+    (contents_of c.contents_under-contents.result)
+    (c.contents_under-contents.ensures
+    ∙ root_contents_are p.kind p.has_storages c.clsid.result c.put_all.new.streams all c.clsid.ensures
     (all_put c.put_all.new.streams c.in_ok-streams.streams (into_iter_items c.into_iter.result) c.in_ok-renewed.renewed.items (opened p.open p.current.bytes (entries c.streams.result.now)) kept
     c.in_ok-put_all.ensures.ok c.into_iter.ensures.rest c.in_ok-streams.ensures.ok (ap (opened p.open p.current.bytes) c.streams.ensures)))
     (λ bytes. bytes.items) c.image_of.result c.image_of.ensures.ok c.image_of.ensures.refused)
@@ -53,8 +55,9 @@ returns-clause-kind g c =
     subst (λ (pool : Pool). renewed_over p.is_summary_lent p.summary p.is_pool_changed pool kept ≡ Some all) c.pool.ensures (c.in_ok-renewed.ensures.ok kept) in
     subst (λ (w : Whole). IfErr c.image_of.result (IsRefusal (image_of w.state c.args.earlier_len))) c.self.view_is
     (answer_failed s all c.args.earlier_len written
-    (record { clsid = c.clsid.result; streams = c.put_all.new.streams; has_storages = p.has_storages })
-    (root_contents_are p.kind p.has_storages c.clsid.result c.put_all.new.streams all c.clsid.ensures
+    (contents_of c.contents_under-contents.result)
+    (c.contents_under-contents.ensures
+    ∙ root_contents_are p.kind p.has_storages c.clsid.result c.put_all.new.streams all c.clsid.ensures
     (all_put c.put_all.new.streams c.in_ok-streams.streams (into_iter_items c.into_iter.result) c.in_ok-renewed.renewed.items (opened p.open p.current.bytes (entries c.streams.result.now)) kept
     c.in_ok-put_all.ensures.ok c.into_iter.ensures.rest c.in_ok-streams.ensures.ok (ap (opened p.open p.current.bytes) c.streams.ensures)))
     c.image_of.result c.image_of.ensures.refused c.image_of.ensures.kinds)

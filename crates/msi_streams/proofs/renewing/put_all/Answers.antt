@@ -1,9 +1,9 @@
 use Rattle.std.proofs.Common.{rules}
 use Rattle.std.specs.FinMap.{entries}
 use Rattle.std.specs.Vec.Iter.{into_iter_items}
-use Rattle.msi.specs.Flushing.{with_renewed}
-use Rattle.msi.proofs.ImagingLemmas.{put_more}
-use Rattle.msi.proofs.imaging.put_all.Goals as goal
+use Rattle.msi_streams.specs.Renewing.{with_renewed}
+use Rattle.msi_streams.proofs.CopyingLemmas.{put_more}
+use Rattle.msi_streams.proofs.renewing.put_all.Goals as goal
 
 pub loop-name-preserved : goal.loop-name-preserved
 loop-name-preserved c =

@@ -1,8 +1,8 @@
 use Rattle.std.proofs.Common.{◌≡◌}
 use Rattle.std.specs.FinMap.{entries}
 use Rattle.std.specs.Vec.Iter.{into_iter_items}
-use Rattle.msi.specs.Flushing.{with_renewed}
-use Rattle.msi.proofs.imaging.put_all.Given as goal
+use Rattle.msi_streams.specs.Renewing.{with_renewed}
+use Rattle.msi_streams.proofs.renewing.put_all.Given as goal
 
 -- those that are left are still to be put
 abbrev pub invariant-loop-name : goal.invariant-loop-name

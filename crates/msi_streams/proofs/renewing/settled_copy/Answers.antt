@@ -1,8 +1,8 @@
 use Rattle.std.proofs.Common.{◌∙◌, ap, rules}
 use Rattle.std.specs.FinMap.{entries}
-use Rattle.msi.proofs.ImagingLemmas.{settled_none, settled_some}
-use Rattle.msi.proofs.imaging.settled_copy.Goals.{in-Some+in_ok-copied_bytes+in_ok-insert, in_default}
-use Rattle.msi.proofs.imaging.settled_copy.Goals as goal
+use Rattle.msi_streams.proofs.CopyingLemmas.{settled_none, settled_some}
+use Rattle.msi_streams.proofs.renewing.settled_copy.Goals.{in-Some+in_ok-copied_bytes+in_ok-insert, in_default}
+use Rattle.msi_streams.proofs.renewing.settled_copy.Goals as goal
 
 pub returns-clause-ok : goal.returns-clause-ok
 returns-clause-ok c = elim c.match-name.branch [
