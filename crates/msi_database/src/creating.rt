@@ -11,7 +11,7 @@ ghost use Rattle.msi_database_schema.specs.Keys.{is_table_name as is_name_of_tab
 ghost use Rattle.msi_database_changes.specs.Create as creates;
 ghost use Rattle.msi_database_changes.specs.Create.{new_table_refusals};
 ghost use Rattle.msi_database_changes.specs.Database.{is_sound as is_sound_one};
-ghost use Rattle.msi_database_changes.specs.Texts.{in_use};
+ghost use Rattle.msi_database_cells.specs.Texts.{in_use};
 ghost use Rattle.msi_database_storage.specs.Kept.{with_table_kept};
 ghost use Rattle.msi_database_storage.specs.Storing.{HaveOwnNames};
 ghost use Rattle.msi_database.specs.Creating.{create_refusals, new_table, stream_gone, stream_with, streams_described};
@@ -23,7 +23,7 @@ use crate::database::Database;
 use crate::reasons;
 use msi_database_changes::create::refuse_columns;
 use msi_database_changes::insert::{add_rows, refuse_rows};
-use msi_database_changes::texts::PoolInUse;
+use msi_database_cells::texts::PoolInUse;
 use msi_database_schema::description::{tables_row, validation_rows};
 use msi_database_schema::names::is_table_name;
 use msi_database_schema::parts::{column_rows, named_table, short_table_key};
