@@ -12,8 +12,8 @@ ghost use Rattle.msi_database.specs.FreshParts.{tables_table, unused_pool, valid
 
 use crate::database::Database;
 use msi_container_format::contents::StreamMap;
-use msi_database_changes::insert::add_rows;
 use msi_database_cells::texts::PoolInUse;
+use msi_database_changes::insert::add_rows;
 use msi_database_schema::description::{tables_row, validation_rows};
 use msi_database_schema::parts::{column_rows, named_table};
 use msi_database_schema::system::{
