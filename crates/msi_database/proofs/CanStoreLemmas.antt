@@ -13,7 +13,8 @@ use Rattle.msi_table.specs.StoredOrder.{row_cmp, in_stored_order}
 use Rattle.msi_table.proofs.StableSortLemmas.{sort_moves}
 use Rattle.msi_database_schema.proofs.RowOrderLemmas.{names_total}
 use Rattle.msi_database_changes.specs.Database.{table_at}
-use Rattle.msi_database_changes.specs.Changes.{Change, PoolInUse, no_change, with_stored}
+use Rattle.msi_database_changes.specs.Changes.{Change, no_change, with_stored}
+use Rattle.msi_database_cells.specs.Texts.{PoolInUse}
 use Rattle.msi_database_changes.specs.Laws.{IsChange, IsTableChange}
 use Rattle.msi_database_changes.proofs.KindsKeptLemmas.{all_permuted}
 use Rattle.msi_database_storage.specs.Kept.{database_kept, kept_of}

@@ -19,11 +19,11 @@ use Rattle.msi_database_schema.specs.Description.{column_rows, tables_row, valid
 use Rattle.msi_database_schema.specs.Keys.{table_key}
 use Rattle.msi_database_schema.specs.System.{tables_name, columns_name, validation_name}
 use Rattle.msi_database_changes.specs.Database.{Database, is_sound, table_at, rows_of}
-use Rattle.msi_database_changes.specs.Changes.{Change, PoolInUse, no_change, pool_of, sound_refusal, with_stored}
+use Rattle.msi_database_changes.specs.Changes.{Change, no_change, pool_of, sound_refusal, with_stored}
+use Rattle.msi_database_cells.specs.Texts.{PoolInUse, UsedPool, in_use}
 use Rattle.msi_database_changes.specs.Create.{create_table, table_refusals, with_new_table}
 use Rattle.msi_database_changes.specs.Insert.{cells_added, row_refusals, rows_inserted, table_with}
 use Rattle.msi_database_changes.specs.Laws.{created}
-use Rattle.msi_database_changes.specs.Texts.{UsedPool, in_use}
 use Rattle.msi_database_changes.proofs.RefusedLemmas.{bind_ok, first_refused, not_refused, same_Ok, value_there}
 use Rattle.msi_database_changes.proofs.TurnLemmas.{map_some}
 use Rattle.msi_database_storage.specs.declared.storing.Stored.{Stored}

@@ -12,8 +12,8 @@ use Rattle.msi_query_rows.specs.Rows.{TableCells}
 use Rattle.msi_database_schema.specs.Keys.{is_table_name, table_key}
 use Rattle.msi_database_schema.specs.System.{is_system_table, tables_name, columns_name, validation_name, tables_columns, columns_columns}
 use Rattle.msi_database_changes.specs.Database.{Database, is_sound, table_at, rows_of}
-use Rattle.msi_database_changes.specs.Changes.{Change, PoolInUse, no_change, pool_of}
-use Rattle.msi_database_changes.specs.Texts.{UsedPool, in_use, rows_released}
+use Rattle.msi_database_changes.specs.Changes.{Change, no_change, pool_of}
+use Rattle.msi_database_cells.specs.Texts.{PoolInUse, UsedPool, in_use, rows_released}
 use Rattle.msi_database_changes.specs.Insert.{table_with}
 use Rattle.msi_database_changes.specs.Drop.{drop_table, is_row_about}
 use Rattle.msi_database_changes.specs.Laws.{dropped}

@@ -10,7 +10,8 @@ use Rattle.msi_table_values.specs.Columns.{ColumnDef}
 use Rattle.msi_table.specs.Tables.{TableDef}
 use Rattle.msi_database_schema.specs.Keys.{table_key}
 use Rattle.msi_database_changes.specs.Database.{Database, is_sound, columns_by_name}
-use Rattle.msi_database_changes.specs.Changes.{Change, PoolInUse, no_change, with_stored}
+use Rattle.msi_database_changes.specs.Changes.{Change, no_change, with_stored}
+use Rattle.msi_database_cells.specs.Texts.{PoolInUse}
 use Rattle.msi_database_changes.specs.Create.{create_table, table_refusals}
 use Rattle.msi_database_changes.specs.Drop.{drop_table}
 use Rattle.msi_database_changes.specs.Laws.{IsChange, IsTableChange, created, dropped}

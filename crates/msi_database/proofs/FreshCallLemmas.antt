@@ -21,11 +21,11 @@ use Rattle.msi_database_schema.specs.Keys.{table_key}
 use Rattle.msi_database_schema.specs.System.{columns_name, tables_name, validation_name}
 use Rattle.msi_database_schema.proofs.RowOrderLemmas.{names_total}
 use Rattle.msi_database_changes.specs.Database.{Database, table_at}
-use Rattle.msi_database_changes.specs.Changes.{Change, PoolInUse, no_change, pool_of, with_stored}
+use Rattle.msi_database_changes.specs.Changes.{Change, no_change, pool_of, with_stored}
+use Rattle.msi_database_cells.specs.Texts.{PoolInUse, UsedPool, in_use, rows_put}
 use Rattle.msi_database_changes.specs.Create.{added_to, described_by_rows}
 use Rattle.msi_database_changes.specs.Insert.{cells_added, rows_added}
-use Rattle.msi_database_changes.specs.Keyed.{in_key_order}
-use Rattle.msi_database_changes.specs.Texts.{UsedPool, in_use, rows_put}
+use Rattle.msi_table.specs.KeyOrder.{in_key_order}
 use Rattle.msi_database_changes.proofs.FitTestLemmas.{cells_fit, each_fits}
 use Rattle.msi_database_storage.specs.Streams.{stream_of_rows}
 use Rattle.msi_database_storage.specs.declared.storing.Stored.{Stored}

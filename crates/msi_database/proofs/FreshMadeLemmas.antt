@@ -9,10 +9,10 @@ use Rattle.msi_table.specs.Tables.{TableDef}
 use Rattle.msi_database_schema.specs.Description.{column_rows, have_short_lengths, tables_row, validation_rows}
 use Rattle.msi_database_schema.specs.Keys.{table_key}
 use Rattle.msi_database_schema.specs.System.{validation_name}
-use Rattle.msi_database_changes.specs.Changes.{PoolInUse, no_change, pool_of}
+use Rattle.msi_database_cells.specs.Texts.{PoolInUse, UsedPool, in_use}
+use Rattle.msi_database_changes.specs.Changes.{no_change, pool_of}
 use Rattle.msi_database_changes.specs.Create.{described_by_rows}
 use Rattle.msi_database_changes.specs.Insert.{cells_added}
-use Rattle.msi_database_changes.specs.Texts.{UsedPool, in_use}
 use Rattle.msi_database_storage.specs.declared.storing.Stored.{Stored}
 use Rattle.msi_database_storage.specs.Storing.{HaveOwnNames}
 use Rattle.msi_database.specs.Fresh.{fresh_change}

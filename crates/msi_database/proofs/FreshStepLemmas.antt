@@ -7,9 +7,9 @@ use Rattle.msi_database_schema.specs.Description.{column_rows, have_short_length
 use Rattle.msi_database_schema.specs.Keys.{table_key}
 use Rattle.msi_database_schema.specs.System.{columns_name, tables_name, validation_columns, validation_name}
 use Rattle.msi_database_changes.specs.Database.{Database, table_at}
-use Rattle.msi_database_changes.specs.Changes.{PoolInUse, no_change, pool_of}
+use Rattle.msi_database_cells.specs.Texts.{PoolInUse, in_use}
+use Rattle.msi_database_changes.specs.Changes.{no_change, pool_of}
 use Rattle.msi_database_changes.specs.Insert.{cells_added}
-use Rattle.msi_database_changes.specs.Texts.{in_use}
 use Rattle.msi_database.specs.Fresh.{bare_database, empty_table}
 use Rattle.msi_database.specs.FreshParts.{CanBegin, columns_table, tables_table, unused_pool, validation_table}
 use Rattle.msi_database.proofs.FreshCallLemmas.{begun, fits_begun, fits_begun_is, listing}

@@ -13,7 +13,7 @@ use Rattle.msi_database_schema.specs.System.{is_system_table}
 use Rattle.msi_database_changes.specs.Database.{Database, is_sound, table_at}
 use Rattle.msi_database_changes.specs.Changes.{no_change}
 use Rattle.msi_database_changes.specs.Insert.{cells_added, insert_rows, row_refusals, table_with}
-use Rattle.msi_database_changes.specs.Texts.{UsedPool, in_use}
+use Rattle.msi_database_cells.specs.Texts.{UsedPool, in_use}
 use Rattle.msi_database.specs.Listed.{IsKnown}
 use Rattle.msi_database.proofs.MadeLemmas.{both_pass}
 use Rattle.msi_database.proofs.RefusedCallLemmas.{cells_full, insert_refused, inserted_misfit}

@@ -15,9 +15,9 @@ use Rattle.msi_database_schema.specs.Keys.{is_table_name}
 use Rattle.msi_database_schema.specs.System.{is_system_table, tables_name, columns_name, validation_name}
 use Rattle.msi_database_schema.specs.Description.{column_rows, validation_rows}
 use Rattle.msi_database_changes.specs.Database.{Database, table_at, rows_of}
-use Rattle.msi_database_changes.specs.Changes.{Change, PoolInUse, no_change, pool_of, with_stored, sound_refusal}
-use Rattle.msi_database_changes.specs.Keyed.{in_key_order}
-use Rattle.msi_database_changes.specs.Texts.{rows_put}
+use Rattle.msi_database_changes.specs.Changes.{Change, no_change, pool_of, with_stored, sound_refusal}
+use Rattle.msi_database_cells.specs.Texts.{PoolInUse, rows_put}
+use Rattle.msi_table.specs.KeyOrder.{in_key_order}
 use Rattle.msi_database_changes.specs.Insert.{cells_added, insert_rows, rows_inserted, rows_added, row_refusals}
 use Rattle.msi_database_changes.specs.Create.{create_table, table_refusals, with_new_table}
 use Rattle.msi_database_changes.specs.Drop.{drop_table, rows_forgotten, table_released}

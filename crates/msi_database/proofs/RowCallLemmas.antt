@@ -19,12 +19,12 @@ use Rattle.msi_database_schema.specs.Keys.{is_table_name, table_key}
 use Rattle.msi_database_schema.specs.System.{is_system_table}
 use Rattle.msi_database_schema.proofs.RowOrderLemmas.{names_total}
 use Rattle.msi_database_changes.specs.Database.{Database, is_sound, table_at}
-use Rattle.msi_database_changes.specs.Changes.{Change, PoolInUse, no_change, pool_of, with_stored}
-use Rattle.msi_database_changes.specs.Keyed.{in_key_order}
+use Rattle.msi_database_changes.specs.Changes.{Change, no_change, pool_of, with_stored}
+use Rattle.msi_database_cells.specs.Texts.{PoolInUse, UsedPool, in_turn, in_use, rows_put, rows_released}
+use Rattle.msi_table.specs.KeyOrder.{in_key_order}
 use Rattle.msi_database_changes.specs.Insert.{table_with, cells_added, insert_rows, row_refusals}
 use Rattle.msi_database_changes.specs.Update.{is_update_barred, row_updated, update_refusals, update_rows}
 use Rattle.msi_database_changes.specs.Delete.{delete_rows, rows_meeting}
-use Rattle.msi_database_changes.specs.Texts.{UsedPool, in_turn, in_use, rows_put, rows_released}
 use Rattle.msi_database_changes.specs.Laws.{IsChange, inserted, updated, deleted}
 use Rattle.msi_database_changes.proofs.TurnLemmas.{map_some}
 use Rattle.msi_database_storage.specs.Streams.{Streams, stream_of_rows}

@@ -26,7 +26,7 @@ use Rattle.msi_database_changes.specs.Changes.{Change, no_change, pool_of}
 use Rattle.msi_database_changes.specs.Insert.{insert_rows}
 use Rattle.msi_database_changes.specs.Update.{update_rows}
 use Rattle.msi_database_changes.specs.Delete.{delete_rows, rows_meeting}
-use Rattle.msi_database_changes.specs.Texts.{rows_released}
+use Rattle.msi_database_cells.specs.Texts.{rows_released}
 use Rattle.msi_database_changes.specs.Laws.{IsChange, inserted, updated, deleted}
 use Rattle.msi_database_changes.proofs.StoredLemmas.{Exchanged}
 use Rattle.msi_database_changes.proofs.ValuesLemmas.{rows_stay}

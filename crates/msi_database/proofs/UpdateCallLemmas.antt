@@ -10,10 +10,10 @@ use Rattle.msi_query.specs.Queries.{UpdateQuery}
 use Rattle.msi_query_rows.specs.Refusals.{IsRefusal, Refusals, first_refusal, or_refused, unless, unless_refused, ◌>>=◌}
 use Rattle.msi_query_rows.specs.Rows.{TableCells}
 use Rattle.msi_database_changes.specs.Database.{Database, is_sound, table_at}
-use Rattle.msi_database_changes.specs.Changes.{Change, PoolInUse, barred_refusals, no_change, pool_of, with_stored}
+use Rattle.msi_database_changes.specs.Changes.{Change, barred_refusals, no_change, pool_of, with_stored}
+use Rattle.msi_database_cells.specs.Texts.{PoolInUse, UsedPool, in_turn, in_use}
 use Rattle.msi_database_changes.specs.Insert.{table_with}
 use Rattle.msi_database_changes.specs.Update.{is_update_barred, keys_collide, row_updated, rows_updated, set_refusals, update_refusals, update_rows}
-use Rattle.msi_database_changes.specs.Texts.{UsedPool, in_turn, in_use}
 use Rattle.msi_database_changes.proofs.RefusedLemmas.{behind_passed}
 use Rattle.msi_database.specs.Listed.{IsKnown}
 use Rattle.msi_database.proofs.MadeLemmas.{both_pass, found, goes_on}

@@ -10,7 +10,8 @@ use Rattle.msi_database_schema.specs.Description.{column_rows, tables_row, valid
 use Rattle.msi_database_schema.specs.Keys.{table_key}
 use Rattle.msi_database_schema.specs.System.{tables_name, columns_name, validation_name}
 use Rattle.msi_database_changes.specs.Database.{Database, table_at, rows_of}
-use Rattle.msi_database_changes.specs.Changes.{PoolInUse, sound_refusal}
+use Rattle.msi_database_cells.specs.Texts.{PoolInUse}
+use Rattle.msi_database_changes.specs.Changes.{sound_refusal}
 use Rattle.msi_database_changes.specs.Create.{table_refusals}
 use Rattle.msi_database_changes.specs.Insert.{cells_added, row_refusals}
 use Rattle.msi_database_storage.specs.declared.storing.Stored.{Stored}

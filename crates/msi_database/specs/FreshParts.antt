@@ -6,9 +6,8 @@ use Rattle.msi_table.specs.Tables.{TableDef, CanStore}
 use Rattle.msi_database_schema.specs.Keys.{table_key}
 use Rattle.msi_database_schema.specs.System.{columns_columns, columns_name, tables_columns, tables_name}
 use Rattle.msi_database_schema.specs.System.{validation_columns, validation_name}
-use Rattle.msi_database_changes.specs.Changes.{PoolInUse}
+use Rattle.msi_database_cells.specs.Texts.{PoolInUse, UsedPool}
 use Rattle.msi_database_changes.specs.Insert.{cells_added}
-use Rattle.msi_database_changes.specs.Texts.{UsedPool}
 use Rattle.msi_database_storage.specs.declared.storing.Stored.{Stored}
 use Rattle.msi_database_storage.specs.Storing.{tables_stored}
 use Rattle.msi_database_storage.specs.Streams.{stream_of_rows}

@@ -28,9 +28,11 @@ pub use Rattle.msi_database_schema.specs.System
 pub use Rattle.msi_database_schema.specs.Schema
 pub use Rattle.msi_database_schema.specs.RowOrders
 pub use Rattle.msi_database_schema.specs.Description
+pub use Rattle.msi_database_cells.specs.Texts
+pub use Rattle.msi_database_cells.specs.KeySets
+pub use Rattle.msi_database_cells.specs.Setting
 pub use Rattle.msi_database_changes.specs.Database
 pub use Rattle.msi_database_changes.specs.Changes
-pub use Rattle.msi_database_changes.specs.Texts
 pub use Rattle.msi_database_changes.specs.Insert
 pub use Rattle.msi_database_changes.specs.Update
 pub use Rattle.msi_database_changes.specs.Delete

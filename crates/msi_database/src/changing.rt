@@ -16,7 +16,7 @@ ghost use Rattle.msi_database.specs.Listed.{IsKnown, table_def_at, tables_listed
 
 use crate::database::Database;
 use crate::reasons;
-use msi_database_changes::texts::PoolInUse;
+use msi_database_cells::texts::PoolInUse;
 use msi_database_storage::listing::copies_without;
 use msi_database_storage::parts::{Stored, store_all, stored_rows};
 use msi_table::{Table, ValueRef};

@@ -5,15 +5,15 @@ ghost use Rattle.msi_container_format.specs.Names.{is_name_length};
 ghost use Rattle.msi_text_base.specs.Results.{OnlyMemory};
 ghost use Rattle.msi_database_schema.specs.Keys.{table_key as key_of};
 ghost use Rattle.msi_database_changes.specs.Insert.{cells_added};
-ghost use Rattle.msi_database_changes.specs.Texts.{in_use};
+ghost use Rattle.msi_database_cells.specs.Texts.{in_use};
 ghost use Rattle.msi_database.specs.Fresh.{fresh};
 ghost use Rattle.msi_database.specs.FreshParts.{Begins, CanBegin, columns_table, fresh_pool, fresh_stored};
 ghost use Rattle.msi_database.specs.FreshParts.{tables_table, unused_pool, validation_table};
 
 use crate::database::Database;
 use msi_container_format::contents::StreamMap;
+use msi_database_cells::texts::PoolInUse;
 use msi_database_changes::insert::add_rows;
-use msi_database_changes::texts::PoolInUse;
 use msi_database_schema::description::{tables_row, validation_rows};
 use msi_database_schema::parts::{column_rows, named_table};
 use msi_database_schema::system::{

@@ -20,9 +20,9 @@ ghost use Rattle.msi_database.specs.Making.{Leaves, MakesRows, TellsUse, delete_
 
 use crate::changing::RowsAnew;
 use crate::database::Database;
+use msi_database_cells::texts::PoolInUse;
 use msi_database_changes::delete::{refuse_delete, remaining_rows};
 use msi_database_changes::insert::{add_rows, refuse_new_rows, refuse_rows};
-use msi_database_changes::texts::PoolInUse;
 use msi_database_changes::update::{refuse_collisions, refuse_sets, updated_rows};
 use msi_database_schema::system::{VALIDATION, is_schema_table, is_system_table};
 use msi_database_storage::parts::stream_of;

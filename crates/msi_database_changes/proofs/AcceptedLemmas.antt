@@ -21,10 +21,11 @@ use Rattle.msi_table_values.specs.OrderLaws.{value_cmp-total}
 use Rattle.msi_query_rows.specs.Refusals.{Refusals, first_refusal}
 use Rattle.msi_database_changes.specs.Database.{Database, are_alike, rows_of, same_bool}
 use Rattle.msi_query_rows.specs.Rows.{TableCells}
-use Rattle.msi_database_changes.specs.Keyed.{key_of, same_key}
+use Rattle.msi_table.specs.KeyOrder.{key_of, same_key}
 use Rattle.msi_database_schema.specs.Keys.{is_pool_name, is_table_name}
 use Rattle.msi_database_schema.specs.System.{validation_columns}
-use Rattle.msi_database_changes.specs.Insert.{row_fits, key_refusals, keys_of, row_refusals}
+use Rattle.msi_database_changes.specs.Insert.{row_fits, keys_of, row_refusals}
+use Rattle.msi_database_cells.specs.KeySets.{key_refusals}
 use Rattle.msi_database_changes.specs.Create.{columns_are_named, is_binary, is_too_long, table_refusals}
 use Rattle.msi_database_schema.specs.Description.{validation_row, validation_rows}
 use Rattle.msi_database_schema.specs.Schema.{SchemaRows, schema_of, share_key}

@@ -14,8 +14,8 @@ use Rattle.msi_query_rows.specs.Refusals.{Refusals, unless_refused, or_refused, 
 use Rattle.msi_database_schema.specs.System.{is_system_table}
 use Rattle.msi_database_changes.specs.Database.{Database, table_at, rows_of, is_sound, CountsAreExact, same_bool}
 use Rattle.msi_query_rows.specs.Rows.{TableCells}
-use Rattle.msi_database_changes.specs.Changes.{Change, PoolInUse, no_change, pool_of, sound_refusal}
-use Rattle.msi_database_changes.specs.Texts.{rows_released}
+use Rattle.msi_database_changes.specs.Changes.{Change, no_change, pool_of, sound_refusal}
+use Rattle.msi_database_cells.specs.Texts.{PoolInUse, rows_released}
 use Rattle.msi_database_changes.specs.Delete.{rows_deleted, delete_rows}
 use Rattle.msi_database_changes.specs.Laws.{rows_at, OthersStay}
 use Rattle.msi_database_changes.proofs.RefusedLemmas.{bind_ok, not_refused, value_there, first_fails, front_fails}

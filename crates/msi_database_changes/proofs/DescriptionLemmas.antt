@@ -14,7 +14,8 @@ use Rattle.msi_database_schema.specs.Keys.{is_pool_name}
 use Rattle.msi_database_schema.specs.System.{columns_columns, columns_name, tables_columns, tables_name, validation_columns}
 use Rattle.msi_query_rows.specs.Rows.{TableCells}
 use Rattle.msi_database_changes.specs.Database.{are_alike}
-use Rattle.msi_database_changes.specs.Update.{index_of, values_after, values_set}
+use Rattle.msi_database_cells.specs.Setting.{index_of, values_set}
+use Rattle.msi_database_changes.specs.Update.{values_after}
 use Rattle.msi_database_schema.specs.Schema.{bits_in, by_name, counted, has_null, numbered_row, SchemaRows, column_of_row, column_rows, columns_of, described, is_faulty, lacks_value, listed_names, schema_of, share_key, text_at, text_of, validation_row, value_at}
 use Rattle.msi_text_base.proofs.ListLemmas.{list_any-map, list_any_same, find-map, has_pair-map}
 use Rattle.msi_text_base.proofs.BoolLemmas.{by_test}

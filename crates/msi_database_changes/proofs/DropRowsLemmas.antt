@@ -12,13 +12,13 @@ use Rattle.msi_table_values.specs.declared.value.Value.TheVariants.{Str}
 use Rattle.msi_table_values.specs.declared.value.ValueRef.{ValueRef}
 use Rattle.msi_table_values.specs.CellValues.{row_values}
 use Rattle.msi_table.specs.StoredOrder.{row_cmp, in_stored_order}
-use Rattle.msi_database_changes.specs.Keyed.{same_key}
+use Rattle.msi_table.specs.KeyOrder.{same_key}
 use Rattle.msi_database_schema.specs.System.{columns_name, is_schema_table, is_system_table, tables_name, validation_name}
 use Rattle.msi_database_changes.specs.Database.{Database, table_at, has_table, rows_of, is_sound}
 use Rattle.msi_query_rows.specs.Rows.{TableCells}
-use Rattle.msi_database_changes.specs.Changes.{Change, PoolInUse, no_change, pool_of, with_stored}
+use Rattle.msi_database_changes.specs.Changes.{Change, no_change, pool_of, with_stored}
+use Rattle.msi_database_cells.specs.Texts.{PoolInUse, rows_released}
 use Rattle.msi_database_changes.specs.Drop.{is_row_about, rows_forgotten, table_released}
-use Rattle.msi_database_changes.specs.Texts.{rows_released}
 use Rattle.msi_database_changes.specs.Laws.{rows_at}
 use Rattle.msi_database_schema.specs.Schema.{schema_of}
 use Rattle.msi_database_schema.proofs.AccountLemmas.{Uses}

@@ -23,13 +23,13 @@ use Rattle.msi_database_schema.specs.System.{columns_name, tables_name, validati
 use Rattle.std.specs.Str.{chars}
 use Rattle.msi_database_changes.specs.Database.{Database, table_at, rows_of, same_bool, is_sound}
 use Rattle.msi_query_expressions.specs.Conditions.{meets}
-use Rattle.msi_database_changes.specs.Changes.{Change, PoolInUse, no_change, pool_of, with_stored}
+use Rattle.msi_database_changes.specs.Changes.{Change, no_change, pool_of, with_stored}
+use Rattle.msi_database_cells.specs.Texts.{PoolInUse, rows_released}
 use Rattle.msi_database_changes.specs.Create.{create_table}
 use Rattle.msi_database_changes.specs.Delete.{rows_meeting}
 use Rattle.msi_database_changes.specs.Drop.{drop_table}
-use Rattle.msi_database_changes.specs.Keyed.{in_key_order}
+use Rattle.msi_table.specs.KeyOrder.{in_key_order}
 use Rattle.msi_database_changes.specs.Laws.{RowsFit, TableFits, IsChange, inserted, updated, deleted}
-use Rattle.msi_database_changes.specs.Texts.{rows_released}
 use Rattle.msi_database_changes.proofs.StoredLemmas.{WellFormed, sound_parts}
 use Rattle.msi_database_changes.proofs.StaysLemmas.{LeavesUnlisted}
 use Rattle.msi_database_changes.proofs.TracksLemmas.{Tracks, fewer_fit}

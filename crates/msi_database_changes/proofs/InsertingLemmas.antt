@@ -9,10 +9,9 @@ use Rattle.msi_query_rows.specs.Refusals.{Refusals, IsRefusal, first_refusal, un
 use Rattle.msi_table_values.specs.declared.value.Value.{Value}
 use Rattle.msi_table_values.specs.declared.value.ValueRef.{ValueRef}
 use Rattle.msi_table_values.specs.Columns.{ColumnDef}
-use Rattle.msi_database_changes.specs.Changes.{PoolInUse}
+use Rattle.msi_database_cells.specs.Texts.{PoolInUse, rows_put}
 use Rattle.msi_database_changes.specs.Insert.{cells_added}
-use Rattle.msi_database_changes.specs.Keyed.{in_key_order}
-use Rattle.msi_database_changes.specs.Texts.{rows_put}
+use Rattle.msi_table.specs.KeyOrder.{in_key_order}
 use Rattle.msi_database_changes.proofs.RefusedLemmas.{behind_passed, front_holds, first_refused, not_refused, refused_first}
 
 -- a table may have so many rows

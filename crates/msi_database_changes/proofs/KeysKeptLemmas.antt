@@ -14,12 +14,13 @@ use Rattle.msi_table.specs.StoredOrder.{row_cmp, parts_where, in_stored_order}
 use Rattle.msi_table.proofs.RowOrderLemmas.{is_key}
 use Rattle.msi_query.specs.Queries.{UpdateQuery, DeleteQuery}
 use Rattle.msi_query_expressions.specs.Conditions.{meets}
-use Rattle.msi_database_changes.specs.Keyed.{key_of, same_key}
+use Rattle.msi_table.specs.KeyOrder.{key_of, same_key}
 use Rattle.msi_database_changes.specs.Database.{Database, table_at, rows_of, is_sound}
 use Rattle.msi_query_rows.specs.Rows.{TableCells}
-use Rattle.msi_database_changes.specs.Changes.{Change, PoolInUse, no_change, pool_of}
-use Rattle.msi_database_changes.specs.Texts.{rows_released}
-use Rattle.msi_database_changes.specs.Update.{index_of, set_is_valid, sets_key, values_set, values_after}
+use Rattle.msi_database_changes.specs.Changes.{Change, no_change, pool_of}
+use Rattle.msi_database_cells.specs.Texts.{PoolInUse, rows_released}
+use Rattle.msi_database_cells.specs.Setting.{index_of, values_set}
+use Rattle.msi_database_changes.specs.Update.{set_is_valid, sets_key, values_after}
 use Rattle.msi_database_changes.specs.Laws.{rows_at, KeysAreDistinct}
 use Rattle.msi_database_changes.proofs.StoredLemmas.{WellFormed, stored_in}
 use Rattle.msi_database_changes.proofs.ValuesLemmas.{rows_before}

@@ -11,13 +11,14 @@ use Rattle.msi_table_values.specs.declared.value.ValueRef.{ValueRef}
 use Rattle.msi_table_values.specs.CellValues.{row_values}
 use Rattle.msi_table.specs.StoredOrder.{row_cmp, in_stored_order}
 use Rattle.msi_query_rows.specs.Refusals.{first_refusal}
-use Rattle.msi_database_changes.specs.Keyed.{key_of, same_key, key_cmp, in_key_order}
+use Rattle.msi_table.specs.KeyOrder.{key_of, same_key, key_cmp, in_key_order}
 use Rattle.msi_database_changes.specs.Database.{rows_of, is_sound}
 use Rattle.msi_database_changes.specs.Changes.{Change}
-use Rattle.msi_database_changes.specs.Insert.{key_refusals, keys_of}
+use Rattle.msi_database_cells.specs.KeySets.{key_refusals}
+use Rattle.msi_database_changes.specs.Insert.{keys_of}
 use Rattle.msi_database_changes.specs.Laws.{rows_at, KeysAreDistinct}
 use Rattle.msi_database_changes.proofs.RefusedLemmas.{first_fails}
-use Rattle.msi_database_changes.proofs.KeyPairLemmas.{same_key_turned, AllApart, pair-append}
+use Rattle.msi_database_cells.proofs.KeyPairLemmas.{same_key_turned, AllApart, pair-append}
 use Rattle.msi_database_changes.proofs.StoredLemmas.{WellFormed}
 use Rattle.msi_database_changes.proofs.ValuesLemmas.{rows_before}
 use Rattle.msi_database_changes.proofs.DistinctLemmas.{keys, keys_sorted, distinct_after}

@@ -24,10 +24,10 @@ use Rattle.msi_table.specs.StoredOrder.{in_stored_order, row_cmp}
 use Rattle.msi_table_values.specs.Values.{value_cmp}
 use Rattle.msi_query_rows.specs.Rows.{TableCells}
 use Rattle.msi_database_changes.specs.Database.{Database, table_at, rows_of}
-use Rattle.msi_database_changes.specs.Changes.{Change, PoolInUse, no_change, pool_of, with_stored}
+use Rattle.msi_database_changes.specs.Changes.{Change, no_change, pool_of, with_stored}
+use Rattle.msi_database_cells.specs.Texts.{PoolInUse, rows_released}
 use Rattle.msi_database_changes.specs.Delete.{rows_meeting}
-use Rattle.msi_database_changes.specs.Keyed.{in_key_order}
-use Rattle.msi_database_changes.specs.Texts.{rows_released}
+use Rattle.msi_table.specs.KeyOrder.{in_key_order}
 use Rattle.msi_database_changes.specs.Laws.{rows_at, RowsFit, LeadingNumbersAscend, LeadingNumbersAscendIn, IsChange, inserted, updated, deleted}
 use Rattle.msi_database_changes.proofs.FitsKeptLemmas.{change_fits}
 use Rattle.msi_text_pool.specs.FirstFitLaws.{TakenPlacesHoldTheirText, GivenBackTakesOne}

@@ -19,12 +19,9 @@ pub mod DroppedLemmas
 pub mod EarlyLemmas
 pub mod FitTestLemmas
 pub mod FitsKeptLemmas
-pub mod InTurnLemmas
 pub mod InsertLemmas
 pub mod InsertedLemmas
 pub mod InsertingLemmas
-pub mod KeyPairLemmas
-pub mod KeySetLemmas
 pub mod KeysKeptLemmas
 pub mod KeysLemmas
 pub mod KindsKeptLemmas
@@ -56,4 +53,3 @@ pub mod UpdateFitsLemmas
 pub mod UpdateLemmas
 pub mod UpdatedLemmas
 pub mod ValuesLemmas
-pub mod ViewLemmas

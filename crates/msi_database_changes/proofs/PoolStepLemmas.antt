@@ -13,8 +13,7 @@ use Rattle.msi_table_values.specs.declared.value.Value.TheVariants.{Null, Int, S
 use Rattle.msi_table_values.specs.declared.value.ValueRef.{ValueRef}
 use Rattle.msi_table_values.specs.declared.value.ValueRef.TheVariants as cell
 use Rattle.msi_table_values.proofs.StoredValuesLemmas.{by_number}
-use Rattle.msi_database_changes.specs.Changes.{PoolInUse}
-use Rattle.msi_database_changes.specs.Texts.{cell_put, cell_released, in_turn, rows_put, rows_released}
+use Rattle.msi_database_cells.specs.Texts.{PoolInUse, cell_put, cell_released, in_turn, rows_put, rows_released}
 use Rattle.msi_database_changes.proofs.TurnLemmas.{map_some}
 
 -- each count is in range, and a free place has the empty text

@@ -21,9 +21,8 @@ use Rattle.msi_table_values.specs.Fitting.{FitsColumn, FitsRow, FitsTable, refer
 use Rattle.msi_table.specs.StoredOrder.{in_stored_order}
 use Rattle.msi_table_values.specs.ValidValues.{fits_type, is_valid_value}
 use Rattle.msi_table.proofs.SortedFitsLemmas.{sorted_fits}
-use Rattle.msi_database_changes.specs.Keyed.{in_key_order, key_cmp}
-use Rattle.msi_database_changes.specs.Changes.{PoolInUse}
-use Rattle.msi_database_changes.specs.Texts.{cell_put, in_turn, rows_put}
+use Rattle.msi_table.specs.KeyOrder.{in_key_order, key_cmp}
+use Rattle.msi_database_cells.specs.Texts.{PoolInUse, cell_put, in_turn, rows_put}
 use Rattle.msi_database_changes.specs.Insert.{row_fits}
 use Rattle.msi_text_base.proofs.ListLemmas.{all_joined}
 use Rattle.msi_table_values.proofs.StoredValuesLemmas.{fits_int, fits_null, fits_stream, below_bound, taken_within}

@@ -9,8 +9,8 @@ use Rattle.msi_table_values.specs.CellValues.{row_values}
 use Rattle.msi_table.specs.StoredOrder.{row_cmp, in_stored_order}
 use Rattle.msi_database_changes.specs.Database.{Database, table_at, rows_of, is_sound, CountsAreExact}
 use Rattle.msi_query_rows.specs.Rows.{TableCells}
-use Rattle.msi_database_changes.specs.Changes.{Change, PoolInUse, pool_of}
-use Rattle.msi_database_changes.specs.Texts.{rows_released}
+use Rattle.msi_database_changes.specs.Changes.{Change, pool_of}
+use Rattle.msi_database_cells.specs.Texts.{PoolInUse, rows_released}
 use Rattle.msi_database_schema.proofs.AccountLemmas.{Uses, none, ◌⊕◌, Moved}
 use Rattle.msi_database_changes.proofs.TurnLemmas.{total}
 use Rattle.msi_database_changes.proofs.RowsLemmas.{row_uses, rows_uses, rows_released_moves}

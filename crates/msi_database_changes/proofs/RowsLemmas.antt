@@ -8,8 +8,7 @@ use Rattle.msi_text_pool.specs.FirstFitLaws.{TakenPlacesHoldTheirText, GivenBack
 use Rattle.msi_table_values.specs.declared.value.Value.{Value}
 use Rattle.msi_table_values.specs.declared.value.ValueRef.{ValueRef}
 use Rattle.msi_table_values.specs.CellValues.{value_of_cell, row_values}
-use Rattle.msi_database_changes.specs.Changes.{PoolInUse}
-use Rattle.msi_database_changes.specs.Texts.{cell_put, cell_released, in_turn, rows_put, rows_released}
+use Rattle.msi_database_cells.specs.Texts.{PoolInUse, cell_put, cell_released, in_turn, rows_put, rows_released}
 use Rattle.msi_database_schema.proofs.AccountLemmas.{Uses, none, ◌⊕◌, Enough, Moved, unmoved}
 use Rattle.msi_database_changes.proofs.TurnLemmas.{total, total-none, TextsStay, Step, turned, news_stay}
 use Rattle.msi_database_changes.proofs.CellLemmas.{cell_uses, value_uses, value_stays, cell_put_moves, cell_released_moves}

@@ -11,9 +11,8 @@ use Rattle.msi_table_values.specs.declared.value.ValueRef.TheVariants as cell
 use Rattle.msi_table_values.specs.Columns.{ColumnDef}
 use Rattle.msi_table_values.specs.CellValues.{value_of_cell, row_values}
 use Rattle.msi_table_values.specs.Fitting.{cell_of}
-use Rattle.msi_database_changes.specs.Changes.{PoolInUse}
-use Rattle.msi_database_changes.specs.Texts.{cell_put, cell_released}
-use Rattle.msi_database_changes.specs.Update.{index_of, values_set, cells_set}
+use Rattle.msi_database_cells.specs.Texts.{PoolInUse, cell_put, cell_released}
+use Rattle.msi_database_cells.specs.Setting.{index_of, values_set, cells_set}
 use Rattle.msi_database_schema.proofs.AccountLemmas.{Uses, ◌⊕◌, Enough, Moved, unmoved}
 use Rattle.msi_database_changes.proofs.TurnLemmas.{TextsStay}
 use Rattle.msi_database_changes.proofs.CellLemmas.{cell_uses, cell_put_moves, cell_released_moves}

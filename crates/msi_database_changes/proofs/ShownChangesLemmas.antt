@@ -19,7 +19,7 @@ use Rattle.msi_query_rows.specs.Rows.{TableCells}
 use Rattle.msi_database_changes.specs.Changes.{Change, no_change, pool_of, sound_refusal, with_stored}
 use Rattle.msi_database_changes.specs.Delete.{delete_rows, rows_deleted, rows_meeting}
 use Rattle.msi_database_changes.specs.Drop.{drop_table, is_row_about, rows_forgotten, table_released}
-use Rattle.msi_database_changes.specs.Texts.{in_turn, rows_released}
+use Rattle.msi_database_cells.specs.Texts.{in_turn, rows_released}
 use Rattle.msi_database_changes.specs.Update.{is_update_barred, row_updated, rows_updated, update_refusals, update_rows}
 use Rattle.msi_database_changes.specs.Insert.{rows_inserted}
 use Rattle.msi_database_changes.specs.Laws.{IsChange, inserted, updated, deleted}

@@ -19,14 +19,14 @@ use Rattle.msi_table_values.specs.declared.value.Value.TheVariants.{Str}
 use Rattle.msi_table_values.specs.declared.value.ValueRef.{ValueRef}
 use Rattle.msi_table_values.specs.Columns.{ColumnDef}
 use Rattle.msi_database_schema.specs.System.{columns_name, tables_name, validation_name}
-use Rattle.msi_database_changes.specs.Keyed.{in_key_order}
+use Rattle.msi_table.specs.KeyOrder.{in_key_order}
 use Rattle.msi_database_changes.specs.Database.{Database, rows_of, table_at}
 use Rattle.msi_query_rows.specs.Rows.{TableCells}
-use Rattle.msi_database_changes.specs.Changes.{Change, PoolInUse, no_change, sound_refusal, with_stored, pool_of}
+use Rattle.msi_database_changes.specs.Changes.{Change, no_change, sound_refusal, with_stored, pool_of}
+use Rattle.msi_database_cells.specs.Texts.{PoolInUse, rows_put}
 use Rattle.msi_database_schema.specs.Description.{column_rows, validation_rows}
 use Rattle.msi_database_changes.specs.Create.{create_table, table_refusals, with_new_table}
 use Rattle.msi_database_changes.specs.Insert.{row_refusals, rows_added, rows_inserted}
-use Rattle.msi_database_changes.specs.Texts.{rows_put}
 use Rattle.msi_database_schema.proofs.SchemaLemmas.{Described, names_tie, same_names}
 use Rattle.msi_database_schema.proofs.OrderlessLemmas.{texts_same}
 use Rattle.msi_database_changes.proofs.DroppedLemmas.{without}

@@ -18,9 +18,9 @@ use Rattle.msi_table.proofs.SortedFitsLemmas.{sorted_fits}
 use Rattle.msi_database_schema.specs.Keys.{is_table_name}
 use Rattle.msi_database_changes.specs.Database.{Database, table_at, rows_of, is_sound}
 use Rattle.msi_query_rows.specs.Rows.{TableCells}
-use Rattle.msi_database_changes.specs.Changes.{Change, PoolInUse, no_change, pool_of, with_stored}
+use Rattle.msi_database_changes.specs.Changes.{Change, no_change, pool_of, with_stored}
+use Rattle.msi_database_cells.specs.Texts.{PoolInUse, rows_released}
 use Rattle.msi_database_changes.specs.Drop.{is_row_about, rows_forgotten, table_released}
-use Rattle.msi_database_changes.specs.Texts.{rows_released}
 use Rattle.msi_text_base.proofs.ListLemmas.{all_kept, length-filter-le}
 use Rattle.msi_text_base.proofs.BoolLemmas.{by_test}
 use Rattle.msi_database_schema.proofs.FaultLemmas.{texts_flip}

@@ -4,8 +4,7 @@ use Rattle.std.specs.List.{AllByRecursion}
 use Rattle.std.proofs.lemmas.Option.{none-some, same_Some, option_and_then_some}
 use Rattle.msi_text_pool.specs.Pool.{Place}
 use Rattle.msi_text_pool.specs.FirstFitLaws.{text_at}
-use Rattle.msi_database_changes.specs.Changes.{PoolInUse}
-use Rattle.msi_database_changes.specs.Texts.{in_turn}
+use Rattle.msi_database_cells.specs.Texts.{PoolInUse, in_turn}
 use Rattle.msi_database_schema.proofs.AccountLemmas.{Uses, none, ◌⊕◌, Enough, Moved, unmoved}
 
 -- the uses of the items of a list

@@ -17,9 +17,9 @@ use Rattle.msi_table_values.specs.CellValues.{row_values}
 use Rattle.msi_table_values.specs.ValidValues.{is_valid_value}
 use Rattle.msi_query.specs.Queries.{UpdateQuery}
 use Rattle.msi_query_expressions.specs.Conditions.{meets}
-use Rattle.msi_database_changes.specs.Changes.{PoolInUse}
-use Rattle.msi_database_changes.specs.Texts.{cell_put, cell_released, in_turn}
-use Rattle.msi_database_changes.specs.Update.{cells_set, index_of, row_updated, set_is_valid}
+use Rattle.msi_database_cells.specs.Texts.{PoolInUse, cell_put, cell_released, in_turn}
+use Rattle.msi_database_cells.specs.Setting.{cells_set, index_of}
+use Rattle.msi_database_changes.specs.Update.{row_updated, set_is_valid}
 use Rattle.msi_database_changes.proofs.TurnLemmas.{map_some}
 use Rattle.msi_database_changes.proofs.PoolStepLemmas.{PoolStep, no_step, step_then, turn_steps, put_step, released_step}
 use Rattle.msi_database_changes.proofs.PutFitsLemmas.{fits_cell, put_of}

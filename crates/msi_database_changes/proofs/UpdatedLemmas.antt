@@ -11,9 +11,9 @@ use Rattle.msi_table_values.specs.Columns.{ColumnDef}
 use Rattle.msi_table_values.specs.CellValues.{row_values}
 use Rattle.msi_query.specs.Queries.{UpdateQuery}
 use Rattle.msi_query_expressions.specs.Conditions.{meets}
-use Rattle.msi_database_changes.specs.Changes.{PoolInUse}
-use Rattle.msi_database_changes.specs.Update.{values_set, cells_set, row_updated}
-use Rattle.msi_database_changes.specs.Texts.{in_turn}
+use Rattle.msi_database_cells.specs.Texts.{PoolInUse, in_turn}
+use Rattle.msi_database_cells.specs.Setting.{values_set, cells_set}
+use Rattle.msi_database_changes.specs.Update.{row_updated}
 use Rattle.msi_database_schema.proofs.AccountLemmas.{Uses, ◌⊕◌, Enough, Moved, unmoved}
 use Rattle.msi_database_changes.proofs.TurnLemmas.{Step, turned}
 use Rattle.msi_database_changes.proofs.RowsLemmas.{row_uses, rows_uses, row_stays}

@@ -13,7 +13,7 @@ use Rattle.msi_table_values.specs.CellValues.{row_values}
 use Rattle.msi_query_rows.specs.Selection.{TableValues}
 use Rattle.msi_database_changes.specs.Database.{Database, table_at, rows_of}
 use Rattle.msi_query_rows.specs.Rows.{TableCells, table_values}
-use Rattle.msi_database_changes.specs.Texts.{cell_put, in_turn}
+use Rattle.msi_database_cells.specs.Texts.{cell_put, in_turn}
 use Rattle.msi_database_changes.specs.Laws.{rows_at, OthersStay}
 use Rattle.msi_database_changes.proofs.TurnLemmas.{TextsStay, news_stay}
 use Rattle.msi_database_changes.proofs.RowsLemmas.{row_uses, rows_uses, row_value_uses, row_stays}

@@ -1,7 +1,7 @@
 -- A change of tables: what it leaves.
 use Rattle.std.specs.Prelude.{ℕ, Bool, true, false, not, List, [], ◌∷◌, ◌++◌, Option, Some, None}
 use Rattle.msi_text_base.specs.declared.errors.ErrorKind.TheVariants.{InvalidData, InvalidInput, NotFound}
-use Rattle.msi_text_pool.specs.Pool.{Place}
+use Rattle.msi_database_cells.specs.Texts.{PoolInUse}
 use Rattle.msi_query_rows.specs.Refusals.{Refusals}
 use Rattle.msi_query_rows.specs.Rows.{TableCells}
 use Rattle.msi_table_values.specs.declared.value.ValueRef.{ValueRef}
@@ -17,11 +17,6 @@ pub record Change : Type 0 where
 
 abbrev pub no_change : Database → Change
 no_change d = record { database = d; is_pool_used = false; stored = [] }
-
--- The pool while a change goes on
-pub record PoolInUse : Type 0 where
-  pub places : List Place
-  pub is_used : Bool
 
 abbrev pub pool_of : Change → PoolInUse
 pool_of c = record { places = c.database.pool.places; is_used = c.is_pool_used }

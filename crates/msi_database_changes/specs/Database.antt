@@ -1,6 +1,6 @@
 -- A database: tables of cells over one pool of texts.
 use Rattle.std.specs.Prelude.{◌≡◌, ℕ, ◌+◌, ◌<◌, Bool, true, false, not, List, [], ◌∷◌, ◌++◌, length, filter, count_by}
-use Rattle.std.specs.Prelude.{Option, Some, None, unwrap_or, option_map, is_some, nat_lt, nat_le, ◌==◌, ◌&&◌, bytes_eq}
+use Rattle.std.specs.Prelude.{Option, unwrap_or, option_map, is_some, nat_lt, nat_le, ◌==◌, ◌&&◌, bytes_eq}
 use Rattle.std.specs.Prelude.{slice_get, map}
 use Rattle.std.specs.List.{flat_map, list_all}
 use Rattle.std.specs.FinMap.{find, put, is_sorted}

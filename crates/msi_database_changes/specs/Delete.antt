@@ -14,7 +14,7 @@ use Rattle.msi_database_schema.specs.System.{is_system_table}
 use Rattle.msi_database_changes.specs.Database.{Database, table_at, rows_of, same_bool}
 use Rattle.msi_query_rows.specs.Rows.{TableCells}
 use Rattle.msi_database_changes.specs.Changes.{Change, no_change, pool_of, with_stored, barred_refusals, missing_or}
-use Rattle.msi_database_changes.specs.Texts.{rows_released}
+use Rattle.msi_database_cells.specs.Texts.{rows_released}
 
 -- Delete
 abbrev pub rows_meeting : List Place → TableCells → Option Expression → Bool → List (List ValueRef)

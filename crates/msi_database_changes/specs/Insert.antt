@@ -1,9 +1,9 @@
 -- What inserting rows does, and when it is refused.
 use Rattle.std.specs.Prelude.{ℕ, ◌+◌, Bool, not, List, [], ◌∷◌, ◌++◌, map, length, Option, Some, option_map, nat_lt}
 use Rattle.std.specs.Prelude.{◌==◌, ◌&&◌, zip, Result}
-use Rattle.std.specs.List.{list_any, list_all}
+use Rattle.std.specs.List.{list_all}
 use Rattle.msi_text_base.specs.declared.errors.ErrorKind.{ErrorKind}
-use Rattle.msi_text_base.specs.declared.errors.ErrorKind.TheVariants.{AlreadyExists, InvalidData, InvalidInput}
+use Rattle.msi_text_base.specs.declared.errors.ErrorKind.TheVariants.{InvalidData, InvalidInput}
 use Rattle.msi_text_base.specs.declared.errors.ErrorKind.TheVariants.{NotFound}
 use Rattle.msi_text_base.specs.Lists.{has_pair}
 use Rattle.msi_text_pool.specs.Pool.{Place}
@@ -12,24 +12,18 @@ use Rattle.msi_table_values.specs.declared.value.Value.{Value}
 use Rattle.msi_table_values.specs.declared.value.ValueRef.{ValueRef}
 use Rattle.msi_table_values.specs.Columns.{ColumnDef}
 use Rattle.msi_table_values.specs.ValidValues.{is_valid_value}
-use Rattle.msi_table_values.specs.CellValues.{row_values}
-use Rattle.msi_database_changes.specs.Keyed.{key_of, same_key, in_key_order}
+use Rattle.msi_table.specs.KeyOrder.{key_of, same_key, in_key_order}
 use Rattle.msi_query.specs.Queries.{InsertQuery}
 use Rattle.msi_database_schema.specs.System.{is_system_table}
 use Rattle.msi_database_changes.specs.Database.{Database, table_at, rows_of}
 use Rattle.msi_query_rows.specs.Rows.{TableCells}
-use Rattle.msi_database_changes.specs.Changes.{Change, no_change, PoolInUse, pool_of, with_stored}
+use Rattle.msi_database_cells.specs.KeySets.{key_refusals, keys_of_rows}
+use Rattle.msi_database_changes.specs.Changes.{Change, no_change, pool_of, with_stored}
+use Rattle.msi_database_cells.specs.Texts.{PoolInUse, rows_put}
 use Rattle.msi_database_changes.specs.Changes.{barred_refusals, missing_or}
-use Rattle.msi_database_changes.specs.Texts.{rows_put}
-
-abbrev pub key_refusals : List (List Value) → List (List Value) → List (List Value) → Refusals
-key_refusals held earlier [] = []
-key_refusals held earlier (k ∷ ks) =
-    (list_any (same_key k) held, AlreadyExists)
-    ∷ (list_any (same_key k) earlier, InvalidInput) ∷ key_refusals held (k ∷ earlier) ks
 
 abbrev pub keys_of : List Place → TableCells → List (List Value)
-keys_of places t = map (λ row. key_of t.columns (row_values places row)) (rows_of t)
+keys_of places t = keys_of_rows places t.columns (rows_of t)
 
 -- Insert, from its row checks on
 abbrev pub row_fits : List ColumnDef → List Value → Bool

@@ -18,7 +18,7 @@ use Rattle.msi_database_schema.specs.Schema.{SchemaRows, schema_of}
 use Rattle.msi_database_schema.specs.System.{columns_name, tables_name, validation_columns, validation_name}
 use Rattle.msi_query.specs.Queries.{InsertQuery, UpdateQuery, DeleteQuery}
 use Rattle.msi_query_expressions.specs.Conditions.{meets}
-use Rattle.msi_database_changes.specs.Keyed.{key_of, same_key}
+use Rattle.msi_table.specs.KeyOrder.{key_of, same_key}
 use Rattle.msi_database_changes.specs.Database.{Database, CountsAreExact, values_of, is_sound, is_well_formed, table_at}
 use Rattle.msi_database_changes.specs.Database.{has_table, named_numbers, columns_by_name}
 use Rattle.msi_query_rows.specs.Rows.{TableCells}

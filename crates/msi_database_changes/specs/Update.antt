@@ -1,8 +1,8 @@
 -- What updating rows does, and when it is refused.
 use Rattle.std.specs.Prelude.{if◌then◌else◌, ℕ, Bool, false, not, List, [], ◌∷◌, ◌++◌, map, Option, Some, option_map}
-use Rattle.std.specs.Prelude.{option_and_then, unwrap_or, ◌&&◌, ◌||◌, bytes_eq, codes, set, Result}
+use Rattle.std.specs.Prelude.{◌&&◌, ◌||◌, bytes_eq, codes, Result}
 use Rattle.std.specs.Option.{option_map_or}
-use Rattle.std.specs.List.{list_any, list_all, fold}
+use Rattle.std.specs.List.{list_any, list_all}
 use Rattle.msi_text_base.specs.declared.errors.ErrorKind.{ErrorKind}
 use Rattle.msi_text_base.specs.declared.errors.ErrorKind.TheVariants.{AlreadyExists, InvalidInput, NotFound}
 use Rattle.msi_text_base.specs.Lists.{has_pair}
@@ -10,30 +10,24 @@ use Rattle.msi_text_pool.specs.Pool.{Place}
 use Rattle.msi_query_rows.specs.Refusals.{Refusals, unless_refused, or_refused, ◌>>=◌}
 use Rattle.msi_table_values.specs.declared.value.Value.{Value}
 use Rattle.msi_table_values.specs.declared.value.ValueRef.{ValueRef}
-use Rattle.msi_table_values.specs.Columns.{ColumnDef, column_index, column_named}
-use Rattle.msi_table_values.specs.Fitting.{cell_of}
+use Rattle.msi_table_values.specs.Columns.{ColumnDef, column_named}
 use Rattle.msi_table_values.specs.ValidValues.{is_valid_value}
 use Rattle.msi_table_values.specs.CellValues.{row_values}
-use Rattle.msi_database_changes.specs.Keyed.{key_of, same_key}
+use Rattle.msi_table.specs.KeyOrder.{key_of, same_key}
 use Rattle.msi_query.specs.Queries.{UpdateQuery}
 use Rattle.msi_query_expressions.specs.Conditions.{meets}
 use Rattle.msi_query_rows.specs.Selection.{has_columns, condition_names}
 use Rattle.msi_database_schema.specs.System.{validation_name, is_schema_table}
 use Rattle.msi_database_changes.specs.Database.{Database, table_at, rows_of}
 use Rattle.msi_query_rows.specs.Rows.{TableCells}
-use Rattle.msi_database_changes.specs.Changes.{Change, no_change, PoolInUse, pool_of, with_stored}
+use Rattle.msi_database_cells.specs.Setting.{cells_set, values_set}
+use Rattle.msi_database_changes.specs.Changes.{Change, no_change, pool_of, with_stored}
+use Rattle.msi_database_cells.specs.Texts.{PoolInUse, in_turn}
 use Rattle.msi_database_changes.specs.Changes.{barred_refusals, missing_or}
-use Rattle.msi_database_changes.specs.Texts.{in_turn, cell_put, cell_released}
 
--- Update: the sets in order, so that the last set of a column wins
+-- a set names a column, which takes its value
 abbrev pub set_is_valid : List ColumnDef → List ℕ × Value → Bool
 set_is_valid columns s = option_map_or (λ c. is_valid_value c s.1) (column_named s.0 columns) false
-
-abbrev pub index_of : List ColumnDef → List ℕ × Value → ℕ
-index_of columns s = unwrap_or (column_index s.0 columns) 0
-
-abbrev pub values_set : List ColumnDef → List (List ℕ × Value) → List Value → List Value
-values_set columns sets row = fold (λ row s. set row (index_of columns s) s.1) row sets
 
 abbrev pub sets_key : List ColumnDef → List (List ℕ × Value) → Bool
 sets_key columns sets = list_any (λ s. option_map_or (λ c. c.is_primary_key) (column_named s.0 columns) false) sets
@@ -55,14 +49,6 @@ keys_collide places t q = sets_key t.columns q.sets
 
 abbrev pub update_refusals : List Place → TableCells → UpdateQuery → Refusals
 update_refusals places t q = set_refusals t.columns q ++ (keys_collide places t q, AlreadyExists) ∷ []
-
--- per row as the table lists them and per set, the old text is given back and then the new one taken
-abbrev pub cells_set : Bool → List ColumnDef → PoolInUse → List ValueRef
-    → List (List ℕ × Value) → Option (List ValueRef × PoolInUse)
-cells_set long columns pool row [] = Some (row, pool)
-cells_set long columns pool row (s ∷ ss) =
-    option_and_then (λ r. cells_set long columns r.1 (set row (index_of columns s) r.0) ss)
-    (cell_put long (cell_released pool (cell_of row (index_of columns s))) s.1)
 
 -- which rows are meant is judged by the texts from before the call
 abbrev pub row_updated : Bool → List Place → List ColumnDef → UpdateQuery

@@ -7,11 +7,11 @@ ghost use Rattle.msi_query_rows.specs.Refusals.{unless_refused};
 ghost use Rattle.msi_query_rows.specs.Selection.{condition_names, has_columns};
 ghost use Rattle.msi_database_changes.specs.Delete.{rows_meeting};
 ghost use Rattle.msi_database_changes.specs.Insert.{table_with};
-ghost use Rattle.msi_database_changes.specs.Texts.{in_use, rows_released};
+ghost use Rattle.msi_database_cells.specs.Texts.{in_use, rows_released};
 
 use crate::conditions::knows_condition;
 use crate::reasons;
-use crate::texts::PoolInUse;
+use msi_database_cells::texts::PoolInUse;
 use msi_query::parts::{DeleteParts, RowFilter};
 use msi_table::column::Column;
 use msi_table::value::ValueRef;

@@ -3,9 +3,9 @@
 ghost use Rattle.std.specs.Prelude.{◌≡◌, not, filter, IfOk, OnOk};
 ghost use Rattle.msi_text_base.specs.Results.{OnlyMemory};
 ghost use Rattle.msi_database_changes.specs.Drop.{is_row_about as is_about};
-ghost use Rattle.msi_database_changes.specs.Texts.{in_use, rows_released};
+ghost use Rattle.msi_database_cells.specs.Texts.{in_use, rows_released};
 
-use crate::texts::PoolInUse;
+use msi_database_cells::texts::PoolInUse;
 use msi_table::parts::ValueView;
 use msi_table::value::ValueRef;
 use msi_text::errors::Error;

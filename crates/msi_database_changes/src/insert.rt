@@ -5,11 +5,11 @@ ghost use Rattle.msi_text_base.specs.declared.errors.ErrorKind.TheVariants.{Inva
 ghost use Rattle.msi_query_rows.specs.Refusals.{IsRefusal, first_refusal, or_refused, unless_refused};
 ghost use Rattle.msi_database_changes.specs.Insert.{cells_added, misfit_refusals, row_fits as fits_columns};
 ghost use Rattle.msi_database_changes.specs.Insert.{row_refusals, table_with};
-ghost use Rattle.msi_database_changes.specs.Texts.{in_use};
+ghost use Rattle.msi_database_cells.specs.Texts.{in_use};
 
-use crate::keys::refuse_clashes;
 use crate::reasons;
-use crate::texts::PoolInUse;
+use msi_database_cells::keys::refuse_clashes;
+use msi_database_cells::texts::PoolInUse;
 use msi_query::parts::NewRow;
 use msi_table::column::Column;
 use msi_table::parts::{MAX_ROWS, sort_by_keys};

@@ -2,12 +2,6 @@
 
 use msi_text::Reason;
 
-pub(crate) const KEY_SHARED: Reason = Reason("two rows of the table share a key");
-
-pub(crate) const KEY_HELD: Reason = Reason("the table has a row with this key already");
-
-pub(crate) const KEY_TWICE: Reason = Reason("two of the new rows share a key");
-
 pub(crate) const NEW_VALUE: Reason = Reason(
     "a column that is to be set isn't there, or doesn't take its new value",
 );

@@ -1,32 +1,31 @@
 //! Updates of a table's rows.
 
-ghost use Rattle.std.specs.Prelude.{◌≡◌, ◌∷◌, [], map, set, List, IfOk, IfErr, OnOk, Some, false};
+ghost use Rattle.std.specs.Prelude.{◌≡◌, ◌∷◌, [], map, IfOk, IfErr, OnOk, Some, false};
 ghost use Rattle.std.specs.List.{list_all};
 ghost use Rattle.std.specs.Option.{option_map_or};
 ghost use Rattle.msi_text_base.specs.Lists.{has_pair};
 ghost use Rattle.msi_text_base.specs.Results.{OnlyMemory};
 ghost use Rattle.msi_text_base.specs.declared.errors.ErrorKind.TheVariants.{AlreadyExists, InvalidInput};
 ghost use Rattle.msi_query_rows.specs.Refusals.{IsRefusal, or_refused, unless_refused};
-ghost use Rattle.msi_table_values.specs.Fitting.{cell_of};
-ghost use Rattle.msi_table_values.specs.Columns.{ColumnDef, column_named};
+ghost use Rattle.msi_table_values.specs.Columns.{column_named};
 ghost use Rattle.msi_table_values.specs.CellValues.{row_values};
 ghost use Rattle.msi_database_changes.specs.Insert.{table_with};
-ghost use Rattle.msi_database_changes.specs.Keyed.{key_of, same_key};
-ghost use Rattle.msi_database_changes.specs.RowUpdates.{cell_exchanged, row_set, update_of};
-ghost use Rattle.msi_database_changes.specs.Texts.{in_turn, in_use};
-ghost use Rattle.msi_database_changes.specs.Update.{cells_set, index_of, keys_collide, row_updated, set_is_valid};
-ghost use Rattle.msi_database_changes.specs.Update.{set_refusals, sets_key as sets_a_key, values_after, values_set};
-ghost use Rattle.msi_database_changes.specs.Views.{seen_row};
+ghost use Rattle.msi_table.specs.KeyOrder.{key_of, same_key};
+ghost use Rattle.msi_database_changes.specs.RowUpdates.{row_set, update_of};
+ghost use Rattle.msi_database_cells.specs.Texts.{in_turn, in_use};
+ghost use Rattle.msi_database_changes.specs.Update.{keys_collide, row_updated, set_is_valid};
+ghost use Rattle.msi_database_changes.specs.Update.{set_refusals, sets_key as sets_a_key, values_after};
 
 use crate::conditions::knows_condition;
-use crate::keys::{Key, distinct_keys};
 use crate::reasons;
-use crate::texts::PoolInUse;
-use crate::views::views_of_cells;
+use msi_database_cells::keys::{Key, distinct_keys};
+use msi_database_cells::setting::{places_of, set_cells, set_views};
+use msi_database_cells::texts::PoolInUse;
+use msi_database_cells::views::views_of_cells;
 use msi_query::parts::{Assignment, RowFilter, UpdateParts};
 use msi_table::column::Column;
-use msi_table::parts::{ValueView, column_index};
-use msi_table::value::{Value, ValueRef};
+use msi_table::parts::column_index;
+use msi_table::value::ValueRef;
 use msi_text::errors::{Error, ErrorKind};
 use msi_text::stringpool::StringPool;
 use msi_text::text::Items;
@@ -73,110 +72,6 @@ fn sets_key(columns: &[Column], sets: &[Assignment]) -> bool
     sets.iter().any(|set| is_key_set(columns, set))
 }
 
-/// Where the columns of the new values stand; 0 for a name that is none of a column.
-///
-/// # Errors
-/// `OutOfMemory`.
-fn places_of(alloc: Global, columns: &[Column], sets: &[Assignment]) -> Result<Vec<usize>, Error>
-    ensures ok { IfOk result (λ places. places.items ≡ map (index_of columns.now) sets.now) }
-    ensures kind { OnlyMemory result }
-{
-    let mut places = Vec::new(alloc);
-    for set in sets {
-        places.push(column_index(columns, set.column()).unwrap_or(0))?;
-    }
-    Ok(places)
-}
-
-/// Puts a view at a place, unless that is past the end.
-fn set_view<'a>(row: &mut Vec<ValueView<'a>>, place: usize, view: ValueView<'a>)
-    ensures { row.new.items ≡ set row.old.items place view.entry }
-{
-    if place < row.len() {
-        row[place] = view;
-    }
-}
-
-/// Puts new values into a row that is seen where it lies, at the places of their columns.
-fn set_views<'a>(row: &mut Vec<ValueView<'a>>, places: &[usize], sets: &'a [Assignment])
-    ensures { (columns : List ColumnDef) → places.now ≡ map (index_of columns) sets.now
-        → seen_row row.new.items ≡ values_set columns sets.now (seen_row row.old.items) }
-{
-    for i in 0..sets.len().min(places.len()) {
-        set_view(row, places[i], ValueView::of(sets[i].value()));
-    }
-}
-
-/// The cell at a place of a row, or null.
-fn cell_at(row: &[ValueRef], place: usize) -> ValueRef
-    ensures { result ≡ cell_of row.now place }
-{
-    match row.get(place) {
-        Some(cell) => *cell,
-        None => ValueRef::Null,
-    }
-}
-
-/// Puts a cell at a place, unless that is past the end.
-fn set_cell(row: &mut Vec<ValueRef>, place: usize, cell: ValueRef)
-    ensures { row.new.items ≡ set row.old.items place cell }
-{
-    if place < row.len() {
-        row[place] = cell;
-    }
-}
-
-/// Puts a value into a row's cell: the pool gets the old text back, and then the new one is taken from it.
-///
-/// # Errors
-/// `InvalidInput` where the pool is full, or with `OutOfMemory`, which may come before.
-fn exchange(
-    alloc: Global,
-    pool: &mut PoolInUse,
-    row: &mut Vec<ValueRef>,
-    place: usize,
-    value: &Value,
-) -> Result<(), Error>
-    ensures ok { OnOk result (cell_exchanged pool.old.pool.long (in_use pool.old) row.old.items place value.now
-        ≡ Some (row.new.items, in_use pool.new)) }
-    ensures kind { IfErr result (IsRefusal (or_refused InvalidInput
-        (cell_exchanged pool.old.pool.long (in_use pool.old) row.old.items place value.now))) }
-    ensures page { pool.new.pool.page ≡ pool.old.pool.page }
-    ensures long { pool.new.pool.long ≡ pool.old.pool.long }
-{
-    pool.release(cell_at(row.as_slice(), place))?;
-    let cell = pool.put(value.clone(alloc)?)?;
-    set_cell(row, place, cell);
-    Ok(())
-}
-
-/// Puts new values into a row of cells, at the places of their columns, one after another.
-///
-/// # Errors
-/// `InvalidInput` where the pool is full, or with `OutOfMemory`, which may come before.
-fn set_cells(
-    alloc: Global,
-    pool: &mut PoolInUse,
-    row: Vec<ValueRef>,
-    places: &[usize],
-    sets: &[Assignment],
-) -> Result<Vec<ValueRef>, Error>
-    ensures ok { IfOk result (λ cells. (columns : List ColumnDef) → places.now ≡ map (index_of columns) sets.now
-        → cells_set pool.old.pool.long columns (in_use pool.old) row.items sets.now
-        ≡ Some (cells.items, in_use pool.new)) }
-    ensures kind { IfErr result (λ kind. (columns : List ColumnDef) → places.now ≡ map (index_of columns) sets.now
-        → let cells = cells_set pool.old.pool.long columns (in_use pool.old) row.items sets.now in
-        IsRefusal (or_refused InvalidInput cells) kind) }
-    ensures page { pool.new.pool.page ≡ pool.old.pool.page }
-    ensures long { pool.new.pool.long ≡ pool.old.pool.long }
-{
-    let mut row = row;
-    for i in 0..sets.len().min(places.len()) {
-        exchange(alloc, pool, &mut row, places[i], sets[i].value())?;
-    }
-    Ok(row)
-}
-
 /// An update of rows of some columns. What its names stand for is looked up once. A contract sees the columns and the
 /// query.
 #[derive(Drop)]
@@ -192,7 +87,7 @@ impl<'a> Model for RowUpdate<'a> {
     ghost use Rattle.std.specs.Coded.{codes};
     ghost use Rattle.msi_query_expressions.specs.ExpressionCode.{expression_code};
     ghost use Rattle.msi_database_changes.specs.RowUpdates.{RowUpdateDef, update_of};
-    ghost use Rattle.msi_database_changes.specs.Update.{index_of};
+    ghost use Rattle.msi_database_cells.specs.Setting.{index_of};
 
     ghost Value = { RowUpdateDef };
 

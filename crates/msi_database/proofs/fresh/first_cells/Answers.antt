@@ -1,6 +1,6 @@
 use Rattle.msi_database.proofs.FreshCallLemmas.{first_added, only_memory}
 use Rattle.msi_database_changes.specs.Insert.{cells_added}
-use Rattle.msi_database_changes.specs.Texts.{in_use}
+use Rattle.msi_database_cells.specs.Texts.{in_use}
 use Rattle.std.proofs.Common.{ap, ◌∙◌, is_some, List}
 use Rattle.msi_table_values.specs.declared.value.ValueRef.{ValueRef}
 use Rattle.msi_database.proofs.fresh.first_cells.Goals as goal

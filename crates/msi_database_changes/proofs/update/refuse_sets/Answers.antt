@@ -1,4 +1,4 @@
-use Rattle.std.proofs.Common.{◌∙◌, sym, ap, Err}
+use Rattle.std.proofs.Common.{◌∙◌, sym, ap}
 use Rattle.std.specs.List.{list_all}
 use Rattle.msi_database_changes.specs.RowUpdates.{update_of}
 use Rattle.msi_database_changes.specs.Update.{set_is_valid}

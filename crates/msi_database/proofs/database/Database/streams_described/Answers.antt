@@ -4,7 +4,7 @@ use Rattle.msi_query_rows.specs.Refusals.{IsRefusal}
 use Rattle.msi_query_rows.proofs.RefusalLemmas.{goes_on-Err, err_passed}
 use Rattle.msi_database_schema.specs.Description.{column_rows}
 use Rattle.msi_database_schema.specs.System.{columns_name}
-use Rattle.msi_database_changes.specs.Texts.{in_use}
+use Rattle.msi_database_cells.specs.Texts.{in_use}
 use Rattle.msi_database.specs.Creating.{stream_with}
 use Rattle.msi_database.proofs.database.Database.streams_described.Goals as goal
 

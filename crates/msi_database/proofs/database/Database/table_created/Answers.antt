@@ -5,7 +5,7 @@ use Rattle.msi_table.specs.Tables.{TableDef}
 use Rattle.msi_query_rows.specs.Refusals.{first_refusal}
 use Rattle.msi_query_rows.proofs.RefusalLemmas.{err_passed, first_answered, none_answered}
 use Rattle.msi_database_changes.specs.Create.{create_table}
-use Rattle.msi_database_changes.specs.Texts.{in_use}
+use Rattle.msi_database_cells.specs.Texts.{in_use}
 use Rattle.msi_database.specs.Creating.{create_refusals}
 use Rattle.msi_database.specs.Making.{Makes, TellsUse}
 use Rattle.msi_database.proofs.EarlyCallLemmas.{first_where_err, none_where_ok}

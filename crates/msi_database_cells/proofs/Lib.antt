@@ -1,0 +1,6 @@
+-- The lemmas of this crate.
+pub mod InTurnLemmas
+pub mod KeyPairLemmas
+pub mod KeySetLemmas
+pub mod SettingLemmas
+pub mod ViewLemmas

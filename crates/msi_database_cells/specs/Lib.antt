@@ -1,0 +1,5 @@
+-- The words of this crate.
+pub mod Texts
+pub mod Views
+pub mod KeySets
+pub mod Setting
