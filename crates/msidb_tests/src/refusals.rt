@@ -4,6 +4,14 @@ use crate::runs::{USAGE, check, ends_moving, path, prints, shows};
 use std::process::Abort;
 use std::{fs, io};
 
+/// Whether a run is refused with this line of errors, and leaves the file as it was.
+fn refuses(rt: &HostRuntime, all: &[&str], path: &str, line: &str) -> io::Result<bool> {
+    let before = fs::read(rt, path)?;
+    let is_told = prints(rt, all, path, b"", "", line)?;
+    let after = fs::read(rt, path)?;
+    Ok(is_told && before.as_slice() == after.as_slice())
+}
+
 /// Words, and the line of errors. The file is no compound file.
 static FAULTS: [(&'static [&'static str], &'static str); 29] = [
     (&["wrap", "FILE", "a/b"], "InvalidInput"),
@@ -43,14 +51,8 @@ fn faults_are_told_and_leave_the_file_as_it_was(rt: HostRuntime) {
     let path = path(&rt, "faults").expect(&rt, "a path");
     fs::write(&rt, path.as_str(), "as it was").expect(&rt, "a file");
     for row in &FAULTS {
-        check(
-            &rt,
-            row.0,
-            prints(&rt, row.0, path.as_str(), b"", "", row.1),
-        );
+        check(&rt, row.0, refuses(&rt, row.0, path.as_str(), row.1));
     }
-    let left = fs::read(&rt, path.as_str()).expect(&rt, "a file");
-    assert_eq!(rt; left.as_slice(), b"as it was".as_slice());
     fs::remove_file(&rt, path.as_str()).expect(&rt, "a file");
 }
 
@@ -68,14 +70,6 @@ static REFUSED: [Refusal<'static>; 7] = [
     (&["new", "FILE"], &["cat", "FILE", "a/b"], "InvalidInput"),
     (&["new", "FILE"], &["put", "FILE", "a/b"], "InvalidInput"),
 ];
-
-/// Whether a run is refused with this line of errors, and leaves the file as it was.
-fn refuses(rt: &HostRuntime, all: &[&str], path: &str, line: &str) -> io::Result<bool> {
-    let before = fs::read(rt, path)?;
-    let is_told = prints(rt, all, path, b"", "", line)?;
-    let after = fs::read(rt, path)?;
-    Ok(is_told && before.as_slice() == after.as_slice())
-}
 
 #[test]
 fn what_a_package_refuses_leaves_the_file_as_it_was(rt: HostRuntime) {
