@@ -8,7 +8,7 @@ use Rattle.std.proofs.lemmas.List.Folds.{list_any-append}
 use Rattle.std.proofs.lemmas.Option.{option_and_then_some}
 use Rattle.msi_text_base.specs.Lists.{tabulated, numbers_below}
 use Rattle.msi_text_base.proofs.ListLemmas.{all_mapped}
-use Rattle.msi_text_pool.specs.Pool.{Pool}
+use Rattle.msi_text_pool_base.specs.Pool.{Pool}
 use Rattle.msi_text_pool.specs.References.{number_of}
 use Rattle.msi_table_values.specs.declared.column.ColumnType.{ColumnType}
 use Rattle.msi_table_values.specs.declared.column.ColumnType.TheVariants as coltype

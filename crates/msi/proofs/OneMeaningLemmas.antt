@@ -5,8 +5,8 @@ use Rattle.std.specs.List.{AllByRecursion}
 use Rattle.std.specs.FinMap.{entries}
 use Rattle.std.proofs.lemmas.Option.{same_Some}
 use Rattle.msi_text_base.proofs.ListLemmas.{same_head, same_tail}
-use Rattle.msi_text_pool.specs.Pool.{Pool}
-use Rattle.msi_text_pool.specs.Pool as pools
+use Rattle.msi_text_pool_base.specs.Pool.{Pool}
+use Rattle.msi_text_pool_base.specs.Pool as pools
 use Rattle.msi_text_pool.proofs.ReadStreamLemmas.{one_pool}
 use Rattle.msi_summary_properties.specs.Properties.{Properties}
 use Rattle.msi_summary.specs.Summary.{SpellsSummary}

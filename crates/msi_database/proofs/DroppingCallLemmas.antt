@@ -3,7 +3,7 @@ use Rattle.std.proofs.Common.{◌≡◌, ℕ, Bool, true, false, not, List, [], 
 use Rattle.std.specs.Option.{option_map_or}
 use Rattle.msi_text_base.specs.declared.errors.ErrorKind.{ErrorKind}
 use Rattle.msi_text_base.proofs.OptionLemmas.{map_some}
-use Rattle.msi_text_pool.specs.Pool.{Pool}
+use Rattle.msi_text_pool_base.specs.Pool.{Pool}
 use Rattle.msi_table_values.specs.declared.value.ValueRef.{ValueRef}
 use Rattle.msi_table.specs.Tables.{TableDef, CanStore}
 use Rattle.msi_table_values.specs.Columns.{types_of}

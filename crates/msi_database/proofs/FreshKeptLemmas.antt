@@ -4,7 +4,7 @@ use Rattle.std.specs.FinMap.{empty, entries, len, len-empty, len-entries}
 use Rattle.std.proofs.lemmas.List.{nil_from_length}
 use Rattle.msi_container_format.specs.Names.{name_cmp}
 use Rattle.msi_container_format.specs.Streams as maps
-use Rattle.msi_text_pool.specs.Pool.{Pool}
+use Rattle.msi_text_pool_base.specs.Pool.{Pool}
 use Rattle.msi_table_values.specs.Columns.{ColumnDef}
 use Rattle.msi_table.specs.Tables.{TableDef}
 use Rattle.msi_database_schema.specs.System.{columns_columns, columns_name, tables_columns, tables_name, validation_columns, validation_name}

@@ -5,7 +5,7 @@ use Rattle.std.specs.FinMap.{entries}
 use Rattle.msi_container_format.specs.Streams as maps
 use Rattle.msi_text_base.specs.declared.errors.ErrorKind.{ErrorKind}
 use Rattle.msi_text_base.specs.declared.errors.ErrorKind.TheVariants.{InvalidInput}
-use Rattle.msi_text_pool.specs.Pool.{Place, Pool}
+use Rattle.msi_text_pool_base.specs.Pool.{Place, Pool}
 use Rattle.msi_table_values.specs.declared.value.ValueRef.{ValueRef}
 use Rattle.msi_table_values.specs.declared.value.Value.{Value}
 use Rattle.msi_table_values.specs.Columns.{ColumnDef, types_of}

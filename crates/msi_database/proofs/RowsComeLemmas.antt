@@ -5,9 +5,9 @@ use Rattle.std.specs.FinMap.{find}
 use Rattle.std.proofs.lemmas.Bool.{true≢false, false_from_ne_true, leb-true}
 use Rattle.std.proofs.lemmas.Slice.Eq.{bytes_eq-Decides}
 use Rattle.msi_text_base.specs.Lists.{list_cmp}
-use Rattle.msi_text_pool.specs.Pool.{Place}
-use Rattle.msi_text_pool.specs.FirstFit.{most_places}
-use Rattle.msi_text_pool.proofs.TakenLemmas.{taken_takes}
+use Rattle.msi_text_pool_base.specs.Pool.{Place}
+use Rattle.msi_text_places.specs.FirstFit.{most_places}
+use Rattle.msi_text_places.proofs.TakenLemmas.{taken_takes}
 use Rattle.msi_table_values.specs.declared.value.ValueRef.{ValueRef}
 use Rattle.msi_table_values.specs.Columns.{types_of}
 use Rattle.msi_table_values.specs.Fitting.{FitsTable}

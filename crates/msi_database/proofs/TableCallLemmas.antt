@@ -1,7 +1,7 @@
 -- What an accepted create and an accepted drop make, by what they have in hand at their ends.
 use Rattle.std.proofs.Common.{◌≡◌, ℕ, true, false, not, List, [], ◌∷◌, ◌++◌, filter, Some, None, Ok, Result, sym, subst, ◌∙◌}
 use Rattle.msi_text_base.specs.declared.errors.ErrorKind.{ErrorKind}
-use Rattle.msi_text_pool.specs.Pool.{Pool}
+use Rattle.msi_text_pool_base.specs.Pool.{Pool}
 use Rattle.msi_table_values.specs.declared.value.ValueRef.{ValueRef}
 use Rattle.msi_table_values.specs.Columns.{ColumnDef}
 use Rattle.msi_table.specs.Tables.{TableDef}

@@ -1,7 +1,7 @@
 -- What a change makes of a kept database: the database that it leaves, and the parts in which that is kept.
 use Rattle.std.specs.Prelude.{◌≡◌, ◌++◌, Bool, true, List, [], ◌∷◌, Result, Ok, Err}
 use Rattle.msi_text_base.specs.declared.errors.ErrorKind.{ErrorKind}
-use Rattle.msi_text_pool.specs.Pool.{Pool}
+use Rattle.msi_text_pool_base.specs.Pool.{Pool}
 use Rattle.msi_table.specs.Tables.{TableDef}
 use Rattle.msi_query.specs.declared.query.insert.InsertParts.{InsertParts}
 use Rattle.msi_query.specs.declared.query.delete.DeleteParts.{DeleteParts}

@@ -1,8 +1,8 @@
 //! Creating a table: it is described in the system tables, and put in among the others.
 
 ghost use Rattle.std.specs.Prelude.{◌≡◌, ◌≤◌, IfErr, IfOk, IsTrue, Ok, OnErr, OnOk, length, true};
-ghost use Rattle.msi_text_pool.specs.Pool.{unindexed};
-ghost use Rattle.msi_text_pool.specs.FirstFit.{most_places};
+ghost use Rattle.msi_text_pool_base.specs.Pool.{unindexed};
+ghost use Rattle.msi_text_places.specs.FirstFit.{most_places};
 ghost use Rattle.msi_text_base.specs.Results.{OnlyMemory};
 ghost use Rattle.msi_table.specs.Tables.{most_columns};
 ghost use Rattle.msi_query_rows.specs.Refusals.{AnswersFirst, IsRefusal, unless_refused};

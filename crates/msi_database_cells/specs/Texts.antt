@@ -1,8 +1,8 @@
 -- Texts that cells take of the pool and give back.
 use Rattle.std.specs.Prelude.{Bool, true, List, [], ◌∷◌, Option, Some, option_map, option_and_then, unwrap_or}
 use Rattle.std.specs.List.{fold}
-use Rattle.msi_text_pool.specs.FirstFit.{taken, given_back}
-use Rattle.msi_text_pool.specs.Pool.{Pool, Place}
+use Rattle.msi_text_places.specs.FirstFit.{taken, given_back}
+use Rattle.msi_text_pool_base.specs.Pool.{Pool, Place}
 use Rattle.msi_table_values.specs.declared.value.Value.{Value}
 use Rattle.msi_table_values.specs.declared.value.Value.TheVariants.{Null, Int, Str, Binary}
 use Rattle.msi_table_values.specs.declared.value.ValueRef.{ValueRef}

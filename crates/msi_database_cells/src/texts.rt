@@ -2,8 +2,8 @@
 
 ghost use Rattle.std.specs.Prelude.{◌≡◌, false, Some, IfOk, IfErr, OnOk, unwrap_or};
 ghost use Rattle.std.specs.List.{fold};
-ghost use Rattle.msi_text_pool.specs.FirstFit.{given_back};
-ghost use Rattle.msi_text_pool.specs.Pool.{unindexed};
+ghost use Rattle.msi_text_places.specs.FirstFit.{given_back};
+ghost use Rattle.msi_text_pool_base.specs.Pool.{unindexed};
 ghost use Rattle.msi_text_base.specs.Results.{OnlyMemory};
 ghost use Rattle.msi_text_base.specs.declared.errors.ErrorKind.TheVariants.{InvalidInput};
 ghost use Rattle.msi_query_rows.specs.Refusals.{IsRefusal, or_refused};
@@ -27,7 +27,7 @@ pub struct PoolInUse {
 
 impl Model for PoolInUse {
     ghost use Rattle.msi_database_cells.specs.Texts.{UsedPool};
-    ghost use Rattle.msi_text_pool.specs.Pool.{unindexed};
+    ghost use Rattle.msi_text_pool_base.specs.Pool.{unindexed};
 
     ghost Value = { UsedPool };
 

@@ -11,7 +11,7 @@ use Rattle.std.proofs.lemmas.List.{get_or-map, length-map}
 use Rattle.std.proofs.lemmas.List.Sorted.{IsPermutation-sym}
 use Rattle.std.proofs.lemmas.Option.{same_Some}
 use Rattle.msi_text_base.specs.Lists.{list_cmp}
-use Rattle.msi_text_pool.specs.Pool.{Place}
+use Rattle.msi_text_pool_base.specs.Pool.{Place}
 use Rattle.msi_table_values.specs.declared.value.Value.{Value}
 use Rattle.msi_table_values.specs.declared.value.Value.TheVariants.{Null}
 use Rattle.msi_table_values.specs.declared.value.ValueRef.{ValueRef}
@@ -30,7 +30,7 @@ use Rattle.msi_database_changes.specs.Delete.{rows_meeting}
 use Rattle.msi_table.specs.KeyOrder.{in_key_order}
 use Rattle.msi_database_changes.specs.Laws.{rows_at, RowsFit, LeadingNumbersAscend, LeadingNumbersAscendIn, IsChange, inserted, updated, deleted}
 use Rattle.msi_database_changes.proofs.FitsKeptLemmas.{change_fits}
-use Rattle.msi_text_pool.specs.FirstFitLaws.{TakenPlacesHoldTheirText, GivenBackTakesOne}
+use Rattle.msi_text_places.specs.FirstFitLaws.{TakenPlacesHoldTheirText, GivenBackTakesOne}
 use Rattle.msi_table.proofs.StableSortLemmas.{sort_moves}
 use Rattle.msi_database_changes.proofs.DescribingLemmas.{rows_at_is}
 use Rattle.msi_database_changes.proofs.KindsKeptLemmas.{all_permuted}

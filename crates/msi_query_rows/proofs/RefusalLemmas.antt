@@ -4,7 +4,7 @@ use Rattle.std.specs.Prelude.{IsErrAnd, IfErr, IfSome}
 use Rattle.std.proofs.Common.{inl, inr}
 use Rattle.msi_text_base.specs.declared.errors.ErrorKind.{ErrorKind}
 use Rattle.msi_text_base.specs.declared.errors.ErrorKind.TheVariants.{InvalidData, NotFound}
-use Rattle.msi_text_pool.specs.Pool.{Place}
+use Rattle.msi_text_pool_base.specs.Pool.{Place}
 use Rattle.msi_table_values.specs.declared.value.ValueRef.{ValueRef}
 use Rattle.msi_table_values.specs.Columns.{ColumnDef}
 use Rattle.msi_query_rows.specs.Refusals.{AnswersFirst, Refusals, IsRefusal, first_refusal, unless, unless_refused, or_refused, ◌>>=◌}

@@ -6,7 +6,7 @@ use Rattle.std.proofs.lemmas.List.{append-nil, map-append, length-map, take_more
 use Rattle.std.proofs.lemmas.List.Elements.{filter_map-append}
 use Rattle.std.proofs.lemmas.Option.{slice_get-map}
 use Rattle.msi_text_base.specs.declared.errors.ErrorKind.{ErrorKind}
-use Rattle.msi_text_pool.specs.Pool.{Place}
+use Rattle.msi_text_pool_base.specs.Pool.{Place}
 use Rattle.msi_table_values.specs.declared.value.ValueRef.{ValueRef}
 use Rattle.msi_table_values.specs.declared.value.ValueRef.TheVariants as cell
 use Rattle.msi_table_values.specs.declared.value.Value.{Value}

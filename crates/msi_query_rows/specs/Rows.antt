@@ -3,7 +3,7 @@ use Rattle.std.specs.Prelude.{ℕ, List, [], map, Option, option_map, option_and
 use Rattle.std.specs.List.{filter_map}
 use Rattle.msi_text_base.specs.declared.errors.ErrorKind.{ErrorKind}
 use Rattle.msi_text_base.specs.declared.errors.ErrorKind.TheVariants.{InvalidData, NotFound}
-use Rattle.msi_text_pool.specs.Pool.{Place}
+use Rattle.msi_text_pool_base.specs.Pool.{Place}
 use Rattle.msi_table_values.specs.declared.value.ValueRef.{ValueRef}
 use Rattle.msi_table_values.specs.declared.value.ValueRef.TheVariants as cell
 use Rattle.msi_table_values.specs.declared.value.Value.{Value}

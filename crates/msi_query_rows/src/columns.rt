@@ -3,7 +3,7 @@
 ghost use Rattle.std.specs.Prelude.{◌≡◌, ◌++◌, ◌∷◌, ◌==◌, map, IfOk, OnOk, if◌then◌else◌, length, List, option_copied};
 ghost use Rattle.std.specs.Prelude.{string_bytes};
 ghost use Rattle.std.specs.List.{filter_map};
-ghost use Rattle.msi_text_pool.specs.Pool.{Place};
+ghost use Rattle.msi_text_pool_base.specs.Pool.{Place};
 ghost use Rattle.msi_text_base.specs.Results.{OnlyMemory};
 ghost use Rattle.msi_table_values.specs.Columns.{column_index as index_of};
 ghost use Rattle.msi_query_rows.specs.Rows.{column_at as column_there, relation_values};

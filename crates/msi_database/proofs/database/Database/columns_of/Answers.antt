@@ -1,5 +1,5 @@
 use Rattle.std.proofs.Common.{◌≡◌, List, Result, Err, ap, sym, ◌∙◌, Some}
-use Rattle.msi_text_pool.specs.Pool.{unindexed}
+use Rattle.msi_text_pool_base.specs.Pool.{unindexed}
 use Rattle.std.specs.FinMap.{entries}
 use Rattle.msi_text_base.specs.declared.errors.ErrorKind.{ErrorKind}
 use Rattle.msi_table_values.specs.Columns.{ColumnDef}

@@ -1,5 +1,5 @@
 use Rattle.std.proofs.Common.{refl, ap}
-use Rattle.msi_text_pool.specs.Pool.{unindexed}
+use Rattle.msi_text_pool_base.specs.Pool.{unindexed}
 use Rattle.msi_database.specs.Making.{delete_of}
 use Rattle.msi_database.proofs.RowCallLemmas.{delete_called}
 use Rattle.msi_database.proofs.database.Database.deleted.Goals as goal

@@ -1,5 +1,5 @@
 use Rattle.std.proofs.Common.{◌≡◌, ◌∷◌, [], subst, sym}
-use Rattle.msi_text_pool.specs.Pool.{unindexed}
+use Rattle.msi_text_pool_base.specs.Pool.{unindexed}
 use Rattle.std.proofs.lemmas.Result.{IfOk-weaker, on_ok_weaker}
 use Rattle.msi_query.specs.Queries.{InsertQuery}
 use Rattle.msi_query_rows.proofs.RefusalLemmas.{accepted_first, first_passed}

@@ -1,5 +1,5 @@
 use Rattle.std.proofs.Common.{◌∙◌, ap, refl, sym, List}
-use Rattle.msi_text_pool.specs.Pool.{unindexed}
+use Rattle.msi_text_pool_base.specs.Pool.{unindexed}
 use Rattle.msi_table_values.specs.declared.value.ValueRef.{ValueRef}
 use Rattle.msi_table_values.specs.Columns.{ColumnDef}
 use Rattle.msi_query_rows.specs.Refusals.{first_refusal}

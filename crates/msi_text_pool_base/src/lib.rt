@@ -1,0 +1,9 @@
+//! The base of the string pool: the entries of its stream, which of its places are free, and how many operations a call
+//! makes on places.
+#![tactic(auto)]
+
+mod entries;
+mod free;
+mod operations;
+pub mod parts;
+pub mod reasons;
