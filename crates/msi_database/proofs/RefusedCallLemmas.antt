@@ -9,7 +9,7 @@ use Rattle.msi_table_values.specs.declared.value.Value.TheVariants.{Str}
 use Rattle.msi_table_values.specs.declared.value.ValueRef.{ValueRef}
 use Rattle.msi_table_values.specs.Columns.{ColumnDef}
 use Rattle.msi_query.specs.Queries.{InsertQuery}
-use Rattle.msi_query_rows.specs.Refusals.{Refusals, IsRefusal, first_refusal, or_refused, unless_refused, ◌>>=◌}
+use Rattle.msi_text.specs.Refusals.{Refusals, IsRefusal, first_refusal, or_refused, unless_refused, ◌>>=◌}
 use Rattle.msi_query_rows.specs.Rows.{TableCells}
 use Rattle.msi_database_schema.specs.Keys.{is_table_name}
 use Rattle.msi_database_schema.specs.System.{is_system_table, tables_name, columns_name, validation_name}

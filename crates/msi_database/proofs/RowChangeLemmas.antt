@@ -7,7 +7,7 @@ use Rattle.msi_text_places.specs.FirstFitLaws.{TakenPlacesHoldTheirText, GivenBa
 use Rattle.msi_text_base.specs.declared.errors.ErrorKind.{ErrorKind}
 use Rattle.msi_text_base.specs.declared.errors.ErrorKind.TheVariants.{InvalidInput, NotFound}
 use Rattle.msi_text_base.proofs.BoolLemmas.{by_test}
-use Rattle.msi_query_rows.specs.Refusals.{Refusals, first_refusal, or_refused, unless_refused, ◌>>=◌}
+use Rattle.msi_text.specs.Refusals.{Refusals, first_refusal, or_refused, unless_refused, ◌>>=◌}
 use Rattle.msi_query.specs.Queries.{DeleteQuery, InsertQuery, UpdateQuery}
 use Rattle.msi_table_values.specs.CellValues.{row_values}
 use Rattle.msi_database_schema.specs.System.{is_schema_table, is_system_table, validation_name}

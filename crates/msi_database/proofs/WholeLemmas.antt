@@ -15,7 +15,7 @@ use Rattle.msi_table_values.specs.Fitting.{FitsRow, FitsTable}
 use Rattle.msi_table.specs.Rows.{AreAsWide}
 use Rattle.msi_table_values.proofs.ColumnTypesLemmas.{length-types_of}
 use Rattle.msi_table_values.proofs.FittingLemmas.{fits_length}
-use Rattle.msi_query_rows.specs.Refusals.{AnswersWith, IsRefusal, or_refused, refusal_of, ◌>>=◌}
+use Rattle.msi_text.specs.Refusals.{AnswersWith, IsRefusal, or_refused, refusal_of, ◌>>=◌}
 use Rattle.msi_query_rows.specs.Rows.{TableCells, RelationCells, columns_read, whole_table}
 use Rattle.msi_query_rows.specs.Width.{AreWide}
 use Rattle.msi_query_rows.proofs.RefusalLemmas.{goes_on-Err}

@@ -10,7 +10,7 @@ use Rattle.std.proofs.lemmas.Slice.Eq.{bytes_eq-Decides}
 use Rattle.std.proofs.lemmas.Bool.{and_parts, false_from_ne_true, not-false}
 use Rattle.msi_text_base.specs.Lists.{list_cmp}
 use Rattle.msi_text_base.proofs.BoolLemmas.{yes_is_no}
-use Rattle.msi_query_rows.specs.Refusals.{first_refusal}
+use Rattle.msi_text.specs.Refusals.{first_refusal}
 use Rattle.msi_query_rows.specs.Selection.{TableValues}
 use Rattle.msi_table_values.specs.declared.value.Value.{Value}
 use Rattle.msi_table_values.specs.declared.value.ValueRef.{ValueRef}

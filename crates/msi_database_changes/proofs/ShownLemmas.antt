@@ -13,7 +13,7 @@ use Rattle.msi_text_base.specs.declared.errors.ErrorKind.TheVariants.{InvalidInp
 use Rattle.msi_text_base.specs.Lists.{list_cmp}
 use Rattle.msi_text_base.proofs.BoolLemmas.{by_test}
 use Rattle.msi_text_base.proofs.OptionLemmas.{map_some}
-use Rattle.msi_query_rows.specs.Refusals.{first_refusal, or_refused, unless_refused, ◌>>=◌}
+use Rattle.msi_text.specs.Refusals.{first_refusal, or_refused, unless_refused, ◌>>=◌}
 use Rattle.msi_table_values.specs.declared.value.Value.{Value}
 use Rattle.msi_table_values.specs.declared.value.Value.TheVariants.{Str}
 use Rattle.msi_table_values.specs.declared.value.ValueRef.{ValueRef}

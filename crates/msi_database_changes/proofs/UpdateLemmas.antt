@@ -21,7 +21,7 @@ use Rattle.msi_table_values.specs.ValidValues.{is_valid_value}
 use Rattle.msi_query.specs.Queries.{UpdateQuery}
 use Rattle.msi_query_expressions.specs.Conditions.{meets}
 use Rattle.msi_query_rows.specs.Selection.{has_columns, condition_names}
-use Rattle.msi_query_rows.specs.Refusals.{Refusals, unless_refused, or_refused, ◌>>=◌}
+use Rattle.msi_text.specs.Refusals.{Refusals, unless_refused, or_refused, ◌>>=◌}
 use Rattle.msi_table.specs.KeyOrder.{key_of, same_key}
 use Rattle.msi_database_changes.specs.Database.{Database, table_at, rows_of, is_sound, CountsAreExact}
 use Rattle.msi_query_rows.specs.Rows.{TableCells}

@@ -5,7 +5,7 @@ use Rattle.std.specs.List.{fold}
 use Rattle.msi_text_base.specs.declared.errors.ErrorKind.{ErrorKind}
 use Rattle.msi_text_base.specs.declared.errors.ErrorKind.TheVariants.{InvalidInput, NotFound}
 use Rattle.msi_text_pool_base.specs.Pool.{Place}
-use Rattle.msi_query_rows.specs.Refusals.{Refusals, unless_refused, or_refused, ◌>>=◌}
+use Rattle.msi_text.specs.Refusals.{Refusals, unless_refused, or_refused, ◌>>=◌}
 use Rattle.msi_table_values.specs.declared.value.Value.TheVariants.{Str}
 use Rattle.msi_table_values.specs.declared.value.ValueRef.{ValueRef}
 use Rattle.msi_table_values.specs.CellValues.{row_values}

@@ -7,7 +7,7 @@ use Rattle.msi_text_base.specs.declared.errors.ErrorKind.TheVariants.{InvalidDat
 use Rattle.msi_text_pool_base.specs.Pool.{Place}
 use Rattle.msi_table_values.specs.declared.value.ValueRef.{ValueRef}
 use Rattle.msi_table_values.specs.Columns.{ColumnDef}
-use Rattle.msi_query_rows.specs.Refusals.{AnswersFirst, Refusals, IsRefusal, first_refusal, unless, unless_refused, or_refused, ◌>>=◌}
+use Rattle.msi_text.specs.Refusals.{AnswersFirst, Refusals, IsRefusal, first_refusal, unless, unless_refused, or_refused, ◌>>=◌}
 use Rattle.msi_query_rows.specs.Selection.{Relation}
 use Rattle.msi_query_rows.specs.Rows.{TableCells, relation_values, rows_values, table_values, tables_values, whole_table}
 

@@ -3,7 +3,7 @@
 ghost use Rattle.std.specs.Prelude.{◌≡◌, map, filter, IfOk, IfErr, Ok, option_copied};
 ghost use Rattle.msi_text_base.specs.Results.{OnlyMemory};
 ghost use Rattle.msi_query_expressions.specs.Conditions.{meets};
-ghost use Rattle.msi_query_rows.specs.Refusals.{IsRefusal, unless_refused};
+ghost use Rattle.msi_text.specs.Refusals.{IsRefusal, unless_refused};
 ghost use Rattle.msi_query_rows.specs.Rows.{cells_at, projected_cells, relation_values, rows_values};
 ghost use Rattle.msi_query_rows.specs.Selection.{clause_refusals, narrowed as narrowed_by, selected as selected_by};
 
