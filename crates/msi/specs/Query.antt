@@ -21,5 +21,5 @@ pub use Rattle.msi_query.specs.Printing
 pub use Rattle.msi_query.specs.Vocabulary
 pub use Rattle.msi_query.specs.Utf8Expressions
 pub use Rattle.msi_text.specs.Refusals
-pub use Rattle.msi_query_rows.specs.Selection
-pub use Rattle.msi_query_rows.specs.Rows
+pub use Rattle.msi_query_joins.specs.Selection
+pub use Rattle.msi_query_joins.specs.Rows

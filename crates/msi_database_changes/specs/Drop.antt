@@ -13,7 +13,7 @@ use Rattle.msi_table.specs.KeyOrder.{same_key}
 use Rattle.msi_database_schema.specs.Keys.{is_table_name}
 use Rattle.msi_database_schema.specs.System.{tables_name, columns_name, validation_name, is_system_table}
 use Rattle.msi_database_changes.specs.Database.{Database, table_at, without_table, with_places, rows_of}
-use Rattle.msi_query_rows.specs.Rows.{TableCells}
+use Rattle.msi_query_joins.specs.Rows.{TableCells}
 use Rattle.msi_database_changes.specs.Changes.{Change, no_change, pool_of, with_stored, barred_refusals, missing_or}
 use Rattle.msi_database_cells.specs.Texts.{rows_released}
 

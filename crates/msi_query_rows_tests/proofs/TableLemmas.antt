@@ -4,7 +4,7 @@ use Rattle.std.specs.Prelude.{option_map}
 use Rattle.msi_text_base.specs.declared.errors.ErrorKind.{ErrorKind}
 use Rattle.msi_text_base.specs.declared.errors.ErrorKind.TheVariants.{NotFound}
 use Rattle.msi_text.specs.Refusals.{IsRefusal}
-use Rattle.msi_query_rows.specs.Rows.{whole_table}
+use Rattle.msi_query_joins.specs.Rows.{whole_table}
 use Rattle.msi_query_rows_tests.specs.declared.tables.Kept.{Kept}
 use Rattle.msi_query_rows_tests.specs.Tables.{cells_of}
 

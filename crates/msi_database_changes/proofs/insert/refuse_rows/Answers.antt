@@ -6,7 +6,7 @@ use Rattle.msi_text.specs.Refusals.{Refusals, IsRefusal, unless_refused}
 use Rattle.msi_table_values.specs.declared.value.Value.{Value}
 use Rattle.msi_table_values.specs.declared.value.ValueRef.{ValueRef}
 use Rattle.msi_table_values.specs.Columns.{ColumnDef}
-use Rattle.msi_query_rows.proofs.RefusalLemmas.{err_passed}
+use Rattle.msi_text.proofs.RefusalLemmas.{err_passed}
 use Rattle.msi_database_changes.specs.Insert.{keys_of, row_fits, row_refusals, table_with}
 use Rattle.msi_table.specs.KeyOrder.{key_of}
 use Rattle.msi_database_cells.specs.KeySets.{clash_refusals}
