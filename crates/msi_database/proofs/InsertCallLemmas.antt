@@ -8,7 +8,7 @@ use Rattle.msi_table_values.specs.declared.value.Value.{Value}
 use Rattle.msi_table_values.specs.Columns.{ColumnDef}
 use Rattle.msi_table.specs.Tables.{TableDef}
 use Rattle.msi_query.specs.Queries.{InsertQuery}
-use Rattle.msi_query_rows.specs.Refusals.{IsRefusal, Refusals, first_refusal, or_refused, unless_refused}
+use Rattle.msi_text.specs.Refusals.{IsRefusal, Refusals, first_refusal, or_refused, unless_refused}
 use Rattle.msi_database_schema.specs.System.{is_system_table}
 use Rattle.msi_database_changes.specs.Database.{Database, is_sound, table_at}
 use Rattle.msi_database_changes.specs.Changes.{no_change}

@@ -12,9 +12,9 @@ use Rattle.msi_table_values.specs.Columns.{ColumnDef, types_of}
 use Rattle.msi_table.specs.Tables.{TableDef, CanStore}
 use Rattle.msi_table_values.specs.Fitting.{FitsTable}
 use Rattle.msi_query.specs.Queries.{InsertQuery, UpdateQuery, DeleteQuery}
-use Rattle.msi_query_rows.specs.Refusals.{first_refusal, unless_refused}
-use Rattle.msi_query_rows.specs.Rows.{TableCells}
-use Rattle.msi_query_rows.specs.Selection.{has_columns, condition_names}
+use Rattle.msi_text.specs.Refusals.{first_refusal, unless_refused}
+use Rattle.msi_query_joins.specs.Rows.{TableCells}
+use Rattle.msi_query_joins.specs.Selection.{has_columns, condition_names}
 use Rattle.msi_database_schema.specs.Keys.{is_table_name, table_key}
 use Rattle.msi_database_schema.specs.System.{is_system_table}
 use Rattle.msi_database_schema.proofs.RowOrderLemmas.{names_total}

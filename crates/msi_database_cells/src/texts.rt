@@ -6,7 +6,7 @@ ghost use Rattle.msi_text_places.specs.FirstFit.{given_back};
 ghost use Rattle.msi_text_pool_base.specs.Pool.{unindexed};
 ghost use Rattle.msi_text_base.specs.Results.{OnlyMemory};
 ghost use Rattle.msi_text_base.specs.declared.errors.ErrorKind.TheVariants.{InvalidInput};
-ghost use Rattle.msi_query_rows.specs.Refusals.{IsRefusal, or_refused};
+ghost use Rattle.msi_text.specs.Refusals.{IsRefusal, or_refused};
 ghost use Rattle.msi_table_values.specs.Refusals.{FailsWith};
 ghost use Rattle.msi_database_cells.specs.Texts.{cell_put, cell_released, in_turn, in_use, rows_put, rows_released};
 

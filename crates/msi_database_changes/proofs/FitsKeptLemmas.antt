@@ -17,7 +17,7 @@ use Rattle.msi_table_values.specs.Fitting.{FitsRow, FitsTable}
 use Rattle.msi_table.specs.StoredOrder.{in_stored_order}
 use Rattle.msi_table_values.specs.CellValues.{row_values}
 use Rattle.msi_table.proofs.SortedFitsLemmas.{sorted_fits}
-use Rattle.msi_query_rows.specs.Rows.{TableCells}
+use Rattle.msi_query_joins.specs.Rows.{TableCells}
 use Rattle.msi_database_schema.specs.Keys.{is_table_name}
 use Rattle.msi_database_schema.specs.System.{columns_name, tables_name, validation_columns, validation_name}
 use Rattle.std.specs.Str.{chars}

@@ -22,7 +22,7 @@ use Rattle.msi_table.specs.SortedRows.{HoldsNumbers}
 use Rattle.msi_table.specs.SortedRows as sorted
 use Rattle.msi_table.specs.StoredOrder.{in_stored_order, row_cmp}
 use Rattle.msi_table_values.specs.Values.{value_cmp}
-use Rattle.msi_query_rows.specs.Rows.{TableCells}
+use Rattle.msi_query_joins.specs.Rows.{TableCells}
 use Rattle.msi_database_changes.specs.Database.{Database, table_at, rows_of}
 use Rattle.msi_database_changes.specs.Changes.{Change, no_change, pool_of, with_stored}
 use Rattle.msi_database_cells.specs.Texts.{PoolInUse, rows_released}

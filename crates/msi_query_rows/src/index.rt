@@ -10,9 +10,9 @@ ghost use Rattle.msi_query_expressions.specs.Conditions.{meets};
 ghost use Rattle.msi_query_rows.specs.Index.{PassWithEqual, has_value, has_width as have_width, in_place_order};
 ghost use Rattle.msi_query_rows.specs.Index.{place_cmp, places_asked as asked, value_there};
 
-use crate::rows::cell_of;
 use msi_query::expr::Expr;
 use msi_query::parts::equated_places;
+use msi_query_joins::parts::cell_of;
 use msi_table::column::Column;
 use msi_table::parts::compare_values;
 use msi_table::value::ValueRef;

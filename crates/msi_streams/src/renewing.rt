@@ -9,7 +9,7 @@ ghost use Rattle.msi_text_pool_base.specs.Pool.{unindexed};
 ghost use Rattle.msi_text_pool.specs.PoolWriting.{is_refused as is_pool_refused};
 ghost use Rattle.msi_summary_properties.specs.PropertyWriting.{is_refused as is_summary_refused};
 ghost use Rattle.msi_container_write.specs.Borrowed.{contents_of};
-ghost use Rattle.msi_query_rows.specs.Refusals.{IsRefusal, or_refused};
+ghost use Rattle.msi_text.specs.Refusals.{IsRefusal, or_refused};
 ghost use Rattle.msi_database_storage.specs.Streams.{Streams};
 ghost use Rattle.msi_streams.specs.Renewing.{IsUnwritten, keys_in, opened, pool_keys, pool_put, renewed_keys};
 ghost use Rattle.msi_streams.specs.Renewing.{renewed_over, summary_keys, summary_over, with_renewed};

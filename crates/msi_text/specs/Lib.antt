@@ -6,6 +6,7 @@ pub mod Times
 pub mod LanguageRows
 pub mod Languages
 pub mod Spellings
+pub mod Refusals
 -- The words of the crates below.
 pub use Rattle.msi_text_base.specs.declared.errors.ErrorKind
 pub use Rattle.msi_text_base.specs.declared.codepage.CodePage

@@ -18,9 +18,10 @@ use crate::stringpool::pool::{LONG, StringPool};
 use msi_text_base::codepage::CodePage;
 use msi_text_base::errors::{Error, ErrorKind, Reason};
 use msi_text_base::fields::{push_u16, push_u32};
-use msi_text_base::parts::{encoded_len, write_fully};
+use msi_text_base::parts::write_fully;
 use msi_text_base::reasons::PAGE_CHARACTER;
 use msi_text_places::parts::Place;
+use msi_text_pool_base::parts::encoded_len;
 use std::alloc::AllocError;
 use std::io::Write;
 

@@ -1,6 +1,6 @@
 use Rattle.std.proofs.Common.{◌≡◌, subst}
 use Rattle.msi_text_pool_base.specs.Pool.{unindexed}
-use Rattle.msi_query_rows.proofs.RefusalLemmas.{err_passed}
+use Rattle.msi_text.proofs.RefusalLemmas.{err_passed}
 use Rattle.msi_database_schema.specs.Keys.{table_key}
 use Rattle.msi_database_storage.specs.Streams.{stream_of_rows}
 use Rattle.msi_database.specs.Keeping.{IsKeptDatabase}

@@ -1,7 +1,7 @@
 use Rattle.std.proofs.Common.{List, subst}
 use Rattle.msi_table_values.specs.declared.value.Value.{Value}
-use Rattle.msi_query_rows.specs.Refusals.{IsRefusal}
-use Rattle.msi_query_rows.proofs.RefusalLemmas.{goes_on-Err, err_passed}
+use Rattle.msi_text.specs.Refusals.{IsRefusal}
+use Rattle.msi_text.proofs.RefusalLemmas.{goes_on-Err, err_passed}
 use Rattle.msi_database_schema.specs.Description.{column_rows}
 use Rattle.msi_database_schema.specs.System.{columns_name}
 use Rattle.msi_database_cells.specs.Texts.{in_use}

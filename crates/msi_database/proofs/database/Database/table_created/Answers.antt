@@ -2,8 +2,8 @@ use Rattle.std.proofs.Common.{List, ap, subst, sym, ◌∙◌}
 use Rattle.msi_text_pool_base.specs.Pool.{unindexed}
 use Rattle.msi_table_values.specs.Columns.{ColumnDef}
 use Rattle.msi_table.specs.Tables.{TableDef}
-use Rattle.msi_query_rows.specs.Refusals.{first_refusal}
-use Rattle.msi_query_rows.proofs.RefusalLemmas.{err_passed, first_answered, none_answered}
+use Rattle.msi_text.specs.Refusals.{first_refusal}
+use Rattle.msi_text.proofs.RefusalLemmas.{err_passed, first_answered, none_answered}
 use Rattle.msi_database_changes.specs.Create.{create_table}
 use Rattle.msi_database_cells.specs.Texts.{in_use}
 use Rattle.msi_database.specs.Creating.{create_refusals}

@@ -9,8 +9,8 @@ use Rattle.msi_table_values.specs.declared.value.ValueRef.TheVariants as cell
 use Rattle.msi_table_values.specs.declared.value.Value.{Value}
 use Rattle.msi_table_values.specs.Columns.{ColumnDef, column_index}
 use Rattle.msi_table_values.specs.CellValues.{row_values}
-use Rattle.msi_query_rows.specs.Refusals.{or_refused, ◌>>=◌}
-use Rattle.msi_query_rows.specs.Selection.{Relation, TableValues}
+use Rattle.msi_text.specs.Refusals.{or_refused, ◌>>=◌}
+use Rattle.msi_query_joins.specs.Selection.{Relation, TableValues}
 
 -- a table as it is kept; no rows where it can't be read
 pub record TableCells : Type 0 where

@@ -1,6 +1,6 @@
 use Rattle.std.proofs.Common.{◌≡◌, map, take}
-use Rattle.msi_query_rows.specs.Rows.{cell_at}
-use Rattle.msi_query_rows.proofs.rows.projected_row.Given as goal
+use Rattle.msi_query_joins.specs.Rows.{cell_at}
+use Rattle.msi_query_joins.proofs.rows.projected_row.Given as goal
 
 abbrev pub invariant-loop-place : goal.invariant-loop-place
 invariant-loop-place l = record {

@@ -2,11 +2,11 @@ use Rattle.std.proofs.Common.{ap, sym, ◌∙◌, arith}
 use mathlib.Core.Bool.{true≢false}
 use Rattle.msi_table_values.specs.CellValues.{row_values}
 use Rattle.msi_query_expressions.specs.Conditions.{meets}
-use Rattle.msi_query_rows.specs.Rows.{rows_values}
-use Rattle.msi_query_rows.specs.Selection.{pairs_of}
-use Rattle.msi_query_rows.proofs.SelectionLemmas.{nulls_added, pairs_stay}
-use Rattle.msi_query_rows.proofs.joining.add_row.Goals as goal
-use Rattle.msi_query_rows.proofs.joining.add_row.Goals.{then-is_left+then-len-before+in_ok-with_nulls+in_ok-push, else-is_left, else-is_left-via-then-is_left+else-len-before, else-is_left-via-else-is_left}
+use Rattle.msi_query_joins.specs.Rows.{rows_values}
+use Rattle.msi_query_joins.specs.Selection.{pairs_of}
+use Rattle.msi_query_joins.proofs.SelectionLemmas.{nulls_added, pairs_stay}
+use Rattle.msi_query_joins.proofs.joins.add_row.Goals as goal
+use Rattle.msi_query_joins.proofs.joins.add_row.Goals.{then-is_left+then-len-before+in_ok-with_nulls+in_ok-push, else-is_left, else-is_left-via-then-is_left+else-len-before, else-is_left-via-else-is_left}
 
 pub returns-clause-ok : goal.returns-clause-ok
 returns-clause-ok c =

@@ -3,7 +3,7 @@
 ghost use Rattle.std.specs.Prelude.{◌≡◌, ◌++◌, IfOk, replicate};
 ghost use Rattle.msi_text_base.specs.Results.{OnlyMemory};
 ghost use Rattle.msi_table_values.specs.declared.value.ValueRef.TheVariants as cell;
-ghost use Rattle.msi_query_rows.specs.Rows.{cell_at, cells_at};
+ghost use Rattle.msi_query_joins.specs.Rows.{cell_at, cells_at};
 
 use msi_table::value::ValueRef;
 use msi_text::errors::Error;
@@ -11,7 +11,7 @@ use msi_text::text::Items;
 use std::alloc::Global;
 
 /// The cell at a place of a row, or null.
-pub(crate) fn cell_of(row: &[ValueRef], place: Option<usize>) -> ValueRef
+pub fn cell_of(row: &[ValueRef], place: Option<usize>) -> ValueRef
     ensures { result ≡ cell_at row.now place }
 {
     match place {
@@ -24,7 +24,7 @@ pub(crate) fn cell_of(row: &[ValueRef], place: Option<usize>) -> ValueRef
 ///
 /// # Errors
 /// `OutOfMemory`.
-pub(crate) fn projected_row(
+pub fn projected_row(
     alloc: Global,
     places: &[Option<usize>],
     row: &[ValueRef],
