@@ -89,12 +89,18 @@ module _ (d : Database) (fit : RowsFit d) (schema : TablesAreDescribed d) (sound
   kinds_there = kinds_by d (cells_by (table_at validation_name d) refl) (describes_from (describing d) (shown d) schema).sound
 
 module _ (takes : TakenPlacesHoldTheirText) (gives : GivenBackTakesOne) where
-  pub created_described : CreatedTablesAreDescribed
-  created_described d name columns c formed fit before e =
+  created_described_at : (d : Database) (name : List ℕ) (columns : List ColumnDef) (c : Change) → is_well_formed d ≡ true → RowsFit d → TablesAreDescribed d → create_at_width d name columns ≡ Ok c
+      → schema_of (describing c.database) ≡ Some (put list_cmp name columns (columns_by_name d))
+  created_described_at d name columns c formed fit before e =
       let p = created d name columns c e in
       let kinds = kinds_there d fit before p.sound in
       (create_describes takes gives d name columns c (well_formed_from d formed) p before kinds).0
       ∙ ap Some (shown_created d name columns c (describes_from (describing d) (shown d) before).in_order e)
+
+  pub created_described : CreatedTablesAreDescribed
+  created_described d name columns c formed fit before e = widening_made (λ d. create_at_width d name columns) d c e
+      (λ sound is. created_described_at (widened d) name columns c formed (fits_widened d fit) before is)
+      (λ is. created_described_at d name columns c formed fit before is)
 
   pub dropped_forgotten : DroppedTablesAreForgotten
   dropped_forgotten d name c formed fit before e =
