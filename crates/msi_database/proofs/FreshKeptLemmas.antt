@@ -42,7 +42,7 @@ system = columns_table ∷ tables_table ∷ validation_table ∷ []
 
 -- ANY KEPT DATABASE WHOSE TABLES ARE LISTED
 
-kept_parts : (k : Kept) (tables : List TableDef) → IsKeptDatabase k → is_sound k.database ≡ true → schema_listed tables ≡ columns_by_name k.database → AreAsLong k.database.pool.long tables
+pub kept_parts : (k : Kept) (tables : List TableDef) → IsKeptDatabase k → is_sound k.database ≡ true → schema_listed tables ≡ columns_by_name k.database → AreAsLong k.database.pool.long tables
     → AreParts k k.database.pool tables k.streams
 kept_parts k tables kept sound listed as_long =
     let made : database_kept k.database.pool tables k.streams ≡ k.database = parts_make k.streams k.database tables kept.spelled listed in

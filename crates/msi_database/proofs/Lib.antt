@@ -51,3 +51,5 @@ pub mod FreshStepLemmas
 pub mod FreshMadeLemmas
 pub mod FreshKeptLemmas
 pub mod UpdateCallLemmas
+pub mod WideningLemmas
+pub mod WideningCallLemmas

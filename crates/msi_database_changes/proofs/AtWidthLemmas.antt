@@ -1,6 +1,6 @@
 -- Changes of a database with references of the width that it has, and those that widen them: these are the same changes of the widened database.
 use Rattle.std.proofs.Common.{◌≡◌, ℕ, ◌⊎◌, Bool, true, false, cond, List, length, Option, Some, None, Result, Ok, Err, refl, sym, ap, ◌∙◌, arith, inl, inr}
-use Rattle.std.specs.Prelude.{◌&&◌, nat_le}
+use Rattle.std.specs.Prelude.{◌&&◌, nat_le, not}
 use Rattle.std.specs.List.{AllByRecursion}
 use Rattle.std.specs.Prelude.{IsSomeAnd}
 use Rattle.std.proofs.lemmas.Bool.{and_parts}
@@ -16,7 +16,7 @@ use Rattle.msi_query_rows.specs.Rows.{TableCells}
 use Rattle.msi_database_schema.specs.System.{validation_columns}
 use Rattle.msi_database_changes.specs.Database.{Database, is_sound}
 use Rattle.msi_database_changes.specs.Changes.{Change}
-use Rattle.msi_database_changes.specs.Widening.{needs_three_bytes, widened, widening}
+use Rattle.msi_database_changes.specs.Widening.{needs_three_bytes, widened, widening, widens}
 use Rattle.msi_database_changes.specs.Insert.{insert_at_width}
 use Rattle.msi_database_changes.specs.Update.{update_at_width}
 use Rattle.msi_database_changes.specs.Delete.{delete_rows}
@@ -44,8 +44,8 @@ made_by false x y r e wide same = same e
 
 pub widening_made : {P : Type 0} (change : Database → Result Change ErrorKind) (d : Database) (c : Change) → widening change d ≡ Ok c
     → (is_sound d ≡ true → change (widened d) ≡ Ok c → P) → (change d ≡ Ok c → P) → P
-widening_made change d c e wide same = made_by (is_sound d && needs_three_bytes (change (widened d))) (change (widened d)) (change d) (Ok c) e
-    (λ t is. wide (and_parts (is_sound d) (needs_three_bytes (change (widened d))) t).0 is) same
+widening_made change d c e wide same = made_by (widens change d) (change (widened d)) (change d) (Ok c) e
+    (λ t is. wide (and_parts (is_sound d) (not d.pool.long) (and_parts (is_sound d && not d.pool.long) (needs_three_bytes (change (widened d))) t).0).0 is) same
 
 -- what holds of changes at either width, of one that may widen
 pub change_at : {P : Type 0} (d : Database) (c : Change) → IsChange d c → (is_sound d ≡ true → IsChangeAtWidth (widened d) c → P) → (IsChangeAtWidth d c → P) → P
