@@ -21,7 +21,7 @@ use Rattle.msi_database_schema.specs.System.{tables_name, columns_name, validati
 use Rattle.msi_database_changes.specs.Database.{Database, is_sound, table_at, rows_of}
 use Rattle.msi_database_changes.specs.Changes.{Change, no_change, pool_of, sound_refusal, with_stored}
 use Rattle.msi_database_cells.specs.Texts.{PoolInUse, UsedPool, in_use}
-use Rattle.msi_database_changes.specs.Create.{create_table, table_refusals, with_new_table}
+use Rattle.msi_database_changes.specs.Create.{create_at_width, table_refusals, with_new_table}
 use Rattle.msi_database_changes.specs.Insert.{cells_added, row_refusals, rows_inserted, table_with}
 use Rattle.msi_database_changes.specs.Laws.{created}
 use Rattle.msi_database_changes.proofs.RefusedLemmas.{bind_ok, first_refused, not_refused, same_Ok, value_there}
@@ -185,8 +185,8 @@ module _ (k : Kept) (kept : IsKeptDatabase k) (sound : is_sound k.database ≡ t
 -- THE STREAMS OF A NEW TABLE
 
 pub record Creates (k : Kept) (name : List ℕ) (columns : List ColumnDef) (es : List Stored) (used : PoolInUse) : Type 0 where
-  pub makes : (new : Pool) → new ≡ record k.database.pool { places = used.places } → Makes k (create_table k.database name columns) new (with_table_kept (new_table k.database name columns) (tables_listed k.database)) es
-  pub tells : TellsUse (create_table k.database name columns) used.is_used
+  pub makes : (new : Pool) → new ≡ record k.database.pool { places = used.places } → Makes k (create_at_width k.database name columns) new (with_table_kept (new_table k.database name columns) (tables_listed k.database)) es
+  pub tells : TellsUse (create_at_width k.database name columns) used.is_used
   pub own : HaveOwnNames es
 
 module _ (d : Database) (name : List ℕ) (columns : List ColumnDef) (passed : first_refusal (sound_refusal d ++ table_refusals d name columns) ≡ None) where
@@ -226,7 +226,7 @@ module _ (d : Database) (name : List ℕ) (columns : List ColumnDef) (passed : f
       t_stays : table_at tables_name first.database ≡ table_at tables_name d
       t_stays = stays_at columns_name tables_name c_step.t.columns c_step.r.0 c_step.r.1 (no_change d) refl
 
-      refused_second : stream_with d tables_name t_rows c.1 ≡ Err k → IsRefusal (create_table d name columns) k
+      refused_second : stream_with d tables_name t_rows c.1 ≡ Err k → IsRefusal (create_at_width d name columns) k
       refused_second e = create_second_refused d name columns passed k first first_is (stream_refused d tables_name t_rows c.1 first t_stays pool_first refl k e)
 
       module _ (t : Stored × PoolInUse) (t_step : Stepped d tables_name t_rows c.1 t) where
@@ -242,14 +242,14 @@ module _ (d : Database) (name : List ℕ) (columns : List ColumnDef) (passed : f
         v_stays = stays_at tables_name validation_name t_step.t.columns t_step.r.0 t_step.r.1 first refl
             ∙ stays_at columns_name validation_name c_step.t.columns c_step.r.0 c_step.r.1 (no_change d) refl
 
-        refused_third : stream_with d validation_name v_rows t.1 ≡ Err k → IsRefusal (create_table d name columns) k
+        refused_third : stream_with d validation_name v_rows t.1 ≡ Err k → IsRefusal (create_at_width d name columns) k
         refused_third e = create_third_refused d name columns passed k first first_is second second_is
             (stream_refused d validation_name v_rows t.1 second v_stays (ap (λ (x : Stored × PoolInUse). x.1) t_step.is) refl k e)
 
-    refused_one : stream_with d columns_name c_rows start ≡ Err k → IsRefusal (create_table d name columns) k
+    refused_one : stream_with d columns_name c_rows start ≡ Err k → IsRefusal (create_at_width d name columns) k
     refused_one e = create_first_refused d name columns passed k (stream_refused d columns_name c_rows start (no_change d) refl refl refl k e)
 
-    pub streams_refused : IsRefusal (streams_described d name columns start) k → IsRefusal (create_table d name columns) k
+    pub streams_refused : IsRefusal (streams_described d name columns start) k → IsRefusal (create_at_width d name columns) k
     streams_refused (inl memory) = inl memory
     streams_refused (inr e) =
         bind_err (stream_with d columns_name c_rows start) second_step k e refused_one (λ c c_is e.
@@ -279,7 +279,7 @@ module _ (pool : Pool) (tables : List TableDef) (streams : Streams) (kept : AreK
     abbrev after : Change
     after = with_new_table name columns (third was name columns c t v c_at t_at v_at one two three)
 
-    made : create_table was name columns ≡ Ok after
+    made : create_at_width was name columns ≡ Ok after
     made = create_by_steps was name columns c t v c_at t_at v_at one two three passed p₁ e₁ p₂ e₂ p₃ e₃
 
     edits : made_of ≡ tables_stored after.database after.stored
@@ -288,7 +288,7 @@ module _ (pool : Pool) (tables : List TableDef) (streams : Streams) (kept : AreK
 
     pub creates_made : Creates old name columns made_of three.1
     creates_made = record {
-      makes = λ new new_is. subst (λ (ts : List TableDef). Makes old (create_table was name columns) new (with_table_kept (new_table was name columns) ts) made_of) (sym (listed_kept pool tables streams kept.as_long))
+      makes = λ new new_is. subst (λ (ts : List TableDef). Makes old (create_at_width was name columns) new (with_table_kept (new_table was name columns) ts) made_of) (sym (listed_kept pool tables streams kept.as_long))
           (create_makes pool tables streams kept name columns c t v c_at t_at v_at one two three passed p₁ e₁ p₂ e₂ p₃ e₃ new made_of new_is refl);
       tells = subst (λ (r : Result Change ErrorKind). TellsUse r three.1.is_used) (sym made) refl;
       own = subst HaveOwnNames (sym edits) (change_own_names old after kept.kept (known_sound pool tables streams kept) (inr (created name columns made)));
@@ -335,7 +335,7 @@ module _ (pool : Pool) (tables : List TableDef) (m : maps.Streams) (known : Bool
     passed_here = subst (λ (cs : List ColumnDef). first_refusal (sound_refusal k.database ++ table_refusals k.database name cs) ≡ None) seen_is
         (not_refused (sound_refusal k.database ++ table_refusals k.database name seen) tt x (sym answer)).0
 
-    pub call_refused : (seen₂ : List ColumnDef) → seen₂ ≡ columns → (kind : ErrorKind) → IsRefusal (streams_described k.database name seen₂ (in_use before)) kind → IsRefusal (create_table k.database name columns) kind
+    pub call_refused : (seen₂ : List ColumnDef) → seen₂ ≡ columns → (kind : ErrorKind) → IsRefusal (streams_described k.database name seen₂ (in_use before)) kind → IsRefusal (create_at_width k.database name columns) kind
     call_refused seen₂ same kind h = streams_refused k.database name columns passed_here kind
         (let e : streams_described k.database name seen₂ (in_use before) ≡ streams_described k.database name columns (pool_of (no_change k.database)) = λ i. streams_described k.database name (same i) (start_is i) in
         subst (λ (r : Result (List Stored × PoolInUse) ErrorKind). IsRefusal r kind) e h)
@@ -354,6 +354,6 @@ module _ (pool : Pool) (tables : List TableDef) (m : maps.Streams) (known : Bool
       places = after.pool.places;
     })
 
-pub call_barred : (d : Database) (name : List ℕ) (columns seen : List ColumnDef) → seen ≡ columns → (kind : ErrorKind) → Err kind ≡ unless_refused {A = Unit {0}} (sound_refusal d ++ table_refusals d name seen) tt → IsRefusal (create_table d name columns) kind
+pub call_barred : (d : Database) (name : List ℕ) (columns seen : List ColumnDef) → seen ≡ columns → (kind : ErrorKind) → Err kind ≡ unless_refused {A = Unit {0}} (sound_refusal d ++ table_refusals d name seen) tt → IsRefusal (create_at_width d name columns) kind
 call_barred d name columns seen same kind e = create_barred d name columns kind
     (subst (λ (cs : List ColumnDef). IsRefusal {A = Unit {0}} (unless_refused (sound_refusal d ++ table_refusals d name cs) tt) kind) same (inr (sym e)))

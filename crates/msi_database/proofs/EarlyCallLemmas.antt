@@ -12,10 +12,10 @@ use Rattle.msi_database_schema.specs.System.{is_system_table}
 use Rattle.msi_database_changes.specs.Database.{Database, table_at, rows_of}
 use Rattle.msi_database_changes.specs.Changes.{Change, no_change, absent_refusals, barred_refusals, missing_or}
 use Rattle.msi_database_changes.specs.Delete.{condition_refusals, delete_rows, early_delete_refusals, rows_deleted}
-use Rattle.msi_database_changes.specs.Insert.{early_insert_refusals, insert_rows, keys_of, misfit_refusals, row_refusals, rows_added, rows_inserted}
+use Rattle.msi_database_changes.specs.Insert.{early_insert_refusals, insert_at_width, keys_of, misfit_refusals, row_refusals, rows_added, rows_inserted}
 use Rattle.msi_table.specs.KeyOrder.{key_of}
 use Rattle.msi_database_cells.specs.KeySets.{clash_refusals}
-use Rattle.msi_database_changes.specs.Update.{early_update_refusals, is_update_barred, keys_collide, rows_updated, set_refusals, update_refusals, update_rows}
+use Rattle.msi_database_changes.specs.Update.{early_update_refusals, is_update_barred, keys_collide, rows_updated, set_refusals, update_refusals, update_at_width}
 use Rattle.msi_database_changes.proofs.EarlyLemmas.{found_first}
 use Rattle.msi_database_changes.proofs.InsertingLemmas.{length_refusals}
 use Rattle.msi_database_changes.proofs.RefusedLemmas.{first_refused, front_holds, not_refused, refused_first, tail_holds}
@@ -99,7 +99,7 @@ delete_refused_early d q k e =
     (λ c. or_refused NotFound (table_at q.table d) >>= judged c) k
     (refused_there (table_at q.table d) (λ t. condition_refusals t q) (judged (no_change d)) k (λ t h. first_refused (condition_refusals t q) (rows_deleted t q (no_change d)) k h)) e)
 
-pub update_refused_early : (d : Database) (q : UpdateQuery) (k : ErrorKind) → first_refusal (early_update_refusals d q) ≡ Some k → IsRefusal (update_rows d q) k
+pub update_refused_early : (d : Database) (q : UpdateQuery) (k : ErrorKind) → first_refusal (early_update_refusals d q) ≡ Some k → IsRefusal (update_at_width d q) k
 update_refused_early d q k e =
     let last = λ (c : Change) (t : TableCells). or_refused InvalidInput (rows_updated t q c) in
     let judged = λ (c : Change) (t : TableCells). unless_refused (update_refusals d.pool.places t q) t >>= last c in
@@ -108,7 +108,7 @@ update_refused_early d q k e =
     (refused_there (table_at q.table d) (λ t. set_refusals t.columns q) (judged (no_change d)) k
     (λ t h. ap (λ (o : Option ErrorKind). unless o t >>= last (no_change d)) (front_holds (set_refusals t.columns q) ((keys_collide d.pool.places t q, AlreadyExists) ∷ []) k h))) e)
 
-pub insert_refused_early : (d : Database) (q : InsertQuery) (k : ErrorKind) → first_refusal (early_insert_refusals d q) ≡ Some k → IsRefusal (insert_rows d q) k
+pub insert_refused_early : (d : Database) (q : InsertQuery) (k : ErrorKind) → first_refusal (early_insert_refusals d q) ≡ Some k → IsRefusal (insert_at_width d q) k
 insert_refused_early d q k e =
     let places = d.pool.places in
     let last = λ (t : TableCells). or_refused InvalidInput (rows_added q.table t q.rows (no_change d)) in

@@ -21,7 +21,7 @@ use Rattle.msi_database.proofs.EditLemmas.{tables_stored_in}
 use Rattle.msi_database.proofs.FreshLemmas.{fresh_is_kept}
 use Rattle.msi_database.proofs.FreshMadeLemmas.{have_own_names}
 use Rattle.msi_database.proofs.FreshStepLemmas.{columns_long, tables_long, validation_long}
-use Rattle.msi_database.proofs.PartsLemmas.{parts_make}
+use Rattle.msi_database.proofs.PartsLemmas.{kept_parts}
 
 -- THE TABLES
 
@@ -39,21 +39,6 @@ validation_made t cs e f = e ∙ ap (λ (cs : List ColumnDef). record { name = v
 
 abbrev system : List TableDef
 system = columns_table ∷ tables_table ∷ validation_table ∷ []
-
--- ANY KEPT DATABASE WHOSE TABLES ARE LISTED
-
-pub kept_parts : (k : Kept) (tables : List TableDef) → IsKeptDatabase k → is_sound k.database ≡ true → schema_listed tables ≡ columns_by_name k.database → AreAsLong k.database.pool.long tables
-    → AreParts k k.database.pool tables k.streams
-kept_parts k tables kept sound listed as_long =
-    let made : database_kept k.database.pool tables k.streams ≡ k.database = parts_make k.streams k.database tables kept.spelled listed in
-    let same : kept_of k.database.pool tables k.streams ≡ k = λ i. record { database = made i; streams = k.streams } in (
-      same,
-      record {
-        kept = subst IsKeptDatabase (sym same) kept;
-        as_long = as_long;
-        known = sym (ap is_sound made ∙ sound);
-      },
-    )
 
 -- BY COMPUTATION
 

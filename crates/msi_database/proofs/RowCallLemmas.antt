@@ -22,15 +22,15 @@ use Rattle.msi_database_changes.specs.Database.{Database, is_sound, table_at}
 use Rattle.msi_database_changes.specs.Changes.{Change, no_change, pool_of, with_stored}
 use Rattle.msi_database_cells.specs.Texts.{PoolInUse, UsedPool, in_turn, in_use, rows_put, rows_released}
 use Rattle.msi_table.specs.KeyOrder.{in_key_order}
-use Rattle.msi_database_changes.specs.Insert.{table_with, cells_added, insert_rows, row_refusals}
-use Rattle.msi_database_changes.specs.Update.{is_update_barred, row_updated, update_refusals, update_rows}
+use Rattle.msi_database_changes.specs.Insert.{table_with, cells_added, insert_at_width, row_refusals}
+use Rattle.msi_database_changes.specs.Update.{is_update_barred, row_updated, update_refusals, update_at_width}
 use Rattle.msi_database_changes.specs.Delete.{delete_rows, rows_meeting}
-use Rattle.msi_database_changes.specs.Laws.{IsChange, inserted, updated, deleted}
+use Rattle.msi_database_changes.proofs.AtWidthLemmas.{IsChangeAtWidth, inserted, updated, deleted}
 use Rattle.msi_database_changes.proofs.TurnLemmas.{map_some}
 use Rattle.msi_database_storage.specs.Streams.{Streams, stream_of_rows}
 use Rattle.msi_database_storage.specs.declared.storing.Stored.{Stored}
 use Rattle.msi_database_storage.specs.Storing.{stored_all, stored_in}
-use Rattle.msi_database_storage.specs.Kept.{Kept, kept_of, after_change}
+use Rattle.msi_database_storage.specs.Kept.{Kept, kept_of, with_change}
 use Rattle.msi_database.specs.Keeping.{AreKept, AreParts}
 use Rattle.msi_database.specs.Listed.{IsKnown, table_def_at, tables_listed}
 use Rattle.msi_database.specs.Making.{Leaves, Makes, MakesRows, TellsUse}
@@ -97,32 +97,32 @@ module _ (pool : Pool) (tables : List TableDef) (m : maps.Streams) (known : Bool
   known_kept : is_sound Old.database ≡ true → AreKept pool tables (entries m) true
   known_kept sound = subst (AreKept pool tables (entries m)) (kept.known ∙ sound) kept
 
-  can_store_old : is_sound Old.database ≡ true → (name : List ℕ) (columns : List ColumnDef) (rows : List (List ValueRef)) (used : PoolInUse) → IsChange Old.database (with_stored name columns rows used (no_change Old.database)) → FitsTable Old.database.pool.long (types_of columns) rows
+  can_store_old : is_sound Old.database ≡ true → (name : List ℕ) (columns : List ColumnDef) (rows : List (List ValueRef)) (used : PoolInUse) → IsChangeAtWidth Old.database (with_stored name columns rows used (no_change Old.database)) → FitsTable Old.database.pool.long (types_of columns) rows
   can_store_old sound name columns rows used change = rows_can_store pool tables m (known_kept sound) (with_stored name columns rows used (no_change Old.database)) (inl change) name columns rows used refl
 
   makes_old : is_sound Old.database ≡ true → (r : Result Change ErrorKind) (name : List ℕ) (columns : List ColumnDef) (rows : List (List ValueRef)) (used : PoolInUse)
-      → r ≡ Ok (with_stored name columns rows used (no_change Old.database)) → IsChange Old.database (with_stored name columns rows used (no_change Old.database))
+      → r ≡ Ok (with_stored name columns rows used (no_change Old.database)) → IsChangeAtWidth Old.database (with_stored name columns rows used (no_change Old.database))
       → (new : Pool) (e : Stored) → new ≡ record Old.database.pool { places = used.places } → e.name ≡ table_key name → e.bytes ≡ stream_of_rows Old.database.pool.long columns rows → MakesRows Old r new e
   makes_old sound r name columns rows used made change new e pool_is name_is bytes_is =
       let c = with_stored name columns rows used (no_change Old.database) in
-      let parts : AreParts (after_change Old c) new tables (entries (stored_all m (e ∷ []))) = rows_finished pool tables m (known_kept sound) c change name columns rows used refl new (stored_all m (e ∷ [])) e pool_is name_is bytes_is refl in
-      let moved : AreParts (after_change Old c) new (tables_listed Old.database) (stored_in (e ∷ []) (entries m)) =
-      subst (λ (s : Streams). AreParts (after_change Old c) new (tables_listed Old.database) s) (entries_stored m (e ∷ []))
-      (subst (λ (ts : List TableDef). AreParts (after_change Old c) new ts (entries (stored_all m (e ∷ [])))) (sym (listed_kept pool tables (entries m) kept.as_long)) parts) in
+      let parts : AreParts (with_change Old c) new tables (entries (stored_all m (e ∷ []))) = rows_finished pool tables m (known_kept sound) c change name columns rows used refl new (stored_all m (e ∷ [])) e pool_is name_is bytes_is refl in
+      let moved : AreParts (with_change Old c) new (tables_listed Old.database) (stored_in (e ∷ []) (entries m)) =
+      subst (λ (s : Streams). AreParts (with_change Old c) new (tables_listed Old.database) s) (entries_stored m (e ∷ []))
+      (subst (λ (ts : List TableDef). AreParts (with_change Old c) new ts (entries (stored_all m (e ∷ [])))) (sym (listed_kept pool tables (entries m) kept.as_long)) parts) in
       subst (λ (r : Result Change ErrorKind). MakesRows Old r new e) (sym made) (moved, sound)
 
   module _ (k : Kept) (view : kept_of pool tables (entries m) ≡ k) (sound : is_sound k.database ≡ true) (r : Result Change ErrorKind) (name : List ℕ) (t : TableDef) (is_known : IsKnown k.database name t)
       (rows : List (List ValueRef)) (used : PoolInUse) (made : r ≡ Ok (with_stored name t.columns rows used (no_change k.database)))
-      (change : IsChange k.database (with_stored name t.columns rows used (no_change k.database))) where
+      (change : IsChangeAtWidth k.database (with_stored name t.columns rows used (no_change k.database))) where
     pub call_can_store : CanStore t rows
     call_can_store = subst (λ long. FitsTable long (types_of t.columns) rows) (sym is_known.long)
-        (subst (λ (k : Kept). is_sound k.database ≡ true → IsChange k.database (with_stored name t.columns rows used (no_change k.database)) → FitsTable k.database.pool.long (types_of t.columns) rows) view
+        (subst (λ (k : Kept). is_sound k.database ≡ true → IsChangeAtWidth k.database (with_stored name t.columns rows used (no_change k.database)) → FitsTable k.database.pool.long (types_of t.columns) rows) view
         (λ sound change. can_store_old sound name t.columns rows used change) sound change)
 
     pub call_makes : (before after : UsedPool) (new : Pool) (e : Stored) → before ≡ record { pool = k.database.pool; is_used = false } → in_use after ≡ used → after.pool.page ≡ before.pool.page → after.pool.long ≡ before.pool.long
         → new ≡ after.pool → e.name ≡ table_key t.name → e.bytes ≡ stream_of_rows t.long t.columns rows → MakesRows k r new e
     call_makes before after new e began is page long same name_is bytes_is =
-        subst (λ (k : Kept). is_sound k.database ≡ true → (r : Result Change ErrorKind) → r ≡ Ok (with_stored name t.columns rows used (no_change k.database)) → IsChange k.database (with_stored name t.columns rows used (no_change k.database))
+        subst (λ (k : Kept). is_sound k.database ≡ true → (r : Result Change ErrorKind) → r ≡ Ok (with_stored name t.columns rows used (no_change k.database)) → IsChangeAtWidth k.database (with_stored name t.columns rows used (no_change k.database))
         → new ≡ record k.database.pool { places = used.places } → e.name ≡ table_key name → e.bytes ≡ stream_of_rows k.database.pool.long t.columns rows → MakesRows k r new e) view
         (λ sound r made change pool_is name_is bytes_is. makes_old sound r name t.columns rows used made change new e pool_is name_is bytes_is)
         sound r made change (same ∙ pool_after k.database.pool before after used began is page long) (name_is ∙ ap table_key is_known.named) (bytes_is ∙ ap (λ long. stream_of_rows long t.columns rows) is_known.long)
@@ -142,7 +142,7 @@ delete_is d q t held rows before after sound free at fits began kept released =
 pub update_is : (d : Database) (q : UpdateQuery) (t : TableDef) (held rows : List (List ValueRef)) (before after : UsedPool) → is_sound d ≡ true → is_update_barred q ≡ false → table_at q.table d ≡ Some (table_with t.columns held)
     → first_refusal (update_refusals d.pool.places (table_with t.columns held) q) ≡ None → before ≡ record { pool = d.pool; is_used = false }
     → in_turn (row_updated before.pool.long d.pool.places t.columns q) (in_use before) held ≡ Some (rows, in_use after)
-    → update_rows d q ≡ Ok (with_stored q.table t.columns rows (in_use after) (no_change d))
+    → update_at_width d q ≡ Ok (with_stored q.table t.columns rows (in_use after) (no_change d))
 update_is d q t held rows before after sound free at passed began put =
     update_made d q (table_with t.columns held) (rows, in_use after) sound free at passed
     (ap (λ (u : UsedPool). in_turn (row_updated u.pool.long d.pool.places t.columns q) (in_use u) held) (sym began) ∙ put)
@@ -151,7 +151,7 @@ pub insert_is : (d : Database) (q : InsertQuery) (t : TableDef) (held rows : Lis
     → table_at q.table d ≡ Some (table_with t.columns held) → values ≡ q.rows
     → first_refusal (row_refusals d.pool.places (table_with t.columns held) values) ≡ None → before ≡ record { pool = d.pool; is_used = false }
     → cells_added before.pool.long t.columns (in_use before) held values ≡ Some (rows, in_use after)
-    → insert_rows d q ≡ Ok (with_stored q.table t.columns rows (in_use after) (no_change d))
+    → insert_at_width d q ≡ Ok (with_stored q.table t.columns rows (in_use after) (no_change d))
 insert_is d q t held rows values before after sound free at same passed began added =
     map_some (λ (r : List (List ValueRef) × PoolInUse). (in_key_order t.columns r.1.places (held ++ r.0), r.1)) (rows_put d.pool.long (pool_of (no_change d)) q.rows) (rows, in_use after)
     (ap₂ (λ (u : UsedPool) (vs : List (List Value)). cells_added u.pool.long t.columns (in_use u) held vs) (sym began) (sym same) ∙ added)
@@ -181,7 +181,7 @@ module _ (pool : Pool) (tables : List TableDef) (m : maps.Streams) (known : Bool
   began : before ≡ record { pool = k.database.pool; is_used = false }
   began = began_as k.database.pool before cloned before_is (cloned_is ∙ pool_is)
 
-  called : (r : Result Change ErrorKind) → r ≡ Ok (with_stored name t.columns rows (in_use after) (no_change k.database)) → IsChange k.database (with_stored name t.columns rows (in_use after) (no_change k.database)) → Called k r t rows before after
+  called : (r : Result Change ErrorKind) → r ≡ Ok (with_stored name t.columns rows (in_use after) (no_change k.database)) → IsChangeAtWidth k.database (with_stored name t.columns rows (in_use after) (no_change k.database)) → Called k r t rows before after
   called r made change = record {
     can_store = call_can_store pool tables m known kept k view sound r name t is_known rows (in_use after) made change;
     makes = λ new e page long same name_is bytes_is. call_makes pool tables m known kept k view sound r name t is_known rows (in_use after) made change before after new e began refl page long same name_is bytes_is;
@@ -204,26 +204,26 @@ module _ (pool : Pool) (tables : List TableDef) (m : maps.Streams) (known : Bool
   pub update_called : (q : UpdateQuery) → name ≡ q.table → (b : Bool) → b ≡ is_update_barred q → b ≡ false
       → first_refusal (update_refusals pool.places (table_with columns held) q) ≡ None
       → in_turn (row_updated before.pool.long pool.places columns q) (in_use before) held ≡ Some (rows, in_use after)
-      → Called k (update_rows k.database q) t rows before after
+      → Called k (update_at_width k.database q) t rows before after
   update_called q named b b_is free passed put =
       let seen : UpdateQuery = record { table = name; sets = q.sets; condition = q.condition } in
       let same : seen ≡ q = λ i. record { table = named i; sets = q.sets; condition = q.condition } in
-      let made : update_rows k.database seen ≡ Ok (with_stored name t.columns rows (in_use after) (no_change k.database)) = update_is k.database seen t held rows before after sound (ap is_update_barred same ∙ sym b_is ∙ free) here
+      let made : update_at_width k.database seen ≡ Ok (with_stored name t.columns rows (in_use after) (no_change k.database)) = update_is k.database seen t held rows before after sound (ap is_update_barred same ∙ sym b_is ∙ free) here
       (ap₂ (λ (p : Pool) (cs : List ColumnDef). first_refusal (update_refusals p.places (table_with cs held) seen)) (sym pool_is) (sym columns_is) ∙ passed) began
       (ap₂ (λ (p : Pool) (cs : List ColumnDef). in_turn (row_updated before.pool.long p.places cs seen) (in_use before) held) (sym pool_is) (sym columns_is) ∙ put) in
-      subst (λ (q : UpdateQuery). Called k (update_rows k.database q) t rows before after) same (called (update_rows k.database seen) made (updated seen made))
+      subst (λ (q : UpdateQuery). Called k (update_at_width k.database q) t rows before after) same (called (update_at_width k.database seen) made (updated seen made))
 
   pub insert_called : (q : InsertQuery) (values : List (List Value)) → name ≡ q.table → values ≡ q.rows → (b : Bool) → b ≡ is_system_table name → b ≡ false
       → first_refusal (row_refusals pool.places (table_with columns held) values) ≡ None
       → cells_added before.pool.long columns (in_use before) held values ≡ Some (rows, in_use after)
-      → Called k (insert_rows k.database q) t rows before after
+      → Called k (insert_at_width k.database q) t rows before after
   insert_called q values named values_are b b_is free passed added =
       let seen : InsertQuery = record { table = name; rows = q.rows } in
       let same : seen ≡ q = λ i. record { table = named i; rows = q.rows } in
-      let made : insert_rows k.database seen ≡ Ok (with_stored name t.columns rows (in_use after) (no_change k.database)) = insert_is k.database seen t held rows values before after sound (sym b_is ∙ free) here values_are
+      let made : insert_at_width k.database seen ≡ Ok (with_stored name t.columns rows (in_use after) (no_change k.database)) = insert_is k.database seen t held rows values before after sound (sym b_is ∙ free) here values_are
       (ap₂ (λ (p : Pool) (cs : List ColumnDef). first_refusal (row_refusals p.places (table_with cs held) values)) (sym pool_is) (sym columns_is) ∙ passed) began
       (ap (λ (cs : List ColumnDef). cells_added before.pool.long cs (in_use before) held values) (sym columns_is) ∙ added) in
-      subst (λ (q : InsertQuery). Called k (insert_rows k.database q) t rows before after) same (called (insert_rows k.database seen) made (inserted seen made))
+      subst (λ (q : InsertQuery). Called k (insert_at_width k.database q) t rows before after) same (called (insert_at_width k.database seen) made (inserted seen made))
 
 -- a database that was changed is sound
 pub makes_sound : (old : Kept) (r : Result Change ErrorKind) (pool : Pool) (tables : List TableDef) (stored : List Stored) → Makes old r pool tables stored → is_sound old.database ≡ true

@@ -13,7 +13,7 @@ use Rattle.msi_database_changes.specs.Database.{Database, is_sound, table_at, ro
 use Rattle.msi_database_changes.specs.Changes.{Change, no_change, pool_of, sound_refusal}
 use Rattle.msi_database_cells.specs.Texts.{PoolInUse, rows_released}
 use Rattle.msi_database_changes.specs.Insert.{cells_added, row_refusals}
-use Rattle.msi_database_changes.specs.Create.{create_table, table_refusals, with_new_table}
+use Rattle.msi_database_changes.specs.Create.{create_at_width, table_refusals, with_new_table}
 use Rattle.msi_database_changes.specs.Drop.{drop_table, is_row_about}
 use Rattle.msi_database_storage.specs.declared.storing.Stored.{Stored}
 use Rattle.msi_database_storage.specs.Streams.{Streams, stream_of_rows}
@@ -57,13 +57,13 @@ module _ (pool : Pool) (tables : List TableDef) (streams : Streams) (kept : AreK
         ∷ record { name = table_key tables_name; bytes = stream_of_rows pool.long t.columns two.0 }
         ∷ record { name = table_key validation_name; bytes = stream_of_rows pool.long v.columns three.0 }
         ∷ record { name = table_key name; bytes = None } ∷ []
-        → Makes old (create_table d name columns) new (with_table_kept (record { name = name; columns = columns; long = pool.long }) tables) es
+        → Makes old (create_at_width d name columns) new (with_table_kept (record { name = name; columns = columns; long = pool.long }) tables) es
     create_makes passed p₁ e₁ p₂ e₂ p₃ e₃ new es new_is es_is =
         let last = with_new_table name columns (third d name columns c t v c_at t_at v_at one two three) in
-        let made : create_table d name columns ≡ Ok last = create_by_steps d name columns c t v c_at t_at v_at one two three passed p₁ e₁ p₂ e₂ p₃ e₃ in
+        let made : create_at_width d name columns ≡ Ok last = create_by_steps d name columns c t v c_at t_at v_at one two three passed p₁ e₁ p₂ e₂ p₃ e₃ in
         let apart = created_apart d (describes old kept.kept sound) name columns last made in
         let edits : es ≡ tables_stored last.database last.stored = es_is ∙ sym (created_stored d name columns c.columns t.columns v.columns one.0 two.0 three.0 one.1 two.1 three.1 apart) in
-        makes_by old (create_table d name columns) (Ok last) new (with_table_kept (record { name = name; columns = columns; long = pool.long }) tables) es made
+        makes_by old (create_at_width d name columns) (Ok last) new (with_table_kept (record { name = name; columns = columns; long = pool.long }) tables) es made
         (create_kept pool tables streams kept name columns last made new es new_is edits, sound)
 
   -- A DROP

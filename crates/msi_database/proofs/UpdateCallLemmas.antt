@@ -13,7 +13,7 @@ use Rattle.msi_database_changes.specs.Database.{Database, is_sound, table_at}
 use Rattle.msi_database_changes.specs.Changes.{Change, barred_refusals, no_change, pool_of, with_stored}
 use Rattle.msi_database_cells.specs.Texts.{PoolInUse, UsedPool, in_turn, in_use}
 use Rattle.msi_database_changes.specs.Insert.{table_with}
-use Rattle.msi_database_changes.specs.Update.{is_update_barred, keys_collide, row_updated, rows_updated, set_refusals, update_refusals, update_rows}
+use Rattle.msi_database_changes.specs.Update.{is_update_barred, keys_collide, row_updated, rows_updated, set_refusals, update_refusals, update_at_width}
 use Rattle.msi_database_changes.proofs.RefusedLemmas.{behind_passed}
 use Rattle.msi_database.specs.Listed.{IsKnown}
 use Rattle.msi_database.proofs.MadeLemmas.{both_pass, found, goes_on}
@@ -37,7 +37,7 @@ module _ (pool : Pool) (d : Database) (pool_is : pool ≡ d.pool) (sound : is_so
   abbrev judged : TableCells → Result Change ErrorKind
   judged t = unless_refused (update_refusals d.pool.places t q) t >>= last
 
-  at_table : update_rows d q ≡ judged cells
+  at_table : update_at_width d q ≡ judged cells
   at_table =
       goes_on (barred_refusals d (is_update_barred q)) (no_change d)
       (λ c. or_refused NotFound (table_at q.table d) >>= λ t. unless_refused (update_refusals d.pool.places t q) t >>= λ t. or_refused InvalidInput (rows_updated t q c))
@@ -48,21 +48,21 @@ module _ (pool : Pool) (d : Database) (pool_is : pool ≡ d.pool) (sound : is_so
   same_keys rows are = ap (λ (rows : List (List ValueRef)). keys_collide pool.places (table_with columns rows) q) are
       ∙ ap₂ (λ (p : Pool) (cs : List ColumnDef). keys_collide p.places (table_with cs held) q) pool_is columns_is
 
-  pub update_collides : (rows : List (List ValueRef)) → rows ≡ held → IsRefusal {A = Unit {0}} (unless_refused ((keys_collide pool.places (table_with columns rows) q, AlreadyExists) ∷ []) tt) l → IsRefusal (update_rows d q) l
+  pub update_collides : (rows : List (List ValueRef)) → rows ≡ held → IsRefusal {A = Unit {0}} (unless_refused ((keys_collide pool.places (table_with columns rows) q, AlreadyExists) ∷ []) tt) l → IsRefusal (update_at_width d q) l
   update_collides rows are h =
       let keys : Refusals = (keys_collide d.pool.places cells q, AlreadyExists) ∷ [] in
       let moved = subst (λ (b : Bool). IsRefusal {A = Unit {0}} (unless_refused ((b, AlreadyExists) ∷ []) tt) l) (same_keys rows are) h in
-      becomes (update_rows d q) (judged cells) l at_table (step_refuses (update_refusals d.pool.places cells q) cells tt last l
+      becomes (update_at_width d q) (judged cells) l at_table (step_refuses (update_refusals d.pool.places cells q) cells tt last l
       (becomes {A = Unit {0}} (unless_refused (update_refusals d.pool.places cells q) tt) (unless_refused keys tt) l
       (ap (λ (o : Option ErrorKind). unless {A = Unit {0}} o tt) (behind_passed (set_refusals t.columns q) keys fits)) moved))
 
   pub update_full : (cloned : Pool) → cloned ≡ pool → (before : UsedPool) → before ≡ record { pool = cloned; is_used = false } → keys_collide pool.places (table_with columns held) q ≡ false
-      → IsRefusal (or_refused InvalidInput (in_turn (row_updated before.pool.long pool.places columns q) (in_use before) held)) l → IsRefusal (update_rows d q) l
+      → IsRefusal (or_refused InvalidInput (in_turn (row_updated before.pool.long pool.places columns q) (in_use before) held)) l → IsRefusal (update_at_width d q) l
   update_full cloned cloned_is before before_is apart h =
       let began = began_as d.pool before cloned before_is (cloned_is ∙ pool_is) in
       let one = subst (λ (u : UsedPool). IsRefusal (or_refused InvalidInput (in_turn (row_updated u.pool.long pool.places columns q) (in_use u) held)) l) began h in
       let two = subst (λ (p : Pool). IsRefusal (or_refused InvalidInput (in_turn (row_updated d.pool.long p.places columns q) (pool_of (no_change d)) held)) l) pool_is one in
       let three = subst (λ (cs : List ColumnDef). IsRefusal (or_refused InvalidInput (in_turn (row_updated d.pool.long d.pool.places cs q) (pool_of (no_change d)) held)) l) columns_is two in
-      becomes (update_rows d q) (last cells) l
+      becomes (update_at_width d q) (last cells) l
       (at_table ∙ goes_on (update_refusals d.pool.places cells q) cells last (update_passes d.pool.places t.columns held q fits (sym (same_keys held refl) ∙ apart)))
       (option_refused InvalidInput l (λ (r : List (List ValueRef) × PoolInUse). with_stored q.table t.columns r.0 r.1 (no_change d)) (in_turn (row_updated d.pool.long d.pool.places t.columns q) (pool_of (no_change d)) held) three)

@@ -35,7 +35,7 @@ use Rattle.msi_database_storage.specs.Widening.{streams_widened, unlisted_table,
 use Rattle.msi_database.specs.Agreement.{DatabaseIs, TablesAre, UnlistedIs}
 use Rattle.msi_database.specs.Keeping.{AreParts, HasFittingRows, IsKeptDatabase}
 use Rattle.msi_database.proofs.ComesLemmas.{describes, regular}
-use Rattle.msi_database.proofs.FreshKeptLemmas.{kept_parts}
+use Rattle.msi_database.proofs.PartsLemmas.{kept_parts}
 use Rattle.msi_database.proofs.KeyLemmas.{table_key_is_name, table_keys_tell_names, validation_accepted}
 use Rattle.msi_database.proofs.MapLemmas as maps
 use Rattle.msi_database.proofs.DescribedLemmas.{schema_after}

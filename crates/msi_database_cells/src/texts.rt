@@ -1,6 +1,6 @@
 //! The pool during a change: cells take texts from it and give them back.
 
-ghost use Rattle.std.specs.Prelude.{◌≡◌, false, Some, IfOk, IfErr, OnOk, true, unwrap_or};
+ghost use Rattle.std.specs.Prelude.{◌≡◌, false, Some, IfOk, IfErr, OnOk, length, true, unwrap_or};
 ghost use Rattle.std.specs.List.{fold};
 ghost use Rattle.msi_text_pool.specs.FirstFit.{given_back};
 ghost use Rattle.msi_text_pool.specs.Pool.{unindexed};
@@ -221,6 +221,7 @@ fn give_back(pool: &mut StringPool, reference: StringRef) -> Result<(), Error>
     ensures kind { OnlyMemory result }
     ensures page { pool.new.page ≡ pool.old.page }
     ensures long { pool.new.long ≡ pool.old.long }
+    ensures many { length pool.new.places ≡ length pool.old.places }
 {
     match pool.decref(reference) {
         Ok(()) => Ok(()),

@@ -3,7 +3,7 @@ use Rattle.std.proofs.Common.{◌≡◌, ℕ, ◌⊎◌, Bool, true, false, cond
 use Rattle.std.specs.Prelude.{◌&&◌, nat_le, not}
 use Rattle.std.specs.List.{AllByRecursion}
 use Rattle.std.specs.Prelude.{IsSomeAnd}
-use Rattle.std.proofs.lemmas.Bool.{and_parts}
+use Rattle.std.proofs.lemmas.Bool.{and_parts, not-true}
 use Rattle.std.proofs.lemmas.Bool.Decides.{nat_tests}
 use Rattle.msi_text_base.specs.declared.errors.ErrorKind.{ErrorKind}
 use Rattle.msi_text_pool.specs.FirstFit.{most_places}
@@ -43,19 +43,21 @@ made_by true x y r e wide same = wide refl e
 made_by false x y r e wide same = same e
 
 pub widening_made : {P : Type 0} (change : Database → Result Change ErrorKind) (d : Database) (c : Change) → widening change d ≡ Ok c
-    → (is_sound d ≡ true → change (widened d) ≡ Ok c → P) → (change d ≡ Ok c → P) → P
+    → (is_sound d ≡ true → d.pool.long ≡ false → change (widened d) ≡ Ok c → P) → (change d ≡ Ok c → P) → P
 widening_made change d c e wide same = made_by (widens change d) (change (widened d)) (change d) (Ok c) e
-    (λ t is. wide (and_parts (is_sound d) (not d.pool.long) (and_parts (is_sound d && not d.pool.long) (needs_three_bytes (change (widened d))) t).0).0 is) same
+    (λ t is.
+    let p = and_parts (is_sound d) (not d.pool.long) (and_parts (is_sound d && not d.pool.long) (needs_three_bytes (change (widened d))) t).0 in
+    wide p.0 (not-true d.pool.long p.1) is) same
 
 -- what holds of changes at either width, of one that may widen
-pub change_at : {P : Type 0} (d : Database) (c : Change) → IsChange d c → (is_sound d ≡ true → IsChangeAtWidth (widened d) c → P) → (IsChangeAtWidth d c → P) → P
-change_at d c (laws.inserted q e) wide same = widening_made (λ d. insert_at_width d q) d c e (λ sound is. wide sound (inserted q is)) (λ is. same (inserted q is))
-change_at d c (laws.updated q e) wide same = widening_made (λ d. update_at_width d q) d c e (λ sound is. wide sound (updated q is)) (λ is. same (updated q is))
+pub change_at : {P : Type 0} (d : Database) (c : Change) → IsChange d c → (is_sound d ≡ true → d.pool.long ≡ false → IsChangeAtWidth (widened d) c → P) → (IsChangeAtWidth d c → P) → P
+change_at d c (laws.inserted q e) wide same = widening_made (λ d. insert_at_width d q) d c e (λ sound short is. wide sound short (inserted q is)) (λ is. same (inserted q is))
+change_at d c (laws.updated q e) wide same = widening_made (λ d. update_at_width d q) d c e (λ sound short is. wide sound short (updated q is)) (λ is. same (updated q is))
 change_at d c (laws.deleted q e) wide same = same (deleted q e)
 
-pub table_change_at : {P : Type 0} (d : Database) (c : Change) → IsTableChange d c → (is_sound d ≡ true → IsTableChangeAtWidth (widened d) c → P) → (IsTableChangeAtWidth d c → P) → P
+pub table_change_at : {P : Type 0} (d : Database) (c : Change) → IsTableChange d c → (is_sound d ≡ true → d.pool.long ≡ false → IsTableChangeAtWidth (widened d) c → P) → (IsTableChangeAtWidth d c → P) → P
 table_change_at d c (laws.created name columns e) wide same =
-    widening_made (λ d. create_at_width d name columns) d c e (λ sound is. wide sound (created name columns is)) (λ is. same (created name columns is))
+    widening_made (λ d. create_at_width d name columns) d c e (λ sound short is. wide sound short (created name columns is)) (λ is. same (created name columns is))
 table_change_at d c (laws.dropped name e) wide same = same (dropped name e)
 
 -- A WIDENED DATABASE

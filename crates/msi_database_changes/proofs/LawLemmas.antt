@@ -106,12 +106,12 @@ module _ (takes : TakenPlacesHoldTheirText) (gives : GivenBackTakesOne) where
   -- the same as they are told
   pub inserts_add : InsertAddsItsRows
   inserts_add d q c well e = widening_made (λ d. insert_at_width d q) d c e
-      (λ sound is. insert_adds_its_rows (widened d) q c (well_formed_from (widened d) well) is)
+      (λ sound short is. insert_adds_its_rows (widened d) q c (well_formed_from (widened d) well) is)
       (λ is. insert_adds_its_rows d q c (well_formed_from d well) is)
 
   pub updates_set : UpdateSetsItsRows
   updates_set d q c t well found e = widening_made (λ d. update_at_width d q) d c e
-      (λ sound is. update_sets_its_rows (widened d) q c t (well_formed_from (widened d) well) found is)
+      (λ sound short is. update_sets_its_rows (widened d) q c t (well_formed_from (widened d) well) found is)
       (λ is. update_sets_its_rows d q c t (well_formed_from d well) found is)
 
   pub deletes_remove : DeleteRemovesItsRows
@@ -132,7 +132,7 @@ module _ (takes : TakenPlacesHoldTheirText) (gives : GivenBackTakesOne) where
 
   pub changes_keep : ChangesKeep
   changes_keep d c change formed sound = change_at d c change
-      (λ s wide. keeps_widened d c.database (changes_keep_at (widened d) c wide formed (sound_widened d sound)))
+      (λ s short wide. keeps_widened d c.database (changes_keep_at (widened d) c wide formed (sound_widened d sound)))
       (λ same. changes_keep_at d c same formed sound)
 
   keeps_by : (d : Database) (c : Change) → steps.Keeps d c.database → (RowsFit d → RowsFit c.database) → (KeysAreDistinct d → KeysAreDistinct c.database) → Keeps d c.database
@@ -146,7 +146,7 @@ module _ (takes : TakenPlacesHoldTheirText) (gives : GivenBackTakesOne) where
 
   pub table_changes_keep : TableChangesKeep
   table_changes_keep d c change formed sound = table_change_at d c change
-      (λ s wide. keeps_widened d c.database (table_changes_keep_at (widened d) c wide formed (sound_widened d sound)))
+      (λ s short wide. keeps_widened d c.database (table_changes_keep_at (widened d) c wide formed (sound_widened d sound)))
       (λ same. table_changes_keep_at d c same formed sound)
 
 pub counts_tell : CountsTellTexts

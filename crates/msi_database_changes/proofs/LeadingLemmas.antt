@@ -102,5 +102,5 @@ module _ (takes : TakenPlacesHoldTheirText) (gives : GivenBackTakesOne) (ascend 
 
   pub leading_ascend : LeadingNumbersAscend
   leading_ascend d c change formed sound fit = change_at d c change
-      (λ s wide. leading_in (widened d) c wide (change_fits takes gives (widened d) c wide (sound_widened d sound) (fits_widened d fit)))
+      (λ s short wide. leading_in (widened d) c wide (change_fits takes gives (widened d) c wide (sound_widened d sound) (fits_widened d fit)))
       (λ same. leading_in d c same (change_fits takes gives d c same sound fit))

@@ -104,7 +104,7 @@ module _ (takes : TakenPlacesHoldTheirText) (gives : GivenBackTakesOne) where
 
   pub created_described : CreatedTablesAreDescribed
   created_described d name columns c formed fit before e = widening_made (λ d. create_at_width d name columns) d c e
-      (λ sound is. created_described_at (widened d) name columns c formed (fits_widened d fit) before is)
+      (λ sound short is. created_described_at (widened d) name columns c formed (fits_widened d fit) before is)
       (λ is. created_described_at d name columns c formed fit before is)
 
   pub dropped_forgotten : DroppedTablesAreForgotten
