@@ -53,3 +53,5 @@ pub mod FreshKeptLemmas
 pub mod UpdateCallLemmas
 pub mod WideningLemmas
 pub mod WideningCallLemmas
+pub mod BothWidthsLemmas
+pub mod WideRefusalLemmas

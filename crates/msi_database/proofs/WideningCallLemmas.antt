@@ -5,9 +5,10 @@ use Rattle.std.proofs.lemmas.List.{get_or-map, length-map, take_more, take-lengt
 use Rattle.std.proofs.lemmas.Option.{same_Some}
 use Rattle.msi_text_base.specs.Lists.{list_cmp}
 use Rattle.msi_table_values.specs.declared.value.ValueRef.{ValueRef}
-use Rattle.msi_table.specs.Tables.{CanStore, TableDef}
+use Rattle.msi_table.specs.Tables.{CanStore, TableDef, long_table_of}
+use Rattle.msi_text_pool.specs.Pool.{Pool}
 use Rattle.msi_table.proofs.ReadBackLemmas.{all_at}
-use Rattle.msi_table_values.specs.Columns.{types_of}
+use Rattle.msi_table_values.specs.Columns.{ColumnDef, types_of}
 use Rattle.msi_table_values.specs.Fitting.{FitsTable}
 use Rattle.msi_query_rows.specs.Rows.{TableCells}
 use Rattle.msi_container_format.specs.Names.{is_name_length}
@@ -15,14 +16,17 @@ use Rattle.msi_database_schema.specs.Keys.{is_table_name, table_key}
 use Rattle.msi_database_changes.specs.Database.{Database, Tables, is_sound, table_at}
 use Rattle.msi_database_changes.specs.Insert.{table_with}
 use Rattle.msi_database_storage.specs.Streams.{Streams}
-use Rattle.msi_database_storage.specs.Kept.{Kept}
-use Rattle.msi_database_storage.specs.Widening.{with_long_rows}
-use Rattle.msi_database.specs.Keeping.{IsKeptDatabase}
+use Rattle.msi_database_changes.specs.Widening.{widened}
+use Rattle.msi_database_storage.specs.Kept.{AreAsLong, Kept, kept_widened, schema_listed}
+use Rattle.msi_database_storage.specs.Widening.{streams_widened, with_long_rows}
+use Rattle.msi_database.specs.Keeping.{AreParts, IsKeptDatabase}
 use Rattle.msi_database.specs.Listed.{table_def_at, tables_listed}
 use Rattle.msi_database.proofs.ComesLemmas.{regular}
 use Rattle.msi_database.proofs.KeyLemmas.{table_key_is_name}
 use Rattle.msi_database.proofs.SoundLemmas.{sound_names}
 use Rattle.msi_database.proofs.StreamLemmas.{tables_found}
+use Rattle.msi_database.proofs.WideRefusalLemmas.{long_pool}
+use Rattle.msi_database.proofs.WideningLemmas.{widened_parts}
 
 fold_pushed : {A B : Type 0} (f : B → A → B) (b : B) (xs : List A) (x : A) → fold f b (xs ++ x ∷ []) ≡ f (fold f b xs) x
 fold_pushed f b [] x = refl
@@ -86,3 +90,21 @@ pub listed_all : (d : Database) (ts : List TableDef) (i : ℕ) (first : Streams)
 listed_all d ts i first ts_are done =
     ap (λ (n : ℕ). fold with_long_rows first (take n d.tables)) (done ∙ ap length ts_are ∙ length-map d.tables (λ t. record { name = t.0; columns = t.1.columns; long = d.pool.long }))
     ∙ ap (fold with_long_rows first) (take-length d.tables)
+
+-- THE WHOLE DATABASE
+
+long_listed : (long : Bool) (ts : Tables) → schema_listed (map long_table_of (map (λ t. record { name = t.0; columns = t.1.columns; long = long }) ts)) ≡ map (λ t. (t.0, t.1.columns)) ts
+long_listed long [] = refl
+long_listed long (t ∷ ts) = ap (λ (l : List (List ℕ × List ColumnDef)). (t.0, t.1.columns) ∷ l) (long_listed long ts)
+
+all_long : (ts : List TableDef) → AreAsLong true (map long_table_of ts)
+all_long [] = tt
+all_long (t ∷ ts) = (refl, all_long ts)
+
+pub wide_parts : (k : Kept) → IsKeptDatabase k → is_sound k.database ≡ true → (old : Pool) → old ≡ k.database.pool → (pool : Pool) → pool ≡ long_pool old → (tables : List TableDef) → tables ≡ map long_table_of (tables_listed k.database)
+    → (streams : Streams) → streams ≡ streams_widened k.database k.streams → AreParts (kept_widened k) pool tables streams
+wide_parts k kept sound old old_is pool pool_is tables tables_are streams streams_are =
+    subst (λ (p : Pool). AreParts (kept_widened k) p tables streams) (sym (pool_is ∙ ap long_pool old_is))
+    (subst (λ (ts : List TableDef). AreParts (kept_widened k) (widened k.database).pool ts streams) (sym tables_are)
+    (subst (λ (s : Streams). AreParts (kept_widened k) (widened k.database).pool (map long_table_of (tables_listed k.database)) s) (sym streams_are)
+    (widened_parts k kept sound (map long_table_of (tables_listed k.database)) (long_listed k.database.pool.long k.database.tables) (all_long (tables_listed k.database)))))

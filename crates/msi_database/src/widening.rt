@@ -1,11 +1,11 @@
 //! A database whose references to texts take three bytes, made beside one in which they take two.
 
-ghost use Rattle.std.specs.Prelude.{◌≡◌, IfOk, OnOk, Some, is_some, length, map, true, false};
+ghost use Rattle.std.specs.Prelude.{◌≡◌, ℕ, IfOk, List, OnOk, length, map, true};
 ghost use Rattle.std.specs.FinMap.{entries};
 ghost use Rattle.std.specs.List.{fold};
 ghost use Rattle.msi_container_format.specs.Names.{is_name_length};
 ghost use Rattle.msi_text_base.specs.Results.{OnlyMemory};
-ghost use Rattle.msi_text_pool.specs.Pool.{unindexed};
+ghost use Rattle.msi_query_rows.specs.Rows.{TableCells};
 ghost use Rattle.msi_table.specs.Tables.{CanStore, long_table_of};
 ghost use Rattle.msi_database_schema.specs.Keys.{table_key as key_of};
 ghost use Rattle.msi_database_changes.specs.Database.{is_sound as is_sound_one};
@@ -52,7 +52,7 @@ fn store_long(
 ) -> Result<(), Error>
     requires named { is_name_length (length (key_of table.now.name)) ≡ true }
     requires storable { CanStore table.now rows.now }
-    ensures ok { let t = (table.now.name, table_with table.now.columns rows.now) in
+    ensures ok { let t : List ℕ × TableCells = (table.now.name, table_with table.now.columns rows.now) in
         OnOk result (entries streams.new ≡ with_long_rows (entries streams.old) t) }
     ensures kind { OnlyMemory result }
 {
