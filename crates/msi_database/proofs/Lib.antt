@@ -55,3 +55,5 @@ pub mod WideningLemmas
 pub mod WideningCallLemmas
 pub mod BothWidthsLemmas
 pub mod WideRefusalLemmas
+pub mod MakesAtLemmas
+pub mod CreatedAnewLemmas

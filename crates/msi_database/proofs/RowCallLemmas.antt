@@ -2,7 +2,7 @@
 use Rattle.std.proofs.Common.{◌≡◌, ℕ, ◌≤◌, Bool, true, false, not, cond, List, [], ◌∷◌, ◌++◌, fold, length, arith, Option, Some, None, Result, Ok, Err, refl, sym, ap, ap₂, subst, ◌∙◌, option_map}
 use Rattle.std.specs.Prelude.{MatchOption}
 use Rattle.std.proofs.lemmas.Option.{same_Some}
-use Rattle.std.proofs.lemmas.Bool.Decides.{leb-true}
+use Rattle.std.proofs.lemmas.Bool.{leb-true}
 use Rattle.msi_text_base.specs.declared.errors.ErrorKind.{ErrorKind}
 use Rattle.msi_text_base.specs.declared.errors.ErrorKind.TheVariants.{InvalidInput}
 use Rattle.msi_text_pool.specs.FirstFit.{most_places}
@@ -119,7 +119,7 @@ insert_is d q t held rows values before after sound free at same passed began ad
 -- AT BOTH WIDTHS
 
 -- where narrower references suffice for what was taken with those of three bytes, it is taken alike
-cells_added_narrow : (long : Bool) (columns : List ColumnDef) (pool : PoolInUse) (held : List (List ValueRef)) (values : List (List Value)) (r : List (List ValueRef) × PoolInUse)
+pub cells_added_narrow : (long : Bool) (columns : List ColumnDef) (pool : PoolInUse) (held : List (List ValueRef)) (values : List (List Value)) (r : List (List ValueRef) × PoolInUse)
     → cells_added true columns pool held values ≡ Some r → length r.1.places ≤ most_places long → cells_added long columns pool held values ≡ Some r
 cells_added_narrow long columns pool held values r e few =
     map_some (λ (r : List (List ValueRef) × PoolInUse). (in_key_order columns r.1.places (held ++ r.0), r.1)) (rows_put true pool values) r e

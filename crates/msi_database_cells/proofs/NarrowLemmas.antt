@@ -160,3 +160,41 @@ cells_set_narrow long columns pool row (s ∷ ss) r e few =
     let few_c : length c.1.places ≤ most_places long = omega (arith, cells_set_grows true columns c.1 (set row (index_of columns s) c.0) ss r rest, few) in
     ap (option_and_then (λ (r : ValueRef × PoolInUse). cells_set long columns r.1 (set row (index_of columns s) r.0) ss)) (cell_put_narrow long (cell_released pool old) s.1 c c_is few_c)
     ∙ cells_set_narrow long columns c.1 (set row (index_of columns s) c.0) ss r rest few)
+
+-- THE OTHER WAY: what a narrower width could name, three bytes can
+
+wider_test : (i : ℕ) (long : Bool) → nat_lt i (most_places long) ≡ true → nat_lt i (most_places true) ≡ true
+wider_test i true h = h
+wider_test i false h = grind (arith, nat_tests)
+
+either_test : (a b c : Bool) (x r : ℕ × List Place) → (b ≡ true → c ≡ true) → cond (a || b) (Some x) None ≡ Some r → cond (a || c) (Some x) None ≡ Some r
+either_test true b c x r h e = e
+either_test false true c x r h e = ap (λ b. cond b (Some x) None) (h refl) ∙ e
+either_test false false c x r h e = absurd (none-some r e)
+
+taken_extends : (long : Bool) (places : List Place) (text : List ℕ) (r : ℕ × List Place) → taken long places text ≡ Some r → taken true places text ≡ Some r
+taken_extends long places text r e =
+    let i : ℕ = first_fit text places in
+    let put : ℕ × List Place = (i + 1, with_text_at places i text) in
+    either_test (nat_lt i (length places)) (nat_lt i (most_places long)) (nat_lt i (most_places true)) put r (wider_test i long) e
+
+cell_put_extends : (long : Bool) (s : PoolInUse) (v : Value) (r : ValueRef × PoolInUse) → cell_put long s v ≡ Some r → cell_put true s v ≡ Some r
+cell_put_extends long s (Str text) r e = mapped put_text (taken long s.places text) r e
+    (λ x x_is whole. ap (option_map put_text) (taken_extends long s.places text x x_is) ∙ ap Some whole)
+cell_put_extends long s Null r e = e
+cell_put_extends long s (Int n) r e = e
+cell_put_extends long s Binary r e = e
+
+module _ {X Y : Type 0} where
+  turn_extends : (narrow wide : PoolInUse → X → Option (Y × PoolInUse)) → ((s : PoolInUse) (x : X) (r : Y × PoolInUse) → narrow s x ≡ Some r → wide s x ≡ Some r)
+      → (s : PoolInUse) (xs : List X) (r : List Y × PoolInUse) → in_turn narrow s xs ≡ Some r → in_turn wide s xs ≡ Some r
+  turn_extends narrow wide extends s [] r e = e
+  turn_extends narrow wide extends s (x ∷ xs) r e = option_and_then_some _ (narrow s x) r e
+      (λ b b_is rest. mapped _ (in_turn narrow b.1 xs) r rest
+      (λ c c_is whole.
+      ap (option_and_then (λ (r : Y × PoolInUse). option_map (λ (rs : List Y × PoolInUse). (r.0 ∷ rs.0, rs.1)) (in_turn wide r.1 xs))) (extends s x b b_is)
+      ∙ ap (option_map (λ (rs : List Y × PoolInUse). (b.0 ∷ rs.0, rs.1))) (turn_extends narrow wide extends b.1 xs c c_is) ∙ ap Some whole))
+
+pub rows_put_extends : (long : Bool) (s : PoolInUse) (rows : List (List Value)) (r : List (List ValueRef) × PoolInUse) → rows_put long s rows ≡ Some r → rows_put true s rows ≡ Some r
+rows_put_extends long s rows r e =
+    turn_extends (in_turn (cell_put long)) (in_turn (cell_put true)) (turn_extends (cell_put long) (cell_put true) (cell_put_extends long)) s rows r e
