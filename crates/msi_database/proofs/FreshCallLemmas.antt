@@ -1,13 +1,10 @@
 -- First rows of tables, one after the other: what the calls of a new database make is `fresh`.
-use Rattle.std.proofs.lemmas.Bool.{true≢false}
 use Rattle.msi_database_changes.proofs.TurnLemmas.{map_some as some_mapped}
 use Rattle.msi_database_cells.proofs.NarrowLemmas.{rows_put_extends}
-use Rattle.msi_database_cells.specs.Texts.{rows_put}
-use Rattle.msi_table.specs.KeyOrder.{in_key_order}
 use Rattle.std.proofs.Common.{◌≡◌, ℕ, Bool, true, false, ◌&&◌, List, [], ◌∷◌, ◌++◌, length, Option, Some, None, is_some, Result, Ok, Err, IfErr, refl, sym, ap, ap₂, subst, ◌∙◌, option_map, inl, inr, arith, nat_lt, nat_le}
 use Rattle.std.specs.Prelude.{IfOk, IsSomeAnd, option_and_then, unwrap_or}
 use Rattle.std.specs.List.{list_all}
-use Rattle.std.proofs.lemmas.Bool.{and_parts}
+use Rattle.std.proofs.lemmas.Bool.{and_parts, true≢false}
 use Rattle.std.proofs.lemmas.Bool.Decides.{nat_tests}
 use Rattle.std.proofs.lemmas.Option.{same_Some}
 use Rattle.msi_text_base.specs.declared.errors.ErrorKind.{ErrorKind}

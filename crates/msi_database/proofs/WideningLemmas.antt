@@ -23,7 +23,7 @@ use Rattle.msi_table.proofs.ReadRowsLemmas.{length-tabulated}
 use Rattle.msi_query_rows.specs.Rows.{TableCells}
 use Rattle.msi_container_format.specs.Names.{is_name_length}
 use Rattle.msi_database_schema.proofs.RowOrderLemmas.{names_total}
-use Rattle.msi_database_schema.specs.Keys.{is_table_name, table_key}
+use Rattle.msi_database_schema.specs.Keys.{is_table_name, summary_key, table_key}
 use Rattle.msi_database_schema.specs.System.{validation_columns, validation_name}
 use Rattle.msi_database_changes.specs.Database.{Database, Tables, columns_by_name, has_table, is_sound, rows_of, table_at}
 use Rattle.msi_database_changes.specs.Widening.{widened}
@@ -36,7 +36,7 @@ use Rattle.msi_database.specs.Agreement.{DatabaseIs, TablesAre, UnlistedIs}
 use Rattle.msi_database.specs.Keeping.{AreParts, HasFittingRows, IsKeptDatabase}
 use Rattle.msi_database.proofs.ComesLemmas.{describes, regular}
 use Rattle.msi_database.proofs.PartsLemmas.{kept_parts}
-use Rattle.msi_database.proofs.KeyLemmas.{table_key_is_name, table_keys_tell_names, validation_accepted}
+use Rattle.msi_database.proofs.KeyLemmas.{table_key_is_name, table_keys_tell_names, table_key≢summary_key, validation_accepted}
 use Rattle.msi_database.proofs.MapLemmas as maps
 use Rattle.msi_database.proofs.DescribedLemmas.{schema_after}
 use Rattle.msi_database.proofs.SoundLemmas.{sound_names, sound_rows}
@@ -261,3 +261,15 @@ module _ (k : Kept) (h : IsKeptDatabase k) (sound : is_sound k.database ≡ true
   -- in these parts
   pub widened_parts : (tables : List TableDef) → schema_listed tables ≡ columns_by_name d → AreAsLong true tables → AreParts (kept_widened k) (widened d).pool tables after
   widened_parts tables listed as_long = kept_parts (kept_widened k) tables widened_kept (sound_widened d sound) listed as_long
+
+  -- what holds of the names of streams, and of those of tables' streams, goes on to hold
+  pub widened_names : (P : List ℕ → Type 0) → ((name : List ℕ) → is_table_name name ≡ true → P (table_key name)) → AllByRecursion (λ s. P s.0) k.streams → AllByRecursion (λ s. P s.0) after
+  widened_names P own h = names_long P stored (unlisted_table d) (own validation_name validation_accepted) (all_names_long P own d.tables k.streams names h)
+
+  -- the summary stays
+  summary_apart : (ts : Tables) → AllByRecursion (λ t. summary_key ≢ table_key t.0) ts
+  summary_apart [] = tt
+  summary_apart (t ∷ ts) = (λ e. table_key≢summary_key t.0 (sym e), summary_apart ts)
+
+  pub widened_summary : stream_at summary_key after ≡ stream_at summary_key k.streams
+  widened_summary = other_long summary_key stored (unlisted_table d) (λ e. table_key≢summary_key validation_name (sym e)) ∙ others_long summary_key d.tables k.streams (summary_apart d.tables)

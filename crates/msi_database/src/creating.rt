@@ -192,7 +192,7 @@ impl Database {
         ensures kind { OnlyMemory result }
     {
         let Some(table) = self.known_table(name) else {
-            return Err(Error::out_of_memory());
+            return Err(Error::new(ErrorKind::NotFound, reasons::NO_TABLE));
         };
         stream_of(self.alloc, table, rows)
     }

@@ -1,6 +1,6 @@
 -- Changes of a database with references of the width that it has, and those that widen them: these are the same changes of the widened database.
 use Rattle.std.proofs.Common.{◌≡◌, ℕ, ◌⊎◌, Bool, true, false, cond, List, length, Option, Some, None, Result, Ok, Err, refl, sym, ap, ◌∙◌, arith, inl, inr}
-use Rattle.std.specs.Prelude.{◌&&◌, nat_le, not}
+use Rattle.std.specs.Prelude.{◌&&◌, nat_le, nat_lt, not}
 use Rattle.std.specs.List.{AllByRecursion}
 use Rattle.std.specs.Prelude.{IsSomeAnd}
 use Rattle.std.proofs.lemmas.Bool.{and_parts, not-true}
@@ -59,6 +59,25 @@ pub table_change_at : {P : Type 0} (d : Database) (c : Change) → IsTableChange
 table_change_at d c (laws.created name columns e) wide same =
     widening_made (λ d. create_at_width d name columns) d c e (λ sound short is. wide sound short (created name columns is)) (λ is. same (created name columns is))
 table_change_at d c (laws.dropped name e) wide same = same (dropped name e)
+
+-- the same, and that two bytes don't suffice for what a change leaves that widens
+pub widening_many : {P : Type 0} (change : Database → Result Change ErrorKind) (d : Database) (c : Change) → widening change d ≡ Ok c
+    → (is_sound d ≡ true → d.pool.long ≡ false → nat_lt (most_places false) (length c.database.pool.places) ≡ true → change (widened d) ≡ Ok c → P) → (change d ≡ Ok c → P) → P
+widening_many change d c e wide same = made_by (widens change d) (change (widened d)) (change d) (Ok c) e
+    (λ t is.
+    let q = and_parts (is_sound d && not d.pool.long) (needs_three_bytes (change (widened d))) t in
+    let p = and_parts (is_sound d) (not d.pool.long) q.0 in
+    wide p.0 (not-true d.pool.long p.1) (ap needs_three_bytes (sym is) ∙ q.1) is) same
+
+pub any_change_many : {P : Type 0} (d : Database) (c : Change) → IsChange d c ⊎ IsTableChange d c
+    → (is_sound d ≡ true → d.pool.long ≡ false → nat_lt (most_places false) (length c.database.pool.places) ≡ true → IsChangeAtWidth (widened d) c ⊎ IsTableChangeAtWidth (widened d) c → P)
+    → (IsChangeAtWidth d c ⊎ IsTableChangeAtWidth d c → P) → P
+any_change_many d c (inl (laws.inserted q e)) wide same = widening_many (λ d. insert_at_width d q) d c e (λ sound short many is. wide sound short many (inl (inserted q is))) (λ is. same (inl (inserted q is)))
+any_change_many d c (inl (laws.updated q e)) wide same = widening_many (λ d. update_at_width d q) d c e (λ sound short many is. wide sound short many (inl (updated q is))) (λ is. same (inl (updated q is)))
+any_change_many d c (inl (laws.deleted q e)) wide same = same (inl (deleted q e))
+any_change_many d c (inr (laws.created name columns e)) wide same =
+    widening_many (λ d. create_at_width d name columns) d c e (λ sound short many is. wide sound short many (inr (created name columns is))) (λ is. same (inr (created name columns is)))
+any_change_many d c (inr (laws.dropped name e)) wide same = same (inr (dropped name e))
 
 -- A WIDENED DATABASE
 

@@ -1,7 +1,8 @@
-use Rattle.std.proofs.Common.{◌∙◌}
+use Rattle.std.proofs.Common.{ap, ◌∙◌}
+use Rattle.msi_database_cells.specs.Texts.{settled}
 use Rattle.msi_text_pool.specs.Pool.{unindexed}
 use Rattle.std.specs.Vec.Iter.{into_iter_items}
-use Rattle.msi_database.proofs.FreshKeptLemmas.{fresh_parts, names_are_own}
+use Rattle.msi_database.proofs.FreshKeptLemmas.{fresh_parts, fresh_settled, names_are_own}
 use Rattle.msi_database.proofs.database.Database.new.Goals as goal
 
 pub store_all-requires : goal.store_all-requires
