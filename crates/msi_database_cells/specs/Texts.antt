@@ -1,5 +1,6 @@
 -- Texts that cells take of the pool and give back.
-use Rattle.std.specs.Prelude.{Bool, true, not, ◌&&◌, List, [], ◌∷◌, Option, Some, option_map, option_and_then, unwrap_or}
+use Rattle.std.specs.Prelude.{Bool, true, not, ◌&&◌, List, [], ◌∷◌, Option, Some, option_map, option_and_then}
+use Rattle.std.specs.Prelude.{unwrap_or}
 use Rattle.std.specs.List.{fold}
 use Rattle.msi_text_pool.specs.FirstFit.{given_back, is_long_with, taken}
 use Rattle.msi_text_pool.specs.Pool.{Pool, Place}

@@ -99,7 +99,8 @@ impl PoolInUse {
     /// Returns the cell of a value, whose text the pool takes: it is moved in, and not copied.
     ///
     /// # Errors
-    /// Fails with `InvalidInput` if the pool has 16777215 places and none is free or has the text, or with `OutOfMemory`.
+    /// Fails with `InvalidInput` if the pool is full: it has 16777215 places, and none takes the text. Otherwise it
+    /// fails with `OutOfMemory`.
     pub fn put(&mut self, value: Value) -> Result<ValueRef, Error>
         ensures ok { IfOk result (λ cell.
             cell_put true (in_use self.old) value ≡ Some (cell, in_use self.new)) }
@@ -121,7 +122,7 @@ impl PoolInUse {
     /// Returns the cells of a row of values, whose texts the pool takes in order.
     ///
     /// # Errors
-    /// Fails with `InvalidInput` if the pool has 16777215 places and none is free or has the text, or with `OutOfMemory`, which may come before.
+    /// Fails with `InvalidInput` if the pool is full, or with `OutOfMemory`, which may come before.
     pub fn put_row(&mut self, alloc: Global, row: Items<Value>) -> Result<Items<ValueRef>, Error>
         ensures ok { IfOk result (λ cells.
             in_turn (cell_put true) (in_use self.old) row ≡ Some (cells, in_use self.new)) }
@@ -140,7 +141,7 @@ impl PoolInUse {
     /// Returns the cells of rows of values, whose texts the pool takes row by row.
     ///
     /// # Errors
-    /// Fails with `InvalidInput` if the pool has 16777215 places and none is free or has the text, or with `OutOfMemory`, which may come before.
+    /// Fails with `InvalidInput` if the pool is full, or with `OutOfMemory`, which may come before.
     pub fn put_rows(
         &mut self,
         alloc: Global,
