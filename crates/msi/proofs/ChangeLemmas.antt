@@ -18,7 +18,7 @@ use Rattle.msi_database_storage.specs.Kept.{Kept}
 use Rattle.msi_database.specs.Keeping.{IsKeptDatabase}
 use Rattle.msi_database.specs.Making as databases
 use Rattle.msi_database.specs.Making.{TellsUse}
-use Rattle.msi_database.proofs.KeepingLemmas.{change_comes}
+use Rattle.msi_database.proofs.KeepingLemmas.{changes_are_kept}
 use Rattle.msi.specs.State.{parts_of}
 use Rattle.msi.specs.Steps.{changing, storage_refusal}
 use Rattle.msi.specs.Whole.{IsHeld, IsOpen, Leaves, Whole, with_open, with_state}
@@ -50,7 +50,7 @@ module _ (k new : Kept) (name : Option (List ℕ)) (used : Bool) (none : name �
   left_by : (r : Result Change ErrorKind) → ((c : Change) → r ≡ Ok c → IsChange k.database c ⊎ IsTableChange k.database c)
       → databases.Leaves k r new → is_sound new.database ≡ true
   left_by (Ok c) change left = let is = change c refl in
-      ap (λ (k : Kept). is_sound k.database) left ∙ (change_comes k c kept (change_sound k.database c is) is).sound
+      ap (λ (k : Kept). is_sound k.database) left ∙ (changes_are_kept k c kept (change_sound k.database c is) is).1
   left_by (Err kind) change left = absurd left
 
   abbrev held_by : (r : Result Change ErrorKind) → ((c : Change) → r ≡ Ok c → IsChange k.database c ⊎ IsTableChange k.database c)

@@ -1,7 +1,9 @@
 -- What each change of a package keeps: of its other streams, its summary, its page, and its tables.
-use Rattle.std.proofs.Common.{◌≡◌, ◌≢◌, ℕ, true, false, List, [], ◌∷◌, length, ◌⊎◌, refl, sym, subst, ◌∙◌, inl, inr}
+use Rattle.std.proofs.Common.{◌≡◌, ◌≢◌, ℕ, ◌≤◌, true, false, List, [], ◌∷◌, length, nat_lt, ◌⊎◌, refl, sym, ap, subst, ◌∙◌, inl, inr, arith}
 use Rattle.std.specs.Str.{IsUtf8}
-use Rattle.std.proofs.lemmas.Bool.{true≢false, or_parts, and_from, lt-ltb, le-leb, not-false}
+use Rattle.std.proofs.lemmas.Bool.{true≢false, or_parts, and_from, lt-ltb, le-leb, leb-true, not-false}
+use Rattle.std.proofs.lemmas.Bool.Decides.{nat_tests}
+use Rattle.msi_text_places.specs.FirstFit.{most_places}
 use Rattle.msi_text_base.specs.declared.codepage.CodePage.{CodePage}
 use Rattle.msi_text_base.specs.declared.errors.ErrorKind.TheVariants.{InvalidData}
 use Rattle.msi_text_pool_base.specs.Pool as pools
@@ -13,21 +15,26 @@ use Rattle.msi_database_schema.specs.Keys.{is_stream_name, table_key, stream_key
 use Rattle.msi_database_schema.specs.System.{validation_name}
 use Rattle.msi_database_changes.specs.Database.{Database, is_sound}
 use Rattle.msi_database_changes.specs.Changes.{Change}
-use Rattle.msi_database_changes.specs.Laws.{IsChange, IsTableChange, inserted, updated, deleted, created, dropped}
+use Rattle.msi_database_changes.specs.Laws.{IsChange, IsTableChange}
+use Rattle.msi_database_changes.specs.Widening.{widened}
+use Rattle.msi_database_changes.proofs.AtWidthLemmas.{IsChangeAtWidth, IsTableChangeAtWidth, any_change_many, sound_widened, inserted, updated, deleted, created, dropped}
 use Rattle.msi_database_changes.proofs.InsertLemmas.{insert_parts}
 use Rattle.msi_database_changes.proofs.UpdateLemmas.{update_parts}
 use Rattle.msi_database_changes.proofs.DeleteLemmas.{delete_parts}
 use Rattle.msi_database_changes.proofs.RefusedLemmas.{first_fails}
 use Rattle.msi_database_changes.proofs.ShownLemmas as steps
 use Rattle.msi_database_changes.proofs.ShownChangesLemmas.{dropped_parts}
-use Rattle.msi_database_storage.specs.Streams.{Streams, stream_at, with_stream, without_stream}
+use Rattle.msi_database_storage.specs.Kept.{Kept, base_of, kept_widened}
+use Rattle.msi_database_storage.specs.Streams.{Streams, stored_streams, stream_at, with_stream, without_stream}
 use Rattle.msi_database_storage.specs.StreamNames as databases
 use Rattle.msi_database.specs.Keeping.{IsKeptDatabase}
 use Rattle.msi_database.proofs.KeyLemmas.{unmarked≢table_key, stream_key_unmarked, stream_key≢summary_key, signature≢summary, signature_ex≢summary}
 use Rattle.msi_database.proofs.StreamLemmas.{AreSorted, sorted_put, sorted_removed, stream_at_other_put, stream_at_other_removed}
 use Rattle.msi_database.proofs.StoredLemmas.{AreNames, all_names, summary_stays, pool_stays}
-use Rattle.msi_database.proofs.ComesLemmas.{Comes, are_names}
-use Rattle.msi_database.proofs.KeepingLemmas.{change_comes, changes_are_kept}
+use Rattle.msi_database.proofs.ComesLemmas.{are_names}
+use Rattle.msi_database.proofs.SoundLemmas.{sound_is}
+use Rattle.msi_database.proofs.WideningLemmas.{widened_kept, widened_names, widened_summary}
+use Rattle.msi_database.proofs.KeepingLemmas.{change_comes, changes_are_kept, same_base, wide_base}
 use Rattle.msi.specs.State.{State}
 use Rattle.msi.specs.Meaning.{IsPackage, PoolIs}
 use Rattle.msi.specs.Steps.{after_change, with_page, with_streams, with_lent_summary, with_summary_calls, without_signature}
@@ -139,51 +146,98 @@ paged s page h sound = record {
 -- A CHANGE OF TABLES
 
 -- only a sound database is changed
+change_sound_at : (d : Database) (c : Change) → IsChangeAtWidth d c ⊎ IsTableChangeAtWidth d c → is_sound d ≡ true
+change_sound_at d c (inl (inserted q e)) = (insert_parts d q c e).0
+change_sound_at d c (inl (updated q e)) = (update_parts d q c e).sound
+change_sound_at d c (inl (deleted q e)) = (delete_parts d q c e).sound
+change_sound_at d c (inr (created name columns e)) = not-false (is_sound d) (first_fails _ InvalidData [] (steps.created d name columns c e).sound).0
+change_sound_at d c (inr (dropped name e)) = not-false (is_sound d) (first_fails _ InvalidData [] (dropped_parts d name c e).sound).0
+
 pub change_sound : (d : Database) (c : Change) → IsChange d c ⊎ IsTableChange d c → is_sound d ≡ true
-change_sound d c (inl (inserted q e)) = (insert_parts d q c e).0
-change_sound d c (inl (updated q e)) = (update_parts d q c e).sound
-change_sound d c (inl (deleted q e)) = (delete_parts d q c e).sound
-change_sound d c (inr (created name columns e)) = not-false (is_sound d) (first_fails _ InvalidData [] (steps.created d name columns c e).sound).0
-change_sound d c (inr (dropped name e)) = not-false (is_sound d) (first_fails _ InvalidData [] (dropped_parts d name c e).sound).0
+change_sound d c change = any_change_many d c change (λ sound short many wide. sound) (λ same. change_sound_at d c same)
+
+-- more places than two bytes name are more than a sound database with such references has
+too_many : (m n : ℕ) → m ≤ 65535 → nat_lt (most_places false) n ≡ true → n ≡ m → ⊥
+too_many m n few many same = grind (arith, nat_tests)
 
 module _ (s : State) (c : Change) (h : IsPackage s) (change : IsChange s.kept.database c ⊎ IsTableChange s.kept.database c) where
   abbrev sound : is_sound s.kept.database ≡ true
   sound = change_sound s.kept.database c change
 
-  abbrev comes : Comes s.kept.database c
-  comes = change_comes s.kept c h.database sound change
-
-  abbrev stored : AreNames c.stored
-  stored = are_names c.stored comes.tracks.names
-
   abbrev after : Streams
   after = (after_change s c).kept.streams
 
   pub sound_after : is_sound c.database ≡ true
-  sound_after = comes.sound
+  sound_after = (changes_are_kept s.kept c h.database sound change).1
 
   kept_after : IsKeptDatabase (after_change s c).kept
   kept_after = (changes_are_kept s.kept c h.database sound change).0
 
-  -- the pool, where no text was taken or given back
-  pool_after : c.is_pool_used ≡ false → PoolIs s.kept.streams s.kept.database → PoolIs after c.database
-  pool_after unused pool =
-      let stays = pool_stays c.database c.stored s.kept.streams stored in
-      pool_spelled after c.database kept_after.spelled comes.sound pool.0 (raw_pool_same s.kept.streams after pool.0 stays.0 stays.1 pool.1)
-      (comes.tracks.unused unused ∙ pool_as_written s.kept.streams s.kept.database h.database.spelled sound pool)
+  -- over what the change is put: its streams have names, and that of the summary is as it was; where no text was taken or given back, all is as it was
+  record Over (base : Kept) : Type 0 where
+    pub is : base_of s.kept c ≡ base
+    pub names : HaveNames base.streams
+    pub summary : stream_at summary_key base.streams ≡ stream_at summary_key s.kept.streams
+    pub stored : AreNames c.stored
+    pub unused : c.is_pool_used ≡ false → (base ≡ s.kept) × (c.database.pool ≡ s.kept.database.pool)
+
+  same_over : IsChangeAtWidth s.kept.database c ⊎ IsTableChangeAtWidth s.kept.database c → Over s.kept
+  same_over at =
+      let comes = change_comes s.kept c h.database sound at in record {
+        is = same_base s.kept c comes.tracks.long;
+        names = h.names;
+        summary = refl;
+        stored = are_names c.stored comes.tracks.names;
+        unused = λ e. (refl, comes.tracks.unused e);
+      }
+
+  few : s.kept.database.pool.long ≡ false → length s.kept.database.pool.places ≤ 65535
+  few short = subst (λ l. length s.kept.database.pool.places ≤ most_places l) short
+      (leb-true (length s.kept.database.pool.places) (most_places s.kept.database.pool.long) (sound_is s.kept.database sound).fits)
+
+  wide_over : s.kept.database.pool.long ≡ false → nat_lt (most_places false) (length c.database.pool.places) ≡ true
+      → IsChangeAtWidth (widened s.kept.database) c ⊎ IsTableChangeAtWidth (widened s.kept.database) c → Over (kept_widened s.kept)
+  wide_over short many at =
+      let comes = change_comes (kept_widened s.kept) c (widened_kept s.kept h.database sound) (sound_widened s.kept.database sound) at in record {
+        is = wide_base s.kept c comes.tracks.long short;
+        names = widened_names s.kept h.database sound IsName table_key_is_name h.names;
+        summary = widened_summary s.kept h.database sound;
+        stored = are_names c.stored comes.tracks.names;
+        unused = λ e. absurd (too_many (length s.kept.database.pool.places) (length c.database.pool.places) (few short) many (ap (λ (p : pools.Pool). length p.places) (comes.tracks.unused e)));
+      }
+
+  module _ (base : Kept) (over : Over base) where
+    after_is : after ≡ stored_streams c.database c.stored base.streams
+    after_is = ap (λ (b : Kept). stored_streams c.database c.stored b.streams) over.is
+
+    -- the pool, where no text was taken or given back
+    pool_after : c.is_pool_used ≡ false → PoolIs s.kept.streams s.kept.database → PoolIs after c.database
+    pool_after unused pool =
+        let same = over.unused unused in
+        let here : after ≡ stored_streams c.database c.stored s.kept.streams = after_is ∙ ap (λ (b : Kept). stored_streams c.database c.stored b.streams) same.0 in
+        let stays = pool_stays c.database c.stored s.kept.streams over.stored in
+        pool_spelled after c.database kept_after.spelled sound_after pool.0
+        (raw_pool_same s.kept.streams after pool.0 (ap (stream_at (table_key string_pool_name)) here ∙ stays.0) (ap (stream_at (table_key string_data_name)) here ∙ stays.1) pool.1)
+        (same.1 ∙ pool_as_written s.kept.streams s.kept.database h.database.spelled sound pool)
+
+    changed_over : IsPackage (after_change s c)
+    changed_over = record {
+      names = subst HaveNames (sym after_is) (all_names c.database IsName table_key_is_name c.stored base.streams over.stored over.names);
+      database = kept_after;
+      summary = h.summary;
+      format = h.format;
+      agrees = record {
+        summary = λ lent writable. summary_same s.kept.streams after s.summary
+            (ap (stream_at summary_key) after_is ∙ summary_stays c.database c.stored base.streams ∙ over.summary) (h.agrees.summary lent writable);
+        pool = λ used writable.
+            let flags = or_parts s.is_pool_changed c.is_pool_used used in
+            pool_after flags.1 (h.agrees.pool flags.0 (subst pools.AreWritable (over.unused flags.1).1 writable));
+        database = kept_after.spelled;
+      };
+      changed = λ _. sound_after;
+    }
 
   pub changed : IsPackage (after_change s c)
-  changed = record {
-    names = all_names c.database IsName table_key_is_name c.stored s.kept.streams stored h.names;
-    database = kept_after;
-    summary = h.summary;
-    format = h.format;
-    agrees = record {
-      summary = λ lent writable. summary_same s.kept.streams after s.summary (summary_stays c.database c.stored s.kept.streams) (h.agrees.summary lent writable);
-      pool = λ used writable.
-          let flags = or_parts s.is_pool_changed c.is_pool_used used in
-          pool_after flags.1 (h.agrees.pool flags.0 (subst pools.AreWritable (comes.tracks.unused flags.1) writable));
-      database = kept_after.spelled;
-    };
-    changed = λ _. comes.sound;
-  }
+  changed = any_change_many s.kept.database c change
+      (λ sound short many wide. changed_over (kept_widened s.kept) (wide_over short many wide))
+      (λ same. changed_over s.kept (same_over same))

@@ -15,7 +15,7 @@ use Rattle.msi_database_schema.proofs.RowOrderLemmas.{names_total}
 use Rattle.msi_database_changes.specs.Database.{table_at}
 use Rattle.msi_database_changes.specs.Changes.{Change, no_change, with_stored}
 use Rattle.msi_database_cells.specs.Texts.{PoolInUse}
-use Rattle.msi_database_changes.specs.Laws.{IsChange, IsTableChange}
+use Rattle.msi_database_changes.proofs.AtWidthLemmas.{IsChangeAtWidth, IsTableChangeAtWidth}
 use Rattle.msi_database_changes.proofs.KindsKeptLemmas.{all_permuted}
 use Rattle.msi_database_storage.specs.Kept.{database_kept, kept_of}
 use Rattle.msi_database.specs.Keeping.{AreKept}
@@ -36,7 +36,7 @@ unsorted_fits long columns rows f =
     }
 
 module _ (pool : Pool) (tables : List TableDef) (streams : Streams) (kept : AreKept pool tables streams true) (c : Change)
-    (change : IsChange (database_kept pool tables streams) c ⊎ IsTableChange (database_kept pool tables streams) c) where
+    (change : IsChangeAtWidth (database_kept pool tables streams) c ⊎ IsTableChangeAtWidth (database_kept pool tables streams) c) where
   -- of a table that the change leaves with these rows
   pub can_store : (name : List ℕ) (columns : List ColumnDef) (rows : List (List ValueRef)) → table_at name c.database ≡ Some (record { columns = columns; rows = Some (in_stored_order columns rows) })
       → FitsTable pool.long (types_of columns) rows
@@ -54,6 +54,6 @@ module _ (pool : Pool) (tables : List TableDef) (streams : Streams) (kept : AreK
       ∙ lists.find_put_same names_total list_cmp_exact name (record { columns = columns; rows = Some (in_stored_order columns rows) }) (database_kept pool tables streams).tables)
 
 -- the same over a map of streams
-pub rows_can_store : (pool : Pool) (tables : List TableDef) (m : maps.Streams) → AreKept pool tables (entries m) true → (c : Change) → IsChange (database_kept pool tables (entries m)) c ⊎ IsTableChange (database_kept pool tables (entries m)) c
+pub rows_can_store : (pool : Pool) (tables : List TableDef) (m : maps.Streams) → AreKept pool tables (entries m) true → (c : Change) → IsChangeAtWidth (database_kept pool tables (entries m)) c ⊎ IsTableChangeAtWidth (database_kept pool tables (entries m)) c
     → (name : List ℕ) (columns : List ColumnDef) (rows : List (List ValueRef)) (used : PoolInUse) → with_stored name columns rows used (no_change (database_kept pool tables (entries m))) ≡ c → FitsTable pool.long (types_of columns) rows
 rows_can_store pool tables m kept c change = stored_can_store pool tables (entries m) kept c change

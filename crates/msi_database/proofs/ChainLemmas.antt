@@ -22,7 +22,7 @@ use Rattle.msi_database_changes.specs.Database.{Database, is_sound, table_at, ro
 use Rattle.msi_database_changes.specs.Changes.{Change, no_change, pool_of, with_stored, sound_refusal}
 use Rattle.msi_database_cells.specs.Texts.{PoolInUse, rows_released}
 use Rattle.msi_database_changes.specs.Insert.{cells_added, rows_inserted, row_refusals}
-use Rattle.msi_database_changes.specs.Create.{create_table, table_refusals, with_new_table}
+use Rattle.msi_database_changes.specs.Create.{create_at_width, table_refusals, with_new_table}
 use Rattle.msi_database_changes.specs.Drop.{drop_table, is_row_about, rows_forgotten, table_released}
 use Rattle.msi_database_changes.proofs.DescribingLemmas.{put_elsewhere}
 use Rattle.msi_database.proofs.MapLemmas as maps
@@ -81,7 +81,7 @@ module _ (d : Database) (name : List ℕ) (columns : List ColumnDef) (c t v : Ta
         → first_refusal (row_refusals d.pool.places c c_rows) ≡ None → cells_added d.pool.long c.columns (pool_of (no_change d)) (rows_of c) c_rows ≡ Some one
         → first_refusal (row_refusals one.1.places t t_rows) ≡ None → cells_added d.pool.long t.columns one.1 (rows_of t) t_rows ≡ Some two
         → first_refusal (row_refusals two.1.places v v_rows) ≡ None → cells_added d.pool.long v.columns two.1 (rows_of v) v_rows ≡ Some three
-        → create_table d name columns ≡ Ok (with_new_table name columns third)
+        → create_at_width d name columns ≡ Ok (with_new_table name columns third)
     create_by_steps passed p₁ e₁ p₂ e₂ p₃ e₃ = create_made d name columns first second third passed (first_inserted p₁ e₁) (second_inserted p₂ e₂) (third_inserted p₃ e₃)
 
 -- A DROP

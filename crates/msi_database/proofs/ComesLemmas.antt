@@ -23,7 +23,7 @@ use Rattle.msi_database_changes.proofs.PoolStepLemmas.{PlacesKept, kept_from, co
 use Rattle.msi_database_changes.proofs.TracksLemmas.{Tracks}
 use Rattle.msi_database_changes.proofs.RegularLemmas.{IsRegular}
 use Rattle.msi_database_storage.specs.Streams.{Streams, stored_rows, stored_streams}
-use Rattle.msi_database_storage.specs.Kept.{Kept, after_change}
+use Rattle.msi_database_storage.specs.Kept.{Kept, with_change}
 use Rattle.msi_database.specs.Agreement.{TablesAre, UnlistedIs}
 use Rattle.msi_database.specs.Keeping.{IsKeptDatabase}
 use Rattle.msi_database.proofs.KeyLemmas.{validation_accepted, table_key_is_name}
@@ -108,7 +108,7 @@ module _ (k : Kept) (c : Change) (h : IsKeptDatabase k) (sound : is_sound k.data
   places_after : PlacesKept c.database.pool.places
   places_after = comes.tracks.kept (places_kept k h sound)
 
-  pub comes_kept : IsKeptDatabase (after_change k c)
+  pub comes_kept : IsKeptDatabase (with_change k c)
   comes_kept = record {
     in_order = all_sorted c.database c.stored k.streams h.in_order;
     names = all_names c.database (λ key. is_name_length (length key) ≡ true) table_key_is_name c.stored k.streams names h.names;

@@ -1,12 +1,8 @@
 -- Creating a table: the streams that a call makes one by one are what the change leaves, and what refuses them refuses the change.
 use Rattle.std.proofs.Common.{◌≡◌, ℕ, ◌≤◌, Bool, true, false, List, [], ◌∷◌, ◌++◌, length, Option, Some, None, Result, Ok, Err, refl, sym, ap, subst, ◌∙◌, inl, inr}
 use Rattle.std.specs.Prelude.{option_map, IfOk, OnOk}
-use Rattle.std.specs.FinMap.{entries}
-use Rattle.std.proofs.lemmas.Bool.{leb-true}
-use Rattle.msi_container_format.specs.Streams as maps
 use Rattle.msi_text_base.specs.declared.errors.ErrorKind.{ErrorKind}
 use Rattle.msi_text_base.specs.declared.errors.ErrorKind.TheVariants.{InvalidInput, NotFound}
-use Rattle.msi_text_places.specs.FirstFit.{most_places}
 use Rattle.msi_text_pool_base.specs.Pool.{Pool}
 use Rattle.msi_table_values.specs.declared.value.Value.{Value}
 use Rattle.msi_table_values.specs.declared.value.ValueRef.{ValueRef}
@@ -21,19 +17,21 @@ use Rattle.msi_database_schema.specs.System.{tables_name, columns_name, validati
 use Rattle.msi_database_changes.specs.Database.{Database, is_sound, table_at, rows_of}
 use Rattle.msi_database_changes.specs.Changes.{Change, no_change, pool_of, sound_refusal, with_stored}
 use Rattle.msi_database_cells.specs.Texts.{PoolInUse, UsedPool, in_use}
-use Rattle.msi_database_changes.specs.Create.{create_table, table_refusals, with_new_table}
+use Rattle.msi_database_changes.specs.Create.{create_at_width, table_refusals, with_new_table}
 use Rattle.msi_database_changes.specs.Insert.{cells_added, row_refusals, rows_inserted, table_with}
-use Rattle.msi_database_changes.specs.Laws.{created}
+use Rattle.msi_database_changes.proofs.AtWidthLemmas.{created}
 use Rattle.msi_database_changes.proofs.RefusedLemmas.{bind_ok, first_refused, not_refused, same_Ok, value_there}
 use Rattle.msi_database_changes.proofs.TurnLemmas.{map_some}
 use Rattle.msi_database_storage.specs.declared.storing.Stored.{Stored}
 use Rattle.msi_database_storage.specs.Kept.{Kept, kept_of, database_kept, with_table_kept}
 use Rattle.msi_database_storage.specs.Storing.{HaveOwnNames, tables_stored}
 use Rattle.msi_database_storage.specs.Streams.{Streams, stream_of_rows}
-use Rattle.msi_database.specs.Creating.{new_table, stream_gone, stream_with, streams_described}
+use Rattle.msi_database.specs.Creating.{new_table, stream_gone}
 use Rattle.msi_database.specs.Keeping.{AreKept, IsKeptDatabase}
 use Rattle.msi_database.specs.Listed.{IsKnown, tables_listed}
-use Rattle.msi_database.specs.Making.{Makes, TellsUse}
+use Rattle.msi_database.specs.Making.{TellsUse}
+use Rattle.msi_database.proofs.MakesAtLemmas.{MakesAt}
+use Rattle.msi_database.proofs.BothWidthsLemmas.{own_parts}
 use Rattle.msi_database.proofs.ChainLemmas.{create_by_steps, stays_at, third}
 use Rattle.msi_database.proofs.ComesLemmas.{describes, regular}
 use Rattle.msi_database.proofs.EditLemmas.{created_stored}
@@ -41,11 +39,25 @@ use Rattle.msi_database.proofs.FinishLemmas.{known_sound}
 use Rattle.msi_database.proofs.MadeLemmas.{found, goes_on, inserted_by_cells}
 use Rattle.msi_database.proofs.OwnNamesLemmas.{change_own_names, created_apart}
 use Rattle.msi_database.proofs.RefusedCallLemmas.{cells_full, create_barred, create_first_refused, create_second_refused, create_third_refused, inserted_misfit, inserted_missing, option_refused}
-use Rattle.msi_database.proofs.RowCallLemmas.{began_as, known_cells}
-use Rattle.msi_database.proofs.SoundLemmas.{sound_is}
-use Rattle.msi_database.proofs.StorableLemmas.{cells_can_store}
 use Rattle.msi_database.proofs.TableCallLemmas.{create_makes}
 use Rattle.msi_database.proofs.TablesKeptLemmas.{listed_kept}
+
+-- STEP BY STEP, with references of the width that there is
+
+-- a table's stream with new rows, and the pool after their texts were taken
+abbrev pub stream_with : Database → List ℕ → List (List Value) → PoolInUse → Result (Stored × PoolInUse) ErrorKind
+stream_with d name values pool = or_refused NotFound (table_at name d) >>=
+    λ t. unless_refused (row_refusals pool.places t values) t >>=
+    λ t. or_refused InvalidInput (option_map
+    (λ r. (record { name = table_key name; bytes = stream_of_rows d.pool.long t.columns r.0 }, r.1))
+    (cells_added d.pool.long t.columns pool (rows_of t) values))
+
+-- the streams of the system tables with the rows that describe a new table, whose own stream goes if one is left over
+abbrev pub streams_described : Database → List ℕ → List ColumnDef → PoolInUse → Result (List Stored × PoolInUse) ErrorKind
+streams_described d name columns pool = stream_with d columns_name (column_rows name columns) pool >>=
+    λ c. stream_with d tables_name (tables_row name ∷ []) c.1 >>=
+    λ t. stream_with d validation_name (validation_rows name columns) t.1 >>=
+    λ v. Ok (c.0 ∷ t.0 ∷ v.0 ∷ stream_gone name ∷ [], v.1)
 
 -- ANSWERS
 
@@ -60,7 +72,7 @@ both_ok (Err k) P Q R f p q = tt
 same_Err : {A : Type 0} (k l : ErrorKind) → ◌≡◌ {A = Result A ErrorKind} (Err k) (Err l) → k ≡ l
 same_Err k l e = cc
 
-bind_err : {A B P : Type 0} (r : Result A ErrorKind) (f : A → Result B ErrorKind) (k : ErrorKind) → (r >>= f) ≡ Err k → (r ≡ Err k → P) → ((x : A) → r ≡ Ok x → f x ≡ Err k → P) → P
+pub bind_err : {A B P : Type 0} (r : Result A ErrorKind) (f : A → Result B ErrorKind) (k : ErrorKind) → (r >>= f) ≡ Err k → (r ≡ Err k → P) → ((x : A) → r ≡ Ok x → f x ≡ Err k → P) → P
 bind_err (Ok x) f k e first then = then x refl e
 bind_err (Err l) f k e first then = first cc
 
@@ -123,70 +135,11 @@ module _ (d : Database) (name : List ℕ) (values : List (List Value)) (pool : P
     pub stream_refused : stream_with d name values pool ≡ Err k → IsRefusal (rows_inserted name values b) k
     stream_refused e = by_table (table_at name d) refl e
 
--- as a call makes it
-pub record RowsStored (k : Kept) (name : List ℕ) (t : TableDef) (values : List (List Value)) (before after : UsedPool) (all : List (List ValueRef)) : Type 0 where
-  pub can_store : CanStore t all
-  pub within : length after.pool.places ≤ most_places after.pool.long
-  pub made : (e : Stored) → e.name ≡ table_key t.name → e.bytes ≡ stream_of_rows t.long t.columns all → stream_with k.database name values (in_use before) ≡ Ok (e, in_use after)
-
-module _ (k : Kept) (kept : IsKeptDatabase k) (sound : is_sound k.database ≡ true) (name : List ℕ) (t : TableDef) (known : IsKnown k.database name t) (columns : List ColumnDef) (columns_are : columns ≡ t.columns)
-    (held : List (List ValueRef)) (at : table_at t.name k.database ≡ Some (table_with t.columns held)) (values : List (List Value)) (before : UsedPool) (same_long : before.pool.long ≡ k.database.pool.long)
-    (seen : Pool) (seen_is : seen ≡ before.pool) (rows_seen : List (List ValueRef)) (rows_are : rows_seen ≡ held) (values_seen : List (List Value)) (values_are : values_seen ≡ values)
-    (passed : first_refusal (row_refusals seen.places (table_with columns rows_seen) values_seen) ≡ None) where
-  abbrev d : Database
-  d = k.database
-
-  abbrev there : TableCells
-  there = table_with t.columns held
-
-  here : table_at name d ≡ Some there
-  here = known_cells d name t there known at
-
-  passes : first_refusal (row_refusals before.pool.places there values) ≡ None
-  passes =
-      let same : first_refusal (row_refusals seen.places (table_with columns rows_seen) values_seen) ≡ first_refusal (row_refusals before.pool.places there values)
-      = λ i. first_refusal (row_refusals (seen_is i).places (table_with (columns_are i) (rows_are i)) (values_are i)) in
-      sym same ∙ passed
-
-  abbrev rest : TableCells → Result (Stored × PoolInUse) ErrorKind
-  rest = last d name values (in_use before)
-
-  at_last : stream_with d name values (in_use before) ≡ rest there
-  at_last = found NotFound (table_at name d) there (λ u. unless_refused (row_refusals before.pool.places u values) u >>= rest) here
-      ∙ goes_on (row_refusals before.pool.places there values) there rest passes
-
-  abbrev cells_seen : Option (List (List ValueRef) × PoolInUse)
-  cells_seen = cells_added before.pool.long columns (in_use before) held values
-
-  cells_here : cells_seen ≡ cells_added d.pool.long t.columns (in_use before) held values
-  cells_here = λ i. cells_added (same_long i) (columns_are i) (in_use before) held values
-
-  pub rows_full : (kind : ErrorKind) → IsRefusal (or_refused InvalidInput cells_seen) kind → IsRefusal (stream_with d name values (in_use before)) kind
-  rows_full kind h = subst (λ (r : Result (Stored × PoolInUse) ErrorKind). IsRefusal r kind) (sym at_last)
-      (option_refused InvalidInput kind (store d name there) (cells_added d.pool.long t.columns (in_use before) held values)
-      (subst (λ (o : Option (List (List ValueRef) × PoolInUse)). IsRefusal (or_refused InvalidInput o) kind) cells_here h))
-
-  pub rows_stored : length before.pool.places ≤ most_places before.pool.long → (all : List (List ValueRef)) (after : UsedPool) → cells_seen ≡ Some (all, in_use after) → after.pool.long ≡ before.pool.long → RowsStored k name t values before after all
-  rows_stored within all after added long_stays =
-      let added_here : cells_added d.pool.long t.columns (in_use before) held values ≡ Some (all, in_use after) = sym cells_here ∙ added in
-      let fits : FitsTable d.pool.long (types_of t.columns) held = (regular k kept sound).fit name there here in
-      let within_here : length before.pool.places ≤ most_places d.pool.long = subst (λ long. length before.pool.places ≤ most_places long) same_long within in
-      let both = cells_can_store d.pool.long t.columns held (in_use before) values all (in_use after) fits within_here passes added_here in
-      record {
-        can_store = subst (λ long. FitsTable long (types_of t.columns) all) (sym known.long) both.0;
-        within = subst (λ long. length after.pool.places ≤ most_places long) (sym (long_stays ∙ same_long)) both.1;
-        made = λ e name_is bytes_is.
-            let whole : ◌≡◌ {A = Stored} (record { name = table_key name; bytes = stream_of_rows d.pool.long t.columns all }) e =
-            sym (λ i. record { name = (name_is ∙ ap table_key known.named) i; bytes = (bytes_is ∙ ap (λ long. stream_of_rows long t.columns all) known.long) i }) in
-            at_last ∙ ap (λ (o : Option (List (List ValueRef) × PoolInUse)). or_refused InvalidInput (option_map (store d name there) o)) added_here
-            ∙ ap (λ (e : Stored). Ok (e, in_use after)) whole;
-      }
-
 -- THE STREAMS OF A NEW TABLE
 
 pub record Creates (k : Kept) (name : List ℕ) (columns : List ColumnDef) (es : List Stored) (used : PoolInUse) : Type 0 where
-  pub makes : (new : Pool) → new ≡ record k.database.pool { places = used.places } → Makes k (create_table k.database name columns) new (with_table_kept (new_table k.database name columns) (tables_listed k.database)) es
-  pub tells : TellsUse (create_table k.database name columns) used.is_used
+  pub makes : (new : Pool) → new ≡ record k.database.pool { places = used.places } → MakesAt k (create_at_width k.database name columns) new (with_table_kept (new_table k.database name columns) (tables_listed k.database)) es
+  pub tells : TellsUse (create_at_width k.database name columns) used.is_used
   pub own : HaveOwnNames es
 
 module _ (d : Database) (name : List ℕ) (columns : List ColumnDef) (passed : first_refusal (sound_refusal d ++ table_refusals d name columns) ≡ None) where
@@ -226,7 +179,7 @@ module _ (d : Database) (name : List ℕ) (columns : List ColumnDef) (passed : f
       t_stays : table_at tables_name first.database ≡ table_at tables_name d
       t_stays = stays_at columns_name tables_name c_step.t.columns c_step.r.0 c_step.r.1 (no_change d) refl
 
-      refused_second : stream_with d tables_name t_rows c.1 ≡ Err k → IsRefusal (create_table d name columns) k
+      refused_second : stream_with d tables_name t_rows c.1 ≡ Err k → IsRefusal (create_at_width d name columns) k
       refused_second e = create_second_refused d name columns passed k first first_is (stream_refused d tables_name t_rows c.1 first t_stays pool_first refl k e)
 
       module _ (t : Stored × PoolInUse) (t_step : Stepped d tables_name t_rows c.1 t) where
@@ -242,14 +195,14 @@ module _ (d : Database) (name : List ℕ) (columns : List ColumnDef) (passed : f
         v_stays = stays_at tables_name validation_name t_step.t.columns t_step.r.0 t_step.r.1 first refl
             ∙ stays_at columns_name validation_name c_step.t.columns c_step.r.0 c_step.r.1 (no_change d) refl
 
-        refused_third : stream_with d validation_name v_rows t.1 ≡ Err k → IsRefusal (create_table d name columns) k
+        refused_third : stream_with d validation_name v_rows t.1 ≡ Err k → IsRefusal (create_at_width d name columns) k
         refused_third e = create_third_refused d name columns passed k first first_is second second_is
             (stream_refused d validation_name v_rows t.1 second v_stays (ap (λ (x : Stored × PoolInUse). x.1) t_step.is) refl k e)
 
-    refused_one : stream_with d columns_name c_rows start ≡ Err k → IsRefusal (create_table d name columns) k
+    refused_one : stream_with d columns_name c_rows start ≡ Err k → IsRefusal (create_at_width d name columns) k
     refused_one e = create_first_refused d name columns passed k (stream_refused d columns_name c_rows start (no_change d) refl refl refl k e)
 
-    pub streams_refused : IsRefusal (streams_described d name columns start) k → IsRefusal (create_table d name columns) k
+    pub streams_refused : IsRefusal (streams_described d name columns start) k → IsRefusal (create_at_width d name columns) k
     streams_refused (inl memory) = inl memory
     streams_refused (inr e) =
         bind_err (stream_with d columns_name c_rows start) second_step k e refused_one (λ c c_is e.
@@ -279,7 +232,7 @@ module _ (pool : Pool) (tables : List TableDef) (streams : Streams) (kept : AreK
     abbrev after : Change
     after = with_new_table name columns (third was name columns c t v c_at t_at v_at one two three)
 
-    made : create_table was name columns ≡ Ok after
+    made : create_at_width was name columns ≡ Ok after
     made = create_by_steps was name columns c t v c_at t_at v_at one two three passed p₁ e₁ p₂ e₂ p₃ e₃
 
     edits : made_of ≡ tables_stored after.database after.stored
@@ -288,7 +241,7 @@ module _ (pool : Pool) (tables : List TableDef) (streams : Streams) (kept : AreK
 
     pub creates_made : Creates old name columns made_of three.1
     creates_made = record {
-      makes = λ new new_is. subst (λ (ts : List TableDef). Makes old (create_table was name columns) new (with_table_kept (new_table was name columns) ts) made_of) (sym (listed_kept pool tables streams kept.as_long))
+      makes = λ new new_is. subst (λ (ts : List TableDef). MakesAt old (create_at_width was name columns) new (with_table_kept (new_table was name columns) ts) made_of) (sym (listed_kept pool tables streams kept.as_long))
           (create_makes pool tables streams kept name columns c t v c_at t_at v_at one two three passed p₁ e₁ p₂ e₂ p₃ e₃ new made_of new_is refl);
       tells = subst (λ (r : Result Change ErrorKind). TellsUse r three.1.is_used) (sym made) refl;
       own = subst HaveOwnNames (sym edits) (change_own_names old after kept.kept (known_sound pool tables streams kept) (inr (created name columns made)));
@@ -317,43 +270,11 @@ module _ (pool : Pool) (tables : List TableDef) (streams : Streams) (kept : AreK
         subst (λ (x : List Stored × PoolInUse). Creates old name columns x.0 x.1) (same_Ok (c.0 ∷ t.0 ∷ v.0 ∷ stream_gone name ∷ [], v.1) (es, used) e)
         (by_steps c (stepped was columns_name (column_rows name columns) start c c_is) t (stepped was tables_name (tables_row name ∷ []) c.1 t t_is) v (stepped was validation_name (validation_rows name columns) t.1 v v_is)))))
 
--- FROM WHAT A CALL KNOWS
+-- OF ANY KEPT DATABASE
 
-pub pool_within : (d : Database) → is_sound d ≡ true → (before : UsedPool) → before ≡ record { pool = d.pool; is_used = false } → length before.pool.places ≤ most_places before.pool.long
-pool_within d sound before began = subst (λ (u : UsedPool). length u.pool.places ≤ most_places u.pool.long) (sym began) (leb-true (length d.pool.places) (most_places d.pool.long) (sound_is d sound).fits)
-
-module _ (pool : Pool) (tables : List TableDef) (m : maps.Streams) (known : Bool) (kept : AreKept pool tables (entries m) known) (k : Kept) (view : kept_of pool tables (entries m) ≡ k)
-    (cloned : Pool) (cloned_is : cloned ≡ pool) (before : UsedPool) (before_is : before ≡ record { pool = cloned; is_used = false }) where
-  pub call_began : before ≡ record { pool = k.database.pool; is_used = false }
-  call_began = began_as k.database.pool before cloned before_is (cloned_is ∙ ap (λ (k : Kept). k.database.pool) view)
-
-  start_is : in_use before ≡ pool_of (no_change k.database)
-  start_is = ap in_use call_began
-
-  module _ (sound : is_sound k.database ≡ true) (name : List ℕ) (columns seen : List ColumnDef) (seen_is : seen ≡ columns) (x : Unit {0}) (answer : Ok x ≡ unless_refused (sound_refusal k.database ++ table_refusals k.database name seen) tt) where
-    passed_here : first_refusal (sound_refusal k.database ++ table_refusals k.database name columns) ≡ None
-    passed_here = subst (λ (cs : List ColumnDef). first_refusal (sound_refusal k.database ++ table_refusals k.database name cs) ≡ None) seen_is
-        (not_refused (sound_refusal k.database ++ table_refusals k.database name seen) tt x (sym answer)).0
-
-    pub call_refused : (seen₂ : List ColumnDef) → seen₂ ≡ columns → (kind : ErrorKind) → IsRefusal (streams_described k.database name seen₂ (in_use before)) kind → IsRefusal (create_table k.database name columns) kind
-    call_refused seen₂ same kind h = streams_refused k.database name columns passed_here kind
-        (let e : streams_described k.database name seen₂ (in_use before) ≡ streams_described k.database name columns (pool_of (no_change k.database)) = λ i. streams_described k.database name (same i) (start_is i) in
-        subst (λ (r : Result (List Stored × PoolInUse) ErrorKind). IsRefusal r kind) e h)
-
-    pub call_creates : (seen₂ : List ColumnDef) → seen₂ ≡ columns → (es : List Stored) (used : PoolInUse) → streams_described k.database name seen₂ (in_use before) ≡ Ok (es, used) → Creates k name columns es used
-    call_creates seen₂ same es used made =
-        let e : streams_described k.database name seen₂ (in_use before) ≡ streams_described k.database name columns (pool_of (no_change k.database)) = λ i. streams_described k.database name (same i) (start_is i) in
-        subst (λ (k : Kept). is_sound k.database ≡ true → first_refusal (sound_refusal k.database ++ table_refusals k.database name columns) ≡ None → streams_described k.database name columns (pool_of (no_change k.database)) ≡ Ok (es, used) → Creates k name columns es used) view
-        (λ sound passed made. creates_old pool tables (entries m) (subst (AreKept pool tables (entries m)) (kept.known ∙ sound) kept) name columns passed es used made)
-        sound passed_here (sym e ∙ made)
-
-    pub call_pool : (after : UsedPool) (new : Pool) → after.pool.page ≡ before.pool.page → after.pool.long ≡ before.pool.long → new ≡ after.pool → new ≡ record k.database.pool { places = (in_use after).places }
-    call_pool after new page long new_is = new_is ∙ (λ i. record {
-      page = (page ∙ ap (λ (u : UsedPool). u.pool.page) call_began) i;
-      long = (long ∙ ap (λ (u : UsedPool). u.pool.long) call_began) i;
-      places = after.pool.places;
-    })
-
-pub call_barred : (d : Database) (name : List ℕ) (columns seen : List ColumnDef) → seen ≡ columns → (kind : ErrorKind) → Err kind ≡ unless_refused {A = Unit {0}} (sound_refusal d ++ table_refusals d name seen) tt → IsRefusal (create_table d name columns) kind
-call_barred d name columns seen same kind e = create_barred d name columns kind
-    (subst (λ (cs : List ColumnDef). IsRefusal {A = Unit {0}} (unless_refused (sound_refusal d ++ table_refusals d name cs) tt) kind) same (inr (sym e)))
+pub creates_at : (k : Kept) → IsKeptDatabase k → (sound : is_sound k.database ≡ true) (name : List ℕ) (columns : List ColumnDef) → first_refusal (sound_refusal k.database ++ table_refusals k.database name columns) ≡ None
+    → (es : List Stored) (used : PoolInUse) → streams_described k.database name columns (pool_of (no_change k.database)) ≡ Ok (es, used) → Creates k name columns es used
+creates_at k kept sound name columns =
+    let parts = own_parts k kept sound in
+    subst (λ (x : Kept). first_refusal (sound_refusal x.database ++ table_refusals x.database name columns) ≡ None → (es : List Stored) (used : PoolInUse) → streams_described x.database name columns (pool_of (no_change x.database)) ≡ Ok (es, used) → Creates x name columns es used)
+    parts.0 (creates_old k.database.pool (tables_listed k.database) k.streams parts.1 name columns)

@@ -1,8 +1,10 @@
 -- A drop: what a call has in hand at its end is what the drop leaves.
-use Rattle.std.proofs.Common.{◌≡◌, ℕ, Bool, true, false, not, List, [], ◌∷◌, ◌++◌, filter, Option, Some, None, Result, Ok, refl, sym, ap, ap₂, subst, ◌∙◌, inr}
+use Rattle.std.proofs.Common.{◌≡◌, ℕ, ◌≤◌, length, Bool, true, false, not, List, [], ◌∷◌, ◌++◌, filter, Option, Some, None, Result, Ok, refl, sym, ap, ap₂, subst, ◌∙◌, inr}
 use Rattle.std.specs.Option.{option_map_or}
 use Rattle.msi_text_base.specs.declared.errors.ErrorKind.{ErrorKind}
 use Rattle.msi_text_base.proofs.OptionLemmas.{map_some}
+use Rattle.std.proofs.lemmas.Bool.{leb-true}
+use Rattle.msi_text_places.specs.FirstFit.{most_places}
 use Rattle.msi_text_pool_base.specs.Pool.{Pool}
 use Rattle.msi_table_values.specs.declared.value.ValueRef.{ValueRef}
 use Rattle.msi_table.specs.Tables.{TableDef, CanStore}
@@ -13,10 +15,10 @@ use Rattle.msi_database_schema.specs.Keys.{is_table_name, table_key}
 use Rattle.msi_database_schema.specs.System.{is_system_table, tables_name, columns_name, validation_name, tables_columns, columns_columns}
 use Rattle.msi_database_changes.specs.Database.{Database, is_sound, table_at, rows_of}
 use Rattle.msi_database_changes.specs.Changes.{Change, no_change, pool_of}
-use Rattle.msi_database_cells.specs.Texts.{PoolInUse, UsedPool, in_use, rows_released}
+use Rattle.msi_database_cells.specs.Texts.{PoolInUse, UsedPool, in_use, rows_released, settled}
 use Rattle.msi_database_changes.specs.Insert.{table_with}
 use Rattle.msi_database_changes.specs.Drop.{drop_table, is_row_about}
-use Rattle.msi_database_changes.specs.Laws.{dropped}
+use Rattle.msi_database_changes.proofs.AtWidthLemmas.{dropped}
 use Rattle.msi_database_changes.proofs.DescribingLemmas.{describing}
 use Rattle.msi_database_changes.proofs.SchemaKeptLemmas.{shown_table}
 use Rattle.msi_database_storage.specs.Streams.{Streams, stream_of_rows}
@@ -26,6 +28,9 @@ use Rattle.msi_database_storage.specs.Kept.{Kept, kept_of, database_kept, withou
 use Rattle.msi_database.specs.Keeping.{AreKept, IsKeptDatabase, HasFittingRows}
 use Rattle.msi_database.specs.Listed.{IsKnown, tables_listed}
 use Rattle.msi_database.specs.Making.{Makes, TellsUse}
+use Rattle.msi_database.proofs.KeepingLemmas.{change_comes}
+use Rattle.msi_database.proofs.MakesAtLemmas.{MakesAt, lift_same, settled_same}
+use Rattle.msi_database.proofs.SoundLemmas.{sound_is}
 use Rattle.msi_database.specs.Dropping.{about_given_back, own_stream, rows_given_back, system_stream}
 use Rattle.msi_database.proofs.WholeLemmas.{found_holds}
 use Rattle.msi_database.proofs.ComesLemmas.{describes}
@@ -35,7 +40,7 @@ use Rattle.msi_database.proofs.EditLemmas.{dropped_stored, dropped_unvalidated}
 use Rattle.msi_database.proofs.FinishLemmas.{known_sound}
 use Rattle.msi_database.proofs.ChainLemmas.{drop_by_steps, drop_by_two_steps, drop_passes, dropped_apart}
 use Rattle.msi_database.proofs.StorableLemmas.{fewer_can_store}
-use Rattle.msi_database.proofs.RowCallLemmas.{began_as, known_cells}
+use Rattle.msi_database.proofs.RowCallLemmas.{began_as, known_cells, rows_released_as_many}
 use Rattle.msi_database.proofs.TableCallLemmas.{drop_makes, drop_makes_unvalidated}
 
 -- WHAT CAN BE STORED
@@ -124,7 +129,7 @@ began_by k pool cloned cloned_is pool_is u v u_is name t known es fs given page 
 -- WHAT THEY MAKE
 
 pub record DropMade (k : Kept) (name : List ℕ) (new : Pool) (tables : List TableDef) (es : List Stored) (used : Bool) : Type 0 where
-  pub makes : Makes k (drop_table k.database name) new tables es
+  pub makes : MakesAt k (drop_table k.database name) new tables es
   pub tells : TellsUse (drop_table k.database name) used
   pub names : HaveOwnNames es
 
@@ -138,7 +143,7 @@ module _ (pool : Pool) (tables : List TableDef) (streams : Streams) (kept : AreK
   sound : is_sound d ≡ true
   sound = known_sound pool tables streams kept
 
-  made_of : (new : Pool) (es : List Stored) (used : Bool) (c : Change) → drop_table d name ≡ Ok c → Makes old (drop_table d name) new (without_table_kept name tables) es → used ≡ c.is_pool_used → es ≡ tables_stored c.database c.stored
+  made_of : (new : Pool) (es : List Stored) (used : Bool) (c : Change) → drop_table d name ≡ Ok c → MakesAt old (drop_table d name) new (without_table_kept name tables) es → used ≡ c.is_pool_used → es ≡ tables_stored c.database c.stored
       → DropMade old name new (without_table_kept name tables) es used
   made_of new es used c made makes used_is edit = record {
     makes = makes;
@@ -214,11 +219,11 @@ module _ (pool : Pool) (tables : List TableDef) (streams : Streams) (known : Boo
       (drop_made pool tables streams (subst (AreKept pool tables streams) (kept.known ∙ sound) kept) name gone free named at new new_is))
 
   -- by the pool and the streams at the end
-  pub drop_called : is_sound k.database ≡ true → is_system_table name ≡ false → is_table_name name ≡ true → (t : TableDef) → IsKnown k.database name t → (after : UsedPool) (es : List Stored)
+  called_at : is_sound k.database ≡ true → is_system_table name ≡ false → is_table_name name ≡ true → (t : TableDef) → IsKnown k.database name t → (after : UsedPool) (es : List Stored)
       → Went k.database after es (all_given_back k.database name) (all_streams k.database name)
       → (new : Pool) → new ≡ after.pool → (now : List TableDef) → now ≡ without_table_kept name (tables_listed k.database) → (used : Bool) → used ≡ after.is_used
       → DropMade k name new now es used
-  drop_called sound free named t is_known after es went new new_is now now_is used used_is =
+  called_at sound free named t is_known after es went new new_is now now_is used used_is =
       let whole : after.pool ≡ record k.database.pool { places = (all_given_back k.database name).places } = λ i. record {
         page = went.page i;
         long = went.long i;
@@ -229,3 +234,36 @@ module _ (pool : Pool) (tables : List TableDef) (streams : Streams) (known : Boo
       subst (λ (ts : List TableDef). DropMade k name new ts es used) (sym now_is)
       (subst (λ (es : List Stored). DropMade k name new (without_table_kept name (tables_listed k.database)) es used) (sym went.stored)
       (subst (DropMade k name new (without_table_kept name (tables_listed k.database)) (all_streams k.database name)) (sym (used_is ∙ ap (λ (u : PoolInUse). u.is_used) went.pool)) base))
+
+  given_many : (o : Option TableCells) (f : TableCells → List (List ValueRef)) (used : PoolInUse) → length (option_map_or (λ t. rows_released used (f t)) o used).places ≡ length used.places
+  given_many None f used = refl
+  given_many (Some t) f used = rows_released_as_many used (f t)
+
+  -- no place goes
+  all_many : length (all_given_back k.database name).places ≡ length k.database.pool.places
+  all_many =
+      let d = k.database in
+      let about = λ (t : TableCells). filter (is_row_about d.pool.places name) (rows_of t) in
+      let u0 = rows_given_back d name (pool_of (no_change d)) in
+      let u1 = about_given_back d name validation_name u0 in
+      let u2 = about_given_back d name columns_name u1 in
+      given_many (table_at tables_name d) about u2 ∙ given_many (table_at columns_name d) about u1 ∙ given_many (table_at validation_name d) about u0 ∙ given_many (table_at name d) rows_of (pool_of (no_change d))
+
+  pub record DropLeft (new : Pool) (now : List TableDef) (es : List Stored) (used : Bool) : Type 0 where
+    pub makes : Makes k (drop_table k.database name) k new now es
+    pub tells : TellsUse (drop_table k.database name) used
+    pub names : HaveOwnNames es
+
+  pub drop_called : is_sound k.database ≡ true → is_system_table name ≡ false → is_table_name name ≡ true → (t : TableDef) → IsKnown k.database name t → (after : UsedPool) (es : List Stored)
+      → Went k.database after es (all_given_back k.database name) (all_streams k.database name)
+      → (new : Pool) → new ≡ settled after.pool → (now : List TableDef) → now ≡ without_table_kept name (tables_listed k.database) → (used : Bool) → used ≡ after.is_used
+      → DropLeft new now es used
+  drop_called sound free named t is_known after es went new new_is now now_is used used_is =
+      let many : length after.pool.places ≡ length k.database.pool.places = ap (λ (u : PoolInUse). length u.places) went.pool ∙ all_many in
+      let fits : length k.database.pool.places ≤ most_places k.database.pool.long = leb-true (length k.database.pool.places) (most_places k.database.pool.long) (sound_is k.database sound).fits in
+      let few : length after.pool.places ≤ most_places after.pool.long = subst (λ l. length after.pool.places ≤ most_places l) (sym went.long) (subst (λ n. n ≤ most_places k.database.pool.long) (sym many) fits) in
+      let made = called_at sound free named t is_known after es went new (new_is ∙ settled_same after.pool few) now now_is used used_is in record {
+        makes = lift_same k new now es (drop_table k.database name) (λ c e. (change_comes k c (subst IsKeptDatabase view kept.kept) sound (inr (dropped name e))).tracks.long) made.makes;
+        tells = made.tells;
+        names = made.names;
+      }

@@ -1,8 +1,10 @@
 -- First rows of tables, one after the other: what the calls of a new database make is `fresh`.
+use Rattle.msi_database_changes.proofs.TurnLemmas.{map_some as some_mapped}
+use Rattle.msi_database_cells.proofs.NarrowLemmas.{rows_put_extends}
 use Rattle.std.proofs.Common.{◌≡◌, ℕ, Bool, true, false, ◌&&◌, List, [], ◌∷◌, ◌++◌, length, Option, Some, None, is_some, Result, Ok, Err, IfErr, refl, sym, ap, ap₂, subst, ◌∙◌, option_map, inl, inr, arith, nat_lt, nat_le}
 use Rattle.std.specs.Prelude.{IfOk, IsSomeAnd, option_and_then, unwrap_or}
 use Rattle.std.specs.List.{list_all}
-use Rattle.std.proofs.lemmas.Bool.{and_parts}
+use Rattle.std.proofs.lemmas.Bool.{and_parts, true≢false}
 use Rattle.std.proofs.lemmas.Bool.Decides.{nat_tests}
 use Rattle.std.proofs.lemmas.Option.{same_Some}
 use Rattle.msi_text_base.specs.declared.errors.ErrorKind.{ErrorKind}
@@ -56,6 +58,31 @@ only_memory (Ok x) o some h = tt
 only_memory (Err k) None some h = cc
 only_memory (Err k) (Some x) some (inl m) = m
 only_memory (Err k) (Some x) some (inr e) = cc
+
+-- what finds room with narrower references is taken alike with those of three bytes
+cells_extend : (long : Bool) (columns : List ColumnDef) (pool : PoolInUse) (rows : List (List ValueRef)) (values : List (List Value)) (r : List (List ValueRef) × PoolInUse)
+    → cells_added long columns pool rows values ≡ Some r → cells_added true columns pool rows values ≡ Some r
+cells_extend long columns pool rows values r e =
+    some_mapped (λ (r : List (List ValueRef) × PoolInUse). (in_key_order columns r.1.places (rows ++ r.0), r.1)) (rows_put long pool values) r e
+    (λ x put is. ap (option_map (λ (r : List (List ValueRef) × PoolInUse). (in_key_order columns r.1.places (rows ++ r.0), r.1))) (rows_put_extends long pool values x put) ∙ ap Some is)
+
+some_there : (long : Bool) (columns : List ColumnDef) (pool : PoolInUse) (rows : List (List ValueRef)) (values : List (List Value)) (o : Option (List (List ValueRef) × PoolInUse))
+    → cells_added long columns pool rows values ≡ o → is_some o ≡ true → is_some (cells_added true columns pool rows values) ≡ true
+some_there long columns pool rows values None e some = absurd (true≢false (sym some))
+some_there long columns pool rows values (Some r) e some = ap is_some (cells_extend long columns pool rows values r e)
+
+pub still_some : (long : Bool) (columns : List ColumnDef) (pool : PoolInUse) (rows : List (List ValueRef)) (values : List (List Value)) → is_some (cells_added long columns pool rows values) ≡ true
+    → is_some (cells_added true columns pool rows values) ≡ true
+still_some long columns pool rows values some = some_there long columns pool rows values (cells_added long columns pool rows values) refl some
+
+same_by : (long : Bool) (columns : List ColumnDef) (pool : PoolInUse) (rows : List (List ValueRef)) (values : List (List Value)) (o : Option (List (List ValueRef) × PoolInUse)) (r : List (List ValueRef) × PoolInUse)
+    → cells_added long columns pool rows values ≡ o → is_some o ≡ true → cells_added true columns pool rows values ≡ Some r → o ≡ Some r
+same_by long columns pool rows values None r e some h = absurd (true≢false (sym some))
+same_by long columns pool rows values (Some x) r e some h = sym (cells_extend long columns pool rows values x e) ∙ h
+
+pub taken_alike : (long : Bool) (columns : List ColumnDef) (pool : PoolInUse) (rows : List (List ValueRef)) (values : List (List Value)) → is_some (cells_added long columns pool rows values) ≡ true
+    → (r : List (List ValueRef) × PoolInUse) → cells_added true columns pool rows values ≡ Some r → cells_added long columns pool rows values ≡ Some r
+taken_alike long columns pool rows values some r h = same_by long columns pool rows values (cells_added long columns pool rows values) r refl some h
 
 -- a table that began without rows
 pub first_added : {A : Type 0} (items : A → List (List ValueRef)) (r : Result A ErrorKind) (long : Bool) (columns : List ColumnDef) (pool after : PoolInUse) (rows : List (List ValueRef)) (values : List (List Value)) → rows ≡ []

@@ -1,10 +1,13 @@
 -- The parts of a new database are kept, and make `fresh`.
-use Rattle.std.proofs.Common.{◌≡◌, ℕ, true, false, List, [], ◌∷◌, refl, sym, ap, subst, ◌∙◌}
+use Rattle.std.proofs.Common.{◌≡◌, ◌≤◌, ℕ, length, true, false, List, [], ◌∷◌, refl, sym, ap, subst, ◌∙◌}
 use Rattle.std.specs.FinMap.{empty, entries, len, len-empty, len-entries}
 use Rattle.std.proofs.lemmas.List.{nil_from_length}
 use Rattle.msi_container_format.specs.Names.{name_cmp}
 use Rattle.msi_container_format.specs.Streams as maps
+use Rattle.std.proofs.lemmas.Bool.{leb-true}
+use Rattle.msi_text_places.specs.FirstFit.{most_places}
 use Rattle.msi_text_pool_base.specs.Pool.{Pool}
+use Rattle.msi_database_cells.specs.Texts.{settled}
 use Rattle.msi_table_values.specs.Columns.{ColumnDef}
 use Rattle.msi_table.specs.Tables.{TableDef}
 use Rattle.msi_database_schema.specs.System.{columns_columns, columns_name, tables_columns, tables_name, validation_columns, validation_name}
@@ -21,7 +24,9 @@ use Rattle.msi_database.proofs.EditLemmas.{tables_stored_in}
 use Rattle.msi_database.proofs.FreshLemmas.{fresh_is_kept}
 use Rattle.msi_database.proofs.FreshMadeLemmas.{have_own_names}
 use Rattle.msi_database.proofs.FreshStepLemmas.{columns_long, tables_long, validation_long}
-use Rattle.msi_database.proofs.PartsLemmas.{parts_make}
+use Rattle.msi_database.proofs.MakesAtLemmas.{settled_same}
+use Rattle.msi_database.proofs.PartsLemmas.{kept_parts}
+use Rattle.msi_database.proofs.SoundLemmas.{sound_is}
 
 -- THE TABLES
 
@@ -39,21 +44,6 @@ validation_made t cs e f = e ∙ ap (λ (cs : List ColumnDef). record { name = v
 
 abbrev system : List TableDef
 system = columns_table ∷ tables_table ∷ validation_table ∷ []
-
--- ANY KEPT DATABASE WHOSE TABLES ARE LISTED
-
-kept_parts : (k : Kept) (tables : List TableDef) → IsKeptDatabase k → is_sound k.database ≡ true → schema_listed tables ≡ columns_by_name k.database → AreAsLong k.database.pool.long tables
-    → AreParts k k.database.pool tables k.streams
-kept_parts k tables kept sound listed as_long =
-    let made : database_kept k.database.pool tables k.streams ≡ k.database = parts_make k.streams k.database tables kept.spelled listed in
-    let same : kept_of k.database.pool tables k.streams ≡ k = λ i. record { database = made i; streams = k.streams } in (
-      same,
-      record {
-        kept = subst IsKeptDatabase (sym same) kept;
-        as_long = as_long;
-        known = sym (ap is_sound made ∙ sound);
-      },
-    )
 
 -- BY COMPUTATION
 
@@ -108,3 +98,10 @@ fresh_parts pool c t v tables m n items pool_is c_is t_is v_is tables_are none i
     (subst (λ (p : Pool). AreParts whole p tables (entries n)) (sym (pool_is ∙ whole_pool))
     (subst (λ (ts : List TableDef). AreParts whole whole.database.pool ts (entries n)) system_is
     (subst (λ (s : Streams). AreParts whole whole.database.pool system s) streams (kept_parts whole system whole_kept whole_sound whole_listed whole_as_long))))
+
+-- two bytes suffice for its references
+pub fresh_settled : settled fresh_pool ≡ fresh_pool
+fresh_settled =
+    let fits : length fresh_pool.places ≤ most_places fresh_pool.long = subst (λ (p : Pool). length p.places ≤ most_places p.long) (sym whole_pool)
+    (leb-true (length whole.database.pool.places) (most_places whole.database.pool.long) (sound_is whole.database whole_sound).fits) in
+    settled_same fresh_pool fits

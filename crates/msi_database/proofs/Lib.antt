@@ -51,3 +51,9 @@ pub mod FreshStepLemmas
 pub mod FreshMadeLemmas
 pub mod FreshKeptLemmas
 pub mod UpdateCallLemmas
+pub mod WideningLemmas
+pub mod WideningCallLemmas
+pub mod BothWidthsLemmas
+pub mod WideRefusalLemmas
+pub mod MakesAtLemmas
+pub mod CreatedAnewLemmas

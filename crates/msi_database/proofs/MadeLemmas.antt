@@ -18,10 +18,10 @@ use Rattle.msi_database_changes.specs.Database.{Database, is_sound, table_at, ro
 use Rattle.msi_database_changes.specs.Changes.{Change, no_change, pool_of, with_stored, sound_refusal}
 use Rattle.msi_database_cells.specs.Texts.{PoolInUse, in_turn, rows_put}
 use Rattle.msi_table.specs.KeyOrder.{in_key_order}
-use Rattle.msi_database_changes.specs.Insert.{cells_added, insert_rows, rows_inserted, rows_added, row_refusals}
-use Rattle.msi_database_changes.specs.Update.{update_rows, update_refusals, is_update_barred, row_updated, rows_updated}
+use Rattle.msi_database_changes.specs.Insert.{cells_added, insert_at_width, rows_inserted, rows_added, row_refusals}
+use Rattle.msi_database_changes.specs.Update.{update_at_width, update_refusals, is_update_barred, row_updated, rows_updated}
 use Rattle.msi_database_changes.specs.Delete.{delete_rows, rows_deleted}
-use Rattle.msi_database_changes.specs.Create.{create_table, table_refusals, with_new_table}
+use Rattle.msi_database_changes.specs.Create.{create_at_width, table_refusals, with_new_table}
 
 -- a first refusal of a sound database, of two that are tested
 pub both_pass : (a b : Bool) (kind other : ErrorKind) → a ≡ true → b ≡ false → first_refusal ((not a, kind) ∷ (b, other) ∷ []) ≡ None
@@ -56,7 +56,7 @@ inserted_by_cells b name t values all used at passed put =
 
 pub insert_made : (d : Database) (q : InsertQuery) (t : TableCells) (r : List (List ValueRef) × PoolInUse) → is_sound d ≡ true → is_system_table q.table ≡ false → table_at q.table d ≡ Some t
     → first_refusal (row_refusals d.pool.places t q.rows) ≡ None → rows_put d.pool.long (pool_of (no_change d)) q.rows ≡ Some r
-    → insert_rows d q ≡ Ok (with_stored q.table t.columns (in_key_order t.columns r.1.places (rows_of t ++ r.0)) r.1 (no_change d))
+    → insert_at_width d q ≡ Ok (with_stored q.table t.columns (in_key_order t.columns r.1.places (rows_of t ++ r.0)) r.1 (no_change d))
 insert_made d q t r sound free at passed put =
     goes_on (sound_refusal d ++ (is_system_table q.table, InvalidInput) ∷ []) (no_change d) (rows_inserted q.table q.rows) (both_pass (is_sound d) (is_system_table q.table) InvalidData InvalidInput sound free)
     ∙ inserted_made (no_change d) q.table t q.rows r at passed put
@@ -65,7 +65,7 @@ insert_made d q t r sound free at passed put =
 
 pub update_made : (d : Database) (q : UpdateQuery) (t : TableCells) (r : List (List ValueRef) × PoolInUse) → is_sound d ≡ true → is_update_barred q ≡ false → table_at q.table d ≡ Some t
     → first_refusal (update_refusals d.pool.places t q) ≡ None → in_turn (row_updated d.pool.long d.pool.places t.columns q) (pool_of (no_change d)) (rows_of t) ≡ Some r
-    → update_rows d q ≡ Ok (with_stored q.table t.columns r.0 r.1 (no_change d))
+    → update_at_width d q ≡ Ok (with_stored q.table t.columns r.0 r.1 (no_change d))
 update_made d q t r sound free at passed put =
     goes_on (sound_refusal d ++ (is_update_barred q, InvalidInput) ∷ []) (no_change d)
     (λ c. or_refused NotFound (table_at q.table d) >>= λ t. unless_refused (update_refusals d.pool.places t q) t >>= λ t. or_refused InvalidInput (rows_updated t q c))
@@ -90,7 +90,7 @@ pub create_made : (d : Database) (name : List ℕ) (columns : List ColumnDef) (f
     → rows_inserted columns_name (column_rows name columns) (no_change d) ≡ Ok first
     → rows_inserted tables_name ((Str name ∷ []) ∷ []) first ≡ Ok second
     → rows_inserted validation_name (validation_rows name columns) second ≡ Ok third
-    → create_table d name columns ≡ Ok (with_new_table name columns third)
+    → create_at_width d name columns ≡ Ok (with_new_table name columns third)
 create_made d name columns first second third passed one two three =
     let start : Result Change ErrorKind = unless_refused (sound_refusal d ++ table_refusals d name columns) (no_change d) in
     let began : start ≡ Ok (no_change d) = ap (λ (o : Option ErrorKind). unless o (no_change d)) passed in

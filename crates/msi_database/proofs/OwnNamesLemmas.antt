@@ -13,9 +13,9 @@ use Rattle.msi_database_schema.specs.Description.{column_rows, validation_rows}
 use Rattle.msi_database_schema.proofs.FaultLemmas.{texts_flip}
 use Rattle.msi_database_changes.specs.Database.{Database, table_at, has_table, is_sound}
 use Rattle.msi_database_changes.specs.Changes.{Change, no_change}
-use Rattle.msi_database_changes.specs.Create.{create_table, table_refusals}
+use Rattle.msi_database_changes.specs.Create.{create_at_width, table_refusals}
 use Rattle.msi_database_changes.specs.Drop.{drop_table, rows_forgotten, table_released}
-use Rattle.msi_database_changes.specs.Laws.{IsChange, IsTableChange, inserted, updated, deleted, created, dropped}
+use Rattle.msi_database_changes.proofs.AtWidthLemmas.{IsChangeAtWidth, IsTableChangeAtWidth, inserted, updated, deleted, created, dropped}
 use Rattle.msi_database_changes.proofs.RefusedLemmas.{none_holds}
 use Rattle.msi_database_changes.proofs.InsertedLemmas.{Inserted, inserted_parts}
 use Rattle.msi_database_changes.proofs.InsertLemmas.{insert_parts}
@@ -52,7 +52,7 @@ has_value : (o : Option TableCells) → is_some o ≡ true → (t : TableCells) 
 has_value None e = cc
 has_value (Some t) e = (t, refl)
 
-module _ (d : Database) (before : schema_of (describing d) ≡ Some (shown d)) (name : List ℕ) (columns : List ColumnDef) (c : Change) (e : create_table d name columns ≡ Ok c) where
+module _ (d : Database) (before : schema_of (describing d) ≡ Some (shown d)) (name : List ℕ) (columns : List ColumnDef) (c : Change) (e : create_at_width d name columns ≡ Ok c) where
   created_names : c.stored ≡ columns_name ∷ tables_name ∷ validation_name ∷ name ∷ []
   created_names =
       let r = steps.created d name columns c e in
@@ -112,12 +112,12 @@ alone_apart : (c : Change) (name : List ℕ) → c.stored ≡ name ∷ [] → Ar
 alone_apart c name e = subst AreApart (sym e) (refl, tt)
 
 module _ (k : Kept) (c : Change) (h : IsKeptDatabase k) (sound : is_sound k.database ≡ true) where
-  change_apart : IsChange k.database c ⊎ IsTableChange k.database c → AreApart c.stored
+  change_apart : IsChangeAtWidth k.database c ⊎ IsTableChangeAtWidth k.database c → AreApart c.stored
   change_apart (inl (inserted q e)) = alone_apart c q.table (ap (λ (x : Change). x.stored) (sym (insert_parts k.database q c e).1.stored))
   change_apart (inl (updated q e)) = alone_apart c q.table (ap (λ (x : Change). x.stored) (sym (update_parts k.database q c e).stored))
   change_apart (inl (deleted q e)) = alone_apart c q.table (ap (λ (x : Change). x.stored) (sym (delete_parts k.database q c e).stored))
   change_apart (inr (created name columns e)) = create_apart k.database (describes k h sound) name columns c e
   change_apart (inr (dropped name e)) = drop_apart k.database name c e
 
-  pub change_own_names : IsChange k.database c ⊎ IsTableChange k.database c → HaveOwnNames (tables_stored c.database c.stored)
+  pub change_own_names : IsChangeAtWidth k.database c ⊎ IsTableChangeAtWidth k.database c → HaveOwnNames (tables_stored c.database c.stored)
   change_own_names change = own_names c.database c.stored (are_names c.stored (change_comes k c h sound change).tracks.names) (change_apart change)

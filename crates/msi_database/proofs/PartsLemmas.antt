@@ -14,9 +14,10 @@ use Rattle.msi_table.specs.Tables.{TableDef}
 use Rattle.msi_query_joins.specs.Rows.{TableCells}
 use Rattle.msi_database_schema.specs.System.{validation_name, validation_columns}
 use Rattle.msi_database_schema.specs.Schema.{SchemaRows, schema_of}
-use Rattle.msi_database_changes.specs.Database.{Database, Tables, has_table, columns_by_name}
+use Rattle.msi_database_changes.specs.Database.{Database, Tables, has_table, columns_by_name, is_sound}
 use Rattle.msi_database_storage.specs.Streams.{Streams, stored_rows}
-use Rattle.msi_database_storage.specs.Kept.{table_kept, table_kept_at, unlisted_kept, database_kept, schema_listed}
+use Rattle.msi_database_storage.specs.Kept.{AreAsLong, Kept, table_kept, table_kept_at, unlisted_kept, database_kept, kept_of, schema_listed}
+use Rattle.msi_database.specs.Keeping.{AreParts, IsKeptDatabase}
 use Rattle.msi_database.specs.Agreement.{DatabaseIs, schema_in}
 use Rattle.msi_database.proofs.TablesKeptLemmas.{has_table_kept}
 
@@ -80,3 +81,18 @@ parts_spelled pool tables streams e = record {
       (readable_last schema_of pool.places _ _ (stored_rows streams pool.long validation_columns validation_name) (schema_listed tables) e));
   schema = e ∙ ap Some (sym (schema_kept pool tables streams));
 }
+
+-- ANY KEPT DATABASE WHOSE TABLES ARE LISTED
+
+pub kept_parts : (k : Kept) (tables : List TableDef) → IsKeptDatabase k → is_sound k.database ≡ true → schema_listed tables ≡ columns_by_name k.database → AreAsLong k.database.pool.long tables
+    → AreParts k k.database.pool tables k.streams
+kept_parts k tables kept sound listed as_long =
+    let made : database_kept k.database.pool tables k.streams ≡ k.database = parts_make k.streams k.database tables kept.spelled listed in
+    let same : kept_of k.database.pool tables k.streams ≡ k = λ i. record { database = made i; streams = k.streams } in (
+      same,
+      record {
+        kept = subst IsKeptDatabase (sym same) kept;
+        as_long = as_long;
+        known = sym (ap is_sound made ∙ sound);
+      },
+    )

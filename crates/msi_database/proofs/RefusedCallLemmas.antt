@@ -18,8 +18,8 @@ use Rattle.msi_database_changes.specs.Database.{Database, table_at, rows_of}
 use Rattle.msi_database_changes.specs.Changes.{Change, no_change, pool_of, with_stored, sound_refusal}
 use Rattle.msi_database_cells.specs.Texts.{PoolInUse, rows_put}
 use Rattle.msi_table.specs.KeyOrder.{in_key_order}
-use Rattle.msi_database_changes.specs.Insert.{cells_added, insert_rows, rows_inserted, rows_added, row_refusals}
-use Rattle.msi_database_changes.specs.Create.{create_table, table_refusals, with_new_table}
+use Rattle.msi_database_changes.specs.Insert.{cells_added, insert_at_width, rows_inserted, rows_added, row_refusals}
+use Rattle.msi_database_changes.specs.Create.{create_at_width, table_refusals, with_new_table}
 use Rattle.msi_database_changes.specs.Drop.{drop_table, rows_forgotten, table_released}
 use Rattle.msi_text.proofs.RefusalLemmas.{goes_on-Err, unless-Err}
 use Rattle.msi_database.proofs.MadeLemmas.{goes_on, found}
@@ -92,8 +92,8 @@ module _ (d : Database) (q : InsertQuery) where
   abbrev insert_early : Refusals
   insert_early = sound_refusal d ++ (is_system_table q.table, InvalidInput) ∷ []
 
-  pub insert_refused : (k : ErrorKind) → first_refusal insert_early ≡ None → IsRefusal (rows_inserted q.table q.rows (no_change d)) k → IsRefusal (insert_rows d q) k
-  insert_refused k passed h = becomes (insert_rows d q) (rows_inserted q.table q.rows (no_change d)) k (goes_on insert_early (no_change d) (rows_inserted q.table q.rows) passed) h
+  pub insert_refused : (k : ErrorKind) → first_refusal insert_early ≡ None → IsRefusal (rows_inserted q.table q.rows (no_change d)) k → IsRefusal (insert_at_width d q) k
+  insert_refused k passed h = becomes (insert_at_width d q) (rows_inserted q.table q.rows (no_change d)) k (goes_on insert_early (no_change d) (rows_inserted q.table q.rows) passed) h
 
 -- A CREATE
 
@@ -113,7 +113,7 @@ module _ (d : Database) (name : List ℕ) (columns : List ColumnDef) where
   abbrev last_of : Change → Result Change ErrorKind
   last_of c = Ok (with_new_table name columns c)
 
-  pub create_barred : (k : ErrorKind) → IsRefusal {A = Unit {0}} (unless_refused create_early tt) k → IsRefusal (create_table d name columns) k
+  pub create_barred : (k : ErrorKind) → IsRefusal {A = Unit {0}} (unless_refused create_early tt) k → IsRefusal (create_at_width d name columns) k
   create_barred k h =
       let one = unless_refused create_early (no_change d) >>= first_of in
       let two = one >>= second_of in
@@ -123,7 +123,7 @@ module _ (d : Database) (name : List ℕ) (columns : List ColumnDef) where
     one_is : (unless_refused create_early (no_change d) >>= first_of) ≡ first_of (no_change d)
     one_is = goes_on create_early (no_change d) first_of passed
 
-    pub create_first_refused : IsRefusal (first_of (no_change d)) k → IsRefusal (create_table d name columns) k
+    pub create_first_refused : IsRefusal (first_of (no_change d)) k → IsRefusal (create_at_width d name columns) k
     create_first_refused h =
         let one = unless_refused create_early (no_change d) >>= first_of in
         let two = one >>= second_of in
@@ -133,7 +133,7 @@ module _ (d : Database) (name : List ℕ) (columns : List ColumnDef) where
       two_is : (unless_refused create_early (no_change d) >>= first_of >>= second_of) ≡ second_of first
       two_is = ap (λ (r : Result Change ErrorKind). r >>= second_of) (one_is ∙ first_is)
 
-      pub create_second_refused : IsRefusal (second_of first) k → IsRefusal (create_table d name columns) k
+      pub create_second_refused : IsRefusal (second_of first) k → IsRefusal (create_at_width d name columns) k
       create_second_refused h =
           let two = unless_refused create_early (no_change d) >>= first_of >>= second_of in
           goes_on-Err (two >>= third_of) last_of k (goes_on-Err two third_of k (becomes two (second_of first) k two_is h))
@@ -142,7 +142,7 @@ module _ (d : Database) (name : List ℕ) (columns : List ColumnDef) where
         three_is : (unless_refused create_early (no_change d) >>= first_of >>= second_of >>= third_of) ≡ third_of second
         three_is = ap (λ (r : Result Change ErrorKind). r >>= third_of) (two_is ∙ second_is)
 
-        pub create_third_refused : IsRefusal (third_of second) k → IsRefusal (create_table d name columns) k
+        pub create_third_refused : IsRefusal (third_of second) k → IsRefusal (create_at_width d name columns) k
         create_third_refused h =
             let three = unless_refused create_early (no_change d) >>= first_of >>= second_of >>= third_of in
             goes_on-Err three last_of k (becomes three (third_of second) k three_is h)

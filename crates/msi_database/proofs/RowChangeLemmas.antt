@@ -15,9 +15,10 @@ use Rattle.msi_database_changes.specs.Database.{Database, table_at}
 use Rattle.msi_query_joins.specs.Rows.{TableCells}
 use Rattle.msi_database_changes.specs.Changes.{Change, no_change, sound_refusal}
 use Rattle.msi_database_changes.specs.Delete.{delete_rows}
-use Rattle.msi_database_changes.specs.Insert.{insert_rows, rows_inserted}
-use Rattle.msi_database_changes.specs.Update.{is_update_barred, update_rows, values_after}
-use Rattle.msi_database_changes.specs.Laws.{IsChange, OthersStay, deleted, inserted, rows_at, updated}
+use Rattle.msi_database_changes.specs.Insert.{insert_at_width, rows_inserted}
+use Rattle.msi_database_changes.specs.Update.{is_update_barred, update_at_width, values_after}
+use Rattle.msi_database_changes.specs.Laws.{OthersStay, rows_at}
+use Rattle.msi_database_changes.proofs.AtWidthLemmas.{IsChangeAtWidth, deleted, inserted, updated}
 use Rattle.msi_database_schema.specs.Schema.{schema_of}
 use Rattle.msi_database_schema.proofs.SchemaLemmas.{describes_from}
 use Rattle.msi_database_schema.proofs.OrderlessLemmas.{HasKinds, texts_same}
@@ -37,7 +38,7 @@ unrefused rs x f b e = let (a, is, rest) = ok_first (unless_refused rs x) f b e 
 own_unrefused : (d : Database) (b : Bool) → first_refusal (sound_refusal d ++ (b, InvalidInput) ∷ []) ≡ None → (first_refusal (sound_refusal d) ≡ None) × (b ≡ false)
 own_unrefused d b e = let parts = front_fails (sound_refusal d) ((b, InvalidInput) ∷ []) e in (parts.0, (none_holds ((b, InvalidInput) ∷ []) parts.1).0)
 
-pub insert_free : (d : Database) (q : InsertQuery) (c : Change) → insert_rows d q ≡ Ok c → is_system_table q.table ≡ false
+pub insert_free : (d : Database) (q : InsertQuery) (c : Change) → insert_at_width d q ≡ Ok c → is_system_table q.table ≡ false
 insert_free d q c e = (own_unrefused d (is_system_table q.table) (unrefused (sound_refusal d ++ (is_system_table q.table, InvalidInput) ∷ []) (no_change d) (rows_inserted q.table q.rows) c e)).1
 
 pub delete_start : (d : Database) (q : DeleteQuery) (c : Change) → delete_rows d q ≡ Ok c → (is_system_table q.table ≡ false) × (t : TableCells) × (table_at q.table d ≡ Some t)
@@ -46,7 +47,7 @@ delete_start d q c e =
     let (t, at, more) = ok_first (or_refused NotFound (table_at q.table d)) _ c rest in
     ((own_unrefused d (is_system_table q.table) ((not_refused (sound_refusal d ++ (is_system_table q.table, InvalidInput) ∷ []) (no_change d) start is).0)).1, t, value_there NotFound (table_at q.table d) t at)
 
-pub update_start : (d : Database) (q : UpdateQuery) (c : Change) → update_rows d q ≡ Ok c → (first_refusal (sound_refusal d) ≡ None) × (is_update_barred q ≡ false) × (t : TableCells) × (table_at q.table d ≡ Some t)
+pub update_start : (d : Database) (q : UpdateQuery) (c : Change) → update_at_width d q ≡ Ok c → (first_refusal (sound_refusal d) ≡ None) × (is_update_barred q ≡ false) × (t : TableCells) × (table_at q.table d ≡ Some t)
 update_start d q c e =
     let (start, is, rest) = ok_first (unless_refused (sound_refusal d ++ (is_update_barred q, InvalidInput) ∷ []) (no_change d)) _ c e in
     let (t, at, more) = ok_first (or_refused NotFound (table_at q.table d)) _ c rest in
@@ -57,7 +58,7 @@ and_second : (a b : Bool) → a ≡ true → (a && b) ≡ false → b ≡ false
 and_second true b e f = f
 and_second false b e f = cc
 
-module _ (takes : TakenPlacesHoldTheirText) (gives : GivenBackTakesOne) (d : Database) (c : Change) (change : IsChange d c) (well : WellFormed d)
+module _ (takes : TakenPlacesHoldTheirText) (gives : GivenBackTakesOne) (d : Database) (c : Change) (change : IsChangeAtWidth d c) (well : WellFormed d)
     (before : schema_of (describing d) ≡ Some (shown d)) (unlisted : map (row_values d.pool.places) d.unlisted_validation ≡ map (row_values c.database.pool.places) c.database.unlisted_validation) where
   pub shown_same : shown c.database ≡ shown d
   shown_same = shown_changed d c ((describes_from (describing d) (shown d) before).in_order) change
@@ -65,7 +66,7 @@ module _ (takes : TakenPlacesHoldTheirText) (gives : GivenBackTakesOne) (d : Dat
   elsewhere : (table : List ℕ) → OthersStay table d c.database → is_system_table table ≡ false → IsSameButDescription (describing d) (describing c.database)
   elsewhere table stay free = let r = or_parts (is_schema_table table) (bytes_eq table validation_name) free in same_elsewhere table d c.database stay (r.0) (r.1) shown_same unlisted
 
-  changed_rows : (k : IsChange d c) → IsSameButDescription (describing d) (describing c.database)
+  changed_rows : (k : IsChangeAtWidth d c) → IsSameButDescription (describing d) (describing c.database)
   changed_rows (inserted q e) = elsewhere q.table ((insert_adds_its_rows takes gives d q c well e).1) (insert_free d q c e)
   changed_rows (deleted q e) = let (free, t, at) = delete_start d q c e in elsewhere q.table ((delete_removes_its_rows takes gives d q c t well at e).1) free
   changed_rows (updated q e) =

@@ -23,11 +23,11 @@ use Rattle.msi_database_schema.proofs.SchemaLemmas.{Described}
 use Rattle.msi_database_schema.proofs.RowOrderLemmas.{names_total}
 use Rattle.msi_database_changes.specs.Database.{Database, table_at, has_table, is_sound, rows_of}
 use Rattle.msi_database_changes.specs.Changes.{Change, no_change, pool_of}
-use Rattle.msi_database_changes.specs.Insert.{insert_rows}
-use Rattle.msi_database_changes.specs.Update.{update_rows}
+use Rattle.msi_database_changes.specs.Insert.{insert_at_width}
+use Rattle.msi_database_changes.specs.Update.{update_at_width}
 use Rattle.msi_database_changes.specs.Delete.{delete_rows, rows_meeting}
 use Rattle.msi_database_cells.specs.Texts.{rows_released}
-use Rattle.msi_database_changes.specs.Laws.{IsChange, inserted, updated, deleted}
+use Rattle.msi_database_changes.proofs.AtWidthLemmas.{IsChangeAtWidth, inserted, updated, deleted}
 use Rattle.msi_database_changes.proofs.StoredLemmas.{Exchanged}
 use Rattle.msi_database_changes.proofs.ValuesLemmas.{rows_stay}
 use Rattle.msi_database_changes.proofs.ShownLemmas.{shown}
@@ -65,7 +65,7 @@ module _ (d : Database) (sound : is_sound d ≡ true) (regular : IsRegular d) (b
     texts_by : (rows : List (List ValueRef)) (places : List Place) → Exchanged d name t found regular.well.in_order rows places → map (row_values d.pool.places) d.unlisted_validation ≡ map (row_values places) d.unlisted_validation
     texts_by rows places moved = sym (rows_stay d.unlisted_validation d.pool.places places (λ n used. moved.texts n (omega (arith, used))))
 
-    module _ (c : Change) (change : IsChange d c) (stored : c.stored ≡ name ∷ []) (same : c.database.unlisted_validation ≡ d.unlisted_validation)
+    module _ (c : Change) (change : IsChangeAtWidth d c) (stored : c.stored ≡ name ∷ []) (same : c.database.unlisted_validation ≡ d.unlisted_validation)
         (texts : map (row_values d.pool.places) d.unlisted_validation ≡ map (row_values c.database.pool.places) d.unlisted_validation) where
       values : map (row_values d.pool.places) d.unlisted_validation ≡ map (row_values c.database.pool.places) c.database.unlisted_validation
       values = texts ∙ ap (map (row_values c.database.pool.places)) (sym same)
@@ -90,7 +90,7 @@ module _ (d : Database) (sound : is_sound d ≡ true) (regular : IsRegular d) (b
         unstored = unstored_now;
       }
 
-  module _ (q : InsertQuery) (c : Change) (e : insert_rows d q ≡ Ok c) where
+  module _ (q : InsertQuery) (c : Change) (e : insert_at_width d q ≡ Ok c) where
     insert_by : Inserted (no_change d) q.table q.rows c → Comes d c
     insert_by p = comes_by q.table p.table p.found c (inserted q e)
         (ap (λ (x : Change). x.stored) (sym p.stored)) (ap (λ (x : Change). x.database.unlisted_validation) (sym p.stored))
@@ -118,7 +118,7 @@ module _ (d : Database) (sound : is_sound d ≡ true) (regular : IsRegular d) (b
     pub delete_comes : Comes d c
     delete_comes = delete_by (delete_parts d q c e)
 
-  module _ (q : UpdateQuery) (c : Change) (e : update_rows d q ≡ Ok c) where
+  module _ (q : UpdateQuery) (c : Change) (e : update_at_width d q ≡ Ok c) where
     width : length d.pool.places ≤ most_places d.pool.long
     width = leb-true (length d.pool.places) (most_places d.pool.long) (sound_is d sound).fits
 
@@ -141,7 +141,7 @@ module _ (d : Database) (sound : is_sound d ≡ true) (regular : IsRegular d) (b
     update_comes = update_by (update_parts d q c e)
 
   -- so does each change of rows
-  pub rows_come : (c : Change) → IsChange d c → Comes d c
+  pub rows_come : (c : Change) → IsChangeAtWidth d c → Comes d c
   rows_come c (inserted q e) = insert_comes q c e
   rows_come c (updated q e) = update_comes q c e
   rows_come c (deleted q e) = delete_comes q c e

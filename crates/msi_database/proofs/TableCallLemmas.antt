@@ -13,14 +13,14 @@ use Rattle.msi_database_changes.specs.Database.{Database, is_sound, table_at, ro
 use Rattle.msi_database_changes.specs.Changes.{Change, no_change, pool_of, sound_refusal}
 use Rattle.msi_database_cells.specs.Texts.{PoolInUse, rows_released}
 use Rattle.msi_database_changes.specs.Insert.{cells_added, row_refusals}
-use Rattle.msi_database_changes.specs.Create.{create_table, table_refusals, with_new_table}
+use Rattle.msi_database_changes.specs.Create.{create_at_width, table_refusals, with_new_table}
 use Rattle.msi_database_changes.specs.Drop.{drop_table, is_row_about}
 use Rattle.msi_database_storage.specs.declared.storing.Stored.{Stored}
 use Rattle.msi_database_storage.specs.Streams.{Streams, stream_of_rows}
 use Rattle.msi_database_storage.specs.Storing.{tables_stored}
 use Rattle.msi_database_storage.specs.Kept.{Kept, kept_of, database_kept, with_table_kept, without_table_kept}
 use Rattle.msi_database.specs.Keeping.{AreKept}
-use Rattle.msi_database.specs.Making.{Makes}
+use Rattle.msi_database.proofs.MakesAtLemmas.{MakesAt}
 use Rattle.msi_database.proofs.ComesLemmas.{describes}
 use Rattle.msi_database.proofs.OwnNamesLemmas.{created_apart}
 use Rattle.msi_database.proofs.EditLemmas.{created_stored, dropped_stored, dropped_unvalidated}
@@ -28,8 +28,8 @@ use Rattle.msi_database.proofs.ChainLemmas.{create_by_steps, third, c_rows, t_ro
 use Rattle.msi_database.proofs.FinishLemmas.{known_sound, create_kept, drop_kept}
 
 -- what is made of an answer is made of the call that gives it
-makes_by : (old : Kept) (r s : Result Change ErrorKind) (pool : Pool) (tables : List TableDef) (es : List Stored) → r ≡ s → Makes old s pool tables es → Makes old r pool tables es
-makes_by old r s pool tables es e h = subst (λ (r : Result Change ErrorKind). Makes old r pool tables es) (sym e) h
+makes_by : (old : Kept) (r s : Result Change ErrorKind) (pool : Pool) (tables : List TableDef) (es : List Stored) → r ≡ s → MakesAt old s pool tables es → MakesAt old r pool tables es
+makes_by old r s pool tables es e h = subst (λ (r : Result Change ErrorKind). MakesAt old r pool tables es) (sym e) h
 
 module _ (pool : Pool) (tables : List TableDef) (streams : Streams) (kept : AreKept pool tables streams true) where
   abbrev old : Kept
@@ -57,13 +57,13 @@ module _ (pool : Pool) (tables : List TableDef) (streams : Streams) (kept : AreK
         ∷ record { name = table_key tables_name; bytes = stream_of_rows pool.long t.columns two.0 }
         ∷ record { name = table_key validation_name; bytes = stream_of_rows pool.long v.columns three.0 }
         ∷ record { name = table_key name; bytes = None } ∷ []
-        → Makes old (create_table d name columns) new (with_table_kept (record { name = name; columns = columns; long = pool.long }) tables) es
+        → MakesAt old (create_at_width d name columns) new (with_table_kept (record { name = name; columns = columns; long = pool.long }) tables) es
     create_makes passed p₁ e₁ p₂ e₂ p₃ e₃ new es new_is es_is =
         let last = with_new_table name columns (third d name columns c t v c_at t_at v_at one two three) in
-        let made : create_table d name columns ≡ Ok last = create_by_steps d name columns c t v c_at t_at v_at one two three passed p₁ e₁ p₂ e₂ p₃ e₃ in
+        let made : create_at_width d name columns ≡ Ok last = create_by_steps d name columns c t v c_at t_at v_at one two three passed p₁ e₁ p₂ e₂ p₃ e₃ in
         let apart = created_apart d (describes old kept.kept sound) name columns last made in
         let edits : es ≡ tables_stored last.database last.stored = es_is ∙ sym (created_stored d name columns c.columns t.columns v.columns one.0 two.0 three.0 one.1 two.1 three.1 apart) in
-        makes_by old (create_table d name columns) (Ok last) new (with_table_kept (record { name = name; columns = columns; long = pool.long }) tables) es made
+        makes_by old (create_at_width d name columns) (Ok last) new (with_table_kept (record { name = name; columns = columns; long = pool.long }) tables) es made
         (create_kept pool tables streams kept name columns last made new es new_is edits, sound)
 
   -- A DROP
@@ -85,7 +85,7 @@ module _ (pool : Pool) (tables : List TableDef) (streams : Streams) (kept : AreK
         ∷ record { name = table_key validation_name; bytes = stream_of_rows pool.long v.columns (stay v) }
         ∷ record { name = table_key columns_name; bytes = stream_of_rows pool.long c.columns (stay c) }
         ∷ record { name = table_key tables_name; bytes = stream_of_rows pool.long t.columns (stay t) } ∷ []
-        → Makes old (drop_table d name) new (without_table_kept name tables) es
+        → MakesAt old (drop_table d name) new (without_table_kept name tables) es
     drop_makes v v_at new es new_is es_is =
         let passed = drop_passes d name sound free named in
         let apart = dropped_apart d name gone c t passed free at c_at t_at in
@@ -101,7 +101,7 @@ module _ (pool : Pool) (tables : List TableDef) (streams : Streams) (kept : AreK
         → es ≡ record { name = table_key name; bytes = None }
         ∷ record { name = table_key columns_name; bytes = stream_of_rows pool.long c.columns (stay c) }
         ∷ record { name = table_key tables_name; bytes = stream_of_rows pool.long t.columns (stay t) } ∷ []
-        → Makes old (drop_table d name) new (without_table_kept name tables) es
+        → MakesAt old (drop_table d name) new (without_table_kept name tables) es
     drop_makes_unvalidated v_none new es new_is es_is =
         let passed = drop_passes d name sound free named in
         let apart = dropped_apart d name gone c t passed free at c_at t_at in

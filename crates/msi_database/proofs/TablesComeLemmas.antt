@@ -9,9 +9,9 @@ use Rattle.msi_database_schema.specs.Schema.{schema_of}
 use Rattle.msi_database_schema.proofs.OrderlessLemmas.{HasKinds}
 use Rattle.msi_database_changes.specs.Database.{Database, table_at}
 use Rattle.msi_database_changes.specs.Changes.{Change}
-use Rattle.msi_database_changes.specs.Create.{create_table}
+use Rattle.msi_database_changes.specs.Create.{create_at_width}
 use Rattle.msi_database_changes.specs.Drop.{drop_table}
-use Rattle.msi_database_changes.specs.Laws.{IsTableChange, created, dropped}
+use Rattle.msi_database_changes.proofs.AtWidthLemmas.{IsTableChangeAtWidth, created, dropped}
 use Rattle.msi_database_changes.proofs.ShownLemmas.{shown}
 use Rattle.msi_database_changes.proofs.ShownLemmas as steps
 use Rattle.msi_database_changes.proofs.LawLemmas.{create_table_keeps, drop_table_keeps}
@@ -29,7 +29,7 @@ use Rattle.msi_database.proofs.GivenBackLemmas.{given_back_gives}
 use Rattle.msi_database.proofs.ComesLemmas.{Comes}
 
 module _ (d : Database) (regular : IsRegular d) (before : schema_of (describing d) ≡ Some (shown d)) (kinds : HasKinds (describing d)) where
-  module _ (name : List ℕ) (columns : List ColumnDef) (c : Change) (e : create_table d name columns ≡ Ok c) where
+  module _ (name : List ℕ) (columns : List ColumnDef) (c : Change) (e : create_at_width d name columns ≡ Ok c) where
     pub create_comes : Comes d c
     create_comes =
         let r = steps.created d name columns c e in
@@ -63,6 +63,6 @@ module _ (d : Database) (regular : IsRegular d) (before : schema_of (describing 
         }
 
   -- so does each change of tables
-  pub tables_come : (c : Change) → IsTableChange d c → Comes d c
+  pub tables_come : (c : Change) → IsTableChangeAtWidth d c → Comes d c
   tables_come c (created name columns e) = create_comes name columns c e
   tables_come c (dropped name e) = drop_comes name c e

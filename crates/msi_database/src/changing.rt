@@ -8,34 +8,43 @@ ghost use Rattle.msi_text_pool_base.specs.Pool.{unindexed};
 ghost use Rattle.msi_text.specs.Refusals.{IsRefusal, first_refusal, unless_refused};
 ghost use Rattle.msi_database_changes.specs.Changes.{absent_refusals, barred_refusals};
 ghost use Rattle.msi_database_changes.specs.Database.{is_sound as is_sound_one, table_at};
+ghost use Rattle.msi_container_format.specs.Names.{is_name_length};
+ghost use Rattle.msi_table_values.specs.Columns.{types_of};
+ghost use Rattle.msi_table_values.specs.Fitting.{FitsTable};
+ghost use Rattle.msi_database_schema.specs.Keys.{table_key as key_of};
+ghost use Rattle.msi_database_cells.specs.Texts.{settled};
 ghost use Rattle.msi_database_changes.specs.Insert.{table_with};
 ghost use Rattle.msi_database_storage.specs.Kept.{kept_of, without_table_kept};
 ghost use Rattle.msi_database_storage.specs.Storing.{HaveOwnNames, stored_in};
 ghost use Rattle.msi_database.specs.Keeping.{AreKept};
 ghost use Rattle.msi_database.specs.Listed.{IsKnown, table_def_at, tables_listed};
+ghost use Rattle.msi_database.specs.Making.{IsAnew, base_with};
 
 use crate::database::Database;
 use crate::reasons;
 use msi_database_cells::texts::PoolInUse;
 use msi_database_storage::listing::copies_without;
-use msi_database_storage::parts::{Stored, store_all, stored_rows};
+use msi_database_storage::parts::{Stored, store_all, stored_rows, stream_of};
+use msi_table::parts::long_table;
 use msi_table::{Table, ValueRef};
 use msi_text::errors::{Error, ErrorKind};
 use msi_text::stringpool::StringPool;
 use msi_text::text::Items;
 
-/// A table's stream to be stored, the pool after the change of its rows, and whether a text was taken of the pool or
-/// given back.
+/// A table's stream to be stored, over this database or over a wider one, the pool after the change of its rows, and
+/// whether a text was taken of the pool or given back.
 #[derive(Drop)]
 pub(crate) struct RowsAnew {
+    pub(crate) wide: Option<Database>,
     pub(crate) stored: Stored,
     pub(crate) pool: StringPool,
     pub(crate) is_pool_used: bool,
 }
 
-/// Streams to be stored, and the pool and the tables after a change of tables.
+/// Streams to be stored, over this database or over a wider one, and the pool and the tables after a change of tables.
 #[derive(Drop)]
 pub(crate) struct TablesAnew {
+    pub(crate) wide: Option<Database>,
     pub(crate) stored: Vec<Stored>,
     pub(crate) pool: StringPool,
     pub(crate) tables: Items<Table>,
@@ -104,55 +113,154 @@ impl Database {
         stored_rows(self.alloc, &self.streams, table)
     }
 
-    /// Ends a change of rows: stores the table's stream, and takes the pool in place of its own. Returns whether a
-    /// text was taken from the pool or given back.
+    /// What a change makes that gives a table these rows: its stream is stored over this database, or over one with
+    /// wider references where those of the pool have widened.
+    ///
+    /// # Errors
+    /// `OutOfMemory`.
+    pub(crate) fn rows_anew(
+        &self,
+        table: &Table,
+        rows: Vec<Items<ValueRef>>,
+        pool: PoolInUse,
+    ) -> Result<RowsAnew, Error>
+        requires sound { is_sound_one self.now.database ≡ true }
+        requires named { is_name_length (length (key_of table.now.name)) ≡ true }
+        requires long { pool.pool.long ≡ table.now.long }
+        requires storable { FitsTable (settled pool.pool).long (types_of table.now.columns) rows.items }
+        ensures ok { IfOk result (λ new. IsAnew self.now table.now rows.items pool
+            new.wide new.stored (unindexed new.pool) new.is_pool_used) }
+        ensures kind { OnlyMemory result }
+    {
+        if pool.is_widened() {
+            let long = long_table(self.alloc, table)?;
+            let stored = stream_of(self.alloc, &long, rows)?;
+            let wide = self.widened()?;
+            return Ok(RowsAnew {
+                wide: Some(wide),
+                stored,
+                is_pool_used: pool.is_used(),
+                pool: pool.into_pool(),
+            });
+        }
+        let stored = stream_of(self.alloc, table, rows)?;
+        Ok(RowsAnew {
+            wide: None,
+            stored,
+            is_pool_used: pool.is_used(),
+            pool: pool.into_pool(),
+        })
+    }
+
+    /// Stores a table's stream, and takes the pool in place of its own.
+    ///
+    /// # Errors
+    /// `OutOfMemory`; then nothing is changed.
+    fn store_rows(&mut self, stored: Stored, pool: StringPool) -> Result<(), Error>
+        requires sound { is_sound_one self.old.database ≡ true }
+        requires kept { let streams = stored_in (stored ∷ []) self.old.streams in
+            AreKept (unindexed pool) (tables_listed self.old.database) streams true }
+        ensures ok { let streams = stored_in (stored ∷ []) self.old.streams in
+            OnOk result (self.new ≡ kept_of (unindexed pool) (tables_listed self.old.database) streams) }
+        ensures same { OnErr result (self.new ≡ self.old) }
+        ensures kind { OnlyMemory result }
+    {
+        let mut changes = Vec::new(self.alloc);
+        changes.push(stored)?;
+        store_all(&mut self.streams, changes.into_iter())?;
+        self.pool = pool;
+        Ok(())
+    }
+
+    /// Ends a change of rows: stores the table's stream, and takes the pool in place of its own; where references
+    /// widen, the wider database takes the place of this one. Returns whether a text was taken from the pool or given
+    /// back.
     ///
     /// # Errors
     /// `OutOfMemory`; then nothing is changed.
     pub(crate) fn finish_rows(&mut self, new: RowsAnew) -> Result<bool, Error>
-        requires sound { is_sound_one self.old.database ≡ true }
-        requires kept { let streams = stored_in (new.stored ∷ []) self.old.streams in
-            AreKept (unindexed new.pool) (tables_listed self.old.database) streams true }
-        ensures ok { let streams = stored_in (new.stored ∷ []) self.old.streams in
-            OnOk result (self.new ≡ kept_of (unindexed new.pool) (tables_listed self.old.database) streams) }
+        requires sound { is_sound_one (base_with new.wide self.old).database ≡ true }
+        requires kept { let base = base_with new.wide self.old in
+            let streams = stored_in (new.stored ∷ []) base.streams in
+            AreKept (unindexed new.pool) (tables_listed base.database) streams true }
+        ensures ok { let base = base_with new.wide self.old in
+            let streams = stored_in (new.stored ∷ []) base.streams in
+            OnOk result (self.new ≡ kept_of (unindexed new.pool) (tables_listed base.database) streams) }
         ensures used { IfOk result (λ used. used ≡ new.is_pool_used) }
         ensures same { OnErr result (self.new ≡ self.old) }
         ensures kind { OnlyMemory result }
     {
         let RowsAnew {
+            wide,
             stored,
             pool,
             is_pool_used,
         } = new;
-        let mut changes = Vec::new(self.alloc);
-        changes.push(stored)?;
-        store_all(&mut self.streams, changes.into_iter())?;
-        self.pool = pool;
+        match wide {
+            Some(wide) => {
+                let mut base = wide;
+                base.store_rows(stored, pool)?;
+                *self = base;
+            }
+            None => self.store_rows(stored, pool)?,
+        }
         Ok(is_pool_used)
     }
 
-    /// Ends a change of tables: stores these streams, and takes the pool and the tables in place of its own.
+    /// Stores these streams, and takes the pool and the tables in place of its own.
+    ///
+    /// # Errors
+    /// `OutOfMemory`; then nothing is changed.
+    fn store_tables(
+        &mut self,
+        stored: Vec<Stored>,
+        pool: StringPool,
+        tables: Items<Table>,
+    ) -> Result<(), Error>
+        requires names { HaveOwnNames stored.items }
+        requires sound { is_sound_one self.old.database ≡ true }
+        requires kept { AreKept (unindexed pool) tables (stored_in stored.items self.old.streams) true }
+        ensures ok { OnOk result (self.new
+            ≡ kept_of (unindexed pool) tables (stored_in stored.items self.old.streams)) }
+        ensures same { OnErr result (self.new ≡ self.old) }
+        ensures kind { OnlyMemory result }
+    {
+        store_all(&mut self.streams, stored.into_iter())?;
+        self.pool = pool;
+        self.tables = tables;
+        Ok(())
+    }
+
+    /// Ends a change of tables: stores these streams, and takes the pool and the tables in place of its own; where
+    /// references widen, the wider database takes the place of this one.
     ///
     /// # Errors
     /// `OutOfMemory`; then nothing is changed.
     pub(crate) fn finish_tables(&mut self, new: TablesAnew) -> Result<(), Error>
         requires names { HaveOwnNames new.stored.items }
-        requires sound { is_sound_one self.old.database ≡ true }
-        requires kept { AreKept (unindexed new.pool) new.tables (stored_in new.stored.items self.old.streams) true }
-        ensures ok { let streams = stored_in new.stored.items self.old.streams in
+        requires sound { is_sound_one (base_with new.wide self.old).database ≡ true }
+        requires kept { let streams = stored_in new.stored.items (base_with new.wide self.old).streams in
+            AreKept (unindexed new.pool) new.tables streams true }
+        ensures ok { let streams = stored_in new.stored.items (base_with new.wide self.old).streams in
             OnOk result (self.new ≡ kept_of (unindexed new.pool) new.tables streams) }
         ensures same { OnErr result (self.new ≡ self.old) }
         ensures kind { OnlyMemory result }
     {
         let TablesAnew {
+            wide,
             stored,
             pool,
             tables,
         } = new;
-        store_all(&mut self.streams, stored.into_iter())?;
-        self.pool = pool;
-        self.tables = tables;
-        Ok(())
+        match wide {
+            Some(wide) => {
+                let mut base = wide;
+                base.store_tables(stored, pool, tables)?;
+                *self = base;
+                Ok(())
+            }
+            None => self.store_tables(stored, pool, tables),
+        }
     }
 
     /// The tables without the one of a name.

@@ -2,7 +2,6 @@
 
 ghost use Rattle.std.specs.Prelude.{◌≡◌, ◌≤◌, IfErr, IfOk, IsTrue, Ok, OnErr, OnOk, length, true};
 ghost use Rattle.msi_text_pool_base.specs.Pool.{unindexed};
-ghost use Rattle.msi_text_places.specs.FirstFit.{most_places};
 ghost use Rattle.msi_text_base.specs.Results.{OnlyMemory};
 ghost use Rattle.msi_table.specs.Tables.{most_columns};
 ghost use Rattle.msi_text.specs.Refusals.{AnswersFirst, IsRefusal, unless_refused};
@@ -14,9 +13,10 @@ ghost use Rattle.msi_database_changes.specs.Database.{is_sound as is_sound_one};
 ghost use Rattle.msi_database_cells.specs.Texts.{in_use};
 ghost use Rattle.msi_database_storage.specs.Kept.{with_table_kept};
 ghost use Rattle.msi_database_storage.specs.Storing.{HaveOwnNames};
-ghost use Rattle.msi_database.specs.Creating.{create_refusals, new_table, stream_gone, stream_with, streams_described};
+ghost use Rattle.msi_database.specs.Creating.{CanHold, CanHoldAll, IsCreated, create_refusals, new_table};
+ghost use Rattle.msi_database.specs.Creating.{rows_described, rows_with, stream_for, stream_gone, streams_for};
 ghost use Rattle.msi_database.specs.Listed.{tables_listed};
-ghost use Rattle.msi_database.specs.Making.{Leaves, Makes, TellsUse};
+ghost use Rattle.msi_database.specs.Making.{Leaves, Makes, TellsUse, base_with, wide_for};
 
 use crate::changing::TablesAnew;
 use crate::database::Database;
@@ -31,15 +31,36 @@ use msi_database_schema::system::{COLUMNS, TABLES, VALIDATION};
 use msi_database_storage::listing::copies_with;
 use msi_database_storage::parts::{Stored, stream_of};
 use msi_table::column::Column;
-use msi_table::{Table, Value};
+use msi_table::{Table, Value, ValueRef};
 use msi_text::errors::{Error, ErrorKind};
 use msi_text::text::Items;
+use std::marker::Model;
 
 /// What creating a table makes, and whether it took a text of the pool.
 #[derive(Drop)]
 struct Created {
     new: TablesAnew,
     is_pool_used: bool,
+}
+
+/// The rows of the system tables with those that describe a new table. Contracts see the rows of each.
+#[derive(Drop)]
+struct SystemRows {
+    columns: Vec<Items<ValueRef>>,
+    tables: Vec<Items<ValueRef>>,
+    validation: Vec<Items<ValueRef>>,
+}
+
+impl Model for SystemRows {
+    ghost use Rattle.msi_database.specs.Creating.{SystemRows as SystemRowsOf};
+
+    ghost Value = { SystemRowsOf };
+
+    ghost view = { λ r. record {
+      columns = r.columns.items;
+      tables = r.tables.items;
+      validation = r.validation.items;
+    } };
 }
 
 /// Refuses a name and columns of which no table is made.
@@ -93,27 +114,24 @@ impl Database {
         Ok(())
     }
 
-    /// The stream of a table with new rows, whose texts the pool takes.
+    /// The rows of a table with new ones, whose texts the pool takes.
     ///
     /// # Errors
     /// `NotFound` where there is no such table; then those of `refuse_rows`; `InvalidInput` where the pool is full.
     /// It may fail with `OutOfMemory` in place of any of these.
-    fn stream_with(
+    fn rows_with(
         &self,
         pool: &mut PoolInUse,
         name: &str,
         values: Vec<Items<Value>>,
-    ) -> Result<Stored, Error>
+    ) -> Result<Vec<Items<ValueRef>>, Error>
         requires sound { is_sound_one self.now.database ≡ true }
-        requires long { pool.old.pool.long ≡ self.now.database.pool.long }
-        requires within { length pool.old.pool.places ≤ most_places pool.old.pool.long }
-        ensures ok { let made = stream_with self.now.database name.now values.items (in_use pool.old) in
-            IfOk result (λ stored. made ≡ Ok (stored, in_use pool.new)) }
-        ensures kind { let made = stream_with self.now.database name.now values.items (in_use pool.old) in
+        ensures ok { let made = rows_with self.now.database name.now values.items (in_use pool.old) in
+            IfOk result (λ rows. made ≡ Ok (rows.items, in_use pool.new)) }
+        ensures kind { let made = rows_with self.now.database name.now values.items (in_use pool.old) in
             IfErr result (IsRefusal made) }
         ensures page { pool.new.pool.page ≡ pool.old.pool.page }
         ensures long { pool.new.pool.long ≡ pool.old.pool.long }
-        ensures within { OnOk result (length pool.new.pool.places ≤ most_places pool.new.pool.long) }
     {
         let Some(table) = self.known_table(name) else {
             return Err(Error::new(ErrorKind::NotFound, reasons::NO_TABLE));
@@ -127,42 +145,83 @@ impl Database {
             held.as_slice(),
             values.as_slice(),
         )?;
-        let all = add_rows(self.alloc, columns, pool, held, values)?;
-        stream_of(self.alloc, table, all)
+        add_rows(self.alloc, columns, pool, held, values)
     }
 
-    /// The streams of the system tables with the rows that describe a new table. Its own stream goes, if one is left
-    /// over.
+    /// The rows of the system tables with those that describe a new table.
     ///
     /// # Errors
-    /// Those of the three streams, in order.
-    fn streams_described(
+    /// Those of the three tables, in order.
+    fn rows_described(
         &self,
         pool: &mut PoolInUse,
         name: &str,
         columns: &[Column],
-    ) -> Result<Vec<Stored>, Error>
+    ) -> Result<SystemRows, Error>
         requires sound { is_sound_one self.now.database ≡ true }
-        requires named { is_name_of_table name.now ≡ true }
         requires few { length columns.now ≤ most_columns }
         requires short { IsTrue (have_short_lengths columns.now) }
-        requires long { pool.old.pool.long ≡ self.now.database.pool.long }
-        requires within { length pool.old.pool.places ≤ most_places pool.old.pool.long }
-        ensures ok { let made = streams_described self.now.database name.now columns.now (in_use pool.old) in
-            IfOk result (λ stored. made ≡ Ok (stored.items, in_use pool.new)) }
-        ensures kind { let made = streams_described self.now.database name.now columns.now (in_use pool.old) in
+        ensures ok { let made = rows_described self.now.database name.now columns.now (in_use pool.old) in
+            IfOk result (λ rows. made ≡ Ok (rows, in_use pool.new)) }
+        ensures kind { let made = rows_described self.now.database name.now columns.now (in_use pool.old) in
             IfErr result (IsRefusal made) }
         ensures page { pool.new.pool.page ≡ pool.old.pool.page }
         ensures long { pool.new.pool.long ≡ pool.old.pool.long }
     {
         let alloc = self.alloc;
-        let in_columns = self.stream_with(pool, COLUMNS, column_rows(alloc, name, columns)?)?;
+        let in_columns = self.rows_with(pool, COLUMNS, column_rows(alloc, name, columns)?)?;
         let row = tables_row(alloc, name)?;
-        let in_tables = self.stream_with(pool, TABLES, Vec::from_array(alloc, [row])?)?;
+        let in_tables = self.rows_with(pool, TABLES, Vec::from_array(alloc, [row])?)?;
         let rows = validation_rows(alloc, name, columns)?;
-        let in_validation = self.stream_with(pool, VALIDATION, rows)?;
+        let in_validation = self.rows_with(pool, VALIDATION, rows)?;
+        Ok(SystemRows {
+            columns: in_columns,
+            tables: in_tables,
+            validation: in_validation,
+        })
+    }
+
+    /// The stream of the table of a name, which has these rows.
+    ///
+    /// # Errors
+    /// `OutOfMemory`.
+    fn stream_for(&self, name: &str, rows: Vec<Items<ValueRef>>) -> Result<Stored, Error>
+        requires sound { is_sound_one self.now.database ≡ true }
+        requires held { CanHold self.now.database name.now rows.items }
+        ensures ok { IfOk result (λ stored. stored ≡ stream_for self.now.database name.now rows.items) }
+        ensures kind { OnlyMemory result }
+    {
+        let Some(table) = self.known_table(name) else {
+            return Err(Error::new(ErrorKind::NotFound, reasons::NO_TABLE));
+        };
+        stream_of(self.alloc, table, rows)
+    }
+
+    /// The streams of the system tables with these rows, which describe a new table. Its own stream goes, if one is
+    /// left over.
+    ///
+    /// # Errors
+    /// `OutOfMemory`.
+    fn streams_for(&self, name: &str, rows: SystemRows) -> Result<Vec<Stored>, Error>
+        requires sound { is_sound_one self.now.database ≡ true }
+        requires named { is_name_of_table name.now ≡ true }
+        requires held { CanHoldAll self.now.database rows }
+        ensures ok { IfOk result (λ stored. stored.items ≡ streams_for self.now.database name.now rows) }
+        ensures kind { OnlyMemory result }
+    {
+        let SystemRows {
+            columns,
+            tables,
+            validation,
+        } = rows;
+        let in_columns = self.stream_for(COLUMNS, columns)?;
+        let in_tables = self.stream_for(TABLES, tables)?;
+        let in_validation = self.stream_for(VALIDATION, validation)?;
         let own = no_stream(name);
-        Ok(Vec::from_array(alloc, [in_columns, in_tables, in_validation, own])?)
+        Ok(Vec::from_array(
+            self.alloc,
+            [in_columns, in_tables, in_validation, own],
+        )?)
     }
 
     /// The tables with a new one, in the order of their names.
@@ -179,14 +238,54 @@ impl Database {
         copies_with(self.alloc, self.tables(), new)
     }
 
+    /// What creating a table makes whose rows in the system tables are these: over this database, or over one with
+    /// wider references where those of the pool have widened.
+    ///
+    /// # Errors
+    /// `OutOfMemory`.
+    fn created_over(
+        &self,
+        name: &str,
+        columns: Items<Column>,
+        rows: SystemRows,
+        pool: PoolInUse,
+    ) -> Result<Created, Error>
+        requires sound { is_sound_one self.now.database ≡ true }
+        requires named { is_name_of_table name.now ≡ true }
+        requires few { length columns ≤ most_columns }
+        requires held { CanHoldAll (base_with (wide_for pool self.now) self.now).database rows }
+        ensures ok { IfOk result (λ made. IsCreated self.now name.now columns rows pool made.new.wide
+            made.new.stored.items made.new.tables (unindexed made.new.pool) made.is_pool_used) }
+        ensures kind { OnlyMemory result }
+    {
+        let wide = if pool.is_widened() { Some(self.widened()?) } else { None };
+        let base = match &wide {
+            Some(wide) => wide,
+            None => self,
+        };
+        let stored = base.streams_for(name, rows)?;
+        let tables = base.tables_with(name, columns)?;
+        let is_pool_used = pool.is_used();
+        let pool = pool.into_pool();
+        Ok(Created {
+            new: TablesAnew {
+                wide,
+                stored,
+                pool,
+                tables,
+            },
+            is_pool_used,
+        })
+    }
+
     /// What creating a table makes.
     ///
     /// # Errors
     /// Those of `create_table`.
     fn table_created(&self, name: &str, columns: Items<Column>) -> Result<Created, Error>
         ensures ok { let change = creates.create_table self.now.database name.now columns in
-            IfOk result (λ made.
-            Makes self.now change (unindexed made.new.pool) made.new.tables made.new.stored.items) }
+            IfOk result (λ made. Makes self.now change (base_with made.new.wide self.now)
+            (unindexed made.new.pool) made.new.tables made.new.stored.items) }
         ensures used { let change = creates.create_table self.now.database name.now columns in
             IfOk result (λ made. TellsUse change made.is_pool_used) }
         ensures names { IfOk result (λ made. HaveOwnNames made.new.stored.items) }
@@ -195,18 +294,8 @@ impl Database {
     {
         self.refuse_create(name, columns.as_slice())?;
         let mut pool = PoolInUse::new(self.pool.clone()?);
-        let stored = self.streams_described(&mut pool, name, columns.as_slice())?;
-        let tables = self.tables_with(name, columns)?;
-        let is_pool_used = pool.is_used();
-        let pool = pool.into_pool();
-        Ok(Created {
-            new: TablesAnew {
-                stored,
-                pool,
-                tables,
-            },
-            is_pool_used,
-        })
+        let rows = self.rows_described(&mut pool, name, columns.as_slice())?;
+        self.created_over(name, columns, rows, pool)
     }
 
     /// Creates a table, which is described in `_Tables`, `_Columns` and `_Validation`, and returns whether that took

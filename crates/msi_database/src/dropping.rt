@@ -14,7 +14,7 @@ ghost use Rattle.msi_database_storage.specs.Storing.{HaveOwnNames};
 ghost use Rattle.msi_database.specs.Dropping.{about_given_back, own_stream, rows_given_back};
 ghost use Rattle.msi_database.specs.Dropping.{system_stream};
 ghost use Rattle.msi_database.specs.Listed.{IsKnown};
-ghost use Rattle.msi_database.specs.Making.{Leaves, Makes, TellsUse};
+ghost use Rattle.msi_database.specs.Making.{Leaves, Makes, TellsUse, base_with};
 
 use crate::changing::TablesAnew;
 use crate::database::Database;
@@ -140,7 +140,8 @@ impl Database {
         requires named { is_of_table name.now ≡ true }
         requires known { IsKnown self.now.database name.now table.now }
         ensures ok { let change = drops.drop_table self.now.database name.now in IfOk result (λ dropped.
-            Makes self.now change (unindexed dropped.made.pool) dropped.made.tables dropped.made.stored.items) }
+            Makes self.now change (base_with dropped.made.wide self.now) (unindexed dropped.made.pool)
+            dropped.made.tables dropped.made.stored.items) }
         ensures used { IfOk result (λ dropped.
             TellsUse (drops.drop_table self.now.database name.now) dropped.is_pool_used) }
         ensures names { IfOk result (λ dropped. HaveOwnNames dropped.made.stored.items) }
@@ -159,6 +160,7 @@ impl Database {
         let is_pool_used = pool.is_used();
         Ok(Dropped {
             made: TablesAnew {
+                wide: None,
                 stored,
                 pool: pool.into_pool(),
                 tables,
@@ -173,7 +175,8 @@ impl Database {
     /// Those of `drop_table`.
     fn table_dropped(&self, name: &str) -> Result<Dropped, Error>
         ensures ok { let change = drops.drop_table self.now.database name.now in IfOk result (λ dropped.
-            Makes self.now change (unindexed dropped.made.pool) dropped.made.tables dropped.made.stored.items) }
+            Makes self.now change (base_with dropped.made.wide self.now) (unindexed dropped.made.pool)
+            dropped.made.tables dropped.made.stored.items) }
         ensures used { IfOk result (λ dropped.
             TellsUse (drops.drop_table self.now.database name.now) dropped.is_pool_used) }
         ensures names { IfOk result (λ dropped. HaveOwnNames dropped.made.stored.items) }

@@ -13,5 +13,6 @@ pub mod parts;
 mod reading;
 mod reasons;
 mod rows;
+mod widening;
 
 pub use database::Database;

@@ -16,7 +16,7 @@ ghost use Rattle.msi_database_changes.specs.RowUpdates.{update_of};
 ghost use Rattle.msi_database_changes.specs.Update as updates;
 ghost use Rattle.msi_database_changes.specs.Update.{early_update_refusals, set_refusals};
 ghost use Rattle.msi_database.specs.Listed.{IsKnown};
-ghost use Rattle.msi_database.specs.Making.{Leaves, MakesRows, TellsUse, delete_of, insert_of};
+ghost use Rattle.msi_database.specs.Making.{Leaves, MakesRows, TellsUse, base_with, delete_of, insert_of};
 
 use crate::changing::RowsAnew;
 use crate::database::Database;
@@ -25,7 +25,6 @@ use msi_database_changes::delete::{refuse_delete, remaining_rows};
 use msi_database_changes::insert::{add_rows, refuse_new_rows, refuse_rows};
 use msi_database_changes::update::{refuse_collisions, refuse_sets, updated_rows};
 use msi_database_schema::system::{VALIDATION, is_schema_table, is_system_table};
-use msi_database_storage::parts::stream_of;
 use msi_query::parts::{
     Assignment, DeleteParts, InsertParts, NewRow, UpdateParts, delete_parts, insert_parts,
     update_parts,
@@ -106,7 +105,8 @@ impl Database {
         requires free { is_of_system insert.table ≡ false }
         requires known { IsKnown self.now.database insert.table table.now }
         ensures ok { let change = inserts.insert_rows self.now.database (insert_of insert) in
-            IfOk result (λ new. MakesRows self.now change (unindexed new.pool) new.stored) }
+            IfOk result (λ new.
+            MakesRows self.now change (base_with new.wide self.now) (unindexed new.pool) new.stored) }
         ensures used { IfOk result (λ new.
             TellsUse (inserts.insert_rows self.now.database (insert_of insert)) new.is_pool_used) }
         ensures kind { IfErr result (IsRefusal (inserts.insert_rows self.now.database (insert_of insert))) }
@@ -119,12 +119,7 @@ impl Database {
         refuse_rows(self.alloc, &self.pool, columns, rows, values.as_slice())?;
         let mut pool = PoolInUse::new(self.pool.clone()?);
         let all = add_rows(self.alloc, columns, &mut pool, held, values)?;
-        let stored = stream_of(self.alloc, table, all)?;
-        Ok(RowsAnew {
-            stored,
-            is_pool_used: pool.is_used(),
-            pool: pool.into_pool(),
-        })
+        self.rows_anew(table, all, pool)
     }
 
     /// What inserting rows makes.
@@ -133,7 +128,8 @@ impl Database {
     /// Those of `insert_rows`.
     fn rows_inserted(&self, insert: InsertParts) -> Result<RowsAnew, Error>
         ensures ok { let change = inserts.insert_rows self.now.database (insert_of insert) in
-            IfOk result (λ new. MakesRows self.now change (unindexed new.pool) new.stored) }
+            IfOk result (λ new.
+            MakesRows self.now change (base_with new.wide self.now) (unindexed new.pool) new.stored) }
         ensures used { IfOk result (λ new.
             TellsUse (inserts.insert_rows self.now.database (insert_of insert)) new.is_pool_used) }
         ensures kind { IfErr result (IsRefusal (inserts.insert_rows self.now.database (insert_of insert))) }
@@ -175,7 +171,8 @@ impl Database {
         requires known { IsKnown self.now.database update.now.table table.now }
         requires fits { first_refusal (set_refusals table.now.columns (update_of update.now)) ≡ None }
         ensures ok { let change = updates.update_rows self.now.database (update_of update.now) in
-            IfOk result (λ new. MakesRows self.now change (unindexed new.pool) new.stored) }
+            IfOk result (λ new.
+            MakesRows self.now change (base_with new.wide self.now) (unindexed new.pool) new.stored) }
         ensures used { IfOk result (λ new.
             TellsUse (updates.update_rows self.now.database (update_of update.now)) new.is_pool_used) }
         ensures kind { IfErr result (IsRefusal (updates.update_rows self.now.database (update_of update.now))) }
@@ -185,12 +182,7 @@ impl Database {
         refuse_collisions(self.alloc, &self.pool, columns, held.as_slice(), update)?;
         let mut pool = PoolInUse::new(self.pool.clone()?);
         let all = updated_rows(self.alloc, &self.pool, &mut pool, columns, update, held)?;
-        let stored = stream_of(self.alloc, table, all)?;
-        Ok(RowsAnew {
-            stored,
-            is_pool_used: pool.is_used(),
-            pool: pool.into_pool(),
-        })
+        self.rows_anew(table, all, pool)
     }
 
     /// What updating rows makes.
@@ -199,7 +191,8 @@ impl Database {
     /// Those of `update_rows`.
     fn rows_updated(&self, update: &UpdateParts) -> Result<RowsAnew, Error>
         ensures ok { let change = updates.update_rows self.now.database (update_of update.now) in
-            IfOk result (λ new. MakesRows self.now change (unindexed new.pool) new.stored) }
+            IfOk result (λ new.
+            MakesRows self.now change (base_with new.wide self.now) (unindexed new.pool) new.stored) }
         ensures used { IfOk result (λ new.
             TellsUse (updates.update_rows self.now.database (update_of update.now)) new.is_pool_used) }
         ensures kind { IfErr result (IsRefusal (updates.update_rows self.now.database (update_of update.now))) }
@@ -241,7 +234,8 @@ impl Database {
         requires known { IsKnown self.now.database delete.now.table table.now }
         requires fits { has_columns table.now.columns (condition_names delete.now.condition) ≡ true }
         ensures ok { let change = deletes.delete_rows self.now.database (delete_of delete.now) in
-            IfOk result (λ new. MakesRows self.now change (unindexed new.pool) new.stored) }
+            IfOk result (λ new.
+            MakesRows self.now change (base_with new.wide self.now) (unindexed new.pool) new.stored) }
         ensures used { IfOk result (λ new.
             TellsUse (deletes.delete_rows self.now.database (delete_of delete.now)) new.is_pool_used) }
         ensures kind { OnlyMemory result }
@@ -250,12 +244,7 @@ impl Database {
         let held = self.sound_rows(table)?;
         let mut pool = PoolInUse::new(self.pool.clone()?);
         let all = remaining_rows(self.alloc, &self.pool, &mut pool, columns, delete, held)?;
-        let stored = stream_of(self.alloc, table, all)?;
-        Ok(RowsAnew {
-            stored,
-            is_pool_used: pool.is_used(),
-            pool: pool.into_pool(),
-        })
+        self.rows_anew(table, all, pool)
     }
 
     /// What deleting rows makes.
@@ -264,7 +253,8 @@ impl Database {
     /// Those of `delete_rows`.
     fn rows_deleted(&self, delete: &DeleteParts) -> Result<RowsAnew, Error>
         ensures ok { let change = deletes.delete_rows self.now.database (delete_of delete.now) in
-            IfOk result (λ new. MakesRows self.now change (unindexed new.pool) new.stored) }
+            IfOk result (λ new.
+            MakesRows self.now change (base_with new.wide self.now) (unindexed new.pool) new.stored) }
         ensures used { IfOk result (λ new.
             TellsUse (deletes.delete_rows self.now.database (delete_of delete.now)) new.is_pool_used) }
         ensures kind { IfErr result (IsRefusal (deletes.delete_rows self.now.database (delete_of delete.now))) }

@@ -2,5 +2,6 @@
 pub mod InTurnLemmas
 pub mod KeyPairLemmas
 pub mod KeySetLemmas
+pub mod NarrowLemmas
 pub mod SettingLemmas
 pub mod ViewLemmas

@@ -1,7 +1,8 @@
 -- Texts that cells take of the pool and give back.
-use Rattle.std.specs.Prelude.{Bool, true, List, [], ◌∷◌, Option, Some, option_map, option_and_then, unwrap_or}
+use Rattle.std.specs.Prelude.{Bool, true, not, ◌&&◌, List, [], ◌∷◌, Option, Some, option_map, option_and_then}
+use Rattle.std.specs.Prelude.{unwrap_or}
 use Rattle.std.specs.List.{fold}
-use Rattle.msi_text_places.specs.FirstFit.{taken, given_back}
+use Rattle.msi_text_places.specs.FirstFit.{given_back, is_long_with, taken}
 use Rattle.msi_text_pool_base.specs.Pool.{Pool, Place}
 use Rattle.msi_table_values.specs.declared.value.Value.{Value}
 use Rattle.msi_table_values.specs.declared.value.Value.TheVariants.{Null, Int, Str, Binary}
@@ -13,13 +14,21 @@ pub record PoolInUse : Type 0 where
   pub places : List Place
   pub is_used : Bool
 
--- and whole, with its code page and width
+-- and whole, with its code page, and the width of references that the change began with
 pub record UsedPool : Type 0 where
   pub pool : Pool
   pub is_used : Bool
 
 abbrev pub in_use : UsedPool → PoolInUse
 in_use u = record { places = u.pool.places; is_used = u.is_used }
+
+-- whether the places need references of three bytes, where the change began with two
+abbrev pub widens : Pool → Bool
+widens pool = is_long_with pool.long pool.places && not pool.long
+
+-- the pool with references that are as wide as its places need, and no narrower than they were
+abbrev pub settled : Pool → Pool
+settled pool = record pool { long = is_long_with pool.long pool.places }
 
 -- each in turn, from the state that the one before it left
 abbrev pub in_turn : {S X Y : Type 0} → (S → X → Option (Y × S)) → S → List X → Option (List Y × S)

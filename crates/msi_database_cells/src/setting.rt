@@ -1,6 +1,6 @@
 //! New values in a row: put where its values are seen, and exchanged for its cells.
 
-ghost use Rattle.std.specs.Prelude.{◌≡◌, map, set, List, IfOk, IfErr, OnOk, Some};
+ghost use Rattle.std.specs.Prelude.{◌≡◌, map, set, List, IfOk, IfErr, OnOk, Some, true};
 ghost use Rattle.msi_text_base.specs.Results.{OnlyMemory};
 ghost use Rattle.msi_text_base.specs.declared.errors.ErrorKind.TheVariants.{InvalidInput};
 ghost use Rattle.msi_text.specs.Refusals.{IsRefusal, or_refused};
@@ -86,10 +86,10 @@ fn exchange(
     place: usize,
     value: &Value,
 ) -> Result<(), Error>
-    ensures ok { OnOk result (cell_exchanged pool.old.pool.long (in_use pool.old) row.old.items place value.now
+    ensures ok { OnOk result (cell_exchanged true (in_use pool.old) row.old.items place value.now
         ≡ Some (row.new.items, in_use pool.new)) }
     ensures kind { IfErr result (IsRefusal (or_refused InvalidInput
-        (cell_exchanged pool.old.pool.long (in_use pool.old) row.old.items place value.now))) }
+        (cell_exchanged true (in_use pool.old) row.old.items place value.now))) }
     ensures page { pool.new.pool.page ≡ pool.old.pool.page }
     ensures long { pool.new.pool.long ≡ pool.old.pool.long }
 {
@@ -112,10 +112,10 @@ pub fn set_cells(
     sets: &[Assignment],
 ) -> Result<Vec<ValueRef>, Error>
     ensures ok { IfOk result (λ cells. (columns : List ColumnDef) → places.now ≡ map (index_of columns) sets.now
-        → cells_set pool.old.pool.long columns (in_use pool.old) row.items sets.now
+        → cells_set true columns (in_use pool.old) row.items sets.now
         ≡ Some (cells.items, in_use pool.new)) }
     ensures kind { IfErr result (λ kind. (columns : List ColumnDef) → places.now ≡ map (index_of columns) sets.now
-        → let cells = cells_set pool.old.pool.long columns (in_use pool.old) row.items sets.now in
+        → let cells = cells_set true columns (in_use pool.old) row.items sets.now in
         IsRefusal (or_refused InvalidInput cells) kind) }
     ensures page { pool.new.pool.page ≡ pool.old.pool.page }
     ensures long { pool.new.pool.long ≡ pool.old.pool.long }

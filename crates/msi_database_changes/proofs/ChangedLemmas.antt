@@ -19,7 +19,8 @@ use Rattle.msi_database_changes.specs.Database.{Database, are_alike, has_table}
 use Rattle.msi_query_joins.specs.Rows.{TableCells}
 use Rattle.msi_database_changes.specs.Changes.{Change}
 use Rattle.msi_database_changes.specs.Update.{values_after}
-use Rattle.msi_database_changes.specs.Laws.{IsChange, OthersStay, rows_at}
+use Rattle.msi_database_changes.specs.Laws.{OthersStay, rows_at}
+use Rattle.msi_database_changes.proofs.AtWidthLemmas.{IsChangeAtWidth}
 use Rattle.msi_database_schema.specs.Schema.{schema_of}
 use Rattle.msi_database_schema.proofs.SchemaLemmas.{Described, describes_from, names_tie, same_names}
 use Rattle.msi_database_schema.proofs.OrderlessLemmas.{HasKinds, IsReordered}
@@ -99,7 +100,7 @@ module _ (d : Database) (name : List ℕ) (c : Change) (p : Dropped d name c)
 
 -- ---- a change of rows
 
-pub describes_changed : (d : Database) (c : Change) → IsChange d c → schema_of (describing d) ≡ Some (shown d) → HasKinds (describing d) → IsSameButDescription (describing d) (describing c.database)
+pub describes_changed : (d : Database) (c : Change) → IsChangeAtWidth d c → schema_of (describing d) ≡ Some (shown d) → HasKinds (describing d) → IsSameButDescription (describing d) (describing c.database)
     → schema_of (describing c.database) ≡ Some (shown c.database)
 describes_changed d c change before kinds same = schema_undescribed (describing d) (describing c.database) (shown d) kinds same before
     ∙ ap Some (sym (shown_changed d c ((describes_from (describing d) (shown d) before).in_order) change))

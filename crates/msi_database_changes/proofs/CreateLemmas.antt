@@ -24,7 +24,7 @@ use Rattle.msi_database_schema.specs.System.{validation_name, columns_name, tabl
 use Rattle.msi_database_changes.specs.Database.{Database, table_at, has_table, with_table, rows_of, is_sound, are_alike}
 use Rattle.msi_query_joins.specs.Rows.{TableCells}
 use Rattle.msi_database_changes.specs.Changes.{Change, no_change, sound_refusal}
-use Rattle.msi_database_changes.specs.Create.{table_refusals, with_new_table, create_table}
+use Rattle.msi_database_changes.specs.Create.{table_refusals, with_new_table, create_at_width}
 use Rattle.msi_database_changes.specs.Insert.{rows_inserted}
 use Rattle.msi_database_schema.specs.Description.{column_rows, validation_rows}
 use Rattle.msi_database_schema.proofs.AccountLemmas.{Uses, Enough}
@@ -144,7 +144,7 @@ module _ (takes : TakenPlacesHoldTheirText) (gives : GivenBackTakesOne) where
   early d name columns = unless_refused (sound_refusal d ++ table_refusals d name columns) (no_change d)
 
   -- a created table leaves a sound and well-formed database, and exact counts exact
-  pub create_keeps : (d : Database) (name : List ℕ) (columns : List ColumnDef) (c : Change) → WellFormed d → create_table d name columns ≡ Ok c → Keeps d c.database
+  pub create_keeps : (d : Database) (name : List ℕ) (columns : List ColumnDef) (c : Change) → WellFormed d → create_at_width d name columns ≡ Ok c → Keeps d c.database
   create_keeps d name columns c well e =
       let columns_in = rows_inserted columns_name (column_rows name columns) in
       let name_in = rows_inserted tables_name ((Str name ∷ []) ∷ []) in

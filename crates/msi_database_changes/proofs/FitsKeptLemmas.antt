@@ -25,11 +25,12 @@ use Rattle.msi_database_changes.specs.Database.{Database, table_at, rows_of, sam
 use Rattle.msi_query_expressions.specs.Conditions.{meets}
 use Rattle.msi_database_changes.specs.Changes.{Change, no_change, pool_of, with_stored}
 use Rattle.msi_database_cells.specs.Texts.{PoolInUse, rows_released}
-use Rattle.msi_database_changes.specs.Create.{create_table}
+use Rattle.msi_database_changes.specs.Create.{create_at_width}
 use Rattle.msi_database_changes.specs.Delete.{rows_meeting}
 use Rattle.msi_database_changes.specs.Drop.{drop_table}
 use Rattle.msi_table.specs.KeyOrder.{in_key_order}
-use Rattle.msi_database_changes.specs.Laws.{RowsFit, TableFits, IsChange, inserted, updated, deleted}
+use Rattle.msi_database_changes.specs.Laws.{RowsFit, TableFits}
+use Rattle.msi_database_changes.proofs.AtWidthLemmas.{IsChangeAtWidth, inserted, updated, deleted}
 use Rattle.msi_database_changes.proofs.StoredLemmas.{WellFormed, sound_parts}
 use Rattle.msi_database_changes.proofs.StaysLemmas.{LeavesUnlisted}
 use Rattle.msi_database_changes.proofs.TracksLemmas.{Tracks, fewer_fit}
@@ -95,7 +96,7 @@ unfolding Rattle.std.specs.Str.chars
 validation_named = refl
 
 module _ (takes : TakenPlacesHoldTheirText) (gives : GivenBackTakesOne) where
-  pub change_fits : (d : Database) (c : Change) → IsChange d c → is_sound d ≡ true → RowsFit d → RowsFit c.database
+  pub change_fits : (d : Database) (c : Change) → IsChangeAtWidth d c → is_sound d ≡ true → RowsFit d → RowsFit c.database
   change_fits d c (inserted q e) sound fit =
       let s = (insert_parts d q c e).1 in
       let columns = s.table.columns in
@@ -127,7 +128,7 @@ module _ (takes : TakenPlacesHoldTheirText) (gives : GivenBackTakesOne) where
         (subst (λ (long : Bool). AllByRecursion (FitsRow long (types_of validation_columns)) d.unlisted_validation) (sym tracks.long) fit.unlisted);
   }
 
-  pub create_fits : (d : Database) (name : List ℕ) (columns : List ColumnDef) (c : Change) → WellFormed d → create_table d name columns ≡ Ok c → RowsFit d → RowsFit c.database
+  pub create_fits : (d : Database) (name : List ℕ) (columns : List ColumnDef) (c : Change) → WellFormed d → create_at_width d name columns ≡ Ok c → RowsFit d → RowsFit c.database
   create_fits d name columns c well e =
       let p = created d name columns c e in
       tracked_fits d c (create_tracks takes gives d name columns c well p columns_named tables_named validation_named) (create_unlisted takes gives d name columns c well p)

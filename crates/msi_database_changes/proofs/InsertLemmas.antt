@@ -8,7 +8,7 @@ use Rattle.msi_text.specs.Refusals.{Refusals, unless_refused}
 use Rattle.msi_database_schema.specs.System.{is_system_table}
 use Rattle.msi_database_changes.specs.Database.{Database, is_sound, CountsAreExact}
 use Rattle.msi_database_changes.specs.Changes.{Change, no_change, sound_refusal}
-use Rattle.msi_database_changes.specs.Insert.{rows_inserted, insert_rows}
+use Rattle.msi_database_changes.specs.Insert.{rows_inserted, insert_at_width}
 use Rattle.msi_database_changes.specs.Laws.{rows_at, OthersStay}
 use Rattle.msi_database_changes.proofs.RefusedLemmas.{bind_ok, not_refused, first_fails, front_fails}
 use Rattle.msi_database_changes.proofs.StoredLemmas.{WellFormed}
@@ -17,7 +17,7 @@ use Rattle.msi_database_changes.proofs.InsertedLemmas.{Inserted, inserted_parts,
 abbrev early_refusals : Database → InsertQuery → Refusals
 early_refusals d q = sound_refusal d ++ (is_system_table q.table, InvalidInput) ∷ []
 
-pub insert_parts : (d : Database) (q : InsertQuery) (c : Change) → insert_rows d q ≡ Ok c → (is_sound d ≡ true) × Inserted (no_change d) q.table q.rows c
+pub insert_parts : (d : Database) (q : InsertQuery) (c : Change) → insert_at_width d q ≡ Ok c → (is_sound d ≡ true) × Inserted (no_change d) q.table q.rows c
 insert_parts d q c e =
     bind_ok (unless_refused (early_refusals d q) (no_change d)) (rows_inserted q.table q.rows) c e
     (λ c₀ c₀_is rest.
@@ -25,7 +25,7 @@ insert_parts d q c e =
     let sound = not-false (is_sound d) (first_fails (not (is_sound d)) InvalidData [] (front_fails (sound_refusal d) ((is_system_table q.table, InvalidInput) ∷ []) passed.0).0).0 in
     (sound, inserted_parts (no_change d) q.table q.rows c (subst (λ c₁. rows_inserted q.table q.rows c₁ ≡ Ok c) (sym passed.1) rest)))
 
-module _ (takes : TakenPlacesHoldTheirText) (gives : GivenBackTakesOne) (d : Database) (q : InsertQuery) (c : Change) (well : WellFormed d) (e : insert_rows d q ≡ Ok c) where
+module _ (takes : TakenPlacesHoldTheirText) (gives : GivenBackTakesOne) (d : Database) (q : InsertQuery) (c : Change) (well : WellFormed d) (e : insert_at_width d q ≡ Ok c) where
   abbrev parts : (is_sound d ≡ true) × Inserted (no_change d) q.table q.rows c
   parts = insert_parts d q c e
 

@@ -28,7 +28,9 @@ use Rattle.msi_database_changes.specs.Changes.{Change, no_change, pool_of, with_
 use Rattle.msi_database_cells.specs.Texts.{PoolInUse, rows_released}
 use Rattle.msi_database_changes.specs.Delete.{rows_meeting}
 use Rattle.msi_table.specs.KeyOrder.{in_key_order}
-use Rattle.msi_database_changes.specs.Laws.{rows_at, RowsFit, LeadingNumbersAscend, LeadingNumbersAscendIn, IsChange, inserted, updated, deleted}
+use Rattle.msi_database_changes.specs.Laws.{rows_at, RowsFit, LeadingNumbersAscend, LeadingNumbersAscendIn}
+use Rattle.msi_database_changes.specs.Widening.{widened}
+use Rattle.msi_database_changes.proofs.AtWidthLemmas.{change_at, fits_widened, sound_widened, IsChangeAtWidth, inserted, updated, deleted}
 use Rattle.msi_database_changes.proofs.FitsKeptLemmas.{change_fits}
 use Rattle.msi_text_places.specs.FirstFitLaws.{TakenPlacesHoldTheirText, GivenBackTakesOne}
 use Rattle.msi_table.proofs.StableSortLemmas.{sort_moves}
@@ -85,7 +87,7 @@ module _ (ascend : sorted.LeadingNumbersAscend) where
       (fits_now d.pool.long t new table (fit.tables n t at)).each_row))
 
 module _ (takes : TakenPlacesHoldTheirText) (gives : GivenBackTakesOne) (ascend : sorted.LeadingNumbersAscend) where
-  leading_in : (d : Database) (c : Change) → IsChange d c → RowsFit c.database → LeadingNumbersAscendIn c
+  leading_in : (d : Database) (c : Change) → IsChangeAtWidth d c → RowsFit c.database → LeadingNumbersAscendIn c
   leading_in d c (inserted q e) =
       let s = (insert_parts d q c e).1 in
       subst (λ (c : Change). RowsFit c.database → LeadingNumbersAscendIn c) s.stored
@@ -99,4 +101,6 @@ module _ (takes : TakenPlacesHoldTheirText) (gives : GivenBackTakesOne) (ascend 
       (leading_stored ascend d q.table s.table.columns (rows_meeting d.pool.places s.table q.condition false) (rows_released (pool_of (no_change d)) (rows_meeting d.pool.places s.table q.condition true)))
 
   pub leading_ascend : LeadingNumbersAscend
-  leading_ascend d c change formed sound fit = leading_in d c change (change_fits takes gives d c change sound fit)
+  leading_ascend d c change formed sound fit = change_at d c change
+      (λ s short wide. leading_in (widened d) c wide (change_fits takes gives (widened d) c wide (sound_widened d sound) (fits_widened d fit)))
+      (λ same. leading_in d c same (change_fits takes gives d c same sound fit))

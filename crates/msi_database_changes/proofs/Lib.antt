@@ -1,6 +1,7 @@
 -- The lemmas of this crate.
 pub mod AcceptedLemmas
 pub mod AlikeLemmas
+pub mod AtWidthLemmas
 pub mod CellLemmas
 pub mod ChangedLemmas
 pub mod CreateLemmas

@@ -1,5 +1,5 @@
 -- The rows of a database describe its tables, also after one was created or dropped.
-use Rattle.std.proofs.Common.{◌≡◌, ℕ, Bool, true, List, [], ◌∷◌, map, Option, Some, None, is_some, option_map, refl, sym, ap, subst, ◌∙◌}
+use Rattle.std.proofs.Common.{◌≡◌, ℕ, Bool, true, List, [], ◌∷◌, map, Option, Some, None, Ok, is_some, option_map, refl, sym, ap, subst, ◌∙◌}
 use Rattle.std.specs.Prelude.{IsSomeAnd, unwrap_or}
 use Rattle.std.specs.List.{AllByRecursion}
 use Rattle.msi_text_base.proofs.OptionLemmas.{map_some}
@@ -15,9 +15,14 @@ use Rattle.msi_database_schema.specs.Schema.{SchemaRows, schema_of}
 use Rattle.msi_database_schema.specs.System.{columns_name, columns_columns, validation_name, validation_columns}
 use Rattle.msi_database_schema.proofs.OrderlessLemmas.{HasKinds}
 use Rattle.msi_database_schema.proofs.SchemaLemmas.{NoFault, describes_from, table_of}
-use Rattle.msi_database_changes.specs.Database.{Database, table_at, rows_of, are_alike}
-use Rattle.msi_database_changes.specs.Changes.{sound_refusal}
+use Rattle.msi_database_changes.specs.Database.{Database, table_at, rows_of, are_alike, columns_by_name, is_well_formed}
+use Rattle.msi_database_changes.specs.Changes.{Change, sound_refusal}
+use Rattle.msi_database_changes.specs.Create.{create_at_width}
+use Rattle.msi_database_changes.specs.Widening.{widened}
 use Rattle.msi_database_changes.specs.Laws.{describing, RowsFit, TablesAreDescribed, CreatedTablesAreDescribed, DroppedTablesAreForgotten}
+use Rattle.std.specs.FinMap.{put}
+use Rattle.msi_text_base.specs.Lists.{list_cmp}
+use Rattle.msi_database_changes.proofs.AtWidthLemmas.{fits_widened, widening_made}
 use Rattle.msi_database_changes.proofs.KindsLemmas.{fits_alike, kinds_from_cells}
 use Rattle.msi_database_changes.proofs.ShownLemmas.{created, find_shown, shown, shown_created}
 use Rattle.msi_database_changes.proofs.ShownChangesLemmas.{dropped_parts, shown_dropped}
@@ -89,12 +94,18 @@ module _ (d : Database) (fit : RowsFit d) (schema : TablesAreDescribed d) (sound
   kinds_there = kinds_by d (cells_by (table_at validation_name d) refl) (describes_from (describing d) (shown d) schema).sound
 
 module _ (takes : TakenPlacesHoldTheirText) (gives : GivenBackTakesOne) where
-  pub created_described : CreatedTablesAreDescribed
-  created_described d name columns c formed fit before e =
+  created_described_at : (d : Database) (name : List ℕ) (columns : List ColumnDef) (c : Change) → is_well_formed d ≡ true → RowsFit d → TablesAreDescribed d → create_at_width d name columns ≡ Ok c
+      → schema_of (describing c.database) ≡ Some (put list_cmp name columns (columns_by_name d))
+  created_described_at d name columns c formed fit before e =
       let p = created d name columns c e in
       let kinds = kinds_there d fit before p.sound in
       (create_describes takes gives d name columns c (well_formed_from d formed) p before kinds).0
       ∙ ap Some (shown_created d name columns c (describes_from (describing d) (shown d) before).in_order e)
+
+  pub created_described : CreatedTablesAreDescribed
+  created_described d name columns c formed fit before e = widening_made (λ d. create_at_width d name columns) d c e
+      (λ sound short is. created_described_at (widened d) name columns c formed (fits_widened d fit) before is)
+      (λ is. created_described_at d name columns c formed fit before is)
 
   pub dropped_forgotten : DroppedTablesAreForgotten
   dropped_forgotten d name c formed fit before e =

@@ -20,9 +20,9 @@ use Rattle.msi_database_changes.specs.Changes.{Change, no_change, pool_of, sound
 use Rattle.msi_database_changes.specs.Delete.{delete_rows, rows_deleted, rows_meeting}
 use Rattle.msi_database_changes.specs.Drop.{drop_table, is_row_about, rows_forgotten, table_released}
 use Rattle.msi_database_cells.specs.Texts.{in_turn, rows_released}
-use Rattle.msi_database_changes.specs.Update.{is_update_barred, row_updated, rows_updated, update_refusals, update_rows}
+use Rattle.msi_database_changes.specs.Update.{is_update_barred, row_updated, rows_updated, update_refusals, update_at_width}
 use Rattle.msi_database_changes.specs.Insert.{rows_inserted}
-use Rattle.msi_database_changes.specs.Laws.{IsChange, inserted, updated, deleted}
+use Rattle.msi_database_changes.proofs.AtWidthLemmas.{IsChangeAtWidth, inserted, updated, deleted}
 use Rattle.msi_database_changes.proofs.DroppedLemmas.{without}
 use Rattle.msi_database_changes.proofs.ShownLemmas.{ok_first, shown, shown_after, shown_inserted, shown_stored, without_shown}
 use Rattle.msi_database_changes.proofs.RefusedLemmas.{front_fails, none_holds, value_there, not_refused, same_Ok}
@@ -79,7 +79,7 @@ shown_dropped d name c up e = shown_dropped_parts d name c up (dropped_parts d n
 
 -- ---- changes of rows
 
-shown_updated : (d : Database) (q : UpdateQuery) (c : Change) → T (is_sorted list_cmp (shown d)) → update_rows d q ≡ Ok c → shown c.database ≡ shown d
+shown_updated : (d : Database) (q : UpdateQuery) (c : Change) → T (is_sorted list_cmp (shown d)) → update_at_width d q ≡ Ok c → shown c.database ≡ shown d
 shown_updated d q c up e =
     let own : Refusals = sound_refusal d ++ (is_update_barred q, InvalidInput) ∷ [] in
     let refused = λ (t : TableCells). update_refusals d.pool.places t q in
@@ -103,7 +103,7 @@ shown_deleted d q c up e =
     shown_after q.table t (rows_meeting d.pool.places t q.condition false) (rows_released (pool_of (no_change d)) (rows_meeting d.pool.places t q.condition true)) (no_change d) c up (value_there NotFound (table_at q.table d) t e1)
     (ap (rows_deleted t q) begun ∙ is)
 
-pub shown_changed : (d : Database) (c : Change) → T (is_sorted list_cmp (shown d)) → IsChange d c → shown c.database ≡ shown d
+pub shown_changed : (d : Database) (c : Change) → T (is_sorted list_cmp (shown d)) → IsChangeAtWidth d c → shown c.database ≡ shown d
 shown_changed d c up (inserted q e) =
     let own : Refusals = sound_refusal d ++ (is_system_table q.table, InvalidInput) ∷ [] in
     let (start, e0, f0) = ok_first (unless_refused own (no_change d)) (rows_inserted q.table q.rows) c e in

@@ -25,7 +25,7 @@ use Rattle.msi_query_joins.specs.Rows.{TableCells}
 use Rattle.msi_database_changes.specs.Changes.{Change, no_change, sound_refusal, with_stored, pool_of}
 use Rattle.msi_database_cells.specs.Texts.{PoolInUse, rows_put}
 use Rattle.msi_database_schema.specs.Description.{column_rows, validation_rows}
-use Rattle.msi_database_changes.specs.Create.{create_table, table_refusals, with_new_table}
+use Rattle.msi_database_changes.specs.Create.{create_at_width, table_refusals, with_new_table}
 use Rattle.msi_database_changes.specs.Insert.{row_refusals, rows_added, rows_inserted}
 use Rattle.msi_database_schema.proofs.SchemaLemmas.{Described, names_tie, same_names}
 use Rattle.msi_database_schema.proofs.OrderlessLemmas.{texts_same}
@@ -115,7 +115,7 @@ pub record Created (d : Database) (name : List ℕ) (columns : List ColumnDef) (
   pub in_validation : rows_inserted validation_name (validation_rows name columns) second ≡ Ok third
   pub last : with_new_table name columns third ≡ c
 
-pub created : (d : Database) (name : List ℕ) (columns : List ColumnDef) (c : Change) → create_table d name columns ≡ Ok c → Created d name columns c
+pub created : (d : Database) (name : List ℕ) (columns : List ColumnDef) (c : Change) → create_at_width d name columns ≡ Ok c → Created d name columns c
 created d name columns c e =
     let refusals = sound_refusal d ++ table_refusals d name columns in
     let start = unless_refused refusals (no_change d) in
@@ -137,5 +137,5 @@ shown_by_steps d name columns c up r =
     let s3 = shown_inserted validation_name (validation_rows name columns) r.second r.third (rw (s2 ∙ s1) up) r.in_validation in
     ap (λ (x : Change). shown x.database) (sym r.last) ∙ put_shown name _ r.third.database.tables ∙ ap (put list_cmp name columns) (s3 ∙ s2 ∙ s1)
 
-pub shown_created : (d : Database) (name : List ℕ) (columns : List ColumnDef) (c : Change) → T (is_sorted list_cmp (shown d)) → create_table d name columns ≡ Ok c → shown c.database ≡ put list_cmp name columns (shown d)
+pub shown_created : (d : Database) (name : List ℕ) (columns : List ColumnDef) (c : Change) → T (is_sorted list_cmp (shown d)) → create_at_width d name columns ≡ Ok c → shown c.database ≡ put list_cmp name columns (shown d)
 shown_created d name columns c up e = shown_by_steps d name columns c up (created d name columns c e)

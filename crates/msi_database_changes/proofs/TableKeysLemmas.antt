@@ -17,7 +17,7 @@ use Rattle.msi_database_schema.specs.Description.{column_rows, validation_rows}
 use Rattle.msi_database_schema.specs.System.{columns_name, tables_name, validation_name}
 use Rattle.msi_database_changes.specs.Database.{Database, table_at, with_table, is_sound}
 use Rattle.msi_database_changes.specs.Changes.{Change, no_change}
-use Rattle.msi_database_changes.specs.Create.{create_table}
+use Rattle.msi_database_changes.specs.Create.{create_at_width}
 use Rattle.msi_database_changes.specs.Drop.{is_row_about, rows_forgotten, table_released, drop_table}
 use Rattle.msi_table.specs.KeyOrder.{key_of, same_key}
 use Rattle.msi_database_changes.specs.Laws.{rows_at, KeysAreDistinct}
@@ -123,5 +123,5 @@ module _ (takes : TakenPlacesHoldTheirText) (gives : GivenBackTakesOne) where
       let d₃ = inserted_distinct takes gives p.second validation_name validation_values p.third sound₂ well₂ i₃ d₂ in
       subst (λ (c : Change). KeysAreDistinct c.database) p.last (new_distinct p.third.database name columns d₃)
 
-  pub create_distinct : (d : Database) (name : List ℕ) (columns : List ColumnDef) (c : Change) → WellFormed d → create_table d name columns ≡ Ok c → KeysAreDistinct d → KeysAreDistinct c.database
+  pub create_distinct : (d : Database) (name : List ℕ) (columns : List ColumnDef) (c : Change) → WellFormed d → create_at_width d name columns ≡ Ok c → KeysAreDistinct d → KeysAreDistinct c.database
   create_distinct d name columns c well e = created_distinct d name columns c well (created d name columns c e)

@@ -27,7 +27,7 @@ use Rattle.msi_database_changes.specs.Database.{Database, table_at, rows_of, is_
 use Rattle.msi_query_joins.specs.Rows.{TableCells}
 use Rattle.msi_database_changes.specs.Changes.{Change, no_change, pool_of, with_stored, sound_refusal}
 use Rattle.msi_database_cells.specs.Texts.{PoolInUse, in_turn}
-use Rattle.msi_database_changes.specs.Update.{set_is_valid, sets_key, values_after, keys_collide, update_refusals, row_updated, rows_updated, is_update_barred, update_rows}
+use Rattle.msi_database_changes.specs.Update.{set_is_valid, sets_key, values_after, keys_collide, update_refusals, row_updated, rows_updated, is_update_barred, update_at_width}
 use Rattle.msi_database_cells.specs.Setting.{index_of, values_set}
 use Rattle.msi_database_changes.specs.Laws.{rows_at, OthersStay}
 use Rattle.msi_database_changes.proofs.TurnLemmas.{map_some}
@@ -87,7 +87,7 @@ with_table_found d q c t sound found e =
       keys = (none_holds (key_faults d q t) (front_fails (set_faults q t ++ name_faults q t) (key_faults d q t) passed.0).1).0;
     }))
 
-pub update_parts : (d : Database) (q : UpdateQuery) (c : Change) → update_rows d q ≡ Ok c → Updated d q c
+pub update_parts : (d : Database) (q : UpdateQuery) (c : Change) → update_at_width d q ≡ Ok c → Updated d q c
 update_parts d q c e =
     bind_ok (unless_refused (early_refusals d q) (no_change d)) (updated_from d q) c e
     (λ c₀ c₀_is rest.

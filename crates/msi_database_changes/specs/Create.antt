@@ -16,6 +16,7 @@ use Rattle.msi_database_schema.specs.System.{tables_name, columns_name, validati
 use Rattle.msi_database_changes.specs.Database.{Database, table_at, has_table, with_table}
 use Rattle.msi_database_changes.specs.Changes.{Change, no_change, sound_refusal}
 use Rattle.msi_database_changes.specs.Insert.{rows_added, rows_inserted}
+use Rattle.msi_database_changes.specs.Widening.{widening}
 use Rattle.msi_database_schema.specs.Description.{column_rows, validation_rows}
 use Rattle.msi_table_values.specs.declared.column.ColumnType.TheVariants as coltype
 
@@ -64,8 +65,12 @@ abbrev pub table_refusals : Database → List ℕ → List ColumnDef → Refusal
 table_refusals d name columns = new_table_refusals name columns
     ++ (has_table name d, AlreadyExists) ∷ (not (has_table validation_name d), NotFound) ∷ []
 
-abbrev pub create_table : Database → List ℕ → List ColumnDef → Result Change ErrorKind
-create_table d name columns = unless_refused (sound_refusal d ++ table_refusals d name columns) (no_change d) >>=
+-- a table created with references as wide as they are, and so that they widen where they have to
+abbrev pub create_at_width : Database → List ℕ → List ColumnDef → Result Change ErrorKind
+create_at_width d name columns = unless_refused (sound_refusal d ++ table_refusals d name columns) (no_change d) >>=
     rows_inserted columns_name (column_rows name columns) >>= rows_inserted tables_name
     ((Str name ∷ []) ∷ []) >>= rows_inserted validation_name (validation_rows name columns) >>=
     λ c. Ok (with_new_table name columns c)
+
+abbrev pub create_table : Database → List ℕ → List ColumnDef → Result Change ErrorKind
+create_table d name columns = widening (λ d. create_at_width d name columns) d

@@ -21,6 +21,7 @@ use Rattle.msi_database_cells.specs.KeySets.{key_refusals, keys_of_rows}
 use Rattle.msi_database_changes.specs.Changes.{Change, no_change, pool_of, with_stored}
 use Rattle.msi_database_cells.specs.Texts.{PoolInUse, rows_put}
 use Rattle.msi_database_changes.specs.Changes.{barred_refusals, missing_or}
+use Rattle.msi_database_changes.specs.Widening.{widening}
 
 abbrev pub keys_of : List Place → TableCells → List (List Value)
 keys_of places t = keys_of_rows places t.columns (rows_of t)
@@ -66,6 +67,10 @@ abbrev pub early_insert_refusals : Database → InsertQuery → Refusals
 early_insert_refusals d q = barred_refusals d (is_system_table q.table)
     ++ missing_or (table_at q.table d) (λ t. misfit_refusals t.columns q.rows)
 
-abbrev pub insert_rows : Database → InsertQuery → Result Change ErrorKind
-insert_rows d q = unless_refused (barred_refusals d (is_system_table q.table)) (no_change d)
+-- an insert with references as wide as they are, and one that widens them where it has to
+abbrev pub insert_at_width : Database → InsertQuery → Result Change ErrorKind
+insert_at_width d q = unless_refused (barred_refusals d (is_system_table q.table)) (no_change d)
     >>= rows_inserted q.table q.rows
+
+abbrev pub insert_rows : Database → InsertQuery → Result Change ErrorKind
+insert_rows d q = widening (λ d. insert_at_width d q) d

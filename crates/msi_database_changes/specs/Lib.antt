@@ -1,6 +1,7 @@
 -- The words of this crate.
 pub mod Database
 pub mod Changes
+pub mod Widening
 pub mod Insert
 pub mod Update
 pub mod Delete

@@ -24,6 +24,7 @@ use Rattle.msi_database_cells.specs.Setting.{cells_set, values_set}
 use Rattle.msi_database_changes.specs.Changes.{Change, no_change, pool_of, with_stored}
 use Rattle.msi_database_cells.specs.Texts.{PoolInUse, in_turn}
 use Rattle.msi_database_changes.specs.Changes.{barred_refusals, missing_or}
+use Rattle.msi_database_changes.specs.Widening.{widening}
 
 -- a set names a column, which takes its value
 abbrev pub set_is_valid : List ColumnDef → List ℕ × Value → Bool
@@ -71,8 +72,12 @@ abbrev pub early_update_refusals : Database → UpdateQuery → Refusals
 early_update_refusals d q = barred_refusals d (is_update_barred q)
     ++ missing_or (table_at q.table d) (λ t. set_refusals t.columns q)
 
-abbrev pub update_rows : Database → UpdateQuery → Result Change ErrorKind
-update_rows d q = unless_refused (barred_refusals d (is_update_barred q)) (no_change d) >>=
+-- an update with references as wide as they are, and one that widens them where it has to
+abbrev pub update_at_width : Database → UpdateQuery → Result Change ErrorKind
+update_at_width d q = unless_refused (barred_refusals d (is_update_barred q)) (no_change d) >>=
     λ c. or_refused NotFound (table_at q.table d) >>=
     λ t. unless_refused (update_refusals d.pool.places t q) t >>=
     λ t. or_refused InvalidInput (rows_updated t q c)
+
+abbrev pub update_rows : Database → UpdateQuery → Result Change ErrorKind
+update_rows d q = widening (λ d. update_at_width d q) d

@@ -1,6 +1,6 @@
 //! Inserting rows: why new rows are refused, and the rows of a table with new ones.
 
-ghost use Rattle.std.specs.Prelude.{◌≡◌, Some, None, IfOk, IfErr, OnOk};
+ghost use Rattle.std.specs.Prelude.{◌≡◌, Some, None, IfOk, IfErr, OnOk, true};
 ghost use Rattle.msi_text_base.specs.declared.errors.ErrorKind.TheVariants.{InvalidInput};
 ghost use Rattle.msi_text.specs.Refusals.{IsRefusal, first_refusal, or_refused, unless_refused};
 ghost use Rattle.msi_database_changes.specs.Insert.{cells_added, misfit_refusals, row_fits as fits_columns};
@@ -97,7 +97,7 @@ pub fn refuse_rows(
 /// by their keys. Their stored order is given to them where they are written.
 ///
 /// # Errors
-/// Fails with `InvalidInput` if the pool is full, or with `OutOfMemory`, which may come before.
+/// Fails with `InvalidInput` if the pool is full at 16777215 places, or with `OutOfMemory`, which may come before.
 pub fn add_rows(
     alloc: Global,
     columns: &[Column],
@@ -106,9 +106,9 @@ pub fn add_rows(
     new_rows: Vec<Items<Value>>,
 ) -> Result<Vec<Items<ValueRef>>, Error>
     ensures ok { IfOk result (λ all.
-        cells_added pool.old.pool.long columns.now (in_use pool.old) rows.items new_rows.items
+        cells_added true columns.now (in_use pool.old) rows.items new_rows.items
         ≡ Some (all.items, in_use pool.new)) }
-    ensures kind { let all = cells_added pool.old.pool.long columns.now (in_use pool.old) rows.items new_rows.items in
+    ensures kind { let all = cells_added true columns.now (in_use pool.old) rows.items new_rows.items in
         IfErr result (IsRefusal (or_refused InvalidInput all)) }
     ensures page { pool.new.pool.page ≡ pool.old.pool.page }
     ensures long { pool.new.pool.long ≡ pool.old.pool.long }

@@ -1,6 +1,6 @@
 //! Updates of a table's rows.
 
-ghost use Rattle.std.specs.Prelude.{◌≡◌, ◌∷◌, [], map, IfOk, IfErr, OnOk, Some, false};
+ghost use Rattle.std.specs.Prelude.{◌≡◌, ◌∷◌, [], map, IfOk, IfErr, OnOk, Some, false, true};
 ghost use Rattle.std.specs.List.{list_all};
 ghost use Rattle.std.specs.Option.{option_map_or};
 ghost use Rattle.msi_text_base.specs.Lists.{has_pair};
@@ -158,9 +158,9 @@ impl<'a> RowUpdate<'a> {
         pool: &mut PoolInUse,
         row: Items<ValueRef>,
     ) -> Result<Items<ValueRef>, Error>
-        ensures ok { let step = row_updated pool.old.pool.long old.now.places self.now.columns self.now.query in
+        ensures ok { let step = row_updated true old.now.places self.now.columns self.now.query in
             IfOk result (λ cells. step (in_use pool.old) row ≡ Some (cells, in_use pool.new)) }
-        ensures kind { let step = row_updated pool.old.pool.long old.now.places self.now.columns self.now.query in
+        ensures kind { let step = row_updated true old.now.places self.now.columns self.now.query in
             IfErr result (IsRefusal (or_refused InvalidInput (step (in_use pool.old) row))) }
         ensures page { pool.new.pool.page ≡ pool.old.pool.page }
         ensures long { pool.new.pool.long ≡ pool.old.pool.long }
@@ -224,9 +224,9 @@ impl<'a> RowUpdate<'a> {
         pool: &mut PoolInUse,
         rows: Vec<Items<ValueRef>>,
     ) -> Result<Vec<Items<ValueRef>>, Error>
-        ensures ok { let step = row_updated pool.old.pool.long old.now.places self.now.columns self.now.query in
+        ensures ok { let step = row_updated true old.now.places self.now.columns self.now.query in
             IfOk result (λ cells. in_turn step (in_use pool.old) rows.items ≡ Some (cells.items, in_use pool.new)) }
-        ensures kind { let step = row_updated pool.old.pool.long old.now.places self.now.columns self.now.query in
+        ensures kind { let step = row_updated true old.now.places self.now.columns self.now.query in
             IfErr result (IsRefusal (or_refused InvalidInput (in_turn step (in_use pool.old) rows.items))) }
         ensures page { pool.new.pool.page ≡ pool.old.pool.page }
         ensures long { pool.new.pool.long ≡ pool.old.pool.long }
@@ -308,7 +308,7 @@ pub fn refuse_collisions(
 /// pool in use began as a clone. Their stored order is given to them where they are written.
 ///
 /// # Errors
-/// Fails with `InvalidInput` if the pool is full, or with `OutOfMemory`, which may come before.
+/// Fails with `InvalidInput` if the pool is full at 16777215 places, or with `OutOfMemory`, which may come before.
 pub fn updated_rows(
     alloc: Global,
     old: &StringPool,
@@ -317,9 +317,9 @@ pub fn updated_rows(
     update: &UpdateParts,
     rows: Vec<Items<ValueRef>>,
 ) -> Result<Vec<Items<ValueRef>>, Error>
-    ensures ok { let step = row_updated pool.old.pool.long old.now.places columns.now (update_of update.now) in
+    ensures ok { let step = row_updated true old.now.places columns.now (update_of update.now) in
         IfOk result (λ cells. in_turn step (in_use pool.old) rows.items ≡ Some (cells.items, in_use pool.new)) }
-    ensures kind { let step = row_updated pool.old.pool.long old.now.places columns.now (update_of update.now) in
+    ensures kind { let step = row_updated true old.now.places columns.now (update_of update.now) in
         IfErr result (IsRefusal (or_refused InvalidInput (in_turn step (in_use pool.old) rows.items))) }
     ensures page { pool.new.pool.page ≡ pool.old.pool.page }
     ensures long { pool.new.pool.long ≡ pool.old.pool.long }

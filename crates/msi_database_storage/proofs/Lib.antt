@@ -5,3 +5,4 @@ pub mod SoundnessLemmas
 pub mod NamingLemmas
 pub mod PutBackLemmas
 pub mod ListingLemmas
+pub mod CopyingLemmas

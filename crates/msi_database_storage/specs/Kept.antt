@@ -1,6 +1,6 @@
 -- A database as it is kept: tables by their columns, and their rows in the streams of a container.
 use Rattle.std.specs.Prelude.{◌≡◌, ℕ, Bool, not, List, [], ◌∷◌, map, filter, Option, Some, None, is_some, unwrap_or}
-use Rattle.std.specs.Prelude.{if◌then◌else◌, bytes_eq}
+use Rattle.std.specs.Prelude.{if◌then◌else◌, bytes_eq, ◌&&◌}
 use Rattle.std.specs.List.{AllByRecursion}
 use Rattle.std.specs.Ordering.{is_lt}
 use Rattle.msi_text_base.specs.Lists.{list_cmp}
@@ -12,6 +12,8 @@ use Rattle.msi_query_joins.specs.Rows.{TableCells}
 use Rattle.msi_database_schema.specs.System.{validation_name, validation_columns}
 use Rattle.msi_database_changes.specs.Database.{Database}
 use Rattle.msi_database_changes.specs.Changes.{Change}
+use Rattle.msi_database_changes.specs.Widening.{widened}
+use Rattle.msi_database_storage.specs.Widening.{streams_widened}
 use Rattle.msi_database_storage.specs.Streams.{Streams, stored_rows, stored_streams}
 
 abbrev pub table_kept : Streams → Bool → TableDef → List ℕ × TableCells
@@ -42,9 +44,20 @@ pub record Kept : Type 0 where
 abbrev pub kept_of : Pool → List TableDef → Streams → Kept
 kept_of pool tables streams = record { database = database_kept pool tables streams; streams = streams }
 
+-- the same database with references of three bytes: its tables' streams are spelled anew
+abbrev pub kept_widened : Kept → Kept
+kept_widened k = record { database = widened k.database; streams = streams_widened k.database k.streams }
+
+-- the database over which a change is put: with wider references where the change has them
+abbrev pub base_of : Kept → Change → Kept
+base_of k c = if c.database.pool.long && not k.database.pool.long then kept_widened k else k
+
 -- what a change leaves
+abbrev pub with_change : Kept → Change → Kept
+with_change base c = record { database = c.database; streams = stored_streams c.database c.stored base.streams }
+
 abbrev pub after_change : Kept → Change → Kept
-after_change k c = record { database = c.database; streams = stored_streams c.database c.stored k.streams }
+after_change k c = with_change (base_of k c) c
 
 -- the tables with one put in, in the order of names, and without the one of a name
 abbrev pub with_table_kept : TableDef → List TableDef → List TableDef

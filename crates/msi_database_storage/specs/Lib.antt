@@ -1,6 +1,7 @@
 -- The words of this crate.
 pub mod Streams
 pub mod StreamNames
+pub mod Widening
 pub mod Kept
 pub mod Storing
 pub mod Naming

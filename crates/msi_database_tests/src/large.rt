@@ -55,13 +55,7 @@ fn full(alloc: Global, database: Result<Database, Error>) -> Result<Database, Er
 }
 
 /// What is told of 65535 places, none free.
-static IN_FULL: [Step; 4] = [
-    // The first row's text is known, the second one's is new.
-    Refused(
-        Insert("Numbers", &[&[Int(5), Str("Two")], &[Int(6), Str("Six")]]),
-        ErrorKind::InvalidInput,
-    ),
-    Refused(Create("Other", &[("Id", Key)]), ErrorKind::InvalidInput),
+static IN_FULL: [Step; 5] = [
     Made(
         Insert("Numbers", &[&[Int(5), Str("Two")]]),
         (
@@ -83,13 +77,47 @@ static IN_FULL: [Step; 4] = [
             &[(22, "Six", 1), (65535, "x", 1)],
         ),
     ),
+    // A new text needs place 65536, so that references take three bytes.
+    Made(
+        Insert("Numbers", &[&[Int(6), Str("Five")]]),
+        (
+            "Numbers",
+            Some(&[
+                1, 0x80, 2, 0x80, 4, 0x80, 5, 0x80, 6, 0x80, 23, 0, 0, 21, 0, 0, 22, 0, 0, 21, 0,
+                0, 0, 0, 1,
+            ]),
+            &[(65535, "x", 1), (65536, "Five", 1)],
+        ),
+    ),
+    // So they do in tables that no call named.
+    Made(
+        Insert("Numbers", &[&[Int(7), Str("Two")]]),
+        ("_Tables", Some(&[1, 0, 0, 18, 0, 0]), &[(21, "Two", 3)]),
+    ),
+    Made(
+        Create("Other", &[("Id", Key)]),
+        ("Other", None, &[(65537, "Other", 3), (65538, "Id", 2)]),
+    ),
 ];
 
+/// What is told of them where a new table is the first to need a place more.
+static NEW_TABLE: [Step; 1] = [Made(
+    Create("Other", &[("Id", Key)]),
+    ("Other", None, &[(65536, "Other", 3), (65537, "Id", 2)]),
+)];
+
 #[test]
-fn a_full_pool_takes_no_new_text(rt: HostRuntime) {
+fn a_full_pool_gets_wider_references(rt: HostRuntime) {
     let database = full(rt.alloc(), Database::new(rt.alloc()));
     let count = gone(rt.alloc(), database, &IN_FULL).expect(&rt, "no error");
     assert_eq!(rt; count, IN_FULL.len());
+}
+
+#[test]
+fn a_new_table_gets_wider_references(rt: HostRuntime) {
+    let database = full(rt.alloc(), Database::new(rt.alloc()));
+    let count = gone(rt.alloc(), database, &NEW_TABLE).expect(&rt, "no error");
+    assert_eq!(rt; count, NEW_TABLE.len());
 }
 
 /// A table of keys and words.

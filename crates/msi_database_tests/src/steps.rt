@@ -9,7 +9,7 @@ use msi_text::{Error, ErrorKind, StringPool};
 use std::alloc::Global;
 
 /// A place, its text and how many cells name it.
-pub(crate) type Place = (u16, &'static str, u16);
+pub(crate) type Place = (u32, &'static str, u16);
 
 /// What a change leaves: the stream of a table, and some places.
 pub(crate) type Left = (&'static str, Option<&'static [u8]>, &'static [Place]);
@@ -34,7 +34,7 @@ pub(crate) fn has_stream(database: &Database, table: &str, stream: Option<&[u8]>
 /// Whether places have these texts and counts.
 pub(crate) fn has_places(pool: &StringPool, places: &[Place]) -> bool {
     for (number, text, count) in places {
-        let place = string_ref(u32::from((*number).max(1)));
+        let place = string_ref((*number).max(1).min(16_777_215));
         if pool.get(place) != *text || pool.refcount(place) != *count {
             return false;
         }

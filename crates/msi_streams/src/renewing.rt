@@ -19,12 +19,13 @@ use msi_container_format::contents::{Bytes, StreamMap};
 use msi_container_format::name::Name;
 use msi_container_write::parts::BorrowedContents;
 use msi_database_schema::names::{string_data_key, string_pool_key, summary_key};
+use msi_database_storage::parts::{copied_bytes, copied_streams};
 use msi_summary::SummaryInfo;
 use msi_summary::parts::summary_bytes;
 use msi_text::errors::Error;
 use msi_text::parts::{data_stream_of, pool_stream_of};
 use msi_text::stringpool::StringPool;
-use std::alloc::{AllocError, Global};
+use std::alloc::Global;
 use std::vec::IntoIter;
 
 /// The summary's stream, where it is to be written.
@@ -90,30 +91,6 @@ pub fn renewed_streams(
         add_pool(pool, &mut renewed)?;
     }
     Ok(renewed)
-}
-
-/// A copy of bytes.
-fn copied_bytes(alloc: Global, bytes: &[u8]) -> Result<Bytes, AllocError>
-    ensures { IfOk result (λ copy. copy ≡ bytes.now) }
-{
-    let mut held = Vec::new(alloc);
-    held.extend_from_slice(bytes)?;
-    Ok(Bytes::from_vec(held))
-}
-
-/// A copy of streams.
-///
-/// # Errors
-/// `OutOfMemory`.
-fn copied_streams(alloc: Global, streams: &StreamMap) -> Result<StreamMap, Error>
-    ensures ok { IfOk result (λ copy. copy ≡ streams.now) }
-    ensures kind { OnlyMemory result }
-{
-    let mut copy = StreamMap::new(alloc);
-    for (name, bytes) in streams.iter() {
-        copy.insert(name.duplicate(), copied_bytes(alloc, bytes.as_slice())?)?;
-    }
-    Ok(copy)
 }
 
 /// Returns a copy of streams, of which one may lie open.

@@ -10,4 +10,5 @@ pub mod SortedRowsLemmas
 pub mod ReadRowsLemmas
 pub mod ColumnLemmas
 pub mod CensusLemmas
+pub mod LongRowsLemmas
 pub mod WorkedRows

@@ -1,5 +1,5 @@
 -- Tables and the bytes of their streams.
-use Rattle.std.specs.Prelude.{◌≡◌, ℕ, ◌<◌, Bool, List, length, Option, Some, None, All, nat_le, if◌then◌else◌}
+use Rattle.std.specs.Prelude.{◌≡◌, ℕ, ◌<◌, Bool, true, List, length, Option, Some, None, All, nat_le, if◌then◌else◌}
 use Rattle.msi_table_values.specs.declared.value.ValueRef.{ValueRef}
 use Rattle.msi_table.specs.Cells.{rows_in, table_bytes}
 use Rattle.msi_table_values.specs.Columns.{ColumnDef, greatest_16, types_of}
@@ -12,6 +12,10 @@ pub record TableDef : Type 0 where
   pub name : List ℕ
   pub columns : List ColumnDef
   pub long : Bool
+
+-- the same table with references of three bytes
+abbrev pub long_table_of : TableDef → TableDef
+long_table_of t = record t { long = true }
 
 -- the numbers of a table's columns are stored in 16 bits
 abbrev pub most_columns : ℕ

@@ -1,12 +1,13 @@
 //! What the crates above need beyond the surface.
 
-ghost use Rattle.std.specs.Prelude.{◌≡◌, ◌<◌, ◌≤◌, ◌↔◌, IfOk, IsTrue, Some, is_some, length, option_copied};
+ghost use Rattle.std.specs.Prelude.{◌≡◌, ◌<◌, ◌≤◌, ◌↔◌, IfOk, IsTrue, Some, is_some, length, option_copied, true};
 ghost use Rattle.msi_text_base.specs.Results.{OnlyMemory};
 ghost use Rattle.msi_text_base.specs.declared.errors.ErrorKind.TheVariants.{InvalidData};
 ghost use Rattle.msi_table_values.specs.Refusals.{FailsWith};
 ghost use Rattle.msi_table_values.specs.CellValues.{row_values};
-ghost use Rattle.msi_table_values.specs.Columns.{has_column as has_one};
-ghost use Rattle.msi_table.specs.Tables.{CanStore, rows_spelled, stored_bytes, table_of};
+ghost use Rattle.msi_table_values.specs.Columns.{has_column as has_one, types_of};
+ghost use Rattle.msi_table.specs.Cells.{table_bytes};
+ghost use Rattle.msi_table.specs.Tables.{CanStore, long_table_of, rows_spelled, stored_bytes, table_of};
 ghost use Rattle.msi_table.specs.Rows.{AreAsWide, value_named as value_in_row};
 ghost use Rattle.msi_table.specs.StoredOrder.{in_stored_order};
 
@@ -82,6 +83,36 @@ pub fn write_rows(
     ensures kind { OnlyMemory result }
 {
     writing::write_rows(alloc, table.is_long(), table.columns(), rows)
+}
+
+/// Returns the bytes of a table's rows with references of three bytes, in the order that the rows have. They read back
+/// in the table once its references are long. The table has to be able to store the rows as it is, which `fits_table`
+/// checks.
+///
+/// # Errors
+/// Fails with `OutOfMemory`.
+pub fn write_long_rows(
+    alloc: Global,
+    table: &Table,
+    rows: &[Items<ValueRef>],
+) -> Result<Vec<u8>, Error>
+    requires { CanStore table.now rows.now }
+    ensures ok { IfOk result (λ bytes. bytes.items ≡ table_bytes true (types_of table.now.columns) rows.now) }
+    ensures reads_back { IfOk result (λ bytes. rows_spelled (long_table_of table.now) bytes.items ≡ Some rows.now) }
+    ensures kind { OnlyMemory result }
+{
+    writing::write_table(alloc, true, table.columns(), rows)
+}
+
+/// Returns a copy of a table whose references to texts take three bytes.
+///
+/// # Errors
+/// Fails with `OutOfMemory`.
+pub fn long_table(alloc: Global, table: &Table) -> Result<Table, Error>
+    ensures ok { IfOk result (λ long. long ≡ long_table_of table.now) }
+    ensures kind { OnlyMemory result }
+{
+    table.with_long_references(alloc)
 }
 
 /// Returns the values that cells stand for, in order.

@@ -3,7 +3,7 @@
 ghost use Rattle.std.specs.Prelude.{◌≡◌, ◌≤◌, IfOk, length, option_copied};
 ghost use Rattle.msi_text_base.specs.Results.{OnlyMemory};
 ghost use Rattle.msi_table_values.specs.Columns.{column_named, has_column as has_one, key_places};
-ghost use Rattle.msi_table.specs.Tables.{most_columns, table_of};
+ghost use Rattle.msi_table.specs.Tables.{long_table_of, most_columns, table_of};
 
 use msi_table_values::column::Column;
 use msi_table_values::parts::{column_index, copied_columns, has_column};
@@ -129,6 +129,21 @@ impl Table {
             name: self.name.clone(alloc)?,
             columns: copied_columns(alloc, self.columns.as_slice())?,
             long: self.long,
+        })
+    }
+
+    /// A copy of the table whose references to texts are long.
+    ///
+    /// # Errors
+    /// `OutOfMemory`.
+    pub(crate) fn with_long_references(&self, alloc: Global) -> Result<Table, Error>
+        ensures ok { IfOk result (λ table. table ≡ long_table_of self.now) }
+        ensures kind { OnlyMemory result }
+    {
+        Ok(Table {
+            name: self.name.clone(alloc)?,
+            columns: copied_columns(alloc, self.columns.as_slice())?,
+            long: true,
         })
     }
 }

@@ -134,16 +134,24 @@ fn full(alloc: Global) -> Result<Vec<u8>, Error> {
     with_full_pool(alloc, bytes.as_slice())
 }
 
-/// What is refused where the pool is full.
-static REFUSED: [Step; 2] = [
-    Refused(
-        Insert("Numbers", &[&[Int(5), Str("Five")]]),
-        ErrorKind::InvalidInput,
+/// What needs places past 65535, behind what doesn't; references take three bytes then.
+static WIDENED: [Step; 2] = [
+    Made(
+        Insert("Numbers", &[&[Int(5), Str("Six")]]),
+        (
+            "Numbers",
+            &[
+                &[Int(1), Str("One")],
+                &[Int(2), Str("Five")],
+                &[Int(4), Str("Four")],
+                &[Int(5), Str("Six")],
+            ],
+        ),
     ),
-    Refused(Create("Other"), ErrorKind::InvalidInput),
+    Made(Create("Other"), ("Other", &[])),
 ];
 
-/// What isn't, one behind the other; and the length and the count of place 21 then, and the texts from its own on,
+/// What needs none, one behind the other; and the length and the count of place 21 then, and the texts from its own on,
 /// which stand behind the 356 bytes of a new package and the 17 of the table's name and those of its columns.
 static TAKEN: [(&[Step], [u8; 4], &[u8]); 2] = [
     (
@@ -186,11 +194,16 @@ static TAKEN: [(&[Step], [u8; 4], &[u8]); 2] = [
     ),
 ];
 
-/// Whether a package refuses what it ought to, and has these bytes then.
-fn refuses(alloc: Global, package: &mut Package<Memory>, bytes: &[u8]) -> Result<bool, Error> {
-    let count = all_go(alloc, package, &REFUSED)?;
+/// Whether what needs places past 65535 goes as it is told, and how long the pool's stream is then: 3 places more.
+fn widens(alloc: Global, package: &mut Package<Memory>) -> Result<bool, Error> {
+    let count = all_go(alloc, package, &WIDENED)?;
     let image = package.image(0)?;
-    Ok(count == REFUSED.len() && image.as_slice() == bytes)
+    let (pool, _data) = pool_streams(alloc, image.as_slice())?;
+    Ok(
+        count == WIDENED.len()
+            && pool.len() == 262_156
+            && has_at(pool.as_slice(), 0, &[0xE9, 0xFD, 0, 0x80]),
+    )
 }
 
 /// Whether steps go as they are told, and leave this at place 21 of 65535.
@@ -220,28 +233,25 @@ fn has_at(bytes: &[u8], at: usize, piece: &[u8]) -> bool {
     }
 }
 
-/// How many rows go as they are told, behind what is refused; none where that isn't.
-fn rows_gone(alloc: Global, package: &mut Package<Memory>, bytes: &[u8]) -> Result<usize, Error> {
-    if !refuses(alloc, package, bytes)? {
-        return Ok(0);
-    }
+/// How many rows go as they are told, where what widens references does behind them; else none.
+fn rows_gone(alloc: Global, package: &mut Package<Memory>) -> Result<usize, Error> {
     for (number, (steps, entry, texts)) in TAKEN.iter().enumerate() {
         if !leave(alloc, package, *steps, entry, *texts)? {
             return Ok(number);
         }
     }
-    Ok(TAKEN.len())
+    Ok(if widens(alloc, package)? { TAKEN.len() } else { 0 })
 }
 
 /// How many go so over the package of a full pool.
 fn full_gone(alloc: Global) -> Result<usize, Error> {
     let bytes = full(alloc)?;
     let mut package = opened(alloc, bytes.as_slice())?;
-    rows_gone(alloc, &mut package, bytes.as_slice())
+    rows_gone(alloc, &mut package)
 }
 
 #[test]
-fn a_full_pool_takes_no_new_text(rt: HostRuntime) {
+fn a_full_pool_gets_wider_references(rt: HostRuntime) {
     let count = full_gone(rt.alloc()).expect(&rt, "no error");
     assert_eq!(rt; count, TAKEN.len());
 }

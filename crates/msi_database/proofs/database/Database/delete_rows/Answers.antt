@@ -8,20 +8,20 @@ use Rattle.msi_database_changes.specs.Delete.{delete_rows, early_delete_refusals
 use Rattle.msi_database_storage.specs.Kept.{kept_of}
 use Rattle.msi_database_storage.specs.Storing.{stored_in}
 use Rattle.msi_database.specs.Listed.{tables_listed}
-use Rattle.msi_database.specs.Making.{Leaves, TellsUse, delete_of}
+use Rattle.msi_database.specs.Making.{Leaves, TellsUse, base_with, delete_of}
 use Rattle.msi_database.proofs.RowCallLemmas.{makes_kept, makes_leaves, makes_sound}
 use Rattle.msi_database.proofs.database.Database.delete_rows.Goals as goal
 
 pub finish_rows-requires-clause-kept : goal.finish_rows-requires-clause-kept
 finish_rows-requires-clause-kept c = let old = c.args.self.now in
-    makes_kept old (delete_rows old.database (delete_of c.delete_parts.result)) (unindexed c.in_ok-new.new.pool) (tables_listed old.database) (c.in_ok-new.new.stored ∷ []) c.in_ok-new.ensures.ok
+    makes_kept old (delete_rows old.database (delete_of c.delete_parts.result)) (base_with c.in_ok-new.new.wide old) (unindexed c.in_ok-new.new.pool) (tables_listed (base_with c.in_ok-new.new.wide old).database) (c.in_ok-new.new.stored ∷ []) c.in_ok-new.ensures.ok
 
 pub returns-clause-ok : goal.returns-clause-ok
 returns-clause-ok c = let old = c.args.self.now in let new = c.finish_rows.new.self in
     let same : delete_of c.delete_parts.result ≡ c.args.query = λ i. record { table = c.delete_parts.ensures.table i; condition = c.delete_parts.ensures.condition i } in
-    on_ok_weaker {P = new ≡ kept_of (unindexed c.in_ok-new.new.pool) (tables_listed old.database) (stored_in (c.in_ok-new.new.stored ∷ []) old.streams)} c.finish_rows.result
+    on_ok_weaker {P = new ≡ kept_of (unindexed c.in_ok-new.new.pool) (tables_listed (base_with c.in_ok-new.new.wide old).database) (stored_in (c.in_ok-new.new.stored ∷ []) (base_with c.in_ok-new.new.wide old).streams)} c.finish_rows.result
     (λ e. subst (λ (q : DeleteQuery). Leaves old (delete_rows old.database q) new) same
-    (makes_leaves old new (delete_rows old.database (delete_of c.delete_parts.result)) (unindexed c.in_ok-new.new.pool) (tables_listed old.database) (c.in_ok-new.new.stored ∷ []) c.in_ok-new.ensures.ok e))
+    (makes_leaves old new (delete_rows old.database (delete_of c.delete_parts.result)) (base_with c.in_ok-new.new.wide old) (unindexed c.in_ok-new.new.pool) (tables_listed (base_with c.in_ok-new.new.wide old).database) (c.in_ok-new.new.stored ∷ []) c.in_ok-new.ensures.ok e))
     c.finish_rows.ensures.ok
 
 pub returns-clause-used : goal.returns-clause-used
@@ -34,7 +34,7 @@ returns-clause-used c = let old = c.args.self.now in
 
 pub finish_rows-requires-clause-sound : goal.finish_rows-requires-clause-sound
 finish_rows-requires-clause-sound c = let old = c.args.self.now in
-    makes_sound old (delete_rows old.database (delete_of c.delete_parts.result)) (unindexed c.in_ok-new.new.pool) (tables_listed old.database) (c.in_ok-new.new.stored ∷ []) c.in_ok-new.ensures.ok
+    makes_sound old (delete_rows old.database (delete_of c.delete_parts.result)) (base_with c.in_ok-new.new.wide old) (unindexed c.in_ok-new.new.pool) (tables_listed (base_with c.in_ok-new.new.wide old).database) (c.in_ok-new.new.stored ∷ []) c.in_ok-new.ensures.ok
 
 pub returns-in_err-new-clause-early : goal.returns-in_err-new-clause-early
 returns-in_err-new-clause-early c = let d = c.args.self.now.database in

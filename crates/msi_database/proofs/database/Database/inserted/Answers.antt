@@ -1,4 +1,5 @@
-use Rattle.std.proofs.Common.{◌∙◌, ap, ap₂, refl, sym, List}
+use Rattle.std.proofs.Common.{◌∙◌, ap, ap₂, refl, sym, List, subst}
+use Rattle.std.proofs.lemmas.Result.{IfOk-weaker}
 use Rattle.msi_text_pool_base.specs.Pool.{unindexed}
 use Rattle.msi_table_values.specs.declared.value.Value.{Value}
 use Rattle.msi_table_values.specs.declared.value.ValueRef.{ValueRef}
@@ -7,7 +8,8 @@ use Rattle.msi_text.proofs.RefusalLemmas.{err_passed}
 use Rattle.msi_database_schema.specs.System.{is_system_table}
 use Rattle.msi_database_changes.specs.Insert.{row_refusals, table_with}
 use Rattle.msi_database_storage.specs.Kept.{Kept}
-use Rattle.msi_database.specs.Making.{insert_of}
+use Rattle.msi_database.specs.Keeping.{IsKeptDatabase}
+use Rattle.msi_database.specs.Making.{IsAnew, insert_of}
 use Rattle.msi_database.proofs.InsertCallLemmas.{insert_full, insert_misfit}
 use Rattle.msi_database.proofs.RowCallLemmas.{insert_called}
 use Rattle.msi_database.proofs.database.Database.inserted.Goals as goal
@@ -28,21 +30,24 @@ returns-in_err-all-clause-kind c = let d = c.self.inside in
     (ap₂ (λ (rows : List (List ValueRef)) (values : List (List Value)). first_refusal (row_refusals d.pool.places (table_with c.columns-columns.result.now rows) values)) (sym c.as_slice-rows.ensures.value) (sym c.as_slice.ensures.value) ∙ c.in_ok-refuse_rows.ensures.ok)
     c.in_err-all.field-0.0 c.in_err-all.ensures.kind)
 
-pub stream_of-requires-clause-storable : goal.stream_of-requires-clause-storable
-stream_of-requires-clause-storable c = let d = c.self.inside in
-    (insert_called (unindexed d.pool) d.tables d.streams d.is_sound c.self.invariant c.args.self.now c.self.view_is c.requires.sound c.args.insert.table c.args.table.now c.requires.known
-    c.columns-columns.result.now c.columns-columns.ensures.columns c.in_ok-held.held.items c.in_ok-held.ensures.ok (unindexed c.in_ok-clone.field-0) (ap unindexed c.in_ok-clone.ensures.ok) c.new-pool.result c.new-pool.ensures c.in_ok-all.all.items c.add_rows.new.pool
+pub rows_anew-requires-clause-storable : goal.rows_anew-requires-clause-storable
+rows_anew-requires-clause-storable c = let d = c.self.inside in
+    (insert_called c.args.self.now (subst IsKeptDatabase c.self.view_is c.self.invariant.kept) c.requires.sound (unindexed d.pool) (ap (λ (k : Kept). k.database.pool) c.self.view_is) c.args.insert.table c.args.table.now c.requires.known
+    c.columns-columns.result.now c.columns-columns.ensures.columns c.in_ok-held.held.items c.in_ok-held.ensures.ok (unindexed c.in_ok-clone.field-0) (ap unindexed c.in_ok-clone.ensures.ok) c.new-pool.result c.new-pool.ensures c.in_ok-all.all.items c.add_rows.new.pool c.in_ok-all.ensures.page c.in_ok-all.ensures.long
     (insert_of c.args.insert) c.in_ok-values.values.items refl (c.in_ok-values.ensures.ok ∙ c.into_vec.ensures) (is_system_table c.args.insert.table) refl c.requires.free (ap₂ (λ (rows : List (List ValueRef)) (values : List (List Value)). first_refusal (row_refusals d.pool.places (table_with c.columns-columns.result.now rows) values)) (sym c.as_slice-rows.ensures.value) (sym c.as_slice.ensures.value) ∙ c.in_ok-refuse_rows.ensures.ok) c.in_ok-all.ensures.ok).can_store
 
 pub returns-clause-ok : goal.returns-clause-ok
 returns-clause-ok c = let d = c.self.inside in
-    (insert_called (unindexed d.pool) d.tables d.streams d.is_sound c.self.invariant c.args.self.now c.self.view_is c.requires.sound c.args.insert.table c.args.table.now c.requires.known
-    c.columns-columns.result.now c.columns-columns.ensures.columns c.in_ok-held.held.items c.in_ok-held.ensures.ok (unindexed c.in_ok-clone.field-0) (ap unindexed c.in_ok-clone.ensures.ok) c.new-pool.result c.new-pool.ensures c.in_ok-all.all.items c.add_rows.new.pool
-    (insert_of c.args.insert) c.in_ok-values.values.items refl (c.in_ok-values.ensures.ok ∙ c.into_vec.ensures) (is_system_table c.args.insert.table) refl c.requires.free (ap₂ (λ (rows : List (List ValueRef)) (values : List (List Value)). first_refusal (row_refusals d.pool.places (table_with c.columns-columns.result.now rows) values)) (sym c.as_slice-rows.ensures.value) (sym c.as_slice.ensures.value) ∙ c.in_ok-refuse_rows.ensures.ok) c.in_ok-all.ensures.ok).makes
-    (unindexed c.into_pool.result) c.in_ok-stored.stored c.in_ok-all.ensures.page c.in_ok-all.ensures.long c.into_pool.ensures c.in_ok-stored.ensures.name c.in_ok-stored.ensures.bytes
+    IfOk-weaker c.rows_anew.result (λ new. IsAnew c.args.self.now c.args.table.now c.in_ok-all.all.items c.add_rows.new.pool new.wide new.stored (unindexed new.pool) new.is_pool_used) _ (λ new is.
+    (insert_called c.args.self.now (subst IsKeptDatabase c.self.view_is c.self.invariant.kept) c.requires.sound (unindexed d.pool) (ap (λ (k : Kept). k.database.pool) c.self.view_is) c.args.insert.table c.args.table.now c.requires.known
+    c.columns-columns.result.now c.columns-columns.ensures.columns c.in_ok-held.held.items c.in_ok-held.ensures.ok (unindexed c.in_ok-clone.field-0) (ap unindexed c.in_ok-clone.ensures.ok) c.new-pool.result c.new-pool.ensures c.in_ok-all.all.items c.add_rows.new.pool c.in_ok-all.ensures.page c.in_ok-all.ensures.long
+    (insert_of c.args.insert) c.in_ok-values.values.items refl (c.in_ok-values.ensures.ok ∙ c.into_vec.ensures) (is_system_table c.args.insert.table) refl c.requires.free (ap₂ (λ (rows : List (List ValueRef)) (values : List (List Value)). first_refusal (row_refusals d.pool.places (table_with c.columns-columns.result.now rows) values)) (sym c.as_slice-rows.ensures.value) (sym c.as_slice.ensures.value) ∙ c.in_ok-refuse_rows.ensures.ok) c.in_ok-all.ensures.ok).makes new.wide new.stored (unindexed new.pool) new.is_pool_used is)
+    c.rows_anew.ensures.ok
 
 pub returns-clause-used : goal.returns-clause-used
 returns-clause-used c = let d = c.self.inside in
-    (insert_called (unindexed d.pool) d.tables d.streams d.is_sound c.self.invariant c.args.self.now c.self.view_is c.requires.sound c.args.insert.table c.args.table.now c.requires.known
-    c.columns-columns.result.now c.columns-columns.ensures.columns c.in_ok-held.held.items c.in_ok-held.ensures.ok (unindexed c.in_ok-clone.field-0) (ap unindexed c.in_ok-clone.ensures.ok) c.new-pool.result c.new-pool.ensures c.in_ok-all.all.items c.add_rows.new.pool
-    (insert_of c.args.insert) c.in_ok-values.values.items refl (c.in_ok-values.ensures.ok ∙ c.into_vec.ensures) (is_system_table c.args.insert.table) refl c.requires.free (ap₂ (λ (rows : List (List ValueRef)) (values : List (List Value)). first_refusal (row_refusals d.pool.places (table_with c.columns-columns.result.now rows) values)) (sym c.as_slice-rows.ensures.value) (sym c.as_slice.ensures.value) ∙ c.in_ok-refuse_rows.ensures.ok) c.in_ok-all.ensures.ok).uses c.is_used.result c.is_used.ensures
+    IfOk-weaker c.rows_anew.result (λ new. IsAnew c.args.self.now c.args.table.now c.in_ok-all.all.items c.add_rows.new.pool new.wide new.stored (unindexed new.pool) new.is_pool_used) _ (λ new is.
+    (insert_called c.args.self.now (subst IsKeptDatabase c.self.view_is c.self.invariant.kept) c.requires.sound (unindexed d.pool) (ap (λ (k : Kept). k.database.pool) c.self.view_is) c.args.insert.table c.args.table.now c.requires.known
+    c.columns-columns.result.now c.columns-columns.ensures.columns c.in_ok-held.held.items c.in_ok-held.ensures.ok (unindexed c.in_ok-clone.field-0) (ap unindexed c.in_ok-clone.ensures.ok) c.new-pool.result c.new-pool.ensures c.in_ok-all.all.items c.add_rows.new.pool c.in_ok-all.ensures.page c.in_ok-all.ensures.long
+    (insert_of c.args.insert) c.in_ok-values.values.items refl (c.in_ok-values.ensures.ok ∙ c.into_vec.ensures) (is_system_table c.args.insert.table) refl c.requires.free (ap₂ (λ (rows : List (List ValueRef)) (values : List (List Value)). first_refusal (row_refusals d.pool.places (table_with c.columns-columns.result.now rows) values)) (sym c.as_slice-rows.ensures.value) (sym c.as_slice.ensures.value) ∙ c.in_ok-refuse_rows.ensures.ok) c.in_ok-all.ensures.ok).uses new.wide new.stored (unindexed new.pool) new.is_pool_used is)
+    c.rows_anew.ensures.ok

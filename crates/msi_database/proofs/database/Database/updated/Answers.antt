@@ -1,4 +1,5 @@
-use Rattle.std.proofs.Common.{◌∙◌, ap, refl, sym, List}
+use Rattle.std.proofs.Common.{◌∙◌, ap, refl, sym, List, subst}
+use Rattle.std.proofs.lemmas.Result.{IfOk-weaker}
 use Rattle.msi_text_pool_base.specs.Pool.{unindexed}
 use Rattle.msi_table_values.specs.declared.value.ValueRef.{ValueRef}
 use Rattle.msi_table_values.specs.Columns.{ColumnDef}
@@ -8,6 +9,8 @@ use Rattle.msi_database_changes.specs.Insert.{table_with}
 use Rattle.msi_database_changes.specs.Update.{is_update_barred, keys_collide, set_refusals}
 use Rattle.msi_database_changes.specs.RowUpdates.{update_of}
 use Rattle.msi_database_storage.specs.Kept.{Kept}
+use Rattle.msi_database.specs.Keeping.{IsKeptDatabase}
+use Rattle.msi_database.specs.Making.{IsAnew}
 use Rattle.msi_database.proofs.RowCallLemmas.{update_called}
 use Rattle.msi_database.proofs.UpdateCallLemmas.{update_collides, update_full, update_passes}
 use Rattle.msi_database.proofs.database.Database.updated.Goals as goal
@@ -28,10 +31,10 @@ returns-in_err-all-clause-kind c = let d = c.self.inside in
     (ap (λ (rows : List (List ValueRef)). keys_collide d.pool.places (table_with c.columns-columns.result.now rows) (update_of c.args.update.now)) (sym c.as_slice.ensures.value) ∙ c.in_ok-refuse_collisions.ensures.ok)
     c.in_err-all.ensures.kind)
 
-pub stream_of-requires-clause-storable : goal.stream_of-requires-clause-storable
-stream_of-requires-clause-storable c = let d = c.self.inside in let q = update_of c.args.update.now in
-    (update_called (unindexed d.pool) d.tables d.streams d.is_sound c.self.invariant c.args.self.now c.self.view_is c.requires.sound c.args.update.now.table c.args.table.now c.requires.known
-    c.columns-columns.result.now c.columns-columns.ensures.columns c.in_ok-held.held.items c.in_ok-held.ensures.ok (unindexed c.in_ok-clone.field-0) (ap unindexed c.in_ok-clone.ensures.ok) c.new-pool.result c.new-pool.ensures c.in_ok-all.all.items c.updated_rows.new.pool
+pub rows_anew-requires-clause-storable : goal.rows_anew-requires-clause-storable
+rows_anew-requires-clause-storable c = let d = c.self.inside in let q = update_of c.args.update.now in
+    (update_called c.args.self.now (subst IsKeptDatabase c.self.view_is c.self.invariant.kept) c.requires.sound (unindexed d.pool) (ap (λ (k : Kept). k.database.pool) c.self.view_is) c.args.update.now.table c.args.table.now c.requires.known
+    c.columns-columns.result.now c.columns-columns.ensures.columns c.in_ok-held.held.items c.in_ok-held.ensures.ok (unindexed c.in_ok-clone.field-0) (ap unindexed c.in_ok-clone.ensures.ok) c.new-pool.result c.new-pool.ensures c.in_ok-all.all.items c.updated_rows.new.pool c.in_ok-all.ensures.page c.in_ok-all.ensures.long
     q refl (is_update_barred q) refl c.requires.free
     (update_passes d.pool.places c.columns-columns.result.now c.in_ok-held.held.items q (ap (λ (cs : List ColumnDef). first_refusal (set_refusals cs q)) c.columns-columns.ensures.columns ∙ c.requires.fits)
     (ap (λ (rows : List (List ValueRef)). keys_collide d.pool.places (table_with c.columns-columns.result.now rows) (update_of c.args.update.now)) (sym c.as_slice.ensures.value) ∙ c.in_ok-refuse_collisions.ensures.ok))
@@ -39,19 +42,22 @@ stream_of-requires-clause-storable c = let d = c.self.inside in let q = update_o
 
 pub returns-clause-ok : goal.returns-clause-ok
 returns-clause-ok c = let d = c.self.inside in let q = update_of c.args.update.now in
-    (update_called (unindexed d.pool) d.tables d.streams d.is_sound c.self.invariant c.args.self.now c.self.view_is c.requires.sound c.args.update.now.table c.args.table.now c.requires.known
-    c.columns-columns.result.now c.columns-columns.ensures.columns c.in_ok-held.held.items c.in_ok-held.ensures.ok (unindexed c.in_ok-clone.field-0) (ap unindexed c.in_ok-clone.ensures.ok) c.new-pool.result c.new-pool.ensures c.in_ok-all.all.items c.updated_rows.new.pool
+    IfOk-weaker c.rows_anew.result (λ new. IsAnew c.args.self.now c.args.table.now c.in_ok-all.all.items c.updated_rows.new.pool new.wide new.stored (unindexed new.pool) new.is_pool_used) _ (λ new is.
+    (update_called c.args.self.now (subst IsKeptDatabase c.self.view_is c.self.invariant.kept) c.requires.sound (unindexed d.pool) (ap (λ (k : Kept). k.database.pool) c.self.view_is) c.args.update.now.table c.args.table.now c.requires.known
+    c.columns-columns.result.now c.columns-columns.ensures.columns c.in_ok-held.held.items c.in_ok-held.ensures.ok (unindexed c.in_ok-clone.field-0) (ap unindexed c.in_ok-clone.ensures.ok) c.new-pool.result c.new-pool.ensures c.in_ok-all.all.items c.updated_rows.new.pool c.in_ok-all.ensures.page c.in_ok-all.ensures.long
     q refl (is_update_barred q) refl c.requires.free
     (update_passes d.pool.places c.columns-columns.result.now c.in_ok-held.held.items q (ap (λ (cs : List ColumnDef). first_refusal (set_refusals cs q)) c.columns-columns.ensures.columns ∙ c.requires.fits)
     (ap (λ (rows : List (List ValueRef)). keys_collide d.pool.places (table_with c.columns-columns.result.now rows) (update_of c.args.update.now)) (sym c.as_slice.ensures.value) ∙ c.in_ok-refuse_collisions.ensures.ok))
-    c.in_ok-all.ensures.ok).makes
-    (unindexed c.into_pool.result) c.in_ok-stored.stored c.in_ok-all.ensures.page c.in_ok-all.ensures.long c.into_pool.ensures c.in_ok-stored.ensures.name c.in_ok-stored.ensures.bytes
+    c.in_ok-all.ensures.ok).makes new.wide new.stored (unindexed new.pool) new.is_pool_used is)
+    c.rows_anew.ensures.ok
 
 pub returns-clause-used : goal.returns-clause-used
 returns-clause-used c = let d = c.self.inside in let q = update_of c.args.update.now in
-    (update_called (unindexed d.pool) d.tables d.streams d.is_sound c.self.invariant c.args.self.now c.self.view_is c.requires.sound c.args.update.now.table c.args.table.now c.requires.known
-    c.columns-columns.result.now c.columns-columns.ensures.columns c.in_ok-held.held.items c.in_ok-held.ensures.ok (unindexed c.in_ok-clone.field-0) (ap unindexed c.in_ok-clone.ensures.ok) c.new-pool.result c.new-pool.ensures c.in_ok-all.all.items c.updated_rows.new.pool
+    IfOk-weaker c.rows_anew.result (λ new. IsAnew c.args.self.now c.args.table.now c.in_ok-all.all.items c.updated_rows.new.pool new.wide new.stored (unindexed new.pool) new.is_pool_used) _ (λ new is.
+    (update_called c.args.self.now (subst IsKeptDatabase c.self.view_is c.self.invariant.kept) c.requires.sound (unindexed d.pool) (ap (λ (k : Kept). k.database.pool) c.self.view_is) c.args.update.now.table c.args.table.now c.requires.known
+    c.columns-columns.result.now c.columns-columns.ensures.columns c.in_ok-held.held.items c.in_ok-held.ensures.ok (unindexed c.in_ok-clone.field-0) (ap unindexed c.in_ok-clone.ensures.ok) c.new-pool.result c.new-pool.ensures c.in_ok-all.all.items c.updated_rows.new.pool c.in_ok-all.ensures.page c.in_ok-all.ensures.long
     q refl (is_update_barred q) refl c.requires.free
     (update_passes d.pool.places c.columns-columns.result.now c.in_ok-held.held.items q (ap (λ (cs : List ColumnDef). first_refusal (set_refusals cs q)) c.columns-columns.ensures.columns ∙ c.requires.fits)
     (ap (λ (rows : List (List ValueRef)). keys_collide d.pool.places (table_with c.columns-columns.result.now rows) (update_of c.args.update.now)) (sym c.as_slice.ensures.value) ∙ c.in_ok-refuse_collisions.ensures.ok))
-    c.in_ok-all.ensures.ok).uses c.is_used.result c.is_used.ensures
+    c.in_ok-all.ensures.ok).uses new.wide new.stored (unindexed new.pool) new.is_pool_used is)
+    c.rows_anew.ensures.ok

@@ -1,4 +1,4 @@
-use Rattle.std.proofs.Common.{◌≡◌, length}
+use Rattle.std.proofs.Common.{◌≡◌, length, true}
 use Rattle.std.specs.Vec.Iter.{into_iter_items, into_iter_len}
 use Rattle.msi_database_cells.specs.Texts.{in_turn, in_use}
 use Rattle.msi_database_changes.specs.Update.{row_updated}
@@ -7,7 +7,7 @@ use Rattle.msi_database_changes.proofs.update.RowUpdate.rows_after.Given as goal
 
 abbrev pub invariant-loop-row : goal.invariant-loop-row
 invariant-loop-row l =
-    let step = row_updated l.initial.pool.pool.long l.old.places l.self.columns l.self.query in
+    let step = row_updated true l.old.places l.self.columns l.self.query in
     record {
       far : from_here step l.cells.items (in_use l.pool) (into_iter_items l.row-iterator)
           ≡ in_turn step (in_use l.initial.pool) (into_iter_items l.initial.row-iterator);

@@ -1,6 +1,6 @@
 use Rattle.std.proofs.Common.{◌≡◌, ◌++◌}
 use Rattle.std.specs.FinMap.{entries}
-use Rattle.msi_streams.proofs.renewing.copied_streams.Given as goal
+use Rattle.msi_database_storage.proofs.copying.copied_streams.Given as goal
 
 -- the streams so far, and those that are left
 abbrev pub invariant-loop-name : goal.invariant-loop-name

@@ -1,6 +1,6 @@
 use Rattle.std.proofs.Common.{◌∙◌, rules}
-use Rattle.msi_streams.proofs.CopyingLemmas.{copied_all, copied_more, nothing_copied}
-use Rattle.msi_streams.proofs.renewing.copied_streams.Goals as goal
+use Rattle.msi_database_storage.proofs.CopyingLemmas.{copied_all, copied_more, nothing_copied}
+use Rattle.msi_database_storage.proofs.copying.copied_streams.Goals as goal
 
 pub loop-name-init : goal.loop-name-init
 loop-name-init c = nothing_copied c.new-copy.result c.args.streams.now c.into_iter-name-iterator.result c.new-copy.ensures (search rules)

@@ -3,16 +3,16 @@ use Rattle.msi_text_pool_base.specs.Pool.{unindexed}
 use Rattle.std.specs.Vec.Iter.{into_iter_items}
 use Rattle.msi_database_storage.specs.declared.storing.Stored.{Stored}
 use Rattle.msi_database.proofs.ChangingLemmas.{rows_moved_in, streams_stored}
-use Rattle.msi_database.proofs.database.Database.finish_rows.Goals as goal
+use Rattle.msi_database.proofs.database.Database.store_rows.Goals as goal
 
 pub invariant_of-self-2 : goal.invariant_of-self-2
-invariant_of-self-2 c = let d = c.self.inside in let es : List Stored = c.args.new.stored ∷ [] in
-    (rows_moved_in (unindexed d.pool) (unindexed c.args.new.pool) d.tables d.streams c.store_all.new.streams es d.is_sound c.args.self.now c.self.view_is c.self.invariant c.requires.sound c.requires.kept
+invariant_of-self-2 c = let d = c.self.inside in let es : List Stored = c.args.stored ∷ [] in
+    (rows_moved_in (unindexed d.pool) (unindexed c.args.pool) d.tables d.streams c.store_all.new.streams es d.is_sound c.args.self.now c.self.view_is c.self.invariant c.requires.sound c.requires.kept
     (streams_stored d.streams c.store_all.new.streams es (into_iter_items c.into_iter.result) c.in_ok-store_all.ensures.ok
     (c.into_iter.ensures.rest ∙ c.in_ok-push.ensures.items ∙ ap (λ (xs : List Stored). xs ++ es) c.new-changes.ensures.items))).kept
 
 pub returns-clause-ok : goal.returns-clause-ok
-returns-clause-ok c = let d = c.self.inside in let es : List Stored = c.args.new.stored ∷ [] in
-    (rows_moved_in (unindexed d.pool) (unindexed c.args.new.pool) d.tables d.streams c.store_all.new.streams es d.is_sound c.args.self.now c.self.view_is c.self.invariant c.requires.sound c.requires.kept
+returns-clause-ok c = let d = c.self.inside in let es : List Stored = c.args.stored ∷ [] in
+    (rows_moved_in (unindexed d.pool) (unindexed c.args.pool) d.tables d.streams c.store_all.new.streams es d.is_sound c.args.self.now c.self.view_is c.self.invariant c.requires.sound c.requires.kept
     (streams_stored d.streams c.store_all.new.streams es (into_iter_items c.into_iter.result) c.in_ok-store_all.ensures.ok
     (c.into_iter.ensures.rest ∙ c.in_ok-push.ensures.items ∙ ap (λ (xs : List Stored). xs ++ es) c.new-changes.ensures.items))).same

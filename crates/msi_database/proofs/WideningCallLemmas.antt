@@ -1,0 +1,110 @@
+-- The steps by which a database with wider references is made, table by table.
+use Rattle.std.proofs.Common.{◌≡◌, ℕ, ◌+◌, ◌<◌, Bool, true, List, [], ◌∷◌, ◌++◌, length, map, take, fold, get_or, Option, Some, None, option_map, refl, sym, ap, ◌∙◌, subst, arith}
+use Rattle.std.specs.FinMap.{find}
+use Rattle.std.proofs.lemmas.List.{get_or-map, length-map, take_more, take-length}
+use Rattle.std.proofs.lemmas.Option.{same_Some}
+use Rattle.msi_text_base.specs.Lists.{list_cmp}
+use Rattle.msi_table_values.specs.declared.value.ValueRef.{ValueRef}
+use Rattle.msi_table.specs.Tables.{CanStore, TableDef, long_table_of}
+use Rattle.msi_text_pool_base.specs.Pool.{Pool}
+use Rattle.msi_table.proofs.ReadBackLemmas.{all_at}
+use Rattle.msi_table_values.specs.Columns.{ColumnDef, types_of}
+use Rattle.msi_table_values.specs.Fitting.{FitsTable}
+use Rattle.msi_query_joins.specs.Rows.{TableCells}
+use Rattle.msi_container_format.specs.Names.{is_name_length}
+use Rattle.msi_database_schema.specs.Keys.{is_table_name, table_key}
+use Rattle.msi_database_changes.specs.Database.{Database, Tables, is_sound, table_at}
+use Rattle.msi_database_changes.specs.Insert.{table_with}
+use Rattle.msi_database_storage.specs.Streams.{Streams}
+use Rattle.msi_database_changes.specs.Widening.{widened}
+use Rattle.msi_database_storage.specs.Kept.{AreAsLong, Kept, kept_widened, schema_listed}
+use Rattle.msi_database_storage.specs.Widening.{streams_widened, with_long_rows}
+use Rattle.msi_database.specs.Keeping.{AreParts, IsKeptDatabase}
+use Rattle.msi_database.specs.Listed.{table_def_at, tables_listed}
+use Rattle.msi_database.proofs.ComesLemmas.{regular}
+use Rattle.msi_database.proofs.KeyLemmas.{table_key_is_name}
+use Rattle.msi_database.proofs.SoundLemmas.{sound_names}
+use Rattle.msi_database.proofs.StreamLemmas.{tables_found}
+use Rattle.msi_database.proofs.WideRefusalLemmas.{long_pool}
+use Rattle.msi_database.proofs.WideningLemmas.{widened_parts}
+
+fold_pushed : {A B : Type 0} (f : B → A → B) (b : B) (xs : List A) (x : A) → fold f b (xs ++ x ∷ []) ≡ f (fold f b xs) x
+fold_pushed f b [] x = refl
+fold_pushed f b (y ∷ xs) x = fold_pushed f (f b y) xs x
+
+module _ (k : Kept) (kept : IsKeptDatabase k) (sound : is_sound k.database ≡ true) (ts : List TableDef) (ts_are : ts ≡ tables_listed k.database) (i : ℕ) (t : TableDef) (inside : i < length ts) (is : t ≡ get_or ts i t) where
+  abbrev d : Database
+  d = k.database
+
+  abbrev def_of : List ℕ × TableCells → TableDef
+  def_of e = record { name = e.0; columns = e.1.columns; long = d.pool.long }
+
+  abbrev none : List ℕ × TableCells
+  none = (t.name, record { columns = []; rows = None })
+
+  abbrev e : List ℕ × TableCells
+  e = get_or d.tables i none
+
+  within : i < length d.tables
+  within = subst (λ n. i < n) (ap length ts_are ∙ length-map d.tables def_of) inside
+
+  t_is : t ≡ def_of e
+  t_is = is ∙ ap (λ (us : List TableDef). get_or us i t) ts_are ∙ get_or-map def_of d.tables i none t within
+
+  found_there : table_at e.0 d ≡ Some e.1
+  found_there = all_at (λ e. find list_cmp e.0 d.tables ≡ Some e.1) d.tables i none (tables_found d.tables (regular k kept sound).well.in_order) within
+
+  name_is : t.name ≡ e.0
+  name_is = ap (λ (t : TableDef). t.name) t_is
+
+  found : table_at t.name d ≡ Some e.1
+  found = ap (λ (n : List ℕ). table_at n d) name_is ∙ found_there
+
+  -- it is listed
+  pub listed_def : table_def_at t.name d ≡ Some t
+  listed_def = ap (option_map (λ (c : TableCells). record { name = t.name; columns = c.columns; long = d.pool.long })) found
+      ∙ ap (λ (n : List ℕ). Some (record { name = n; columns = e.1.columns; long = d.pool.long })) name_is ∙ ap Some (sym t_is)
+
+  -- its stream can have a name
+  pub listed_named : is_name_length (length (table_key t.name)) ≡ true
+  listed_named = ap (λ (n : List ℕ). is_name_length (length (table_key n))) name_is
+      ∙ table_key_is_name e.0 (all_at (λ t. is_table_name t.0 ≡ true) d.tables i none (sound_names d sound) within)
+
+  module _ (rows : List (List ValueRef)) (at : table_at t.name d ≡ Some (table_with t.columns rows)) where
+    -- its rows fit it
+    pub listed_fits : CanStore t rows
+    listed_fits = subst (λ long. FitsTable long (types_of t.columns) rows) (ap (λ (t : TableDef). t.long) (sym t_is))
+        ((regular k kept sound).fit t.name (table_with t.columns rows) at)
+
+    e_is : e ≡ (t.name, table_with t.columns rows)
+    e_is j = (sym name_is j, same_Some e.1 (table_with t.columns rows) (sym found ∙ at) j)
+
+    -- one more table is stored
+    pub listed_more : (first old new : Streams) → old ≡ fold with_long_rows first (take i d.tables) → new ≡ with_long_rows old (t.name, table_with t.columns rows)
+        → new ≡ fold with_long_rows first (take (i + 1) d.tables)
+    listed_more first old new so_far step =
+        step ∙ (λ j. with_long_rows (so_far j) (sym e_is j))
+        ∙ sym (ap (fold with_long_rows first) (take_more d.tables i none within) ∙ fold_pushed with_long_rows first (take i d.tables) e)
+
+pub listed_all : (d : Database) (ts : List TableDef) (i : ℕ) (first : Streams) → ts ≡ tables_listed d → i ≡ length ts → fold with_long_rows first (take i d.tables) ≡ fold with_long_rows first d.tables
+listed_all d ts i first ts_are done =
+    ap (λ (n : ℕ). fold with_long_rows first (take n d.tables)) (done ∙ ap length ts_are ∙ length-map d.tables (λ t. record { name = t.0; columns = t.1.columns; long = d.pool.long }))
+    ∙ ap (fold with_long_rows first) (take-length d.tables)
+
+-- THE WHOLE DATABASE
+
+long_listed : (long : Bool) (ts : Tables) → schema_listed (map long_table_of (map (λ t. record { name = t.0; columns = t.1.columns; long = long }) ts)) ≡ map (λ t. (t.0, t.1.columns)) ts
+long_listed long [] = refl
+long_listed long (t ∷ ts) = ap (λ (l : List (List ℕ × List ColumnDef)). (t.0, t.1.columns) ∷ l) (long_listed long ts)
+
+all_long : (ts : List TableDef) → AreAsLong true (map long_table_of ts)
+all_long [] = tt
+all_long (t ∷ ts) = (refl, all_long ts)
+
+pub wide_parts : (k : Kept) → IsKeptDatabase k → is_sound k.database ≡ true → (old : Pool) → old ≡ k.database.pool → (pool : Pool) → pool ≡ long_pool old → (tables : List TableDef) → tables ≡ map long_table_of (tables_listed k.database)
+    → (streams : Streams) → streams ≡ streams_widened k.database k.streams → AreParts (kept_widened k) pool tables streams
+wide_parts k kept sound old old_is pool pool_is tables tables_are streams streams_are =
+    subst (λ (p : Pool). AreParts (kept_widened k) p tables streams) (sym (pool_is ∙ ap long_pool old_is))
+    (subst (λ (ts : List TableDef). AreParts (kept_widened k) (widened k.database).pool ts streams) (sym tables_are)
+    (subst (λ (s : Streams). AreParts (kept_widened k) (widened k.database).pool (map long_table_of (tables_listed k.database)) s) (sym streams_are)
+    (widened_parts k kept sound (map long_table_of (tables_listed k.database)) (long_listed k.database.pool.long k.database.tables) (all_long (tables_listed k.database)))))
