@@ -180,7 +180,8 @@ where
     Ok(())
 }
 
-/// Makes a call on a reader: `read 10`, `read_all 10`, which reads to the end by pieces of so many bytes, `seek end -2`.
+/// Makes a call on a reader: `read 10`; `read_all 10`, which reads to the end by pieces of so many bytes; or
+/// `seek end -2`.
 fn read_line(alloc: Global, stream: &mut StreamReader, line: &Line) -> Result<String, Failure> {
     let tokens = tokens(alloc, line.text())?;
     let mut words = Words::new(tokens.as_slice());

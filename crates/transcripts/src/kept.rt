@@ -41,8 +41,9 @@ impl Kept {
     }
 }
 
-/// Reads pieces up to the line's end: bytes as hexadecimal digits, texts, bytes that are kept, `@NAME`, and the stream of
-/// a table in them, `@NAME/TABLE`; of these a part, `@NAME:0..512`. With `*3` behind it a piece stands there three times.
+/// Reads pieces up to the line's end: bytes as hexadecimal digits, texts, bytes that are kept, `@NAME`, and the stream
+/// of a table in them, `@NAME/TABLE`; of these a part, `@NAME:0..512`. With `*3` behind it a piece stands there three
+/// times.
 pub(crate) fn pieces(alloc: Global, kept: &Kept, words: &mut Words) -> Result<Vec<u8>, Failure> {
     let mut all = Vec::new(alloc);
     for _ in 0..words.len() {

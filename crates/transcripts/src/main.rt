@@ -1,10 +1,6 @@
-//! Makes the calls of transcripts, and prints each call that answers otherwise than the transcript expects:
-//! `transcripts check FILE..`. The exit status is 1 if one does; 2 for wrong usage.
-//!
-//! A transcript has a call on a line, and behind it the lines of its answer, each behind a `>`. Other lines are empty or
-//! begin with `#`. A call on the reader or the writer of a stream is indented below the call that opens the stream. Lines
-//! between `foreach 1,a 2,b` and `end` stand there once for each row, with its fields for `$1` and `$2`. The call names
-//! are in `calls`; the documentation of what reads an argument shows how that is written.
+//! Makes the calls of transcripts, and prints each call that answers otherwise than expected:
+//! `transcripts check FILE..`. The exit status is 1 if one does, and 2 for wrong usage. `docs/TRANSCRIPTS.md` shows
+//! what stands in a transcript.
 //!
 //! `transcripts trials FILE..` is what `tools/try-faults` runs: there each call behind `try` may be refused memory.
 #![tactic(auto)]
