@@ -97,38 +97,67 @@ fn call_named(name: &str) -> Result<Call, Failure> {
     Err(Failure::Unreadable("there is no such call"))
 }
 
-/// Makes a call, and returns what it answers as lines.
-pub(crate) fn answer<R>(rt: &R, session: &mut Session, words: &mut Words) -> Result<String, Failure>
+/// Makes a call, and prints its answer as lines.
+pub(crate) fn make<R>(
+    rt: &R,
+    session: &mut Session,
+    words: &mut Words,
+    answer: &mut String,
+) -> Result<(), Failure>
 where
     R: Files + AllocGlobal,
     R::File: Read + Write + Seek + Drop,
 {
-    let call = call_named(words.word()?)?;
-    let answer = match call {
-        Call::File(call) => files::answer(rt, session, call, words)?,
-        _ => made(rt.alloc(), session, call, words)?,
-    };
-    words.end()?;
-    Ok(answer)
+    match call_named(words.word()?)? {
+        Call::File(call) => {
+            files::make(rt, session, call, words)?;
+            answer.push_str("ok")?;
+        }
+        call => make_other(rt.alloc(), session, call, words, answer)?,
+    }
+    words.end()
 }
 
 /// Makes a call that touches no file.
-fn made(
+fn make_other(
     alloc: Global,
     session: &mut Session,
     call: Call,
     words: &mut Words,
-) -> Result<String, Failure> {
+    answer: &mut String,
+) -> Result<(), Failure> {
     match call {
         Call::Package(call) => packages::make(alloc, session, call, words)?,
         Call::Change(change) => changes::make(alloc, session.package_mut()?, change, words)?,
-        Call::Look(look) => return looks::answer(alloc, session.package()?, look, words),
-        Call::Bytes(call) => return containers::answer(alloc, &mut session.kept, call, words),
-        Call::Calls => return Ok(session.calls.to_string(alloc)?),
-        Call::Writes => return Ok(session.writes.to_string(alloc)?),
-        Call::PrintQuery => return Ok(select(alloc, words)?.to_string(alloc)?),
-        Call::PrintExpression => return Ok(expression(alloc, words)?.to_string(alloc)?),
-        Call::File(_) => {}
+        Call::Look(look) => return looks::print(alloc, session.package()?, look, words, answer),
+        Call::Bytes(call) => {
+            return containers::make(alloc, &mut session.kept, call, words, answer);
+        }
+        _ => return print_text(alloc, session, call, words, answer),
     }
-    Ok(String::from_str(alloc, "ok")?)
+    answer.push_str("ok")?;
+    Ok(())
+}
+
+/// Prints what needs no package.
+fn print_text(
+    alloc: Global,
+    session: &Session,
+    call: Call,
+    words: &mut Words,
+    answer: &mut String,
+) -> Result<(), Failure> {
+    match call {
+        Call::Calls => write!(answer, "{}", session.calls)?,
+        Call::Writes => write!(answer, "{}", session.writes)?,
+        Call::PrintQuery => {
+            let query = select(alloc, words)?;
+            write!(answer, "{query}")?;
+        }
+        _ => {
+            let expression = expression(alloc, words)?;
+            write!(answer, "{expression}")?;
+        }
+    }
+    Ok(())
 }

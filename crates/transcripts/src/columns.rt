@@ -1,6 +1,7 @@
 //! Reads columns, and prints them.
 
 use crate::failure::Failure;
+use crate::tokens::Mark;
 use crate::words::Words;
 use msi::{Category, Column, ColumnBuilder};
 use std::alloc::{AllocError, Global};
@@ -41,7 +42,7 @@ fn kind_named(name: &str) -> Option<Kind> {
 pub(crate) fn columns(alloc: Global, words: &mut Words) -> Result<Vec<Column>, Failure> {
     let mut columns = Vec::new(alloc);
     words.open()?;
-    if words.takes_close() {
+    if words.takes_mark(Mark::Close) {
         return Ok(columns);
     }
     for _ in 0..words.len() {
@@ -112,7 +113,7 @@ fn category(name: &str) -> Result<Category, Failure> {
 pub(crate) fn names<'a>(alloc: Global, words: &mut Words<'a>) -> Result<Vec<&'a str>, Failure> {
     let mut names = Vec::new(alloc);
     words.open()?;
-    if words.takes_close() {
+    if words.takes_mark(Mark::Close) {
         return Ok(names);
     }
     for _ in 0..words.len() {

@@ -1,7 +1,7 @@
 //! Reads expressions, such as `Number > 1 AND Word = "Two"`, in which blanks stand around each operator.
 
 use crate::failure::Failure;
-use crate::tokens::Token;
+use crate::tokens::{Mark, Token};
 use crate::words::Words;
 use msi::Expr;
 use std::alloc::Global;
@@ -93,7 +93,7 @@ impl Pending {
         }
         match token {
             Token::Word(word) => self.read_infix(alloc, word.as_str()),
-            Token::Close if self.groups > 0 => {
+            Token::Mark(Mark::Close) if self.groups > 0 => {
                 self.close_group(alloc)?;
                 Ok(true)
             }
@@ -104,7 +104,7 @@ impl Pending {
     /// Reads what stands in front of an operand, or an operand.
     fn read_operand(&mut self, alloc: Global, token: &Token) -> Result<(), Failure> {
         match token {
-            Token::Open => {
+            Token::Mark(Mark::Open) => {
                 self.groups = self.groups.saturating_add(1);
                 self.operators.push((Operator::Group, 0))?;
             }

@@ -31,46 +31,46 @@ pub(crate) enum BytesCall {
     RemoveRaw,
 }
 
-/// Makes a call on bytes that are kept.
-pub(crate) fn answer(
+/// Makes a call on bytes that are kept, and prints its answer.
+pub(crate) fn make(
     alloc: Global,
     kept: &mut Kept,
     call: BytesCall,
     words: &mut Words,
-) -> Result<String, Failure> {
+    answer: &mut String,
+) -> Result<(), Failure> {
     let name = words.name()?;
-    match call {
-        BytesCall::Bytes => {
-            let bytes = pieces(alloc, kept, words)?;
-            kept.keep(alloc, name, bytes)?;
-        }
+    let bytes = match call {
+        BytesCall::Bytes => pieces(alloc, kept, words)?,
         BytesCall::SetClsid | BytesCall::SetRaw | BytesCall::RemoveRaw => {
-            let bytes = changed(alloc, kept, call, name, words)?;
-            kept.keep(alloc, name, bytes)?;
+            changed(alloc, kept, call, name, words)?
         }
-        _ => return look(alloc, kept, call, name, words),
-    }
-    Ok(String::from_str(alloc, "ok")?)
+        _ => return look(alloc, kept, call, name, words, answer),
+    };
+    kept.reserve(alloc, name)?;
+    kept.keep(name, bytes);
+    answer.push_str("ok")?;
+    Ok(())
 }
 
-/// Answers a call that looks at bytes.
+/// Prints the answer of a call that looks at bytes.
 fn look(
     alloc: Global,
     kept: &Kept,
     call: BytesCall,
     name: &str,
     words: &mut Words,
-) -> Result<String, Failure> {
+    answer: &mut String,
+) -> Result<(), Failure> {
     let bytes = kept.bytes(name)?;
-    let mut answer = String::new(alloc);
     match call {
         BytesCall::Size => write!(answer, "{}", bytes.len())?,
         BytesCall::Same => write!(answer, "{}", bytes == kept.bytes(words.name()?)?)?,
         BytesCall::Number => write!(answer, "{}", number(bytes, words.count()?)?)?,
-        BytesCall::RawStreams => print_names(alloc, &mut answer, bytes)?,
-        _ => print_bytes(&mut answer, range(bytes, words)?)?,
+        BytesCall::RawStreams => print_names(alloc, answer, bytes)?,
+        _ => print_bytes(answer, range(bytes, words)?)?,
     }
-    Ok(answer)
+    Ok(())
 }
 
 /// Returns the bytes in the range that comes next, or all if there is none.

@@ -3,7 +3,7 @@
 use crate::failure::Failure;
 use crate::kept::{Kept, pieces, print_bytes};
 use crate::lines::Line;
-use crate::reports::Report;
+use crate::reports::{Report, empty_answer};
 use crate::session::Session;
 use crate::tokens::tokens;
 use crate::words::Words;
@@ -26,12 +26,13 @@ where
     let Some(package) = &mut session.package else {
         return Err(Failure::Unreadable("there is no package"));
     };
+    let mut answer = String::from_str(rt.alloc(), "ok")?;
     match package.write_stream(name) {
         Ok(stream) => {
-            report.check(rt, line, rest, Ok("ok"))?;
+            report.check(rt, line, rest, Ok(()), &mut answer)?;
             write_lines(rt, report, &session.kept, stream, rest)
         }
-        Err(error) => report.check(rt, line, rest, Err(Failure::from(error))),
+        Err(error) => report.check(rt, line, rest, Err(Failure::from(error)), &mut answer),
     }
 }
 
@@ -69,41 +70,42 @@ fn write_line<R>(
 where
     R: Print + AllocGlobal,
 {
+    let mut answer = empty_answer(rt.alloc())?;
     let tokens = tokens(rt.alloc(), line.text())?;
     let mut words = Words::new(tokens.as_slice());
-    let answer = if words.takes("try") && report.is_trial() {
-        tried(rt, kept, stream, &mut words)?
+    let outcome = if words.takes("try") && report.is_trial() {
+        try_call(rt, kept, stream, words, &mut answer)
     } else {
-        written(rt.alloc(), kept, stream, &mut words)
+        make_write(rt.alloc(), kept, stream, &mut words, &mut answer)
     };
-    report.check_answer(rt, line, rest, answer)
+    report.check(rt, line, rest, outcome, &mut answer)
 }
 
 /// Makes a call on a writer that may be refused memory. Such a call is made again, where the bytes and the position
 /// are as before.
-fn tried<R>(
+fn try_call<R>(
     rt: &R,
     kept: &Kept,
     stream: StreamWriter,
-    words: &mut Words,
-) -> Result<Result<String, Failure>, Failure>
+    words: Words,
+    answer: &mut String,
+) -> Result<(), Failure>
 where
     R: Print + AllocGlobal,
 {
     let before = picture(rt.alloc(), &mut *stream)?;
-    let template = *words;
     print!(rt; "[")?;
-    let answer = written(rt.alloc(), kept, &mut *stream, words);
+    let outcome = make_write(rt.alloc(), kept, &mut *stream, &mut { words }, answer);
     println!(rt; "]")?;
-    match answer {
+    match outcome {
         Err(failure) if failure.is_memory() => {}
-        _ => return Ok(answer),
+        _ => return outcome,
     }
     if picture(rt.alloc(), &mut *stream)?.as_slice() != before.as_slice() {
-        return Ok(Err(Failure::CHANGED));
+        return Err(Failure::CHANGED);
     }
-    *words = template;
-    Ok(written(rt.alloc(), kept, stream, words))
+    answer.clear();
+    make_write(rt.alloc(), kept, stream, &mut { words }, answer)
 }
 
 /// Returns the bytes and the position of a writer.
@@ -115,26 +117,26 @@ fn picture(alloc: Global, stream: StreamWriter) -> Result<Vec<u8>, Failure> {
 }
 
 /// Makes a call on a writer: `write PIECES`, `seek start 4`, `flush`.
-fn written(
+fn make_write(
     alloc: Global,
     kept: &Kept,
     stream: StreamWriter,
     words: &mut Words,
-) -> Result<String, Failure> {
-    let answer = match words.word()? {
+    answer: &mut String,
+) -> Result<(), Failure> {
+    match words.word()? {
         "write" => {
             let piece = pieces(alloc, kept, words)?;
-            stream.write(piece.as_slice())?.to_string(alloc)?
+            write!(answer, "{}", stream.write(piece.as_slice())?)?;
         }
-        "seek" => stream.seek(target(words)?)?.to_string(alloc)?,
+        "seek" => write!(answer, "{}", stream.seek(target(words)?)?)?,
         "flush" => {
             stream.flush()?;
-            String::from_str(alloc, "ok")?
+            answer.push_str("ok")?;
         }
         _ => return Err(Failure::Unreadable("a writer has no such call")),
-    };
-    words.end()?;
-    Ok(answer)
+    }
+    words.end()
 }
 
 /// Opens a stream for reading, and makes the calls below.
@@ -149,12 +151,13 @@ pub(crate) fn read<R>(
 where
     R: Print + AllocGlobal,
 {
+    let mut answer = String::from_str(rt.alloc(), "ok")?;
     match session.package()?.read_stream(name) {
         Ok(stream) => {
-            report.check(rt, line, rest, Ok("ok"))?;
+            report.check(rt, line, rest, Ok(()), &mut answer)?;
             read_lines(rt, report, stream, rest)
         }
-        Err(error) => report.check(rt, line, rest, Err(Failure::from(error))),
+        Err(error) => report.check(rt, line, rest, Err(Failure::from(error)), &mut answer),
     }
 }
 
@@ -173,8 +176,9 @@ where
             break;
         }
         if rest[i].is_cursor_call() {
-            let answer = read_line(rt.alloc(), &mut stream, &rest[i]);
-            report.check_answer(rt, &rest[i], &rest[i + 1..], answer)?;
+            let mut answer = String::new(rt.alloc());
+            let outcome = read_line(rt.alloc(), &mut stream, &rest[i], &mut answer);
+            report.check(rt, &rest[i], &rest[i + 1..], outcome, &mut answer)?;
         }
     }
     Ok(())
@@ -182,24 +186,27 @@ where
 
 /// Makes a call on a reader: `read 10`; `read_all 10`, which reads to the end by pieces of so many bytes; or
 /// `seek end -2`.
-fn read_line(alloc: Global, stream: &mut StreamReader, line: &Line) -> Result<String, Failure> {
+fn read_line(
+    alloc: Global,
+    stream: &mut StreamReader,
+    line: &Line,
+    answer: &mut String,
+) -> Result<(), Failure> {
     let tokens = tokens(alloc, line.text())?;
     let mut words = Words::new(tokens.as_slice());
-    let mut answer = String::new(alloc);
     match words.word()? {
-        "read" => print_bytes(
-            &mut answer,
-            read_piece(alloc, stream, words.count()?)?.as_slice(),
-        )?,
-        "read_all" => print_bytes(
-            &mut answer,
-            read_all(alloc, stream, words.count()?)?.as_slice(),
-        )?,
+        "read" => {
+            let piece = read_piece(alloc, stream, words.count()?)?;
+            print_bytes(answer, piece.as_slice())?;
+        }
+        "read_all" => {
+            let ahead = read_all(alloc, stream, words.count()?)?;
+            print_bytes(answer, ahead.as_slice())?;
+        }
         "seek" => write!(answer, "{}", stream.seek(target(&mut words)?)?)?,
         _ => return Err(Failure::Unreadable("a reader has no such call")),
     }
-    words.end()?;
-    Ok(answer)
+    words.end()
 }
 
 /// Reads once, into so many bytes.

@@ -16,12 +16,12 @@ pub(crate) enum FileCall {
 }
 
 /// Makes a call on a file.
-pub(crate) fn answer<R>(
+pub(crate) fn make<R>(
     rt: &R,
     session: &Session,
     call: FileCall,
     words: &mut Words,
-) -> Result<String, Failure>
+) -> Result<(), Failure>
 where
     R: Files + AllocGlobal,
     R::File: Read + Write + Seek + Drop,
@@ -32,5 +32,5 @@ where
             fs::write(rt, words.name()?, bytes)?;
         }
     }
-    Ok(String::from_str(rt.alloc(), "ok")?)
+    Ok(())
 }

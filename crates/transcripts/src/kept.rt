@@ -20,16 +20,20 @@ impl Kept {
         }
     }
 
-    /// Keeps bytes under a name, in place of those that had it.
-    pub(crate) fn keep(
-        &mut self,
-        alloc: Global,
-        name: &str,
-        bytes: Vec<u8>,
-    ) -> Result<(), Failure> {
-        let name = String::from_str(alloc, name)?;
-        self.named.insert(name, bytes)?;
+    /// Keeps no bytes under a name if it has none, so that `keep` takes no memory.
+    pub(crate) fn reserve(&mut self, alloc: Global, name: &str) -> Result<(), Failure> {
+        if self.named.get(name).is_none() {
+            let name = String::from_str(alloc, name)?;
+            self.named.insert(name, Vec::new(alloc))?;
+        }
         Ok(())
+    }
+
+    /// Keeps bytes under a name that was reserved, in place of those that it had.
+    pub(crate) fn keep(&mut self, name: &str, bytes: Vec<u8>) {
+        if let Some(kept) = self.named.get_mut(name) {
+            *kept = bytes;
+        }
     }
 
     /// Returns the bytes of a name.

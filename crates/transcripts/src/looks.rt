@@ -31,26 +31,26 @@ pub(crate) enum Look {
     Count,
 }
 
-/// Answers a call that looks at a package.
-pub(crate) fn answer(
+/// Prints the answer of a call that looks at a package.
+pub(crate) fn print(
     alloc: Global,
     package: &Package<Counting>,
     look: Look,
     words: &mut Words,
-) -> Result<String, Failure> {
-    let mut answer = String::new(alloc);
+    answer: &mut String,
+) -> Result<(), Failure> {
     match look {
-        Look::Tables => print_tables(&mut answer, package.tables())?,
-        Look::Columns => print_table(&mut answer, package, words.name()?)?,
-        Look::Streams => print_streams(&mut answer, package.streams())?,
-        Look::ReadStream => print_stream(alloc, &mut answer, package, words.name()?)?,
-        Look::Summary => summary::print(&mut answer, package.summary_info(), words.word()?)?,
+        Look::Tables => print_tables(answer, package.tables())?,
+        Look::Columns => print_table(answer, package, words.name()?)?,
+        Look::Streams => print_streams(answer, package.streams())?,
+        Look::ReadStream => print_stream(alloc, answer, package, words.name()?)?,
+        Look::Summary => summary::print(answer, package.summary_info(), words.word()?)?,
         Look::Select | Look::Names | Look::Count => {
-            print_query(alloc, &mut answer, package, look, words)?;
+            print_query(alloc, answer, package, look, words)?;
         }
-        _ => print_fact(&mut answer, package, look, words)?,
+        _ => print_fact(answer, package, look, words)?,
     }
-    Ok(answer)
+    Ok(())
 }
 
 /// Prints an answer of one word.

@@ -70,21 +70,27 @@ fn open(alloc: Global, session: &mut Session, words: &mut Words) -> Result<(), F
 
 fn keep_image(alloc: Global, session: &mut Session, words: &mut Words) -> Result<(), Failure> {
     let name = words.name()?;
+    session.kept.reserve(alloc, name)?;
     let bytes = session.package()?.image(words.count()? as u64)?;
-    session.kept.keep(alloc, name, bytes)
+    session.kept.keep(name, bytes);
+    Ok(())
 }
 
 fn into_reader(alloc: Global, session: &mut Session, words: &mut Words) -> Result<(), Failure> {
     let name = words.name()?;
+    session.kept.reserve(alloc, name)?;
     let device = session.take()?.into_reader();
-    session.close(alloc, name, device)
+    session.close(name, device);
+    Ok(())
 }
 
 fn into_inner(alloc: Global, session: &mut Session, words: &mut Words) -> Result<(), Failure> {
     let name = words.name()?;
+    session.kept.reserve(alloc, name)?;
     let package = session.take()?;
     let device = written(session, package)?;
-    session.close(alloc, name, device)
+    session.close(name, device);
+    Ok(())
 }
 
 /// Writes a package and takes it apart. One that can't be written is the session's again.

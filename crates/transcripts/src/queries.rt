@@ -3,6 +3,7 @@
 use crate::columns::names;
 use crate::conditions::expression;
 use crate::failure::Failure;
+use crate::tokens::Mark;
 use crate::values::{rows, value};
 use crate::words::Words;
 use msi::{Column, Delete, Insert, Row, Rows, Select, Update};
@@ -78,12 +79,12 @@ fn joined(
 
 /// Reads the right side of a join: a table, or a query of one table in parentheses.
 fn side(alloc: Global, words: &mut Words) -> Result<Select, Failure> {
-    if !words.takes_open() {
+    if !words.takes_mark(Mark::Open) {
         return Ok(Select::table(alloc, words.name()?)?);
     }
     let mut query = Select::table(alloc, words.name()?)?;
     for _ in 0..words.len() {
-        if words.takes_close() {
+        if words.takes_mark(Mark::Close) {
             return Ok(query);
         }
         query = match next_clause(words) {
@@ -108,7 +109,7 @@ pub(crate) fn update(alloc: Global, words: &mut Words) -> Result<Update, Failure
     }
     for _ in 0..words.len() {
         query = with_set(alloc, words, query)?;
-        if !words.takes_comma() {
+        if !words.takes_mark(Mark::Comma) {
             break;
         }
     }

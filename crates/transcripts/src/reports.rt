@@ -4,6 +4,15 @@ use crate::failure::Failure;
 use crate::lines::Line;
 use std::alloc::Global;
 
+/// The bytes that an answer has room for at first, so that it takes no memory while a call is made that may be refused
+/// some.
+const ROOM: usize = 4096;
+
+/// Returns an answer to print to.
+pub(crate) fn empty_answer(alloc: Global) -> Result<String, Failure> {
+    Ok(String::with_capacity(alloc, ROOM)?)
+}
+
 /// What was found in a transcript.
 #[derive(Drop)]
 pub(crate) struct Report<'a> {
@@ -31,46 +40,24 @@ impl<'a> Report<'a> {
     }
 
     /// Compares what a call answered with the lines behind it.
-    pub(crate) fn check_answer<R>(
+    pub(crate) fn check<R: Print>(
         &mut self,
         rt: &R,
         line: &Line,
         rest: &[Line],
-        answer: Result<String, Failure>,
-    ) -> Result<(), Failure>
-    where
-        R: Print + AllocGlobal,
-    {
-        match answer {
-            Ok(answer) => self.check(rt, line, rest, Ok(answer.as_str())),
-            Err(failure) => self.check(rt, line, rest, Err(failure)),
+        outcome: Result<(), Failure>,
+        answer: &mut String,
+    ) -> Result<(), Failure> {
+        if let Err(failure) = outcome {
+            answer.clear();
+            write!(answer, "{failure}")?;
         }
-    }
-
-    /// Compares what a call answered with the lines behind it.
-    pub(crate) fn check<R>(
-        &mut self,
-        rt: &R,
-        line: &Line,
-        rest: &[Line],
-        answer: Result<&str, Failure>,
-    ) -> Result<(), Failure>
-    where
-        R: Print + AllocGlobal,
-    {
         self.answers = self.answers.saturating_add(1);
         let expected = expected(rest);
-        match answer {
-            Ok(answer) if are_lines(expected, answer) => Ok(()),
-            Ok(answer) => self.print(rt, line, expected, answer),
-            Err(failure) => {
-                let answer = failure.to_string(rt.alloc())?;
-                if are_lines(expected, answer.as_str()) {
-                    return Ok(());
-                }
-                self.print(rt, line, expected, answer.as_str())
-            }
+        if are_lines(expected, answer.as_str()) {
+            return Ok(());
         }
+        self.print(rt, line, expected, answer.as_str())
     }
 
     /// Prints a call whose answer isn't as expected.

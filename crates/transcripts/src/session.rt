@@ -80,16 +80,11 @@ impl Session {
         device
     }
 
-    /// Keeps the bytes of a device, and how many calls it got.
-    pub(crate) fn close(
-        &mut self,
-        alloc: Global,
-        name: &str,
-        device: Counting,
-    ) -> Result<(), Failure> {
+    /// Keeps the bytes of a device under a name that was reserved, and how many calls it got.
+    pub(crate) fn close(&mut self, name: &str, device: Counting) {
         self.calls = device.calls;
         self.writes = device.writes;
-        self.kept.keep(alloc, name, device.memory.into_vec())
+        self.kept.keep(name, device.memory.into_vec());
     }
 
     /// Reads what the next device does: `most 512 most_read 7 failing 12 lasts`.

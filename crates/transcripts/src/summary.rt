@@ -5,6 +5,9 @@ use crate::words::Words;
 use msi::{CodePage, LanguageId, SummaryInfo, Timestamp};
 use std::alloc::{AllocError, Global};
 
+/// The failure of a call on another property.
+const NO_PROPERTY: Failure = Failure::Unreadable("a summary has no such property");
+
 /// Prints a property.
 pub(crate) fn print(
     answer: &mut String,
@@ -23,7 +26,7 @@ pub(crate) fn print(
         "keywords" => print_keywords(answer, summary)?,
         "codepage" => write!(answer, "{}", summary.codepage().id())?,
         "uuid" => print_uuid(answer, summary)?,
-        _ => print_number(answer, number(summary, property)?)?,
+        _ => print_number(answer, summary, property)?,
     }
     Ok(())
 }
@@ -36,12 +39,35 @@ fn print_text(answer: &mut String, text: Option<&str>) -> Result<(), AllocError>
     }
 }
 
-/// Prints a number.
-fn print_number(answer: &mut String, number: Option<i64>) -> Result<(), AllocError> {
+/// Prints a number, or a time as its count of 100 ns since 1601.
+fn print_number(answer: &mut String, summary: &SummaryInfo, property: &str) -> Result<(), Failure> {
+    let number = match property {
+        "page_count" => summary.page_count(),
+        "word_count" => summary.word_count(),
+        "character_count" => summary.character_count(),
+        "doc_security" => summary.doc_security(),
+        _ => return print_time(answer, summary, property),
+    };
     match number {
-        Some(number) => write!(answer, "{number}"),
-        None => answer.push_str("none"),
+        Some(number) => write!(answer, "{number}")?,
+        None => answer.push_str("none")?,
     }
+    Ok(())
+}
+
+/// Prints a time as its count of 100 ns since 1601.
+fn print_time(answer: &mut String, summary: &SummaryInfo, property: &str) -> Result<(), Failure> {
+    let time = match property {
+        "last_printed" => summary.last_printed(),
+        "creation_time" => summary.creation_time(),
+        "last_saved_time" => summary.last_saved_time(),
+        _ => return Err(NO_PROPERTY),
+    };
+    match time {
+        Some(time) => write!(answer, "{}", time.ticks())?,
+        None => answer.push_str("none")?,
+    }
+    Ok(())
 }
 
 /// Prints the UUID.
@@ -74,29 +100,6 @@ fn print_languages(answer: &mut String, summary: &SummaryInfo) -> Result<(), Fai
         write!(answer, "{} ", language.id())?;
     }
     Ok(())
-}
-
-/// Returns a number, or a time as its count of 100 ns since 1601.
-fn number(summary: &SummaryInfo, property: &str) -> Result<Option<i64>, Failure> {
-    let number = match property {
-        "page_count" => summary.page_count(),
-        "word_count" => summary.word_count(),
-        "character_count" => summary.character_count(),
-        "doc_security" => summary.doc_security(),
-        _ => return ticks(summary, property),
-    };
-    Ok(number.map(i64::from))
-}
-
-/// Returns a time as its count of 100 ns since 1601.
-fn ticks(summary: &SummaryInfo, property: &str) -> Result<Option<i64>, Failure> {
-    let time = match property {
-        "last_printed" => summary.last_printed(),
-        "creation_time" => summary.creation_time(),
-        "last_saved_time" => summary.last_saved_time(),
-        _ => return Err(Failure::Unreadable("a summary has no such property")),
-    };
-    Ok(time.and_then(|time| i64::try_from(time.ticks()).ok()))
 }
 
 /// Sets a property.
@@ -166,7 +169,7 @@ fn set_number(summary: &mut SummaryInfo, property: &str, words: &mut Words) -> R
         "last_printed" => summary.set_last_printed(time(words)?)?,
         "creation_time" => summary.set_creation_time(time(words)?)?,
         "last_saved_time" => summary.set_last_save_time(time(words)?)?,
-        _ => return Err(Failure::Unreadable("a summary has no such property")),
+        _ => return Err(NO_PROPERTY),
     }
     Ok(())
 }
@@ -204,7 +207,7 @@ fn clear_number(summary: &mut SummaryInfo, property: &str) -> Result<(), Failure
         "creation_time" => summary.clear_creation_time(),
         "last_saved_time" => summary.clear_last_save_time(),
         "uuid" => summary.clear_uuid(),
-        _ => return Err(Failure::Unreadable("a summary has no such property")),
+        _ => return Err(NO_PROPERTY),
     }
     Ok(())
 }

@@ -4,6 +4,14 @@ use crate::failure::Failure;
 use std::alloc::Global;
 use std::mem;
 
+/// A character that stands for itself.
+#[derive(Clone, Copy, PartialEq, Eq)]
+pub(crate) enum Mark {
+    Open,
+    Close,
+    Comma,
+}
+
 /// A piece of a line.
 #[derive(Drop)]
 pub(crate) enum Token {
@@ -11,9 +19,7 @@ pub(crate) enum Token {
     Word(String),
     /// A text that stands in quotes, without its escapes.
     Text(String),
-    Open,
-    Close,
-    Comma,
+    Mark(Mark),
 }
 
 /// What the characters that were read last belong to.
@@ -65,9 +71,9 @@ impl Lexer {
                 self.end_word(alloc)?;
                 self.place = Place::Text;
             }
-            '(' => self.push_mark(alloc, Token::Open)?,
-            ')' => self.push_mark(alloc, Token::Close)?,
-            ',' => self.push_mark(alloc, Token::Comma)?,
+            '(' => self.push_mark(alloc, Mark::Open)?,
+            ')' => self.push_mark(alloc, Mark::Close)?,
+            ',' => self.push_mark(alloc, Mark::Comma)?,
             _ => {
                 self.place = Place::Word;
                 self.pending.push(c)?;
@@ -86,9 +92,9 @@ impl Lexer {
         Ok(())
     }
 
-    fn push_mark(&mut self, alloc: Global, mark: Token) -> Result<(), Failure> {
+    fn push_mark(&mut self, alloc: Global, mark: Mark) -> Result<(), Failure> {
         self.end_word(alloc)?;
-        self.tokens.push(mark)?;
+        self.tokens.push(Token::Mark(mark))?;
         Ok(())
     }
 

@@ -2,7 +2,7 @@
 
 use crate::failure::Failure;
 use crate::lines::Line;
-use crate::reports::Report;
+use crate::reports::{Report, empty_answer};
 use crate::session::Session;
 use crate::tokens::tokens;
 use crate::words::Words;
@@ -38,8 +38,9 @@ where
     R::File: Read + Write + Seek + Drop,
 {
     if !is_stream(rest) {
-        let answer = answer(rt, report.is_trial(), session, line);
-        return report.check_answer(rt, line, rest, answer);
+        let mut answer = empty_answer(rt.alloc())?;
+        let outcome = make(rt, report.is_trial(), session, line, &mut answer);
+        return report.check(rt, line, rest, outcome, &mut answer);
     }
     let tokens = tokens(rt.alloc(), line.text())?;
     let mut words = Words::new(tokens.as_slice());
@@ -61,8 +62,14 @@ fn is_stream(rest: &[Line]) -> bool {
     }
 }
 
-/// Returns what a call answers.
-fn answer<R>(rt: &R, is_trial: bool, session: &mut Session, line: &Line) -> Result<String, Failure>
+/// Makes the call of a line, and prints its answer.
+fn make<R>(
+    rt: &R,
+    is_trial: bool,
+    session: &mut Session,
+    line: &Line,
+    answer: &mut String,
+) -> Result<(), Failure>
 where
     R: Files + Print + AllocGlobal,
     R::File: Read + Write + Seek + Drop,
@@ -70,7 +77,7 @@ where
     let tokens = tokens(rt.alloc(), line.text())?;
     let mut words = Words::new(tokens.as_slice());
     if words.takes("try") && is_trial {
-        return trials::answer(rt, session, words);
+        return trials::make(rt, session, words, answer);
     }
-    calls::answer(rt, session, &mut words)
+    calls::make(rt, session, &mut words, answer)
 }

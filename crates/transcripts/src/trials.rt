@@ -10,21 +10,27 @@ use std::io::{Read, Seek, Write};
 use std::rt::Files;
 
 /// Makes a call, again if it is refused memory. The package has to answer then what it did before.
-pub(crate) fn answer<R>(rt: &R, session: &mut Session, words: Words) -> Result<String, Failure>
+pub(crate) fn make<R>(
+    rt: &R,
+    session: &mut Session,
+    words: Words,
+    answer: &mut String,
+) -> Result<(), Failure>
 where
     R: Files + Print + AllocGlobal,
     R::File: Read + Write + Seek + Drop,
 {
     let before = picture(rt.alloc(), session)?;
     print!(rt; "[")?;
-    let answer = calls::answer(rt, session, &mut { words });
+    let outcome = calls::make(rt, session, &mut { words }, answer);
     println!(rt; "]")?;
-    match answer {
+    match outcome {
         Err(failure) if failure.is_memory() => {}
-        _ => return answer,
+        _ => return outcome,
     }
     if picture(rt.alloc(), session)?.as_slice() != before.as_slice() {
         return Err(Failure::CHANGED);
     }
-    calls::answer(rt, session, &mut { words })
+    answer.clear();
+    calls::make(rt, session, &mut { words }, answer)
 }

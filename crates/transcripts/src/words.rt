@@ -1,7 +1,7 @@
 //! Reads a call, token by token.
 
 use crate::failure::Failure;
-use crate::tokens::Token;
+use crate::tokens::{Mark, Token};
 
 /// The tokens of a line that are still to be read.
 #[derive(Clone, Copy)]
@@ -74,27 +74,9 @@ impl<'a> Words<'a> {
         is_next
     }
 
-    /// Goes past a comma if it comes next, and returns whether it does.
-    pub(crate) fn takes_comma(&mut self) -> bool {
-        let is_next = matches!(self.peek(), Some(Token::Comma));
-        if is_next {
-            let _ = self.next();
-        }
-        is_next
-    }
-
-    /// Goes past an opening parenthesis if it comes next, and returns whether it does.
-    pub(crate) fn takes_open(&mut self) -> bool {
-        let is_next = matches!(self.peek(), Some(Token::Open));
-        if is_next {
-            let _ = self.next();
-        }
-        is_next
-    }
-
-    /// Goes past a closing parenthesis if it comes next, and returns whether it does.
-    pub(crate) fn takes_close(&mut self) -> bool {
-        let is_next = matches!(self.peek(), Some(Token::Close));
+    /// Goes past a mark if it comes next, and returns whether it does.
+    pub(crate) fn takes_mark(&mut self, mark: Mark) -> bool {
+        let is_next = matches!(self.peek(), Some(Token::Mark(next)) if *next == mark);
         if is_next {
             let _ = self.next();
         }
@@ -103,7 +85,7 @@ impl<'a> Words<'a> {
 
     /// Goes past an opening parenthesis.
     pub(crate) fn open(&mut self) -> Result<(), Failure> {
-        if self.takes_open() {
+        if self.takes_mark(Mark::Open) {
             return Ok(());
         }
         Err(Failure::Unreadable("an opening parenthesis is missing"))
@@ -112,8 +94,8 @@ impl<'a> Words<'a> {
     /// Goes past what stands behind an item of a list, and returns whether the list goes on.
     pub(crate) fn goes_on(&mut self) -> Result<bool, Failure> {
         match self.next() {
-            Some(Token::Comma) => Ok(true),
-            Some(Token::Close) => Ok(false),
+            Some(Token::Mark(Mark::Comma)) => Ok(true),
+            Some(Token::Mark(Mark::Close)) => Ok(false),
             _ => Err(Failure::Unreadable("a list has no end")),
         }
     }
