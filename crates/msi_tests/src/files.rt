@@ -1,6 +1,6 @@
 //! Packages in files of the folder for temporary ones.
 
-use crate::steps::{new_bytes, numbers};
+use crate::readme::file;
 use msi::{Error, ErrorKind};
 use std::test::Fail;
 use std::{env, fs, process};
@@ -10,14 +10,12 @@ use std::{env, fs, process};
 enum Given {
     Nothing,
     Text(&'static str),
-    NewPackage,
-    Numbers,
+    Package,
 }
 
 /// What is given, and the kind of the refusal, if there is one.
-const OPENED: [(Given, Option<ErrorKind>); 5] = [
-    (Given::NewPackage, None),
-    (Given::Numbers, None),
+const OPENED: [(Given, Option<ErrorKind>); 4] = [
+    (Given::Package, None),
     (Given::Text("no package"), Some(ErrorKind::InvalidData)),
     (Given::Text(""), Some(ErrorKind::InvalidData)),
     (Given::Nothing, Some(ErrorKind::Io)),
@@ -35,8 +33,7 @@ fn put(rt: &HostRuntime, path: &str, given: Given) -> Result<(), Fail> {
     match given {
         Given::Nothing => {}
         Given::Text(text) => fs::write(rt, path, text)?,
-        Given::NewPackage => fs::write(rt, path, new_bytes(rt.alloc())?)?,
-        Given::Numbers => fs::write(rt, path, numbers(rt.alloc())?)?,
+        Given::Package => fs::write(rt, path, file(rt.alloc())?)?,
     }
     Ok(())
 }

@@ -1,25 +1,10 @@
-//! Tests of packages: opening, creating, querying, changing and writing them.
+//! Tests of packages that no transcript of `crates/transcripts` can express: the example of the README, packages in
+//! files, and lists of calls.
 #![tactic(auto)]
 
 #[cfg(test)]
-mod containers;
-#[cfg(test)]
-mod creating;
-#[cfg(test)]
-mod faults;
-#[cfg(test)]
 mod files;
-#[cfg(test)]
-mod flushing;
-#[cfg(test)]
-mod looking;
 #[cfg(test)]
 mod readme;
 #[cfg(test)]
-mod samples;
-#[cfg(test)]
-mod sharing;
-#[cfg(test)]
-mod steps;
-#[cfg(test)]
-mod tables;
+mod replays;

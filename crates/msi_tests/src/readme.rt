@@ -16,6 +16,11 @@ fn numbers(alloc: Global) -> Result<Vec<u8>, Error> {
     Ok(package.into_reader().into_vec())
 }
 
+/// The same file, for other tests.
+pub(crate) fn file(alloc: Global) -> Result<Vec<u8>, Error> {
+    numbers(alloc)
+}
+
 #[test]
 fn the_example_makes_a_package_with_a_row(rt: HostRuntime) {
     let alloc = rt.alloc();

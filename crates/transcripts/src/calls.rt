@@ -1,0 +1,163 @@
+//! The calls by their names, and the answer of each.
+
+use crate::changes::{self, Change};
+use crate::conditions::expression;
+use crate::containers::{self, BytesCall};
+use crate::failure::Failure;
+use crate::files::{self, FileCall};
+use crate::looks::{self, Look};
+use crate::packages::{self, PackageCall};
+use crate::queries::select;
+use crate::session::Session;
+use crate::words::Words;
+use std::alloc::Global;
+use std::io::{Read, Seek, Write};
+use std::rt::Files;
+
+/// A call.
+#[derive(Clone, Copy)]
+enum Call {
+    Package(PackageCall),
+    Change(Change),
+    Look(Look),
+    Bytes(BytesCall),
+    File(FileCall),
+    /// Prints how many calls the device got that was closed last.
+    Calls,
+    /// Prints how many writes it got.
+    Writes,
+    /// Prints a query as the library does.
+    PrintQuery,
+    /// Prints an expression as the library does.
+    PrintExpression,
+}
+
+/// Each call by its name.
+static CALLS: [(&str, Call); 48] = [
+    ("device", Call::Package(PackageCall::Device)),
+    ("create", Call::Package(PackageCall::Create)),
+    ("open", Call::Package(PackageCall::Open)),
+    ("image", Call::Package(PackageCall::Image)),
+    ("into_reader", Call::Package(PackageCall::IntoReader)),
+    ("into_inner", Call::Package(PackageCall::IntoInner)),
+    ("create_table", Call::Change(Change::CreateTable)),
+    ("drop_table", Call::Change(Change::DropTable)),
+    ("insert", Call::Change(Change::InsertRows)),
+    ("update", Call::Change(Change::UpdateRows)),
+    ("delete", Call::Change(Change::DeleteRows)),
+    ("set_codepage", Call::Change(Change::SetCodepage)),
+    ("write_stream", Call::Change(Change::WriteStream)),
+    ("remove_stream", Call::Change(Change::RemoveStream)),
+    (
+        "remove_digital_signature",
+        Call::Change(Change::RemoveSignature),
+    ),
+    ("summary_info_mut", Call::Change(Change::BorrowSummary)),
+    ("set", Call::Change(Change::SetSummary)),
+    ("clear", Call::Change(Change::ClearSummary)),
+    ("flush", Call::Change(Change::Flush)),
+    ("package_type", Call::Look(Look::PackageType)),
+    ("codepage", Call::Look(Look::Codepage)),
+    ("is_writable", Call::Look(Look::IsWritable)),
+    ("device_failed", Call::Look(Look::DeviceFailed)),
+    ("tables", Call::Look(Look::Tables)),
+    ("has_table", Call::Look(Look::HasTable)),
+    ("columns", Call::Look(Look::Columns)),
+    ("streams", Call::Look(Look::Streams)),
+    ("has_stream", Call::Look(Look::HasStream)),
+    ("read_stream", Call::Look(Look::ReadStream)),
+    ("has_digital_signature", Call::Look(Look::HasSignature)),
+    ("summary", Call::Look(Look::Summary)),
+    ("select", Call::Look(Look::Select)),
+    ("names", Call::Look(Look::Names)),
+    ("count", Call::Look(Look::Count)),
+    ("bytes", Call::Bytes(BytesCall::Bytes)),
+    ("show", Call::Bytes(BytesCall::Show)),
+    ("number", Call::Bytes(BytesCall::Number)),
+    ("size", Call::Bytes(BytesCall::Size)),
+    ("same", Call::Bytes(BytesCall::Same)),
+    ("raw_streams", Call::Bytes(BytesCall::RawStreams)),
+    ("set_clsid", Call::Bytes(BytesCall::SetClsid)),
+    ("set_raw", Call::Bytes(BytesCall::SetRaw)),
+    ("remove_raw", Call::Bytes(BytesCall::RemoveRaw)),
+    ("save", Call::File(FileCall::Save)),
+    ("calls", Call::Calls),
+    ("writes", Call::Writes),
+    ("print_query", Call::PrintQuery),
+    ("print_expression", Call::PrintExpression),
+];
+
+/// Returns the call of a name.
+fn call_named(name: &str) -> Result<Call, Failure> {
+    for (known, call) in &CALLS {
+        if *known == name {
+            return Ok(*call);
+        }
+    }
+    Err(Failure::Unreadable("there is no such call"))
+}
+
+/// Makes a call, and prints its answer as lines.
+pub(crate) fn make<R>(
+    rt: &R,
+    session: &mut Session,
+    words: &mut Words,
+    answer: &mut String,
+) -> Result<(), Failure>
+where
+    R: Files + AllocGlobal,
+    R::File: Read + Write + Seek + Drop,
+{
+    match call_named(words.word()?)? {
+        Call::File(call) => {
+            files::make(rt, session, call, words)?;
+            answer.push_str("ok")?;
+        }
+        call => make_other(rt.alloc(), session, call, words, answer)?,
+    }
+    words.end()
+}
+
+/// Makes a call that touches no file.
+fn make_other(
+    alloc: Global,
+    session: &mut Session,
+    call: Call,
+    words: &mut Words,
+    answer: &mut String,
+) -> Result<(), Failure> {
+    match call {
+        Call::Package(call) => packages::make(alloc, session, call, words)?,
+        Call::Change(change) => changes::make(alloc, session.package_mut()?, change, words)?,
+        Call::Look(look) => return looks::print(alloc, session.package()?, look, words, answer),
+        Call::Bytes(call) => {
+            return containers::make(alloc, &mut session.kept, call, words, answer);
+        }
+        _ => return print_text(alloc, session, call, words, answer),
+    }
+    answer.push_str("ok")?;
+    Ok(())
+}
+
+/// Prints what needs no package.
+fn print_text(
+    alloc: Global,
+    session: &Session,
+    call: Call,
+    words: &mut Words,
+    answer: &mut String,
+) -> Result<(), Failure> {
+    match call {
+        Call::Calls => write!(answer, "{}", session.calls)?,
+        Call::Writes => write!(answer, "{}", session.writes)?,
+        Call::PrintQuery => {
+            let query = select(alloc, words)?;
+            write!(answer, "{query}")?;
+        }
+        _ => {
+            let expression = expression(alloc, words)?;
+            write!(answer, "{expression}")?;
+        }
+    }
+    Ok(())
+}

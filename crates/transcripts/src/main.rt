@@ -1,0 +1,103 @@
+//! Makes the calls of transcripts, and prints each call that answers otherwise than expected:
+//! `transcripts check FILE..`. The exit status is 1 if one does, and 2 for wrong usage. `docs/TRANSCRIPTS.md` shows
+//! what stands in a transcript.
+//!
+//! `transcripts trials FILE..` is what `tools/try-faults` runs: there each call behind `try` may be refused memory.
+#![tactic(auto)]
+
+mod calls;
+mod changes;
+mod columns;
+mod conditions;
+mod containers;
+mod cursors;
+mod failure;
+mod files;
+mod kept;
+mod lines;
+mod looks;
+mod packages;
+mod pictures;
+mod queries;
+mod reports;
+mod session;
+mod summary;
+mod tokens;
+mod transcript;
+mod trials;
+mod values;
+mod words;
+
+use failure::Failure;
+use lines::lines;
+use reports::Report;
+use std::io::{Read, Seek, Write};
+use std::process::ExitCode;
+use std::rt::{Env, Files};
+use std::{env, fs};
+
+/// Runs the transcript in a file, and returns whether each answer is as expected. A transcript without answers isn't.
+fn run_file<R>(rt: &R, file: &str, is_trial: bool) -> Result<bool, Failure>
+where
+    R: Files + Print + Eprint + AllocGlobal,
+    R::File: Read + Write + Seek + Drop,
+{
+    let text = fs::read_to_string(rt, file)?;
+    let lines = lines(rt.alloc(), text.as_str())?;
+    let mut report = Report::new(file, is_trial);
+    transcript::run(rt, &mut report, lines.as_slice())?;
+    let Report {
+        answers,
+        differing,
+        ..
+    } = report;
+    if !is_trial {
+        eprintln!(rt; "{file}: {answers} answers, {differing} differ")?;
+    }
+    Ok(differing == 0 && answers > 0)
+}
+
+/// Runs the transcripts in files, and returns whether each answer is as expected.
+fn run_files<R>(rt: &R, files: &[String], is_trial: bool) -> Result<bool, Failure>
+where
+    R: Files + Print + Eprint + AllocGlobal,
+    R::File: Read + Write + Seek + Drop,
+{
+    let mut are_expected = true;
+    for file in files {
+        are_expected &= run_file(rt, file.as_str(), is_trial)?;
+    }
+    Ok(are_expected)
+}
+
+/// Does what the arguments ask for, and returns the exit status.
+fn run<R>(rt: &R) -> Result<u8, Failure>
+where
+    R: Files + Env + Print + Eprint + AllocGlobal,
+    R::File: Read + Write + Seek + Drop,
+{
+    let words: Vec<String> = env::args(rt)?.skip(1).collect(rt.alloc())?;
+    let Some((verb, files)) = words.as_slice().split_first() else {
+        return Ok(2);
+    };
+    let are_expected = match verb.as_str() {
+        "check" => run_files(rt, files, false)?,
+        "trials" => run_files(rt, files, true)?,
+        _ => return Ok(2),
+    };
+    Ok(if are_expected { 0 } else { 1 })
+}
+
+fn main(rt: HostRuntime) -> ExitCode {
+    match run(&rt) {
+        Ok(2) => {
+            let _ = eprintln!(rt; "usage: transcripts check|trials FILE..");
+            ExitCode::from(2)
+        }
+        Ok(status) => ExitCode::from(status),
+        Err(failure) => {
+            let _ = eprintln!(rt; "transcripts: {failure}");
+            ExitCode::FAILURE
+        }
+    }
+}

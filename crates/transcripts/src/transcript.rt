@@ -1,0 +1,83 @@
+//! Makes the calls of a transcript.
+
+use crate::failure::Failure;
+use crate::lines::Line;
+use crate::reports::{Report, empty_answer};
+use crate::session::Session;
+use crate::tokens::tokens;
+use crate::words::Words;
+use crate::{calls, cursors, trials};
+use std::io::{Read, Seek, Write};
+use std::rt::Files;
+
+/// Makes the calls of a transcript, in order.
+pub(crate) fn run<R>(rt: &R, report: &mut Report, lines: &[Line]) -> Result<(), Failure>
+where
+    R: Files + Print + AllocGlobal,
+    R::File: Read + Write + Seek + Drop,
+{
+    let mut session = Session::new(rt.alloc());
+    for i in 0..lines.len() {
+        if lines[i].is_call() {
+            run_line(rt, report, &mut session, &lines[i], &lines[i + 1..])?;
+        }
+    }
+    Ok(())
+}
+
+/// Makes the call of a line, and those on the stream that it opens.
+fn run_line<R>(
+    rt: &R,
+    report: &mut Report,
+    session: &mut Session,
+    line: &Line,
+    rest: &[Line],
+) -> Result<(), Failure>
+where
+    R: Files + Print + AllocGlobal,
+    R::File: Read + Write + Seek + Drop,
+{
+    if !is_stream(rest) {
+        let mut answer = empty_answer(rt.alloc())?;
+        let outcome = make(rt, report.is_trial(), session, line, &mut answer);
+        return report.check(rt, line, rest, outcome, &mut answer);
+    }
+    let tokens = tokens(rt.alloc(), line.text())?;
+    let mut words = Words::new(tokens.as_slice());
+    match words.word()? {
+        "write_stream" => cursors::write(rt, report, session, words.name()?, line, rest),
+        "read_stream" => cursors::read(rt, report, session, words.name()?, line, rest),
+        _ => Err(Failure::Unreadable("no stream is open for the calls below")),
+    }
+}
+
+/// Returns whether calls on a stream come next.
+fn is_stream(rest: &[Line]) -> bool {
+    match rest
+        .iter()
+        .find(|line| line.is_call() || line.is_cursor_call())
+    {
+        Some(line) => line.is_cursor_call(),
+        None => false,
+    }
+}
+
+/// Makes the call of a line, and prints its answer.
+fn make<R>(
+    rt: &R,
+    is_trial: bool,
+    session: &mut Session,
+    line: &Line,
+    answer: &mut String,
+) -> Result<(), Failure>
+where
+    R: Files + Print + AllocGlobal,
+    R::File: Read + Write + Seek + Drop,
+{
+    let tokens = tokens(rt.alloc(), line.text())?;
+    let mut words = Words::new(tokens.as_slice());
+    if words.takes("try") && is_trial {
+        return trials::make(rt, session, words, answer);
+    }
+    calls::make(rt, session, &mut words, answer)
+}

@@ -1,0 +1,36 @@
+//! Makes calls that may be refused memory. They stand between a `[` and a `]` on standard output, and no other call is
+//! to be refused any.
+
+use crate::calls;
+use crate::failure::Failure;
+use crate::pictures::picture;
+use crate::session::Session;
+use crate::words::Words;
+use std::io::{Read, Seek, Write};
+use std::rt::Files;
+
+/// Makes a call, again if it is refused memory. The package has to answer then what it did before.
+pub(crate) fn make<R>(
+    rt: &R,
+    session: &mut Session,
+    words: Words,
+    answer: &mut String,
+) -> Result<(), Failure>
+where
+    R: Files + Print + AllocGlobal,
+    R::File: Read + Write + Seek + Drop,
+{
+    let before = picture(rt.alloc(), session)?;
+    print!(rt; "[")?;
+    let outcome = calls::make(rt, session, &mut { words }, answer);
+    println!(rt; "]")?;
+    match outcome {
+        Err(failure) if failure.is_memory() => {}
+        _ => return outcome,
+    }
+    if picture(rt.alloc(), session)?.as_slice() != before.as_slice() {
+        return Err(Failure::CHANGED);
+    }
+    answer.clear();
+    calls::make(rt, session, &mut { words }, answer)
+}
