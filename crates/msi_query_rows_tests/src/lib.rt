@@ -1,12 +1,8 @@
-//! Tests of selected rows: filters, projections and joins over tables in a list.
+//! Tests of selected rows that no package has: joins on a column of numbers and texts, and rows as callers see them.
 #![tactic(auto)]
 
 #[cfg(test)]
 mod handed_out;
 #[cfg(test)]
-mod joins;
-#[cfg(test)]
-mod samples;
-#[cfg(test)]
-mod selection;
+mod mixed;
 pub mod tables;

@@ -1,34 +1,27 @@
-//! Tables in a list, which tests select from.
+//! Two tables, which tests select from.
 
-ghost use Rattle.std.specs.Prelude.{◌≡◌, [], Err, IfOk, IfErr, Ok, Some, option_map, option_and_then, option_copied};
-ghost use Rattle.std.specs.Prelude.{position, bytes_eq, slice_get};
+ghost use Rattle.std.specs.Prelude.{◌≡◌, IfOk, Ok, Some, bytes_eq, codes, if◌then◌else◌};
 ghost use Rattle.msi_text_base.specs.Results.{OnlyMemory};
-ghost use Rattle.msi_text.specs.Refusals.{AnswersWith, IsRefusal, refusal_of};
-ghost use Rattle.msi_query_joins.specs.Rows.{columns_read, whole_table};
 ghost use Rattle.msi_query_rows_tests.specs.Tables.{cells_of};
 
 use msi_query_rows::{Relation, Tables};
 use msi_table::parts::copied_columns;
 use msi_table::{Column, ValueRef};
-use msi_text::{Error, ErrorKind, IntoText, Items, Reason, Text};
+use msi_text::{Error, IntoText, Items};
 use std::alloc::Global;
 
-const NO_TABLE: Reason = Reason("there is no such table");
-
-const UNREADABLE: Reason = Reason("the table can't be read");
-
-/// A table; there are no rows where it can't be read.
+/// The columns and the rows of a table.
 #[derive(Drop)]
 pub struct Kept {
-    pub name: Text,
     pub columns: Items<Column>,
-    pub rows: Option<Vec<Items<ValueRef>>>,
+    pub rows: Vec<Items<ValueRef>>,
 }
 
-/// Tables in a list.
+/// The table `M`, and another that has every other name.
 #[derive(Drop)]
-pub struct Listed {
-    pub tables: Vec<Kept>,
+pub struct Both {
+    pub mixed: Kept,
+    pub other: Kept,
 }
 
 /// A row once more.
@@ -53,78 +46,36 @@ fn copied_rows(alloc: Global, rows: &[Items<ValueRef>]) -> Result<Vec<Items<Valu
     Ok(copies)
 }
 
-/// The relation of a name, and of columns and rows once more.
-fn copied(
-    alloc: Global,
-    name: &str,
-    columns: &[Column],
-    rows: &[Items<ValueRef>],
-) -> Result<Relation, Error>
+/// A table once more, under a name.
+fn copied(alloc: Global, name: &str, kept: &Kept) -> Result<Relation, Error>
     ensures ok { IfOk result (λ relation. relation
-        ≡ record { name = name.now; columns = columns.now; rows = rows.now }) }
+        ≡ record { name = name.now; columns = kept.now.columns; rows = kept.now.rows.items }) }
     ensures kind { OnlyMemory result }
 {
-    let columns = copied_columns(alloc, columns)?;
-    let rows = copied_rows(alloc, rows)?;
+    let columns = copied_columns(alloc, kept.columns.as_slice())?;
+    let rows = copied_rows(alloc, kept.rows.as_slice())?;
     Ok(Relation::new(name.into_text(alloc)?, columns, rows))
 }
 
-/// The relation of a table under the name that was asked for.
-fn found(alloc: Global, name: &str, kept: &Kept) -> Result<Relation, Error>
-    ensures ok { IfOk result (λ relation. whole_table (λ _. Some (cells_of kept.now)) name.now ≡ Ok relation) }
-    ensures kind { IfErr result (IsRefusal (whole_table (λ _. Some (cells_of kept.now)) name.now)) }
-    ensures early { AnswersWith (refusal_of (whole_table (λ _. Some (cells_of kept.now)) name.now)) result }
-{
-    match &kept.rows {
-        Some(rows) => copied(alloc, name, kept.columns.as_slice(), rows.as_slice()),
-        None => Err(Error::new(ErrorKind::InvalidData, UNREADABLE)),
-    }
-}
-
-/// The columns of a table, if it can be read.
-fn readable_columns(kept: &Kept) -> Result<&[Column], Error>
-    ensures ok { IfOk result (λ columns. columns_read (λ _. Some (cells_of kept.now)) [] ≡ Ok columns.now) }
-    ensures kind { IfErr result (λ kind. columns_read (λ _. Some (cells_of kept.now)) [] ≡ Err kind) }
-{
-    match kept.rows {
-        Some(_) => Ok(kept.columns.as_slice()),
-        None => Err(Error::new(ErrorKind::InvalidData, UNREADABLE)),
-    }
-}
-
-/// Where the table of a name stands.
-fn place_of(tables: &[Kept], name: &str) -> Option<usize>
-    ensures { result ≡ position (λ kept. bytes_eq kept.name name.now) tables.now }
-{
-    tables.iter().position(|kept| kept.name.as_str() == name)
-}
-
 /// The table of a name.
-fn kept_named<'a>(tables: &'a [Kept], name: &str) -> Option<&'a Kept>
-    ensures { option_copied result
-        ≡ option_and_then (slice_get tables.now) (position (λ kept. bytes_eq kept.name name.now) tables.now) }
+fn kept_named<'a>(both: &'a Both, name: &str) -> &'a Kept
+    ensures { result.now ≡ (if bytes_eq name.now (codes "M") then both.now.mixed else both.now.other) }
 {
-    match place_of(tables, name) {
-        Some(place) => tables.get(place),
-        None => None,
+    if name == "M" {
+        &both.mixed
+    } else {
+        &both.other
     }
 }
 
-impl Tables for Listed {
-    ghost table = { λ listed name. option_map cells_of (option_and_then (slice_get listed.tables.items)
-        (position (λ kept. bytes_eq kept.name name) listed.tables.items)) };
+impl Tables for Both {
+    ghost table = { λ both name. Some (cells_of (if bytes_eq name (codes "M") then both.mixed else both.other)) };
 
     fn columns(&self, name: &str) -> Result<&[Column], Error> {
-        match kept_named(self.tables.as_slice(), name) {
-            Some(kept) => readable_columns(kept),
-            None => Err(Error::new(ErrorKind::NotFound, NO_TABLE)),
-        }
+        Ok(kept_named(self, name).columns.as_slice())
     }
 
     fn find(&self, alloc: Global, name: &str) -> Result<Relation, Error> {
-        match kept_named(self.tables.as_slice(), name) {
-            Some(kept) => found(alloc, name, kept),
-            None => Err(Error::new(ErrorKind::NotFound, NO_TABLE)),
-        }
+        copied(alloc, name, kept_named(self, name))
     }
 }
