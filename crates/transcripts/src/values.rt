@@ -6,8 +6,8 @@ use crate::words::{Words, number_of};
 use msi::Value;
 use std::alloc::Global;
 
-/// Reads a value of the row of a number: `NULL`, a number, a text; or `number`, which is the row's number, and
-/// `letter`, one of 21,000 letters for it.
+/// Reads a value of the row of a number: `NULL`, a number, a text; or `number`, which is the row's number, `digits`, the
+/// text of that, and `letter`, one of 21,000 letters for it.
 pub(crate) fn value(alloc: Global, words: &mut Words, number: i32) -> Result<Value, Failure> {
     match words.next() {
         Some(Token::Text(text)) => Ok(Value::from_text(alloc, text.as_str())?),
@@ -22,6 +22,7 @@ fn value_of(alloc: Global, word: &str, number: i32) -> Result<Value, Failure> {
         "NULL" => Ok(Value::Null),
         "BINARY_STREAM" => Ok(Value::Binary),
         "number" => Ok(Value::Int(number)),
+        "digits" => Ok(Value::from(format!(in alloc; "{number}")?)),
         "letter" => letter(alloc, number),
         _ => Ok(Value::Int(number_of(word)?)),
     }
