@@ -6,8 +6,8 @@ use crate::words::{Words, number_of};
 use msi::Value;
 use std::alloc::Global;
 
-/// Reads a value of the row of a number: `NULL`, a number, a text; or `number`, which is the row's number, `digits`, the
-/// text of that, and `letter`, one of 21,000 letters for it.
+/// Reads a value of the row of a number: `NULL`, a number, a text; or `number`, which is the row's number, `digits`,
+/// the text of that, and `letter`, one of 21,000 letters for it.
 pub(crate) fn value(alloc: Global, words: &mut Words, number: i32) -> Result<Value, Failure> {
     match words.next() {
         Some(Token::Text(text)) => Ok(Value::from_text(alloc, text.as_str())?),
