@@ -401,7 +401,7 @@ module _ (k : Kept) (name : List ℕ) (columns : List ColumnDef) (rows : SystemR
       (with_table_kept (new_table (base_with (wide_for used k) k).database name columns) (tables_listed (base_with (wide_for used k) k).database)) es) (sym is.stored) left.makes)))
 
   pub told_with : TellsUse (create_table k.database name columns) is_used
-  told_with = subst (TellsUse (create_table k.database name columns)) (sym is.used) left.uses
+  told_with = subst (TellsUse (create_table k.database name columns)) (sym is.uses) left.uses
 
   pub named_with : HaveOwnNames es
   named_with = subst HaveOwnNames (sym is.stored) left.names

@@ -18,7 +18,7 @@ use Rattle.msi_table_values.specs.Fitting.{FitsRow, FitsTable}
 use Rattle.msi_table.specs.Cells.{row_count, row_in, rows_in, table_bytes, width, widths}
 use Rattle.msi_table.specs.Tables.{TableDef, long_table_of}
 use Rattle.msi_table.proofs.LongRowsLemmas.{each_fits_long, fits_long}
-use Rattle.msi_table.proofs.ReadBackLemmas.{rows_in-table_bytes}
+use Rattle.msi_table.proofs.ReadBackLemmas.{rows_in-table_bytes, sum-widths, width_of_row}
 use Rattle.msi_table.proofs.ReadRowsLemmas.{length-tabulated}
 use Rattle.msi_query_rows.specs.Rows.{TableCells}
 use Rattle.msi_container_format.specs.Names.{is_name_length}
@@ -51,20 +51,9 @@ wider false coltype.Int32 = lit≤ tt
 wider false (coltype.Str n) = lit≤ tt
 wider false coltype.Binary = lit≤ tt
 
-some_width : (long : Bool) (type : ColumnType) → 0 < width long type
-some_width long coltype.Int16 = lit≤ tt
-some_width long coltype.Int32 = lit≤ tt
-some_width true (coltype.Str n) = lit≤ tt
-some_width false (coltype.Str n) = lit≤ tt
-some_width long coltype.Binary = lit≤ tt
-
 sums_wider : (long : Bool) (types : List ColumnType) → sum (widths long types) ≤ sum (widths true types)
 sums_wider long [] = lit≤ tt
-sums_wider long (t ∷ ts) = omega (arith, wider long t, sums_wider long ts)
-
-some_sum : (long : Bool) (types : List ColumnType) → 0 < length types → 0 < sum (widths long types)
-some_sum long [] h = absurd (omega (arith, h))
-some_sum long (t ∷ ts) h = omega (arith, some_width long t)
+sums_wider long (t ∷ ts) = omega (arith, wider long t, sums_wider long ts, sum-widths long t ts, sum-widths true t ts)
 
 -- bytes that hold no row with narrow cells hold none with wide ones
 none_by : (b : Bool) (n : ℕ) (f : ℕ → List ValueRef) → cond b (Some (tabulated n f)) None ≡ Some [] → n ≡ 0
@@ -81,9 +70,9 @@ below_first n k h e =
 none_long : (long : Bool) (types : List ColumnType) (bytes : List ℕ) → 0 < length types → rows_in long types bytes ≡ Some [] → rows_in true types bytes ≡ Some []
 none_long long types bytes some e =
     let none : length bytes / sum (widths long types) ≡ 0 = none_by (nat_le (row_count long types bytes) 65536) (row_count long types bytes) (row_in long types bytes) e in
-    let few : length bytes < sum (widths long types) = below_first (length bytes) (sum (widths long types)) (some_sum long types some) none in
+    let few : length bytes < sum (widths long types) = below_first (length bytes) (sum (widths long types)) (width_of_row long types some) none in
     let still : length bytes < 1 * sum (widths true types) = omega (arith, few, sums_wider long types) in
-    let below : length bytes / sum (widths true types) < 1 = div_below (length bytes) (sum (widths true types)) 1 (some_sum true types some) still in
+    let below : length bytes / sum (widths true types) < 1 = div_below (length bytes) (sum (widths true types)) 1 (width_of_row true types some) still in
     let none_now : length bytes / sum (widths true types) ≡ 0 = omega (arith, below) in
     rw none_now refl
 
