@@ -21,8 +21,8 @@ use Rattle.msi_database_schema.specs.System.{columns_name, tables_name, validati
 use Rattle.msi_database_cells.specs.Texts.{PoolInUse, UsedPool, in_use, rows_put, settled}
 use Rattle.msi_database_cells.proofs.NarrowLemmas.{rows_put_grows}
 use Rattle.msi_database_changes.specs.Database.{Database, is_sound, rows_of, table_at}
-use Rattle.msi_database_changes.specs.Changes.{Change, no_change, pool_of, sound_refusal}
-use Rattle.msi_database_changes.specs.Widening.{widened, widening}
+use Rattle.msi_database_changes.specs.Changes.{no_change, pool_of}
+use Rattle.msi_database_changes.specs.Widening.{widened}
 use Rattle.msi_database_changes.specs.Create.{create_at_width, create_table, table_refusals}
 use Rattle.msi_database_changes.specs.Insert.{cells_added, row_refusals, table_with}
 use Rattle.msi_database_changes.proofs.AtWidthLemmas.{created, sound_widened}

@@ -1,5 +1,5 @@
 -- A change of tables that widens references where it has to: what is stored over which database.
-use Rattle.std.proofs.Common.{◌≡◌, ℕ, ◌≤◌, Bool, true, false, not, ◌&&◌, ◌||◌, List, length, nat_lt, Option, Some, None, Result, Ok, Err, refl, sym, ap, subst, ◌∙◌, arith}
+use Rattle.std.proofs.Common.{◌≡◌, ◌≤◌, Bool, true, false, not, ◌&&◌, ◌||◌, List, length, nat_lt, Option, Some, None, Result, Ok, Err, refl, sym, ap, subst, ◌∙◌, arith}
 use Rattle.std.specs.Prelude.{if◌then◌else◌}
 use Rattle.std.proofs.lemmas.Bool.{true≢false}
 use Rattle.std.proofs.lemmas.Bool.Decides.{nat_tests}
@@ -13,7 +13,7 @@ use Rattle.msi_database_changes.specs.Changes.{Change}
 use Rattle.msi_database_changes.specs.Widening.{needs_three_bytes, widened, widening}
 use Rattle.msi_database_storage.specs.declared.storing.Stored.{Stored}
 use Rattle.msi_database_storage.specs.Storing.{stored_in}
-use Rattle.msi_database_storage.specs.Kept.{Kept, after_change, kept_widened, with_change}
+use Rattle.msi_database_storage.specs.Kept.{Kept, kept_widened, with_change}
 use Rattle.msi_database.specs.Keeping.{AreParts}
 use Rattle.msi_database.specs.Making.{Makes, TellsUse, base_with, wide_for}
 use Rattle.msi_database.proofs.KeepingLemmas.{same_base, wide_base}

@@ -1,5 +1,5 @@
 -- The steps by which a database with wider references is made, table by table.
-use Rattle.std.proofs.Common.{◌≡◌, ℕ, ◌+◌, ◌<◌, Bool, true, false, ◌==◌, Result, Ok, Err, inl, inr, List, [], ◌∷◌, ◌++◌, length, map, take, fold, get_or, Option, Some, None, option_map, refl, sym, ap, ◌∙◌, subst, arith}
+use Rattle.std.proofs.Common.{◌≡◌, ℕ, ◌+◌, ◌<◌, Bool, true, false, ◌==◌, Result, Ok, Err, inl, inr, List, [], ◌∷◌, ◌++◌, length, map, take, fold, get_or, Some, None, option_map, refl, sym, ap, ◌∙◌, subst}
 use Rattle.std.specs.Prelude.{MatchBool, if◌then◌else◌}
 use Rattle.std.specs.FinMap.{entries, entries-insert, find, insert}
 use Rattle.msi_container_format.specs.Streams as maps

@@ -1,22 +1,20 @@
 -- A database whose references widen: its tables' streams are spelled anew, and it is kept as before.
-use Rattle.std.proofs.Common.{◌≡◌, ◌≢◌, ℕ, suc, ◌+◌, ◌*◌, ◌/◌, ◌%◌, ◌<◌, ◌≤◌, Bool, true, false, cond, ◌==◌, List, [], ◌∷◌, length, map, fold, bytes_eq, Option, Some, None, unwrap_or, is_some, sum, refl, sym, ap, ◌∙◌, subst, arith, T, lit≤}
-use Rattle.std.specs.Prelude.{MatchBool, IsSomeAnd, IfSome, nat_le}
+use Rattle.std.proofs.Common.{◌≡◌, ◌≢◌, ℕ, suc, ◌+◌, ◌*◌, ◌/◌, ◌%◌, ◌<◌, ◌≤◌, Bool, true, false, cond, ◌==◌, List, [], ◌∷◌, length, fold, Option, Some, None, unwrap_or, is_some, sum, refl, sym, ap, ◌∙◌, subst, arith, lit≤}
+use Rattle.std.specs.Prelude.{MatchBool, IfSome, nat_le}
 use Rattle.std.specs.List.{AllByRecursion}
-use Rattle.std.specs.FinMap.{is_sorted}
 use Rattle.std.proofs.lemmas.Bool.{true≢false, ne_eqb}
 use Rattle.std.proofs.lemmas.Bool.Decides.{nat_tests}
 use Rattle.msi_text_base.proofs.BoolLemmas.{T_parts}
 use Rattle.std.proofs.lemmas.Nat.{div-add-mod', div_below, mod_below}
 use Rattle.std.proofs.lemmas.Option.{same_Some, none-some}
-use Rattle.msi_text_base.specs.Lists.{list_cmp, tabulated}
-use Rattle.msi_text_pool.specs.Pool.{Pool}
+use Rattle.msi_text_base.specs.Lists.{tabulated}
 use Rattle.msi_table_values.specs.declared.value.ValueRef.{ValueRef}
 use Rattle.msi_table_values.specs.declared.column.ColumnType.{ColumnType}
 use Rattle.msi_table_values.specs.declared.column.ColumnType.TheVariants as coltype
 use Rattle.msi_table_values.specs.Columns.{ColumnDef, types_of}
-use Rattle.msi_table_values.specs.Fitting.{FitsRow, FitsTable}
+use Rattle.msi_table_values.specs.Fitting.{FitsTable}
 use Rattle.msi_table.specs.Cells.{row_count, row_in, rows_in, table_bytes, width, widths}
-use Rattle.msi_table.specs.Tables.{TableDef, long_table_of}
+use Rattle.msi_table.specs.Tables.{TableDef}
 use Rattle.msi_table.proofs.LongRowsLemmas.{each_fits_long, fits_long}
 use Rattle.msi_table.proofs.ReadBackLemmas.{rows_in-table_bytes, sum-widths, width_of_row}
 use Rattle.msi_table.proofs.ReadRowsLemmas.{length-tabulated}
@@ -25,14 +23,13 @@ use Rattle.msi_container_format.specs.Names.{is_name_length}
 use Rattle.msi_database_schema.proofs.RowOrderLemmas.{names_total}
 use Rattle.msi_database_schema.specs.Keys.{is_table_name, summary_key, table_key}
 use Rattle.msi_database_schema.specs.System.{validation_columns, validation_name}
-use Rattle.msi_database_changes.specs.Database.{Database, Tables, columns_by_name, has_table, is_sound, rows_of, table_at}
+use Rattle.msi_database_changes.specs.Database.{Database, Tables, columns_by_name, has_table, is_sound, rows_of}
 use Rattle.msi_database_changes.specs.Widening.{widened}
 use Rattle.msi_database_changes.proofs.AtWidthLemmas.{sound_widened}
-use Rattle.msi_database_storage.specs.StreamNames.{HaveShortNames}
 use Rattle.msi_database_storage.specs.Streams.{Streams, stored_rows, stream_at, with_stream}
 use Rattle.msi_database_storage.specs.Kept.{AreAsLong, Kept, kept_widened, schema_listed}
-use Rattle.msi_database_storage.specs.Widening.{streams_widened, unlisted_table, with_long_rows}
-use Rattle.msi_database.specs.Agreement.{DatabaseIs, TablesAre, UnlistedIs}
+use Rattle.msi_database_storage.specs.Widening.{unlisted_table, with_long_rows}
+use Rattle.msi_database.specs.Agreement.{TablesAre, UnlistedIs}
 use Rattle.msi_database.specs.Keeping.{AreParts, HasFittingRows, IsKeptDatabase}
 use Rattle.msi_database.proofs.ComesLemmas.{describes, regular}
 use Rattle.msi_database.proofs.PartsLemmas.{kept_parts}

@@ -1,11 +1,11 @@
-use Rattle.std.proofs.Common.{List, ap, arith, subst, sym, ◌∙◌}
+use Rattle.std.proofs.Common.{List, ap, subst, sym, ◌∙◌}
 use Rattle.std.specs.FinMap.{entries}
 use Rattle.msi_table_values.specs.declared.value.ValueRef.{ValueRef}
 use Rattle.msi_table.specs.Tables.{CanStore}
 use Rattle.msi_database_changes.specs.Insert.{table_with}
 use Rattle.msi_database_storage.specs.Widening.{with_long_rows}
 use Rattle.msi_database.specs.Keeping.{IsKeptDatabase}
-use Rattle.msi_database.proofs.WideningCallLemmas.{listed_all, listed_def, listed_fits, listed_more, listed_named}
+use Rattle.msi_database.proofs.WideningCallLemmas.{listed_def, listed_fits, listed_more, listed_named}
 use Rattle.msi_database.proofs.database.Database.store_tables_long.Goals as goal
 
 pub sound_rows-requires-clause-listed : goal.sound_rows-requires-clause-listed

@@ -1,17 +1,12 @@
-use Rattle.std.proofs.Common.{List, Option, ap, subst, sym, ◌∙◌}
+use Rattle.std.proofs.Common.{List, ap, subst, sym, ◌∙◌}
 use Rattle.std.proofs.lemmas.Result.{IfOk-weaker}
-use Rattle.msi_text_pool.specs.Pool.{Pool, unindexed}
+use Rattle.msi_text_pool.specs.Pool.{unindexed}
 use Rattle.msi_table_values.specs.Columns.{ColumnDef}
-use Rattle.msi_table.specs.Tables.{TableDef}
 use Rattle.msi_query_rows.specs.Refusals.{first_refusal}
 use Rattle.msi_query_rows.proofs.RefusalLemmas.{err_passed, first_answered, none_answered}
-use Rattle.msi_database_changes.specs.Create.{create_table}
-use Rattle.msi_database_storage.specs.declared.storing.Stored.{Stored}
 use Rattle.msi_database_storage.specs.Kept.{Kept}
-use Rattle.msi_database_storage.specs.Storing.{HaveOwnNames}
 use Rattle.msi_database.specs.Creating.{IsCreated, create_refusals}
 use Rattle.msi_database.specs.Keeping.{IsKeptDatabase}
-use Rattle.msi_database.specs.Making.{Makes, TellsUse, base_with}
 use Rattle.msi_database.proofs.EarlyCallLemmas.{first_where_err, none_where_ok}
 use Rattle.msi_database.proofs.CreatedAnewLemmas.{create_barred_either, create_called, made_with, named_with, rows_refused, told_with}
 use Rattle.msi_database.proofs.database.Database.table_created.Goals as goal
