@@ -2,7 +2,7 @@
 use Rattle.std.proofs.Common.{◌≡◌, ℕ, Bool, true, false, List, [], ◌∷◌, ◌++◌, map, Option, Some, unwrap_or, refl, sym, ap, subst, ◌∙◌, ◌==◌, ◌+◌}
 use Rattle.std.specs.Prelude.{MatchBool, IsSomeAnd, option_map, option_and_then}
 use Rattle.std.specs.List.{list_any, AllByRecursion, enumerate_from}
-use Rattle.msi_text_pool.specs.Pool.{Pool, Place, IsPool, forgotten}
+use Rattle.msi_text_pool_base.specs.Pool.{Pool, Place, IsPool, forgotten}
 use Rattle.msi_summary_properties.specs.Properties.{Properties}
 use Rattle.msi_summary.specs.Summary.{SpellsSummary}
 use Rattle.msi_table_values.specs.declared.value.ValueRef.{ValueRef}

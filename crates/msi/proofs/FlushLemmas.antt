@@ -4,8 +4,8 @@ use Rattle.std.specs.Prelude.{IsSomeAnd, option_map, option_and_then, if◌then�
 use Rattle.std.specs.List.{AllByRecursion, enumerate_from}
 use Rattle.std.proofs.lemmas.Bool.{eqb-true, true≢false}
 use Rattle.std.proofs.lemmas.Option.{same_Some}
-use Rattle.msi_text_pool.specs.Pool.{Pool, Place, PlacesWritten, forgotten, pool_stream, data_stream, IsPool}
-use Rattle.msi_text_pool.specs.Pool as pools
+use Rattle.msi_text_pool_base.specs.Pool.{Pool, Place, PlacesWritten, forgotten, pool_stream, data_stream, IsPool}
+use Rattle.msi_text_pool_base.specs.Pool as pools
 use Rattle.msi_text_pool.specs.PoolWriting as pool_writing
 use Rattle.msi_text_pool.proofs.PoolReadBackLemmas.{pools_read_back}
 use Rattle.msi_text_pool.proofs.ForgottenLemmas.{empty_places, none_lost}

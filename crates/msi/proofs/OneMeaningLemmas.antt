@@ -5,15 +5,15 @@ use Rattle.std.specs.List.{AllByRecursion}
 use Rattle.std.specs.FinMap.{entries}
 use Rattle.std.proofs.lemmas.Option.{same_Some}
 use Rattle.msi_text_base.proofs.ListLemmas.{same_head, same_tail}
-use Rattle.msi_text_pool.specs.Pool.{Pool}
-use Rattle.msi_text_pool.specs.Pool as pools
+use Rattle.msi_text_pool_base.specs.Pool.{Pool}
+use Rattle.msi_text_pool_base.specs.Pool as pools
 use Rattle.msi_text_pool.proofs.ReadStreamLemmas.{one_pool}
 use Rattle.msi_summary_properties.specs.Properties.{Properties}
 use Rattle.msi_summary.specs.Summary.{SpellsSummary}
 use Rattle.msi_summary_properties.proofs.ReadBackLemmas.{only_one_set}
 use Rattle.msi_table_values.specs.declared.value.ValueRef.{ValueRef}
 use Rattle.msi_table_values.specs.Columns.{ColumnDef}
-use Rattle.msi_query_rows.specs.Rows.{TableCells}
+use Rattle.msi_query_joins.specs.Rows.{TableCells}
 use Rattle.msi_container_format.specs.declared.contents.Contents.{Contents}
 use Rattle.msi_database_schema.specs.Keys.{table_key, summary_key, string_pool_name, string_data_name}
 use Rattle.msi_database_schema.specs.System.{validation_name, validation_columns}

@@ -6,7 +6,7 @@ use Rattle.std.specs.FinMap.{entries, entries_sorted}
 use Rattle.std.proofs.lemmas.Bool.{true≢false}
 use Rattle.std.proofs.lemmas.List.Elements.{All-from_recursion}
 use Rattle.msi_text_base.specs.declared.codepage.CodePage.{CodePage}
-use Rattle.msi_text_pool.specs.Pool.{Pool, Place, Entry, CountsFit, SpellsEntries, SpellsTexts, IsPool, with_named_texts}
+use Rattle.msi_text_pool_base.specs.Pool.{Pool, Place, Entry, CountsFit, SpellsEntries, SpellsTexts, IsPool, with_named_texts}
 use Rattle.msi_summary_properties.specs.Properties.{Properties}
 use Rattle.msi_summary.specs.Summary.{SpellsSummary}
 use Rattle.msi_summary_properties.proofs.KeptSetLemmas.{IsKept-spelled}

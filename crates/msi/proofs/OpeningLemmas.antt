@@ -5,7 +5,7 @@ use Rattle.std.specs.FinMap.{entries}
 use Rattle.msi_text_base.specs.declared.errors.ErrorKind.{ErrorKind}
 use Rattle.msi_text_base.specs.declared.codepage.CodePage.{CodePage}
 use Rattle.msi_text_base.proofs.OptionLemmas.{is_some_by, some_of}
-use Rattle.msi_text_pool.specs.Pool.{Pool, Entry, IsPool, SpellsPool}
+use Rattle.msi_text_pool_base.specs.Pool.{Pool, Entry, IsPool, SpellsPool}
 use Rattle.msi_container_format.specs.declared.contents.Contents.{Contents}
 use Rattle.msi_container_format.proofs.PlanOnceLemmas.{held_once}
 use Rattle.msi_database_schema.specs.Keys.{table_key, summary_key, string_pool_name, string_data_name}

@@ -7,7 +7,7 @@ use Rattle.msi_text_base.specs.declared.codepage.CodePage.{CodePage}
 use Rattle.msi_text_base.specs.declared.codepage.CodePage.TheVariants.{Utf8}
 use Rattle.msi_text_base.specs.Pages.{IsWritable}
 use Rattle.msi_text_base.proofs.PagesLemmas.{utf8_texts_come_back}
-use Rattle.msi_text_pool.specs.Pool as pools
+use Rattle.msi_text_pool_base.specs.Pool as pools
 use Rattle.msi_summary_properties.specs.declared.propset.PropertyValue.{PropertyValue}
 use Rattle.msi_summary_properties.specs.declared.propset.PropertyValue.TheVariants.{LpStr}
 use Rattle.msi_summary_properties.specs.Properties.{Properties, page_of}

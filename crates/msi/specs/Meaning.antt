@@ -4,8 +4,8 @@ use Rattle.std.specs.FinMap.{entries}
 use Rattle.msi_text_base.specs.declared.codepage.CodePage.{CodePage}
 use Rattle.msi_text_base.specs.declared.errors.ErrorKind.{ErrorKind}
 use Rattle.msi_text_base.specs.declared.errors.ErrorKind.TheVariants.{InvalidData, NotFound}
-use Rattle.msi_text_pool.specs.Pool.{Pool, Entry, IsPool, SpellsPool, with_named_texts}
-use Rattle.msi_text_pool.specs.Pool as pools
+use Rattle.msi_text_pool_base.specs.Pool.{Pool, Entry, IsPool, SpellsPool, with_named_texts}
+use Rattle.msi_text_pool_base.specs.Pool as pools
 use Rattle.msi_summary_properties.specs.Properties.{Properties}
 use Rattle.msi_summary_properties.specs.PropertyStream as properties
 use Rattle.msi_summary_properties.specs.PropertyLaws.{IsKept}

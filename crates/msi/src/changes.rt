@@ -1,7 +1,7 @@
 //! Changes of a package's tables.
 
 ghost use Rattle.std.specs.Prelude.{◌≡◌, ◌++◌, IfErr, OnErr, OnOk};
-ghost use Rattle.msi_query_rows.specs.Refusals.{AnswersFirst, IsRefusal, unless_refused};
+ghost use Rattle.msi_text.specs.Refusals.{AnswersFirst, IsRefusal, unless_refused};
 ghost use Rattle.msi_database_changes.specs.Changes.{sound_refusal};
 ghost use Rattle.msi_database_changes.specs.Create as creates;
 ghost use Rattle.msi_database_changes.specs.Delete as deletes;

@@ -1,7 +1,7 @@
 //! The bytes that a flush would write.
 
 ghost use Rattle.std.specs.Prelude.{◌≡◌, IfErr, IfOk, Ok};
-ghost use Rattle.msi_query_rows.specs.Refusals.{IsRefusal};
+ghost use Rattle.msi_text.specs.Refusals.{IsRefusal};
 ghost use Rattle.msi.specs.Steps.{image_of as image_of_state};
 
 use crate::package::Package;

@@ -3,9 +3,9 @@
 ghost use Rattle.std.specs.Prelude.{◌≡◌, ◌||◌, IfErr, IfOk, IfSome, None, OnOk, Some, true};
 ghost use Rattle.std.specs.Borrow.{sem};
 ghost use Rattle.std.specs.Option.{option_copied};
-ghost use Rattle.msi_query_rows.specs.Refusals.{AnswersWith, IsRefusal, first_refusal, unless_refused};
-ghost use Rattle.msi_query_rows.specs.Rows.{columns_read};
-ghost use Rattle.msi_query_rows.specs.Selection.{early_refusal, relation_of};
+ghost use Rattle.msi_text.specs.Refusals.{AnswersWith, IsRefusal, first_refusal, unless_refused};
+ghost use Rattle.msi_query_joins.specs.Rows.{columns_read};
+ghost use Rattle.msi_query_joins.specs.Selection.{early_refusal, relation_of};
 ghost use Rattle.msi_database_changes.specs.Database.{has_table as has_one, is_sound, table_at, values_of};
 ghost use Rattle.msi_database.specs.Keeping.{IsKeptDatabase};
 ghost use Rattle.msi_database.specs.Listed.{table_def_at, tables_listed};

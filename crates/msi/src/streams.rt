@@ -5,7 +5,7 @@ ghost use Rattle.std.specs.Borrow.{sem};
 ghost use Rattle.std.specs.FinMap as finite;
 ghost use Rattle.std.specs.Option.{option_copied};
 ghost use Rattle.msi_text_base.specs.declared.errors.ErrorKind.TheVariants.{InvalidInput, NotFound, OutOfMemory};
-ghost use Rattle.msi_query_rows.specs.Refusals.{first_refusal, unless_refused};
+ghost use Rattle.msi_text.specs.Refusals.{first_refusal, unless_refused};
 ghost use Rattle.msi_database_schema.specs.Keys.{is_stream_name, signature_key as signature_of, stream_key};
 ghost use Rattle.msi_database_storage.specs.Streams.{has_stream_at, stream_at, without_stream};
 ghost use Rattle.msi_streams.specs.Cursor.{at_start};

@@ -2,7 +2,7 @@
 
 ghost use Rattle.std.specs.Prelude.{◌≡◌, ◌↔◌, IsTrue};
 ghost use Rattle.msi_text_base.specs.declared.codepage.CodePage.TheVariants.{Utf8};
-ghost use Rattle.msi_text_pool.specs.Pool as pools;
+ghost use Rattle.msi_text_pool_base.specs.Pool as pools;
 ghost use Rattle.msi_summary_properties.specs.Properties.{page_of};
 ghost use Rattle.msi_summary_properties.specs.PropertyStream as properties;
 ghost use Rattle.msi.specs.Runs.{TextsAreWritable};

@@ -10,8 +10,8 @@ use crate::source::Source;
 use msi_text_base::Error;
 use std::alloc::Global;
 
-/// How many bytes are asked for in a read.
-const CHUNK_LEN: usize = 8192;
+/// How many bytes are asked for in a read: 64 KiB. With that many the calls take little time beside the bytes.
+const CHUNK_LEN: usize = 64 * 1024;
 
 /// Returns all bytes that a source holds, from the first to the end, in one vector.
 ///

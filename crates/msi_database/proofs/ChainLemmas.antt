@@ -5,14 +5,14 @@ use Rattle.std.specs.List.{fold}
 use Rattle.std.proofs.lemmas.Bool.{or_parts}
 use Rattle.msi_text_base.specs.declared.errors.ErrorKind.{ErrorKind}
 use Rattle.msi_text_base.specs.declared.errors.ErrorKind.TheVariants.{InvalidInput, NotFound}
-use Rattle.msi_text_pool.specs.Pool.{Place}
+use Rattle.msi_text_pool_base.specs.Pool.{Place}
 use Rattle.msi_table_values.specs.declared.value.Value.{Value}
 use Rattle.msi_table_values.specs.declared.value.Value.TheVariants.{Str}
 use Rattle.msi_table_values.specs.declared.value.ValueRef.{ValueRef}
 use Rattle.msi_table_values.specs.Columns.{ColumnDef}
 use Rattle.msi_table.specs.StoredOrder.{in_stored_order}
-use Rattle.msi_query_rows.specs.Refusals.{first_refusal, or_refused, ◌>>=◌}
-use Rattle.msi_query_rows.specs.Rows.{TableCells}
+use Rattle.msi_text.specs.Refusals.{first_refusal, or_refused, ◌>>=◌}
+use Rattle.msi_query_joins.specs.Rows.{TableCells}
 use Rattle.msi_database_schema.specs.Keys.{is_table_name}
 use Rattle.msi_database_schema.specs.System.{is_schema_table, is_system_table, tables_name, columns_name, validation_name}
 use Rattle.msi_database_schema.specs.Description.{column_rows, validation_rows}

@@ -4,8 +4,8 @@ use Rattle.std.specs.Prelude.{IfSome, OnOk, option_map}
 use Rattle.std.specs.Option.{option_map_or}
 use Rattle.std.proofs.lemmas.List.Sums.{sum_by_more}
 use Rattle.std.proofs.lemmas.Option.{same_Some, slice_get-get_or}
-use Rattle.msi_text_pool.specs.Pool.{Place, Pool}
-use Rattle.msi_text_pool.specs.FirstFitLaws.{text_at}
+use Rattle.msi_text_pool_base.specs.Pool.{Place, Pool}
+use Rattle.msi_text_places.specs.FirstFitLaws.{text_at}
 use Rattle.msi_table_values.specs.declared.value.Value.{Value}
 use Rattle.msi_table_values.specs.declared.value.ValueRef.{ValueRef}
 use Rattle.msi_table_values.specs.CellValues.{row_values}

@@ -22,7 +22,7 @@ use Rattle.msi_database.specs.Agreement.{schema_in, schema_rows}
 use Rattle.msi_database_schema.specs.Schema.{SchemaRows, schema_of, by_name, is_faulty, listed_names, columns_of, column_rows}
 use Rattle.msi_table.proofs.ReadRowsLemmas.{read_fits}
 use Rattle.msi_database_changes.proofs.TurnLemmas.{map_some}
-use Rattle.msi_text_pool.specs.Pool.{Pool}
+use Rattle.msi_text_pool_base.specs.Pool.{Pool}
 use Rattle.msi_text_base.specs.Lists.{numbers_from}
 use Rattle.std.proofs.lemmas.List.{length-map}
 use Rattle.std.proofs.lemmas.Bool.{cases_eq}

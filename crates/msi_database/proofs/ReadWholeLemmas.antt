@@ -11,11 +11,11 @@ use Rattle.msi_container_format.specs.Names.{name_cmp}
 use Rattle.msi_container_format.specs.Streams as maps
 use Rattle.msi_text_base.specs.declared.errors.ErrorKind.{ErrorKind}
 use Rattle.msi_text_base.specs.declared.errors.ErrorKind.TheVariants.{InvalidData}
-use Rattle.msi_text_pool.specs.Pool.{CountsFit, Place, Pool, forgotten, with_named_texts}
+use Rattle.msi_text_pool_base.specs.Pool.{CountsFit, Place, Pool, forgotten, with_named_texts}
 use Rattle.msi_table_values.specs.declared.value.ValueRef.{ValueRef}
 use Rattle.msi_table_values.specs.Columns.{ColumnDef}
 use Rattle.msi_table.specs.Tables.{TableDef}
-use Rattle.msi_query_rows.specs.Refusals.{IsRefusal, or_refused}
+use Rattle.msi_text.specs.Refusals.{IsRefusal, or_refused}
 use Rattle.msi_database_schema.specs.Schema.{table_with}
 use Rattle.msi_database_schema.specs.System.{validation_columns, validation_name}
 use Rattle.msi_table.specs.Census.{CensusDef, IsCensus, numbers_of_rows}

@@ -4,8 +4,8 @@ use Rattle.std.specs.Prelude.{MatchOption}
 use Rattle.std.proofs.lemmas.Option.{same_Some}
 use Rattle.std.proofs.lemmas.Bool.{leb-true}
 use Rattle.msi_text_base.specs.declared.errors.ErrorKind.{ErrorKind}
-use Rattle.msi_text_pool.specs.FirstFit.{most_places}
-use Rattle.msi_text_pool.specs.Pool.{Place, Pool}
+use Rattle.msi_text_places.specs.FirstFit.{most_places}
+use Rattle.msi_text_pool_base.specs.Pool.{Place, Pool}
 use Rattle.msi_table_values.specs.declared.value.ValueRef.{ValueRef}
 use Rattle.msi_table_values.specs.declared.value.Value.{Value}
 use Rattle.msi_table_values.specs.Columns.{ColumnDef, types_of}
@@ -14,9 +14,9 @@ use Rattle.msi_table.specs.Tables.{TableDef}
 use Rattle.msi_table_values.specs.Fitting.{FitsTable}
 use Rattle.msi_query.specs.Queries.{InsertQuery, UpdateQuery, DeleteQuery}
 use Rattle.msi_query_expressions.specs.Conditions.{meets}
-use Rattle.msi_query_rows.specs.Refusals.{first_refusal, unless_refused}
-use Rattle.msi_query_rows.specs.Rows.{TableCells}
-use Rattle.msi_query_rows.specs.Selection.{has_columns, condition_names}
+use Rattle.msi_text.specs.Refusals.{first_refusal, unless_refused}
+use Rattle.msi_query_joins.specs.Rows.{TableCells}
+use Rattle.msi_query_joins.specs.Selection.{has_columns, condition_names}
 use Rattle.msi_database_schema.specs.Keys.{is_table_name, table_key}
 use Rattle.msi_database_schema.specs.System.{is_system_table}
 use Rattle.msi_database_schema.proofs.RowOrderLemmas.{names_total}

@@ -6,7 +6,7 @@ use Rattle.std.specs.FinMap.{find}
 use Rattle.std.specs.Ordering.{eq_by_cmp}
 use Rattle.msi_text_base.specs.declared.errors.ErrorKind.{ErrorKind}
 use Rattle.msi_text_base.specs.declared.errors.ErrorKind.TheVariants.{InvalidData, NotFound}
-use Rattle.msi_text_pool.specs.Pool.{Pool}
+use Rattle.msi_text_pool_base.specs.Pool.{Pool}
 use Rattle.msi_text_base.specs.Lists.{list_cmp}
 use Rattle.msi_table_values.specs.declared.value.ValueRef.{ValueRef}
 use Rattle.msi_table_values.specs.Columns.{ColumnDef, types_of}
@@ -15,10 +15,10 @@ use Rattle.msi_table_values.specs.Fitting.{FitsRow, FitsTable}
 use Rattle.msi_table.specs.Rows.{AreAsWide}
 use Rattle.msi_table_values.proofs.ColumnTypesLemmas.{length-types_of}
 use Rattle.msi_table_values.proofs.FittingLemmas.{fits_length}
-use Rattle.msi_query_rows.specs.Refusals.{AnswersWith, IsRefusal, or_refused, refusal_of, ◌>>=◌}
-use Rattle.msi_query_rows.specs.Rows.{TableCells, RelationCells, columns_read, whole_table}
+use Rattle.msi_text.specs.Refusals.{AnswersWith, IsRefusal, or_refused, refusal_of, ◌>>=◌}
+use Rattle.msi_query_joins.specs.Rows.{TableCells, RelationCells, columns_read, whole_table}
 use Rattle.msi_query_rows.specs.Width.{AreWide}
-use Rattle.msi_query_rows.proofs.RefusalLemmas.{goes_on-Err}
+use Rattle.msi_text.proofs.RefusalLemmas.{goes_on-Err}
 use Rattle.msi_database_changes.specs.Database.{table_at, Tables}
 use Rattle.msi_database_storage.specs.Streams.{Streams, stored_rows}
 use Rattle.msi_database_storage.specs.Kept.{Kept, table_kept, table_kept_at, database_kept, AreAsLong}

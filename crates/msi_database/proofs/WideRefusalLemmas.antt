@@ -3,10 +3,10 @@ use Rattle.std.proofs.Common.{◌≡◌, Bool, true, false, not, ◌&&◌, Optio
 use Rattle.std.specs.Prelude.{if◌then◌else◌}
 use Rattle.std.proofs.lemmas.Option.{none-some}
 use Rattle.msi_text_base.specs.declared.errors.ErrorKind.{ErrorKind}
-use Rattle.msi_text_pool.specs.Pool.{Pool}
+use Rattle.msi_text_pool_base.specs.Pool.{Pool}
 use Rattle.msi_table.specs.Tables.{TableDef, long_table_of}
-use Rattle.msi_query_rows.specs.Refusals.{IsRefusal}
-use Rattle.msi_query_rows.specs.Rows.{TableCells}
+use Rattle.msi_text.specs.Refusals.{IsRefusal}
+use Rattle.msi_query_joins.specs.Rows.{TableCells}
 use Rattle.std.proofs.Common.{ℕ, List}
 use Rattle.msi_database_cells.specs.Texts.{UsedPool}
 use Rattle.msi_database_changes.specs.Database.{Database, is_sound, table_at}

@@ -8,12 +8,12 @@ use Rattle.msi_table_values.specs.declared.value.ValueRef.{ValueRef}
 use Rattle.msi_table_values.specs.Columns.{ColumnDef, types_of}
 use Rattle.msi_table_values.specs.Fitting.{FitsTable}
 use Rattle.msi_table.specs.Tables.{TableDef}
-use Rattle.msi_query_rows.specs.Refusals.{Refusals, or_refused, unless_refused, ◌>>=◌}
+use Rattle.msi_text.specs.Refusals.{Refusals, or_refused, unless_refused, ◌>>=◌}
 use Rattle.msi_database_schema.specs.Description.{column_rows, tables_row, validation_rows}
 use Rattle.msi_database_schema.specs.Keys.{table_key}
 use Rattle.msi_database_schema.specs.System.{tables_name, columns_name, validation_name}
 use Rattle.msi_database_changes.specs.Database.{Database, table_at, rows_of}
-use Rattle.msi_text_pool.specs.Pool.{Pool}
+use Rattle.msi_text_pool_base.specs.Pool.{Pool}
 use Rattle.msi_database_cells.specs.Texts.{PoolInUse, UsedPool, settled}
 use Rattle.msi_database_changes.specs.Changes.{sound_refusal}
 use Rattle.msi_database_changes.specs.Create.{table_refusals}

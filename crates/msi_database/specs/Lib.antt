@@ -20,9 +20,9 @@ pub use Rattle.msi_table_values.specs.Columns
 pub use Rattle.msi_table_values.specs.Values
 pub use Rattle.msi_table.specs.Tables
 pub use Rattle.msi_table.specs.Rows
-pub use Rattle.msi_query_rows.specs.Refusals
-pub use Rattle.msi_query_rows.specs.Selection
-pub use Rattle.msi_query_rows.specs.Rows as SelectedRows
+pub use Rattle.msi_text.specs.Refusals
+pub use Rattle.msi_query_joins.specs.Selection
+pub use Rattle.msi_query_joins.specs.Rows as SelectedRows
 pub use Rattle.msi_database_schema.specs.Keys
 pub use Rattle.msi_database_schema.specs.System
 pub use Rattle.msi_database_schema.specs.Schema

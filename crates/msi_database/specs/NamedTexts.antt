@@ -1,8 +1,8 @@
 -- How much text rows name, each text counted as often as a cell names it.
 use Rattle.std.specs.Prelude.{◌≤◌, ℕ, ◌+◌, ◌*◌, List, length, IfSome}
 use Rattle.std.specs.List.{sum_by}
-use Rattle.msi_text_pool.specs.Pool.{Place, Pool}
-use Rattle.msi_text_pool.specs.FirstFitLaws.{text_at}
+use Rattle.msi_text_pool_base.specs.Pool.{Place, Pool}
+use Rattle.msi_text_places.specs.FirstFitLaws.{text_at}
 use Rattle.msi_table_values.specs.declared.value.ValueRef.{ValueRef}
 use Rattle.msi_table_values.specs.declared.value.ValueRef.TheVariants as cell
 use Rattle.msi_table_values.specs.Columns.{ColumnDef}

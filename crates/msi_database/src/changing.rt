@@ -3,8 +3,8 @@
 ghost use Rattle.std.specs.Prelude.{◌≡◌, ◌∷◌, [], false, IfErr, IfOk, MatchOption, None, OnErr, OnOk, Some, length};
 ghost use Rattle.std.specs.Prelude.{option_copied, true};
 ghost use Rattle.msi_text_base.specs.Results.{OnlyMemory};
-ghost use Rattle.msi_text_pool.specs.Pool.{unindexed};
-ghost use Rattle.msi_query_rows.specs.Refusals.{IsRefusal, first_refusal, unless_refused};
+ghost use Rattle.msi_text_pool_base.specs.Pool.{unindexed};
+ghost use Rattle.msi_text.specs.Refusals.{IsRefusal, first_refusal, unless_refused};
 ghost use Rattle.msi_database_changes.specs.Changes.{absent_refusals, barred_refusals};
 ghost use Rattle.msi_database_changes.specs.Database.{is_sound as is_sound_one, table_at};
 ghost use Rattle.msi_container_format.specs.Names.{is_name_length};

@@ -1,10 +1,10 @@
 //! Creating a table: it is described in the system tables, and put in among the others.
 
 ghost use Rattle.std.specs.Prelude.{◌≡◌, ◌≤◌, IfErr, IfOk, IsTrue, Ok, OnErr, OnOk, length, true};
-ghost use Rattle.msi_text_pool.specs.Pool.{unindexed};
+ghost use Rattle.msi_text_pool_base.specs.Pool.{unindexed};
 ghost use Rattle.msi_text_base.specs.Results.{OnlyMemory};
 ghost use Rattle.msi_table.specs.Tables.{most_columns};
-ghost use Rattle.msi_query_rows.specs.Refusals.{AnswersFirst, IsRefusal, unless_refused};
+ghost use Rattle.msi_text.specs.Refusals.{AnswersFirst, IsRefusal, unless_refused};
 ghost use Rattle.msi_database_schema.specs.Description.{have_short_lengths};
 ghost use Rattle.msi_database_schema.specs.Keys.{is_table_name as is_name_of_table};
 ghost use Rattle.msi_database_changes.specs.Create as creates;

@@ -2,11 +2,11 @@
 
 ghost use Rattle.std.specs.Prelude.{◌≡◌, Err, IfErr, IfOk, Ok, OnErr, OnOk, Some, is_some, option_copied, true};
 ghost use Rattle.std.specs.FinMap.{entries};
-ghost use Rattle.msi_text_pool.specs.Pool.{unindexed};
+ghost use Rattle.msi_text_pool_base.specs.Pool.{unindexed};
 ghost use Rattle.msi_table.specs.Rows.{AreAsWide};
-ghost use Rattle.msi_query_rows.specs.Refusals.{AnswersWith, IsRefusal, refusal_of, unless_refused};
-ghost use Rattle.msi_query_rows.specs.Rows.{columns_read, relation_values, whole_table};
-ghost use Rattle.msi_query_rows.specs.Selection.{early_refusal, relation_of};
+ghost use Rattle.msi_text.specs.Refusals.{AnswersWith, IsRefusal, refusal_of, unless_refused};
+ghost use Rattle.msi_query_joins.specs.Rows.{columns_read, relation_values, whole_table};
+ghost use Rattle.msi_query_joins.specs.Selection.{early_refusal, relation_of};
 ghost use Rattle.msi_database_changes.specs.Changes.{sound_refusal};
 ghost use Rattle.msi_database_changes.specs.Database.{has_table as has_one, is_sound as is_sound_one, table_at};
 ghost use Rattle.msi_database_changes.specs.Database.{values_of};
@@ -82,7 +82,7 @@ impl Model for Database {
     ghost use Rattle.std.specs.FinMap.{entries};
     ghost use Rattle.msi_database_storage.specs.Kept.{Kept, kept_of};
     ghost use Rattle.msi_database.specs.Keeping.{AreKept};
-    ghost use Rattle.msi_text_pool.specs.Pool.{unindexed};
+    ghost use Rattle.msi_text_pool_base.specs.Pool.{unindexed};
 
     ghost Value = { Kept };
 

@@ -2,8 +2,8 @@
 
 ghost use Rattle.std.specs.Prelude.{◌≡◌, ◌++◌, IfErr, IfOk, None, OnErr, OnOk, Some, false, true};
 ghost use Rattle.msi_text_base.specs.Results.{OnlyMemory};
-ghost use Rattle.msi_text_pool.specs.Pool.{unindexed};
-ghost use Rattle.msi_query_rows.specs.Refusals.{AnswersFirst, IsRefusal, first_refusal, unless_refused};
+ghost use Rattle.msi_text_pool_base.specs.Pool.{unindexed};
+ghost use Rattle.msi_text.specs.Refusals.{AnswersFirst, IsRefusal, first_refusal, unless_refused};
 ghost use Rattle.msi_database_schema.specs.Keys.{is_table_name as is_of_table};
 ghost use Rattle.msi_database_schema.specs.System.{is_system_table as is_of_system};
 ghost use Rattle.msi_database_changes.specs.Database.{is_sound as is_sound_one};

@@ -7,8 +7,8 @@ ghost use Rattle.msi_text_base.specs.declared.errors.ErrorKind.TheVariants.{Inva
 ghost use Rattle.msi_text_base.specs.Results.{OnlyMemory};
 ghost use Rattle.msi_table.specs.Tables.{most_columns};
 ghost use Rattle.msi_table_values.specs.CellValues.{row_values};
-ghost use Rattle.msi_text_pool.specs.Pool.{unindexed};
-ghost use Rattle.msi_query_rows.specs.Refusals.{IsRefusal, or_refused};
+ghost use Rattle.msi_text_pool_base.specs.Pool.{unindexed};
+ghost use Rattle.msi_text.specs.Refusals.{IsRefusal, or_refused};
 ghost use Rattle.msi_database_schema.specs.System.{validation_columns as columns_of_validation, validation_name};
 ghost use Rattle.msi_database_storage.specs.Kept.{AreAsLong, Kept, schema_listed, table_kept_at};
 ghost use Rattle.msi_database_storage.specs.StreamNames.{HaveShortNames, HoldBytes};

@@ -5,7 +5,7 @@ ghost use Rattle.std.specs.FinMap.{entries};
 ghost use Rattle.std.specs.List.{fold};
 ghost use Rattle.msi_container_format.specs.Names.{is_name_length};
 ghost use Rattle.msi_text_base.specs.Results.{OnlyMemory};
-ghost use Rattle.msi_query_rows.specs.Rows.{TableCells};
+ghost use Rattle.msi_query_joins.specs.Rows.{TableCells};
 ghost use Rattle.msi_table.specs.Tables.{CanStore, long_table_of};
 ghost use Rattle.msi_database_schema.specs.Keys.{table_key as key_of};
 ghost use Rattle.msi_database_changes.specs.Database.{is_sound as is_sound_one};

@@ -7,7 +7,7 @@ ghost use Rattle.std.specs.Ordering.{as_partial_cmp, eq_by_cmp};
 ghost use Rattle.std.proofs.Common.{refl};
 ghost use Rattle.msi_text_base.specs.Lists.{has_pair};
 ghost use Rattle.msi_text_base.specs.Results.{OnlyMemory};
-ghost use Rattle.msi_query_rows.specs.Refusals.{IsRefusal, first_refusal, unless_refused};
+ghost use Rattle.msi_text.specs.Refusals.{IsRefusal, first_refusal, unless_refused};
 ghost use Rattle.msi_table_values.specs.declared.value.Value.{Value as ValueOf};
 ghost use Rattle.msi_table_values.specs.OrderLaws.{value_cmp-total};
 ghost use Rattle.msi_table_values.specs.Values.{value_cmp};

@@ -3,7 +3,7 @@
 ghost use Rattle.std.specs.Prelude.{◌≡◌, map, set, List, IfOk, IfErr, OnOk, Some, true};
 ghost use Rattle.msi_text_base.specs.Results.{OnlyMemory};
 ghost use Rattle.msi_text_base.specs.declared.errors.ErrorKind.TheVariants.{InvalidInput};
-ghost use Rattle.msi_query_rows.specs.Refusals.{IsRefusal, or_refused};
+ghost use Rattle.msi_text.specs.Refusals.{IsRefusal, or_refused};
 ghost use Rattle.msi_table_values.specs.Fitting.{cell_of};
 ghost use Rattle.msi_table_values.specs.Columns.{ColumnDef};
 ghost use Rattle.msi_database_cells.specs.Setting.{cell_exchanged, cells_set, index_of, values_set};

@@ -11,16 +11,16 @@ use Rattle.std.proofs.lemmas.Bool.{or_parts, and_parts, false_from_ne_true, not-
 use Rattle.msi_text.specs.CategoryRules.{is_identifier}
 use Rattle.msi_text_base.specs.declared.errors.ErrorKind.TheVariants.{AlreadyExists, InvalidData, InvalidInput}
 use Rattle.msi_text_base.specs.Lists.{has_pair, list_cmp}
-use Rattle.msi_text_pool.specs.Pool.{Place}
+use Rattle.msi_text_pool_base.specs.Pool.{Place}
 use Rattle.msi_table_values.specs.declared.value.Value.{Value}
 use Rattle.msi_table_values.specs.declared.value.Value.TheVariants.{Null, Str}
 use Rattle.msi_table_values.specs.declared.column.ColumnType.{ColumnType}
 use Rattle.msi_table_values.specs.declared.column.ColumnType.TheVariants as coltype
 use Rattle.msi_table_values.specs.Columns.{ColumnDef, HasShortLength, IsPlainIfBinary}
 use Rattle.msi_table_values.specs.OrderLaws.{value_cmp-total}
-use Rattle.msi_query_rows.specs.Refusals.{Refusals, first_refusal}
+use Rattle.msi_text.specs.Refusals.{Refusals, first_refusal}
 use Rattle.msi_database_changes.specs.Database.{Database, are_alike, rows_of, same_bool}
-use Rattle.msi_query_rows.specs.Rows.{TableCells}
+use Rattle.msi_query_joins.specs.Rows.{TableCells}
 use Rattle.msi_table.specs.KeyOrder.{key_of, same_key}
 use Rattle.msi_database_schema.specs.Keys.{is_pool_name, is_table_name}
 use Rattle.msi_database_schema.specs.System.{validation_columns}

@@ -10,8 +10,8 @@ use Rattle.std.proofs.lemmas.Slice.Eq.{bytes_eq-Decides}
 use Rattle.std.proofs.lemmas.Bool.{and_parts, false_from_ne_true, not-false}
 use Rattle.msi_text_base.specs.Lists.{list_cmp}
 use Rattle.msi_text_base.proofs.BoolLemmas.{yes_is_no}
-use Rattle.msi_query_rows.specs.Refusals.{first_refusal}
-use Rattle.msi_query_rows.specs.Selection.{TableValues}
+use Rattle.msi_text.specs.Refusals.{first_refusal}
+use Rattle.msi_query_joins.specs.Selection.{TableValues}
 use Rattle.msi_table_values.specs.declared.value.Value.{Value}
 use Rattle.msi_table_values.specs.declared.value.ValueRef.{ValueRef}
 use Rattle.msi_table_values.specs.Columns.{ColumnDef}
@@ -19,7 +19,7 @@ use Rattle.msi_table_values.specs.CellValues.{row_values}
 use Rattle.msi_table.specs.KeyOrder.{key_of}
 use Rattle.msi_database_schema.specs.System.{columns_name, tables_name, validation_columns, validation_name}
 use Rattle.msi_database_changes.specs.Database.{Database, are_alike, has_table, is_sound, rows_of, table_at, validation_is_standard, with_table}
-use Rattle.msi_query_rows.specs.Rows.{TableCells, table_values}
+use Rattle.msi_query_joins.specs.Rows.{TableCells, table_values}
 use Rattle.msi_database_changes.specs.Insert.{keys_of}
 use Rattle.msi_database_changes.specs.Changes.{sound_refusal}
 use Rattle.msi_database_changes.specs.Laws.{OthersStay, rows_at}

@@ -5,14 +5,14 @@ use Rattle.std.specs.Cmp.{tied_itself}
 use Rattle.std.specs.Cmp.Lexicographic.{nat_list_cmp_total, bytes_decides}
 use Rattle.std.specs.FinMap.{is_sorted, slice_cmp-IsAntisymmetric, nat_cmp-IsAntisymmetric}
 use Rattle.std.proofs.lemmas.Bool.{cases_Bool}
-use Rattle.msi_text_pool.specs.Pool.{Place}
+use Rattle.msi_text_pool_base.specs.Pool.{Place}
 use Rattle.msi_text_base.specs.Lists.{list_cmp}
 use Rattle.msi_table_values.specs.declared.value.Value.{Value}
 use Rattle.msi_table_values.specs.declared.value.ValueRef.{ValueRef}
 use Rattle.msi_table_values.specs.CellValues.{row_values}
-use Rattle.msi_query_rows.specs.Selection.{TableValues}
+use Rattle.msi_query_joins.specs.Selection.{TableValues}
 use Rattle.msi_database_changes.specs.Database.{Database, table_at, rows_of}
-use Rattle.msi_query_rows.specs.Rows.{TableCells, table_values}
+use Rattle.msi_query_joins.specs.Rows.{TableCells, table_values}
 use Rattle.msi_database_cells.specs.Texts.{cell_put, in_turn}
 use Rattle.msi_database_changes.specs.Laws.{rows_at, OthersStay}
 use Rattle.msi_database_changes.proofs.TurnLemmas.{TextsStay, news_stay}

@@ -2,17 +2,17 @@
 use Rattle.std.specs.Prelude.{Bool, true, false, not, List, [], ◌∷◌, ◌++◌, filter, Option, Result}
 use Rattle.msi_text_base.specs.declared.errors.ErrorKind.{ErrorKind}
 use Rattle.msi_text_base.specs.declared.errors.ErrorKind.TheVariants.{InvalidInput, NotFound}
-use Rattle.msi_text_pool.specs.Pool.{Place}
-use Rattle.msi_query_rows.specs.Refusals.{Refusals, unless_refused, or_refused, ◌>>=◌}
+use Rattle.msi_text_pool_base.specs.Pool.{Place}
+use Rattle.msi_text.specs.Refusals.{Refusals, unless_refused, or_refused, ◌>>=◌}
 use Rattle.msi_table_values.specs.declared.value.ValueRef.{ValueRef}
 use Rattle.msi_table_values.specs.CellValues.{row_values}
 use Rattle.msi_query_expressions.specs.Expressions.{Expression}
 use Rattle.msi_query.specs.Queries.{DeleteQuery}
 use Rattle.msi_query_expressions.specs.Conditions.{meets}
-use Rattle.msi_query_rows.specs.Selection.{has_columns, condition_names}
+use Rattle.msi_query_joins.specs.Selection.{has_columns, condition_names}
 use Rattle.msi_database_schema.specs.System.{is_system_table}
 use Rattle.msi_database_changes.specs.Database.{Database, table_at, rows_of, same_bool}
-use Rattle.msi_query_rows.specs.Rows.{TableCells}
+use Rattle.msi_query_joins.specs.Rows.{TableCells}
 use Rattle.msi_database_changes.specs.Changes.{Change, no_change, pool_of, with_stored, barred_refusals, missing_or}
 use Rattle.msi_database_cells.specs.Texts.{rows_released}
 

@@ -5,7 +5,7 @@ ghost use Rattle.std.specs.List.{AllByRecursion, list_all, list_any};
 ghost use Rattle.msi_text.specs.CategoryRules.{is_identifier};
 ghost use Rattle.msi_text_base.specs.declared.errors.ErrorKind.TheVariants.{InvalidInput};
 ghost use Rattle.msi_text_base.specs.Lists.{has_pair};
-ghost use Rattle.msi_query_rows.specs.Refusals.{unless_refused};
+ghost use Rattle.msi_text.specs.Refusals.{unless_refused};
 ghost use Rattle.msi_table_values.specs.Columns.{HasShortLength};
 ghost use Rattle.msi_database_changes.specs.Create.{column_refusals, columns_are_named, is_binary, is_too_long};
 

@@ -2,7 +2,7 @@
 
 ghost use Rattle.std.specs.Prelude.{◌≡◌, Some, None, IfOk, IfErr, OnOk, true};
 ghost use Rattle.msi_text_base.specs.declared.errors.ErrorKind.TheVariants.{InvalidInput};
-ghost use Rattle.msi_query_rows.specs.Refusals.{IsRefusal, first_refusal, or_refused, unless_refused};
+ghost use Rattle.msi_text.specs.Refusals.{IsRefusal, first_refusal, or_refused, unless_refused};
 ghost use Rattle.msi_database_changes.specs.Insert.{cells_added, misfit_refusals, row_fits as fits_columns};
 ghost use Rattle.msi_database_changes.specs.Insert.{row_refusals, table_with};
 ghost use Rattle.msi_database_cells.specs.Texts.{in_use};

@@ -6,7 +6,7 @@ ghost use Rattle.std.specs.Option.{option_map_or};
 ghost use Rattle.msi_text_base.specs.Lists.{has_pair};
 ghost use Rattle.msi_text_base.specs.Results.{OnlyMemory};
 ghost use Rattle.msi_text_base.specs.declared.errors.ErrorKind.TheVariants.{AlreadyExists, InvalidInput};
-ghost use Rattle.msi_query_rows.specs.Refusals.{IsRefusal, or_refused, unless_refused};
+ghost use Rattle.msi_text.specs.Refusals.{IsRefusal, or_refused, unless_refused};
 ghost use Rattle.msi_table_values.specs.Columns.{column_named};
 ghost use Rattle.msi_table_values.specs.CellValues.{row_values};
 ghost use Rattle.msi_database_changes.specs.Insert.{table_with};

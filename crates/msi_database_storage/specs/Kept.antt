@@ -4,11 +4,11 @@ use Rattle.std.specs.Prelude.{if◌then◌else◌, bytes_eq, ◌&&◌}
 use Rattle.std.specs.List.{AllByRecursion}
 use Rattle.std.specs.Ordering.{is_lt}
 use Rattle.msi_text_base.specs.Lists.{list_cmp}
-use Rattle.msi_text_pool.specs.Pool.{Pool}
+use Rattle.msi_text_pool_base.specs.Pool.{Pool}
 use Rattle.msi_table_values.specs.declared.value.ValueRef.{ValueRef}
 use Rattle.msi_table_values.specs.Columns.{ColumnDef}
 use Rattle.msi_table.specs.Tables.{TableDef}
-use Rattle.msi_query_rows.specs.Rows.{TableCells}
+use Rattle.msi_query_joins.specs.Rows.{TableCells}
 use Rattle.msi_database_schema.specs.System.{validation_name, validation_columns}
 use Rattle.msi_database_changes.specs.Database.{Database}
 use Rattle.msi_database_changes.specs.Changes.{Change}

@@ -3,7 +3,7 @@
 ghost use Rattle.std.specs.Prelude.{◌≡◌, [], IfErr, IfOk, Some, is_some, unwrap_or};
 ghost use Rattle.std.specs.FinMap.{entries};
 ghost use Rattle.msi_text_base.specs.declared.errors.ErrorKind.TheVariants.{InvalidData};
-ghost use Rattle.msi_query_rows.specs.Refusals.{IsRefusal, or_refused};
+ghost use Rattle.msi_text.specs.Refusals.{IsRefusal, or_refused};
 ghost use Rattle.msi_database_schema.specs.Keys.{table_key as key_of};
 ghost use Rattle.msi_database_storage.specs.StreamNames.{HaveShortNames};
 ghost use Rattle.msi_database_storage.specs.Streams.{stored_rows as rows_stored, stream_at};

@@ -4,16 +4,16 @@ use Rattle.std.proofs.Common.{inr}
 use Rattle.std.specs.Prelude.{if◌then◌else◌, IfErr, IsErrAnd}
 use Rattle.msi_text_base.specs.declared.errors.ErrorKind.{ErrorKind}
 use Rattle.msi_text_base.specs.declared.errors.ErrorKind.TheVariants.{InvalidData, NotFound}
-use Rattle.msi_text_pool.specs.Pool.{Place}
+use Rattle.msi_text_pool_base.specs.Pool.{Place}
 use Rattle.msi_table_values.specs.declared.value.ValueRef.{ValueRef}
 use Rattle.msi_table_values.specs.Columns.{ColumnDef}
 use Rattle.msi_query_expressions.specs.Expressions.{Expression}
 use Rattle.msi_query.specs.declared.query.JoinKind.{JoinKind}
 use Rattle.msi_query.specs.Queries.{Clauses, Query, table, join}
-use Rattle.msi_query_rows.specs.Refusals.{AnswersWith, IsRefusal, earlier, first_refusal, refusal_of, unless, unless_refused, or_refused, ◌>>=◌}
-use Rattle.msi_query_rows.specs.Rows.{RelationCells, TableCells, columns_read, rows_values, table_values, tables_values}
-use Rattle.msi_query_rows.specs.Selection.{Relation, clause_refusals, early_refusal, is_table, joined_narrowed, narrowed, relation_of, selected}
-use Rattle.msi_query_rows.proofs.RefusalLemmas.{err_passed}
+use Rattle.msi_text.specs.Refusals.{AnswersWith, IsRefusal, earlier, first_refusal, refusal_of, unless, unless_refused, or_refused, ◌>>=◌}
+use Rattle.msi_query_joins.specs.Rows.{RelationCells, TableCells, columns_read, rows_values, table_values, tables_values}
+use Rattle.msi_query_joins.specs.Selection.{Relation, clause_refusals, early_refusal, is_table, joined_narrowed, narrowed, relation_of, selected}
+use Rattle.msi_text.proofs.RefusalLemmas.{err_passed}
 
 -- ONE TABLE
 

@@ -13,7 +13,7 @@ use Rattle.std.proofs.lemmas.Bool.{and_parts}
 use Rattle.msi_text_base.specs.Lists.{placed, stable_sort}
 use Rattle.msi_text_base.proofs.BoolLemmas.{by_test}
 use Rattle.msi_text_base.proofs.ListLemmas.{filter_yes, filter_no, filter_same}
-use Rattle.msi_text_pool.specs.Pool.{Place}
+use Rattle.msi_text_pool_base.specs.Pool.{Place}
 use Rattle.msi_table_values.specs.declared.value.ValueRef.{ValueRef}
 use Rattle.msi_table_values.specs.declared.value.Value.{Value}
 use Rattle.msi_table_values.specs.CellValues.{value_of_cell, row_values}
@@ -26,9 +26,9 @@ use Rattle.msi_query_expressions.specs.Conditions.{RowFilterDef, meets, value_at
 use Rattle.msi_query_expressions.specs.Equated.{PassesWithEqual}
 use Rattle.msi_query_expressions.specs.Expressions.{Expression}
 use Rattle.msi_query_rows.specs.Index.{PassWithEqual, has_value, has_width, in_place_order, place_cmp, value_there}
-use Rattle.msi_query_rows.specs.Rows.{cell_at, rows_values}
-use Rattle.msi_query_rows.specs.Selection.{or_nulls, pairs_of, rows_of_row}
-use Rattle.msi_query_rows.proofs.SelectionLemmas.{value_of_place}
+use Rattle.msi_query_joins.specs.Rows.{cell_at, rows_values}
+use Rattle.msi_query_joins.specs.Selection.{or_nulls, pairs_of, rows_of_row}
+use Rattle.msi_query_joins.proofs.SelectionLemmas.{value_of_place}
 
 -- Filters that a stable sort leaves as they are: of what they keep, none is below another
 module _ {X : Type 0} (cmp : X → X → Ordering) (p : X → Bool) (tied : (x y : X) → p x ≡ true → p y ≡ true → is_lt (cmp y x) ≡ false) where

@@ -1,6 +1,5 @@
 -- The lemmas of this crate.
-pub mod SelectionLemmas
-pub mod RefusalLemmas
+pub mod WholeTableLemmas
 pub mod JoinLemmas
 pub mod WidthLemmas
 pub mod IndexLemmas

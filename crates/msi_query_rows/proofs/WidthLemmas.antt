@@ -9,7 +9,7 @@ use Rattle.std.proofs.lemmas.Option.{slice_get-get_or}
 use Rattle.std.proofs.lemmas.Bool.{and_parts, not-false}
 use Rattle.msi_text_base.specs.declared.errors.ErrorKind.{ErrorKind}
 use Rattle.msi_text_base.specs.declared.errors.ErrorKind.TheVariants.{InvalidData, InvalidInput, NotFound}
-use Rattle.msi_text_pool.specs.Pool.{Place}
+use Rattle.msi_text_pool_base.specs.Pool.{Place}
 use Rattle.msi_table_values.specs.declared.value.Value.{Value}
 use Rattle.msi_table_values.specs.declared.value.Value.TheVariants.{Null}
 use Rattle.msi_table_values.specs.declared.value.ValueRef.{ValueRef}
@@ -20,9 +20,9 @@ use Rattle.msi_query.specs.declared.query.JoinKind.TheVariants.{Inner, Left}
 use Rattle.msi_query_expressions.specs.Expressions.{Expression, names_in}
 use Rattle.msi_query_expressions.specs.Conditions.{meets}
 use Rattle.msi_query.specs.Queries.{Clauses, Query, table, join}
-use Rattle.msi_query_rows.specs.Refusals.{unless_refused, or_refused, ◌>>=◌}
-use Rattle.msi_query_rows.specs.Rows.{TableCells, RelationCells, relation_values, rows_values, table_values, tables_values}
-use Rattle.msi_query_rows.specs.Selection.{Relation, TableValues, condition_names, has_columns, is_left, joined, joined_columns, joined_narrowed, narrowed, nullable_if, or_nulls, pairs_of, prefixed, projected_row, relation_of, rows_of_row, selected}
+use Rattle.msi_text.specs.Refusals.{unless_refused, or_refused, ◌>>=◌}
+use Rattle.msi_query_joins.specs.Rows.{TableCells, RelationCells, relation_values, rows_values, table_values, tables_values}
+use Rattle.msi_query_joins.specs.Selection.{Relation, TableValues, condition_names, has_columns, is_left, joined, joined_columns, joined_narrowed, narrowed, nullable_if, or_nulls, pairs_of, prefixed, projected_row, relation_of, rows_of_row, selected}
 use Rattle.msi_query_rows.specs.Width.{AreWide, HasWidth, TablesAreWide, ValuesAreWide}
 
 -- rows of cells are as wide as the rows that they stand for

@@ -4,7 +4,7 @@ use Rattle.std.specs.List.{AllByRecursion, list_all}
 use Rattle.std.specs.Ordering.{is_eq}
 use Rattle.std.specs.declared.cmp.Ordering.{Ordering}
 use Rattle.msi_text_base.specs.Lists.{stable_sort}
-use Rattle.msi_text_pool.specs.Pool.{Place}
+use Rattle.msi_text_pool_base.specs.Pool.{Place}
 use Rattle.msi_table_values.specs.declared.value.ValueRef.{ValueRef}
 use Rattle.msi_table_values.specs.declared.value.Value.{Value}
 use Rattle.msi_table_values.specs.CellValues.{value_of_cell, row_values}
@@ -13,7 +13,7 @@ use Rattle.msi_table_values.specs.Values.{value_cmp}
 use Rattle.msi_query_expressions.specs.Conditions.{value_at_place}
 use Rattle.msi_query_expressions.specs.Equated.{equated}
 use Rattle.msi_query_expressions.specs.Expressions.{Expression}
-use Rattle.msi_query_rows.specs.Rows.{cell_at}
+use Rattle.msi_query_joins.specs.Rows.{cell_at}
 
 -- the value at a place of a row of cells, or null
 abbrev pub value_there : List Place → ℕ → List ValueRef → Value

@@ -4,8 +4,8 @@ use Rattle.std.specs.List.{AllByRecursion}
 use Rattle.msi_table_values.specs.declared.value.ValueRef.{ValueRef}
 use Rattle.msi_table_values.specs.declared.value.Value.{Value}
 use Rattle.msi_table.specs.Rows.{AreAsWide}
-use Rattle.msi_query_rows.specs.Rows.{TableCells}
-use Rattle.msi_query_rows.specs.Selection.{Relation, TableValues}
+use Rattle.msi_query_joins.specs.Rows.{TableCells}
+use Rattle.msi_query_joins.specs.Selection.{Relation, TableValues}
 
 abbrev pub HasWidth : {X : Type 0} → ℕ → List (List X) → Type 0
 HasWidth n rows = AllByRecursion (λ row. length row ≡ n) rows

@@ -3,17 +3,18 @@
 ghost use Rattle.std.specs.Prelude.{◌≡◌, ◌++◌, ◌∷◌, ◌==◌, map, IfOk, OnOk, if◌then◌else◌, length, List, option_copied};
 ghost use Rattle.std.specs.Prelude.{string_bytes};
 ghost use Rattle.std.specs.List.{filter_map};
-ghost use Rattle.msi_text_pool.specs.Pool.{Place};
+ghost use Rattle.msi_text_pool_base.specs.Pool.{Place};
 ghost use Rattle.msi_text_base.specs.Results.{OnlyMemory};
 ghost use Rattle.msi_table_values.specs.Columns.{column_index as index_of};
-ghost use Rattle.msi_query_rows.specs.Rows.{column_at as column_there, relation_values};
-ghost use Rattle.msi_query_rows.specs.Selection.{condition_names, has_columns as has_each, is_left as keeps_left};
-ghost use Rattle.msi_query_rows.specs.Selection.{joined_columns as joined_by, nullable_if, prefixed as prefixed_by};
+ghost use Rattle.msi_query_joins.specs.Rows.{column_at as column_there, relation_values};
+ghost use Rattle.msi_query_joins.specs.Selection.{condition_names, has_columns as has_each};
+ghost use Rattle.msi_query_joins.specs.Selection.{joined_columns as joined_by, nullable_if, prefixed as prefixed_by};
 
 use crate::relation::Relation;
 use msi_query::expr::Expr;
 use msi_query::parts::knows_names;
 use msi_query::query::JoinKind;
+use msi_query_joins::parts::is_left;
 use msi_table::column::Column;
 use msi_table::parts::{column_index, has_column, nullable, renamed};
 use msi_text::errors::Error;
@@ -137,16 +138,6 @@ fn add_columns(
         joined.push(side_column(alloc, side, nulls, column)?)?;
     }
     Ok(())
-}
-
-/// Whether a join keeps a left row without a pair.
-pub(crate) fn is_left(kind: JoinKind) -> bool
-    ensures { result ≡ keeps_left kind }
-{
-    match kind {
-        JoinKind::Inner => false,
-        JoinKind::Left => true,
-    }
 }
 
 /// The columns of a join of two sides.

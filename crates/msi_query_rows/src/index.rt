@@ -1,7 +1,7 @@
 //! Rows in the order of their values in a column, so that those with a value are found by halving.
 
 ghost use Rattle.std.specs.Prelude.{◌≡◌, List, Some, IfSome, OnOk, filter};
-ghost use Rattle.msi_text_pool.specs.Pool.{Place};
+ghost use Rattle.msi_text_pool_base.specs.Pool.{Place};
 ghost use Rattle.msi_text_base.specs.Results.{OnlyMemory};
 ghost use Rattle.msi_table_values.specs.CellValues.{value_of_cell};
 ghost use Rattle.msi_table_values.specs.declared.value.ValueRef.{ValueRef as Cell};
@@ -10,9 +10,9 @@ ghost use Rattle.msi_query_expressions.specs.Conditions.{meets};
 ghost use Rattle.msi_query_rows.specs.Index.{PassWithEqual, has_value, has_width as have_width, in_place_order};
 ghost use Rattle.msi_query_rows.specs.Index.{place_cmp, places_asked as asked, value_there};
 
-use crate::rows::cell_of;
 use msi_query::expr::Expr;
 use msi_query::parts::equated_places;
+use msi_query_joins::parts::cell_of;
 use msi_table::column::Column;
 use msi_table::parts::compare_values;
 use msi_table::value::ValueRef;

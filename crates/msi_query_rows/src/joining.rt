@@ -1,89 +1,25 @@
 //! Joins.
 
-ghost use Rattle.std.specs.Prelude.{◌≡◌, ◌++◌, IfOk, OnOk, Some, length};
+ghost use Rattle.std.specs.Prelude.{◌≡◌, IfOk, Some, length};
 ghost use Rattle.std.specs.List.{flat_map};
 ghost use Rattle.msi_text_base.specs.Results.{OnlyMemory};
-ghost use Rattle.msi_table_values.specs.CellValues.{row_values};
 ghost use Rattle.msi_query_expressions.specs.Conditions.{meets};
 ghost use Rattle.msi_query_rows.specs.Index.{PassWithEqual};
-ghost use Rattle.msi_query_rows.specs.Rows.{rows_values};
-ghost use Rattle.msi_query_rows.specs.Selection.{pairs_of, rows_of_row};
+ghost use Rattle.msi_query_joins.specs.Rows.{rows_values};
+ghost use Rattle.msi_query_joins.specs.Selection.{rows_of_row};
 
-use crate::columns::is_left;
 use crate::index::{places_asked, rows_with, sort_by_place};
 use crate::relation::Relation;
-use crate::rows::{cell_of, pair, with_nulls};
 use msi_query::expr::Expr;
 use msi_query::parts::RowFilter;
 use msi_query::query::JoinKind;
+use msi_query_joins::parts::{Join, add_row, cell_of};
 use msi_table::column::Column;
 use msi_table::value::ValueRef;
 use msi_text::errors::Error;
 use msi_text::stringpool::StringPool;
 use msi_text::text::Items;
 use std::alloc::Global;
-
-/// A join: its kind, its condition on pairs, and how many columns its right side has.
-#[derive(Clone, Copy, Drop)]
-struct Join<'a, 'b> {
-    kind: JoinKind,
-    filter: &'a RowFilter<'b>,
-    width: usize,
-}
-
-/// Adds the pairs of a left row with right rows that a filter lets through. No row is made for a pair that is only
-/// tried.
-///
-/// # Errors
-/// `OutOfMemory`.
-fn add_pairs(
-    alloc: Global,
-    pool: &StringPool,
-    filter: &RowFilter,
-    right: &[Items<ValueRef>],
-    row: &[ValueRef],
-    rows: &mut Vec<Items<ValueRef>>,
-) -> Result<(), Error>
-    ensures ok { let values = rows_values pool.now.places in
-        let test = meets filter.now.columns filter.now.condition in
-        OnOk result (values rows.new.items
-        ≡ values rows.old.items ++ pairs_of test (values right.now) (row_values pool.now.places row.now)) }
-    ensures kind { OnlyMemory result }
-{
-    for other in right {
-        let other = other.as_slice();
-        if filter.meets_pair(alloc, pool, row, other)? {
-            rows.push(pair(alloc, row, other)?)?;
-        }
-    }
-    Ok(())
-}
-
-/// Adds what a join gives of a left row: its pairs, or in a left join where it has none the row with nulls.
-///
-/// # Errors
-/// `OutOfMemory`.
-fn add_row(
-    alloc: Global,
-    pool: &StringPool,
-    join: &Join,
-    right: &[Items<ValueRef>],
-    row: &[ValueRef],
-    rows: &mut Vec<Items<ValueRef>>,
-) -> Result<(), Error>
-    ensures ok { let values = rows_values pool.now.places in
-        let test = meets join.now.filter.now.columns join.now.filter.now.condition in
-        OnOk result (values rows.new.items ≡ values rows.old.items
-        ++ rows_of_row join.now.kind test join.now.width (values right.now) (row_values pool.now.places row.now)) }
-    ensures kind { OnlyMemory result }
-{
-    let before = rows.len();
-    add_pairs(alloc, pool, join.filter, right, row, rows)?;
-    if is_left(join.kind) && rows.len() == before {
-        rows.push(with_nulls(alloc, row, join.width)?)?;
-    }
-    Ok(())
-}
 
 /// The rows of a join, each left row beside all right ones.
 ///

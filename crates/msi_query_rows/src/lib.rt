@@ -8,7 +8,6 @@ mod narrowing;
 pub mod parts;
 mod reasons;
 pub mod relation;
-mod rows;
 pub mod selection;
 
 pub use relation::Relation;

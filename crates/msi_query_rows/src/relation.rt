@@ -23,7 +23,7 @@ pub struct Relation {
 }
 
 impl Model for Relation {
-    ghost use Rattle.msi_query_rows.specs.Rows.{RelationCells};
+    ghost use Rattle.msi_query_joins.specs.Rows.{RelationCells};
 
     ghost Value = { RelationCells };
 

@@ -3,9 +3,10 @@
 ghost use Rattle.std.specs.Prelude.{◌≡◌, IfOk, IfErr, Ok};
 ghost use Rattle.msi_table.specs.Rows.{AreAsWide};
 ghost use Rattle.msi_query.specs.QueryTrees.{query_of};
-ghost use Rattle.msi_query_rows.specs.Refusals.{AnswersWith, IsRefusal, unless};
-ghost use Rattle.msi_query_rows.specs.Rows.{columns_read, relation_values, tables_values};
-ghost use Rattle.msi_query_rows.specs.Selection.{early_refusal, is_table as is_one_table, joined_narrowed, relation_of};
+ghost use Rattle.msi_text.specs.Refusals.{AnswersWith, IsRefusal, unless};
+ghost use Rattle.msi_query_joins.specs.Rows.{columns_read, relation_values, tables_values};
+ghost use Rattle.msi_query_joins.specs.Selection.{early_refusal, is_table as is_one_table, joined_narrowed};
+ghost use Rattle.msi_query_joins.specs.Selection.{relation_of};
 ghost use Rattle.msi_query_rows.specs.Width.{AreWide};
 
 use crate::columns::joined_columns;
@@ -25,8 +26,8 @@ use std::alloc::Global;
 /// Provides tables by name.
 pub trait Tables {
     ghost use Rattle.std.specs.Prelude.{ℕ, List, Option};
-    ghost use Rattle.msi_query_rows.specs.Refusals.{AnswersWith, refusal_of};
-    ghost use Rattle.msi_query_rows.specs.Rows.{TableCells, columns_read, whole_table};
+    ghost use Rattle.msi_text.specs.Refusals.{AnswersWith, refusal_of};
+    ghost use Rattle.msi_query_joins.specs.Rows.{TableCells, columns_read, whole_table};
 
     /// The columns and the rows of the table of a name.
     ghost table: { Self → List ℕ → Option TableCells };

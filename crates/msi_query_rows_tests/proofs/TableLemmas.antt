@@ -3,8 +3,8 @@ use Rattle.std.proofs.Common.{◌≡◌, ℕ, List, Option, None, Err, inr, ap, 
 use Rattle.std.specs.Prelude.{option_map}
 use Rattle.msi_text_base.specs.declared.errors.ErrorKind.{ErrorKind}
 use Rattle.msi_text_base.specs.declared.errors.ErrorKind.TheVariants.{NotFound}
-use Rattle.msi_query_rows.specs.Refusals.{IsRefusal}
-use Rattle.msi_query_rows.specs.Rows.{whole_table}
+use Rattle.msi_text.specs.Refusals.{IsRefusal}
+use Rattle.msi_query_joins.specs.Rows.{whole_table}
 use Rattle.msi_query_rows_tests.specs.declared.tables.Kept.{Kept}
 use Rattle.msi_query_rows_tests.specs.Tables.{cells_of}
 

@@ -1,6 +1,6 @@
 -- Tables of tests as queries see them.
 use Rattle.std.specs.Prelude.{option_map}
-use Rattle.msi_query_rows.specs.Rows.{TableCells}
+use Rattle.msi_query_joins.specs.Rows.{TableCells}
 use Rattle.msi_query_rows_tests.specs.declared.tables.Kept.{Kept}
 
 -- a table's columns and rows

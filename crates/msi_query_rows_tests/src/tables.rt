@@ -3,8 +3,8 @@
 ghost use Rattle.std.specs.Prelude.{◌≡◌, [], Err, IfOk, IfErr, Ok, Some, option_map, option_and_then, option_copied};
 ghost use Rattle.std.specs.Prelude.{position, bytes_eq, slice_get};
 ghost use Rattle.msi_text_base.specs.Results.{OnlyMemory};
-ghost use Rattle.msi_query_rows.specs.Refusals.{AnswersWith, IsRefusal, refusal_of};
-ghost use Rattle.msi_query_rows.specs.Rows.{columns_read, whole_table};
+ghost use Rattle.msi_text.specs.Refusals.{AnswersWith, IsRefusal, refusal_of};
+ghost use Rattle.msi_query_joins.specs.Rows.{columns_read, whole_table};
 ghost use Rattle.msi_query_rows_tests.specs.Tables.{cells_of};
 
 use msi_query_rows::{Relation, Tables};

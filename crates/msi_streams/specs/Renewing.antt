@@ -3,7 +3,7 @@ use Rattle.std.specs.Prelude.{◌≡◌, ℕ, ◌⊎◌, Bool, true, List, [], �
 use Rattle.std.specs.Prelude.{option_and_then, option_map, if◌then◌else◌}
 use Rattle.msi_text_base.specs.declared.errors.ErrorKind.{ErrorKind}
 use Rattle.msi_text_base.specs.declared.errors.ErrorKind.TheVariants.{InvalidInput, OutOfMemory}
-use Rattle.msi_text_pool.specs.Pool.{Pool, pool_stream, data_stream}
+use Rattle.msi_text_pool_base.specs.Pool.{Pool, pool_stream, data_stream}
 use Rattle.msi_text_pool.specs.PoolWriting.{is_refused}
 use Rattle.msi_summary_properties.specs.Properties.{Properties}
 use Rattle.msi_summary_properties.specs.PropertyStream.{property_stream}

@@ -1,7 +1,7 @@
 //! The container's names of streams, made without memory.
 
 ghost use Rattle.std.specs.Prelude.{◌≡◌, ◌∷◌, [], None, Some, if◌then◌else◌, not};
-ghost use Rattle.msi_query_rows.specs.Refusals.{unless_refused};
+ghost use Rattle.msi_text.specs.Refusals.{unless_refused};
 ghost use Rattle.msi_database_schema.specs.Keys.{is_stream_name as is_accepted, stream_key};
 ghost use Rattle.msi_text_base.specs.declared.errors.ErrorKind.TheVariants.{InvalidInput};
 

@@ -4,7 +4,7 @@ use Rattle.std.specs.Ordering.{is_eq}
 use Rattle.std.specs.declared.cmp.Ordering.{Ordering}
 use Rattle.std.specs.Cmp.Lexicographic.{slice_cmp}
 use Rattle.msi_text_base.specs.Lists.{stable_sort}
-use Rattle.msi_text_pool.specs.Pool.{Place}
+use Rattle.msi_text_pool_base.specs.Pool.{Place}
 use Rattle.msi_table_values.specs.declared.value.ValueRef.{ValueRef}
 use Rattle.msi_table_values.specs.declared.value.Value.{Value}
 use Rattle.msi_table_values.specs.Values.{value_cmp}

@@ -1,6 +1,7 @@
 //! Cells and their bytes.
 
 ghost use Rattle.std.specs.Prelude.{◌≡◌, ◌<◌, ◌≤◌, ◌+◌, ◌^◌, length, take, drop};
+ghost use Rattle.msi_text_base.specs.Numbers.{number_of as number_in};
 ghost use Rattle.msi_table.specs.Cells.{width as width_of, cell_of_number, cell_in, is_for_texts};
 
 use msi_table_values::column::ColumnType;
@@ -39,15 +40,28 @@ fn number_cell(middle: u32, number: u64) -> ValueRef
     ValueRef::Int((number as i64 - middle as i64) as i32)
 }
 
+/// The number that the bytes of a cell are. Most have two, for which a general read would take twice as long.
+fn number_of_cell(bytes: &[u8]) -> u64
+    requires least { 2 ≤ length bytes.now }
+    requires most { length bytes.now ≤ 4 }
+    ensures value { result ≡ number_in bytes.now }
+    ensures below { result < 256 ^ length bytes.now }
+{
+    match *bytes {
+        [low, high] => low as u64 + 256 * high as u64,
+        _ => number_of(bytes),
+    }
+}
+
 /// The cell that bytes of its width encode.
 fn cell_of(long: bool, coltype: ColumnType, bytes: &[u8]) -> ValueRef
     requires { length bytes.now ≡ width_of long coltype }
     ensures { result ≡ cell_in coltype bytes.now }
 {
     match coltype {
-        ColumnType::Int16 => number_cell(0x8000, number_of(bytes)),
-        ColumnType::Int32 => number_cell(0x8000_0000, number_of(bytes)),
-        ColumnType::Str(_) => match number_of(bytes) {
+        ColumnType::Int16 => number_cell(0x8000, number_of_cell(bytes)),
+        ColumnType::Int32 => number_cell(0x8000_0000, number_of_cell(bytes)),
+        ColumnType::Str(_) => match number_of_cell(bytes) {
             0 => ValueRef::Null,
             number => ValueRef::Str(string_ref(number as u32)),
         },

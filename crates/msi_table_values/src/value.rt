@@ -8,7 +8,7 @@ ghost use Rattle.std.specs.Ordering.{as_partial_cmp, eq_by_cmp};
 ghost use Rattle.std.proofs.Common.{refl};
 ghost use Rattle.msi_text_base.specs.Results.{OnlyMemory};
 ghost use Rattle.msi_text_base.specs.declared.errors.ErrorKind.TheVariants.{InvalidData, InvalidInput};
-ghost use Rattle.msi_text_pool.specs.Pool.{unindexed};
+ghost use Rattle.msi_text_pool_base.specs.Pool.{unindexed};
 ghost use Rattle.msi_table_values.specs.Values.{value_cmp, is_null, int_of, text_of, value_hash_input};
 ghost use Rattle.msi_table_values.specs.CellOrder.{cell_cmp};
 ghost use Rattle.msi_table_values.specs.CellValues.{value_of_cell, cell_of_value, places_without};

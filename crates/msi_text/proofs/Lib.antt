@@ -1,3 +1,4 @@
 -- The lemmas of this crate.
 pub mod LanguageRowsLemmas
 pub mod CategoryRulesLemmas
+pub mod RefusalLemmas

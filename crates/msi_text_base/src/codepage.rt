@@ -8,11 +8,9 @@ ghost use Rattle.msi_text_base.specs.Pages.{page_with_id, page_with_signed_id, s
 ghost use Rattle.msi_text_base.specs.Pages.{page_name, text_in};
 ghost use Rattle.msi_text_base.specs.declared.errors.ErrorKind.TheVariants.{InvalidData, InvalidInput, OutOfMemory};
 
-mod tables;
+pub(crate) mod tables;
 
-use crate::codepage::tables::{
-    bytes_written, character_count, has_bytes, text_read, upper_characters,
-};
+use crate::codepage::tables::{bytes_written, has_bytes, text_read, upper_characters};
 use crate::errors::{Error, ErrorKind};
 use crate::reasons;
 use bstr::ByteSlice;
@@ -278,17 +276,6 @@ impl CodePage {
                 Some(upper) => has_bytes(upper, text),
                 None => is_ascii(text.as_bytes()),
             },
-        }
-    }
-
-    /// How many bytes encode a text, if the page can encode it. It takes no memory.
-    pub(crate) fn encoded_len(self, text: &str) -> Option<usize>
-        ensures { result ≡ option_map length (bytes_in self text.now) }
-    {
-        match upper_characters(self) {
-            Some(_) => Some(character_count(text)),
-            None if self.carries(text) => Some(text.len()),
-            None => None,
         }
     }
 }

@@ -7,7 +7,7 @@ use Rattle.std.proofs.lemmas.List.{length-map}
 use Rattle.std.proofs.lemmas.Option.{same_Some}
 use Rattle.msi_text_base.specs.declared.codepage.CodePage.{CodePage}
 use Rattle.msi_text_base.specs.Pages.{IsWritable, text_in, bytes_in, page_id}
-use Rattle.msi_text_pool.specs.Pool.{Place, Entry, short_entry, long_entry, plain_entry, entry_of, place_bytes, SpellsEntry, SpellsEntries, SpellsTexts, CountsFit, forgotten}
+use Rattle.msi_text_pool_base.specs.Pool.{Place, Entry, short_entry, long_entry, plain_entry, entry_of, place_bytes, SpellsEntry, SpellsEntries, SpellsTexts, CountsFit, forgotten}
 use Rattle.msi_text_pool.specs.PoolWriting.{has_refused_text, is_refused_spelling, piece_of, entry_in}
 use Rattle.msi_text_pool.specs.PoolLaws.{PoolsReadBack}
 use Rattle.msi_text_base.proofs.PagesLemmas.{page_named, page_small, empty_reads}

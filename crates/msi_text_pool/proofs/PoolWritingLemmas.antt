@@ -7,7 +7,7 @@ use Rattle.std.proofs.lemmas.List.Folds.{flat_map-map}
 use Rattle.msi_text_base.specs.declared.codepage.CodePage.{CodePage}
 use Rattle.msi_text_base.specs.Lists.{all_present}
 use Rattle.msi_text_base.specs.Pages.{bytes_in, page_id}
-use Rattle.msi_text_pool.specs.Pool.{Place, Pool, place_bytes, plain_entries, pool_stream, data_stream, header_of}
+use Rattle.msi_text_pool_base.specs.Pool.{Place, Pool, place_bytes, plain_entries, pool_stream, data_stream, header_of}
 use Rattle.msi_text_pool.specs.PoolWriting.{is_refused_spelling, has_refused_text, is_refused, piece_of, entry_in}
 
 -- bytes that can be told are there

@@ -2,7 +2,7 @@
 use Rattle.std.proofs.Common.{◌≡◌, ℕ, List, Option, Some, None, sym, subst, inl}
 use Rattle.std.specs.Prelude.{Result, Ok, Err, IfSome}
 use Rattle.msi_text_base.specs.declared.errors.ErrorKind.{ErrorKind}
-use Rattle.msi_text_pool.specs.Pool.{PoolStream, IsPoolStream}
+use Rattle.msi_text_pool_base.specs.Pool.{PoolStream, IsPoolStream}
 use Rattle.msi_text_base.specs.Results.{IsUnlessFault, IsUnlessMemory}
 
 fault_or_memory : {X : Type 0} (r : Result X ErrorKind) (x : X) → IsUnlessMemory r x → IsUnlessFault r x

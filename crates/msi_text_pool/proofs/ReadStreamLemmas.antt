@@ -7,14 +7,14 @@ use Rattle.msi_text_base.specs.declared.codepage.CodePage.{CodePage}
 use Rattle.msi_text_base.specs.declared.errors.ErrorKind.{ErrorKind}
 use Rattle.msi_text_base.specs.declared.errors.ErrorKind.TheVariants as kind
 use Rattle.msi_text_base.specs.Pages.{page_with_id}
-use Rattle.msi_text_pool.specs.Pool.{Entry, Place, Pool, SpellsEntries, SpellsPool, SpellsTexts, PoolStream, IsPoolStream, pool_with}
-use Rattle.msi_text_pool.specs.PoolReading.{header_in}
+use Rattle.msi_text_pool_base.specs.Pool.{Entry, Place, Pool, SpellsEntries, SpellsPool, SpellsTexts, PoolStream, IsPoolStream, pool_with}
+use Rattle.msi_text_pool_base.specs.PoolReading.{header_in}
 use Rattle.msi_text_pool.specs.PoolLaws.{OnePool, IsPoolInSteps}
 use Rattle.msi_text_base.specs.Numbers.{number_at}
 use Rattle.msi_text_base.specs.Results.{FailsAs}
 use Rattle.msi_text_base.proofs.ReadFieldLemmas.{IsBytes, wide32, number_takes, number_again}
 use Rattle.msi_text_base.proofs.OptionLemmas.{map_some, branch, given, some_is, not_given}
-use Rattle.msi_text_pool.proofs.ReadEntriesLemmas.{one_list}
+use Rattle.msi_text_pool_base.proofs.ReadEntriesLemmas.{one_list}
 use Rattle.msi_text_pool.proofs.ReadTextsLemmas.{one_texts}
 
 abbrev stream_with : CodePage → Bool → List Entry → PoolStream

@@ -7,8 +7,8 @@ use Rattle.msi_text_base.specs.declared.codepage.CodePage.{CodePage}
 use Rattle.msi_text_base.specs.declared.errors.ErrorKind.{ErrorKind}
 use Rattle.msi_text_base.specs.declared.errors.ErrorKind.TheVariants as kind
 use Rattle.msi_text_base.specs.Pages.{text_in}
-use Rattle.msi_text_pool.specs.Pool.{Entry, Place, SpellsTexts}
-use Rattle.msi_text_pool.specs.PoolReading.{place_with, place_in_front}
+use Rattle.msi_text_pool_base.specs.Pool.{Entry, Place, SpellsTexts}
+use Rattle.msi_text_pool_base.specs.PoolReading.{place_with, place_in_front}
 use Rattle.msi_text_base.specs.Results.{FailsAs}
 use Rattle.msi_text_base.proofs.ListLemmas.{drop_next}
 use Rattle.msi_text_base.proofs.OptionLemmas.{map_some, guard_passed, given, some_is, not_given}

@@ -1,8 +1,9 @@
 -- Two streams hold one pool, and what is written of a pool is read as it.
 use Rattle.std.specs.Prelude.{◌≡◌, ◌↔◌, ℕ, ◌+◌, ◌<◌, ◌≤◌, Bool, false, List, length, slice_index_or, Some}
-use Rattle.msi_text_pool.specs.Pool.{Pool, Place, CountsFit, IsPool, PoolStream, IsPoolStream, pool_with, SpellsTexts}
-use Rattle.msi_text_pool.specs.Pool.{pool_stream, data_stream, AreWritable, PlacesWritten, as_written}
-use Rattle.msi_text_pool.specs.Pool.{without_unnamed_texts, with_named_texts}
+use Rattle.msi_text_pool_base.specs.Pool.{Pool, Place, CountsFit, IsPool, PoolStream, IsPoolStream, pool_with}
+use Rattle.msi_text_pool_base.specs.Pool.{SpellsTexts}
+use Rattle.msi_text_pool_base.specs.Pool.{pool_stream, data_stream, AreWritable, PlacesWritten, as_written}
+use Rattle.msi_text_pool_base.specs.Pool.{without_unnamed_texts, with_named_texts}
 use Rattle.msi_text_pool.specs.PoolWriting.{is_refused}
 
 -- two streams hold at most one pool

@@ -2,7 +2,7 @@
 use Rattle.std.specs.Prelude.{ℕ, ◌^◌, Bool, true, List, [], length, not, nat_lt, Option, Some, None, unwrap_or}
 use Rattle.std.specs.List.{list_any}
 use Rattle.msi_text_base.specs.declared.codepage.CodePage.{CodePage}
-use Rattle.msi_text_pool.specs.Pool.{Place, Pool, place_bytes, plain_entry, entry_of}
+use Rattle.msi_text_pool_base.specs.Pool.{Place, Pool, place_bytes, plain_entry, entry_of}
 
 -- the page can't carry the text, or the text has more bytes than an entry can tell
 abbrev pub is_refused_spelling : Option (List ℕ) → Bool

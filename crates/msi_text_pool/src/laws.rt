@@ -1,7 +1,7 @@
 //! Laws of the formats themselves: each is the contract of a function, mostly of one without a body.
 
-ghost use Rattle.msi_text_pool.specs.FirstFitLaws.{TakenPlacesHoldTheirText, TakenPlacesStayInRange, GivenBackTakesOne};
-ghost use Rattle.msi_text_pool.specs.FirstFitLaws.{GivenBackStaysInRange};
+ghost use Rattle.msi_text_places.specs.FirstFitLaws.{TakenPlacesHoldTheirText, TakenPlacesStayInRange};
+ghost use Rattle.msi_text_places.specs.FirstFitLaws.{GivenBackTakesOne, GivenBackStaysInRange};
 ghost use Rattle.msi_text_pool.specs.PoolLaws.{EmptyPlacesAreWritten, IsPoolInSteps, MarksStandForTests, OnePool};
 ghost use Rattle.msi_text_pool.specs.PoolLaws.{PoolsReadBack};
 ghost use Rattle.msi_text_pool.specs.References.{ReferencesComeBack};

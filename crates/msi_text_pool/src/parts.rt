@@ -3,15 +3,15 @@
 ghost use Rattle.std.specs.Prelude.{◌≡◌, ◌↔◌, ◌≤◌, length, IsTrue, IfOk, IfErr, OnOk, OnErr, Some, is_some, true};
 ghost use Rattle.std.specs.Prelude.{if◌then◌else◌, string_bytes};
 ghost use Rattle.msi_text_base.specs.declared.errors.ErrorKind.TheVariants.{InvalidInput, OutOfMemory};
-ghost use Rattle.msi_text_pool.specs.FirstFit.{is_long_with, taken};
-ghost use Rattle.msi_text_pool.specs.Pool.{CountsFit, PlacesWritten, unindexed, without_unnamed_texts};
+ghost use Rattle.msi_text_places.specs.FirstFit.{is_long_with, taken};
+ghost use Rattle.msi_text_pool_base.specs.Pool.{CountsFit, PlacesWritten, unindexed, without_unnamed_texts};
 
-pub use crate::stringpool::indexed::most_places;
-use crate::stringpool::places::are_written;
 pub use crate::stringpool::reading::{pool_builder_of, pool_of};
 pub use crate::stringpool::writing::{data_stream_of, pool_stream_of};
 use crate::stringpool::{StringPool, StringRef};
 use msi_text_base::errors::Error;
+use msi_text_places::parts::are_written;
+pub use msi_text_places::parts::most_places;
 
 /// Returns the place of a number.
 pub fn string_ref(number: u32) -> StringRef

@@ -1,6 +1,6 @@
 //! What is refused, and what is told of it.
 
-use crate::runs::{USAGE, check, ends_moving, path, prints, shows};
+use crate::runs::{USAGE, check, ends_moving, ends_unflushed, path, prints, shows};
 use std::process::Abort;
 use std::{fs, io};
 
@@ -115,6 +115,29 @@ fn the_first_fault_is_told(rt: HostRuntime) {
             row.1,
             ends_moving(&rt, row.1, path.as_str(), "", row.2),
         );
+    }
+    fs::remove_file(&rt, path.as_str()).expect(&rt, "a file");
+}
+
+/// Commands that print.
+static PRINTING: [&'static [&'static str]; 5] = [
+    &["raw", "FILE"],
+    &["tables", "FILE"],
+    &["rows", "FILE", "_Tables"],
+    &["summary", "FILE"],
+    &["streams", "FILE"],
+];
+
+#[test]
+fn output_that_cannot_be_flushed_is_an_error(rt: HostRuntime) {
+    let path = path(&rt, "unflushed").expect(&rt, "a path");
+    check(
+        &rt,
+        &["new"],
+        shows(&rt, &["new", "FILE"], path.as_str(), ""),
+    );
+    for words in &PRINTING {
+        check(&rt, words, ends_unflushed(&rt, words, path.as_str(), "Io"));
     }
     fs::remove_file(&rt, path.as_str()).expect(&rt, "a file");
 }

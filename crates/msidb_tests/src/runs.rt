@@ -132,6 +132,31 @@ pub(crate) fn ends_moving(
     ends(rt, all, path, &mut input, &mut output, line)
 }
 
+/// A standard output that takes all that is written, and can't be flushed.
+#[derive(Drop)]
+struct Unflushed;
+
+impl Write for Unflushed {
+    fn write(&mut self, bytes: &[u8]) -> io::Result<usize> {
+        Ok(bytes.len())
+    }
+
+    fn flush(&mut self) -> io::Result<()> {
+        Err(io::Error::from(io::ErrorKind::BrokenPipe))
+    }
+}
+
+/// Whether a run ends with this line of errors where standard output can't be flushed.
+pub(crate) fn ends_unflushed(
+    rt: &HostRuntime,
+    all: &[&str],
+    path: &str,
+    line: &str,
+) -> io::Result<bool> {
+    let mut input: &[u8] = &[];
+    ends(rt, all, path, &mut input, &mut Unflushed, line)
+}
+
 /// Checks what was found of a run over these words.
 pub(crate) fn check(rt: &impl Abort, all: &[&str], found: io::Result<bool>) {
     let is_so = found.expect(rt, "memory and files");

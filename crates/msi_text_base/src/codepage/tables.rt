@@ -51,9 +51,9 @@ static MACINTOSH_ROMAN: [char; 128] = [
     '\u{00AF}', '\u{02D8}', '\u{02D9}', '\u{02DA}', '\u{00B8}', '\u{02DD}', '\u{02DB}', '\u{02C7}',
 ];
 
-/// The characters of the bytes from 0x80 on, where the page has a table.
+/// Returns the characters of the bytes from 0x80 on, where the page has a table.
 #[tactic(auto, unfolding(crate::specs::PageTables::windows_1252, crate::specs::PageTables::macintosh_roman))]
-pub(crate) fn upper_characters(page: CodePage) -> Option<&'static [char]>
+pub fn upper_characters(page: CodePage) -> Option<&'static [char]>
     ensures table { option_copied result ≡ upper_characters page }
     ensures few { IfSome result (λ upper. length upper.now ≤ 128) }
 {
@@ -124,8 +124,8 @@ pub(crate) fn text_read(alloc: Global, upper: &[char], bytes: &[u8]) -> Result<S
     Ok(text)
 }
 
-/// How many characters a text has.
-pub(crate) fn character_count(text: &str) -> usize
+/// Returns how many characters a text has.
+pub fn character_count(text: &str) -> usize
     ensures { result ≡ length (chars text.now) }
 {
     text.chars().count()

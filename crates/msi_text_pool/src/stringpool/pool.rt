@@ -4,18 +4,16 @@ ghost use Rattle.std.specs.Prelude.{◌≡◌, IfOk, IfErr, OnOk, OnErr, Some, i
 ghost use Rattle.std.specs.Prelude.{true};
 ghost use Rattle.std.specs.Prelude.{string_bytes, ◌≤◌, vec_len};
 ghost use Rattle.std.specs.Option.{option_copied};
-ghost use Rattle.msi_text_pool.specs.Pool.{CountsFit, newly_indexed, unindexed, without_unnamed_texts};
-ghost use Rattle.msi_text_pool.specs.FirstFit.{taken, given_back, is_long_with};
-ghost use Rattle.msi_text_pool.specs.FirstFitLaws.{Holds, place_at, text_at, count_at};
+ghost use Rattle.msi_text_pool_base.specs.Pool.{CountsFit, newly_indexed, unindexed, without_unnamed_texts};
+ghost use Rattle.msi_text_places.specs.FirstFit.{taken, given_back, is_long_with};
+ghost use Rattle.msi_text_places.specs.FirstFitLaws.{Holds, place_at, text_at, count_at};
 ghost use Rattle.msi_text_base.specs.Results.{OnlyMemory};
 ghost use Rattle.msi_text_base.specs.declared.errors.ErrorKind.TheVariants.{InvalidData, InvalidInput, OutOfMemory};
 
-use crate::stringpool::MAX_SHORT_PLACES;
-use crate::stringpool::kept::KeptPlaces;
-use crate::stringpool::places::{Place, Places};
 use crate::stringpool::reference::StringRef;
 use msi_text_base::codepage::CodePage;
 use msi_text_base::errors::Error;
+use msi_text_places::parts::{KeptPlaces, MAX_SHORT_PLACES, Place};
 use std::alloc::Global;
 use std::marker::Model;
 
@@ -42,8 +40,8 @@ impl Drop for StringPool {
 }
 
 impl Model for StringPool {
-    ghost use Rattle.msi_text_pool.specs.Pool.{IndexedPool};
-    ghost use Rattle.msi_text_pool.specs.Indexing.{IsKept, places_of, operations_of};
+    ghost use Rattle.msi_text_pool_base.specs.Pool.{IndexedPool};
+    ghost use Rattle.msi_text_places.specs.Indexing.{IsKept, places_of, operations_of};
 
     ghost Value = { IndexedPool };
 
@@ -65,7 +63,7 @@ impl StringPool {
         StringPool {
             codepage: page,
             long: false,
-            kept: KeptPlaces::Read(Places::from_vec(Vec::new(alloc))),
+            kept: KeptPlaces::from_vec(Vec::new(alloc)),
         }
     }
 
@@ -78,7 +76,7 @@ impl StringPool {
         StringPool {
             codepage,
             long,
-            kept: KeptPlaces::Read(Places::from_vec(places)),
+            kept: KeptPlaces::from_vec(places),
         }
     }
 

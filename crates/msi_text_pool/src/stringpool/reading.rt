@@ -3,40 +3,24 @@
 ghost use Rattle.std.specs.Prelude.{◌≡◌, ◌⊎◌, ◌<◌, ◌^◌, List, IfOk, IfErr, IfSome, OnOk, Some};
 ghost use Rattle.msi_text_base.specs.declared.errors.ErrorKind.TheVariants.{Io, InvalidData, OutOfMemory};
 ghost use Rattle.msi_text_base.specs.Pages.{page_with_id, text_in};
-ghost use Rattle.msi_text_pool.specs.Pool as pools;
-ghost use Rattle.msi_text_pool.specs.Pool.{CountsFit, IsPoolStream, PoolStream, SpellsEntries, SpellsTexts};
-ghost use Rattle.msi_text_pool.specs.Pool.{newly_indexed, pool_with};
-ghost use Rattle.msi_text_pool.specs.JoinedTexts.{IsJoined, places_joined};
-ghost use Rattle.msi_text_pool.specs.PoolReading.{IsPut, entry_at, place_in_front, header_in};
+ghost use Rattle.msi_text_pool_base.specs.Pool as pools;
+ghost use Rattle.msi_text_pool_base.specs.Pool.{CountsFit, IsPoolStream, PoolStream, SpellsTexts};
+ghost use Rattle.msi_text_pool_base.specs.Pool.{newly_indexed, pool_with};
+ghost use Rattle.msi_text_places.specs.JoinedTexts.{IsJoined, places_joined};
+ghost use Rattle.msi_text_pool_base.specs.PoolReading.{IsPut, place_in_front, header_in};
 ghost use Rattle.msi_text_base.specs.Results.{FailsAs, Gives, IsStreamFault, IsUnlessFault, IsUnlessMemory};
 
 use crate::reasons;
-use crate::stringpool::MAX_PLACES;
-use crate::stringpool::joined::JoinedTexts;
-use crate::stringpool::places::Place;
 use crate::stringpool::pool::{LONG, StringPool};
 use bstr::ByteSlice;
 use msi_text_base::codepage::CodePage;
 use msi_text_base::errors::{Error, ErrorKind};
-use msi_text_base::fields::{u16_at, u32_at};
+use msi_text_base::fields::u32_at;
+use msi_text_places::parts::{JoinedTexts, MAX_PLACES, Place};
+use msi_text_pool_base::parts::{Entry, entries_of};
 use std::alloc::Global;
 use std::io::Read;
 use std::marker::Model;
-
-/// An entry of the pool's stream: how many bytes its text has in the data stream, and its count.
-#[derive(Drop)]
-pub(crate) struct Entry {
-    len: u32,
-    count: u16,
-}
-
-impl Model for Entry {
-    ghost use Rattle.msi_text_pool.specs.Pool as pools;
-
-    ghost Value = { pools.Entry };
-
-    ghost view = { λ e. record { len = e.len; count = e.count } };
-}
 
 /// What the pool's stream says: the page, whether references are long, and the entries.
 #[derive(Drop)]
@@ -47,7 +31,7 @@ pub struct StringPoolBuilder {
 }
 
 impl Model for StringPoolBuilder {
-    ghost use Rattle.msi_text_pool.specs.Pool.{PoolStream};
+    ghost use Rattle.msi_text_pool_base.specs.Pool.{PoolStream};
     ghost use Rattle.std.specs.Prelude.{◌≤◌, vec_len};
 
     ghost Value = { PoolStream };
@@ -176,38 +160,6 @@ fn known_page(id: u32) -> Result<CodePage, Error>
     }
 }
 
-/// The entries that the bytes encode, of which each has at least four.
-fn entries_of(alloc: Global, bytes: &[u8]) -> Result<Vec<Entry>, Error>
-    ensures found { IfOk result (λ entries. SpellsEntries bytes.now entries.items) }
-    ensures only { (entries : List pools.Entry)
-        → SpellsEntries bytes.now entries → Gives (λ v. v.items) result (Some entries) }
-    ensures kinds { IfErr result (λ kind. (kind ≡ InvalidData) ⊎ (kind ≡ OutOfMemory)) }
-{
-    let mut entries = Vec::with_capacity(alloc, bytes.len() / 4)?;
-    let mut rest = bytes;
-    while rest.len() >= 2 {
-        let (entry, after) = entry_of(rest)?;
-        entries.push(entry)?;
-        rest = after;
-    }
-    Ok(entries)
-}
-
-/// The entry in front, and the bytes after it.
-#[tactic(auto, unfolding(crate::specs::PoolReading::entry_at))]
-fn entry_of(bytes: &[u8]) -> Result<(Entry, &[u8]), Error>
-    ensures { Gives (λ x. (x.0, x.1.now)) result (entry_at bytes.now) }
-{
-    let (short, rest) = u16_at(bytes, reasons::POOL_CUT)?;
-    let (count, rest) = u16_at(rest, reasons::POOL_CUT)?;
-    if short > 0 || count == 0 {
-        let len = short as u32;
-        return Ok((Entry { len, count }, rest));
-    }
-    let (len, rest) = u32_at(rest, reasons::POOL_CUT)?;
-    Ok((Entry { len, count }, rest))
-}
-
 /// The places whose texts the bytes encode.
 fn places_of(
     alloc: Global,
@@ -259,17 +211,17 @@ fn push_text<'a>(
         IsPut codepage entry.now bytes.now (places_joined texts.old) (places_joined texts.new) rest.now) }
     ensures err { IfErr result (λ kind. FailsAs kind (place_in_front codepage entry.now bytes.now)) }
 {
-    let len = entry.len as usize;
+    let len = entry.len() as usize;
     if bytes.len() < len {
         return Err(Error::new(ErrorKind::InvalidData, reasons::POOL_DATA));
     }
     let (piece, rest) = bytes.split_at(len);
     if let CodePage::Utf8 = codepage {
         let text = piece.to_str_lossy(alloc)?;
-        texts.push(text.as_ref(), entry.count)?;
+        texts.push(text.as_ref(), entry.count())?;
     } else {
         let text = codepage.decode(alloc, piece)?;
-        texts.push(text.as_str(), entry.count)?;
+        texts.push(text.as_str(), entry.count())?;
     }
     Ok(rest)
 }

@@ -8,10 +8,10 @@ ghost use Rattle.msi_text_pool.specs.References.{ReadsReference, fits_reference,
 ghost use Rattle.msi_text_base.specs.declared.errors.ErrorKind.TheVariants.{InvalidData, InvalidInput, Io, OutOfMemory};
 
 use crate::reasons;
-use crate::stringpool::MAX_SHORT_PLACES;
 use byteorder::{ByteOrder, LittleEndian};
 use msi_text_base::errors::{Error, ErrorKind};
 use msi_text_base::parts::{number_of, read_exactly, write_fully};
+use msi_text_places::parts::MAX_SHORT_PLACES;
 use std::io::{Read, Write};
 use std::marker::Model;
 

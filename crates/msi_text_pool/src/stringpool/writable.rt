@@ -3,11 +3,11 @@
 ghost use Rattle.std.specs.Prelude.{◌<◌, ◌↔◌, IsTrue, IsUtf8};
 ghost use Rattle.std.specs.List.{AllByRecursion};
 ghost use Rattle.msi_text_base.specs.Pages.{IsWritable};
-ghost use Rattle.msi_text_pool.specs.Pool.{AreWritable, HaveUtf8Texts, unindexed};
+ghost use Rattle.msi_text_pool_base.specs.Pool.{AreWritable, HaveUtf8Texts, unindexed};
 
-use crate::stringpool::places::Place;
 use crate::stringpool::pool::StringPool;
 use msi_text_base::codepage::CodePage;
+use msi_text_places::parts::Place;
 
 impl StringPool {
     /// Returns whether each text that a cell refers to reads back as it was, once it is written in the page. It takes

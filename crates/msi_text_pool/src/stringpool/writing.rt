@@ -6,7 +6,7 @@ ghost use Rattle.std.specs.List.{flat_map};
 ghost use Rattle.std.specs.Io.KnownBytes.{Appends};
 ghost use Rattle.msi_text_base.specs.Faults.{AppendsPart};
 ghost use Rattle.msi_text_base.specs.Pages.{page_id};
-ghost use Rattle.msi_text_pool.specs.Pool.{place_bytes, plain_entry, pool_stream, data_stream, unindexed};
+ghost use Rattle.msi_text_pool_base.specs.Pool.{place_bytes, plain_entry, pool_stream, data_stream, unindexed};
 ghost use Rattle.msi_text_pool.specs.PoolLaws.{ReadsBack};
 ghost use Rattle.msi_text_pool.specs.PoolWriting.{is_refused_spelling, has_refused_text, is_refused, piece_of};
 ghost use Rattle.msi_text_pool.specs.PoolWriting.{entry_in};
@@ -14,13 +14,14 @@ ghost use Rattle.msi_text_base.specs.Results.{OnlyMemory};
 ghost use Rattle.msi_text_base.specs.declared.errors.ErrorKind.TheVariants.{InvalidInput, Io, OutOfMemory};
 
 use crate::reasons;
-use crate::stringpool::places::Place;
 use crate::stringpool::pool::{LONG, StringPool};
 use msi_text_base::codepage::CodePage;
 use msi_text_base::errors::{Error, ErrorKind, Reason};
 use msi_text_base::fields::{push_u16, push_u32};
-use msi_text_base::parts::{encoded_len, write_fully};
+use msi_text_base::parts::write_fully;
 use msi_text_base::reasons::PAGE_CHARACTER;
+use msi_text_places::parts::Place;
+use msi_text_pool_base::parts::encoded_len;
 use std::alloc::AllocError;
 use std::io::Write;
 

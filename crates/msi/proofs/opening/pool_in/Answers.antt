@@ -1,5 +1,5 @@
 use Rattle.std.proofs.Common.{◌≡◌, ◌∙◌, ap, sym, [], ◌∷◌, None}
-use Rattle.msi_text_pool.specs.Pool.{newly_indexed}
+use Rattle.msi_text_pool_base.specs.Pool.{newly_indexed}
 use Rattle.std.specs.FinMap.{entries}
 use Rattle.msi_database_schema.specs.Keys.{string_data_name, table_key}
 use Rattle.msi_database_storage.specs.Streams.{stream_at}

@@ -1,6 +1,6 @@
 use Rattle.std.proofs.Common.{refl}
 use Rattle.msi_query.specs.QueryTrees.{query_of}
-use Rattle.msi_query_rows.specs.Rows.{tables_values}
+use Rattle.msi_query_joins.specs.Rows.{tables_values}
 use Rattle.msi_query_rows.proofs.JoinLemmas.{join_answer, table_answer}
 use Rattle.msi_query_rows.proofs.selection.+relation_of_tree.Goals as goal
 

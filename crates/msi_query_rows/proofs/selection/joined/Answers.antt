@@ -2,10 +2,10 @@ use Rattle.std.proofs.Common.{◌≡◌, List, Some, length, ap, ◌∙◌, rule
 use Rattle.std.specs.List.{flat_map}
 use Rattle.msi_table_values.specs.Columns.{ColumnDef}
 use Rattle.msi_query_expressions.specs.Conditions.{meets}
-use Rattle.msi_query_rows.specs.Rows.{RelationCells, relation_values, rows_values}
-use Rattle.msi_query_rows.specs.Selection.{joined_columns, rows_of_row}
+use Rattle.msi_query_joins.specs.Rows.{RelationCells, relation_values, rows_values}
+use Rattle.msi_query_joins.specs.Selection.{joined_columns, rows_of_row}
 use Rattle.msi_query_rows.proofs.JoinLemmas.{join_refused, clauses_refused, join_narrowed}
-use Rattle.msi_query_rows.proofs.RefusalLemmas.{err_passed}
+use Rattle.msi_text.proofs.RefusalLemmas.{err_passed}
 use Rattle.msi_query_rows.proofs.selection.joined.Goals as goal
 
 pub returns-then-not-knows_names-clause-kind : goal.returns-then-not-knows_names-clause-kind

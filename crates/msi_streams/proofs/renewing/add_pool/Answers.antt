@@ -1,5 +1,5 @@
 use Rattle.std.proofs.Common.{rules}
-use Rattle.msi_text_pool.specs.Pool.{unindexed}
+use Rattle.msi_text_pool_base.specs.Pool.{unindexed}
 use Rattle.msi_container_write.proofs.LayoutLemmas.{not_true}
 use Rattle.msi_text_pool.specs.PoolWriting.{is_refused}
 use Rattle.msi_streams.proofs.RenewingLemmas.{pool_added, pool_keys_added}

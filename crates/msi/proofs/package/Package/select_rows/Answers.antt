@@ -1,5 +1,5 @@
-use Rattle.msi_query_rows.specs.Rows.{RelationCells, columns_read}
-use Rattle.msi_query_rows.specs.Selection.{early_refusal}
+use Rattle.msi_query_joins.specs.Rows.{RelationCells, columns_read}
+use Rattle.msi_query_joins.specs.Selection.{early_refusal}
 use Rattle.msi.proofs.SelectLemmas.{early_passed}
 use Rattle.msi_database_changes.specs.Database.{table_at}
 use Rattle.msi.proofs.package.Package.select_rows.Goals as goal

@@ -1,9 +1,9 @@
 use Rattle.std.proofs.Common.{◌≡◌, List, Result, Err, ap, sym, ◌∙◌, Some}
-use Rattle.msi_text_pool.specs.Pool.{unindexed}
+use Rattle.msi_text_pool_base.specs.Pool.{unindexed}
 use Rattle.std.specs.FinMap.{entries}
 use Rattle.msi_text_base.specs.declared.errors.ErrorKind.{ErrorKind}
 use Rattle.msi_table_values.specs.Columns.{ColumnDef}
-use Rattle.msi_query_rows.specs.Rows.{columns_read}
+use Rattle.msi_query_joins.specs.Rows.{columns_read}
 use Rattle.msi_database_changes.specs.Database.{table_at}
 use Rattle.msi_database_storage.specs.Kept.{table_kept_at}
 use Rattle.msi_database.specs.Listed.{rows_at}

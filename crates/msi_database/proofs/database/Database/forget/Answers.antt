@@ -1,5 +1,5 @@
 use Rattle.std.proofs.Common.{not, ◌++◌, List, subst, ap, ◌∙◌}
-use Rattle.msi_text_pool.specs.Pool.{unindexed}
+use Rattle.msi_text_pool_base.specs.Pool.{unindexed}
 use Rattle.msi_database_changes.specs.Drop.{is_row_about}
 use Rattle.msi_database_storage.specs.declared.storing.Stored.{Stored}
 use Rattle.msi_database_storage.specs.Kept.{Kept}

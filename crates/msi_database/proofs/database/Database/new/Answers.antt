@@ -1,6 +1,6 @@
 use Rattle.std.proofs.Common.{ap, ◌∙◌}
 use Rattle.msi_database_cells.specs.Texts.{settled}
-use Rattle.msi_text_pool.specs.Pool.{unindexed}
+use Rattle.msi_text_pool_base.specs.Pool.{unindexed}
 use Rattle.std.specs.Vec.Iter.{into_iter_items}
 use Rattle.msi_database.proofs.FreshKeptLemmas.{fresh_parts, fresh_settled, names_are_own}
 use Rattle.msi_database.proofs.database.Database.new.Goals as goal

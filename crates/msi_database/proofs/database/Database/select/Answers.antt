@@ -1,5 +1,5 @@
 use Rattle.std.proofs.Common.{subst}
-use Rattle.msi_text_pool.specs.Pool.{unindexed}
+use Rattle.msi_text_pool_base.specs.Pool.{unindexed}
 use Rattle.std.proofs.lemmas.Result.{IfOk-weaker}
 use Rattle.std.specs.FinMap.{entries}
 use Rattle.msi_table.specs.Rows.{AreAsWide}

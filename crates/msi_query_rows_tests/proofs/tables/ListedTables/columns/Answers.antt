@@ -1,6 +1,6 @@
 use Rattle.std.proofs.Common.{◌≡◌, List, Option, Err, ap, subst, sym, ◌∙◌, []}
 use Rattle.std.specs.Prelude.{bytes_eq, option_and_then, option_copied, option_map, position, slice_get, IfErr}
-use Rattle.msi_query_rows.specs.Rows.{columns_read}
+use Rattle.msi_query_joins.specs.Rows.{columns_read}
 use Rattle.msi_query_rows_tests.specs.Tables.{cells_of}
 use Rattle.msi_query_rows_tests.specs.declared.tables.Kept.{Kept}
 use Rattle.msi_query_rows_tests.proofs.tables.ListedTables.columns.Goals as goal

@@ -1,4 +1,4 @@
-use Rattle.msi_text_pool.specs.JoinedTexts.{places_joined}
+use Rattle.msi_text_places.specs.JoinedTexts.{places_joined}
 use Rattle.msi_text_pool.proofs.ReadTextsLemmas.{texts_next, texts_done}
 use Rattle.msi_text_pool.proofs.stringpool.reading.texts_of.Goals as goal
 

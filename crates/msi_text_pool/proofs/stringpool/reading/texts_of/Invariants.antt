@@ -1,4 +1,4 @@
-use Rattle.msi_text_pool.specs.JoinedTexts.{IsJoined, places_joined}
+use Rattle.msi_text_places.specs.JoinedTexts.{IsJoined, places_joined}
 use Rattle.msi_text_pool.proofs.ReadTextsLemmas.{AreInFront}
 use Rattle.msi_text_pool.proofs.stringpool.reading.texts_of.Given as goal
 

@@ -1,5 +1,5 @@
 use Rattle.std.proofs.Common.{◌≡◌, false, is_some, sym, ap, ◌∙◌}
-use Rattle.msi_text_pool.specs.Pool.{unindexed}
+use Rattle.msi_text_pool_base.specs.Pool.{unindexed}
 use Rattle.msi_text_pool.specs.PoolWriting.{has_refused_text}
 use Rattle.msi_text_pool.proofs.PoolReadBackLemmas.{pools_read_back}
 use Rattle.msi_text_pool.proofs.PoolWritingLemmas.{data_written, not_refused}

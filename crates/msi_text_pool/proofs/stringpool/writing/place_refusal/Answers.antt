@@ -1,5 +1,5 @@
 use Rattle.std.proofs.Common.{sym, ◌∙◌}
-use Rattle.msi_text_pool.specs.Pool.{place_bytes}
+use Rattle.msi_text_pool_base.specs.Pool.{place_bytes}
 use Rattle.msi_text_pool.proofs.PoolWritingLemmas.{none_refused}
 use Rattle.msi_text_pool.proofs.stringpool.writing.place_refusal.Goals as goal
 

@@ -1,7 +1,7 @@
 use Rattle.std.proofs.Common.{◌≡◌, ◌++◌, List, ℕ, false, is_some, sym, ap, ◌∙◌}
 use Rattle.std.specs.Int.{to_le_bytes, w32}
 use Rattle.msi_text_base.specs.Pages.{page_id}
-use Rattle.msi_text_pool.specs.Pool.{header_of, unindexed}
+use Rattle.msi_text_pool_base.specs.Pool.{header_of, unindexed}
 use Rattle.msi_text_pool.specs.PoolWriting.{has_refused_text}
 use Rattle.msi_text_pool.proofs.PoolReadBackLemmas.{pools_read_back}
 use Rattle.msi_text_pool.proofs.PoolWritingLemmas.{not_refused, pool_written}

@@ -1,8 +1,8 @@
 use Rattle.std.proofs.Common.{◌≡◌, ap, sym, ◌∙◌, subst, length, arith}
-use Rattle.msi_text_pool.specs.Pool.{CountsFit}
-use Rattle.msi_text_pool.specs.Indexing.{places_of}
-use Rattle.msi_text_pool.proofs.CountLemmas.{CountsFit-without}
-use Rattle.msi_text_pool.proofs.PlaceIndexLemmas.{length-forgotten}
+use Rattle.msi_text_pool_base.specs.Pool.{CountsFit}
+use Rattle.msi_text_places.specs.Indexing.{places_of}
+use Rattle.msi_text_places.proofs.CountLemmas.{CountsFit-without}
+use Rattle.msi_text_places.proofs.PlaceIndexLemmas.{length-forgotten}
 use Rattle.msi_text_pool.proofs.stringpool.pool.StringPool.forget_texts.Goals as goal
 
 pub invariant_of-self : goal.invariant_of-self

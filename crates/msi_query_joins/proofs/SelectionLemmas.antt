@@ -1,0 +1,121 @@
+-- Rows of cells, and what they stand for, through selection, projection and joins.
+use Rattle.std.proofs.Common.{◌≡◌, ℕ, zero, suc, ◌+◌, ◌<◌, List, [], ◌∷◌, ◌++◌, length, map, filter, take, get_or, replicate, true, false, ◌==◌, Option, Some, None, refl, ap, sym, ◌∙◌, arith, length-append, ◌≢◌}
+use Rattle.std.specs.Prelude.{Result, Ok, Err, IfOk, unwrap_or, option_and_then, option_map, slice_get}
+use Rattle.std.specs.List.{cons_option, filter_map}
+use Rattle.std.proofs.lemmas.List.{append-nil, map-append, length-map, take_more}
+use Rattle.std.proofs.lemmas.List.Elements.{filter_map-append}
+use Rattle.std.proofs.lemmas.Option.{slice_get-map}
+use Rattle.msi_text_base.specs.declared.errors.ErrorKind.{ErrorKind}
+use Rattle.msi_text_pool_base.specs.Pool.{Place}
+use Rattle.msi_table_values.specs.declared.value.ValueRef.{ValueRef}
+use Rattle.msi_table_values.specs.declared.value.ValueRef.TheVariants as cell
+use Rattle.msi_table_values.specs.declared.value.Value.{Value}
+use Rattle.msi_table_values.specs.declared.value.Value.TheVariants as value
+use Rattle.msi_table_values.specs.CellValues.{value_of_cell, row_values}
+use Rattle.msi_table_values.specs.Columns.{ColumnDef, column_index, column_named}
+use Rattle.msi_query.specs.declared.query.JoinKind.{JoinKind}
+use Rattle.msi_query.specs.declared.query.JoinKind.TheVariants.{Inner, Left}
+use Rattle.msi_query_expressions.specs.Expressions.{Expression}
+use Rattle.msi_query_expressions.specs.Conditions.{meets, value_in}
+use Rattle.msi_query.specs.Queries.{Clauses}
+use Rattle.msi_query_joins.specs.Selection.{is_left, or_nulls, projected_row, selected}
+use Rattle.msi_query_joins.specs.Rows.{RelationCells, cell_at, cells_at, column_at, projected_cells, relation_values, rows_values}
+
+-- a column that is kept
+pub column_kept : (columns kept new : List ColumnDef) (places : List (Option ℕ)) (i : ℕ) (d : Option ℕ) (c : ColumnDef) → i < length places → column_at columns (get_or places i d) ≡ Some c
+    → new ≡ kept ++ c ∷ [] → kept ≡ filter_map (column_at columns) (take i places) → new ≡ filter_map (column_at columns) (take (i + 1) places)
+column_kept columns kept new places i d c h s e k =
+    e ∙ ap (λ cs. cs ++ c ∷ []) k ∙ sym (rw (take_more places i d h, filter_map-append (column_at columns) (take i places) (get_or places i d ∷ []), s) refl)
+
+-- none is kept
+pub no_column_kept : (columns kept : List ColumnDef) (places : List (Option ℕ)) (i : ℕ) (d : Option ℕ) → i < length places → column_at columns (get_or places i d) ≡ None
+    → kept ≡ filter_map (column_at columns) (take i places) → kept ≡ filter_map (column_at columns) (take (i + 1) places)
+no_column_kept columns kept places i d h s k =
+    k ∙ sym (rw (take_more places i d h, filter_map-append (column_at columns) (take i places) (get_or places i d ∷ []), s) (append-nil _))
+
+value_of_present : (places : List Place) (o : Option ValueRef) → value_of_cell places (unwrap_or o cell.Null) ≡ unwrap_or (option_map (value_of_cell places) o) value.Null
+value_of_present places None = refl
+value_of_present places (Some c) = refl
+
+pub value_of_place : (places : List Place) (row : List ValueRef) (o : Option ℕ)
+    → value_of_cell places (cell_at row o) ≡ unwrap_or (option_and_then (slice_get (row_values places row)) o) value.Null
+value_of_place places row None = refl
+value_of_place places row (Some i) = value_of_present places (slice_get row i) ∙ ap (λ v. unwrap_or v value.Null) (sym (slice_get-map (value_of_cell places) row i))
+
+-- the cells at the places of the columns stand for the projected row
+row_projected : (places : List Place) (columns : List ColumnDef) (names : List (List ℕ)) (row : List ValueRef)
+    → row_values places (cells_at (map (λ n. column_index n columns) names) row) ≡ projected_row columns names (row_values places row)
+row_projected places columns [] row = refl
+row_projected places columns (n ∷ ns) row = ap (λ v. v ∷ row_values places (cells_at (map (λ n. column_index n columns) ns) row)) (value_of_place places row (column_index n columns))
+    ∙ ap (λ vs. value_in columns (row_values places row) n ∷ vs) (row_projected places columns ns row)
+
+rows_projected : (places : List Place) (columns : List ColumnDef) (names : List (List ℕ)) (rows : List (List ValueRef))
+    → rows_values places (map (cells_at (map (λ n. column_index n columns) names)) rows) ≡ map (projected_row columns names) (rows_values places rows)
+rows_projected places columns names [] = refl
+rows_projected places columns names (row ∷ rows) =
+    ap (λ r. r ∷ rows_values places (map (cells_at (map (λ n. column_index n columns) names)) rows)) (row_projected places columns names row)
+    ∙ ap (λ rs. projected_row columns names (row_values places row) ∷ rs) (rows_projected places columns names rows)
+
+columns_projected : (columns : List ColumnDef) (names : List (List ℕ))
+    → filter_map (column_at columns) (map (λ n. column_index n columns) names) ≡ filter_map (λ n. column_named n columns) names
+columns_projected columns [] = refl
+columns_projected columns (n ∷ ns) = ap (λ cs. cons_option (column_at columns (column_index n columns)) cs) (columns_projected columns ns)
+
+-- a relation of which some columns are kept
+projected_is : (places : List Place) (c : Clauses) (r new : RelationCells) (kept : List (List ValueRef)) → (length c.columns == 0) ≡ false
+    → rows_values places kept ≡ filter (meets r.columns c.condition) (rows_values places r.rows) → new ≡ projected_cells c.columns r.columns kept
+    → relation_values places new ≡ selected c (relation_values places r)
+projected_is places c r new kept some k e =
+    ap (relation_values places) e
+    ∙ rw (some, columns_projected r.columns c.columns, rows_projected places r.columns c.columns kept, k) refl
+
+pub projected_answer : (places : List Place) (c : Clauses) (r : RelationCells) (first second : List ColumnDef) (names : List (List ℕ)) (condition : Option Expression)
+    (rows kept slice : List (List ValueRef)) (answer : Result RelationCells ErrorKind)
+    → (length names == 0) ≡ false → names ≡ c.columns → condition ≡ c.condition → first ≡ r.columns → second ≡ r.columns → rows ≡ r.rows → slice ≡ kept
+    → rows_values places kept ≡ filter (meets first condition) (rows_values places rows) → IfOk answer (λ new. new ≡ projected_cells names second slice)
+    → IfOk answer (λ new. relation_values places new ≡ selected c (relation_values places r))
+projected_answer places c r first second names condition rows kept slice (Ok new) some n m f s w t k e =
+    projected_is places c r new kept (ap (λ (ns : List (List ℕ)). length ns == 0) (sym n) ∙ some)
+    (k ∙ ap (λ cs. filter (meets cs condition) (rows_values places rows)) f ∙ ap (λ o. filter (meets r.columns o) (rows_values places rows)) m
+    ∙ ap (λ rs. filter (meets r.columns c.condition) (rows_values places rs)) w)
+    (e ∙ ap (λ cs. projected_cells names cs slice) s ∙ ap (λ ks. projected_cells names r.columns ks) t ∙ ap (λ ns. projected_cells ns r.columns kept) n)
+projected_answer places c r first second names condition rows kept slice (Err kind) some n m f s w t k e = e
+
+nulls_values : (places : List Place) (n : ℕ) → row_values places (replicate n cell.Null) ≡ replicate n value.Null
+nulls_values places zero = refl
+nulls_values places (suc n) = ap (λ vs. value.Null ∷ vs) (nulls_values places n)
+
+row_with_nulls : (places : List Place) (row : List ValueRef) (n : ℕ) → row_values places (row ++ replicate n cell.Null) ≡ row_values places row ++ replicate n value.Null
+row_with_nulls places row n = map-append (value_of_cell places) row (replicate n cell.Null) ∙ ap (λ vs. row_values places row ++ vs) (nulls_values places n)
+
+-- no pair was added where the rows are as many as before
+none_added : (places : List Place) (old mid : List (List ValueRef)) (pairs : List (List Value)) → length mid ≡ length old → rows_values places mid ≡ rows_values places old ++ pairs → pairs ≡ []
+none_added places old mid [] h e = refl
+none_added places old mid (p ∷ ps) h e =
+    absurd (omega (arith, h, sym (length-map mid (row_values places)) ∙ ap length e ∙ length-append (rows_values places old) (p ∷ ps), length-map old (row_values places)))
+
+pub nulls_added : (kind : JoinKind) (places : List Place) (old mid new : List (List ValueRef)) (row cells : List ValueRef) (n : ℕ) (pairs : List (List Value)) → is_left kind ≡ true → length mid ≡ length old
+    → rows_values places mid ≡ rows_values places old ++ pairs → cells ≡ row ++ replicate n cell.Null → new ≡ mid ++ cells ∷ []
+    → rows_values places new ≡ rows_values places old ++ or_nulls kind (row_values places row) n pairs
+nulls_added Inner places old mid new row cells n pairs t h e w a = cc
+nulls_added Left places old mid new row cells n pairs t h e w a =
+    let none : pairs ≡ [] = none_added places old mid pairs h e in
+    ap (rows_values places) a ∙ map-append (row_values places) mid (cells ∷ [])
+    ∙ ap (λ rs. rs ++ row_values places cells ∷ []) (e ∙ ap (λ ps. rows_values places old ++ ps) none ∙ append-nil (rows_values places old))
+    ∙ rw none (ap (λ r. rows_values places old ++ r ∷ []) (ap (row_values places) w ∙ row_with_nulls places row n))
+
+some_stay : (row : List Value) (n : ℕ) (pairs : List (List Value)) → (pairs ≡ [] → ⊥) → or_nulls Left row n pairs ≡ pairs
+some_stay row n [] h = absurd (h refl)
+some_stay row n (p ∷ ps) h = refl
+
+pub pairs_stay : (kind : JoinKind) (places : List Place) (old mid : List (List ValueRef)) (row : List ValueRef) (n : ℕ) (pairs : List (List Value)) → (is_left kind ≡ true → length mid ≢ length old)
+    → rows_values places mid ≡ rows_values places old ++ pairs → rows_values places mid ≡ rows_values places old ++ or_nulls kind (row_values places row) n pairs
+pairs_stay Inner places old mid row n pairs h e = e
+pairs_stay Left places old mid row n pairs h e =
+    e ∙ ap (λ ps. rows_values places old ++ ps) (sym (some_stay (row_values places row) n pairs
+    (λ none. h refl (sym (length-map mid (row_values places)) ∙ ap length (e ∙ ap (λ ps. rows_values places old ++ ps) none ∙ append-nil (rows_values places old)) ∙ length-map old (row_values places)))))
+
+-- without a condition each row is kept
+pub all_kept : (columns : List ColumnDef) (rows : List (List Value)) → rows ≡ filter (meets columns None) rows
+all_kept columns [] = refl
+all_kept columns (row ∷ rows) = ap (λ (kept : List (List Value)). row ∷ kept) (all_kept columns rows)

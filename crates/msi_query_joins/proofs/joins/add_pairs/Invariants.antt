@@ -1,0 +1,12 @@
+use Rattle.std.proofs.Common.{◌≡◌, ◌++◌, take}
+use Rattle.msi_table_values.specs.CellValues.{row_values}
+use Rattle.msi_query_expressions.specs.Conditions.{meets}
+use Rattle.msi_query_joins.specs.Rows.{rows_values}
+use Rattle.msi_query_joins.specs.Selection.{pairs_of}
+use Rattle.msi_query_joins.proofs.joins.add_pairs.Given as goal
+
+abbrev pub invariant-loop-other : goal.invariant-loop-other
+invariant-loop-other l = record {
+  rows : rows_values l.pool.places l.rows.items ≡ rows_values l.pool.places l.initial.rows.items
+      ++ pairs_of (meets l.filter.columns l.filter.condition) (rows_values l.pool.places (take l.other-index l.right)) (row_values l.pool.places l.row);
+}

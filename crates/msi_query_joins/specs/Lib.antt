@@ -1,0 +1,3 @@
+-- The words of this crate.
+pub mod Selection
+pub mod Rows

@@ -1,0 +1,6 @@
+//! What the crates above need.
+
+pub use crate::indexed::most_places;
+pub use crate::joined::JoinedTexts;
+pub use crate::kept::KeptPlaces;
+pub use crate::places::{MAX_PLACES, MAX_SHORT_PLACES, Place, are_written};

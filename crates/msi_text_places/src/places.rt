@@ -1,0 +1,204 @@
+//! The places of the pool.
+
+ghost use Rattle.std.specs.Prelude.{◌≡◌, ◌+◌, ◌-◌, ◌<◌, ◌^◌, ◌∷◌, ◌++◌, [], IfOk, OnOk, OnErr, Some, length, set};
+ghost use Rattle.std.specs.Prelude.{slice_get, vec_len, IsTrue, ◌↔◌};
+ghost use Rattle.msi_text_pool_base.specs.Pool.{forgotten, without_unnamed_texts, PlacesWritten};
+ghost use Rattle.msi_text_base.specs.Results.{OnlyMemory};
+
+use crate::shared::SharedText;
+use msi_text_base::errors::Error;
+use msi_text_pool_base::parts::Operations;
+use std::alloc::{AllocError, Global};
+use std::marker::Model;
+
+/// How many places a pool may have: as many as long references can name.
+pub const MAX_PLACES: usize = 16_777_215;
+
+/// How many places short references can name; a pool with short references grows to no more.
+pub const MAX_SHORT_PLACES: usize = 65_535;
+
+/// A text of the pool with the number of cells that name it.
+#[derive(Drop)]
+pub struct Place {
+    text: SharedText,
+    count: u16,
+}
+
+impl Model for Place {
+    ghost use Rattle.msi_text_pool_base.specs.Pool as pools;
+
+    ghost Value = { pools.Place };
+
+    ghost view = { λ p. record { text = p.text; count = p.count } };
+}
+
+impl Place {
+    /// A place of this text that so many cells name.
+    pub(crate) fn new(text: SharedText, count: u16) -> Place
+        ensures { result ≡ record { text = text; count = count } }
+    {
+        Place { text, count }
+    }
+
+    /// The text.
+    pub fn text(&self) -> &str
+        ensures { result.now ≡ self.now.text }
+    {
+        self.text.as_str()
+    }
+
+    /// The text once more, which takes no memory for its bytes where it is shared.
+    pub(crate) fn shared_text(&self) -> Result<SharedText, Error>
+        ensures ok { IfOk result (λ text. text ≡ self.now.text) }
+        ensures kind { OnlyMemory result }
+    {
+        Ok(self.text.clone()?)
+    }
+
+    /// How many cells name the place.
+    pub fn count(&self) -> u16
+        ensures { result ≡ self.now.count }
+    {
+        self.count
+    }
+}
+
+/// The same place once more.
+impl Clone for Place {
+    ghost is_clone = { λ place copy. copy ≡ place };
+
+    fn clone(&self) -> Result<Place, AllocError> {
+        Ok(Place {
+            text: self.text.clone()?,
+            count: self.count,
+        })
+    }
+}
+
+/// The places, from number 1 on. Contracts see their list.
+#[derive(Drop)]
+pub struct Places {
+    items: Vec<Place>,
+}
+
+impl Model for Places {
+    ghost use Rattle.std.specs.Prelude.{List};
+    ghost use Rattle.msi_text_pool_base.specs.Pool as pools;
+
+    ghost Value = { List pools.Place };
+
+    ghost view = { λ p. p.items.items };
+}
+
+impl Places {
+    /// The places of a vector, which is moved in.
+    pub(crate) fn from_vec(items: Vec<Place>) -> Places
+        ensures { result ≡ items.items }
+    {
+        Places { items }
+    }
+
+    /// The same places once more. The only error is `OutOfMemory`.
+    pub(crate) fn clone(&self) -> Result<Places, Error>
+        ensures ok { IfOk result (λ places. places ≡ self.now) }
+        ensures kind { OnlyMemory result }
+    {
+        Ok(Places {
+            items: self.items.clone()?,
+        })
+    }
+
+    /// The places, borrowed.
+    pub(crate) fn as_slice(&self) -> &[Place]
+        ensures { result.now ≡ self.now }
+    {
+        self.items.as_slice()
+    }
+
+    /// The allocator that the places keep.
+    pub(crate) fn allocator(&self) -> Global {
+        *self.items.allocator()
+    }
+
+    /// A place, counted from 0.
+    pub(crate) fn get(&self, at: usize, operations: &mut Operations) -> &Place
+        requires place { at < length self.now }
+        requires operations { operations.old + 1 < 2 ^ 32 }
+        ensures place { slice_get self.now at ≡ Some result.now }
+        ensures operation { operations.new ≡ operations.old + 1 }
+    {
+        operations.add_one();
+        &self.items[at]
+    }
+
+    /// Puts a place in the place of another.
+    pub(crate) fn set(&mut self, at: usize, place: Place, operations: &mut Operations)
+        requires place { at < length self.old }
+        requires operations { operations.old + 1 < 2 ^ 32 }
+        ensures places { self.new ≡ set self.old at place }
+        ensures operation { operations.new ≡ operations.old + 1 }
+    {
+        operations.add_one();
+        self.items[at] = place;
+    }
+
+    /// Puts a place behind the last. The only error is `OutOfMemory`.
+    pub(crate) fn push(&mut self, place: Place, operations: &mut Operations) -> Result<(), Error>
+        requires { operations.old + 1 < 2 ^ 32 }
+        ensures ok { OnOk result (self.new ≡ self.old ++ place ∷ []) }
+        ensures err { OnErr result (self.new ≡ self.old) }
+        ensures kind { OnlyMemory result }
+        ensures operation { operations.new ≡ operations.old + 1 }
+    {
+        operations.add_one();
+        self.items.push(place)?;
+        Ok(())
+    }
+
+    /// Empties the texts of free places that aren't named.
+    pub(crate) fn forget_texts(&mut self, is_named: &[bool])
+        requires { length is_named.now ≡ length self.old }
+        ensures { self.new ≡ without_unnamed_texts is_named.now self.old }
+    {
+        forget_texts(&mut self.items, is_named);
+    }
+}
+
+/// Empties the text of a place that is free and isn't named.
+fn forget_text(place: &mut Place, named: bool, alloc: Global)
+    ensures { place.new ≡ forgotten named place.old }
+{
+    if place.count == 0 && !named {
+        place.text = SharedText::empty(alloc);
+    }
+}
+
+/// Empties the texts of free places that aren't named.
+fn forget_texts(places: &mut Vec<Place>, is_named: &[bool])
+    requires { length is_named.now ≡ vec_len places.old }
+    ensures items { places.new.items ≡ without_unnamed_texts is_named.now places.old.items }
+    ensures len { vec_len places.new ≡ vec_len places.old }
+{
+    let alloc = *places.allocator();
+    for (i, named) in is_named.iter().enumerate() {
+        forget_text(&mut places[i], *named, alloc);
+    }
+}
+
+/// Whether a place is in use or has the empty text.
+fn is_written(place: &Place) -> bool
+    ensures { IsTrue result ↔ (place.now.count ≡ 0 → place.now.text ≡ []) }
+{
+    place.count > 0 || place.text().is_empty()
+}
+
+/// Whether each free place has the empty text.
+pub fn are_written(places: &[Place]) -> bool
+    ensures { IsTrue result ↔ PlacesWritten places.now }
+{
+    let mut all = true;
+    for place in places {
+        all &= is_written(place);
+    }
+    all
+}

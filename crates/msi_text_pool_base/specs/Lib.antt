@@ -1,0 +1,4 @@
+-- The words of this crate.
+pub mod Pool
+pub mod PoolReading
+pub mod PoolIndexes

@@ -1,0 +1,80 @@
+//! The entries of the pool's stream, of which each tells of a place.
+
+ghost use Rattle.std.specs.Prelude.{◌≡◌, ◌⊎◌, List, IfOk, IfErr, Some};
+ghost use Rattle.msi_text_base.specs.Results.{Gives};
+ghost use Rattle.msi_text_base.specs.declared.errors.ErrorKind.TheVariants.{InvalidData, OutOfMemory};
+ghost use Rattle.msi_text_pool_base.specs.Pool as pools;
+ghost use Rattle.msi_text_pool_base.specs.Pool.{SpellsEntries};
+ghost use Rattle.msi_text_pool_base.specs.PoolReading.{entry_at};
+
+use crate::reasons;
+use msi_text_base::errors::Error;
+use msi_text_base::fields::{u16_at, u32_at};
+use std::alloc::Global;
+use std::marker::Model;
+
+/// An entry of the pool's stream: how many bytes its text has in the data stream, and how many cells name the place.
+#[derive(Drop)]
+pub struct Entry {
+    len: u32,
+    count: u16,
+}
+
+impl Model for Entry {
+    ghost use Rattle.msi_text_pool_base.specs.Pool as pools;
+
+    ghost Value = { pools.Entry };
+
+    ghost view = { λ e. record { len = e.len; count = e.count } };
+}
+
+impl Entry {
+    /// Returns how many bytes the text has.
+    pub fn len(&self) -> u32
+        ensures { result ≡ self.now.len }
+    {
+        self.len
+    }
+
+    /// Returns how many cells name the place.
+    pub fn count(&self) -> u16
+        ensures { result ≡ self.now.count }
+    {
+        self.count
+    }
+}
+
+/// Returns the entries that the bytes encode, of which each has at least four.
+///
+/// # Errors
+/// Fails with `InvalidData` if an entry is cut, and otherwise with `OutOfMemory`.
+pub fn entries_of(alloc: Global, bytes: &[u8]) -> Result<Vec<Entry>, Error>
+    ensures found { IfOk result (λ entries. SpellsEntries bytes.now entries.items) }
+    ensures only { (entries : List pools.Entry)
+        → SpellsEntries bytes.now entries → Gives (λ v. v.items) result (Some entries) }
+    ensures kinds { IfErr result (λ kind. (kind ≡ InvalidData) ⊎ (kind ≡ OutOfMemory)) }
+{
+    let mut entries = Vec::with_capacity(alloc, bytes.len() / 4)?;
+    let mut rest = bytes;
+    while rest.len() >= 2 {
+        let (entry, after) = entry_of(rest)?;
+        entries.push(entry)?;
+        rest = after;
+    }
+    Ok(entries)
+}
+
+/// The entry in front, and the bytes after it.
+#[tactic(auto, unfolding(crate::specs::PoolReading::entry_at))]
+fn entry_of(bytes: &[u8]) -> Result<(Entry, &[u8]), Error>
+    ensures { Gives (λ x. (x.0, x.1.now)) result (entry_at bytes.now) }
+{
+    let (short, rest) = u16_at(bytes, reasons::POOL_CUT)?;
+    let (count, rest) = u16_at(rest, reasons::POOL_CUT)?;
+    if short > 0 || count == 0 {
+        let len = short as u32;
+        return Ok((Entry { len, count }, rest));
+    }
+    let (len, rest) = u32_at(rest, reasons::POOL_CUT)?;
+    Ok((Entry { len, count }, rest))
+}

@@ -1,0 +1,10 @@
+//! The base of the string pool: the entries of its stream, how many bytes its texts take, which of its places are free,
+//! and how many operations a call makes on places.
+#![tactic(auto)]
+
+mod entries;
+mod free;
+mod lengths;
+mod operations;
+pub mod parts;
+pub mod reasons;
