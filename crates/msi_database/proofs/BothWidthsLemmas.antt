@@ -1,6 +1,7 @@
 -- A change of a table's rows that widens references where it has to: what is stored over which database.
-use Rattle.std.proofs.Common.{◌≡◌, ℕ, ◌≤◌, Bool, true, false, not, ◌&&◌, ◌||◌, List, [], ◌∷◌, length, map, nat_lt, Option, Some, None, unwrap_or, Result, Ok, Err, refl, sym, ap, subst, ◌∙◌, arith, inl}
+use Rattle.std.proofs.Common.{◌≡◌, ℕ, ◌≤◌, Bool, true, false, not, ◌&&◌, ◌||◌, List, [], ◌∷◌, length, map, nat_lt, Option, Some, None, Result, Ok, refl, sym, ap, subst, ◌∙◌, arith, inl}
 use Rattle.std.specs.Prelude.{if◌then◌else◌}
+use Rattle.std.proofs.lemmas.Bool.{true≢false}
 use Rattle.std.proofs.lemmas.Bool.Decides.{nat_tests}
 use Rattle.msi_text_base.specs.declared.errors.ErrorKind.{ErrorKind}
 use Rattle.msi_text_places.specs.FirstFit.{most_places}
@@ -13,10 +14,9 @@ use Rattle.msi_table_values.specs.Fitting.{FitsTable}
 use Rattle.msi_table.specs.Tables.{TableDef}
 use Rattle.msi_database_schema.specs.Keys.{table_key}
 use Rattle.msi_database_cells.specs.Texts.{PoolInUse, UsedPool, in_use, settled}
-use Rattle.msi_database_cells.specs.Texts as texts
-use Rattle.msi_database_changes.specs.Database.{Database, Tables, columns_by_name, is_sound}
+use Rattle.msi_database_changes.specs.Database.{Database, Tables, is_sound}
 use Rattle.msi_database_changes.specs.Changes.{Change, no_change, with_stored}
-use Rattle.msi_database_changes.specs.Widening.{needs_three_bytes, widened, widening, widens}
+use Rattle.msi_database_changes.specs.Widening.{needs_three_bytes, widened, widening}
 use Rattle.msi_database_changes.proofs.AtWidthLemmas.{IsChangeAtWidth, sound_widened}
 use Rattle.msi_database_changes.proofs.LawLemmas.{changes_keep_soundness}
 use Rattle.msi_database_storage.specs.declared.storing.Stored.{Stored}
@@ -150,7 +150,7 @@ module _ (k : Kept) (kept : IsKeptDatabase k) (sound : is_sound k.database ≡ t
 
   -- a change that may widen references
   anew_by : (l m : Bool) → d.pool.long ≡ l → many ≡ m → Anew (widening change d)
-  anew_by true m is_long is_many = same_anew (widening change d) (widens_is true m is_long is_many) (enough true m (λ e. absurd cc) is_long is_many) (settled_is true m is_long is_many ∙ sym is_long) (wide_is true m is_long is_many)
+  anew_by true m is_long is_many = same_anew (widening change d) (widens_is true m is_long is_many) (enough true m (λ e. absurd (true≢false e)) is_long is_many) (settled_is true m is_long is_many ∙ sym is_long) (wide_is true m is_long is_many)
   anew_by false true is_long is_many = wide_anew is_long is_many
   anew_by false false is_long is_many =
       same_anew (widening change d) (widens_is false false is_long is_many) (enough false false (λ e. refl) is_long is_many) (settled_is false false is_long is_many ∙ sym is_long) (wide_is false false is_long is_many)

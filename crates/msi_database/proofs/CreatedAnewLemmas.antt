@@ -21,8 +21,8 @@ use Rattle.msi_database_schema.specs.System.{columns_name, tables_name, validati
 use Rattle.msi_database_cells.specs.Texts.{PoolInUse, UsedPool, in_use, rows_put, settled}
 use Rattle.msi_database_cells.proofs.NarrowLemmas.{rows_put_grows}
 use Rattle.msi_database_changes.specs.Database.{Database, is_sound, rows_of, table_at}
-use Rattle.msi_database_changes.specs.Changes.{Change, no_change, pool_of, sound_refusal}
-use Rattle.msi_database_changes.specs.Widening.{widened, widening}
+use Rattle.msi_database_changes.specs.Changes.{no_change, pool_of}
+use Rattle.msi_database_changes.specs.Widening.{widened}
 use Rattle.msi_database_changes.specs.Create.{create_at_width, create_table, table_refusals}
 use Rattle.msi_database_changes.specs.Insert.{cells_added, row_refusals, table_with}
 use Rattle.msi_database_changes.proofs.AtWidthLemmas.{created, sound_widened}
@@ -401,7 +401,7 @@ module _ (k : Kept) (name : List ℕ) (columns : List ColumnDef) (rows : SystemR
       (with_table_kept (new_table (base_with (wide_for used k) k).database name columns) (tables_listed (base_with (wide_for used k) k).database)) es) (sym is.stored) left.makes)))
 
   pub told_with : TellsUse (create_table k.database name columns) is_used
-  told_with = subst (TellsUse (create_table k.database name columns)) (sym is.used) left.uses
+  told_with = subst (TellsUse (create_table k.database name columns)) (sym is.uses) left.uses
 
   pub named_with : HaveOwnNames es
   named_with = subst HaveOwnNames (sym is.stored) left.names

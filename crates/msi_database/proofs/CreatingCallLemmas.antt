@@ -1,14 +1,13 @@
 -- Creating a table: the streams that a call makes one by one are what the change leaves, and what refuses them refuses the change.
-use Rattle.std.proofs.Common.{◌≡◌, ℕ, ◌≤◌, Bool, true, false, List, [], ◌∷◌, ◌++◌, length, Option, Some, None, Result, Ok, Err, refl, sym, ap, subst, ◌∙◌, inl, inr}
+use Rattle.std.proofs.Common.{◌≡◌, ℕ, true, List, [], ◌∷◌, ◌++◌, Option, Some, None, Result, Ok, Err, refl, sym, ap, subst, ◌∙◌, inl, inr}
 use Rattle.std.specs.Prelude.{option_map, IfOk, OnOk}
 use Rattle.msi_text_base.specs.declared.errors.ErrorKind.{ErrorKind}
 use Rattle.msi_text_base.specs.declared.errors.ErrorKind.TheVariants.{InvalidInput, NotFound}
 use Rattle.msi_text_pool_base.specs.Pool.{Pool}
 use Rattle.msi_table_values.specs.declared.value.Value.{Value}
 use Rattle.msi_table_values.specs.declared.value.ValueRef.{ValueRef}
-use Rattle.msi_table_values.specs.Columns.{ColumnDef, types_of}
-use Rattle.msi_table.specs.Tables.{TableDef, CanStore}
-use Rattle.msi_table_values.specs.Fitting.{FitsTable}
+use Rattle.msi_table_values.specs.Columns.{ColumnDef}
+use Rattle.msi_table.specs.Tables.{TableDef}
 use Rattle.msi_text.specs.Refusals.{IsRefusal, first_refusal, or_refused, unless, unless_refused, ◌>>=◌}
 use Rattle.msi_query_joins.specs.Rows.{TableCells}
 use Rattle.msi_database_schema.specs.Description.{column_rows, tables_row, validation_rows}
@@ -16,9 +15,9 @@ use Rattle.msi_database_schema.specs.Keys.{table_key}
 use Rattle.msi_database_schema.specs.System.{tables_name, columns_name, validation_name}
 use Rattle.msi_database_changes.specs.Database.{Database, is_sound, table_at, rows_of}
 use Rattle.msi_database_changes.specs.Changes.{Change, no_change, pool_of, sound_refusal, with_stored}
-use Rattle.msi_database_cells.specs.Texts.{PoolInUse, UsedPool, in_use}
+use Rattle.msi_database_cells.specs.Texts.{PoolInUse}
 use Rattle.msi_database_changes.specs.Create.{create_at_width, table_refusals, with_new_table}
-use Rattle.msi_database_changes.specs.Insert.{cells_added, row_refusals, rows_inserted, table_with}
+use Rattle.msi_database_changes.specs.Insert.{cells_added, row_refusals, rows_inserted}
 use Rattle.msi_database_changes.proofs.AtWidthLemmas.{created}
 use Rattle.msi_database_changes.proofs.RefusedLemmas.{bind_ok, first_refused, not_refused, same_Ok, value_there}
 use Rattle.msi_database_changes.proofs.TurnLemmas.{map_some}
@@ -28,17 +27,17 @@ use Rattle.msi_database_storage.specs.Storing.{HaveOwnNames, tables_stored}
 use Rattle.msi_database_storage.specs.Streams.{Streams, stream_of_rows}
 use Rattle.msi_database.specs.Creating.{new_table, stream_gone}
 use Rattle.msi_database.specs.Keeping.{AreKept, IsKeptDatabase}
-use Rattle.msi_database.specs.Listed.{IsKnown, tables_listed}
+use Rattle.msi_database.specs.Listed.{tables_listed}
 use Rattle.msi_database.specs.Making.{TellsUse}
 use Rattle.msi_database.proofs.MakesAtLemmas.{MakesAt}
 use Rattle.msi_database.proofs.BothWidthsLemmas.{own_parts}
 use Rattle.msi_database.proofs.ChainLemmas.{create_by_steps, stays_at, third}
-use Rattle.msi_database.proofs.ComesLemmas.{describes, regular}
+use Rattle.msi_database.proofs.ComesLemmas.{describes}
 use Rattle.msi_database.proofs.EditLemmas.{created_stored}
 use Rattle.msi_database.proofs.FinishLemmas.{known_sound}
-use Rattle.msi_database.proofs.MadeLemmas.{found, goes_on, inserted_by_cells}
+use Rattle.msi_database.proofs.MadeLemmas.{inserted_by_cells}
 use Rattle.msi_database.proofs.OwnNamesLemmas.{change_own_names, created_apart}
-use Rattle.msi_database.proofs.RefusedCallLemmas.{cells_full, create_barred, create_first_refused, create_second_refused, create_third_refused, inserted_misfit, inserted_missing, option_refused}
+use Rattle.msi_database.proofs.RefusedCallLemmas.{cells_full, create_first_refused, create_second_refused, create_third_refused, inserted_misfit, inserted_missing}
 use Rattle.msi_database.proofs.TableCallLemmas.{create_makes}
 use Rattle.msi_database.proofs.TablesKeptLemmas.{listed_kept}
 

@@ -15,7 +15,7 @@ use Rattle.msi_database_changes.specs.Database.{is_sound, columns_by_name}
 use Rattle.msi_database_storage.specs.declared.storing.Stored.{Stored}
 use Rattle.msi_database_storage.specs.Storing.{HaveOwnNames, stored_all, stored_in}
 use Rattle.msi_database_storage.specs.Streams.{Streams}
-use Rattle.msi_database_storage.specs.Kept.{AreAsLong, Kept, database_kept, kept_of, schema_listed}
+use Rattle.msi_database_storage.specs.Kept.{AreAsLong, Kept, schema_listed}
 use Rattle.msi_database.specs.Keeping.{AreParts, IsKeptDatabase}
 use Rattle.msi_database.specs.Fresh.{fresh, fresh_change}
 use Rattle.msi_database.specs.FreshParts.{columns_table, fresh_pool, fresh_stored, tables_table, validation_table}

@@ -53,6 +53,7 @@ pub mod FreshKeptLemmas
 pub mod UpdateCallLemmas
 pub mod WideningLemmas
 pub mod WideningCallLemmas
+pub mod AnewCallLemmas
 pub mod BothWidthsLemmas
 pub mod WideRefusalLemmas
 pub mod MakesAtLemmas

@@ -1,6 +1,7 @@
 -- A change of tables that widens references where it has to: what is stored over which database.
-use Rattle.std.proofs.Common.{◌≡◌, ℕ, ◌≤◌, Bool, true, false, not, ◌&&◌, ◌||◌, List, length, nat_lt, Option, Some, None, Result, Ok, Err, refl, sym, ap, subst, ◌∙◌, arith}
+use Rattle.std.proofs.Common.{◌≡◌, ◌≤◌, Bool, true, false, not, ◌&&◌, ◌||◌, List, length, nat_lt, Option, Some, None, Result, Ok, Err, refl, sym, ap, subst, ◌∙◌, arith}
 use Rattle.std.specs.Prelude.{if◌then◌else◌}
+use Rattle.std.proofs.lemmas.Bool.{true≢false}
 use Rattle.std.proofs.lemmas.Bool.Decides.{nat_tests}
 use Rattle.msi_text_base.specs.declared.errors.ErrorKind.{ErrorKind}
 use Rattle.msi_text_places.specs.FirstFit.{most_places}
@@ -12,7 +13,7 @@ use Rattle.msi_database_changes.specs.Changes.{Change}
 use Rattle.msi_database_changes.specs.Widening.{needs_three_bytes, widened, widening}
 use Rattle.msi_database_storage.specs.declared.storing.Stored.{Stored}
 use Rattle.msi_database_storage.specs.Storing.{stored_in}
-use Rattle.msi_database_storage.specs.Kept.{Kept, after_change, kept_widened, with_change}
+use Rattle.msi_database_storage.specs.Kept.{Kept, kept_widened, with_change}
 use Rattle.msi_database.specs.Keeping.{AreParts}
 use Rattle.msi_database.specs.Making.{Makes, TellsUse, base_with, wide_for}
 use Rattle.msi_database.proofs.KeepingLemmas.{same_base, wide_base}
@@ -116,7 +117,7 @@ module _ (k : Kept) (sound : is_sound k.database ≡ true) (change : Database �
       }
 
   anew_by : (l m : Bool) → d.pool.long ≡ l → many ≡ m → Anew
-  anew_by true m is_long is_many = same_anew (widens_is true m is_long is_many) (enough true m (λ e. absurd cc) is_long is_many) (settled_is true m is_long is_many ∙ sym is_long) (wide_is true m is_long is_many)
+  anew_by true m is_long is_many = same_anew (widens_is true m is_long is_many) (enough true m (λ e. absurd (true≢false e)) is_long is_many) (settled_is true m is_long is_many ∙ sym is_long) (wide_is true m is_long is_many)
   anew_by false true is_long is_many = wide_anew is_long is_many
   anew_by false false is_long is_many = same_anew (widens_is false false is_long is_many) (enough false false (λ e. refl) is_long is_many) (settled_is false false is_long is_many ∙ sym is_long) (wide_is false false is_long is_many)
 

@@ -4,7 +4,6 @@ use Rattle.std.specs.Prelude.{MatchOption}
 use Rattle.std.proofs.lemmas.Option.{same_Some}
 use Rattle.std.proofs.lemmas.Bool.{leb-true}
 use Rattle.msi_text_base.specs.declared.errors.ErrorKind.{ErrorKind}
-use Rattle.msi_text_base.specs.declared.errors.ErrorKind.TheVariants.{InvalidInput}
 use Rattle.msi_text_places.specs.FirstFit.{most_places}
 use Rattle.msi_text_pool_base.specs.Pool.{Place, Pool}
 use Rattle.msi_table_values.specs.declared.value.ValueRef.{ValueRef}
@@ -195,7 +194,7 @@ module _ (k : Kept) (kept : IsKeptDatabase k) (sound : is_sound k.database ≡ t
     makes = λ wide stored new is_used anew.
         subst (λ (w : Option Kept). MakesRows k r (base_with w k) new stored) (sym anew.base)
         (subst (λ (p : Pool). MakesRows k r (base_with (wide_for after k) k) p stored) (sym anew.pool) (makes stored (anew.name ∙ ap table_key is_known.named) anew.bytes));
-    uses = λ wide stored new is_used anew. subst (TellsUse r) (sym anew.used) uses;
+    uses = λ wide stored new is_used anew. subst (TellsUse r) (sym anew.uses) uses;
   }
 
   may_widen : (change : Database → Result Change ErrorKind) → ((d : Database) (c : Change) → change d ≡ Ok c → IsChangeAtWidth d c) → RowsBecome change d name t.columns rows after → Made (widening change d)

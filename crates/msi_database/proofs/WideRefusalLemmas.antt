@@ -1,5 +1,5 @@
 -- What refuses a change with references of three bytes refuses one that may widen them.
-use Rattle.std.proofs.Common.{◌≡◌, Bool, true, false, not, ◌&&◌, Option, Some, None, option_map, Result, Ok, Err, refl, sym, ap, subst, ◌∙◌, inl, inr}
+use Rattle.std.proofs.Common.{◌≡◌, Bool, true, false, not, ◌&&◌, Option, Some, None, option_map, Result, Err, refl, sym, ap, subst, ◌∙◌, inl, inr}
 use Rattle.std.specs.Prelude.{if◌then◌else◌}
 use Rattle.std.proofs.lemmas.Option.{none-some}
 use Rattle.msi_text_base.specs.declared.errors.ErrorKind.{ErrorKind}
@@ -12,7 +12,7 @@ use Rattle.msi_database_cells.specs.Texts.{UsedPool}
 use Rattle.msi_database_changes.specs.Database.{Database, is_sound, table_at}
 use Rattle.msi_database_changes.specs.Changes.{Change}
 use Rattle.msi_database_changes.specs.Widening.{needs_three_bytes, widened, widening}
-use Rattle.msi_database.specs.Listed.{IsKnown, table_def_at}
+use Rattle.msi_database.specs.Listed.{IsKnown}
 
 -- what a call knows, of the widened database
 abbrev pub long_pool : Pool → Pool

@@ -1,7 +1,16 @@
 -- The steps by which a database with wider references is made, table by table.
-use Rattle.std.proofs.Common.{◌≡◌, ℕ, ◌+◌, ◌<◌, Bool, true, List, [], ◌∷◌, ◌++◌, length, map, take, fold, get_or, Option, Some, None, option_map, refl, sym, ap, ◌∙◌, subst, arith}
-use Rattle.std.specs.FinMap.{find}
-use Rattle.std.proofs.lemmas.List.{get_or-map, length-map, take_more, take-length}
+use Rattle.std.proofs.Common.{◌≡◌, ℕ, ◌+◌, ◌<◌, Bool, true, false, ◌==◌, Result, Ok, Err, inl, inr, List, [], ◌∷◌, ◌++◌, length, map, take, fold, get_or, Some, None, option_map, refl, sym, ap, ◌∙◌, subst}
+use Rattle.std.specs.Prelude.{MatchBool, if◌then◌else◌}
+use Rattle.std.specs.FinMap.{entries, entries-insert, find, insert}
+use Rattle.msi_container_format.specs.Streams as maps
+use Rattle.msi_container_format.proofs.NamesLemmas.{names_total as key_names_total}
+use Rattle.msi_text_base.specs.declared.errors.ErrorKind.{ErrorKind}
+use Rattle.msi_text_base.specs.declared.errors.ErrorKind.TheVariants.{InvalidData, OutOfMemory}
+use Rattle.msi_text.specs.Refusals.{IsRefusal, or_refused}
+use Rattle.msi_table.specs.Cells.{table_bytes}
+use Rattle.msi_database_schema.specs.System.{validation_columns, validation_name}
+use Rattle.std.proofs.lemmas.List.{get_or-map, length-map, take_more}
+use Rattle.std.proofs.Math.Seq.{take-length}
 use Rattle.std.proofs.lemmas.Option.{same_Some}
 use Rattle.msi_text_base.specs.Lists.{list_cmp}
 use Rattle.msi_table_values.specs.declared.value.ValueRef.{ValueRef}
@@ -13,20 +22,20 @@ use Rattle.msi_table_values.specs.Fitting.{FitsTable}
 use Rattle.msi_query_joins.specs.Rows.{TableCells}
 use Rattle.msi_container_format.specs.Names.{is_name_length}
 use Rattle.msi_database_schema.specs.Keys.{is_table_name, table_key}
-use Rattle.msi_database_changes.specs.Database.{Database, Tables, is_sound, table_at}
+use Rattle.msi_database_changes.specs.Database.{Database, Tables, has_table, is_sound, table_at}
 use Rattle.msi_database_changes.specs.Insert.{table_with}
-use Rattle.msi_database_storage.specs.Streams.{Streams}
+use Rattle.msi_database_storage.specs.Streams.{Streams, stored_rows, with_stream}
 use Rattle.msi_database_changes.specs.Widening.{widened}
 use Rattle.msi_database_storage.specs.Kept.{AreAsLong, Kept, kept_widened, schema_listed}
-use Rattle.msi_database_storage.specs.Widening.{streams_widened, with_long_rows}
+use Rattle.msi_database_storage.specs.Widening.{streams_widened, unlisted_table, with_long_rows}
 use Rattle.msi_database.specs.Keeping.{AreParts, IsKeptDatabase}
 use Rattle.msi_database.specs.Listed.{table_def_at, tables_listed}
 use Rattle.msi_database.proofs.ComesLemmas.{regular}
-use Rattle.msi_database.proofs.KeyLemmas.{table_key_is_name}
+use Rattle.msi_database.proofs.KeyLemmas.{table_key_is_name, validation_accepted}
 use Rattle.msi_database.proofs.SoundLemmas.{sound_names}
 use Rattle.msi_database.proofs.StreamLemmas.{tables_found}
 use Rattle.msi_database.proofs.WideRefusalLemmas.{long_pool}
-use Rattle.msi_database.proofs.WideningLemmas.{widened_parts}
+use Rattle.msi_database.proofs.WideningLemmas.{unlisted_fits, widened_parts}
 
 fold_pushed : {A B : Type 0} (f : B → A → B) (b : B) (xs : List A) (x : A) → fold f b (xs ++ x ∷ []) ≡ f (fold f b xs) x
 fold_pushed f b [] x = refl
@@ -108,3 +117,54 @@ wide_parts k kept sound old old_is pool pool_is tables tables_are streams stream
     (subst (λ (ts : List TableDef). AreParts (kept_widened k) (widened k.database).pool ts streams) (sym tables_are)
     (subst (λ (s : Streams). AreParts (kept_widened k) (widened k.database).pool (map long_table_of (tables_listed k.database)) s) (sym streams_are)
     (widened_parts k kept sound (map long_table_of (tables_listed k.database)) (long_listed k.database.pool.long k.database.tables) (all_long (tables_listed k.database)))))
+
+-- ONE STREAM
+
+pub put_long : (m new : maps.Streams) (name : List ℕ) (columns : List ColumnDef) (rows : List (List ValueRef)) (key bytes : List ℕ) (b : Bool) → b ≡ (length rows == 0) → b ≡ false → new ≡ insert m key bytes → key ≡ table_key name
+    → bytes ≡ table_bytes true (types_of columns) rows → entries new ≡ with_long_rows (entries m) (name, table_with columns rows)
+put_long m new name columns rows key bytes b b_is some new_is key_is bytes_is =
+    ap entries new_is ∙ entries-insert key_names_total m key bytes
+    ∙ (λ i. with_stream (key_is i) (bytes_is i) (entries m))
+    ∙ (λ i. if (sym some ∙ b_is) i then entries m else with_stream (table_key name) (table_bytes true (types_of columns) rows) (entries m))
+
+-- THE STREAM OF `_Validation` THAT IS NO TABLE
+
+module _ (k : Kept) (kept : IsKeptDatabase k) where
+  pub unlisted_none : (b : Bool) → b ≡ has_table validation_name k.database → b ≡ true → (streams : Streams) → streams ≡ with_long_rows streams (unlisted_table k.database)
+  unlisted_none b b_is listed streams =
+      let none : k.database.unlisted_validation ≡ [] =
+      subst (λ b. MatchBool b (k.database.unlisted_validation ≡ []) (stored_rows k.streams k.database.pool.long validation_columns validation_name ≡ Some k.database.unlisted_validation)) (sym b_is ∙ listed) kept.spelled.unlisted in
+      ap (λ (rows : List (List ValueRef)). with_long_rows streams (validation_name, table_with validation_columns rows)) (sym none)
+
+  module _ (sound : is_sound k.database ≡ true) (b : Bool) (b_is : b ≡ has_table validation_name k.database) (unlisted : b ≡ false) (v : TableDef)
+      (v_is : v ≡ record { name = validation_name; columns = validation_columns; long = k.database.pool.long }) where
+    none : has_table validation_name k.database ≡ false
+    none = sym b_is ∙ unlisted
+
+    spelled_there : stored_rows k.streams v.long v.columns v.name ≡ Some k.database.unlisted_validation
+    spelled_there = ap (λ (v : TableDef). stored_rows k.streams v.long v.columns v.name) v_is
+        ∙ subst (λ b. MatchBool b (k.database.unlisted_validation ≡ []) (stored_rows k.streams k.database.pool.long validation_columns validation_name ≡ Some k.database.unlisted_validation)) none kept.spelled.unlisted
+
+    pub unlisted_memory : (streams : Streams) → streams ≡ k.streams → (kind : ErrorKind) → IsRefusal (or_refused InvalidData (stored_rows streams v.long v.columns v.name)) kind → kind ≡ OutOfMemory
+    unlisted_memory streams same kind (inl memory) = memory
+    unlisted_memory streams same kind (inr e) =
+        let there : or_refused InvalidData (stored_rows streams v.long v.columns v.name) ≡ Ok k.database.unlisted_validation =
+        ap (λ (s : Streams). or_refused InvalidData (stored_rows s v.long v.columns v.name)) same ∙ ap (or_refused InvalidData) spelled_there in
+        absurd (ok_err (sym there ∙ e))
+      where
+        ok_err : {A : Type 0} {x : A} {l : ErrorKind} → ◌≡◌ {A = Result A ErrorKind} (Ok x) (Err l) → ⊥
+        ok_err e = cc
+
+    pub unlisted_named : is_name_length (length (table_key v.name)) ≡ true
+    unlisted_named = ap (λ (v : TableDef). is_name_length (length (table_key v.name))) v_is ∙ table_key_is_name validation_name validation_accepted
+
+    module _ (streams : Streams) (same : streams ≡ k.streams) (rows : List (List ValueRef)) (rows_are : stored_rows streams v.long v.columns v.name ≡ Some rows) where
+      rows_here : rows ≡ k.database.unlisted_validation
+      rows_here = same_Some rows k.database.unlisted_validation (sym rows_are ∙ ap (λ (s : Streams). stored_rows s v.long v.columns v.name) same ∙ spelled_there)
+
+      pub unlisted_store : CanStore v rows
+      unlisted_store = subst (λ (v : TableDef). CanStore v rows) (sym v_is)
+          (subst (λ (rows : List (List ValueRef)). FitsTable k.database.pool.long (types_of validation_columns) rows) (sym rows_here) (unlisted_fits k kept sound none))
+
+      pub unlisted_is : (s : Streams) → with_long_rows s (v.name, table_with v.columns rows) ≡ with_long_rows s (unlisted_table k.database)
+      unlisted_is s = λ i. with_long_rows s ((v_is i).name, table_with (v_is i).columns (rows_here i))

@@ -1,38 +1,35 @@
 -- A database whose references widen: its tables' streams are spelled anew, and it is kept as before.
-use Rattle.std.proofs.Common.{◌≡◌, ◌≢◌, ℕ, suc, ◌+◌, ◌*◌, ◌/◌, ◌%◌, ◌<◌, ◌≤◌, Bool, true, false, cond, ◌==◌, List, [], ◌∷◌, length, map, fold, bytes_eq, Option, Some, None, unwrap_or, is_some, sum, refl, sym, ap, ◌∙◌, subst, arith, T, lit≤}
-use Rattle.std.specs.Prelude.{MatchBool, IsSomeAnd, IfSome, nat_le}
+use Rattle.std.proofs.Common.{◌≡◌, ◌≢◌, ℕ, suc, ◌+◌, ◌*◌, ◌/◌, ◌%◌, ◌<◌, ◌≤◌, Bool, true, false, cond, ◌==◌, List, [], ◌∷◌, length, fold, Option, Some, None, unwrap_or, is_some, sum, refl, sym, ap, ◌∙◌, subst, arith, lit≤}
+use Rattle.std.specs.Prelude.{MatchBool, IfSome, nat_le}
 use Rattle.std.specs.List.{AllByRecursion}
-use Rattle.std.specs.FinMap.{is_sorted}
 use Rattle.std.proofs.lemmas.Bool.{true≢false, ne_eqb}
 use Rattle.std.proofs.lemmas.Bool.Decides.{nat_tests}
 use Rattle.msi_text_base.proofs.BoolLemmas.{T_parts}
 use Rattle.std.proofs.lemmas.Nat.{div-add-mod', div_below, mod_below}
 use Rattle.std.proofs.lemmas.Option.{same_Some, none-some}
-use Rattle.msi_text_base.specs.Lists.{list_cmp, tabulated}
-use Rattle.msi_text_pool_base.specs.Pool.{Pool}
+use Rattle.msi_text_base.specs.Lists.{tabulated}
 use Rattle.msi_table_values.specs.declared.value.ValueRef.{ValueRef}
 use Rattle.msi_table_values.specs.declared.column.ColumnType.{ColumnType}
 use Rattle.msi_table_values.specs.declared.column.ColumnType.TheVariants as coltype
 use Rattle.msi_table_values.specs.Columns.{ColumnDef, types_of}
-use Rattle.msi_table_values.specs.Fitting.{FitsRow, FitsTable}
+use Rattle.msi_table_values.specs.Fitting.{FitsTable}
 use Rattle.msi_table.specs.Cells.{row_count, row_in, rows_in, table_bytes, width, widths}
-use Rattle.msi_table.specs.Tables.{TableDef, long_table_of}
+use Rattle.msi_table.specs.Tables.{TableDef}
 use Rattle.msi_table.proofs.LongRowsLemmas.{each_fits_long, fits_long}
-use Rattle.msi_table.proofs.ReadBackLemmas.{rows_in-table_bytes}
+use Rattle.msi_table.proofs.ReadBackLemmas.{rows_in-table_bytes, sum-widths, width_of_row}
 use Rattle.msi_table.proofs.ReadRowsLemmas.{length-tabulated}
 use Rattle.msi_query_joins.specs.Rows.{TableCells}
 use Rattle.msi_container_format.specs.Names.{is_name_length}
 use Rattle.msi_database_schema.proofs.RowOrderLemmas.{names_total}
 use Rattle.msi_database_schema.specs.Keys.{is_table_name, summary_key, table_key}
 use Rattle.msi_database_schema.specs.System.{validation_columns, validation_name}
-use Rattle.msi_database_changes.specs.Database.{Database, Tables, columns_by_name, has_table, is_sound, rows_of, table_at}
+use Rattle.msi_database_changes.specs.Database.{Database, Tables, columns_by_name, has_table, is_sound, rows_of}
 use Rattle.msi_database_changes.specs.Widening.{widened}
 use Rattle.msi_database_changes.proofs.AtWidthLemmas.{sound_widened}
-use Rattle.msi_database_storage.specs.StreamNames.{HaveShortNames}
 use Rattle.msi_database_storage.specs.Streams.{Streams, stored_rows, stream_at, with_stream}
 use Rattle.msi_database_storage.specs.Kept.{AreAsLong, Kept, kept_widened, schema_listed}
-use Rattle.msi_database_storage.specs.Widening.{streams_widened, unlisted_table, with_long_rows}
-use Rattle.msi_database.specs.Agreement.{DatabaseIs, TablesAre, UnlistedIs}
+use Rattle.msi_database_storage.specs.Widening.{unlisted_table, with_long_rows}
+use Rattle.msi_database.specs.Agreement.{TablesAre, UnlistedIs}
 use Rattle.msi_database.specs.Keeping.{AreParts, HasFittingRows, IsKeptDatabase}
 use Rattle.msi_database.proofs.ComesLemmas.{describes, regular}
 use Rattle.msi_database.proofs.PartsLemmas.{kept_parts}
@@ -51,20 +48,9 @@ wider false coltype.Int32 = lit≤ tt
 wider false (coltype.Str n) = lit≤ tt
 wider false coltype.Binary = lit≤ tt
 
-some_width : (long : Bool) (type : ColumnType) → 0 < width long type
-some_width long coltype.Int16 = lit≤ tt
-some_width long coltype.Int32 = lit≤ tt
-some_width true (coltype.Str n) = lit≤ tt
-some_width false (coltype.Str n) = lit≤ tt
-some_width long coltype.Binary = lit≤ tt
-
 sums_wider : (long : Bool) (types : List ColumnType) → sum (widths long types) ≤ sum (widths true types)
 sums_wider long [] = lit≤ tt
-sums_wider long (t ∷ ts) = omega (arith, wider long t, sums_wider long ts)
-
-some_sum : (long : Bool) (types : List ColumnType) → 0 < length types → 0 < sum (widths long types)
-some_sum long [] h = absurd (omega (arith, h))
-some_sum long (t ∷ ts) h = omega (arith, some_width long t)
+sums_wider long (t ∷ ts) = omega (arith, wider long t, sums_wider long ts, sum-widths long t ts, sum-widths true t ts)
 
 -- bytes that hold no row with narrow cells hold none with wide ones
 none_by : (b : Bool) (n : ℕ) (f : ℕ → List ValueRef) → cond b (Some (tabulated n f)) None ≡ Some [] → n ≡ 0
@@ -81,9 +67,9 @@ below_first n k h e =
 none_long : (long : Bool) (types : List ColumnType) (bytes : List ℕ) → 0 < length types → rows_in long types bytes ≡ Some [] → rows_in true types bytes ≡ Some []
 none_long long types bytes some e =
     let none : length bytes / sum (widths long types) ≡ 0 = none_by (nat_le (row_count long types bytes) 65536) (row_count long types bytes) (row_in long types bytes) e in
-    let few : length bytes < sum (widths long types) = below_first (length bytes) (sum (widths long types)) (some_sum long types some) none in
+    let few : length bytes < sum (widths long types) = below_first (length bytes) (sum (widths long types)) (width_of_row long types some) none in
     let still : length bytes < 1 * sum (widths true types) = omega (arith, few, sums_wider long types) in
-    let below : length bytes / sum (widths true types) < 1 = div_below (length bytes) (sum (widths true types)) 1 (some_sum true types some) still in
+    let below : length bytes / sum (widths true types) < 1 = div_below (length bytes) (sum (widths true types)) 1 (width_of_row true types some) still in
     let none_now : length bytes / sum (widths true types) ≡ 0 = omega (arith, below) in
     rw none_now refl
 

@@ -80,11 +80,11 @@ new_table d name columns = record { name = name; columns = columns; long = d.poo
 
 -- what creating a table makes: over which database, which streams and tables, and the pool after it
 pub record IsCreated (old : Kept) (name : List ℕ) (columns : List ColumnDef) (rows : SystemRows) (used : UsedPool)
-    (wide : Option Kept) (stored : List Stored) (tables : List TableDef) (pool : Pool) (is_pool_used : Bool)
+    (wide : Option Kept) (streams : List Stored) (after : List TableDef) (new : Pool) (is_pool_used : Bool)
     : Type 0 where
   pub base : wide ≡ wide_for used old
-  pub stored : stored ≡ streams_for (base_with (wide_for used old) old).database name rows
+  pub stored : streams ≡ streams_for (base_with (wide_for used old) old).database name rows
   pub tables : let base = base_with (wide_for used old) old in
-      tables ≡ with_table_kept (new_table base.database name columns) (tables_listed base.database)
-  pub pool : pool ≡ settled used.pool
-  pub used : is_pool_used ≡ used.is_used
+      after ≡ with_table_kept (new_table base.database name columns) (tables_listed base.database)
+  pub pool : new ≡ settled used.pool
+  pub uses : is_pool_used ≡ used.is_used

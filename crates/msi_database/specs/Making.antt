@@ -58,12 +58,12 @@ pub record RowsBecome (change : Database → Result Change ErrorKind) (d : Datab
 
 -- what a change of a table's rows stores: over which database, under which name, which bytes, and the pool after it
 pub record IsAnew (old : Kept) (t : TableDef) (rows : List (List ValueRef)) (used : UsedPool)
-    (wide : Option Kept) (stored : Stored) (pool : Pool) (is_pool_used : Bool) : Type 0 where
+    (wide : Option Kept) (stream : Stored) (new : Pool) (is_pool_used : Bool) : Type 0 where
   pub base : wide ≡ wide_for used old
-  pub name : stored.name ≡ table_key t.name
-  pub bytes : stored.bytes ≡ stream_of_rows (settled used.pool).long t.columns rows
-  pub pool : pool ≡ settled used.pool
-  pub used : is_pool_used ≡ used.is_used
+  pub name : stream.name ≡ table_key t.name
+  pub bytes : stream.bytes ≡ stream_of_rows (settled used.pool).long t.columns rows
+  pub pool : new ≡ settled used.pool
+  pub uses : is_pool_used ≡ used.is_used
 
 -- an accepted change answers whether a text was taken or given back
 abbrev pub TellsUse : Result Change ErrorKind → Bool → Type 0

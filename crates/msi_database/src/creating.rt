@@ -10,7 +10,7 @@ ghost use Rattle.msi_database_schema.specs.Keys.{is_table_name as is_name_of_tab
 ghost use Rattle.msi_database_changes.specs.Create as creates;
 ghost use Rattle.msi_database_changes.specs.Create.{new_table_refusals};
 ghost use Rattle.msi_database_changes.specs.Database.{is_sound as is_sound_one};
-ghost use Rattle.msi_database_cells.specs.Texts.{in_use};
+ghost use Rattle.msi_database_cells.specs.Texts.{in_use, settled};
 ghost use Rattle.msi_database_storage.specs.Kept.{with_table_kept};
 ghost use Rattle.msi_database_storage.specs.Storing.{HaveOwnNames};
 ghost use Rattle.msi_database.specs.Creating.{CanHold, CanHoldAll, IsCreated, create_refusals, new_table};
@@ -87,6 +87,32 @@ fn no_stream(name: &str) -> Stored
     Stored {
         name: short_table_key(name),
         bytes: None,
+    }
+}
+
+/// What creating a table makes, of its parts: the pool after it is that in use.
+fn created(
+    wide: Option<Database>,
+    stored: Vec<Stored>,
+    tables: Items<Table>,
+    pool: PoolInUse,
+) -> Created
+    ensures wide { result.new.wide ≡ wide }
+    ensures stored { result.new.stored.items ≡ stored.items }
+    ensures tables { result.new.tables ≡ tables }
+    ensures pool { unindexed result.new.pool ≡ settled pool.pool }
+    ensures uses { result.is_pool_used ≡ pool.is_used }
+{
+    let is_pool_used = pool.is_used();
+    let pool = pool.into_pool();
+    Created {
+        new: TablesAnew {
+            wide,
+            stored,
+            pool,
+            tables,
+        },
+        is_pool_used,
     }
 }
 
@@ -258,24 +284,15 @@ impl Database {
             made.new.stored.items made.new.tables (unindexed made.new.pool) made.is_pool_used) }
         ensures kind { OnlyMemory result }
     {
-        let wide = if pool.is_widened() { Some(self.widened()?) } else { None };
-        let base = match &wide {
-            Some(wide) => wide,
-            None => self,
-        };
-        let stored = base.streams_for(name, rows)?;
-        let tables = base.tables_with(name, columns)?;
-        let is_pool_used = pool.is_used();
-        let pool = pool.into_pool();
-        Ok(Created {
-            new: TablesAnew {
-                wide,
-                stored,
-                pool,
-                tables,
-            },
-            is_pool_used,
-        })
+        if pool.is_widened() {
+            let wide = self.widened()?;
+            let stored = wide.streams_for(name, rows)?;
+            let tables = wide.tables_with(name, columns)?;
+            return Ok(created(Some(wide), stored, tables, pool));
+        }
+        let stored = self.streams_for(name, rows)?;
+        let tables = self.tables_with(name, columns)?;
+        Ok(created(None, stored, tables, pool))
     }
 
     /// What creating a table makes.

@@ -92,11 +92,11 @@ impl Database {
             ≡ with_long_rows (entries streams.old) (unlisted_table self.now.database)) }
         ensures kind { OnlyMemory result }
     {
+        let long = self.pool.long_string_refs();
         if self.has_table(VALIDATION) {
             return Ok(());
         }
         let columns = validation_columns(self.alloc)?;
-        let long = self.pool.long_string_refs();
         let validation = named_table(self.alloc, VALIDATION, columns, long)?;
         let rows = stored_rows(self.alloc, &self.streams, &validation)?;
         store_long(self.alloc, streams, &validation, rows.as_slice())

@@ -1,7 +1,6 @@
 -- Changes of a database with references of the width that it has, and those that widen them: these are the same changes of the widened database.
-use Rattle.std.proofs.Common.{◌≡◌, ℕ, ◌⊎◌, Bool, true, false, cond, List, length, Option, Some, None, Result, Ok, Err, refl, sym, ap, ◌∙◌, arith, inl, inr}
+use Rattle.std.proofs.Common.{◌≡◌, ℕ, ◌⊎◌, Bool, true, false, cond, List, length, Option, Some, None, Result, Ok, refl, sym, ap, ◌∙◌, arith, inl, inr}
 use Rattle.std.specs.Prelude.{◌&&◌, nat_le, nat_lt, not}
-use Rattle.std.specs.List.{AllByRecursion}
 use Rattle.std.specs.Prelude.{IsSomeAnd}
 use Rattle.std.proofs.lemmas.Bool.{and_parts, not-true}
 use Rattle.std.proofs.lemmas.Bool.Decides.{nat_tests}
@@ -12,7 +11,6 @@ use Rattle.msi_table_values.specs.Columns.{ColumnDef, types_of}
 use Rattle.msi_table_values.specs.Fitting.{FitsTable}
 use Rattle.msi_table.proofs.LongRowsLemmas.{each_fits_long, fits_long}
 use Rattle.msi_query.specs.Queries.{InsertQuery, UpdateQuery, DeleteQuery}
-use Rattle.msi_query_joins.specs.Rows.{TableCells}
 use Rattle.msi_database_schema.specs.System.{validation_columns}
 use Rattle.msi_database_changes.specs.Database.{Database, is_sound}
 use Rattle.msi_database_changes.specs.Changes.{Change}
@@ -24,7 +22,7 @@ use Rattle.msi_database_changes.specs.Create.{create_at_width}
 use Rattle.msi_database_changes.specs.Drop.{drop_table}
 use Rattle.msi_database_changes.specs.Laws as laws
 use Rattle.msi_database_changes.specs.Laws.{IsChange, IsTableChange, RowsFit}
-use Rattle.msi_database_changes.proofs.StoredLemmas.{SoundParts, sound_parts}
+use Rattle.msi_database_changes.proofs.StoredLemmas.{sound_parts}
 
 -- changes with references of the width that there is
 pub data IsChangeAtWidth (d : Database) (c : Change) : Type 0 where

@@ -1,7 +1,6 @@
 //! Copies of streams.
 
-ghost use Rattle.std.specs.Prelude.{◌≡◌, ◌++◌, IfOk};
-ghost use Rattle.std.specs.FinMap.{entries};
+ghost use Rattle.std.specs.Prelude.{◌≡◌, IfOk};
 ghost use Rattle.msi_text_base.specs.Results.{OnlyMemory};
 
 use msi_container_format::contents::{Bytes, StreamMap};

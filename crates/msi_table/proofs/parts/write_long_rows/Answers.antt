@@ -1,5 +1,5 @@
 use Rattle.msi_table_values.specs.Columns.{types_of}
-use Rattle.std.proofs.Common.{ap, subst, sym}
+use Rattle.std.proofs.Common.{subst, sym}
 use Rattle.msi_table_values.specs.Columns.{ColumnDef}
 use Rattle.msi_table_values.specs.Fitting.{FitsTable}
 use Rattle.std.proofs.Common.{List, true}

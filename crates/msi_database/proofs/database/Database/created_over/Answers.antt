@@ -1,0 +1,26 @@
+use Rattle.std.proofs.Common.{◌≡◌, true, subst, sym}
+use Rattle.msi_text_pool_base.specs.Pool.{unindexed}
+use Rattle.msi_database_changes.specs.Database.{is_sound}
+use Rattle.msi_database_changes.proofs.AtWidthLemmas.{sound_widened}
+use Rattle.msi_database_storage.specs.Kept.{Kept}
+use Rattle.msi_database.proofs.AnewCallLemmas.{same_created, same_held, wide_created, wide_held}
+use Rattle.msi_database.proofs.database.Database.created_over.Goals as goal
+
+pub streams_for-requires-clause-sound : goal.streams_for-requires-clause-sound
+streams_for-requires-clause-sound c = subst (λ (k : Kept). is_sound k.database ≡ true) (sym c.in_ok-wide.ensures.ok) (sound_widened c.args.self.now.database c.requires.sound)
+
+pub streams_for-requires-clause-held : goal.streams_for-requires-clause-held
+streams_for-requires-clause-held c = wide_held c.args.self.now c.args.pool c.is_widened.result c.is_widened.ensures c.if-is_widened.true c.args.name.now c.args.columns c.args.rows c.in_ok-wide.wide c.in_ok-wide.ensures.ok c.requires.held
+
+pub returns-then-is_widened-clause-ok : goal.returns-then-is_widened-clause-ok
+returns-then-is_widened-clause-ok c = wide_created c.args.self.now c.args.pool c.is_widened.result c.is_widened.ensures c.if-is_widened.true c.args.name.now c.args.columns c.args.rows c.in_ok-wide.wide c.in_ok-wide.ensures.ok
+    c.created.result.new.stored.items c.in_ok-stored.stored.items c.in_ok-stored.ensures.ok c.created.result.new.tables c.in_ok-tables.tables c.in_ok-tables.ensures.ok c.created.result.new.wide c.created.ensures.wide
+    c.created.ensures.stored c.created.ensures.tables (unindexed c.created.result.new.pool) c.created.ensures.pool c.created.result.is_pool_used c.created.ensures.uses
+
+pub streams_for-requires-2-clause-held : goal.streams_for-requires-2-clause-held
+streams_for-requires-2-clause-held c = same_held c.args.self.now c.args.pool c.is_widened.result c.is_widened.ensures c.if-is_widened.false c.args.name.now c.args.columns c.args.rows c.requires.held
+
+pub returns-clause-ok : goal.returns-clause-ok
+returns-clause-ok c = same_created c.args.self.now c.args.pool c.is_widened.result c.is_widened.ensures c.if-is_widened.false c.args.name.now c.args.columns c.args.rows
+    c.created.result.new.stored.items c.in_ok-stored.stored.items c.in_ok-stored.ensures.ok c.created.result.new.tables c.in_ok-tables.tables c.in_ok-tables.ensures.ok c.created.result.new.wide c.created.ensures.wide
+    c.created.ensures.stored c.created.ensures.tables (unindexed c.created.result.new.pool) c.created.ensures.pool c.created.result.is_pool_used c.created.ensures.uses

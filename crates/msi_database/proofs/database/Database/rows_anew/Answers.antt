@@ -1,0 +1,20 @@
+use Rattle.msi_text_pool_base.specs.Pool.{unindexed}
+use Rattle.msi_database.proofs.AnewCallLemmas.{same_anew, same_stores, wide_anew, wide_named, wide_stores}
+use Rattle.msi_database.proofs.database.Database.rows_anew.Goals as goal
+
+pub stream_of-requires-clause-named : goal.stream_of-requires-clause-named
+stream_of-requires-clause-named c = wide_named c.args.self.now c.args.pool c.is_widened.result c.is_widened.ensures c.if-is_widened.true c.args.table.now c.in_ok-long.long c.in_ok-long.ensures.ok c.args.rows.items c.requires.named
+
+pub stream_of-requires-clause-storable : goal.stream_of-requires-clause-storable
+stream_of-requires-clause-storable c = wide_stores c.args.self.now c.args.pool c.is_widened.result c.is_widened.ensures c.if-is_widened.true c.args.table.now c.in_ok-long.long c.in_ok-long.ensures.ok c.args.rows.items c.requires.storable
+
+pub returns-then-is_widened-clause-ok : goal.returns-then-is_widened-clause-ok
+returns-then-is_widened-clause-ok c = wide_anew c.args.self.now c.args.pool c.is_widened.result c.is_widened.ensures c.if-is_widened.true c.args.table.now c.in_ok-long.long c.in_ok-long.ensures.ok c.args.rows.items
+    c.in_ok-wide.wide c.in_ok-wide.ensures.ok c.in_ok-stored.stored c.in_ok-stored.ensures.name c.in_ok-stored.ensures.bytes (unindexed c.into_pool.result) c.into_pool.ensures c.is_used.result c.is_used.ensures
+
+pub stream_of-requires-2-clause-storable : goal.stream_of-requires-2-clause-storable
+stream_of-requires-2-clause-storable c = same_stores c.args.self.now c.args.pool c.is_widened.result c.is_widened.ensures c.if-is_widened.false c.args.table.now c.args.rows.items c.requires.long c.requires.storable
+
+pub returns-clause-ok : goal.returns-clause-ok
+returns-clause-ok c = same_anew c.args.self.now c.args.pool c.is_widened.result c.is_widened.ensures c.if-is_widened.false c.args.table.now c.args.rows.items c.requires.long
+    c.in_ok-stored.stored c.in_ok-stored.ensures.name c.in_ok-stored.ensures.bytes (unindexed c.into_pool.result) c.into_pool.ensures c.is_used.result c.is_used.ensures
