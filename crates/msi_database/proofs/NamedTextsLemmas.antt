@@ -1,19 +1,16 @@
 -- The texts of a pool as they are counted, and the rows of the system tables that name few.
-use Rattle.std.proofs.Common.{◌≡◌, ℕ, ◌+◌, ◌-◌, ◌<◌, min, Bool, List, [], length, get_or, take, map, Option, Some, None, Result, Ok, Err, sym, ap, ◌∙◌, subst, arith, slice_get}
-use Rattle.std.specs.Prelude.{IfSome, OnOk, option_map}
+use Rattle.std.proofs.Common.{◌≡◌, ℕ, ◌+◌, ◌-◌, ◌<◌, min, Bool, List, [], length, get_or, take, Option, Some, None, Result, Ok, Err, sym, ap, ◌∙◌, subst, arith, slice_get}
+use Rattle.std.specs.Prelude.{IfSome, OnOk}
 use Rattle.std.specs.Option.{option_map_or}
 use Rattle.std.proofs.lemmas.List.Sums.{sum_by_more}
 use Rattle.std.proofs.lemmas.Option.{same_Some, slice_get-get_or}
 use Rattle.msi_text_pool_base.specs.Pool.{Place, Pool}
 use Rattle.msi_text_places.specs.FirstFitLaws.{text_at}
-use Rattle.msi_table_values.specs.declared.value.Value.{Value}
 use Rattle.msi_table_values.specs.declared.value.ValueRef.{ValueRef}
-use Rattle.msi_table_values.specs.CellValues.{row_values}
 use Rattle.msi_table_values.specs.Columns.{ColumnDef}
 use Rattle.msi_table.specs.Tables.{TableDef}
 use Rattle.msi_database_schema.specs.Schema.{table_with}
 use Rattle.msi_database_storage.specs.Streams.{Streams, stored_rows}
-use Rattle.msi_database.specs.Agreement.{described_by}
 use Rattle.msi_database.specs.NamedTexts.{NameFewTexts, RowsNameFewTexts, pool_bytes}
 
 -- TEXTS OF A POOL
@@ -44,10 +41,6 @@ module _ (streams : Streams) (pool : Pool) (columns : List ColumnDef) (name : Li
   rows_of_table table long rows is wide stored =
       let made : table ≡ table_with pool.long (name, columns) = is ∙ ap (λ long. table_with long (name, columns)) wide in
       sym (ap (λ (t : TableDef). stored_rows streams t.long t.columns t.name) made) ∙ stored
-
-  pub rows_described : (rows : List (List ValueRef)) (values : List (List Value)) → stored_rows streams pool.long columns name ≡ Some rows
-      → values ≡ map (row_values pool.places) rows → described_by streams pool columns name ≡ Some values
-  rows_described rows values stored is = ap (option_map (map (row_values pool.places))) stored ∙ ap Some (sym is)
 
   pub rows_few : (rows : List (List ValueRef)) → stored_rows streams pool.long columns name ≡ Some rows → NameFewTexts pool.places rows → RowsNameFewTexts streams pool columns name
   rows_few rows stored few = few_stored (stored_rows streams pool.long columns name) rows pool.places stored few

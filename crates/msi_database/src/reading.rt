@@ -1,12 +1,10 @@
 //! A database that is read from its pool and the streams of a container's root.
 
 ghost use Rattle.std.specs.Prelude.{◌≡◌, [], ◌<◌, ◌≤◌, All, IfErr, IfOk, OnOk, Some, if◌then◌else◌, is_some, length};
-ghost use Rattle.std.specs.Prelude.{map};
 ghost use Rattle.std.specs.FinMap.{entries};
 ghost use Rattle.msi_text_base.specs.declared.errors.ErrorKind.TheVariants.{InvalidData};
 ghost use Rattle.msi_text_base.specs.Results.{OnlyMemory};
 ghost use Rattle.msi_table.specs.Tables.{most_columns};
-ghost use Rattle.msi_table_values.specs.CellValues.{row_values};
 ghost use Rattle.msi_text_pool_base.specs.Pool.{unindexed};
 ghost use Rattle.msi_text.specs.Refusals.{IsRefusal, or_refused};
 ghost use Rattle.msi_database_schema.specs.System.{validation_columns as columns_of_validation, validation_name};
@@ -22,15 +20,14 @@ use crate::named_texts::name_few_texts;
 use crate::reasons;
 use msi_container_format::contents::StreamMap;
 use msi_database_schema::parts::named_table;
-use msi_database_schema::schema::{SchemaRows, tables_described};
+use msi_database_schema::schema::tables_of_cells;
 use msi_database_schema::system::{
     COLUMNS, TABLES, VALIDATION, columns_columns, tables_columns, validation_columns,
 };
 use msi_database_storage::listing::table_named;
 use msi_database_storage::parts::{are_sound, stored_rows, tables_census, with_named_texts};
 use msi_table::column::Column;
-use msi_table::parts::values;
-use msi_table::{Table, Value, ValueRef};
+use msi_table::{Table, ValueRef};
 use msi_text::errors::{Error, ErrorKind};
 use msi_text::stringpool::StringPool;
 use msi_text::text::Items;
@@ -52,52 +49,44 @@ fn look_at(streams: &StreamMap)
     }
 }
 
-/// The values of rows, whose texts stand in a pool. Each value has a copy of its text, so rows that name the same long
-/// texts again and again are refused.
+/// Refuses rows that name the same long texts again and again: columns have a copy of each text that describes them.
 ///
 /// # Errors
-/// `OutOfMemory`, also where the texts are more than `name_few_texts` allows.
-fn values_of_rows(
-    alloc: Global,
-    pool: &StringPool,
-    rows: &[Items<ValueRef>],
-) -> Result<Vec<Items<Value>>, Error>
-    ensures ok { IfOk result (λ described. described.items ≡ map (row_values pool.now.places) rows.now) }
+/// `OutOfMemory` where the texts are more than `name_few_texts` allows.
+fn refuse_many_texts(pool: &StringPool, rows: &[Items<ValueRef>]) -> Result<(), Error>
     ensures bounded { OnOk result (NameFewTexts pool.now.places rows.now) }
     ensures kind { OnlyMemory result }
 {
-    if !name_few_texts(pool, rows) {
-        return Err(Error::new(ErrorKind::OutOfMemory, reasons::SHARED_TEXTS));
+    if name_few_texts(pool, rows) {
+        Ok(())
+    } else {
+        Err(Error::new(ErrorKind::OutOfMemory, reasons::SHARED_TEXTS))
     }
-    let mut described = Vec::with_capacity(alloc, rows.len())?;
-    for row in rows {
-        described.push(values(alloc, pool, row.as_slice())?)?;
-    }
-    Ok(described)
 }
 
-/// The values of the rows of a table that is known by its name and columns, which are at most 32767.
+/// The rows of a table that is known by its name and columns, which are at most 32767.
 ///
 /// # Errors
-/// `InvalidData` where its stream can't be read; `OutOfMemory`.
+/// `InvalidData` where its stream can't be read; `OutOfMemory`, also where its rows name too many texts.
 fn described_rows(
     alloc: Global,
     pool: &StringPool,
     streams: &StreamMap,
     name: &str,
     columns: Items<Column>,
-) -> Result<Vec<Items<Value>>, Error>
+) -> Result<Vec<Items<ValueRef>>, Error>
     requires names { HaveShortNames (entries streams.now) }
     requires few { length columns ≤ most_columns }
     ensures ok { IfOk result (λ rows.
-        described_by (entries streams.now) (unindexed pool.now) columns name.now ≡ Some rows.items) }
+        rows_stored (entries streams.now) pool.now.long columns name.now ≡ Some rows.items) }
     ensures bounded { OnOk result (RowsNameFewTexts (entries streams.now) (unindexed pool.now) columns name.now) }
     ensures kind { IfErr result (IsRefusal (or_refused InvalidData
         (described_by (entries streams.now) (unindexed pool.now) columns name.now))) }
 {
     let table = named_table(alloc, name, columns, pool.long_string_refs())?;
     let rows = stored_rows(alloc, streams, &table)?;
-    values_of_rows(alloc, pool, rows.as_slice())
+    refuse_many_texts(pool, rows.as_slice())?;
+    Ok(rows)
 }
 
 /// The tables that the rows of the system tables describe: those of `_Tables` and `_Columns` are read of their
@@ -124,9 +113,14 @@ fn tables_in(
 {
     let tables = described_rows(alloc, pool, streams, TABLES, tables_columns(alloc)?)?;
     let columns = described_rows(alloc, pool, streams, COLUMNS, columns_columns(alloc)?)?;
-    let validation = values_of_rows(alloc, pool, validation)?;
-    let rows = SchemaRows::new(tables, columns, validation);
-    tables_described(alloc, rows, pool.long_string_refs())
+    refuse_many_texts(pool, validation)?;
+    tables_of_cells(
+        alloc,
+        pool,
+        tables.as_slice(),
+        columns.as_slice(),
+        validation,
+    )
 }
 
 /// The rows of the stream of `_Validation` that are kept beside the tables: all where it is no table, else none.

@@ -14,3 +14,4 @@ pub mod RowOrderLemmas
 pub mod SchemaLemmas
 pub mod SortLemmas
 pub mod TablesLemmas
+pub mod SeenRowLemmas

@@ -5,3 +5,4 @@ pub mod Schema
 pub mod ListedTables
 pub mod RowOrders
 pub mod Description
+pub mod SeenRows

@@ -19,18 +19,17 @@ ghost use Rattle.msi_database_schema.specs.System.{is_schema_table};
 
 use crate::orders::{count_about, find_by_number, find_by_texts};
 use crate::reasons;
-use crate::rows::{is_null_at, number_at, text_at};
+use crate::rows::{SchemaRow, is_null_at, number_at, text_at, view_at};
 use msi_table::column::{Column, ColumnBuilder};
-use msi_table::parts::column_of_bits;
+use msi_table::parts::{ValueView, column_of_bits};
 use msi_table::table::MAX_COLUMNS;
-use msi_table::value::Value;
 use msi_text::category::Category;
 use msi_text::errors::{Error, ErrorKind};
 use msi_text::text::Items;
 use std::alloc::{AllocError, Global};
 
 /// Lets a column take null where a row of `_Validation` says `Y`.
-fn with_nullable(builder: ColumnBuilder, row: &Items<Value>) -> ColumnBuilder
+fn with_nullable(builder: ColumnBuilder, row: &SchemaRow) -> ColumnBuilder
     ensures { result ≡ (if bytes_eq (text_in 2 row.now) (codes "Y") then record builder { is_nullable = true }
         else builder) }
 {
@@ -42,7 +41,7 @@ fn with_nullable(builder: ColumnBuilder, row: &Items<Value>) -> ColumnBuilder
 }
 
 /// Sets a column's range where a row of `_Validation` has both ends.
-fn with_range(builder: ColumnBuilder, row: &Items<Value>) -> ColumnBuilder
+fn with_range(builder: ColumnBuilder, row: &SchemaRow) -> ColumnBuilder
     ensures { result ≡ option_map_or (λ range. record builder { value_range = Some range })
         (both_set number_of number_of (value_at 3 row.now) (value_at 4 row.now)) builder }
 {
@@ -57,7 +56,7 @@ fn with_range(builder: ColumnBuilder, row: &Items<Value>) -> ColumnBuilder
 ///
 /// # Errors
 /// `OutOfMemory`.
-fn with_foreign_key(builder: ColumnBuilder, row: &Items<Value>) -> Result<ColumnBuilder, Error>
+fn with_foreign_key(builder: ColumnBuilder, row: &SchemaRow) -> Result<ColumnBuilder, Error>
     ensures ok { IfOk result (λ referring. referring ≡ option_map_or (λ key. record builder { foreign_key = Some key })
         (both_set text_of number_of (value_at 5 row.now) (value_at 6 row.now)) builder) }
     ensures kind { OnlyMemory result }
@@ -69,7 +68,7 @@ fn with_foreign_key(builder: ColumnBuilder, row: &Items<Value>) -> Result<Column
 }
 
 /// Sets a column's category where a row of `_Validation` names one.
-fn with_category(builder: ColumnBuilder, row: &Items<Value>) -> ColumnBuilder
+fn with_category(builder: ColumnBuilder, row: &SchemaRow) -> ColumnBuilder
     ensures { result ≡ option_map_or (λ category. record builder { category = Some category })
         (category_named (text_in 7 row.now)) builder }
 {
@@ -96,15 +95,15 @@ fn pieces<'a>(alloc: Global, text: &'a str) -> Result<Vec<&'a str>, AllocError>
 fn with_values(
     alloc: Global,
     builder: ColumnBuilder,
-    row: &Items<Value>,
+    row: &SchemaRow,
 ) -> Result<ColumnBuilder, Error>
     requires { builder.enum_values ≡ [] }
     ensures ok { IfOk result (λ listing. listing ≡ record builder { enum_values = values_in (value_at 8 row.now) }) }
     ensures kind { OnlyMemory result }
 {
-    match row.as_slice().get(8) {
-        Some(Value::Str(set)) => {
-            let texts = pieces(alloc, set.as_str())?;
+    match view_at(row, 8) {
+        ValueView::Str(set) => {
+            let texts = pieces(alloc, set)?;
             builder.enum_values(texts.as_slice())
         }
         _ => Ok(builder),
@@ -115,7 +114,7 @@ fn with_values(
 ///
 /// # Errors
 /// `OutOfMemory`.
-fn described_column(alloc: Global, name: &str, row: &Items<Value>) -> Result<ColumnBuilder, Error>
+fn described_column(alloc: Global, name: &str, row: &SchemaRow) -> Result<ColumnBuilder, Error>
     ensures ok { IfOk result (λ builder. builder ≡ described (Some row.now) (begun_column name.now)) }
     ensures kind { OnlyMemory result }
 {
@@ -126,7 +125,7 @@ fn described_column(alloc: Global, name: &str, row: &Items<Value>) -> Result<Col
 }
 
 /// The bits of a column's type in its row of `_Columns`, where negative numbers stand for those from 32768 on.
-fn bits_in(row: &Items<Value>) -> u16
+fn bits_in(row: &SchemaRow) -> u16
     requires { is_of_16_bits (number_of (value_at 3 row.now)) ≡ true }
     ensures { result ≡ bits_of_row row.now }
 {
@@ -140,7 +139,7 @@ fn bits_in(row: &Items<Value>) -> u16
 /// `OutOfMemory`.
 fn begun_column_of(
     alloc: Global,
-    validation: &[Items<Value>],
+    validation: &[SchemaRow],
     table: &str,
     name: &str,
 ) -> Result<ColumnBuilder, Error>
@@ -169,9 +168,9 @@ fn misnumbered() -> Error
 /// `InvalidData` where the row's bits name no type; `OutOfMemory`.
 fn column_of_row(
     alloc: Global,
-    validation: &[Items<Value>],
+    validation: &[SchemaRow],
     table: &str,
-    row: &Items<Value>,
+    row: &SchemaRow,
 ) -> Result<Column, Error>
     requires by_name { IsSorted (by_texts 1) validation.now }
     requires short { is_of_16_bits (number_of (value_at 3 row.now)) ≡ true }
@@ -189,8 +188,8 @@ fn column_of_row(
 /// `InvalidData` where no row has the number, and where its bits name no type; `OutOfMemory`.
 fn numbered_column(
     alloc: Global,
-    columns: &[Items<Value>],
-    validation: &[Items<Value>],
+    columns: &[SchemaRow],
+    validation: &[SchemaRow],
     table: &str,
     number: u16,
 ) -> Result<Column, Error>
@@ -214,8 +213,8 @@ fn numbered_column(
 /// `InvalidData` where the numbers aren't 1 to n, n at least 1, and where a row's bits name no type; `OutOfMemory`.
 pub(crate) fn columns_of_table(
     alloc: Global,
-    columns: &[Items<Value>],
-    validation: &[Items<Value>],
+    columns: &[SchemaRow],
+    validation: &[SchemaRow],
     table: &str,
 ) -> Result<Items<Column>, Error>
     requires by_number { IsSorted by_numbers columns.now }

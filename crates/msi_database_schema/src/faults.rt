@@ -12,16 +12,14 @@ ghost use Rattle.msi_database_schema.specs.Schema.{has_long_number as has_long, 
 ghost use Rattle.msi_database_schema.specs.Schema.{has_null as has_one_null, is_faulty as breaks_rule};
 ghost use Rattle.msi_database_schema.specs.Schema.{is_of_16_bits as fits_16_bits, lacks_value as lacks_one};
 ghost use Rattle.msi_database_schema.specs.Schema.{listed_names, number_of, share_key, text_at as text_in, value_at};
-ghost use Rattle.msi_table_values.specs.Values.{is_null, is_text};
+ghost use Rattle.msi_table_values.specs.Values.{is_text};
 ghost use Rattle.msi_database_schema.specs.System.{is_schema_table as is_of_schema};
 
 use crate::names::is_pool_name;
 use crate::orders::{find_by_texts, has_repeat, sort_by_texts};
-use crate::rows::{is_null_at, is_text_at, number_at, text_at};
+use crate::rows::{SchemaRow, holds_null, is_null_at, is_text_at, number_at, text_at};
 use crate::system::is_schema_table;
-use msi_table::value::Value;
 use msi_text::errors::Error;
-use msi_text::text::Items;
 
 /// Whether a number takes at most 16 bits.
 fn is_of_16_bits(number: i32) -> bool
@@ -31,7 +29,7 @@ fn is_of_16_bits(number: i32) -> bool
 }
 
 /// Whether a row of `_Columns` has a number that no cell of 16 bits holds.
-fn is_long(row: &Items<Value>) -> bool
+fn is_long(row: &SchemaRow) -> bool
     ensures { result ≡ not (fits_16_bits (number_of (value_at 1 row.now))
         && fits_16_bits (number_of (value_at 3 row.now))) }
 {
@@ -39,63 +37,56 @@ fn is_long(row: &Items<Value>) -> bool
 }
 
 /// Whether a row of `_Columns` has a number that no cell of 16 bits holds.
-fn has_long_number(rows: &[Items<Value>]) -> bool
+fn has_long_number(rows: &[SchemaRow]) -> bool
     ensures { result ≡ has_long rows.now }
 {
     rows.iter().any(is_long)
 }
 
 /// Whether a row of `_Tables` has no text for a name.
-fn is_odd(row: &Items<Value>) -> bool
+fn is_odd(row: &SchemaRow) -> bool
     ensures { result ≡ not (is_text (value_at 0 row.now)) }
 {
     !is_text_at(row, 0)
 }
 
 /// Whether a row of `_Tables` has no text for a name.
-fn has_odd_name(rows: &[Items<Value>]) -> bool
+fn has_odd_name(rows: &[SchemaRow]) -> bool
     ensures { result ≡ has_odd rows.now }
 {
     rows.iter().any(is_odd)
 }
 
 /// Whether rows of `_Tables` and `_Columns` have values that no cells give.
-pub(crate) fn has_odd_value(tables: &[Items<Value>], columns: &[Items<Value>]) -> bool
+pub(crate) fn has_odd_value(tables: &[SchemaRow], columns: &[SchemaRow]) -> bool
     ensures { result ≡ (has_odd tables.now || has_long columns.now) }
 {
     has_odd_name(tables) || has_long_number(columns)
 }
 
-/// Whether a value of a row is null.
-fn holds_null(row: &Items<Value>) -> bool
-    ensures { result ≡ list_any is_null row.now }
-{
-    row.as_slice().iter().any(Value::is_null)
-}
-
 /// Whether a value of one of the rows is null.
-fn has_null(rows: &[Items<Value>]) -> bool
+fn has_null(rows: &[SchemaRow]) -> bool
     ensures { result ≡ has_one_null rows.now }
 {
     rows.iter().any(holds_null)
 }
 
 /// Whether a row is about neither `_Tables` nor `_Columns`.
-pub(crate) fn is_counted(row: &Items<Value>) -> bool
+pub(crate) fn is_counted(row: &SchemaRow) -> bool
     ensures { result ≡ not (is_of_schema (text_in 0 row.now)) }
 {
     !is_schema_table(text_at(row, 0))
 }
 
 /// Whether a row of `_Tables` lists a stream of the string pool.
-fn is_of_pool(row: &Items<Value>) -> bool
+fn is_of_pool(row: &SchemaRow) -> bool
     ensures { result ≡ (not (is_of_schema (text_in 0 row.now)) && is_of_pool_name (text_in 0 row.now)) }
 {
     is_counted(row) && is_pool_name(text_at(row, 0))
 }
 
 /// Whether `_Tables` lists a stream of the string pool.
-fn lists_pool(tables: &[Items<Value>]) -> bool
+fn lists_pool(tables: &[SchemaRow]) -> bool
     ensures { result ≡ list_any
         (λ row. not (is_of_schema (text_in 0 row)) && is_of_pool_name (text_in 0 row)) tables.now }
 {
@@ -104,7 +95,7 @@ fn lists_pool(tables: &[Items<Value>]) -> bool
 
 /// Whether a row of `_Columns` is about a table that isn't listed; the rows of `_Tables` stand in the order of their
 /// names.
-fn is_unlisted(tables: &[Items<Value>], row: &Items<Value>) -> bool
+fn is_unlisted(tables: &[SchemaRow], row: &SchemaRow) -> bool
     requires { IsSorted (by_texts 0) tables.now }
     ensures { result ≡ (not (is_of_schema (text_in 0 row.now))
         && not (list_any (bytes_eq (text_in 0 row.now)) (listed_names (listing tables.now [])))) }
@@ -115,7 +106,7 @@ fn is_unlisted(tables: &[Items<Value>], row: &Items<Value>) -> bool
 
 /// Whether a row of `_Columns` is about a table that isn't listed; the rows of `_Tables` stand in the order of their
 /// names.
-fn has_unlisted(tables: &[Items<Value>], columns: &[Items<Value>]) -> bool
+fn has_unlisted(tables: &[SchemaRow], columns: &[SchemaRow]) -> bool
     requires { IsSorted (by_texts 0) tables.now }
     ensures { result ≡ list_any (λ row. not (is_of_schema (text_in 0 row))
         && not (list_any (bytes_eq (text_in 0 row)) (listed_names (listing tables.now [])))) columns.now }
@@ -125,7 +116,7 @@ fn has_unlisted(tables: &[Items<Value>], columns: &[Items<Value>]) -> bool
 
 /// Whether a row of `_Validation` is about a column that `_Columns` describes; the rows of `_Columns` stand in the
 /// order of their tables and names.
-fn describes_column(columns: &[Items<Value>], row: &Items<Value>) -> bool
+fn describes_column(columns: &[SchemaRow], row: &SchemaRow) -> bool
     requires { IsSorted (by_texts 2) columns.now }
     ensures { result ≡ is_described (listing [] columns.now) row.now }
 {
@@ -134,7 +125,7 @@ fn describes_column(columns: &[Items<Value>], row: &Items<Value>) -> bool
 
 /// Whether a row of `_Validation` lacks a value that it needs; the rows of `_Columns` stand in the order of their
 /// tables and names.
-fn lacks_value(columns: &[Items<Value>], row: &Items<Value>) -> bool
+fn lacks_value(columns: &[SchemaRow], row: &SchemaRow) -> bool
     requires { IsSorted (by_texts 2) columns.now }
     ensures { result ≡ lacks_one (listing [] columns.now) row.now }
 {
@@ -145,7 +136,7 @@ fn lacks_value(columns: &[Items<Value>], row: &Items<Value>) -> bool
 
 /// Whether a row of `_Validation` lacks a value that it needs; the rows of `_Columns` stand in the order of their
 /// tables and names.
-fn has_lack(columns: &[Items<Value>], validation: &[Items<Value>]) -> bool
+fn has_lack(columns: &[SchemaRow], validation: &[SchemaRow]) -> bool
     requires { IsSorted (by_texts 2) columns.now }
     ensures { result ≡ list_any (lacks_one (listing [] columns.now)) validation.now }
 {
@@ -156,9 +147,9 @@ fn has_lack(columns: &[Items<Value>], validation: &[Items<Value>]) -> bool
 ///
 /// # Errors
 /// `OutOfMemory`.
-fn repeats_counted(rows: Vec<Items<Value>>, place: usize) -> Result<bool, Error>
+fn repeats_counted(rows: Vec<SchemaRow>, place: usize) -> Result<bool, Error>
     requires { place ≤ 1 }
-    ensures ok { IfOk result (λ found. found ≡ has_pair (share_key (place + 1)) (counted rows.items)) }
+    ensures ok { IfOk result (λ found. found ≡ has_pair (share_key (place + 1)) (counted rows.entry.items)) }
     ensures kind { OnlyMemory result }
 {
     let mut rows = rows;
@@ -168,11 +159,7 @@ fn repeats_counted(rows: Vec<Items<Value>>, place: usize) -> Result<bool, Error>
 
 /// Whether rows break a rule that each row decides, beside the other tables' rows: those of `_Tables` stand in the
 /// order of their names, those of `_Columns` in the order of their tables and names.
-fn has_fault_in_row(
-    tables: &[Items<Value>],
-    columns: &[Items<Value>],
-    validation: &[Items<Value>],
-) -> bool
+fn has_fault_in_row(tables: &[SchemaRow], columns: &[SchemaRow], validation: &[SchemaRow]) -> bool
     requires by_name { IsSorted (by_texts 0) tables.now }
     requires by_column { IsSorted (by_texts 2) columns.now }
     ensures { let s = rows_of tables.now columns.now validation.now in result ≡ has_faulty_row s }
@@ -189,11 +176,11 @@ fn has_fault_in_row(
 /// # Errors
 /// `OutOfMemory`.
 fn has_shared_key(
-    tables: Vec<Items<Value>>,
-    columns: Vec<Items<Value>>,
-    validation: Vec<Items<Value>>,
+    tables: Vec<SchemaRow>,
+    columns: Vec<SchemaRow>,
+    validation: Vec<SchemaRow>,
 ) -> Result<bool, Error>
-    ensures ok { let s = rows_of tables.items columns.items validation.items in IfOk result
+    ensures ok { let s = rows_of tables.entry.items columns.entry.items validation.entry.items in IfOk result
         (λ found. found ≡ shares_key s) }
     ensures kind { OnlyMemory result }
 {
@@ -211,11 +198,11 @@ fn has_shared_key(
 /// # Errors
 /// `OutOfMemory`.
 pub(crate) fn is_faulty(
-    tables: Vec<Items<Value>>,
-    columns: Vec<Items<Value>>,
-    validation: Vec<Items<Value>>,
+    tables: Vec<SchemaRow>,
+    columns: Vec<SchemaRow>,
+    validation: Vec<SchemaRow>,
 ) -> Result<bool, Error>
-    ensures ok { let s = rows_of tables.items columns.items validation.items in IfOk result
+    ensures ok { let s = rows_of tables.entry.items columns.entry.items validation.entry.items in IfOk result
         (λ found. found ≡ breaks_rule s) }
     ensures kind { OnlyMemory result }
 {

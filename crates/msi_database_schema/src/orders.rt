@@ -11,14 +11,12 @@ ghost use Rattle.msi_database_schema.specs.RowOrders.{by_numbers, by_texts, by_v
 ghost use Rattle.msi_database_schema.specs.RowOrders.{texts_at, texts_cmp};
 ghost use Rattle.msi_database_schema.specs.Schema.{has_number, is_about as is_of_table, share_key, text_at as text_in};
 
-use crate::rows::{compare_at, number_at, text_at};
-use msi_table::value::Value;
+use crate::rows::{SchemaRow, compare_at, number_at, text_at};
 use msi_text::errors::Error;
-use msi_text::text::Items;
 use std::cmp::Ordering;
 
 /// How a row's table and its text at a place stand to two texts.
-fn texts_order(row: &Items<Value>, place: usize, table: &str, text: &str) -> Ordering
+fn texts_order(row: &SchemaRow, place: usize, table: &str, text: &str) -> Ordering
     ensures { result ≡ texts_cmp (texts_at place row.now) (table.now, text.now) }
 {
     text_at(row, 0)
@@ -27,7 +25,7 @@ fn texts_order(row: &Items<Value>, place: usize, table: &str, text: &str) -> Ord
 }
 
 /// How a row's table and its number stand to a text and a number.
-fn number_order(row: &Items<Value>, table: &str, number: i32) -> Ordering
+fn number_order(row: &SchemaRow, table: &str, number: i32) -> Ordering
     ensures { result ≡ numbers_cmp (number_in row.now) (table.now, number) }
 {
     text_at(row, 0)
@@ -36,7 +34,7 @@ fn number_order(row: &Items<Value>, table: &str, number: i32) -> Ordering
 }
 
 /// How a row's table and its number stand to a text and a column's number.
-fn numbered_order(row: &Items<Value>, table: &str, number: u16) -> Ordering
+fn numbered_order(row: &SchemaRow, table: &str, number: u16) -> Ordering
     ensures { result ≡ numbers_cmp (number_in row.now) (table.now, pos number) }
 {
     text_at(row, 0)
@@ -45,7 +43,7 @@ fn numbered_order(row: &Items<Value>, table: &str, number: u16) -> Ordering
 }
 
 /// How the first values of two rows, and those at a place, stand to one another.
-fn compare_values(row: &Items<Value>, other: &Items<Value>, place: usize) -> Ordering
+fn compare_values(row: &SchemaRow, other: &SchemaRow, place: usize) -> Ordering
     ensures { result ≡ by_values place row.now other.now }
 {
     compare_at(row, other, 0).then(compare_at(row, other, place))
@@ -55,7 +53,7 @@ fn compare_values(row: &Items<Value>, other: &Items<Value>, place: usize) -> Ord
 ///
 /// # Errors
 /// `OutOfMemory`.
-pub(crate) fn sort_by_texts(rows: &mut Vec<Items<Value>>, place: usize) -> Result<(), Error>
+pub(crate) fn sort_by_texts(rows: &mut Vec<SchemaRow>, place: usize) -> Result<(), Error>
     ensures ok { OnOk result (rows.new.items ≡ stable_sort (by_texts place) rows.old.items) }
     ensures kind { OnlyMemory result }
 {
@@ -67,7 +65,7 @@ pub(crate) fn sort_by_texts(rows: &mut Vec<Items<Value>>, place: usize) -> Resul
 ///
 /// # Errors
 /// `OutOfMemory`.
-pub(crate) fn sort_by_numbers(rows: &mut Vec<Items<Value>>) -> Result<(), Error>
+pub(crate) fn sort_by_numbers(rows: &mut Vec<SchemaRow>) -> Result<(), Error>
     ensures ok { OnOk result (rows.new.items ≡ stable_sort by_numbers rows.old.items) }
     ensures kind { OnlyMemory result }
 {
@@ -76,26 +74,26 @@ pub(crate) fn sort_by_numbers(rows: &mut Vec<Items<Value>>) -> Result<(), Error>
 }
 
 /// Whether a row is about a table.
-pub(crate) fn is_about(row: &Items<Value>, table: &str) -> bool
+pub(crate) fn is_about(row: &SchemaRow, table: &str) -> bool
     ensures { result ≡ is_of_table table.now row.now }
 {
     text_at(row, 0) == table
 }
 
 /// The row at a place, where there is one.
-fn row_at(rows: &[Items<Value>], at: usize) -> Option<&Items<Value>>
+fn row_at<'r, 'a>(rows: &'r [SchemaRow<'a>], at: usize) -> Option<&'r SchemaRow<'a>>
     ensures { option_copied result ≡ slice_get rows.now at }
 {
     rows.get(at)
 }
 
 /// The first row about a table with a text at a place, of rows that `sort_by_texts` ordered.
-pub(crate) fn find_by_texts<'a>(
-    rows: &'a [Items<Value>],
+pub(crate) fn find_by_texts<'r, 'a>(
+    rows: &'r [SchemaRow<'a>],
     place: usize,
     table: &str,
     text: &str,
-) -> Option<&'a Items<Value>>
+) -> Option<&'r SchemaRow<'a>>
     requires { IsSorted (by_texts place) rows.now }
     ensures { option_copied result
         ≡ find (λ row. is_of_table table.now row && bytes_eq (text_in place row) text.now) rows.now }
@@ -114,11 +112,11 @@ pub(crate) fn find_by_texts<'a>(
 }
 
 /// The first row about a table with a number, of rows that `sort_by_numbers` ordered.
-pub(crate) fn find_by_number<'a>(
-    rows: &'a [Items<Value>],
+pub(crate) fn find_by_number<'r, 'a>(
+    rows: &'r [SchemaRow<'a>],
     table: &str,
     number: u16,
-) -> Option<&'a Items<Value>>
+) -> Option<&'r SchemaRow<'a>>
     requires { IsSorted by_numbers rows.now }
     ensures { option_copied result ≡ find (λ row. is_of_table table.now row && has_number number row) rows.now }
 {
@@ -136,7 +134,7 @@ pub(crate) fn find_by_number<'a>(
 }
 
 /// How many rows are about a table, of rows that `sort_by_numbers` ordered.
-pub(crate) fn count_about(rows: &[Items<Value>], table: &str) -> usize
+pub(crate) fn count_about(rows: &[SchemaRow], table: &str) -> usize
     requires { IsSorted by_numbers rows.now }
     ensures { result ≡ length (filter (is_of_table table.now) rows.now) }
 {
@@ -149,7 +147,7 @@ pub(crate) fn count_about(rows: &[Items<Value>], table: &str) -> usize
 ///
 /// # Errors
 /// `OutOfMemory`.
-fn sort_by_values(rows: &mut Vec<Items<Value>>, place: usize) -> Result<(), Error>
+fn sort_by_values(rows: &mut Vec<SchemaRow>, place: usize) -> Result<(), Error>
     ensures ok { OnOk result (rows.new.items ≡ stable_sort (by_values place) rows.old.items) }
     ensures kind { OnlyMemory result }
 {
@@ -158,7 +156,7 @@ fn sort_by_values(rows: &mut Vec<Items<Value>>, place: usize) -> Result<(), Erro
 }
 
 /// Whether each row stands before the next by its first value and that at a place.
-fn ascends_strictly(rows: &[Items<Value>], place: usize) -> bool
+fn ascends_strictly(rows: &[SchemaRow], place: usize) -> bool
     ensures { IsAllAdjacentAnswer (λ row other b. b ≡ is_lt (by_values place row other)) rows.now result }
 {
     rows.is_sorted_by(|row, other| compare_values(row, other, place).is_lt())
@@ -168,9 +166,9 @@ fn ascends_strictly(rows: &[Items<Value>], place: usize) -> bool
 ///
 /// # Errors
 /// `OutOfMemory`.
-pub(crate) fn has_repeat(rows: Vec<Items<Value>>, place: usize) -> Result<bool, Error>
+pub(crate) fn has_repeat(rows: Vec<SchemaRow>, place: usize) -> Result<bool, Error>
     requires { place ≤ 1 }
-    ensures ok { IfOk result (λ found. found ≡ has_pair (share_key (place + 1)) rows.items) }
+    ensures ok { IfOk result (λ found. found ≡ has_pair (share_key (place + 1)) rows.entry.items) }
     ensures kind { OnlyMemory result }
 {
     let mut rows = rows;

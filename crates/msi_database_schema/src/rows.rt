@@ -1,65 +1,169 @@
-//! The values of a row of a system table, by their places. A missing value reads as null.
+//! Rows of the system tables as they are looked at: the values of a row by their places, without a copy of a text.
 
-ghost use Rattle.std.specs.Prelude.{◌≡◌};
+ghost use Rattle.std.specs.Prelude.{◌≡◌, IfOk, map};
+ghost use Rattle.std.specs.List.{list_any};
+ghost use Rattle.msi_text_base.specs.Results.{OnlyMemory};
+ghost use Rattle.msi_table_values.specs.CellValues.{row_values, value_of_cell};
 ghost use Rattle.msi_table_values.specs.Values.{value_cmp, is_null, is_text};
+ghost use Rattle.msi_table_values.specs.Views.{seen_value};
 ghost use Rattle.msi_database_schema.specs.Schema.{number_of, text_at as text_in, value_at};
 
-use msi_table::value::Value;
+use msi_table::parts::ValueView;
+use msi_table::value::{Value, ValueRef};
+use msi_text::errors::Error;
+use msi_text::stringpool::StringPool;
 use msi_text::text::Items;
+use std::alloc::Global;
 use std::cmp::Ordering;
+use std::marker::Model;
+
+/// Where the values of a row lie: in a list of values, or in cells and the pool of their texts.
+#[derive(Clone, Copy, Drop)]
+enum RowParts<'a> {
+    Values(&'a [Value]),
+    Cells(&'a StringPool, &'a [ValueRef]),
+}
+
+/// A row of a system table, borrowed. A contract sees its values.
+#[derive(Drop)]
+pub(crate) struct SchemaRow<'a> {
+    parts: RowParts<'a>,
+}
+
+impl<'a> Model for SchemaRow<'a> {
+    ghost use Rattle.std.specs.Prelude.{List};
+    ghost use Rattle.msi_table_values.specs.declared.value.Value.{Value as ValueOf};
+    ghost use Rattle.msi_database_schema.specs.SeenRows.{seen_row};
+
+    ghost Value = { List ValueOf };
+
+    ghost view = { λ r. seen_row r.parts };
+}
+
+/// Rows of values, borrowed.
+///
+/// # Errors
+/// `OutOfMemory`.
+pub(crate) fn rows_of_values<'a>(
+    alloc: Global,
+    rows: &'a [Items<Value>],
+) -> Result<Vec<SchemaRow<'a>>, Error>
+    ensures ok { IfOk result (λ seen. seen.items ≡ rows.now) }
+    ensures kind { OnlyMemory result }
+{
+    let mut seen = Vec::with_capacity(alloc, rows.len())?;
+    for row in rows {
+        let parts = RowParts::Values(row.as_slice());
+        seen.push(SchemaRow { parts })?;
+    }
+    Ok(seen)
+}
+
+/// Rows of cells, borrowed, as the values that these stand for.
+///
+/// # Errors
+/// `OutOfMemory`.
+pub(crate) fn rows_of_cells<'a>(
+    alloc: Global,
+    pool: &'a StringPool,
+    rows: &'a [Items<ValueRef>],
+) -> Result<Vec<SchemaRow<'a>>, Error>
+    ensures ok { IfOk result (λ seen. seen.items ≡ map (row_values pool.now.places) rows.now) }
+    ensures kind { OnlyMemory result }
+{
+    let mut seen = Vec::with_capacity(alloc, rows.len())?;
+    for row in rows {
+        let parts = RowParts::Cells(pool, row.as_slice());
+        seen.push(SchemaRow { parts })?;
+    }
+    Ok(seen)
+}
+
+/// The value at a place, borrowed; null where there is none.
+#[tactic(auto, using(crate::proofs::SeenRowLemmas::cell_found))]
+pub(crate) fn view_at<'a>(row: &SchemaRow<'a>, place: usize) -> ValueView<'a>
+    ensures { seen_value result ≡ value_at place row.now }
+{
+    match row.parts {
+        RowParts::Values(values) => match values.get(place) {
+            Some(value) => ValueView::of(value),
+            None => ValueView::Null,
+        },
+        RowParts::Cells(pool, cells) => match cells.get(place) {
+            Some(cell) => ValueView::of_cell(pool, *cell),
+            None => ValueView::Null,
+        },
+    }
+}
 
 /// The text at a place; the empty one where there is none.
-pub(crate) fn text_at(row: &Items<Value>, place: usize) -> &str
+pub(crate) fn text_at<'a>(row: &SchemaRow<'a>, place: usize) -> &'a str
     ensures { result.now ≡ text_in place row.now }
 {
-    match row.as_slice().get(place) {
-        Some(Value::Str(text)) => text.as_str(),
+    match view_at(row, place) {
+        ValueView::Str(text) => text,
         _ => "",
     }
 }
 
 /// The number at a place; 0 where there is none.
-pub(crate) fn number_at(row: &Items<Value>, place: usize) -> i32
+pub(crate) fn number_at(row: &SchemaRow, place: usize) -> i32
     ensures { result ≡ number_of (value_at place row.now) }
 {
-    match row.as_slice().get(place) {
-        Some(Value::Int(number)) => *number,
+    match view_at(row, place) {
+        ValueView::Int(number) => number,
         _ => 0,
     }
 }
 
 /// Whether the value at a place is null.
-pub(crate) fn is_null_at(row: &Items<Value>, place: usize) -> bool
+pub(crate) fn is_null_at(row: &SchemaRow, place: usize) -> bool
     ensures { result ≡ is_null (value_at place row.now) }
 {
-    match row.as_slice().get(place) {
-        Some(value) => value.is_null(),
-        None => true,
-    }
+    matches!(view_at(row, place), ValueView::Null)
 }
 
 /// Whether the value at a place is a text.
-pub(crate) fn is_text_at(row: &Items<Value>, place: usize) -> bool
+pub(crate) fn is_text_at(row: &SchemaRow, place: usize) -> bool
     ensures { result ≡ is_text (value_at place row.now) }
 {
-    match row.as_slice().get(place) {
-        Some(Value::Str(_)) => true,
-        _ => false,
+    matches!(view_at(row, place), ValueView::Str(_))
+}
+
+/// Whether a cell stands for null.
+fn is_null_cell(pool: &StringPool, cell: ValueRef) -> bool
+    ensures { result ≡ is_null (value_of_cell pool.now.places cell) }
+{
+    matches!(ValueView::of_cell(pool, cell), ValueView::Null)
+}
+
+/// Whether a cell of some stands for null.
+fn has_null_cell(pool: &StringPool, cells: &[ValueRef]) -> bool
+    ensures { result ≡ list_any (λ cell. is_null (value_of_cell pool.now.places cell)) cells.now }
+{
+    cells.iter().any(|cell| is_null_cell(pool, *cell))
+}
+
+/// Whether a value that cells stand for is null.
+fn stand_for_null(pool: &StringPool, cells: &[ValueRef]) -> bool
+    ensures { result ≡ list_any is_null (row_values pool.now.places cells.now) }
+{
+    has_null_cell(pool, cells)
+}
+
+/// Whether a value of a row is null.
+pub(crate) fn holds_null(row: &SchemaRow) -> bool
+    ensures { result ≡ list_any is_null row.now }
+{
+    match row.parts {
+        RowParts::Values(values) => values.iter().any(Value::is_null),
+        RowParts::Cells(pool, cells) => stand_for_null(pool, cells),
     }
 }
 
 /// How the values of two rows at a place stand to one another.
-pub(crate) fn compare_at(row: &Items<Value>, other: &Items<Value>, place: usize) -> Ordering
+pub(crate) fn compare_at(row: &SchemaRow, other: &SchemaRow, place: usize) -> Ordering
     ensures { result ≡ value_cmp (value_at place row.now) (value_at place other.now) }
 {
-    match row.as_slice().get(place) {
-        Some(value) => match other.as_slice().get(place) {
-            Some(other_value) => value.cmp(other_value),
-            None => value.cmp(&Value::Null),
-        },
-        None => match other.as_slice().get(place) {
-            Some(other_value) => Value::Null.cmp(other_value),
-            None => Ordering::Equal,
-        },
-    }
+    view_at(row, place).compare(view_at(other, place))
 }

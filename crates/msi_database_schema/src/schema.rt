@@ -1,9 +1,10 @@
 //! Which tables the rows of `_Tables`, `_Columns` and `_Validation` describe (MSI SDK, "System tables").
 
-ghost use Rattle.std.specs.Prelude.{◌≡◌, ◌≤◌, false, IfOk, OnOk, length, option_map};
+ghost use Rattle.std.specs.Prelude.{◌≡◌, ◌≤◌, false, IfOk, OnOk, length, map, option_map};
 ghost use Rattle.std.specs.List.Sorted.{IsSorted};
 ghost use Rattle.msi_text_base.specs.Lists.{stable_sort};
 ghost use Rattle.msi_text_base.specs.Results.{Gives, OnlyMemory};
+ghost use Rattle.msi_table_values.specs.CellValues.{row_values};
 ghost use Rattle.msi_table.specs.Tables.{most_columns};
 ghost use Rattle.msi_database_schema.specs.ListedTables.{by_names, listed_table as table_listed};
 ghost use Rattle.msi_database_schema.specs.ListedTables.{listed_tables as tables_listed};
@@ -16,13 +17,14 @@ use crate::columns::columns_of_table;
 use crate::faults::{has_odd_value, is_counted, is_faulty};
 use crate::orders::{sort_by_numbers, sort_by_texts};
 use crate::reasons;
-use crate::rows::text_at;
+use crate::rows::{SchemaRow, rows_of_cells, rows_of_values, text_at};
 use crate::system::{COLUMNS, TABLES, columns_columns, tables_columns};
 use msi_table::column::Column;
 use msi_table::parts::table;
 use msi_table::table::Table;
-use msi_table::value::Value;
+use msi_table::value::{Value, ValueRef};
 use msi_text::errors::{Error, ErrorKind};
+use msi_text::stringpool::StringPool;
 use msi_text::text::{IntoText, Items};
 use std::alloc::Global;
 use std::marker::Model;
@@ -106,8 +108,8 @@ fn system_tables(alloc: Global, long: bool) -> Result<Vec<Table>, Error>
 /// `InvalidData` where its columns aren't numbered from 1 on, and where their bits name no type; `OutOfMemory`.
 fn listed_table(
     alloc: Global,
-    columns: &[Items<Value>],
-    validation: &[Items<Value>],
+    columns: &[SchemaRow],
+    validation: &[SchemaRow],
     name: &str,
     long: bool,
 ) -> Result<Table, Error>
@@ -130,9 +132,9 @@ fn listed_table(
 /// `OutOfMemory`.
 fn listed_tables(
     alloc: Global,
-    tables: &[Items<Value>],
-    columns: &[Items<Value>],
-    validation: &[Items<Value>],
+    tables: &[SchemaRow],
+    columns: &[SchemaRow],
+    validation: &[SchemaRow],
     long: bool,
 ) -> Result<Vec<Table>, Error>
     requires by_number { IsSorted by_numbers columns.now }
@@ -169,12 +171,12 @@ fn sort_by_names(tables: &mut Vec<Table>) -> Result<(), Error>
 /// `InvalidData` for rows that describe none; `OutOfMemory`.
 fn described(
     alloc: Global,
-    tables: Vec<Items<Value>>,
-    columns: Vec<Items<Value>>,
-    validation: Vec<Items<Value>>,
+    tables: Vec<SchemaRow>,
+    columns: Vec<SchemaRow>,
+    validation: Vec<SchemaRow>,
     long: bool,
 ) -> Result<Items<Table>, Error>
-    ensures { let s = rows_of tables.items columns.items validation.items in
+    ensures { let s = rows_of tables.entry.items columns.entry.items validation.entry.items in
         Gives (λ tables. tables) result (tables_of long s) }
 {
     if has_odd_value(tables.as_slice(), columns.as_slice()) {
@@ -211,10 +213,30 @@ fn described(
 pub fn tables_described(alloc: Global, rows: SchemaRows, long: bool) -> Result<Items<Table>, Error>
     ensures { Gives (λ tables. tables) result (tables_of long rows) }
 {
-    let SchemaRows {
-        tables,
-        columns,
-        validation,
-    } = rows;
+    let tables = rows_of_values(alloc, rows.tables.as_slice())?;
+    let columns = rows_of_values(alloc, rows.columns.as_slice())?;
+    let validation = rows_of_values(alloc, rows.validation.as_slice())?;
     described(alloc, tables, columns, validation, long)
+}
+
+/// Returns the tables that rows describe, as `tables_described` does, of the cells of the rows and the pool of their
+/// texts. No text of a row is copied but into a column.
+///
+/// # Errors
+/// Fails as `tables_described` does for the values that the cells stand for.
+pub fn tables_of_cells(
+    alloc: Global,
+    pool: &StringPool,
+    tables: &[Items<ValueRef>],
+    columns: &[Items<ValueRef>],
+    validation: &[Items<ValueRef>],
+) -> Result<Items<Table>, Error>
+    ensures { let values = map (row_values pool.now.places) in
+        let rows = rows_of (values tables.now) (values columns.now) (values validation.now) in
+        Gives (λ tables. tables) result (tables_of pool.now.long rows) }
+{
+    let tables = rows_of_cells(alloc, pool, tables)?;
+    let columns = rows_of_cells(alloc, pool, columns)?;
+    let validation = rows_of_cells(alloc, pool, validation)?;
+    described(alloc, tables, columns, validation, pool.long_string_refs())
 }
