@@ -1,7 +1,7 @@
 //! Calls on the summary.
 
 use crate::failure::Failure;
-use crate::words::Words;
+use crate::words::{Words, count_of, number_of};
 use msi::{CodePage, LanguageId, SummaryInfo, Timestamp};
 use std::alloc::{AllocError, Global};
 
@@ -161,22 +161,27 @@ fn set_languages(
 
 /// Sets a number or a time.
 fn set_number(summary: &mut SummaryInfo, property: &str, words: &mut Words) -> Result<(), Failure> {
+    let number = words.word()?;
     match property {
-        "page_count" => summary.set_page_count(words.number()?)?,
-        "word_count" => summary.set_word_count(words.number()?)?,
-        "character_count" => summary.set_character_count(words.number()?)?,
-        "doc_security" => summary.set_doc_security(words.number()?)?,
-        "last_printed" => summary.set_last_printed(time(words)?)?,
-        "creation_time" => summary.set_creation_time(time(words)?)?,
-        "last_saved_time" => summary.set_last_save_time(time(words)?)?,
-        _ => return Err(NO_PROPERTY),
+        "page_count" => summary.set_page_count(number_of(number)?)?,
+        "word_count" => summary.set_word_count(number_of(number)?)?,
+        "character_count" => summary.set_character_count(number_of(number)?)?,
+        "doc_security" => summary.set_doc_security(number_of(number)?)?,
+        _ => return set_time(summary, property, count_of(number)? as u64),
     }
     Ok(())
 }
 
-/// Reads a time as its count of 100 ns since 1601.
-fn time(words: &mut Words) -> Result<Timestamp, Failure> {
-    Ok(Timestamp::from_ticks(words.count()? as u64))
+/// Sets a time to a count of 100 ns since 1601.
+fn set_time(summary: &mut SummaryInfo, property: &str, ticks: u64) -> Result<(), Failure> {
+    let time = Timestamp::from_ticks(ticks);
+    match property {
+        "last_printed" => summary.set_last_printed(time)?,
+        "creation_time" => summary.set_creation_time(time)?,
+        "last_saved_time" => summary.set_last_save_time(time)?,
+        _ => return Err(NO_PROPERTY),
+    }
+    Ok(())
 }
 
 /// Clears a property.
