@@ -91,7 +91,7 @@ fn no_stream(name: &str) -> Stored
 }
 
 /// What creating a table makes, of its parts: the pool after it is that in use.
-fn created(
+fn creation(
     wide: Option<Database>,
     stored: Vec<Stored>,
     tables: Items<Table>,
@@ -288,11 +288,11 @@ impl Database {
             let wide = self.widened()?;
             let stored = wide.streams_for(name, rows)?;
             let tables = wide.tables_with(name, columns)?;
-            return Ok(created(Some(wide), stored, tables, pool));
+            return Ok(creation(Some(wide), stored, tables, pool));
         }
         let stored = self.streams_for(name, rows)?;
         let tables = self.tables_with(name, columns)?;
-        Ok(created(None, stored, tables, pool))
+        Ok(creation(None, stored, tables, pool))
     }
 
     /// What creating a table makes.

@@ -14,13 +14,13 @@ streams_for-requires-clause-held c = wide_held c.args.self.now c.args.pool c.is_
 
 pub returns-then-is_widened-clause-ok : goal.returns-then-is_widened-clause-ok
 returns-then-is_widened-clause-ok c = wide_created c.args.self.now c.args.pool c.is_widened.result c.is_widened.ensures c.if-is_widened.true c.args.name.now c.args.columns c.args.rows c.in_ok-wide.wide c.in_ok-wide.ensures.ok
-    c.created.result.new.stored.items c.in_ok-stored.stored.items c.in_ok-stored.ensures.ok c.created.result.new.tables c.in_ok-tables.tables c.in_ok-tables.ensures.ok c.created.result.new.wide c.created.ensures.wide
-    c.created.ensures.stored c.created.ensures.tables (unindexed c.created.result.new.pool) c.created.ensures.pool c.created.result.is_pool_used c.created.ensures.uses
+    c.creation.result.new.stored.items c.in_ok-stored.stored.items c.in_ok-stored.ensures.ok c.creation.result.new.tables c.in_ok-tables.tables c.in_ok-tables.ensures.ok c.creation.result.new.wide c.creation.ensures.wide
+    c.creation.ensures.stored c.creation.ensures.tables (unindexed c.creation.result.new.pool) c.creation.ensures.pool c.creation.result.is_pool_used c.creation.ensures.uses
 
 pub streams_for-requires-2-clause-held : goal.streams_for-requires-2-clause-held
 streams_for-requires-2-clause-held c = same_held c.args.self.now c.args.pool c.is_widened.result c.is_widened.ensures c.if-is_widened.false c.args.name.now c.args.columns c.args.rows c.requires.held
 
 pub returns-clause-ok : goal.returns-clause-ok
 returns-clause-ok c = same_created c.args.self.now c.args.pool c.is_widened.result c.is_widened.ensures c.if-is_widened.false c.args.name.now c.args.columns c.args.rows
-    c.created.result.new.stored.items c.in_ok-stored.stored.items c.in_ok-stored.ensures.ok c.created.result.new.tables c.in_ok-tables.tables c.in_ok-tables.ensures.ok c.created.result.new.wide c.created.ensures.wide
-    c.created.ensures.stored c.created.ensures.tables (unindexed c.created.result.new.pool) c.created.ensures.pool c.created.result.is_pool_used c.created.ensures.uses
+    c.creation.result.new.stored.items c.in_ok-stored.stored.items c.in_ok-stored.ensures.ok c.creation.result.new.tables c.in_ok-tables.tables c.in_ok-tables.ensures.ok c.creation.result.new.wide c.creation.ensures.wide
+    c.creation.ensures.stored c.creation.ensures.tables (unindexed c.creation.result.new.pool) c.creation.ensures.pool c.creation.result.is_pool_used c.creation.ensures.uses
