@@ -123,9 +123,12 @@ module _ (k : Kept) (kept : IsKeptDatabase k) (sound : is_sound k.database ≡ t
         fits = subst (λ long. FitsTable long (types_of columns) rows) (sym settles) (row_fits k kept sound name columns rows (in_use used) at);
         makes = λ e name_is bytes_is.
             let parts = row_parts k kept sound name columns rows (in_use used) e name_is (bytes_is ∙ ap (λ long. stream_of_rows long columns rows) settles) at in
-            subst (λ (wide : Option Kept). MakesRows k (Ok c_same) (base_with wide k) (settled used.pool) e) (sym none)
-            (sym base, subst (λ (p : Pool). AreParts (after_change k c_same) p (tables_listed d) (stored_in (e ∷ []) k.streams)) pool
-            (subst (λ (b : Kept). AreParts (with_change b c_same) (record d.pool { places = used.pool.places }) (tables_listed d) (stored_in (e ∷ []) k.streams)) (sym base) parts), sound);
+            subst (λ (wide : Option Kept). MakesRows k (Ok c_same) (base_with wide k) (settled used.pool) e) (sym none) (
+              sym base,
+              subst (λ (p : Pool). AreParts (after_change k c_same) p (tables_listed d) (stored_in (e ∷ []) k.streams)) pool
+                  (subst (λ (b : Kept). AreParts (with_change b c_same) (record d.pool { places = used.pool.places }) (tables_listed d) (stored_in (e ∷ []) k.streams)) (sym base) parts),
+              sound,
+            );
         uses = refl;
       })
 
@@ -142,9 +145,12 @@ module _ (k : Kept) (kept : IsKeptDatabase k) (sound : is_sound k.database ≡ t
         fits = subst (λ long. FitsTable long (types_of columns) rows) (sym settles) (row_fits (kept_widened k) wide_is_kept wide_sound name columns rows (in_use used) at);
         makes = λ e name_is bytes_is.
             let parts = row_parts (kept_widened k) wide_is_kept wide_sound name columns rows (in_use used) e name_is (bytes_is ∙ ap (λ long. stream_of_rows long columns rows) settles) at in
-            subst (λ (wide : Option Kept). MakesRows k (Ok c_wide) (base_with wide k) (settled used.pool) e) (sym some)
-            (sym base, subst (λ (p : Pool). AreParts (after_change k c_wide) p (tables_listed (widened d)) (stored_in (e ∷ []) (kept_widened k).streams)) pool
-            (subst (λ (b : Kept). AreParts (with_change b c_wide) (record (widened d).pool { places = used.pool.places }) (tables_listed (widened d)) (stored_in (e ∷ []) (kept_widened k).streams)) (sym base) parts), wide_sound);
+            subst (λ (wide : Option Kept). MakesRows k (Ok c_wide) (base_with wide k) (settled used.pool) e) (sym some) (
+              sym base,
+              subst (λ (p : Pool). AreParts (after_change k c_wide) p (tables_listed (widened d)) (stored_in (e ∷ []) (kept_widened k).streams)) pool
+                  (subst (λ (b : Kept). AreParts (with_change b c_wide) (record (widened d).pool { places = used.pool.places }) (tables_listed (widened d)) (stored_in (e ∷ []) (kept_widened k).streams)) (sym base) parts),
+              wide_sound,
+            );
         uses = refl;
       })
 

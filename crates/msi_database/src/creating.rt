@@ -244,10 +244,7 @@ impl Database {
         let in_tables = self.stream_for(TABLES, tables)?;
         let in_validation = self.stream_for(VALIDATION, validation)?;
         let own = no_stream(name);
-        Ok(Vec::from_array(
-            self.alloc,
-            [in_columns, in_tables, in_validation, own],
-        )?)
+        Ok(Vec::from_array(self.alloc, [in_columns, in_tables, in_validation, own])?)
     }
 
     /// The tables with a new one, in the order of their names.

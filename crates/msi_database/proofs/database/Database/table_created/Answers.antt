@@ -32,31 +32,31 @@ created_over-requires-clause-held c = let d = c.self.inside in
 pub returns-clause-ok : goal.returns-clause-ok
 returns-clause-ok c = let d = c.self.inside in let old = c.args.self.now in
     IfOk-weaker c.created_over.result (λ made. IsCreated old c.args.name.now c.args.columns c.in_ok-rows.rows c.rows_described.new.pool made.new.wide made.new.stored.items made.new.tables (unindexed made.new.pool) made.is_pool_used) _
-    (λ made is. made_with old c.args.name.now c.args.columns c.in_ok-rows.rows c.rows_described.new.pool 
+    (λ made is. made_with old c.args.name.now c.args.columns c.in_ok-rows.rows c.rows_described.new.pool
     (create_called c.args.self.now (subst IsKeptDatabase c.self.view_is c.self.invariant.kept) c.in_ok-refuse_create.ensures.sound (unindexed d.pool) (ap (λ (k : Kept). k.database.pool) c.self.view_is)
     (unindexed c.in_ok-clone.field-0) (ap unindexed c.in_ok-clone.ensures.ok) c.new-pool.result c.new-pool.ensures c.args.name.now c.args.columns c.as_slice.result.now c.as_slice.ensures
     c.in_ok-refuse_create.field-0 c.in_ok-refuse_create.ensures.value c.as_slice-2.result.now c.as_slice-2.ensures c.in_ok-rows.rows c.rows_described.new.pool c.in_ok-rows.ensures.page c.in_ok-rows.ensures.long c.in_ok-rows.ensures.ok)
-     made.new.wide made.new.stored.items made.new.tables (unindexed made.new.pool) made.is_pool_used is)
+    made.new.wide made.new.stored.items made.new.tables (unindexed made.new.pool) made.is_pool_used is)
     c.created_over.ensures.ok
 
 pub returns-clause-used : goal.returns-clause-used
 returns-clause-used c = let d = c.self.inside in let old = c.args.self.now in
     IfOk-weaker c.created_over.result (λ made. IsCreated old c.args.name.now c.args.columns c.in_ok-rows.rows c.rows_described.new.pool made.new.wide made.new.stored.items made.new.tables (unindexed made.new.pool) made.is_pool_used) _
-    (λ made is. told_with old c.args.name.now c.args.columns c.in_ok-rows.rows c.rows_described.new.pool 
+    (λ made is. told_with old c.args.name.now c.args.columns c.in_ok-rows.rows c.rows_described.new.pool
     (create_called c.args.self.now (subst IsKeptDatabase c.self.view_is c.self.invariant.kept) c.in_ok-refuse_create.ensures.sound (unindexed d.pool) (ap (λ (k : Kept). k.database.pool) c.self.view_is)
     (unindexed c.in_ok-clone.field-0) (ap unindexed c.in_ok-clone.ensures.ok) c.new-pool.result c.new-pool.ensures c.args.name.now c.args.columns c.as_slice.result.now c.as_slice.ensures
     c.in_ok-refuse_create.field-0 c.in_ok-refuse_create.ensures.value c.as_slice-2.result.now c.as_slice-2.ensures c.in_ok-rows.rows c.rows_described.new.pool c.in_ok-rows.ensures.page c.in_ok-rows.ensures.long c.in_ok-rows.ensures.ok)
-     made.new.wide made.new.stored.items made.new.tables (unindexed made.new.pool) made.is_pool_used is)
+    made.new.wide made.new.stored.items made.new.tables (unindexed made.new.pool) made.is_pool_used is)
     c.created_over.ensures.ok
 
 pub returns-clause-names : goal.returns-clause-names
 returns-clause-names c = let d = c.self.inside in let old = c.args.self.now in
     IfOk-weaker c.created_over.result (λ made. IsCreated old c.args.name.now c.args.columns c.in_ok-rows.rows c.rows_described.new.pool made.new.wide made.new.stored.items made.new.tables (unindexed made.new.pool) made.is_pool_used) _
-    (λ made is. named_with old c.args.name.now c.args.columns c.in_ok-rows.rows c.rows_described.new.pool 
+    (λ made is. named_with old c.args.name.now c.args.columns c.in_ok-rows.rows c.rows_described.new.pool
     (create_called c.args.self.now (subst IsKeptDatabase c.self.view_is c.self.invariant.kept) c.in_ok-refuse_create.ensures.sound (unindexed d.pool) (ap (λ (k : Kept). k.database.pool) c.self.view_is)
     (unindexed c.in_ok-clone.field-0) (ap unindexed c.in_ok-clone.ensures.ok) c.new-pool.result c.new-pool.ensures c.args.name.now c.args.columns c.as_slice.result.now c.as_slice.ensures
     c.in_ok-refuse_create.field-0 c.in_ok-refuse_create.ensures.value c.as_slice-2.result.now c.as_slice-2.ensures c.in_ok-rows.rows c.rows_described.new.pool c.in_ok-rows.ensures.page c.in_ok-rows.ensures.long c.in_ok-rows.ensures.ok)
-     made.new.wide made.new.stored.items made.new.tables (unindexed made.new.pool) made.is_pool_used is)
+    made.new.wide made.new.stored.items made.new.tables (unindexed made.new.pool) made.is_pool_used is)
     c.created_over.ensures.ok
 
 pub returns-in_err-refuse_create-clause-early : goal.returns-in_err-refuse_create-clause-early
