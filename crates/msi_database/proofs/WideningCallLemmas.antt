@@ -138,12 +138,12 @@ module _ (k : Kept) (kept : IsKeptDatabase k) where
 
   module _ (sound : is_sound k.database ≡ true) (b : Bool) (b_is : b ≡ has_table validation_name k.database) (unlisted : b ≡ false) (v : TableDef)
       (v_is : v ≡ record { name = validation_name; columns = validation_columns; long = k.database.pool.long }) where
-    none : has_table validation_name k.database ≡ false
-    none = sym b_is ∙ unlisted
+    not_listed : has_table validation_name k.database ≡ false
+    not_listed = sym b_is ∙ unlisted
 
     spelled_there : stored_rows k.streams v.long v.columns v.name ≡ Some k.database.unlisted_validation
     spelled_there = ap (λ (v : TableDef). stored_rows k.streams v.long v.columns v.name) v_is
-        ∙ subst (λ b. MatchBool b (k.database.unlisted_validation ≡ []) (stored_rows k.streams k.database.pool.long validation_columns validation_name ≡ Some k.database.unlisted_validation)) none kept.spelled.unlisted
+        ∙ subst (λ b. MatchBool b (k.database.unlisted_validation ≡ []) (stored_rows k.streams k.database.pool.long validation_columns validation_name ≡ Some k.database.unlisted_validation)) not_listed kept.spelled.unlisted
 
     pub unlisted_memory : (streams : Streams) → streams ≡ k.streams → (kind : ErrorKind) → IsRefusal (or_refused InvalidData (stored_rows streams v.long v.columns v.name)) kind → kind ≡ OutOfMemory
     unlisted_memory streams same kind (inl memory) = memory
@@ -164,7 +164,7 @@ module _ (k : Kept) (kept : IsKeptDatabase k) where
 
       pub unlisted_store : CanStore v rows
       unlisted_store = subst (λ (v : TableDef). CanStore v rows) (sym v_is)
-          (subst (λ (rows : List (List ValueRef)). FitsTable k.database.pool.long (types_of validation_columns) rows) (sym rows_here) (unlisted_fits k kept sound none))
+          (subst (λ (rows : List (List ValueRef)). FitsTable k.database.pool.long (types_of validation_columns) rows) (sym rows_here) (unlisted_fits k kept sound not_listed))
 
       pub unlisted_is : (s : Streams) → with_long_rows s (v.name, table_with v.columns rows) ≡ with_long_rows s (unlisted_table k.database)
       unlisted_is s = λ i. with_long_rows s ((v_is i).name, table_with (v_is i).columns (rows_here i))

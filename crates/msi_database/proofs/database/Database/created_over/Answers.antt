@@ -22,5 +22,5 @@ streams_for-requires-2-clause-held c = same_held c.args.self.now c.args.pool c.i
 
 pub returns-clause-ok : goal.returns-clause-ok
 returns-clause-ok c = same_created c.args.self.now c.args.pool c.is_widened.result c.is_widened.ensures c.if-is_widened.false c.args.name.now c.args.columns c.args.rows
-    c.creation.result.new.stored.items c.in_ok-stored.stored.items c.in_ok-stored.ensures.ok c.creation.result.new.tables c.in_ok-tables.tables c.in_ok-tables.ensures.ok c.creation.result.new.wide c.creation.ensures.wide
-    c.creation.ensures.stored c.creation.ensures.tables (unindexed c.creation.result.new.pool) c.creation.ensures.pool c.creation.result.is_pool_used c.creation.ensures.uses
+    c.creation-2.result.new.stored.items c.in_ok-stored-2.stored.items c.in_ok-stored-2.ensures.ok c.creation-2.result.new.tables c.in_ok-tables-2.tables c.in_ok-tables-2.ensures.ok c.creation-2.result.new.wide c.creation-2.ensures.wide
+    c.creation-2.ensures.stored c.creation-2.ensures.tables (unindexed c.creation-2.result.new.pool) c.creation-2.ensures.pool c.creation-2.result.is_pool_used c.creation-2.ensures.uses

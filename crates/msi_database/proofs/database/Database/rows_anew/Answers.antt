@@ -17,4 +17,4 @@ stream_of-requires-2-clause-storable c = same_stores c.args.self.now c.args.pool
 
 pub returns-clause-ok : goal.returns-clause-ok
 returns-clause-ok c = same_anew c.args.self.now c.args.pool c.is_widened.result c.is_widened.ensures c.if-is_widened.false c.args.table.now c.args.rows.items c.requires.long
-    c.in_ok-stored.stored c.in_ok-stored.ensures.name c.in_ok-stored.ensures.bytes (unindexed c.into_pool.result) c.into_pool.ensures c.is_used.result c.is_used.ensures
+    c.in_ok-stored-2.stored c.in_ok-stored-2.ensures.name c.in_ok-stored-2.ensures.bytes (unindexed c.into_pool-2.result) c.into_pool-2.ensures c.is_used-2.result c.is_used-2.ensures
