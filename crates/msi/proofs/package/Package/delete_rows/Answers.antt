@@ -1,14 +1,24 @@
-use Rattle.std.proofs.Common.{true, refl}
+use Rattle.std.proofs.Common.{true, refl, sym, subst}
 use Rattle.msi_text.proofs.RefusalLemmas.{accepted_first, first_passed}
 use Rattle.msi_database_changes.specs.Database.{Database}
-use Rattle.msi_database_changes.specs.Delete.{early_delete_refusals}
-use Rattle.msi.proofs.ChangeLemmas.{after_delete, answered_behind}
+use Rattle.msi_database_changes.specs.Delete.{delete_rows, early_delete_refusals}
+use Rattle.msi.specs.State.{parts_of}
+use Rattle.msi.specs.Steps.{changing}
+use Rattle.msi.specs.Whole.{Leaves}
+use Rattle.msi.proofs.ChangeLemmas.{after_delete, answered_behind, change_left}
 use Rattle.msi.proofs.package.Package.delete_rows.Goals as goal
 
 pub invariant_of-self-2 : goal.invariant_of-self-2
 invariant_of-self-2 g c =
     after_delete c.settle.new.database c.delete_rows.new.self c.settle.new.name _ c.settle.ensures.taken c.settle.ensures.kept
     c.args.query c.in_ok-is_pool_used.ensures.ok
+
+pub returns-clause-ok : goal.returns-clause-ok
+returns-clause-ok g c =
+    subst (Leaves c.args.self.now (changing (parts_of c.args.self.now.state) (λ (d : Database). delete_rows d c.args.query))) (sym c.note_change.ensures)
+    (change_left _ c.args.self.now c.self.view_is (λ (d : Database). delete_rows d c.args.query) c.in_ok-check_storages.ensures
+    c.settle.new.database c.delete_rows.new.self c.settle.new.name c.settle.new.current.bytes c.in_ok-is_pool_used.is_pool_used
+    c.settle.ensures.database c.settle.ensures.taken c.in_ok-is_pool_used.ensures.ok c.in_ok-is_pool_used.ensures.used)
 
 pub note_change-requires : goal.note_change-requires
 note_change-requires g c = λ used.
