@@ -3,5 +3,6 @@ pub mod StreamAtLemmas
 pub mod TableAtLemmas
 pub mod SoundnessLemmas
 pub mod NamingLemmas
+pub mod RecountingLemmas
 pub mod PutBackLemmas
 pub mod ListingLemmas
