@@ -17,9 +17,9 @@ use Rattle.msi_database_schema.specs.Keys.{table_key}
 use Rattle.msi_database_schema.specs.Schema.{schema_of, SchemaRows}
 use Rattle.msi_database_schema.specs.System.{columns_columns, columns_name, tables_columns, tables_name, validation_columns, validation_name}
 use Rattle.msi_database_changes.specs.Database.{are_alike, cells_naming, columns_by_name, Database, has_table, is_well_formed, rows_of, table_at, Tables, validation_is_standard}
-use Rattle.msi_database_changes.specs.Recounting.{cell_counts, counts_fit, recount_refusals, recounted}
+use Rattle.msi_database_changes.specs.Recounting.{cell_counts, counts_changed, counts_fit, IsRecounted, recount_refusals, recounted}
 use Rattle.msi_database_changes.proofs.AlikeLemmas.{rows_alike}
-use Rattle.msi_database_changes.proofs.RecountingLemmas.{counts_fit_are, many_places, texts_stay}
+use Rattle.msi_database_changes.proofs.RecountingLemmas.{counts_fit_are, many_places, recounts_make_exact, texts_stay, unchanged_same, unchanged_sound}
 use Rattle.msi_database_changes.proofs.RefusedLemmas.{none_holds}
 use Rattle.msi_database_changes.proofs.RowsLemmas.{rows_uses}
 use Rattle.msi_database_changes.proofs.SchemaKeptLemmas.{shown_table}
@@ -96,6 +96,13 @@ module _ (k : Kept) (h : IsKeptDatabase k) (passes : first_refusal (recount_refu
     counts = CountsFit-with_counts (cell_counts d) d.pool.places (counts_fit_are d (not-false (counts_fit d) (none_holds (recount_refusals d) passes).1.1.1.1.0));
     freed = λ sound. counts_freed (cell_counts d) d.pool.places;
   }
+
+  -- where no count changes, nothing does
+  pub recount_unchanged : counts_changed d ≡ 0 → after_recount k ≡ k
+  recount_unchanged same = ap (λ (e : Database). record k { database = e }) (unchanged_same d same (h.freed (unchanged_sound d formed passes same)))
+
+  pub recount_exact : IsRecounted d (recounted d)
+  recount_exact = recounts_make_exact d formed passes
 
 pub recounts_are_kept : RecountsAreKept
 recounts_are_kept k h passes = recount_kept k h passes

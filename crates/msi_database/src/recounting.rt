@@ -1,6 +1,6 @@
 //! Counting anew: the count of each place becomes the number of the cells that name it.
 
-ghost use Rattle.std.specs.Prelude.{◌≡◌, IfErr, IfOk, None, Ok, OnErr, OnOk, length};
+ghost use Rattle.std.specs.Prelude.{◌≡◌, IfErr, IfOk, None, Ok, OnErr, OnOk, length, true};
 ghost use Rattle.msi_text_base.specs.Results.{OnlyMemory};
 ghost use Rattle.msi_text_base.specs.declared.errors.ErrorKind.TheVariants.{InvalidData};
 ghost use Rattle.msi_text_places.specs.Recounting.{AreCounts};
@@ -8,7 +8,7 @@ ghost use Rattle.msi_table.specs.Census.{IsCensus};
 ghost use Rattle.msi_query_rows.specs.Refusals.{AnswersFirst, IsRefusal, first_refusal, unless_refused};
 ghost use Rattle.msi_database_schema.specs.Schema.{table_with};
 ghost use Rattle.msi_database_schema.specs.System.{validation_columns as columns_of_validation, validation_name};
-ghost use Rattle.msi_database_changes.specs.Database.{named_numbers};
+ghost use Rattle.msi_database_changes.specs.Database.{is_sound, named_numbers};
 ghost use Rattle.msi_database_changes.specs.Recounting as databases;
 ghost use Rattle.msi_database_changes.specs.Recounting.{cell_counts, counting_refusals, early_recount_refusals};
 ghost use Rattle.msi_database_changes.specs.Recounting.{recount_refusals};
@@ -133,6 +133,7 @@ impl Database {
     pub fn recount(&mut self) -> Result<u32, Error>
         ensures ok { IfOk result (λ changed. databases.recount self.old.database ≡ Ok changed) }
         ensures left { OnOk result (self.new ≡ after_recount self.old) }
+        ensures sound { OnOk result (is_sound self.new.database ≡ true) }
         ensures same { OnErr result (self.new ≡ self.old) }
         ensures kind { IfErr result (IsRefusal (databases.recount self.old.database)) }
         ensures early { AnswersFirst (early_recount_refusals self.old.database) result }

@@ -1,23 +1,24 @@
 -- A recount leaves a sound database with exact counts, and no value changes.
-use Rattle.std.proofs.Common.{◌≡◌, ◌≢◌, ℕ, zero, suc, ◌+◌, ◌-◌, ◌<◌, ◌≤◌, Bool, true, false, not, ◌&&◌, ◌==◌, List, [], ◌∷◌, map, length, get_or, Option, Some, None, option_map, slice_get, nat_le, nat_lt, unwrap_or, refl, sym, ap, subst, ◌∙◌, arith, ⊎_elim}
+use Rattle.std.proofs.Common.{◌≡◌, ◌≢◌, ℕ, zero, suc, ◌+◌, ◌-◌, ◌<◌, ◌≤◌, Bool, true, false, not, ◌&&◌, ◌==◌, List, [], ◌∷◌, map, length, get_or, Option, Some, None, option_map, slice_get, nat_le, nat_lt, unwrap_or, cond, refl, sym, ap, ap₂, subst, ◌∙◌, arith, ⊎_elim}
 use Rattle.std.specs.Prelude.{if◌then◌else◌, option_and_then, zip}
 use Rattle.std.specs.List.{list_all}
 use Rattle.std.specs.Option.{option_map_or}
-use Rattle.std.proofs.lemmas.Bool.{and_parts, cases_lt, le-leb, leb-true, ne_eqb, not-false}
+use Rattle.std.proofs.lemmas.Bool.{and_parts, cases_lt, le-leb, leb-true, ne_eqb, eqb-true, not-false}
 use Rattle.std.proofs.lemmas.Option.{get_or_from_slice_get, slice_get_past}
 use Rattle.msi_text_base.specs.Lists.{has_pair, tabulated}
 use Rattle.msi_text_base.proofs.ListLemmas.{tabulated_at}
-use Rattle.msi_text_pool_base.specs.Pool.{Place}
+use Rattle.msi_text_pool_base.specs.Pool.{Place, PlacesWritten}
 use Rattle.msi_text_places.specs.FirstFit.{count_of}
 use Rattle.msi_text_places.specs.FirstFitLaws.{text_at}
-use Rattle.msi_text_places.specs.Recounting.{AreCounts, with_count, with_counts}
+use Rattle.msi_text_places.specs.Recounting.{AreCounts, many_recounted, with_count, with_counts}
+use Rattle.msi_text_places.proofs.RecountingLemmas.{many_recounted-cons}
 use Rattle.msi_table.proofs.ReadRowsLemmas.{length-tabulated}
 use Rattle.msi_table.specs.KeyOrder.{key_of, same_key}
 use Rattle.msi_query_rows.specs.Refusals.{first_refusal}
 use Rattle.msi_query_rows.specs.Selection.{TableValues}
-use Rattle.msi_database_changes.specs.Database.{Database, CountsAreExact, cells_naming, counts_suffice, is_sound, is_well_formed, named_numbers, names_stay_in_pool, pool_fits_width, table_at, tables_are_readable, validation_is_standard, values_of}
+use Rattle.msi_database_changes.specs.Database.{Database, CountsAreExact, cells_naming, counts_suffice, is_sound, is_well_formed, named_numbers, names_stay_in_pool, pool_fits_width, table_at, tables_are_readable, validation_is_standard, values_of, with_places}
 use Rattle.msi_database_changes.specs.Laws.{KeysAreDistinct}
-use Rattle.msi_database_changes.specs.Recounting.{cell_counts, counts_fit, IsRecounted, recount_refusals, recounted, RecountsMakeExact}
+use Rattle.msi_database_changes.specs.Recounting.{cell_counts, counts_changed, counts_fit, IsRecounted, recount_refusals, recounted, RecountsMakeExact}
 use Rattle.msi_database_changes.proofs.LawLemmas.{well_formed_from, well_formed_to}
 use Rattle.msi_database_changes.proofs.RefusedLemmas.{none_holds}
 use Rattle.msi_database_changes.proofs.SoundLemmas.{counts_suffice_at, not_named, numbers_all, suffices_at}
@@ -50,6 +51,34 @@ text_kept_at [] (p ∷ ps) i same some = absurd (omega (arith, same))
 text_kept_at (c ∷ cs) [] i same some = absurd (omega (arith, same))
 text_kept_at (c ∷ cs) (p ∷ ps) zero same some = text_counted c p some
 text_kept_at (c ∷ cs) (p ∷ ps) (suc i) same some = text_kept_at cs ps i (omega (arith, same)) some
+
+-- where no count changes, each is the number that is set, and places whose free ones are empty stay
+same_first : (c : ℕ) (p : Place) (rest : ℕ) → cond (not (c == p.count)) 1 0 + rest ≡ 0 → (c ≡ p.count) × (rest ≡ 0)
+same_first c p rest e = by_test (c == p.count) refl e where
+  by_test : (b : Bool) → (c == p.count) ≡ b → cond (not b) 1 0 + rest ≡ 0 → (c ≡ p.count) × (rest ≡ 0)
+  by_test true t e = (eqb-true c p.count t, omega (arith, e))
+  by_test false t e = absurd (omega (arith, e))
+
+none_changed : (counts : List ℕ) (places : List Place) (i : ℕ) → length counts ≡ length places → many_recounted counts places ≡ 0 → i < length places → count_of (slice_get places i) ≡ get_or counts i 0
+none_changed [] [] i same e inside = absurd (omega (arith, inside))
+none_changed [] (p ∷ ps) i same e inside = absurd (omega (arith, same))
+none_changed (c ∷ cs) [] i same e inside = absurd (omega (arith, inside))
+none_changed (c ∷ cs) (p ∷ ps) zero same e inside = sym (same_first c p (many_recounted cs ps) (sym (many_recounted-cons c cs p ps) ∙ e)).0
+none_changed (c ∷ cs) (p ∷ ps) (suc i) same e inside = none_changed cs ps i (omega (arith, same)) (same_first c p (many_recounted cs ps) (sym (many_recounted-cons c cs p ps) ∙ e)).1 (omega (arith, inside))
+
+place_same : (p : Place) → (p.count ≡ 0 → p.text ≡ []) → with_count p.count p ≡ p
+place_same p written = λ i. record { text = text_by (p.count == 0) refl i; count = p.count } where
+  text_by : (b : Bool) → (p.count == 0) ≡ b → (if b then [] else p.text) ≡ p.text
+  text_by true t = sym (written (eqb-true p.count 0 t))
+  text_by false t = refl
+
+places_same : (counts : List ℕ) (places : List Place) → length counts ≡ length places → many_recounted counts places ≡ 0 → PlacesWritten places → with_counts counts places ≡ places
+places_same [] [] same e written = refl
+places_same [] (p ∷ ps) same e written = absurd (omega (arith, same))
+places_same (c ∷ cs) [] same e written = absurd (omega (arith, same))
+places_same (c ∷ cs) (p ∷ ps) same e written =
+    let parts = same_first c p (many_recounted cs ps) (sym (many_recounted-cons c cs p ps) ∙ e) in
+    ap₂ (λ (q : Place) (qs : List Place). q ∷ qs) (ap (λ n. with_count n p) parts.0 ∙ place_same p written.0) (places_same cs ps (omega (arith, same)) parts.1 written.1)
 
 few_at : (counts : List ℕ) (i e : ℕ) → i < length counts → list_all (λ n. nat_le n 65535) counts ≡ true → get_or counts i e ≤ 65535
 few_at [] i e inside fit = absurd (omega (arith, inside))
@@ -119,6 +148,19 @@ module _ (d : Database) where
           (ap (λ many. nat_le many _) many_places ∙ not-false (pool_fits_width d) none.1.0)
           (not-false (tables_are_readable d) none.0)
           (not-false (validation_is_standard d) none.1.1.0)
+
+      -- where no count changes, the database was sound
+      pub unchanged_sound : counts_changed d ≡ 0 → is_sound d ≡ true
+      unchanged_sound same =
+          let none = none_holds (recount_refusals d) passes in
+          five _ _ _ _ _
+          (counts_suffice_at d ∙ numbers_all (suffices_at d) (length d.pool.places) 0
+          (λ i low high. le-leb (cells_naming d (i + 1)) (count_of (slice_get d.pool.places i))
+          (omega (arith, none_changed (cell_counts d) d.pool.places i many_counts same (omega (arith, high)), cells_at i (omega (arith, high))))))
+          (not-false (names_stay_in_pool d) none.1.1.1.0) (not-false (pool_fits_width d) none.1.0) (not-false (tables_are_readable d) none.0) (not-false (validation_is_standard d) none.1.1.0)
+
+  pub unchanged_same : counts_changed d ≡ 0 → PlacesWritten d.pool.places → recounted d ≡ d
+  unchanged_same same written = ap (λ (places : List Place). with_places places d) (places_same (cell_counts d) d.pool.places many_counts same written)
 
 pub recounts_make_exact : RecountsMakeExact
 recounts_make_exact d formed passes = record {

@@ -1,7 +1,8 @@
 -- Counts are set place by place.
 use Rattle.std.proofs.Common.{◌≡◌, ℕ, zero, suc, ◌+◌, ◌^◌, ◌<◌, ◌≤◌, Bool, true, false, cond, not, List, [], ◌∷◌, ◌++◌, length, get_or, set, take, drop, take_all, refl, sym, ap, ◌∙◌, arith}
-use Rattle.std.specs.Prelude.{count_by, zip, ◌==◌, All}
+use Rattle.std.specs.Prelude.{zip, ◌==◌, All}
 use Rattle.std.proofs.lemmas.List.{append-nil, drop_all}
+use Rattle.std.proofs.lemmas.List.Sums.{sum_by-cons}
 use Rattle.msi_text_pool_base.specs.Pool.{CountsFit, Place}
 use Rattle.msi_text_places.specs.Recounting.{AreCounts, many_recounted, with_count, with_counts}
 
@@ -30,12 +31,8 @@ set_before-more counts places now i n old new inside same now_is old_is new_is =
     ∙ set_before-suc counts places i n old inside same
     ∙ ap (set_before counts places) next
 
-one_more : (b : Bool) (m n : ℕ) → cond b (suc (m + n)) (m + n) ≡ cond b (suc m) m + n
-one_more true m n = omega arith
-one_more false m n = refl
-
-many_more : (c : ℕ) (cs : List ℕ) (q : Place) (qs : List Place) → many_recounted (c ∷ cs) (q ∷ qs) ≡ cond (not (c == q.count)) (suc (many_recounted cs qs)) (many_recounted cs qs)
-many_more c cs q qs = ?
+pub many_recounted-cons : (c : ℕ) (cs : List ℕ) (q : Place) (qs : List Place) → many_recounted (c ∷ cs) (q ∷ qs) ≡ cond (not (c == q.count)) 1 0 + many_recounted cs qs
+many_recounted-cons c cs q qs = sum_by-cons (λ e. cond (not (e.0 == e.1.count)) 1 0) (c, q) (zip cs qs)
 
 changed_before-suc : (counts : List ℕ) (places : List Place) (i n : ℕ) (p : Place) → i < length counts → length counts ≡ length places
     → changed_before counts places (suc i) ≡ changed_before counts places i + cond (not (get_or counts i n == (get_or (set_before counts places i) i p).count)) 1 0
@@ -43,10 +40,7 @@ changed_before-suc [] places i n p inside same = absurd (omega arith)
 changed_before-suc (c ∷ cs) [] i n p inside same = absurd (omega arith)
 changed_before-suc (c ∷ cs) (q ∷ qs) zero n p inside same = refl
 changed_before-suc (c ∷ cs) (q ∷ qs) (suc i) n p inside same =
-    many_more c (take (suc i) cs) q (take (suc i) qs)
-    ∙ ap (λ m. cond (not (c == q.count)) (suc m) m) (changed_before-suc cs qs i n p (omega arith) (omega arith))
-    ∙ one_more (not (c == q.count)) (changed_before cs qs i) (cond (not (get_or cs i n == (get_or (set_before cs qs i) i p).count)) 1 0)
-    ∙ ap (λ m. m + cond (not (get_or cs i n == (get_or (set_before cs qs i) i p).count)) 1 0) (sym (many_more c (take i cs) q (take i qs)))
+    omega (arith, many_recounted-cons c (take (suc i) cs) q (take (suc i) qs), many_recounted-cons c (take i cs) q (take i qs), changed_before-suc cs qs i n p (omega arith) (omega arith))
 
 -- one count more
 pub changed_before-more : (counts : List ℕ) (places now : List Place) (i n many : ℕ) (old : Place) (is_changed : Bool) → i < length counts → length counts ≡ length places
