@@ -16,6 +16,8 @@ mod looking;
 #[cfg(test)]
 mod readme;
 #[cfg(test)]
+mod recounting;
+#[cfg(test)]
 mod samples;
 #[cfg(test)]
 mod sharing;

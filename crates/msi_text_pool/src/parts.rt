@@ -52,7 +52,8 @@ pub fn incref_widening(pool: &mut StringPool, text: String) -> Result<StringRef,
 pub fn set_counts(pool: &mut StringPool, counts: &[u32]) -> u32
     requires many { length counts.now ≡ length pool.old.places }
     requires counts { AreCounts counts.now }
-    ensures pool { unindexed pool.new ≡ record (unindexed pool.old) { places = with_counts counts.now pool.old.places } }
+    ensures pool { unindexed pool.new
+        ≡ record (unindexed pool.old) { places = with_counts counts.now pool.old.places } }
     ensures changed { result ≡ many_recounted counts.now pool.old.places }
     ensures operations { pool.new.operations ≡ 0 }
 {

@@ -3,7 +3,7 @@ use Rattle.msi_query_rows.proofs.RefusalLemmas.{accepted_first, err_passed, firs
 use Rattle.msi_database_changes.specs.Recounting.{early_recount_refusals}
 use Rattle.msi.proofs.ChangeLemmas.{answered_behind, held_sound}
 use Rattle.msi.proofs.RecountingLemmas.{recount_answered, recount_left, recount_refused}
-use Rattle.msi.proofs.recounting.Package.recount.Goals as goal
+use Rattle.msi.proofs.package.Package.recount.Goals as goal
 
 pub invariant_of-self-2 : goal.invariant_of-self-2
 invariant_of-self-2 g c = held_sound c.recount.new.self c.settle.new.name _ c.settle.ensures.taken c.in_ok-changed.ensures.sound
