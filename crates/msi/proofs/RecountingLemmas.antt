@@ -4,7 +4,7 @@ use Rattle.std.specs.Prelude.{nat_lt}
 use Rattle.std.proofs.lemmas.Bool.{or_parts}
 use Rattle.std.proofs.lemmas.Bool.Decides.{nat_tests}
 use Rattle.msi_text_base.specs.declared.errors.ErrorKind.{ErrorKind}
-use Rattle.msi_text_base.specs.declared.errors.ErrorKind.TheVariants.{InvalidInput}
+use Rattle.msi_text_base.specs.declared.errors.ErrorKind.TheVariants.{InvalidInput, Io, OutOfMemory}
 use Rattle.msi_text_pool_base.specs.Pool as pools
 use Rattle.msi_query_rows.specs.Refusals.{first_refusal, IsRefusal, unless, unless_refused, ◌>>=◌}
 use Rattle.msi_database_changes.specs.Database.{Database}
@@ -51,14 +51,17 @@ module _ (s : State) (h : IsPackage s) (passes : first_refusal (recount_refusals
   pub recounted_exact : HasExactCounts (after_recount s).kept.database
   recounted_exact = record { sound = (recount_exact s.kept h.database passes).sound; counts = (recount_exact s.kept h.database passes).counts }
 
+no_answer : {X : Type 0} (P : Type 0) (x : X) (kind : ErrorKind) → ◌≡◌ {A = Result X ErrorKind} (Ok x) (Err kind) → P
+no_answer P x kind e = absurd cc
+
 exact_by : (s new : State) (answer : Answer) (r : Result ℕ ErrorKind) → recounting (parts_of s) ≡ r → IsPackage s → recounted s r ≡ (Ok answer, new) → HasExactCounts new.kept.database
 exact_by s new answer (Ok n) e h is = subst (λ (t : State). HasExactCounts t.kept.database) (ap (λ p. p.1) is) (recounted_exact s h (recounting_passes (parts_of s) n e))
 exact_by s new answer (Err kind) e h is = absurd cc
 
 pub recounts_make_exact : RecountsMakeExact
 recounts_make_exact n old new answer h (inl is) = exact_by old new answer (recounting (parts_of old)) refl h is
-recounts_make_exact n old new answer h (inr (inl memory)) = absurd cc
-recounts_make_exact n old new answer h (inr (inr fault)) = absurd fault.0
+recounts_make_exact n old new answer h (inr (inl memory)) = no_answer _ answer OutOfMemory memory.1.0
+recounts_make_exact n old new answer h (inr (inr fault)) = no_answer _ answer Io fault.1.0
 
 -- THE CALL
 

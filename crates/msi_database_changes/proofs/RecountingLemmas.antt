@@ -5,10 +5,10 @@ use Rattle.std.specs.List.{list_all}
 use Rattle.std.specs.Option.{option_map_or}
 use Rattle.std.proofs.lemmas.Bool.{and_parts, cases_lt, le-leb, leb-true, ne_eqb, eqb-true, not-false}
 use Rattle.std.proofs.lemmas.Option.{get_or_from_slice_get, slice_get_past}
-use Rattle.msi_text_base.specs.Lists.{has_pair, tabulated}
+use Rattle.msi_text_base.specs.Lists.{has_pair, list_cmp}
 use Rattle.msi_text_base.proofs.ListLemmas.{tabulated_at}
 use Rattle.msi_text_pool_base.specs.Pool.{Place, PlacesWritten}
-use Rattle.msi_text_places.specs.FirstFit.{count_of}
+use Rattle.msi_text_places.specs.FirstFit.{count_of, most_places}
 use Rattle.msi_text_places.specs.FirstFitLaws.{text_at}
 use Rattle.msi_text_places.specs.Recounting.{AreCounts, many_recounted, with_count, with_counts}
 use Rattle.msi_text_places.proofs.RecountingLemmas.{many_recounted-cons}
@@ -101,7 +101,7 @@ module _ (d : Database) where
   pub counts_fit_are : counts_fit d ≡ true → AreCounts (cell_counts d)
   counts_fit_are fit i e inside = let few : get_or (cell_counts d) i e ≤ 65535 = few_at (cell_counts d) i e inside fit in omega (arith, few)
 
-  cells_at : (i : ℕ) → i < length d.pool.places → get_or (cell_counts d) i 0 ≡ cells_naming d (i + 1)
+  pub cells_at : (i : ℕ) → i < length d.pool.places → get_or (cell_counts d) i 0 ≡ cells_naming d (i + 1)
   cells_at i inside = get_or_from_slice_get (cell_counts d) i (cells_naming d (i + 1)) 0 (tabulated_at (λ i. cells_naming d (i + 1)) (length d.pool.places) i inside)
 
   count_now : (i : ℕ) → i < length d.pool.places → count_of (slice_get (recounted d).pool.places i) ≡ cells_naming d (i + 1)
@@ -133,7 +133,7 @@ module _ (d : Database) where
 
     pub values_stay : (name : List ℕ) → values_of (recounted d) name ≡ values_of d name
     values_stay name = found_stays (table_at name d) d.pool.places (recounted d).pool.places
-        (λ u found n some. texts_stay n (omega (arith, some, naming_is d n, total-found _ table_uses name u d.tables n found)))
+        (λ u found n some. texts_stay n (omega (arith, some, naming_is d n, total-found list_cmp table_uses name u d.tables n found)))
 
     pub keys_stay : KeysAreDistinct d → KeysAreDistinct (recounted d)
     keys_stay distinct name t found =
@@ -143,9 +143,9 @@ module _ (d : Database) where
       pub sound_now : is_sound (recounted d) ≡ true
       sound_now =
           let none = none_holds (recount_refusals d) passes in
-          five _ _ _ _ _ suffice_now
+          five (counts_suffice (recounted d)) (names_stay_in_pool (recounted d)) (pool_fits_width (recounted d)) (tables_are_readable d) (validation_is_standard d) suffice_now
           (subst (λ many. list_all (λ n. nat_le n many) (named_numbers d) ≡ true) (sym many_places) (not-false (names_stay_in_pool d) none.1.1.1.0))
-          (ap (λ many. nat_le many _) many_places ∙ not-false (pool_fits_width d) none.1.0)
+          (ap (λ many. nat_le many (most_places d.pool.long)) many_places ∙ not-false (pool_fits_width d) none.1.0)
           (not-false (tables_are_readable d) none.0)
           (not-false (validation_is_standard d) none.1.1.0)
 
@@ -153,7 +153,7 @@ module _ (d : Database) where
       pub unchanged_sound : counts_changed d ≡ 0 → is_sound d ≡ true
       unchanged_sound same =
           let none = none_holds (recount_refusals d) passes in
-          five _ _ _ _ _
+          five (counts_suffice d) (names_stay_in_pool d) (pool_fits_width d) (tables_are_readable d) (validation_is_standard d)
           (counts_suffice_at d ∙ numbers_all (suffices_at d) (length d.pool.places) 0
           (λ i low high. le-leb (cells_naming d (i + 1)) (count_of (slice_get d.pool.places i))
           (omega (arith, none_changed (cell_counts d) d.pool.places i many_counts same (omega (arith, high)), cells_at i (omega (arith, high))))))

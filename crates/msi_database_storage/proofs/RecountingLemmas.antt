@@ -7,20 +7,19 @@ use Rattle.std.proofs.lemmas.Bool.{leb-true, le-leb, true≢false}
 use Rattle.std.proofs.lemmas.Grind.{get_or_default_zero}
 use Rattle.std.proofs.lemmas.List.{ext_get_or}
 use Rattle.std.proofs.lemmas.List.Folds.{list_all-map}
-use Rattle.std.proofs.lemmas.Option.{get_or_from_slice_get}
-use Rattle.msi_text_base.specs.Lists.{numbers_from, tabulated}
-use Rattle.msi_text_base.proofs.ListLemmas.{each_number, tabulated_at}
+use Rattle.msi_text_base.specs.Lists.{numbers_from}
+use Rattle.msi_text_base.proofs.ListLemmas.{each_number}
 use Rattle.msi_text_places.specs.Recounting.{AreCounts}
 use Rattle.msi_table_values.specs.declared.value.ValueRef.{ValueRef}
 use Rattle.msi_table.specs.Tables.{rows_spelled, TableDef}
 use Rattle.msi_table.specs.Census.{CensusDef, CountsMore, IsCensus, most_counted, numbers_of_rows}
 use Rattle.msi_table.proofs.CensusLemmas.{counted_within, nothing_more}
-use Rattle.msi_table.proofs.ReadRowsLemmas.{length-tabulated}
 use Rattle.msi_database_schema.specs.Keys.{table_key}
 use Rattle.msi_database_schema.specs.Schema.{table_with}
 use Rattle.msi_database_schema.specs.System.{validation_columns, validation_name}
 use Rattle.msi_database_changes.specs.Database.{Database, cells_naming, named_numbers}
 use Rattle.msi_database_changes.specs.Recounting.{cell_counts, counts_fit}
+use Rattle.msi_database_changes.proofs.RecountingLemmas.{cells_at, many_counts}
 use Rattle.msi_database_changes.proofs.SoundLemmas.{numbers_all}
 use Rattle.msi_database_storage.specs.Kept.{table_kept_at, unlisted_kept}
 use Rattle.msi_database_storage.specs.Streams.{Streams, stored_rows, stream_at}
@@ -44,9 +43,6 @@ unlisted_counted streams standard tables bytes before after b is none standard_i
 -- COUNTS
 
 module _ (d : Database) (census : CensusDef) (is : IsCensus (length d.pool.places) (named_numbers d) census) where
-  naming_at : (i : ℕ) → i < length d.pool.places → get_or (cell_counts d) i 0 ≡ cells_naming d (i + 1)
-  naming_at i inside = get_or_from_slice_get (cell_counts d) i (cells_naming d (i + 1)) 0 (tabulated_at (λ i. cells_naming d (i + 1)) (length d.pool.places) i inside)
-
   -- where no count is above the most of 16 bits, none ended early
   few_at : AreCounts census.counts → (i : ℕ) → i < length d.pool.places → (cells_naming d (i + 1) ≤ 65535) × (get_or census.counts i 0 ≡ cells_naming d (i + 1))
   few_at fit i inside =
@@ -56,8 +52,8 @@ module _ (d : Database) (census : CensusDef) (is : IsCensus (length d.pool.place
       (few, here ∙ nat.min-eq_left {n = cells_naming d (i + 1)} {m = most_counted} (omega (arith, few)))
 
   pub counts_are : AreCounts census.counts → census.counts ≡ cell_counts d
-  counts_are fit = ext_get_or 0 census.counts (cell_counts d) (is.many_counts ∙ sym (length-tabulated (length d.pool.places) (λ i. cells_naming d (i + 1))))
-      (λ i inside. let within : i < length d.pool.places = omega (arith, inside, is.many_counts) in (few_at fit i within).1 ∙ sym (naming_at i within))
+  counts_are fit = ext_get_or 0 census.counts (cell_counts d) (is.many_counts ∙ sym (many_counts d))
+      (λ i inside. let within : i < length d.pool.places = omega (arith, inside, is.many_counts) in (few_at fit i within).1 ∙ sym (cells_at d i within))
 
   fit_by : counts_fit d ≡ (list_all (λ i. nat_le (cells_naming d (i + 1)) 65535) (numbers_from 0 (length d.pool.places)))
   fit_by = list_all-map (λ n. nat_le n 65535) (λ i. cells_naming d (i + 1)) (numbers_from 0 (length d.pool.places))

@@ -87,10 +87,7 @@ fn is_changeable(package: &mut Package<Memory>) -> bool {
 }
 
 /// Whether the package is sound, what a recount answers, and whether the package is sound then.
-fn recounted(
-    alloc: Global,
-    sample: Sample,
-) -> Result<(bool, Result<u32, ErrorKind>, bool), Error> {
+fn recounted(alloc: Global, sample: Sample) -> Result<(bool, Result<u32, ErrorKind>, bool), Error> {
     let bytes = bytes_of(alloc, sample)?;
     let mut package = opened(alloc, bytes.as_slice())?;
     let before = is_changeable(&mut package);

@@ -22,7 +22,8 @@ use std::io::{Read, Seek, Write};
 use std::rt::Files;
 
 /// The message for arguments that match no command.
-const USAGE: &str = "usage: msidb raw|wrap|new|tables|rows|summary|streams|cat|put|recount FILE [NAME]";
+const USAGE: &str =
+    "usage: msidb raw|wrap|new|tables|rows|summary|streams|cat|put|recount FILE [NAME]";
 
 /// Runs a command over its arguments, a reader and two writers. Returns the exit status: 0 on success; 1 on an
 /// error, whose kind is written to `errors`; 2, with the usage on `errors`, if the arguments match no command.

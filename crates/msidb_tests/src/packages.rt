@@ -90,7 +90,11 @@ const POOL: [u8; 8] = [0xE9, 0xFD, 0, 0, 11, 0, 21, 0];
 /// Makes the count of the pool's first text in a file 0. It answers whether there is such a pool.
 fn uncount(rt: &HostRuntime, path: &str) -> io::Result<bool> {
     let mut bytes = fs::read(rt, path)?;
-    let Some(at) = bytes.as_slice().windows(8).position(|piece| piece == POOL.as_slice()) else {
+    let Some(at) = bytes
+        .as_slice()
+        .windows(8)
+        .position(|piece| piece == POOL.as_slice())
+    else {
         return Ok(false);
     };
     if let Some(count) = bytes.get_mut(at.saturating_add(6)) {
@@ -103,11 +107,7 @@ fn uncount(rt: &HostRuntime, path: &str) -> io::Result<bool> {
 /// Whether a recount of a package with one wrong count prints 1, and the next one 0.
 fn recounts(rt: &HostRuntime, path: &str) -> io::Result<bool> {
     let recount = ["recount", "FILE"];
-    Ok(
-        uncount(rt, path)?
-            && shows(rt, &recount, path, "1\n")?
-            && shows(rt, &recount, path, "0\n")?,
-    )
+    Ok(uncount(rt, path)? && shows(rt, &recount, path, "1\n")? && shows(rt, &recount, path, "0\n")?)
 }
 
 #[test]
