@@ -1,6 +1,5 @@
 -- A recount keeps a database: what the system tables' cells name keeps its text, so that they describe the same tables.
-use Rattle.std.proofs.Common.{◌≡◌, ℕ, ◌<◌, ◌≤◌, Bool, true, false, not, ◌==◌, List, [], ◌∷◌, ◌++◌, map, length, Option, Some, None, Result, Ok, Err, is_some, nat_le, unwrap_or, refl, sym, ap, subst, ◌∙◌, arith, inl, inr}
-use Rattle.std.specs.List.{list_all}
+use Rattle.std.proofs.Common.{◌≡◌, ℕ, ◌<◌, ◌≤◌, Bool, true, false, not, ◌==◌, List, [], ◌∷◌, length, Option, Some, None, Result, Ok, Err, is_some, unwrap_or, refl, sym, ap, subst, ◌∙◌, arith}
 use Rattle.std.specs.Prelude.{if◌then◌else◌, MatchBool}
 use Rattle.std.specs.Option.{option_map_or}
 use Rattle.std.proofs.lemmas.Bool.{eq-eqb, not-false}
@@ -9,28 +8,26 @@ use Rattle.msi_text_base.specs.Lists.{list_cmp}
 use Rattle.msi_text_pool_base.specs.Pool.{Place, PlacesWritten, Pool}
 use Rattle.msi_text_base.specs.declared.errors.ErrorKind.{ErrorKind}
 use Rattle.msi_text_base.specs.declared.errors.ErrorKind.TheVariants.{InvalidData}
-use Rattle.msi_text_places.specs.FirstFit.{most_places}
-use Rattle.msi_text_places.specs.Recounting.{many_recounted, with_counts}
+use Rattle.msi_text_places.specs.Recounting.{with_counts}
 use Rattle.msi_text_places.proofs.RecountingLemmas.{CountsFit-with_counts}
 use Rattle.msi_table_values.specs.declared.value.ValueRef.{ValueRef}
 use Rattle.msi_table_values.specs.Columns.{ColumnDef}
-use Rattle.msi_table.specs.Census.{CensusDef, IsCensus}
 use Rattle.msi_table.specs.Tables.{TableDef}
-use Rattle.msi_query_rows.specs.Refusals.{AnswersFirst, AnswersWith, first_refusal, IsRefusal, Refusals, unless, unless_refused}
+use Rattle.msi_query_rows.specs.Refusals.{first_refusal, Refusals, unless_refused}
 use Rattle.msi_query_rows.specs.Rows.{TableCells}
 use Rattle.msi_database_schema.specs.Keys.{table_key}
 use Rattle.msi_database_schema.specs.Schema.{schema_of}
 use Rattle.msi_database_schema.specs.System.{columns_columns, columns_name, tables_columns, tables_name, validation_columns, validation_name}
-use Rattle.msi_database_changes.specs.Database.{are_alike, cells_naming, columns_by_name, Database, is_readable_table, is_sound, is_well_formed, named_numbers, pool_fits_width, table_at, tables_are_readable, validation_is_standard}
-use Rattle.msi_database_changes.specs.Recounting.{cell_counts, counting_refusals, counts_changed, counts_fit, early_recount_refusals, IsRecounted, recount, recount_refusals, recounted}
+use Rattle.msi_database_changes.specs.Database.{are_alike, cells_naming, columns_by_name, Database, is_sound, is_well_formed, table_at, validation_is_standard}
+use Rattle.msi_database_changes.specs.Recounting.{cell_counts, counts_changed, counts_fit, IsRecounted, recount_refusals, recounted}
 use Rattle.msi_database_changes.proofs.AlikeLemmas.{rows_alike}
 use Rattle.msi_database_changes.proofs.RecountingLemmas.{counts_fit_are, many_places, recounts_make_exact, texts_stay, unchanged_same, unchanged_sound}
-use Rattle.msi_database_changes.proofs.RefusedLemmas.{behind_passed, none_holds}
+use Rattle.msi_database_changes.proofs.RefusedLemmas.{none_holds}
 use Rattle.msi_database_changes.proofs.RowsLemmas.{rows_uses}
 use Rattle.msi_database_changes.proofs.SchemaKeptLemmas.{shown_table}
 use Rattle.msi_database_changes.proofs.TablesLemmas.{naming_is, table_uses, total-found}
 use Rattle.msi_database_changes.proofs.ValuesLemmas.{held_stay}
-use Rattle.msi_database_storage.specs.Kept.{AreAsLong, database_kept, Kept, kept_of, table_kept, table_kept_at}
+use Rattle.msi_database_storage.specs.Kept.{AreAsLong, Kept, kept_of, table_kept_at}
 use Rattle.msi_database_storage.specs.Streams.{stored_rows, stream_at, Streams}
 use Rattle.msi_database.specs.Agreement.{described_by, schema_in, schema_rows}
 use Rattle.msi_database_storage.proofs.SoundnessLemmas.{standard_kept}
@@ -76,8 +73,8 @@ module _ (k : Kept) (h : IsKeptDatabase k) (passes : first_refusal (recount_refu
 
   validation_by : (o : Option TableCells) → table_at validation_name d ≡ o → option_map_or (λ t. are_alike t.columns validation_columns) o true ≡ true
       → (n : ℕ) → 0 < rows_uses (unwrap_or (stored_rows k.streams d.pool.long validation_columns validation_name) []) n → 0 < cells_naming d n
-  validation_by (Some t) found alike = table_named validation_name validation_columns t found
-      (sym (rows_alike d.pool.long t.columns validation_columns (unwrap_or (stream_at (table_key validation_name) k.streams) []) alike))
+  validation_by (Some t) found alike n some = table_named validation_name validation_columns t found
+      (sym (rows_alike d.pool.long t.columns validation_columns (unwrap_or (stream_at (table_key validation_name) k.streams) []) alike)) n some
   validation_by None none alike n some =
       let rows : stored_rows k.streams d.pool.long validation_columns validation_name ≡ Some d.unlisted_validation =
       subst (λ b. MatchBool b (d.unlisted_validation ≡ []) (stored_rows k.streams d.pool.long validation_columns validation_name ≡ Some d.unlisted_validation)) (ap is_some none) h.spelled.unlisted in
@@ -116,23 +113,10 @@ recounts_are_kept k h passes = recount_kept k h passes
 -- THE CALL, over the parts of a database
 
 module _ (pool : Pool) (tables listed : List TableDef) (streams : Streams) (same : listed ≡ tables) (k : Kept) (is : kept_of pool tables streams ≡ k) where
-  pub readable_here : (b : Bool) → b ≡ list_all is_readable_table (map (table_kept streams pool.long) listed) → b ≡ tables_are_readable k.database
-  readable_here b e = e ∙ ap (λ (ts : List TableDef). list_all is_readable_table (map (table_kept streams pool.long) ts)) same ∙ ap (λ (k : Kept). tables_are_readable k.database) is
-
-  pub fits_here : (b : Bool) → b ≡ nat_le (length pool.places) (most_places pool.long) → b ≡ pool_fits_width k.database
-  fits_here b e = e ∙ ap (λ (k : Kept). pool_fits_width k.database) is
-
   pub standard_here : (b : Bool) (standard : List ColumnDef) → standard ≡ validation_columns → b ≡ option_map_or (λ (t : TableDef). are_alike t.columns standard) (table_kept_at validation_name listed) true
       → b ≡ validation_is_standard k.database
   standard_here b standard std e = e ∙ ap (λ (ts : List TableDef). option_map_or (λ (t : TableDef). are_alike t.columns standard) (table_kept_at validation_name ts) true) same
       ∙ standard_kept pool tables streams standard std ∙ ap (λ (k : Kept). validation_is_standard k.database) is
-
-  pub census_here : (many : ℕ) (census : CensusDef) → many ≡ length pool.places → IsCensus many (named_numbers (database_kept pool listed streams)) census
-      → IsCensus (length k.database.pool.places) (named_numbers k.database) census
-  census_here many census many_is counted =
-      subst (λ (k : Kept). IsCensus (length k.database.pool.places) (named_numbers k.database) census) is
-      (subst (λ many. IsCensus many (named_numbers (database_kept pool tables streams)) census) many_is
-      (subst (λ (ts : List TableDef). IsCensus many (named_numbers (database_kept pool ts streams)) census) same counted))
 
 -- refusals one after the other
 pub refused_now : (kind : ErrorKind) (a : Bool) (rest : Refusals) → kind ≡ InvalidData → a ≡ false → ◌≡◌ {A = Result (Unit {0}) ErrorKind} (Err kind) (unless_refused ((not a, InvalidData) ∷ rest) tt)
@@ -143,50 +127,6 @@ refused_later answer a rest passes e = rw passes e
 
 pub none_refused : ◌≡◌ {A = Result (Unit {0}) ErrorKind} (Ok tt) (unless_refused [] tt)
 none_refused = refl
-
--- what is refused first, and then what is refused last
-passed_first : (o : Option ErrorKind) → ◌≡◌ {A = Result (Unit {0}) ErrorKind} (Ok tt) (unless o tt) → o ≡ None
-passed_first None e = refl
-passed_first (Some kind) e = absurd cc
-
-refused_by : (o : Option ErrorKind) (kind : ErrorKind) → ◌≡◌ {A = Result (Unit {0}) ErrorKind} (Err kind) (unless o tt) → o ≡ Some kind
-refused_by None kind e = absurd cc
-refused_by (Some other) kind e = cc
-
-module _ (d : Database) (early : ◌≡◌ {A = Result (Unit {0}) ErrorKind} (Ok tt) (unless_refused (early_recount_refusals d) tt)) where
-  early_passed : first_refusal (early_recount_refusals d) ≡ None
-  early_passed = passed_first (first_refusal (early_recount_refusals d)) early
-
-  pub both_passed : ◌≡◌ {A = Result (Unit {0}) ErrorKind} (Ok tt) (unless_refused (counting_refusals d) tt) → first_refusal (recount_refusals d) ≡ None
-  both_passed late = behind_passed (early_recount_refusals d) (counting_refusals d) early_passed ∙ passed_first (first_refusal (counting_refusals d)) late
-
-  pub refused_late : (kind : ErrorKind) → ◌≡◌ {A = Result (Unit {0}) ErrorKind} (Err kind) (unless_refused (counting_refusals d) tt) → IsRefusal (recount d) kind
-  refused_late kind late = inr (ap (λ (o : Option ErrorKind). unless o (counts_changed d))
-      (behind_passed (early_recount_refusals d) (counting_refusals d) early_passed ∙ refused_by (first_refusal (counting_refusals d)) kind late))
-
-  -- no early refusal holds, so none has to be the answer
-  pub early_answers : {A : Type 0} (r : Result A ErrorKind) → AnswersFirst (early_recount_refusals d) r
-  early_answers r = subst (λ (o : Option ErrorKind). AnswersWith o r) (sym early_passed) tt
-
-early_holds : (rs ss : Refusals) (kind : ErrorKind) → first_refusal rs ≡ Some kind → first_refusal (rs ++ ss) ≡ Some kind
-early_holds [] ss kind e = absurd cc
-early_holds (r ∷ rs) ss kind e = by_first r.0 e where
-  by_first : (b : Bool) → (if b then Some r.1 else first_refusal rs) ≡ Some kind → (if b then Some r.1 else first_refusal (rs ++ ss)) ≡ Some kind
-  by_first true e = e
-  by_first false e = early_holds rs ss kind e
-
-module _ (d : Database) (kind : ErrorKind) (early : ◌≡◌ {A = Result (Unit {0}) ErrorKind} (Err kind) (unless_refused (early_recount_refusals d) tt)) where
-  pub refused_early : IsRefusal (recount d) kind
-  refused_early = inr (ap (λ (o : Option ErrorKind). unless o (counts_changed d))
-      (early_holds (early_recount_refusals d) (counting_refusals d) kind (refused_by (first_refusal (early_recount_refusals d)) kind early)))
-
-  pub early_answered : {A : Type 0} (r : Result A ErrorKind) → r ≡ Err kind → AnswersFirst (early_recount_refusals d) r
-  early_answered r e = subst (λ (o : Option ErrorKind). AnswersWith o r) (sym (refused_by (first_refusal (early_recount_refusals d)) kind early)) e
-
--- what is accepted
-pub accepted_answer : (d : Database) → first_refusal (recount_refusals d) ≡ None → (counts : List ℕ) (n : ℕ) → counts ≡ cell_counts d → n ≡ many_recounted counts d.pool.places → recount d ≡ Ok n
-accepted_answer d passes counts n are is = ap (λ (o : Option ErrorKind). unless o (counts_changed d)) passes
-    ∙ ap Ok (sym (is ∙ ap (λ (counts : List ℕ). many_recounted counts d.pool.places) are))
 
 -- the parts that are left
 module _ (pool new : Pool) (tables : List TableDef) (streams : Streams) (k : Kept) (is : kept_of pool tables streams ≡ k) (counts : List ℕ) (are : counts ≡ cell_counts k.database)

@@ -11,7 +11,7 @@ use Rattle.msi_text_pool_base.specs.Pool.{Place, PlacesWritten}
 use Rattle.msi_text_places.specs.FirstFit.{count_of, most_places}
 use Rattle.msi_text_places.specs.FirstFitLaws.{text_at}
 use Rattle.msi_text_places.specs.Recounting.{AreCounts, many_recounted, with_count, with_counts}
-use Rattle.msi_text_places.proofs.RecountingLemmas.{many_recounted-cons}
+use Rattle.msi_text_places.proofs.RecountingLemmas.{length-with_counts, many_recounted-cons}
 use Rattle.msi_table.proofs.ReadRowsLemmas.{length-tabulated}
 use Rattle.msi_table.specs.KeyOrder.{key_of, same_key}
 use Rattle.msi_query_rows.specs.Refusals.{first_refusal}
@@ -27,12 +27,6 @@ use Rattle.msi_database_changes.proofs.TurnLemmas.{TextsStay}
 use Rattle.msi_database_changes.proofs.ValuesLemmas.{found_stays}
 
 -- PLACES
-
-pub length-with_counts : (counts : List ℕ) (places : List Place) → length counts ≡ length places → length (with_counts counts places) ≡ length places
-length-with_counts [] [] same = refl
-length-with_counts [] (p ∷ ps) same = absurd (omega (arith, same))
-length-with_counts (c ∷ cs) [] same = absurd (omega (arith, same))
-length-with_counts (c ∷ cs) (p ∷ ps) same = ap suc (length-with_counts cs ps (omega (arith, same)))
 
 counted_at : (counts : List ℕ) (places : List Place) (i : ℕ) → length counts ≡ length places → i < length places → count_of (slice_get (with_counts counts places) i) ≡ get_or counts i 0
 counted_at [] [] i same inside = absurd (omega (arith, inside))

@@ -60,6 +60,13 @@ set_before-all counts places i same all = rw (take_all i counts all, take_all i 
 pub changed_before-all : (counts : List ℕ) (places : List Place) (i : ℕ) → length counts ≡ length places → length counts ≤ i → changed_before counts places i ≡ many_recounted counts places
 changed_before-all counts places i same all = rw (take_all i counts all, take_all i places (omega arith)) refl
 
+-- as many places
+pub length-with_counts : (counts : List ℕ) (places : List Place) → length counts ≡ length places → length (with_counts counts places) ≡ length places
+length-with_counts [] [] same = refl
+length-with_counts [] (p ∷ ps) same = absurd (omega (arith, same))
+length-with_counts (c ∷ cs) [] same = absurd (omega (arith, same))
+length-with_counts (c ∷ cs) (p ∷ ps) same = ap suc (length-with_counts cs ps (omega (arith, same)))
+
 -- counts of 16 bits
 pub CountsFit-with_counts : (counts : List ℕ) (places : List Place) → AreCounts counts → CountsFit (with_counts counts places)
 CountsFit-with_counts [] places fit = tt

@@ -14,6 +14,6 @@ loop-i-preserved c =
           c.loop-i-test.true same c.loop-i.invariant.places c.index_mut.ensures.value c.set_count.ensures.place;
       changed = elim c.if-set_count.branch [
         | then-set_count w ↦ w.changed-is ∙ ap (λ b. c.loop-i.changed + cond b 1 0) (sym w.if-set_count.true) ∙ more
-        | else-set_count w ↦ w.changed-is ∙ ap (λ b. c.loop-i.changed + cond b 1 0) (sym w.if-set_count.false) ∙ more
+        | else-set_count w ↦ w.changed-is ∙ (let same : c.loop-i.changed ≡ c.loop-i.changed + cond false 1 0 = omega arith in same) ∙ ap (λ b. c.loop-i.changed + cond b 1 0) (sym w.if-set_count.false) ∙ more
       ];
     }
