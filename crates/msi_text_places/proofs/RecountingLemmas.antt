@@ -1,7 +1,6 @@
 -- Counts are set place by place.
-use Rattle.std.proofs.Common.{◌≡◌, ℕ, zero, suc, ◌+◌, ◌^◌, ◌<◌, ◌≤◌, Bool, true, false, cond, not, List, [], ◌∷◌, ◌++◌, length, get_or, set, take, drop, take_all, refl, sym, ap, ◌∙◌, arith}
-use Rattle.std.specs.Prelude.{zip, ◌==◌, All}
-use Rattle.std.proofs.lemmas.List.{append-nil, drop_all}
+use Rattle.std.proofs.Common.{◌≡◌, ℕ, zero, suc, ◌+◌, ◌<◌, ◌≤◌, Bool, cond, not, List, [], ◌∷◌, ◌++◌, length, get_or, set, take, drop, refl, sym, ap, ◌∙◌, arith}
+use Rattle.std.specs.Prelude.{zip, ◌==◌}
 use Rattle.std.proofs.lemmas.List.Sums.{sum_by-cons}
 use Rattle.msi_text_pool_base.specs.Pool.{CountsFit, Place}
 use Rattle.msi_text_places.specs.Recounting.{AreCounts, many_recounted, with_count, with_counts}
@@ -52,13 +51,6 @@ changed_before-more counts places now i n many old is_changed inside same now_is
     let so : is_changed ≡ not (get_or counts i n == (get_or (set_before counts places i) i old).count) = changed_is ∙ ap (λ (p : Place). not (get_or counts i n == p.count)) there in
     ap (λ m. m + cond is_changed 1 0) many_is ∙ ap (λ b. changed_before counts places i + cond b 1 0) so
     ∙ sym (changed_before-suc counts places i n old inside same) ∙ ap (changed_before counts places) next
-
--- all of them
-pub set_before-all : (counts : List ℕ) (places : List Place) (i : ℕ) → length counts ≡ length places → length counts ≤ i → set_before counts places i ≡ with_counts counts places
-set_before-all counts places i same all = rw (take_all i counts all, take_all i places (omega arith), drop_all i places (omega arith), append-nil) refl
-
-pub changed_before-all : (counts : List ℕ) (places : List Place) (i : ℕ) → length counts ≡ length places → length counts ≤ i → changed_before counts places i ≡ many_recounted counts places
-changed_before-all counts places i same all = rw (take_all i counts all, take_all i places (omega arith)) refl
 
 -- as many places
 pub length-with_counts : (counts : List ℕ) (places : List Place) → length counts ≡ length places → length (with_counts counts places) ≡ length places

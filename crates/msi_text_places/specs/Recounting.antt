@@ -1,5 +1,5 @@
 -- The counts of all places, set at once.
-use Rattle.std.specs.Prelude.{◌≡◌, ℕ, ◌^◌, ◌<◌, not, List, [], map, zip, count_by, All, ◌==◌, if◌then◌else◌}
+use Rattle.std.specs.Prelude.{ℕ, ◌^◌, ◌<◌, not, List, [], map, zip, count_by, All, ◌==◌, if◌then◌else◌}
 use Rattle.msi_text_pool_base.specs.Pool.{Place}
 
 -- a place that so many cells name: one without cells becomes free, and loses its text

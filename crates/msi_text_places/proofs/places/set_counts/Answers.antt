@@ -1,6 +1,5 @@
-use Rattle.std.proofs.Common.{◌≡◌, ◌∙◌, ◌+◌, ap, sym, length, arith, true, false, cond}
-use Rattle.std.specs.Prelude.{nat_lt}
-use Rattle.msi_text_places.proofs.RecountingLemmas.{changed_before, changed_before-all, changed_before-more, set_before-all, set_before-more}
+use Rattle.std.proofs.Common.{◌≡◌, ◌∙◌, ◌+◌, ap, sym, length, arith, false, cond}
+use Rattle.msi_text_places.proofs.RecountingLemmas.{changed_before-more, set_before-more}
 use Rattle.msi_text_places.proofs.places.set_counts.Goals as goal
 use Rattle.msi_text_places.proofs.places.set_counts.Goals.{then-set_count, else-set_count}
 
