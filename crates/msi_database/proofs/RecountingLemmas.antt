@@ -18,8 +18,8 @@ use Rattle.msi_query_rows.specs.Rows.{TableCells}
 use Rattle.msi_database_schema.specs.Keys.{table_key}
 use Rattle.msi_database_schema.specs.Schema.{schema_of}
 use Rattle.msi_database_schema.specs.System.{columns_columns, columns_name, tables_columns, tables_name, validation_columns, validation_name}
-use Rattle.msi_database_changes.specs.Database.{are_alike, cells_naming, columns_by_name, Database, is_sound, is_well_formed, table_at, validation_is_standard}
-use Rattle.msi_database_changes.specs.Recounting.{cell_counts, counts_changed, counts_fit, IsRecounted, recount_refusals, recounted}
+use Rattle.msi_database_changes.specs.Database.{are_alike, cells_naming, columns_by_name, Database, is_sound, is_well_formed, names_stay_in_pool, table_at, validation_is_standard}
+use Rattle.msi_database_changes.specs.Recounting.{cell_counts, counting_refusals, counts_changed, counts_fit, IsRecounted, recount_refusals, recounted}
 use Rattle.msi_database_changes.proofs.AlikeLemmas.{rows_alike}
 use Rattle.msi_database_changes.proofs.RecountingLemmas.{counts_fit_are, many_places, recounts_make_exact, texts_stay, unchanged_same, unchanged_sound}
 use Rattle.msi_database_changes.proofs.RefusedLemmas.{none_holds}
@@ -119,14 +119,30 @@ module _ (pool : Pool) (tables listed : List TableDef) (streams : Streams) (same
       ∙ standard_kept pool tables streams standard std ∙ ap (λ (k : Kept). validation_is_standard k.database) is
 
 -- refusals one after the other
-pub refused_now : (kind : ErrorKind) (a : Bool) (rest : Refusals) → kind ≡ InvalidData → a ≡ false → ◌≡◌ {A = Result (Unit {0}) ErrorKind} (Err kind) (unless_refused ((not a, InvalidData) ∷ rest) tt)
+refused_now : (kind : ErrorKind) (a : Bool) (rest : Refusals) → kind ≡ InvalidData → a ≡ false → ◌≡◌ {A = Result (Unit {0}) ErrorKind} (Err kind) (unless_refused ((not a, InvalidData) ∷ rest) tt)
 refused_now kind a rest is fails = rw (is, fails) refl
 
-pub refused_later : (answer : Result (Unit {0}) ErrorKind) (a : Bool) (rest : Refusals) → a ≡ true → answer ≡ unless_refused rest tt → answer ≡ unless_refused ((not a, InvalidData) ∷ rest) tt
+refused_later : (answer : Result (Unit {0}) ErrorKind) (a : Bool) (rest : Refusals) → a ≡ true → answer ≡ unless_refused rest tt → answer ≡ unless_refused ((not a, InvalidData) ∷ rest) tt
 refused_later answer a rest passes e = rw passes e
 
-pub none_refused : ◌≡◌ {A = Result (Unit {0}) ErrorKind} (Ok tt) (unless_refused [] tt)
-none_refused = refl
+module _ (d : Database) where
+  abbrev for_counts : Refusals
+  for_counts = (not (counts_fit d), InvalidData) ∷ []
+
+  abbrev for_names : Refusals
+  for_names = (not (names_stay_in_pool d), InvalidData) ∷ for_counts
+
+  pub refused_for_columns : (kind : ErrorKind) → kind ≡ InvalidData → validation_is_standard d ≡ false → ◌≡◌ {A = Result (Unit {0}) ErrorKind} (Err kind) (unless_refused (counting_refusals d) tt)
+  refused_for_columns kind is fails = refused_now kind (validation_is_standard d) for_names is fails
+
+  module _ (standard : validation_is_standard d ≡ true) (within : names_stay_in_pool d ≡ true) where
+    pub refused_for_counts : (kind : ErrorKind) → kind ≡ InvalidData → counts_fit d ≡ false → ◌≡◌ {A = Result (Unit {0}) ErrorKind} (Err kind) (unless_refused (counting_refusals d) tt)
+    refused_for_counts kind is fails = refused_later (Err kind) (validation_is_standard d) for_names standard
+        (refused_later (Err kind) (names_stay_in_pool d) for_counts within (refused_now kind (counts_fit d) [] is fails))
+
+    pub none_refused : counts_fit d ≡ true → ◌≡◌ {A = Result (Unit {0}) ErrorKind} (Ok tt) (unless_refused (counting_refusals d) tt)
+    none_refused fit = refused_later (Ok tt) (validation_is_standard d) for_names standard
+        (refused_later (Ok tt) (names_stay_in_pool d) for_counts within (refused_later (Ok tt) (counts_fit d) [] fit refl))
 
 -- the parts that are left
 module _ (pool new : Pool) (tables : List TableDef) (streams : Streams) (k : Kept) (is : kept_of pool tables streams ≡ k) (counts : List ℕ) (are : counts ≡ cell_counts k.database)
