@@ -15,5 +15,6 @@ where
     let changed = package.recount()?;
     package.flush()?;
     writeln!(output, "{changed}")?;
+    output.flush()?;
     Ok(())
 }
