@@ -20,7 +20,6 @@ pub(crate) enum Change {
     WriteStream,
     RemoveStream,
     RemoveSignature,
-    Recount,
 }
 
 /// A change of the summary.
@@ -111,7 +110,6 @@ pub(crate) fn make_change(
         Change::WriteStream => fill(package),
         Change::RemoveStream => package.remove_stream("Stream"),
         Change::RemoveSignature => package.remove_digital_signature(),
-        Change::Recount => package.recount().map(|_| ()),
     }
 }
 

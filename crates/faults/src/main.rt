@@ -22,7 +22,7 @@ use std::rt::Env;
 use trials::Trial;
 
 /// Each trial, with its name.
-const TRIALS: [(&str, Trial); 28] = [
+const TRIALS: [(&str, Trial); 27] = [
     ("create", Trial::Create),
     ("open", Trial::Open),
     ("create_table", Trial::Change(Change::CreateTable)),
@@ -37,7 +37,6 @@ const TRIALS: [(&str, Trial); 28] = [
         "remove_digital_signature",
         Trial::Change(Change::RemoveSignature),
     ),
-    ("recount", Trial::Change(Change::Recount)),
     ("set_title", Trial::Summary(Setter::Title)),
     ("set_keywords", Trial::Summary(Setter::Keywords)),
     ("set_arch", Trial::Summary(Setter::Arch)),

@@ -31,7 +31,6 @@ pub mod OneMeaningLemmas
 pub mod OpeningLemmas
 pub mod OpenedLemmas
 pub mod ReadingLemmas
-pub mod RecountingLemmas
 pub mod LawLemmas
 pub mod CallLemmas
 pub mod RenewedLemmas

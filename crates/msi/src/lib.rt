@@ -15,7 +15,6 @@ pub mod listing;
 mod opening;
 pub mod package;
 mod reasons;
-pub mod recounting;
 pub mod streams;
 mod writable;
 

@@ -2,7 +2,6 @@
 pub mod LendingLemmas
 pub mod RunningLemmas
 pub mod RunLemmas
-pub mod RecountingLemmas
 pub mod ReplayedLemmas
 pub mod StreamTakesLemmas
 pub mod DeviceLemmas

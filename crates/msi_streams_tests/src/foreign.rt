@@ -2,7 +2,7 @@
 
 use crate::samples::{counted, new_bytes, opened, put, with_byte, with_streams, written};
 use crate::steps::Ask::{Has, HasTable, IsSigned, Lists, Reads, Selects};
-use crate::steps::Change::{Insert, LendSummary, Recount, Remove, RemoveSignature, Write};
+use crate::steps::Change::{Insert, LendSummary, Remove, RemoveSignature, Write};
 use crate::steps::Step::{self, Asked, Made, Refused};
 use crate::steps::{gone, strays};
 use msi::{Error, ErrorKind, Package};
@@ -22,14 +22,13 @@ fn with_storage(alloc: Global) -> Result<Vec<u8>, Error> {
 
 /// What a package with a storage answers and refuses. Without storages each change would be made, but for the insert,
 /// which would be `NotFound`.
-static WITH_STORAGE: [Step; 11] = [
+static WITH_STORAGE: [Step; 10] = [
     Asked(HasTable("_Validation", true)),
     Asked(Selects("_Tables", Ok(1))),
     Asked(Selects("_Validation", Ok(10))),
     Refused(Write("a", b"1"), ErrorKind::InvalidInput),
     Refused(Remove("a"), ErrorKind::InvalidInput),
     Refused(RemoveSignature, ErrorKind::InvalidInput),
-    Refused(Recount, ErrorKind::InvalidInput),
     Refused(Insert("Numbers"), ErrorKind::InvalidInput),
     Refused(LendSummary, ErrorKind::InvalidInput),
     Asked(Has("a", false)),

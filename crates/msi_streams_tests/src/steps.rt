@@ -14,7 +14,6 @@ pub(crate) enum Change {
     Remove(&'static str),
     /// The signature is taken out.
     RemoveSignature,
-    Recount,
     /// The summary is lent, to be changed.
     LendSummary,
     /// No row is put into the table of this name.
@@ -72,7 +71,6 @@ fn make<F: Source>(alloc: Global, package: &mut Package<F>, change: &Change) -> 
         Change::Write(name, bytes) => fill(package, *name, *bytes),
         Change::Remove(name) => package.remove_stream(*name),
         Change::RemoveSignature => package.remove_digital_signature(),
-        Change::Recount => package.recount().map(|_| ()),
         Change::LendSummary => lend_summary(package),
         Change::Insert(table) => package.insert_rows(Insert::into(alloc, *table)?),
     }

@@ -16,8 +16,6 @@ mod looking;
 #[cfg(test)]
 mod readme;
 #[cfg(test)]
-mod recounting;
-#[cfg(test)]
 mod samples;
 #[cfg(test)]
 mod sharing;
