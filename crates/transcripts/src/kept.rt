@@ -131,9 +131,9 @@ fn digits(alloc: Global, word: &str) -> Result<Vec<u8>, Failure> {
             .to_digit(16)
             .ok_or(Failure::Unreadable("bytes are missing"))?;
         first = match first {
-            None => Some(digit),
+            None => Some(digit as u8),
             Some(high) => {
-                bytes.push((high * 16 + digit) as u8)?;
+                bytes.push(high.wrapping_mul(16).wrapping_add(digit as u8))?;
                 None
             }
         };
