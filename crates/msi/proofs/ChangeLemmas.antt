@@ -25,7 +25,7 @@ use Rattle.msi.specs.Whole.{IsHeld, IsOpen, Leaves, Whole, with_open, with_state
 use Rattle.msi.proofs.PackageLemmas.{change_sound}
 
 -- a database of which no stream lies open is held where it is sound
-held_sound : (k : Kept) (name : Option (List ℕ)) (used : Bool) → name ≡ None → is_sound k.database ≡ true → IsHeld k name used
+pub held_sound : (k : Kept) (name : Option (List ℕ)) (used : Bool) → name ≡ None → is_sound k.database ≡ true → IsHeld k name used
 held_sound k name used none sound = record {
   current = subst (λ (o : Option (List ℕ)). IfSome o (IsOpen k)) (sym none) tt;
   changed = λ _. sound;

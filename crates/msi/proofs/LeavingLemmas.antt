@@ -14,7 +14,7 @@ use Rattle.msi_database_changes.specs.Create.{create_table}
 use Rattle.msi_database_changes.specs.Drop.{drop_table}
 use Rattle.msi.specs.Calls.{Call, Answer}
 use Rattle.msi.specs.Calls as calls
-use Rattle.msi.specs.Steps.{Step, outcome, changed, changing, leaving_or, is_lending, with_streams, Lends, LendsOrRefuses}
+use Rattle.msi.specs.Steps.{Step, outcome, changed, changing, recounted, recounting, leaving_or, is_lending, with_streams, Lends, LendsOrRefuses}
 
 -- the same state, or one that is unwritten; or it is a flush that writes
 
@@ -24,6 +24,10 @@ Leaves s new = (new ≡ s) ⊎ (new.is_unwritten ≡ true)
 changed_leaves : (s : State) (r : Result Change ErrorKind) → Leaves s (changed s r).1
 changed_leaves s (Ok c) = inr refl
 changed_leaves s (Err kind) = inl refl
+
+recounted_leaves : (s : State) (r : Result ℕ ErrorKind) → Leaves s (recounted s r).1
+recounted_leaves s (Ok n) = inr refl
+recounted_leaves s (Err kind) = inl refl
 
 leaving_leaves : (o : Option ErrorKind) (s new : State) → new.is_unwritten ≡ true → Leaves s (leaving_or o s new).1
 leaving_leaves None s new e = inr e
@@ -42,6 +46,7 @@ outcome_leaves n s (calls.drop_table name) f e = changed_leaves s (changing (par
 outcome_leaves n s (calls.set_database_codepage page) f e = leaving_leaves _ s _ refl
 outcome_leaves n s (calls.remove_stream name) f e = leaving_leaves _ s _ refl
 outcome_leaves n s calls.remove_digital_signature f e = leaving_leaves _ s _ refl
+outcome_leaves n s calls.recount f e = recounted_leaves s (recounting (parts_of s))
 outcome_leaves n s calls.flush f e = absurd (true≢false f)
 outcome_leaves n s (calls.summary_info questions) f e = absurd (true≢false e)
 outcome_leaves n s (calls.summary_info_mut cs) f e = absurd (true≢false e)

@@ -31,6 +31,7 @@ pub mod OneMeaningLemmas
 pub mod OpeningLemmas
 pub mod OpenedLemmas
 pub mod ReadingLemmas
+pub mod RecountingLemmas
 pub mod LawLemmas
 pub mod CallLemmas
 pub mod RenewedLemmas

@@ -1,6 +1,7 @@
 -- What a new package's bytes mean after calls and a flush.
-use Rattle.std.proofs.Common.{◌≡◌, ℕ, ◌+◌, ◌*◌, ◌^◌, Bool, false, ◌||◌, nat_lt, [], ◌∷◌, Option, Some, Result, Ok, refl, ap, subst, ◌∙◌}
+use Rattle.std.proofs.Common.{◌≡◌, ℕ, ◌+◌, ◌*◌, ◌^◌, Bool, false, ◌||◌, nat_lt, List, [], ◌∷◌, length, Option, Some, Result, Ok, refl, ap, subst, ◌∙◌}
 use Rattle.std.specs.FinMap.{entries-from_sorted}
+use Rattle.std.specs.List.{AllByRecursion}
 use Rattle.msi_text_base.specs.declared.errors.ErrorKind.{ErrorKind}
 use Rattle.msi_text_base.specs.declared.errors.ErrorKind.TheVariants.{InvalidInput}
 use Rattle.msi_text.specs.Refusals.{unless_refused, or_refused, ◌>>=◌}
@@ -13,14 +14,17 @@ use Rattle.msi_database_storage.specs.Streams.{Streams}
 use Rattle.msi.specs.declared.kinds.PackageType.{PackageType}
 use Rattle.msi.specs.declared.kinds.PackageType.TheVariants as kind
 use Rattle.msi.specs.State.{State}
+use Rattle.msi.specs.Meaning.{IsPackage}
+use Rattle.msi.specs.Calls.{Answer, Call}
 use Rattle.msi.specs.Calls as calls
 use Rattle.msi.specs.Steps.{streams_written, image_refusals, contents_of, written_for}
-use Rattle.msi.specs.Runs.{Session, IsSession, created, created_over, fresh, opened, unwritten}
+use Rattle.msi.specs.Runs.{BeginsRecounted, FitsCall, HasExactCounts, Run, Session, IsSession, created, created_over, fresh, opened, unwritten}
 use Rattle.msi.specs.Laws.{CreatedIsSession, ReplaysMean, ReplaysOverMean, IsExact}
 use Rattle.msi.proofs.FreshLemmas.{unwritten_package, fresh_package, fresh_written, fresh_sound, fresh_counts, fresh_keys}
 use Rattle.msi.proofs.FlushLemmas.{flush_package}
 use Rattle.msi.proofs.OpenedLemmas.{opened_is_session}
 use Rattle.msi.proofs.StepLemmas.{written_is}
+use Rattle.msi.proofs.RecountingLemmas.{recounts_make_exact}
 use Rattle.msi.proofs.RunLemmas.{runs_keep, session_keeps}
 use Rattle.msi.proofs.SessionLemmas.{left_by, laid_out, runs_keep_sessions, session_step, flushed_clean}
 
@@ -85,6 +89,15 @@ replays_mean k sent answers last left fits run flush =
       keys = flushed.keys sound (kept.keys start.1.sound start.1.keys);
     }
 
+-- where the first call is a recount that is accepted, counts are exact from then on
+recounted_first : (old new : Session) (sent : List Call) (answers : List (Result Answer ErrorKind)) → IsPackage old.state → AllByRecursion FitsCall sent → Run old sent answers new → BeginsRecounted sent answers
+    → HasExactCounts new.state.kept.database
+recounted_first old new (calls.recount ∷ later) (Ok answer ∷ others) h fits run begins =
+    let exact = recounts_make_exact (length old.held) old.state run.0.state answer h run.1.0 in
+    let kept = runs_keep run.0 new later others (session_keeps old run.0 calls.recount (Ok answer) h tt run.1).is_package fits.1 run.2 in
+    record { sound = kept.sound exact.sound; counts = kept.counts exact.sound exact.counts }
+recounted_first old new _ _ h fits run begins = absurd begins
+
 -- and on a package that was opened
 pub replays_over_mean : ReplaysOverMean
 replays_over_mean bytes start sent answers last left small opens fits run flush =
@@ -105,4 +118,7 @@ replays_over_mean bytes start sent answers last left small opens fits run flush 
       sound = λ sound. flushed.sound (kept.sound sound);
       counts = λ sound counts. flushed.counts (kept.sound sound) (kept.counts sound counts);
       keys = λ sound keys. flushed.keys (kept.sound sound) (kept.keys sound keys);
+      recounted = λ begins.
+          let exact = recounted_first (opened bytes start) last sent answers first.is_package fits run begins in
+          record { sound = flushed.sound exact.sound; counts = flushed.counts exact.sound exact.counts };
     }

@@ -7,9 +7,11 @@ use Rattle.msi_database_changes.specs.Database.{Database, CountsAreExact, is_sou
 use Rattle.msi_database_changes.specs.Changes.{Change}
 use Rattle.msi_database_changes.specs.Laws as databases
 use Rattle.msi_database_changes.specs.Laws.{KeysAreDistinct}
+use Rattle.msi_database_changes.specs.Recounting.{IsRecounted, recounted as recounted_database}
 use Rattle.msi_database_changes.proofs.LawLemmas.{changes_keep, table_changes_keep}
 use Rattle.msi_database.proofs.GivenBackLemmas.{given_back_gives}
 use Rattle.msi_database.proofs.KeptLawLemmas.{kept_is_well_formed}
+use Rattle.msi_database.proofs.RecountingLemmas.{recount_exact}
 use Rattle.msi.specs.State.{State}
 use Rattle.msi.specs.Meaning.{IsPackage}
 use Rattle.msi.specs.Calls.{Call, Answer}
@@ -17,6 +19,7 @@ use Rattle.msi.specs.Calls as calls
 use Rattle.msi.specs.Runs.{Session, SessionStep, FitsCall}
 use Rattle.msi.specs.Laws.{KeepsPackage, StepsKeepPackages, RunsKeepPackages}
 use Rattle.msi.proofs.PackageLemmas as packages
+use Rattle.msi.proofs.RecountingLemmas.{package_recounted}
 use Rattle.msi.proofs.StepLemmas.{AnyChange, Keeps, step_keeps}
 
 package_kept : Keeps IsPackage
@@ -25,6 +28,7 @@ package_kept = record {
   same = λ s t h same held. held;
   changed = packages.changed;
   paged = packages.paged;
+  recounted = package_recounted;
 }
 
 -- A SOUND PACKAGE, WITH SOMETHING THAT ITS DATABASE KEEPS
@@ -38,6 +42,7 @@ pub record IsSoundWith (Q : Database → Type 0) (s : State) : Type 0 where
 pub record KeptByChanges (Q : Database → Type 0) : Type 0 where
   pub changed : (d : Database) (c : Change) → databases.Keeps d c.database → Q d → Q c.database
   pub paged : (d : Database) (page : CodePage) → Q d → Q (record d { pool = record d.pool { page = page } })
+  pub recounted : (d : Database) → IsRecounted d (recounted_database d) → Q d → Q (recounted_database d)
 
 any_change_keeps : (d : Database) (c : Change) → AnyChange d c → is_well_formed d ≡ true → is_sound d ≡ true → databases.Keeps d c.database
 any_change_keeps d c (inl change) formed sound = changes_keep taken_takes given_back_gives d c change formed sound
@@ -53,6 +58,9 @@ sound_kept Q kept = record {
     also = kept.changed s.kept.database c (any_change_keeps s.kept.database c change (kept_is_well_formed s.kept h.is_package.database) h.sound) h.also;
   };
   paged = λ s page h sound. record { is_package = packages.paged s page h.is_package sound; sound = sound; also = kept.paged s.kept.database page h.also };
+  recounted = λ s h passes.
+      let made = recount_exact s.kept h.is_package.database passes in
+      record { is_package = package_recounted s h.is_package passes; sound = made.sound; also = kept.recounted s.kept.database made h.also };
 }
 
 -- nothing more, exact counts, and distinct keys
@@ -60,13 +68,13 @@ abbrev Nothing : Database → Type 0
 Nothing d = Unit {0}
 
 nothing_kept : KeptByChanges Nothing
-nothing_kept = record { changed = λ d c k h. tt; paged = λ d page h. tt }
+nothing_kept = record { changed = λ d c k h. tt; paged = λ d page h. tt; recounted = λ d k h. tt }
 
 counts_kept : KeptByChanges CountsAreExact
-counts_kept = record { changed = λ d c k h. k.counts h; paged = λ d page h i l. h i l }
+counts_kept = record { changed = λ d c k h. k.counts h; paged = λ d page h i l. h i l; recounted = λ d k h. k.counts }
 
 keys_kept : KeptByChanges KeysAreDistinct
-keys_kept = record { changed = λ d c k h. k.keys h; paged = λ d page h name t found. h name t found }
+keys_kept = record { changed = λ d c k h. k.keys h; paged = λ d page h name t found. h name t found; recounted = λ d k h. k.keys h }
 
 -- STEPS
 

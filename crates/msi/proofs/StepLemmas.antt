@@ -7,7 +7,7 @@ use Rattle.std.proofs.lemmas.Bool.{true≢false}
 use Rattle.msi_text_base.specs.declared.codepage.CodePage.{CodePage}
 use Rattle.msi_text_base.specs.declared.errors.ErrorKind.{ErrorKind}
 use Rattle.msi_text_base.specs.declared.errors.ErrorKind.TheVariants.{InvalidInput, InvalidData, NotFound}
-use Rattle.msi_text.specs.Refusals.{Refusals, first_refusal, unless_refused, or_refused}
+use Rattle.msi_text.specs.Refusals.{Refusals, first_refusal, unless, unless_refused, or_refused}
 use Rattle.msi_database_schema.specs.Keys.{is_stream_name, stream_key}
 use Rattle.msi_database_changes.specs.Database.{Database, is_sound}
 use Rattle.msi_database_changes.specs.Changes.{Change, sound_refusal}
@@ -16,6 +16,7 @@ use Rattle.msi_database_changes.specs.Update.{update_rows}
 use Rattle.msi_database_changes.specs.Delete.{delete_rows}
 use Rattle.msi_database_changes.specs.Create.{create_table}
 use Rattle.msi_database_changes.specs.Drop.{drop_table}
+use Rattle.msi_database_changes.specs.Recounting.{counts_changed, recount, recount_refusals}
 use Rattle.msi_database_changes.specs.Laws.{IsChange, IsTableChange, inserted, updated, deleted, created, dropped}
 use Rattle.msi_database_changes.proofs.RefusedLemmas.{not_refused, value_there}
 use Rattle.msi_database_changes.proofs.ShownLemmas.{ok_first}
@@ -26,7 +27,7 @@ use Rattle.msi.specs.Calls.{Call, Answer}
 use Rattle.msi.specs.Calls as calls
 use Rattle.msi.specs.Lent.{FitsSummaryCall}
 use Rattle.msi.specs.Runs.{FitsCall}
-use Rattle.msi.specs.Steps.{after_change, storage_refusal, changing, changed, with_page, with_streams, with_lent_summary, with_summary_calls, without_signature, name_refusals, has_stream, leaving_or, streams_written, written_for, image_refusals, as_written, flushed, outcome, Lends, LendsOrRefuses, Step, is_lending}
+use Rattle.msi.specs.Steps.{after_change, after_recount, recounted, recounting, storage_refusal, changing, changed, with_page, with_streams, with_lent_summary, with_summary_calls, without_signature, name_refusals, has_stream, leaving_or, streams_written, written_for, image_refusals, as_written, flushed, outcome, Lends, LendsOrRefuses, Step, is_lending}
 use Rattle.msi.proofs.SummarySetLemmas.{run_kept}
 use Rattle.msi.proofs.PackageLemmas as packages
 use Rattle.msi.proofs.FlushLemmas.{flush_package}
@@ -40,6 +41,16 @@ changing_is : (p : Parts) (change : Database → Result Change ErrorKind) (c : C
 changing_is p change c e =
     let first = ok_first (unless_refused (storage_refusal p) p.database) change c e in
     ap change (not_refused (storage_refusal p) p.database first.0 first.1).1 ∙ first.2
+
+-- an accepted recount passed its refusals
+recount_passes : (o : Option ErrorKind) (m n : ℕ) → unless o m ≡ Ok n → o ≡ None
+recount_passes None m n e = refl
+recount_passes (Some kind) m n e = absurd cc
+
+pub recounting_passes : (p : Parts) (n : ℕ) → recounting p ≡ Ok n → first_refusal (recount_refusals p.database) ≡ None
+recounting_passes p n e =
+    let first = ok_first (unless_refused (storage_refusal p) p.database) recount n e in
+    recount_passes (first_refusal (recount_refusals p.database)) (counts_changed p.database) n (ap recount (not_refused (storage_refusal p) p.database first.0 first.1).1 ∙ first.2)
 
 second_passes : (a b : Bool) (k l : ErrorKind) (rest : Option ErrorKind) → (if a then Some k else if not b then Some l else rest) ≡ None → b ≡ true
 second_passes true b k l rest e = absurd cc
@@ -63,6 +74,7 @@ pub record Keeps (P : State → Type 0) : Type 0 where
   pub same : (s t : State) → P s → t.kept.database ≡ s.kept.database → IsPackage t → P t
   pub changed : (s : State) (c : Change) → P s → AnyChange s.kept.database c → P (after_change s c)
   pub paged : (s : State) (page : CodePage) → P s → is_sound s.kept.database ≡ true → P (with_page page s)
+  pub recounted : (s : State) → P s → first_refusal (recount_refusals s.kept.database) ≡ None → P (after_recount s)
 
 module _ (P : State → Type 0) (keeps : Keeps P) where
   leaving_keeps : (o : Option ErrorKind) (old new : State) → P old → (o ≡ None → P new) → P (leaving_or o old new).1
@@ -72,6 +84,10 @@ module _ (P : State → Type 0) (keeps : Keeps P) where
   changed_keeps : (s : State) (r : Result Change ErrorKind) → P s → ((c : Change) → r ≡ Ok c → AnyChange s.kept.database c) → P (changed s r).1
   changed_keeps s (Ok c) h is = keeps.changed s c h (is c refl)
   changed_keeps s (Err kind) h is = h
+
+  recounted_keeps : (s : State) (r : Result ℕ ErrorKind) → P s → ((n : ℕ) → r ≡ Ok n → first_refusal (recount_refusals s.kept.database) ≡ None) → P (recounted s r).1
+  recounted_keeps s (Ok n) h passes = keeps.recounted s h (passes n refl)
+  recounted_keeps s (Err kind) h passes = h
 
   flushed_keeps : (s : State) (r : Result Streams ErrorKind) → P s → ((streams : Streams) → r ≡ Ok streams → streams_written s ≡ Some streams) → P (flushed s r).1
   flushed_keeps s (Ok streams) h written = keeps.same s (as_written s streams) h refl (flush_package s streams (keeps.is_package s h) (written streams refl))
@@ -140,6 +156,7 @@ module _ (P : State → Type 0) (keeps : Keeps P) where
         (λ passes. keeps.same s (with_streams (without_stream (stream_key name)) s) h refl
         (packages.stream_removed s name (accepted_name (parts_of s) name ((not (has_stream (parts_of s) name), NotFound) ∷ []) passes) (keeps.is_package s h)))
     outcome_keeps calls.remove_digital_signature e = leaving_keeps _ s (with_streams without_signature s) h (λ _. keeps.same s (with_streams without_signature s) h refl (packages.signature_removed s (keeps.is_package s h)))
+    outcome_keeps calls.recount e = recounted_keeps s (recounting (parts_of s)) h (recounting_passes (parts_of s))
     outcome_keeps (calls.image n) e = h
     outcome_keeps calls.flush e = flush_keeps s earlier_len s.is_unwritten h
     outcome_keeps (calls.summary_info questions) e = absurd (true≢false e)

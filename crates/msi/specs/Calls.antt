@@ -66,7 +66,7 @@ pub data StreamAnswer : Type 0 where
 -- on a package; what it lends is a list of calls of its own
 pub data Call : Type 0 where
   package_type database_codepage tables streams : Call
-  has_digital_signature remove_digital_signature device_failed flush : Call
+  has_digital_signature remove_digital_signature recount device_failed flush : Call
   summary_info : List SummaryQuestion → Call
   summary_info_mut : List SummaryCall → Call
   set_database_codepage : CodePage → Call
@@ -85,6 +85,7 @@ pub data Answer : Type 0 where
   kind_is : PackageType → Answer
   page_is : CodePage → Answer
   flag_is : Bool → Answer
+  count_is : ℕ → Answer
   table_is : Option TableDef → Answer
   tables_are : List TableDef → Answer
   names_are : List (List ℕ) → Answer

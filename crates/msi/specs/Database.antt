@@ -10,6 +10,7 @@ pub use Rattle.msi_database.specs.Fresh
 pub use Rattle.msi_database.specs.FreshParts
 pub use Rattle.msi_database.specs.Reading
 pub use Rattle.msi_database.specs.Creating
+pub use Rattle.msi_database.specs.Recounting
 pub use Rattle.msi_database_schema.specs.Keys
 pub use Rattle.msi_database_schema.specs.System
 pub use Rattle.msi_database_schema.specs.Schema
@@ -26,6 +27,7 @@ pub use Rattle.msi_database_changes.specs.Delete
 pub use Rattle.msi_database_changes.specs.Create
 pub use Rattle.msi_database_changes.specs.Drop
 pub use Rattle.msi_database_changes.specs.Laws
+pub use Rattle.msi_database_changes.specs.Recounting as RecountedDatabases
 pub use Rattle.msi_database_storage.specs.Streams
 pub use Rattle.msi_database_storage.specs.Kept
 pub use Rattle.msi_database_storage.specs.Storing

@@ -16,7 +16,7 @@ use Rattle.msi.specs.Calls as calls
 use Rattle.msi.specs.Steps.{Step, outcome, is_lending, image_of, streams_written, as_written, with_streams}
 use Rattle.msi.specs.Steps.{without_signature}
 use Rattle.msi.specs.Runs.{Session, SessionStep, Run, FitsCall, TextsAreWritable, HoldsPackage, IsSession, IsReplay}
-use Rattle.msi.specs.Runs.{IsReplayOver, created, created_over, opened}
+use Rattle.msi.specs.Runs.{HasExactCounts, IsReplayOver, created, created_over, opened}
 
 -- each of them is a byte
 abbrev pub AreBytes : List ℕ → Type 0
@@ -58,6 +58,11 @@ pub record KeepsPackage (old new : State) : Type 0 where
   pub sound : is_sound old.kept.database ≡ true → is_sound new.kept.database ≡ true
   pub counts : is_sound old.kept.database ≡ true → CountsAreExact old.kept.database → CountsAreExact new.kept.database
   pub keys : is_sound old.kept.database ≡ true → KeysAreDistinct old.kept.database → KeysAreDistinct new.kept.database
+
+-- an accepted recount leaves a sound database, and each count is the number of its cells
+abbrev pub RecountsMakeExact : Type 0
+RecountsMakeExact = (earlier_len : ℕ) (old new : State) (answer : Answer)
+    → IsPackage old → Step earlier_len old calls.recount (Ok answer) new → HasExactCounts new.kept.database
 
 abbrev pub StepsKeepPackages : Type 0
 StepsKeepPackages = (earlier_len : ℕ) (old new : State) (call : Call) (answer : Result Answer ErrorKind)

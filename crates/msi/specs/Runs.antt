@@ -10,7 +10,7 @@ use Rattle.msi_text_pool_base.specs.Pool as pools
 use Rattle.msi_summary.specs.Summary.{new_summary}
 use Rattle.msi_summary_properties.specs.PropertyStream as properties
 use Rattle.msi_container_write.specs.Layout.{layout}
-use Rattle.msi_database_changes.specs.Database.{CountsAreExact, is_sound}
+use Rattle.msi_database_changes.specs.Database.{CountsAreExact, Database, is_sound}
 use Rattle.msi_database_changes.specs.Laws.{KeysAreDistinct}
 use Rattle.msi_database.specs.Fresh as databases
 use Rattle.msi.specs.declared.kinds.PackageType.{PackageType}
@@ -111,6 +111,7 @@ FitsCall (calls.drop_table name) = Unit {0}
 FitsCall (calls.set_database_codepage page) = Unit {0}
 FitsCall (calls.remove_stream name) = Unit {0}
 FitsCall calls.remove_digital_signature = Unit {0}
+FitsCall calls.recount = Unit {0}
 FitsCall (calls.image n) = Unit {0}
 FitsCall calls.flush = Unit {0}
 FitsCall calls.device_failed = Unit {0}
@@ -157,9 +158,20 @@ IsReplayRefused kind sent error = (error ≡ OutOfMemory) ⊎ (error ≡ Io)
     ⊎ ((answers : List (Result Answer ErrorKind)) × (last : Session) × Run (created kind) sent answers last
     × (written_for last.state (length last.held) ≡ Err error))
 
+-- a sound database, each count of which is the number of its cells
+pub record HasExactCounts (d : Database) : Type 0 where
+  pub sound : is_sound d ≡ true
+  pub counts : CountsAreExact d
+
+-- the first call is a recount, and it is accepted
+abbrev pub BeginsRecounted : List Call → List (Result Answer ErrorKind) → Type 0
+BeginsRecounted (calls.recount ∷ later) (Ok answer ∷ others) = Unit {0}
+BeginsRecounted _ _ = ⊥
+
 -- The calls were carried out on the package that the bytes open to, and it was flushed: the bytes that are left mean
 -- what the accepted calls define, and opening them gives the package that was left. A sound database stays sound, so no
--- count is below the number of its cells; exact counts stay exact, and distinct keys distinct
+-- count is below the number of its cells; exact counts stay exact, and distinct keys distinct. After a recount first
+-- of all the database is sound, and each count is the number of its cells
 pub record IsReplayOver (bytes : List ℕ) (sent : List Call) (answers : List (Result Answer ErrorKind))
     (written : List ℕ) : Type 0 where
   pub start : State
@@ -175,6 +187,7 @@ pub record IsReplayOver (bytes : List ℕ) (sent : List Call) (answers : List (R
       → CountsAreExact start.kept.database → CountsAreExact left.state.kept.database
   pub keys : is_sound start.kept.database ≡ true
       → KeysAreDistinct start.kept.database → KeysAreDistinct left.state.kept.database
+  pub recounted : BeginsRecounted sent answers → HasExactCounts left.state.kept.database
 
 -- it is refused only for want of memory, for a fault of the device, or as opening the bytes or the last flush was
 abbrev pub IsReplayOverRefused : List ℕ → List Call → ErrorKind → Type 0

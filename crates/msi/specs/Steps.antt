@@ -1,7 +1,7 @@
 -- What each call on a package answers and leaves.
 use Rattle.std.specs.Prelude.{◌≡◌, ℕ, ◌⊎◌, Bool, true, false, not, List, [], ◌∷◌, ◌++◌, map, filter, Option, Some, None}
 use Rattle.std.specs.Prelude.{option_and_then, unwrap_or, ◌&&◌, ◌||◌, if◌then◌else◌, IsTrue, Result, Ok}
-use Rattle.std.specs.Prelude.{Err, MatchBool}
+use Rattle.std.specs.Prelude.{Err, MatchBool, nat_lt}
 use Rattle.std.specs.FinMap.{from_sorted}
 use Rattle.msi_text_base.specs.declared.codepage.CodePage.{CodePage}
 use Rattle.msi_text_base.specs.declared.errors.ErrorKind.{ErrorKind}
@@ -19,10 +19,12 @@ use Rattle.msi_database_changes.specs.Update.{update_rows}
 use Rattle.msi_database_changes.specs.Delete.{delete_rows}
 use Rattle.msi_database_changes.specs.Create.{create_table}
 use Rattle.msi_database_changes.specs.Drop.{drop_table}
+use Rattle.msi_database_changes.specs.Recounting.{counts_changed, recount}
 use Rattle.msi_database_storage.specs.Streams.{Streams, stream_at, has_stream_at, with_stream, without_stream}
 use Rattle.msi_database_storage.specs.Kept as databases
 use Rattle.msi_database.specs.Listed.{table_def_at, tables_listed}
 use Rattle.msi_database.specs.Listed as listed
+use Rattle.msi_database.specs.Recounting as recounts
 use Rattle.msi_streams.specs.Listing.{is_listed, text_of_key}
 use Rattle.msi_streams.specs.Renewing.{pool_over, summary_over}
 use Rattle.msi.specs.Kinds.{clsid_of}
@@ -50,6 +52,21 @@ changing p change = unless_refused (storage_refusal p) p.database >>= change
 abbrev pub changed : State → Result Change ErrorKind → Result Answer ErrorKind × State
 changed s (Ok c) = (Ok calls.done, after_change s c)
 changed s (Err kind) = (Err kind, s)
+
+-- A recount: its answer, and what it leaves
+abbrev pub recounting : Parts → Result ℕ ErrorKind
+recounting p = unless_refused (storage_refusal p) p.database >>= recount
+
+abbrev pub after_recount : State → State
+after_recount s = record s {
+  kept = recounts.after_recount s.kept;
+  is_unwritten = true;
+  is_pool_changed = s.is_pool_changed || nat_lt 0 (counts_changed s.kept.database);
+}
+
+abbrev pub recounted : State → Result ℕ ErrorKind → Result Answer ErrorKind × State
+recounted s (Ok changed) = (Ok (calls.count_is changed), after_recount s)
+recounted s (Err kind) = (Err kind, s)
 
 -- The root's other streams
 abbrev pub with_streams : (Streams → Streams) → State → State
@@ -161,6 +178,7 @@ outcome earlier_len s (calls.remove_stream name) =
     (with_streams (without_stream (stream_key name)) s)
 outcome earlier_len s calls.remove_digital_signature =
     leaving s (storage_refusal (parts_of s)) (with_streams without_signature s)
+outcome earlier_len s calls.recount = recounted s (recounting (parts_of s))
 outcome earlier_len s (calls.image n) = (answer_of calls.bytes_are (image_of s n), s)
 outcome earlier_len s calls.flush = flush_outcome s earlier_len
 -- the device alone knows; a session answers it (`Runs`)
@@ -212,6 +230,7 @@ Lends s (calls.drop_table name) _ new = ⊥
 Lends s (calls.set_database_codepage page) _ new = ⊥
 Lends s (calls.remove_stream name) _ new = ⊥
 Lends s calls.remove_digital_signature _ new = ⊥
+Lends s calls.recount _ new = ⊥
 Lends s (calls.image n) _ new = ⊥
 Lends s calls.flush _ new = ⊥
 Lends s calls.device_failed _ new = ⊥
@@ -238,6 +257,7 @@ is_lending (calls.drop_table name) = false
 is_lending (calls.set_database_codepage page) = false
 is_lending (calls.remove_stream name) = false
 is_lending calls.remove_digital_signature = false
+is_lending calls.recount = false
 is_lending (calls.image n) = false
 is_lending calls.flush = false
 is_lending calls.device_failed = false
@@ -261,6 +281,7 @@ may_want_memory s (calls.write_stream name c) = true
 may_want_memory s (calls.read_stream name c) = true
 may_want_memory s (calls.remove_stream name) = true
 may_want_memory s (calls.image n) = true
+may_want_memory s calls.recount = true
 may_want_memory s calls.flush = s.is_unwritten
 may_want_memory s calls.package_type = false
 may_want_memory s calls.database_codepage = false
@@ -294,6 +315,7 @@ may_meet_fault s (calls.drop_table name) = false
 may_meet_fault s (calls.set_database_codepage page) = false
 may_meet_fault s (calls.remove_stream name) = false
 may_meet_fault s calls.remove_digital_signature = false
+may_meet_fault s calls.recount = false
 may_meet_fault s (calls.image n) = false
 may_meet_fault s calls.device_failed = false
 may_meet_fault s (calls.summary_info questions) = false

@@ -3,7 +3,7 @@
 
 ghost use Rattle.msi.specs.Laws.{BytesMeanOne, BytesOpenToOne, OpenedArePackages, PassingMeans, RefusedMeanNothing};
 ghost use Rattle.msi.specs.Laws.{FlushKeepsParts, RemovesItsStream, RemovesSignature, WritesItsStream};
-ghost use Rattle.msi.specs.Laws.{RunsKeepPackages, StepsAreFixed, StepsKeepPackages};
+ghost use Rattle.msi.specs.Laws.{RecountsMakeExact, RunsKeepPackages, StepsAreFixed, StepsKeepPackages};
 ghost use Rattle.msi.specs.Laws.{CreatedIsSession, FlushHoldsImage, FlushedIsHeld, OpenedIsSession, RunsKeepSessions};
 ghost use Rattle.msi.specs.Laws.{FlushesAreSteps, ReplaysMean, ReplaysOverMean};
 ghost use Rattle.msi.specs.Writable.{IsWritableUnderUtf8, Utf8TextsAreWritable};
@@ -47,6 +47,11 @@ pub fn steps_are_fixed()
 /// distinct.
 pub fn steps_keep_packages()
     ensures { StepsKeepPackages }
+{}
+
+/// An accepted recount leaves a sound package, and each count is the number of its cells.
+pub fn recounts_make_exact()
+    ensures { RecountsMakeExact }
 {}
 
 /// Calls one after another keep what `steps_keep_packages` says of each, from any package, opened or new.

@@ -15,6 +15,7 @@ pub mod listing;
 mod opening;
 pub mod package;
 mod reasons;
+pub mod recounting;
 pub mod streams;
 mod writable;
 

@@ -32,6 +32,7 @@ pub mod NamedTextsLemmas
 pub mod ChangingLemmas
 pub mod KeptLawLemmas
 pub mod FreshLemmas
+pub mod RecountingLemmas
 pub mod RefusedCallLemmas
 pub mod ChainLemmas
 pub mod CanStoreLemmas

@@ -11,6 +11,7 @@ pub mod Fresh
 pub mod FreshParts
 pub mod Reading
 pub mod Creating
+pub mod Recounting
 -- The words of the crates below, which public clauses cite.
 pub use Rattle.msi_text_base.specs.declared.errors.ErrorKind
 pub use Rattle.msi_text_base.specs.Results
@@ -39,6 +40,7 @@ pub use Rattle.msi_database_changes.specs.Delete
 pub use Rattle.msi_database_changes.specs.Create
 pub use Rattle.msi_database_changes.specs.Drop
 pub use Rattle.msi_database_changes.specs.Laws
+pub use Rattle.msi_database_changes.specs.Recounting as RecountedDatabases
 pub use Rattle.msi_database_storage.specs.Streams
 pub use Rattle.msi_database_storage.specs.Kept
 pub use Rattle.msi_database_storage.specs.Storing

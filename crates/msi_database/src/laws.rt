@@ -2,6 +2,7 @@
 
 ghost use Rattle.msi_database.specs.Fresh.{FreshIsKept};
 ghost use Rattle.msi_database.specs.Keeping.{ChangesAreKept, KeptIsWellFormed, ReadIsKept};
+ghost use Rattle.msi_database.specs.Recounting.{RecountsAreKept};
 ghost use Rattle.msi_database.specs.OwnStreams.{TablesHaveOwnStreams};
 
 /// An accepted change of a kept database that is sound, whose tables are stored in its streams, leaves a kept
@@ -29,4 +30,9 @@ pub fn fresh_is_kept()
 /// The stream of a table with an accepted name is no other's.
 pub fn tables_have_own_streams()
     ensures { TablesHaveOwnStreams }
+{}
+
+/// An accepted recount of a kept database leaves a kept database: its streams spell it.
+pub fn recounts_are_kept()
+    ensures { RecountsAreKept }
 {}

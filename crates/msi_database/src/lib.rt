@@ -12,6 +12,7 @@ mod others;
 pub mod parts;
 mod reading;
 mod reasons;
+mod recounting;
 mod rows;
 mod widening;
 

@@ -21,3 +21,17 @@ pub(crate) const NO_VALIDATION: Reason = Reason(
 pub(crate) const SHARED_TEXTS: Reason = Reason(
     "rows of a system table share texts that would take far more memory than the pool",
 );
+
+pub(crate) const ODD_TABLE: Reason = Reason(
+    "a table has too many rows, or a name that no table may have",
+);
+
+pub(crate) const ODD_VALIDATION: Reason = Reason("_Validation has other columns than it must");
+
+pub(crate) const PAST_POOL: Reason = Reason("a cell refers past the end of the string pool");
+
+pub(crate) const PAST_REFERENCES: Reason = Reason(
+    "the string pool has more texts than references of two bytes can name",
+);
+
+pub(crate) const PAST_COUNTS: Reason = Reason("more than 65535 cells refer to one text");

@@ -31,6 +31,7 @@ pub mod LawLemmas
 pub mod LeadingLemmas
 pub mod PoolStepLemmas
 pub mod PutFitsLemmas
+pub mod RecountingLemmas
 pub mod RefusedLemmas
 pub mod RegularLemmas
 pub mod RemovedLemmas

@@ -17,7 +17,7 @@ use Rattle.msi_database_changes.proofs.TablesLemmas.{times, times-cons, database
 abbrev pub names_are_numbers : Database → Bool
 names_are_numbers d = list_all (λ n. nat_lt 0 n) (named_numbers d)
 
-numbers_all : (p : ℕ → Bool) (k i : ℕ) → ((j : ℕ) → i ≤ j → j < i + k → p j ≡ true) → list_all p (numbers_from i k) ≡ true
+pub numbers_all : (p : ℕ → Bool) (k i : ℕ) → ((j : ℕ) → i ≤ j → j < i + k → p j ≡ true) → list_all p (numbers_from i k) ≡ true
 numbers_all p zero i h = refl
 numbers_all p (suc k) i h = and_from (p i) (list_all p (numbers_from (i + 1) k)) (h i (omega arith) (omega arith)) (numbers_all p k (i + 1) (λ j l m. h j (omega (arith, l)) (omega (arith, m))))
 
@@ -36,17 +36,17 @@ all_named_pass p (x ∷ xs) h =
     let itself : once x x ≡ 1 = grind (arith, nat_tests) in
     and_from (p x) (list_all p xs) (h x (omega (arith, times-cons x x xs, itself))) (all_named_pass p xs (λ n k. h n (omega (arith, k, times-cons n x xs))))
 
-not_named : (p : ℕ → Bool) (n : ℕ) (xs : List ℕ) → list_all p xs ≡ true → p n ≡ false → times n xs ≡ 0
+pub not_named : (p : ℕ → Bool) (n : ℕ) (xs : List ℕ) → list_all p xs ≡ true → p n ≡ false → times n xs ≡ 0
 not_named p n xs h fails = ⊎_elim
     (λ (some : 0 < times n xs). let yes = named_passes p n xs h some in grind (arith, nat_tests))
     (λ (none : times n xs ≤ 0). omega (arith, none))
     (cases_lt 0 (times n xs))
 
 -- the test that counts suffice, place by place
-abbrev suffices_at : Database → ℕ → Bool
+abbrev pub suffices_at : Database → ℕ → Bool
 suffices_at d i = nat_le (cells_naming d (i + 1)) (count_of (slice_get d.pool.places i))
 
-counts_suffice_at : (d : Database) → counts_suffice d ≡ (list_all (suffices_at d) (numbers_below (length d.pool.places)))
+pub counts_suffice_at : (d : Database) → counts_suffice d ≡ (list_all (suffices_at d) (numbers_below (length d.pool.places)))
 counts_suffice_at d = list_all-map (λ enough. enough) (suffices_at d) (numbers_below (length d.pool.places))
 
 at_next : (d : Database) (i : ℕ) → cells_naming d (i + 1) ≡ database_uses d (suc i)

@@ -24,7 +24,7 @@ use Rattle.msi_database_changes.proofs.StoredLemmas.{with_rows, stored_in, other
 pub rows_stay : (rows : List (List ValueRef)) (before after : List Place) → TextsStay (rows_uses rows) before after → map (row_values after) rows ≡ map (row_values before) rows
 rows_stay rows before after h = news_stay 0 (in_turn (cell_put false)) row_value_uses row_uses (λ p row. row) row_values (λ row. row) (λ row. row) (λ row. Unit {0}) (λ row a b k. refl) row_stays rows before after h
 
-held_stay : (o : Option (List (List ValueRef))) (before after : List Place) → TextsStay (rows_uses (unwrap_or o [])) before after → option_map (map (row_values after)) o ≡ option_map (map (row_values before)) o
+pub held_stay : (o : Option (List (List ValueRef))) (before after : List Place) → TextsStay (rows_uses (unwrap_or o [])) before after → option_map (map (row_values after)) o ≡ option_map (map (row_values before)) o
 held_stay None before after h = refl
 held_stay (Some rows) before after h = ap Some (rows_stay rows before after h)
 

@@ -9,3 +9,4 @@ pub mod Create
 pub mod Drop
 pub mod Laws
 pub mod RowUpdates
+pub mod Recounting

@@ -3,6 +3,7 @@
 ghost use Rattle.msi_database_changes.specs.Laws.{ChangesKeep, CountsTellTexts, CreatedTablesAreDescribed};
 ghost use Rattle.msi_database_changes.specs.Laws.{DeleteRemovesItsRows, DroppedTablesAreForgotten, InsertAddsItsRows};
 ghost use Rattle.msi_database_changes.specs.Laws.{LeadingNumbersAscend, TableChangesKeep, UpdateSetsItsRows};
+ghost use Rattle.msi_database_changes.specs.Recounting.{RecountsMakeExact};
 
 use msi_text::laws::{given_back_takes_one, taken_places_hold_their_text};
 
@@ -81,3 +82,9 @@ pub fn dropped_tables_are_forgotten()
     taken_places_hold_their_text();
     given_back_takes_one();
 }
+
+/// An accepted recount leaves a database that is well formed and sound, and whose counts equal its cells. Every table
+/// has the values that it had.
+pub fn recounts_make_counts_exact()
+    ensures { RecountsMakeExact }
+{}

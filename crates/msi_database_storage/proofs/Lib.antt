@@ -3,6 +3,7 @@ pub mod StreamAtLemmas
 pub mod TableAtLemmas
 pub mod SoundnessLemmas
 pub mod NamingLemmas
+pub mod RecountingLemmas
 pub mod PutBackLemmas
 pub mod ListingLemmas
 pub mod CopyingLemmas

@@ -6,5 +6,6 @@ mod decoding;
 pub mod listing;
 mod naming;
 pub mod parts;
+mod recounting;
 mod soundness;
 mod storing;

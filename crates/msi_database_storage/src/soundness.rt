@@ -25,8 +25,8 @@ use msi_table::parts::Census;
 use msi_text::parts::{most_places, string_ref};
 use msi_text::stringpool::StringPool;
 
-/// Whether the pool has no more places than its references can name.
-fn fits_width(pool: &StringPool) -> bool
+/// Returns whether the pool has no more places than its references can name.
+pub fn fits_width(pool: &StringPool) -> bool
     ensures { result ≡ nat_le (length pool.now.places) (most_of pool.now.long) }
 {
     pool.num_strings() as usize <= most_places(pool.long_string_refs())
@@ -69,8 +69,8 @@ fn are_alike(columns: &[Column], others: &[Column]) -> bool
     true
 }
 
-/// Whether `_Validation`, where it is a table, has its standard columns.
-fn is_standard(tables: &[Table], standard: &[Column]) -> bool
+/// Returns whether `_Validation`, where it is a table, has these columns by name, kind and key.
+pub fn is_standard(tables: &[Table], standard: &[Column]) -> bool
     ensures { result ≡ options.option_map_or (λ t. alike t.columns standard.now)
         (table_kept_at validation_name tables.now) true }
 {
@@ -103,8 +103,9 @@ fn is_sound_table(streams: &StreamMap, table: &Table) -> bool
     is_readable(streams, table) && is_table_name(table.name())
 }
 
-/// Whether tables have accepted names and rows that can be read.
-fn are_sound_tables(streams: &StreamMap, tables: &[Table]) -> bool
+/// Returns whether tables have accepted names and rows that can be read. The streams' names are a container's, as each
+/// `Name` is. It takes no memory.
+pub fn are_sound_tables(streams: &StreamMap, tables: &[Table]) -> bool
     requires { HaveShortNames (entries streams.now) }
     ensures { (long : Bool) → AreAsLong long tables.now
         → result ≡ list_all is_readable_table (map (table_kept (entries streams.now) long) tables.now) }

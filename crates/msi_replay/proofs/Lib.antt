@@ -2,6 +2,7 @@
 pub mod LendingLemmas
 pub mod RunningLemmas
 pub mod RunLemmas
+pub mod RecountingLemmas
 pub mod ReplayedLemmas
 pub mod StreamTakesLemmas
 pub mod DeviceLemmas

@@ -138,6 +138,7 @@ abbrev pub call_sent : Call → calls.Call
 call_sent (sent.LookUp question) = look_up_sent question
 call_sent (sent.SelectRows query) = calls.select_rows query
 call_sent (sent.Change c) = change_sent c
+call_sent sent.Recount = calls.recount
 call_sent (sent.SummaryInfo questions) = calls.summary_info (map question_sent questions)
 call_sent (sent.SummaryInfoMut summary_calls) = calls.summary_info_mut (map summary_call_sent summary_calls)
 call_sent (sent.WriteStream name stream_calls) = calls.write_stream name (map writer_call_sent stream_calls)

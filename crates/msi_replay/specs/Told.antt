@@ -35,6 +35,7 @@ answer_told given.Done = calls.done
 answer_told (given.Kind kind) = calls.kind_is kind
 answer_told (given.Codepage page) = calls.page_is page
 answer_told (given.Flag flag) = calls.flag_is flag
+answer_told (given.Count many) = calls.count_is many
 answer_told (given.Table table) = calls.table_is table
 answer_told (given.Tables tables) = calls.tables_are tables
 answer_told (given.Names names) = calls.names_are names

@@ -52,6 +52,8 @@ pub enum Answer {
     Codepage(CodePage),
     /// Whether it is so.
     Flag(bool),
+    /// How many.
+    Count(u32),
     /// A table, if it is there.
     Table(Option<Table>),
     /// Tables.

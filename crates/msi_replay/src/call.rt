@@ -193,6 +193,8 @@ pub enum Call {
     SelectRows(Select),
     /// Changes the package.
     Change(Change),
+    /// Counts the cells of the database anew.
+    Recount,
     /// Asks the summary.
     SummaryInfo(Items<SummaryQuestion>),
     /// Makes calls on the summary.

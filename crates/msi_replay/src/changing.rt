@@ -46,6 +46,16 @@ fn changed(target: &mut Package<Memory>, change: Change) -> Result<(), Error>
     }
 }
 
+/// Counts the cells of a package anew, and returns the result.
+pub(crate) fn recount(target: &mut Package<Memory>) -> Result<Answer, ErrorKind>
+    ensures { Takes target.old calls.recount (told answer_told result) target.new }
+{
+    match target.recount() {
+        Ok(changed) => Ok(Answer::Count(changed)),
+        Err(error) => Err(error.kind()),
+    }
+}
+
 /// Changes a package, and returns the result.
 pub(crate) fn change(target: &mut Package<Memory>, change: Change) -> Result<Answer, ErrorKind>
     ensures { Takes target.old (change_sent change) (told answer_told result) target.new }

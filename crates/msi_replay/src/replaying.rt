@@ -15,7 +15,7 @@ ghost use Rattle.msi_replay.specs.Told.{answer_told, told};
 
 use crate::answer::Answer;
 use crate::call::Call;
-use crate::changing::{change, change_summary};
+use crate::changing::{change, change_summary, recount};
 use crate::device::{flush, image};
 use crate::looking::{ask_summary, look_up, select};
 use crate::streaming::{read_stream, write_stream};
@@ -57,6 +57,7 @@ fn carry_out(
         Call::LookUp(question) => look_up(alloc, target, question),
         Call::SelectRows(query) => select(alloc, target, query),
         Call::Change(step) => Ok(change(target, step)),
+        Call::Recount => Ok(recount(target)),
         Call::SummaryInfo(questions) => ask_summary(alloc, target, questions),
         Call::SummaryInfoMut(steps) => change_summary(alloc, target, steps),
         Call::WriteStream(name, steps) => write_stream(alloc, target, name, steps),
@@ -147,7 +148,8 @@ fn look_at_bytes(bytes: &[u8])
 /// Opens the package that the bytes mean, makes the calls on it one after another, and flushes it. If each text can be
 /// written in its page, that is if it reads back as it was, the new bytes mean what the accepted calls define, and
 /// opening them gives the package that the calls left. If the opened database is sound, it stays so, and no count is
-/// below the number of its cells; then exact counts stay exact, and distinct keys distinct.
+/// below the number of its cells; then exact counts stay exact, and distinct keys distinct. If the first call is a
+/// recount that is accepted, the database is sound, and each count is the number of its cells.
 ///
 /// # Errors
 /// Fails with `OutOfMemory`, or with `Io` if the device can't grow. Otherwise it fails as [`Package::open`] does on the

@@ -3,6 +3,7 @@ pub mod FirstFitLemmas
 pub mod TakenLemmas
 pub mod CountLemmas
 pub mod ForgettingLemmas
+pub mod RecountingLemmas
 pub mod TextIndexLemmas
 pub mod PlaceIndexLemmas
 pub mod IndexedFitLemmas

@@ -88,6 +88,14 @@ impl IndexedPlaces {
         self.places.as_slice()
     }
 
+    /// The places, which are moved out. None is left.
+    pub(crate) fn take_places(&mut self) -> Places
+        ensures { result ≡ self.old.places }
+    {
+        let alloc = self.places.allocator();
+        mem::replace(&mut self.places, Places::from_vec(Vec::new(alloc)))
+    }
+
     /// Empties the texts of free places that aren't named.
     pub(crate) fn forget_texts(&mut self, is_named: &[bool])
         requires indexed { IsIndexed self.old }

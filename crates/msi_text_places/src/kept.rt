@@ -6,6 +6,7 @@ ghost use Rattle.std.specs.List.{list_any};
 ghost use Rattle.msi_text_pool_base.specs.Pool.{without_unnamed_texts};
 ghost use Rattle.msi_text_places.specs.FirstFit.{taken, given_back, is_fit};
 ghost use Rattle.msi_text_places.specs.Indexing.{HasTrueIndexes, IsKept, places_of, operations_of};
+ghost use Rattle.msi_text_places.specs.Recounting.{AreCounts, many_recounted, with_counts};
 ghost use Rattle.msi_text_base.specs.Results.{OnlyMemory};
 ghost use Rattle.msi_text_base.specs.declared.errors.ErrorKind.TheVariants.{InvalidData, InvalidInput, OutOfMemory};
 
@@ -87,6 +88,28 @@ impl KeptPlaces {
         match self {
             KeptPlaces::Read(places) => places.forget_texts(is_named),
             KeptPlaces::Indexed(all) => all.forget_texts(is_named),
+        }
+    }
+
+    /// Sets the count of each place, and returns how many got another one. A place without cells loses its text. The
+    /// indexes are made again at the next change, and there is no operation yet.
+    pub fn set_counts(&mut self, counts: &[u32]) -> u32
+        requires many { length counts.now ≡ length (places_of self.old) }
+        requires counts { AreCounts counts.now }
+        requires most { length (places_of self.old) ≤ 16777215 }
+        ensures places { places_of self.new ≡ with_counts counts.now (places_of self.old) }
+        ensures changed { result ≡ many_recounted counts.now (places_of self.old) }
+        ensures indexed { HasTrueIndexes self.new }
+        ensures operations { operations_of self.new ≡ 0 }
+    {
+        match self {
+            KeptPlaces::Read(places) => places.set_counts(counts),
+            KeptPlaces::Indexed(all) => {
+                let mut places = all.take_places();
+                let changed = places.set_counts(counts);
+                *self = KeptPlaces::Read(places);
+                changed
+            }
         }
     }
 

@@ -1,9 +1,10 @@
 //! The places of the pool.
 
 ghost use Rattle.std.specs.Prelude.{◌≡◌, ◌+◌, ◌-◌, ◌<◌, ◌^◌, ◌∷◌, ◌++◌, [], IfOk, OnOk, OnErr, Some, length, set};
-ghost use Rattle.std.specs.Prelude.{slice_get, vec_len, IsTrue, ◌↔◌};
+ghost use Rattle.std.specs.Prelude.{slice_get, vec_len, IsTrue, ◌↔◌, ◌≤◌, ◌==◌, not};
 ghost use Rattle.msi_text_pool_base.specs.Pool.{forgotten, without_unnamed_texts, PlacesWritten};
 ghost use Rattle.msi_text_base.specs.Results.{OnlyMemory};
+ghost use Rattle.msi_text_places.specs.Recounting.{AreCounts, many_recounted, with_count, with_counts};
 
 use crate::shared::SharedText;
 use msi_text_base::errors::Error;
@@ -155,6 +156,17 @@ impl Places {
         Ok(())
     }
 
+    /// Sets the count of each place, and returns how many got another one. A place without cells loses its text.
+    pub(crate) fn set_counts(&mut self, counts: &[u32]) -> u32
+        requires many { length counts.now ≡ length self.old }
+        requires counts { AreCounts counts.now }
+        requires most { length self.old ≤ 16777215 }
+        ensures places { self.new ≡ with_counts counts.now self.old }
+        ensures changed { result ≡ many_recounted counts.now self.old }
+    {
+        set_counts(&mut self.items, counts)
+    }
+
     /// Empties the texts of free places that aren't named.
     pub(crate) fn forget_texts(&mut self, is_named: &[bool])
         requires { length is_named.now ≡ length self.old }
@@ -162,6 +174,38 @@ impl Places {
     {
         forget_texts(&mut self.items, is_named);
     }
+}
+
+/// Sets the count of a place, and returns whether it had another one.
+fn set_count(place: &mut Place, count: u16, alloc: Global) -> bool
+    ensures place { place.new ≡ with_count count place.old }
+    ensures changed { result ≡ not (count == place.old.count) }
+{
+    let is_changed = count != place.count;
+    if count == 0 {
+        place.text = SharedText::empty(alloc);
+    }
+    place.count = count;
+    is_changed
+}
+
+/// Sets the count of each place, and returns how many got another one.
+fn set_counts(places: &mut Vec<Place>, counts: &[u32]) -> u32
+    requires many { length counts.now ≡ vec_len places.old }
+    requires counts { AreCounts counts.now }
+    requires most { vec_len places.old ≤ 16777215 }
+    ensures items { places.new.items ≡ with_counts counts.now places.old.items }
+    ensures changed { result ≡ many_recounted counts.now places.old.items }
+    ensures len { vec_len places.new ≡ vec_len places.old }
+{
+    let alloc = *places.allocator();
+    let mut changed = 0;
+    for (i, count) in counts.iter().enumerate() {
+        if set_count(&mut places[i], *count as u16, alloc) {
+            changed += 1;
+        }
+    }
+    changed
 }
 
 /// Empties the text of a place that is free and isn't named.

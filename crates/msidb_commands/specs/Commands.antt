@@ -4,12 +4,12 @@ use Rattle.std.specs.declared.string.String.{String}
 use Rattle.std.specs.declared.alloc.Global.{Global}
 use Rattle.msidb_commands.specs.declared.command.Command.{Command}
 use Rattle.msidb_commands.specs.declared.command.Command.TheVariants.{Raw, Wrap, New, Tables, Rows}
-use Rattle.msidb_commands.specs.declared.command.Command.TheVariants.{Summary, Streams, Cat, Put}
+use Rattle.msidb_commands.specs.declared.command.Command.TheVariants.{Summary, Streams, Recount, Cat, Put}
 
 -- the commands of a file alone
 abbrev pub takes_file : List ℕ → Bool
 takes_file verb = bytes_eq verb (codes "raw") || bytes_eq verb (codes "new") || bytes_eq verb (codes "tables")
-    || bytes_eq verb (codes "summary") || bytes_eq verb (codes "streams")
+    || bytes_eq verb (codes "summary") || bytes_eq verb (codes "streams") || bytes_eq verb (codes "recount")
 
 -- the commands of a file and a name
 abbrev pub takes_name : List ℕ → Bool
@@ -36,5 +36,6 @@ words_of (Tables file) = codes "tables" ∷ file.now ∷ []
 words_of (Rows file table) = codes "rows" ∷ file.now ∷ table.now ∷ []
 words_of (Summary file) = codes "summary" ∷ file.now ∷ []
 words_of (Streams file) = codes "streams" ∷ file.now ∷ []
+words_of (Recount file) = codes "recount" ∷ file.now ∷ []
 words_of (Cat file name) = codes "cat" ∷ file.now ∷ name.now ∷ []
 words_of (Put file name) = codes "put" ∷ file.now ∷ name.now ∷ []

@@ -20,6 +20,8 @@ pub enum Command<'a> {
     Summary { file: &'a str },
     /// Prints the names of a package's streams.
     Streams { file: &'a str },
+    /// Counts the cells of a package anew.
+    Recount { file: &'a str },
     /// Prints the bytes of a stream.
     Cat { file: &'a str, name: &'a str },
     /// Stores standard input as a stream.
@@ -50,6 +52,7 @@ impl<'a> Command<'a> {
             "tables" => Some(Command::Tables { file }),
             "summary" => Some(Command::Summary { file }),
             "streams" => Some(Command::Streams { file }),
+            "recount" => Some(Command::Recount { file }),
             _ => None,
         }
     }

@@ -9,6 +9,7 @@ mod buffered;
 mod command;
 mod packages;
 mod raw;
+mod recounting;
 mod streams;
 mod summary;
 mod tables;
@@ -21,7 +22,8 @@ use std::io::{Read, Seek, Write};
 use std::rt::Files;
 
 /// The message for arguments that match no command.
-const USAGE: &str = "usage: msidb raw|wrap|new|tables|rows|summary|streams|cat|put FILE [NAME]";
+const USAGE: &str =
+    "usage: msidb raw|wrap|new|tables|rows|summary|streams|cat|put|recount FILE [NAME]";
 
 /// Runs a command over its arguments, a reader and two writers. Returns the exit status: 0 on success; 1 on an
 /// error, whose kind is written to `errors`; 2, with the usage on `errors`, if the arguments match no command.
@@ -67,6 +69,7 @@ where
         Command::Rows { file, table } => tables::print_rows(rt, file, table, output),
         Command::Summary { file } => summary::print_summary(rt, file, output),
         Command::Streams { file } => streams::print_names(rt, file, output),
+        Command::Recount { file } => recounting::recount(rt, file, output),
         Command::Cat { file, name } => streams::print_bytes(rt, file, name, output),
         Command::Put { file, name } => streams::store_input(rt, file, name, input),
     }

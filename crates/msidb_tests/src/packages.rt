@@ -1,11 +1,11 @@
-//! `new`, `tables`, `rows`, `streams`, `cat` and `put`.
+//! `new`, `tables`, `rows`, `streams`, `cat`, `put` and `recount`.
 
 use crate::runs::{check, ends_moving, path, prints, shows};
 use std::process::Abort;
 use std::{fs, io};
 
 /// Words, and what is printed.
-static NEW: [(&'static [&'static str], &'static str); 6] = [
+static NEW: [(&'static [&'static str], &'static str); 8] = [
     (&["new", "FILE"], ""),
     (&["tables", "FILE"], "_Columns\n_Tables\n_Validation\n"),
     (&["rows", "FILE", "_Tables"], "Name\n\"_Validation\"\n"),
@@ -15,6 +15,8 @@ static NEW: [(&'static [&'static str], &'static str); 6] = [
         "codepage: 65001\ntitle: Installation Database\n",
     ),
     (&["streams", "FILE"], ""),
+    (&["recount", "FILE"], "0\n"),
+    (&["tables", "FILE"], "_Columns\n_Tables\n_Validation\n"),
 ];
 
 /// The rows of a new package's columns. The types are those of MsiDefs.h: 0x2000 for a key, 0x1000 for what may be
@@ -80,4 +82,40 @@ fn the_file_is_closed_while_standard_input_is_read(rt: HostRuntime) {
     let moved = path(&rt, "moved").expect(&rt, "a path");
     check(&rt, &[], puts_moved(&rt, closed.as_str(), moved.as_str()));
     fs::remove_file(&rt, closed.as_str()).expect(&rt, "a file");
+}
+
+/// How the pool's stream begins in a new package: the texts are UTF-8, and 21 cells refer to the first, of 11 bytes.
+const POOL: [u8; 8] = [0xE9, 0xFD, 0, 0, 11, 0, 21, 0];
+
+/// Makes the count of the pool's first text in a file 0. It answers whether there is such a pool.
+fn uncount(rt: &HostRuntime, path: &str) -> io::Result<bool> {
+    let mut bytes = fs::read(rt, path)?;
+    let Some(at) = bytes
+        .as_slice()
+        .windows(8)
+        .position(|piece| piece == POOL.as_slice())
+    else {
+        return Ok(false);
+    };
+    if let Some(count) = bytes.get_mut(at.saturating_add(6)) {
+        *count = 0;
+    }
+    fs::write(rt, path, bytes.as_slice())?;
+    Ok(true)
+}
+
+/// Whether a recount of a package with one wrong count prints 1, and the next one 0.
+fn recounts(rt: &HostRuntime, path: &str) -> io::Result<bool> {
+    let recount = ["recount", "FILE"];
+    Ok(uncount(rt, path)? && shows(rt, &recount, path, "1\n")? && shows(rt, &recount, path, "0\n")?)
+}
+
+#[test]
+fn a_recount_prints_how_many_counts_were_wrong(rt: HostRuntime) {
+    let path = path(&rt, "recount").expect(&rt, "a path");
+    let new = ["new", "FILE"];
+    check(&rt, &new, shows(&rt, &new, path.as_str(), ""));
+    check(&rt, &["recount"], recounts(&rt, path.as_str()));
+    check(&rt, &["put"], stores(&rt, path.as_str(), "bytes"));
+    fs::remove_file(&rt, path.as_str()).expect(&rt, "a file");
 }

@@ -13,7 +13,7 @@ fn refuses(rt: &HostRuntime, all: &[&str], path: &str, line: &str) -> io::Result
 }
 
 /// Words, and the line of errors. The file is no compound file.
-static FAULTS: [(&'static [&'static str], &'static str); 29] = [
+static FAULTS: [(&'static [&'static str], &'static str); 33] = [
     (&["wrap", "FILE", "a/b"], "InvalidInput"),
     (&["raw", "FILE"], "InvalidData"),
     (&["tables", "FILE"], "InvalidData"),
@@ -22,6 +22,7 @@ static FAULTS: [(&'static [&'static str], &'static str); 29] = [
     (&["streams", "FILE"], "InvalidData"),
     (&["cat", "FILE", "a"], "InvalidData"),
     (&["put", "FILE", "a"], "InvalidData"),
+    (&["recount", "FILE"], "InvalidData"),
     (&["raw", "FILE-missing/file"], "Io"),
     (&["wrap", "FILE-missing/file", "a"], "Io"),
     (&["new", "FILE-missing/file"], "Io"),
@@ -31,10 +32,12 @@ static FAULTS: [(&'static [&'static str], &'static str); 29] = [
     (&["streams", "FILE-missing"], "Io"),
     (&["cat", "FILE-missing", "a"], "Io"),
     (&["put", "FILE-missing", "a"], "Io"),
+    (&["recount", "FILE-missing"], "Io"),
     // A folder.
     (&["tables", "."], "Io"),
     (&["new", "."], "Io"),
     (&["put", ".", "a"], "Io"),
+    (&["recount", "."], "Io"),
     (&[], USAGE),
     (&["raw"], USAGE),
     (&["raw", "a", "b"], USAGE),
@@ -42,6 +45,7 @@ static FAULTS: [(&'static [&'static str], &'static str); 29] = [
     (&["rows", "a"], USAGE),
     (&["summary", "a", "b"], USAGE),
     (&["put", "a", "b", "c"], USAGE),
+    (&["recount", "a", "b"], USAGE),
     (&["Tables", "a"], USAGE),
     (&["--help"], USAGE),
 ];
@@ -60,11 +64,12 @@ fn faults_are_told_and_leave_the_file_as_it_was(rt: HostRuntime) {
 type Refusal<'a> = (&'a [&'a str], &'a [&'a str], &'a str);
 
 /// What a package refuses.
-static REFUSED: [Refusal<'static>; 7] = [
+static REFUSED: [Refusal<'static>; 8] = [
     // A container without a summary.
     (&["wrap", "FILE", "a"], &["tables", "FILE"], "NotFound"),
     (&["wrap", "FILE", "a"], &["cat", "FILE", "a"], "NotFound"),
     (&["wrap", "FILE", "a"], &["put", "FILE", "a/b"], "NotFound"),
+    (&["wrap", "FILE", "a"], &["recount", "FILE"], "NotFound"),
     (&["new", "FILE"], &["rows", "FILE", "Numbers"], "NotFound"),
     (&["new", "FILE"], &["cat", "FILE", "a"], "NotFound"),
     (&["new", "FILE"], &["cat", "FILE", "a/b"], "InvalidInput"),

@@ -8,7 +8,7 @@ use std::{env, fs};
 
 /// The message for arguments that match no command.
 pub(crate) const USAGE: &str =
-    "usage: msidb raw|wrap|new|tables|rows|summary|streams|cat|put FILE [NAME]";
+    "usage: msidb raw|wrap|new|tables|rows|summary|streams|cat|put|recount FILE [NAME]";
 
 /// A path in the folder for temporary files that no other test uses.
 pub(crate) fn path(rt: &HostRuntime, name: &str) -> io::Result<String> {

@@ -19,6 +19,8 @@ use std::rt::Files;
 enum Call {
     Package(PackageCall),
     Change(Change),
+    /// Counts the cells of a package anew, and prints how many counts changed.
+    Recount,
     Look(Look),
     Bytes(BytesCall),
     File(FileCall),
@@ -33,7 +35,7 @@ enum Call {
 }
 
 /// Each call by its name.
-static CALLS: [(&str, Call); 48] = [
+static CALLS: [(&str, Call); 49] = [
     ("device", Call::Package(PackageCall::Device)),
     ("create", Call::Package(PackageCall::Create)),
     ("open", Call::Package(PackageCall::Open)),
@@ -56,6 +58,7 @@ static CALLS: [(&str, Call); 48] = [
     ("set", Call::Change(Change::SetSummary)),
     ("clear", Call::Change(Change::ClearSummary)),
     ("flush", Call::Change(Change::Flush)),
+    ("recount", Call::Recount),
     ("package_type", Call::Look(Look::PackageType)),
     ("codepage", Call::Look(Look::Codepage)),
     ("is_writable", Call::Look(Look::IsWritable)),
@@ -129,6 +132,10 @@ fn make_other(
     match call {
         Call::Package(call) => packages::make(alloc, session, call, words)?,
         Call::Change(change) => changes::make(alloc, session.package_mut()?, change, words)?,
+        Call::Recount => {
+            write!(answer, "{}", session.package_mut()?.recount()?)?;
+            return Ok(());
+        }
         Call::Look(look) => return looks::print(alloc, session.package()?, look, words, answer),
         Call::Bytes(call) => {
             return containers::make(alloc, &mut session.kept, call, words, answer);

@@ -7,6 +7,7 @@ ghost use Rattle.std.specs.Option.{option_copied};
 ghost use Rattle.msi_text_pool_base.specs.Pool.{CountsFit, newly_indexed, unindexed, without_unnamed_texts};
 ghost use Rattle.msi_text_places.specs.FirstFit.{taken, given_back, is_long_with};
 ghost use Rattle.msi_text_places.specs.FirstFitLaws.{Holds, place_at, text_at, count_at};
+ghost use Rattle.msi_text_places.specs.Recounting.{AreCounts, many_recounted, with_counts};
 ghost use Rattle.msi_text_base.specs.Results.{OnlyMemory};
 ghost use Rattle.msi_text_base.specs.declared.errors.ErrorKind.TheVariants.{InvalidData, InvalidInput, OutOfMemory};
 
@@ -243,6 +244,19 @@ impl StringPool {
         ensures many { length self.new.places ≡ length self.old.places }
     {
         self.kept.give_back(reference.to_number())
+    }
+
+    /// Sets the count of each place, from number 1 on, and returns how many places got another one. A place without
+    /// cells becomes free, and its text empty. It takes no memory.
+    pub(crate) fn set_counts(&mut self, counts: &[u32]) -> u32
+        requires many { length counts.now ≡ length self.old.places }
+        requires counts { AreCounts counts.now }
+        ensures pool { unindexed self.new
+            ≡ record (unindexed self.old) { places = with_counts counts.now self.old.places } }
+        ensures changed { result ≡ many_recounted counts.now self.old.places }
+        ensures operations { self.new.operations ≡ 0 }
+    {
+        self.kept.set_counts(counts)
     }
 
     /// Empties the text of each place that is free and isn't named: `is_named` says which are, from number 1 on. All

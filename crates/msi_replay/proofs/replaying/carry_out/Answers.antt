@@ -37,6 +37,16 @@ returns-in-Change c =
       kind = tt;
     })
 
+pub returns-in-Recount : goal.returns-in-Recount
+returns-in-Recount c =
+    let quiet : IsQuiet calls.recount = record { unflushed = refl; alone = refl } in
+    rw c.in-Recount.is (record {
+      step = quiet_step answer_told c.args.target.now c.recount.new.target calls.recount quiet c.requires (Ok c.recount.result) c.recount.ensures;
+      fits = call_fits calls.recount tt (Ok c.recount.result);
+      tells = quiet_tells answer_told c.args.target.now c.recount.new.target calls.recount quiet c.requires (Ok c.recount.result) c.recount.ensures;
+      kind = tt;
+    })
+
 pub returns-in-SummaryInfo : goal.returns-in-SummaryInfo
 returns-in-SummaryInfo c =
     let quiet : IsQuiet (calls.summary_info (map question_sent c.in-SummaryInfo.questions)) = record { unflushed = refl; alone = refl } in

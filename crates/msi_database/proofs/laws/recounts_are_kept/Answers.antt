@@ -1,0 +1,5 @@
+use Rattle.msi_database.proofs.RecountingLemmas.{recounts_are_kept}
+use Rattle.msi_database.proofs.laws.recounts_are_kept.Goals as goal
+
+pub returns : goal.returns
+returns c = recounts_are_kept

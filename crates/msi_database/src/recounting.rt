@@ -1,0 +1,146 @@
+//! Counting anew: the count of each place becomes the number of the cells that name it.
+
+ghost use Rattle.std.specs.Prelude.{◌≡◌, IfErr, IfOk, None, Ok, OnErr, OnOk, length, true};
+ghost use Rattle.msi_text_base.specs.Results.{OnlyMemory};
+ghost use Rattle.msi_text_base.specs.declared.errors.ErrorKind.TheVariants.{InvalidData};
+ghost use Rattle.msi_text_places.specs.Recounting.{AreCounts};
+ghost use Rattle.msi_table.specs.Census.{IsCensus};
+ghost use Rattle.msi_text.specs.Refusals.{AnswersFirst, IsRefusal, first_refusal, unless_refused};
+ghost use Rattle.msi_database_schema.specs.Schema.{table_with};
+ghost use Rattle.msi_database_schema.specs.System.{validation_columns as columns_of_validation, validation_name};
+ghost use Rattle.msi_database_changes.specs.Database.{is_sound, named_numbers};
+ghost use Rattle.msi_database_changes.specs.Recounting as databases;
+ghost use Rattle.msi_database_changes.specs.Recounting.{cell_counts, counting_refusals, early_recount_refusals};
+ghost use Rattle.msi_database_changes.specs.Recounting.{recount_refusals};
+ghost use Rattle.msi_database.specs.Recounting.{after_recount};
+
+use crate::database::Database;
+use crate::reasons;
+use msi_database_schema::parts::named_table;
+use msi_database_schema::system::{VALIDATION, validation_columns};
+use msi_database_storage::parts::{
+    are_sound_tables, cells_census, counts_fit, fits_width, is_standard,
+};
+use msi_table::Table;
+use msi_table::column::Column;
+use msi_table::parts::Census;
+use msi_text::Reason;
+use msi_text::errors::{Error, ErrorKind};
+use msi_text::parts::set_counts;
+
+/// `InvalidData`, for people with this reason.
+fn invalid(reason: Reason) -> Error
+    ensures { result ≡ InvalidData }
+{
+    Error::new(ErrorKind::InvalidData, reason)
+}
+
+impl Database {
+    /// Refuses a recount for what is seen without memory.
+    ///
+    /// # Errors
+    /// `InvalidData` where a table can't be read or has a name that isn't accepted, and where the pool has more places
+    /// than its references can name.
+    fn check_countable(&self) -> Result<(), Error>
+        ensures { result ≡ unless_refused (early_recount_refusals self.now.database) tt }
+    {
+        if !are_sound_tables(&self.streams, self.tables.as_slice()) {
+            return Err(invalid(reasons::ODD_TABLE));
+        }
+        if !fits_width(&self.pool) {
+            return Err(invalid(reasons::PAST_REFERENCES));
+        }
+        Ok(())
+    }
+
+    /// The census of all cells, by the standard columns of `_Validation`.
+    ///
+    /// # Errors
+    /// `OutOfMemory`.
+    fn cells(&self, standard: &Table) -> Result<Census, Error>
+        requires { standard.now ≡ table_with self.now.database.pool.long (validation_name, columns_of_validation) }
+        ensures ok { let d = self.now.database in
+            IfOk result (λ census. IsCensus (length d.pool.places) (named_numbers d) census) }
+        ensures kind { OnlyMemory result }
+    {
+        cells_census(
+            self.alloc,
+            self.pool.num_strings(),
+            &self.streams,
+            self.tables.as_slice(),
+            standard,
+        )
+    }
+
+    /// Refuses a recount for the columns of `_Validation` and for what the census of all cells says.
+    ///
+    /// # Errors
+    /// `InvalidData` where a listed `_Validation` lacks the standard columns, where a cell names past the pool, and
+    /// where a place has more than 65535 cells.
+    fn check_cells(&self, standard: &[Column], census: &Census) -> Result<(), Error>
+        requires standard { standard.now ≡ columns_of_validation }
+        requires census { let d = self.now.database in
+            IsCensus (length d.pool.places) (named_numbers d) census.now }
+        ensures answer { result ≡ unless_refused (counting_refusals self.now.database) tt }
+        ensures counts { OnOk result (AreCounts census.now.counts) }
+    {
+        if !is_standard(self.tables.as_slice(), standard) {
+            return Err(invalid(reasons::ODD_VALIDATION));
+        }
+        if !census.is_within() {
+            return Err(invalid(reasons::PAST_POOL));
+        }
+        if !counts_fit(census) {
+            return Err(invalid(reasons::PAST_COUNTS));
+        }
+        Ok(())
+    }
+
+    /// The census of all cells, if a recount is accepted.
+    ///
+    /// # Errors
+    /// Those of `recount`.
+    fn accepted_census(&self) -> Result<Census, Error>
+        ensures ok { OnOk result (first_refusal (recount_refusals self.now.database) ≡ None) }
+        ensures counts { IfOk result (λ census. census.counts ≡ cell_counts self.now.database) }
+        ensures small { IfOk result (λ census. AreCounts census.counts) }
+        ensures kind { IfErr result (IsRefusal (databases.recount self.now.database)) }
+        ensures early { AnswersFirst (early_recount_refusals self.now.database) result }
+    {
+        self.check_countable()?;
+        let columns = validation_columns(self.alloc)?;
+        let standard = named_table(
+            self.alloc,
+            VALIDATION,
+            columns,
+            self.pool.long_string_refs(),
+        )?;
+        let census = self.cells(&standard)?;
+        self.check_cells(standard.columns(), &census)?;
+        Ok(census)
+    }
+
+    /// Sets the count of each place of the pool to the number of the cells that name it, and returns how many places
+    /// got another count. A place without cells becomes free, and its text empty; one that cells name keeps the text
+    /// that was read. Streams stay. The database is sound from then on. It costs one pass over the cells.
+    ///
+    /// # Errors
+    /// Fails with `InvalidData` if a table can't be read or has a name that isn't accepted, if a listed `_Validation`
+    /// lacks the names, kinds and key columns of the standard one, if a cell names past the pool, if the pool has more
+    /// than 65535 places with references of two bytes, and if a place has more than 65535 cells. Otherwise it fails
+    /// with `OutOfMemory`, which may also come in place of what is refused for columns and for cells. Then nothing has
+    /// changed.
+    pub fn recount(&mut self) -> Result<u32, Error>
+        ensures ok { IfOk result (λ changed. databases.recount self.old.database ≡ Ok changed) }
+        ensures left { OnOk result (self.new ≡ after_recount self.old) }
+        ensures sound { OnOk result (is_sound self.new.database ≡ true) }
+        ensures same { OnErr result (self.new ≡ self.old) }
+        ensures kind { IfErr result (IsRefusal (databases.recount self.old.database)) }
+        ensures early { AnswersFirst (early_recount_refusals self.old.database) result }
+    {
+        let census = self.accepted_census()?;
+        let changed = set_counts(&mut self.pool, census.counts());
+        self.is_sound = true;
+        Ok(changed)
+    }
+}

@@ -1,0 +1,31 @@
+-- What a recount ensures is what its call takes.
+use Rattle.std.proofs.Common.{◌≡◌, ℕ, Result, Ok, Err, refl, sym, ap, ◌∙◌, inl, inr}
+use Rattle.std.specs.Prelude.{IfErr, IfOk, OnErr, OnOk}
+use Rattle.msi_text_base.specs.declared.errors.ErrorKind.{ErrorKind}
+use Rattle.msi_text.specs.Refusals.{IsRefusal}
+use Rattle.msi.specs.State.{State, parts_of}
+use Rattle.msi.specs.Calls as calls
+use Rattle.msi.specs.Steps.{after_recount, recounted, recounting}
+use Rattle.msi.specs.Whole.{Whole, with_state}
+use Rattle.msi_replay.specs.Taken.{Takes}
+use Rattle.msi_replay.specs.Told.{told}
+
+module _ (old new : Whole) where
+  pub recount_done : (n : ℕ) → recounting (parts_of old.state) ≡ Ok n → new ≡ with_state (after_recount old.state) old → Takes old calls.recount (Ok (calls.count_is n)) new
+  recount_done n is left = record {
+    step = λ len. inl (ap (recounted old.state) is ∙ ap (λ (s : State). (Ok (calls.count_is n), s)) (sym (ap (λ (w : Whole). w.state) left)));
+    held = ap (λ (w : Whole). w.held) left;
+    failed = ap (λ (w : Whole). w.failed) left;
+  }
+
+  pub recount_refused : (kind told_kind : ErrorKind) → told_kind ≡ kind → new ≡ old → IsRefusal (recounting (parts_of old.state)) kind → Takes old calls.recount (Err told_kind) new
+  recount_refused kind told_kind is same (inl memory) = record {
+    step = λ len. inr (inl (refl, ap Err (is ∙ memory), ap (λ (w : Whole). w.state) same));
+    held = ap (λ (w : Whole). w.held) same;
+    failed = ap (λ (w : Whole). w.failed) same;
+  }
+  recount_refused kind told_kind is same (inr e) = record {
+    step = λ len. inl (ap (recounted old.state) e ∙ (λ i. (Err (sym is i), sym (ap (λ (w : Whole). w.state) same) i)));
+    held = ap (λ (w : Whole). w.held) same;
+    failed = ap (λ (w : Whole). w.failed) same;
+  }
