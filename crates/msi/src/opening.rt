@@ -143,15 +143,16 @@ fn open_contents(alloc: Global, contents: Contents) -> Result<Opened, Error>
     })
 }
 
-/// What the bytes of a package say.
+/// What the bytes of a package say. They are given back to memory as soon as its streams are copied.
 ///
 /// # Errors
 /// Those of [`Package::open`], but `Io`.
-pub(crate) fn open_bytes(alloc: Global, bytes: &[u8]) -> Result<Opened, Error>
-    ensures ok { IfOk result (λ opened. OpensTo bytes.now (Ok opened)) }
-    ensures kind { IfErr result (IsOpenRefusal bytes.now) }
+pub(crate) fn open_bytes(alloc: Global, bytes: Vec<u8>) -> Result<Opened, Error>
+    ensures ok { IfOk result (λ opened. OpensTo bytes.items (Ok opened)) }
+    ensures kind { IfErr result (IsOpenRefusal bytes.items) }
 {
-    let contents = read(alloc, bytes)?;
+    let contents = read(alloc, bytes.as_slice())?;
+    drop(bytes);
     open_contents(alloc, contents)
 }
 
@@ -178,7 +179,7 @@ impl<F: Source + Drop> Package<F> {
         let mut device = inner;
         device.clear_failed();
         let bytes = read_all(alloc, &mut device)?;
-        let opened = open_bytes(alloc, bytes.as_slice())?;
+        let opened = open_bytes(alloc, bytes)?;
         let Opened {
             kind,
             summary,

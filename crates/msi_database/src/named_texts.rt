@@ -1,7 +1,7 @@
-//! How much text the rows of a table name.
+//! What the texts cost that the rows of a table name.
 
-ghost use Rattle.std.specs.Prelude.{◌≡◌, ◌↔◌, ◌-◌, ◌≤◌, IsTrue, SomeIff, min};
-ghost use Rattle.msi_database.specs.NamedTexts.{NameFewTexts, cell_bytes, named_bytes, pool_bytes, row_bytes};
+ghost use Rattle.std.specs.Prelude.{◌≡◌, ◌↔◌, ◌-◌, ◌≤◌, ◌==◌, IsTrue, SomeIff, count_by, min};
+ghost use Rattle.msi_database.specs.NamedTexts.{NameFewTexts, cell_cost, named_cost, pool_bytes, row_cost, text_cost};
 
 use msi_table::ValueRef;
 use msi_text::parts::string_ref;
@@ -19,23 +19,39 @@ fn pool_size(pool: &StringPool) -> usize
     size
 }
 
-/// How many bytes the text that a cell names has; none where it names no text.
-fn text_size(pool: &StringPool, cell: ValueRef) -> usize
-    ensures { result ≡ cell_bytes pool.now.places cell }
+/// How many semicolons a text has.
+fn semicolons(text: &str) -> usize
+    ensures { result ≡ count_by (λ b. b == 59) text.now }
+{
+    text.as_bytes().iter().filter(|byte| **byte == b';').count()
+}
+
+/// How much is left behind a text of what texts may cost; nothing where it costs more. It looks at the text only where
+/// its bytes don't cost more.
+fn left_behind_text(text: &str, most: usize) -> Option<usize>
+    ensures { let cost = text_cost text.now in SomeIff result (cost ≤ most) (most - cost) }
+{
+    let left = most.checked_sub(text.len())?;
+    left.checked_sub(semicolons(text).checked_mul(128)?)
+}
+
+/// How much is left behind a cell of what texts may cost; nothing where its text costs more.
+fn left_behind_cell(pool: &StringPool, cell: ValueRef, most: usize) -> Option<usize>
+    ensures { let cost = cell_cost pool.now.places cell in SomeIff result (cost ≤ most) (most - cost) }
 {
     match cell {
-        ValueRef::Str(reference) => pool.get(reference).len(),
-        _ => 0,
+        ValueRef::Str(reference) => left_behind_text(pool.get(reference), most),
+        _ => Some(most),
     }
 }
 
-/// How many of the bytes that are left for texts are left behind a row; nothing where it has more.
+/// How much is left behind a row of what texts may cost; nothing where its texts cost more.
 fn left_behind(pool: &StringPool, row: &[ValueRef], most: usize) -> Option<usize>
-    ensures { let size = row_bytes pool.now.places row.now in SomeIff result (size ≤ most) (most - size) }
+    ensures { let cost = row_cost pool.now.places row.now in SomeIff result (cost ≤ most) (most - cost) }
 {
     let mut left = most;
     for cell in row {
-        let Some(others) = left.checked_sub(text_size(pool, *cell)) else {
+        let Some(others) = left_behind_cell(pool, *cell, left) else {
             return None;
         };
         left = others;
@@ -43,9 +59,9 @@ fn left_behind(pool: &StringPool, row: &[ValueRef], most: usize) -> Option<usize
     Some(left)
 }
 
-/// Whether the texts that rows name, each counted as often as it is named, have at most so many bytes.
+/// Whether the texts that rows name, each counted as often as it is named, cost at most so much.
 fn name_at_most(pool: &StringPool, rows: &[Items<ValueRef>], most: usize) -> bool
-    ensures { IsTrue result ↔ (named_bytes pool.now.places rows.now ≤ most) }
+    ensures { IsTrue result ↔ (named_cost pool.now.places rows.now ≤ most) }
 {
     let mut left = most;
     for row in rows {
@@ -57,12 +73,12 @@ fn name_at_most(pool: &StringPool, rows: &[Items<ValueRef>], most: usize) -> boo
     true
 }
 
-/// Whether the texts that rows name, each counted as often as it is named, have at most four times the bytes of the
-/// pool's texts, 64 bytes for each row and 256 KiB; and no more than `usize` counts. It looks at all of the pool only
-/// where they have more than the last two parts.
+/// Whether the texts that rows name, each counted as often as it is named, cost at most four times the bytes of the
+/// pool's texts, 64 for each row and 256 KiB; and no more than `usize` counts. A text costs its bytes, and 128 for each
+/// semicolon. It looks at all of the pool only where they cost more than the last two parts.
 pub(crate) fn name_few_texts(pool: &StringPool, rows: &[Items<ValueRef>]) -> bool
     ensures { IsTrue result
-        ↔ (NameFewTexts pool.now.places rows.now × (named_bytes pool.now.places rows.now ≤ usize.MAX)) }
+        ↔ (NameFewTexts pool.now.places rows.now × (named_cost pool.now.places rows.now ≤ usize.MAX)) }
 {
     let of_rows = rows.len().saturating_mul(64).saturating_add(262_144);
     if name_at_most(pool, rows, of_rows) {

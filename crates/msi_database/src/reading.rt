@@ -49,10 +49,11 @@ fn look_at(streams: &StreamMap)
     }
 }
 
-/// Refuses rows that name the same long texts again and again: columns have a copy of each text that describes them.
+/// Refuses rows that name the same texts again and again, where these are long or lists: columns have a copy of each
+/// text that describes them.
 ///
 /// # Errors
-/// `OutOfMemory` where the texts are more than `name_few_texts` allows.
+/// `OutOfMemory` where the texts cost more than `name_few_texts` allows.
 fn refuse_many_texts(pool: &StringPool, rows: &[Items<ValueRef>]) -> Result<(), Error>
     ensures bounded { OnOk result (NameFewTexts pool.now.places rows.now) }
     ensures kind { OnlyMemory result }
@@ -146,8 +147,9 @@ impl Database {
     ///
     /// # Errors
     /// Fails with `InvalidData` if the stream of a system table can't be read, and if its rows describe no tables, or
-    /// with `OutOfMemory`. That comes too if the rows of a system table name texts that have, each counted as often as
-    /// it is named, more than four times the bytes of the pool's texts, 64 bytes for each row and 256 KiB.
+    /// with `OutOfMemory`. That comes too if the texts that the rows of a system table name cost, each counted as often
+    /// as it is named, more than four times the bytes of the pool's texts, 64 for each row and 256 KiB. A text costs
+    /// its bytes, and 128 for each semicolon.
     pub fn read(alloc: Global, pool: StringPool, streams: StreamMap) -> Result<Database, Error>
         ensures ok { IfOk result (IsDatabaseOf (unindexed pool) (entries streams)) }
         ensures only { IfOk result (λ d. (k : Kept) → IsDatabaseOf (unindexed pool) (entries streams) k → k ≡ d) }

@@ -15,7 +15,7 @@ pub fn copied_list(alloc: Global, texts: &[&str]) -> Result<Items<Text>, Error>
     ensures ok { IfOk result (λ copies. copies ≡ map (λ text. text.now) texts.now) }
     ensures kind { OnlyMemory result }
 {
-    let mut copies = Vec::new(alloc);
+    let mut copies = Vec::with_capacity(alloc, texts.len())?;
     for text in texts {
         copies.push((*text).into_text(alloc)?)?;
     }
@@ -30,7 +30,7 @@ pub fn copied_texts(alloc: Global, texts: &[Text]) -> Result<Items<Text>, Error>
     ensures ok { IfOk result (λ copies. copies ≡ texts.now) }
     ensures kind { OnlyMemory result }
 {
-    let mut copies = Vec::new(alloc);
+    let mut copies = Vec::with_capacity(alloc, texts.len())?;
     for text in texts {
         copies.push(text.clone(alloc)?)?;
     }
