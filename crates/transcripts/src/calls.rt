@@ -9,7 +9,9 @@ use crate::looks::{self, Look};
 use crate::packages::{self, PackageCall};
 use crate::queries::select;
 use crate::session::Session;
+use crate::texts::{self, TextCall};
 use crate::words::Words;
+use crate::{cells, evaluation, pools, properties, tables};
 use std::alloc::Global;
 use std::io::{Read, Seek, Write};
 use std::rt::Files;
@@ -24,6 +26,11 @@ enum Call {
     Look(Look),
     Bytes(BytesCall),
     File(FileCall),
+    Text(TextCall),
+    /// Makes a call on the string pool.
+    Pool,
+    /// Makes a call on the property set.
+    Properties,
     /// Prints how many calls the device got that was closed last.
     Calls,
     /// Prints how many writes it got.
@@ -35,7 +42,7 @@ enum Call {
 }
 
 /// Each call by its name.
-static CALLS: [(&str, Call); 49] = [
+static CALLS: [(&str, Call); 63] = [
     ("device", Call::Package(PackageCall::Device)),
     ("create", Call::Package(PackageCall::Create)),
     ("open", Call::Package(PackageCall::Open)),
@@ -84,6 +91,20 @@ static CALLS: [(&str, Call); 49] = [
     ("set_raw", Call::Bytes(BytesCall::SetRaw)),
     ("remove_raw", Call::Bytes(BytesCall::RemoveRaw)),
     ("save", Call::File(FileCall::Save)),
+    ("decode", Call::Text(TextCall::Decode)),
+    ("encode", Call::Text(TextCall::Encode)),
+    ("carries", Call::Text(TextCall::Carries)),
+    ("page", Call::Text(TextCall::Page)),
+    ("category", Call::Text(TextCall::Category)),
+    ("language", Call::Text(TextCall::Language)),
+    ("print_language", Call::Text(TextCall::PrintLanguage)),
+    ("moment_from_unix", Call::Text(TextCall::FromUnix)),
+    ("moment_to_unix", Call::Text(TextCall::ToUnix)),
+    ("read_moment", Call::Text(TextCall::ReadMoment)),
+    ("write_moment", Call::Text(TextCall::WriteMoment)),
+    ("print_error", Call::Text(TextCall::Error)),
+    ("pool", Call::Pool),
+    ("properties", Call::Properties),
     ("calls", Call::Calls),
     ("writes", Call::Writes),
     ("print_query", Call::PrintQuery),
@@ -91,13 +112,29 @@ static CALLS: [(&str, Call); 49] = [
 ];
 
 /// Returns the call of a name.
-fn call_named(name: &str) -> Result<Call, Failure> {
+fn call_named(name: &str) -> Option<Call> {
     for (known, call) in &CALLS {
         if *known == name {
-            return Ok(*call);
+            return Some(*call);
         }
     }
-    Err(Failure::Unreadable("there is no such call"))
+    None
+}
+
+/// Makes a call on values, columns, rows or expressions.
+fn make_named(
+    alloc: Global,
+    session: &Session,
+    name: &str,
+    words: &mut Words,
+    answer: &mut String,
+) -> Result<(), Failure> {
+    if tables::make(alloc, name, words, answer)?
+        || evaluation::make(alloc, session, name, words, answer)?
+    {
+        return Ok(());
+    }
+    cells::make(alloc, &session.kept, name, words, answer)
 }
 
 /// Makes a call, and prints its answer as lines.
@@ -111,12 +148,14 @@ where
     R: Files + AllocGlobal,
     R::File: Read + Write + Seek + Drop,
 {
-    match call_named(words.word()?)? {
-        Call::File(call) => {
+    let name = words.word()?;
+    match call_named(name) {
+        None => make_named(rt.alloc(), session, name, words, answer)?,
+        Some(Call::File(call)) => {
             files::make(rt, session, call, words)?;
             answer.push_str("ok")?;
         }
-        call => make_other(rt.alloc(), session, call, words, answer)?,
+        Some(call) => make_other(rt.alloc(), session, call, words, answer)?,
     }
     words.end()
 }
@@ -140,6 +179,9 @@ fn make_other(
         Call::Bytes(call) => {
             return containers::make(alloc, &mut session.kept, call, words, answer);
         }
+        Call::Text(call) => return texts::print(alloc, &session.kept, call, words, answer),
+        Call::Pool => return pools::make(alloc, session, words, answer),
+        Call::Properties => return properties::make(alloc, session, words, answer),
         _ => return print_text(alloc, session, call, words, answer),
     }
     answer.push_str("ok")?;

@@ -55,7 +55,7 @@ pub(crate) fn columns(alloc: Global, words: &mut Words) -> Result<Vec<Column>, F
 }
 
 /// Reads a column: its name, what the calls of its builder are named after, and last its type.
-fn column(alloc: Global, words: &mut Words) -> Result<Column, Failure> {
+pub(crate) fn column(alloc: Global, words: &mut Words) -> Result<Column, Failure> {
     let mut builder = Column::build(alloc, words.name()?)?;
     for _ in 0..words.len() {
         let word = words.word()?;
@@ -100,7 +100,7 @@ fn with_option(
 }
 
 /// Returns the category of a name.
-fn category(name: &str) -> Result<Category, Failure> {
+pub(crate) fn category(name: &str) -> Result<Category, Failure> {
     for category in Category::all() {
         if category.name() == name {
             return Ok(category);
@@ -135,7 +135,7 @@ pub(crate) fn print_columns(answer: &mut String, columns: &[Column]) -> Result<(
 }
 
 /// Prints a column: its name, its type and what else it was built with.
-fn print_column(answer: &mut String, column: &Column) -> Result<(), AllocError> {
+pub(crate) fn print_column(answer: &mut String, column: &Column) -> Result<(), AllocError> {
     write!(answer, "{} {}", column.name(), column.coltype())?;
     print_flags(answer, column)?;
     if let Some((least, most)) = column.value_range() {

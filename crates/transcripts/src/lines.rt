@@ -106,17 +106,18 @@ fn push_filled(
     Ok(())
 }
 
-/// Returns a text with the first field of a row in place of `$1`, and so on, and the whole row in place of `$0`.
+/// Returns a text with the first field of a row in place of `$1`, and so on, the whole row in place of `$0`, and `$` in
+/// place of `$$`.
 fn filled(alloc: Global, text: &str, row: &str) -> Result<String, Failure> {
     let mut filled = String::new(alloc);
     let mut is_field = false;
     for c in text.chars() {
         match c.to_digit(10) {
             Some(digit) if is_field => filled.push_str(field(row, digit))?,
-            _ if c == '$' => {}
+            _ if c == '$' && !is_field => {}
             _ => filled.push(c)?,
         }
-        is_field = c == '$';
+        is_field = c == '$' && !is_field;
     }
     Ok(filled)
 }

@@ -6,22 +6,29 @@
 #![tactic(auto)]
 
 mod calls;
+mod cells;
 mod changes;
 mod columns;
 mod conditions;
 mod containers;
 mod cursors;
+mod evaluation;
 mod failure;
 mod files;
+mod given;
 mod kept;
 mod lines;
 mod looks;
 mod packages;
 mod pictures;
+mod pools;
+mod properties;
 mod queries;
 mod reports;
 mod session;
 mod summary;
+mod tables;
+mod texts;
 mod tokens;
 mod transcript;
 mod trials;

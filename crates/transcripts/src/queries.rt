@@ -101,17 +101,25 @@ pub(crate) fn insert(alloc: Global, words: &mut Words) -> Result<Insert, Failure
     Ok(query.rows(rows(alloc, words)?)?)
 }
 
-/// Reads an update: `Numbers set Word = "One", Number = 1 where Number = 2`.
+/// Reads an insert to which rows are added one by one.
+pub(crate) fn insert_singly(alloc: Global, words: &mut Words) -> Result<Insert, Failure> {
+    let mut query = Insert::into(alloc, words.name()?)?;
+    for row in rows(alloc, words)? {
+        query = query.row(row)?;
+    }
+    Ok(query)
+}
+
+/// Reads an update: `Numbers set Word = "One", Number = 1 where Number = 2`, which may set nothing.
 pub(crate) fn update(alloc: Global, words: &mut Words) -> Result<Update, Failure> {
     let mut query = Update::table(alloc, words.name()?)?;
-    if !words.takes("set") {
-        return Err(Failure::Unreadable("an update sets nothing"));
-    }
+    let mut goes_on = words.takes("set");
     for _ in 0..words.len() {
-        query = with_set(alloc, words, query)?;
-        if !words.takes_mark(Mark::Comma) {
+        if !goes_on {
             break;
         }
+        query = with_set(alloc, words, query)?;
+        goes_on = words.takes_mark(Mark::Comma);
     }
     if words.takes("where") {
         return Ok(query.with(expression(alloc, words)?)?);
@@ -128,11 +136,14 @@ fn with_set(alloc: Global, words: &mut Words, query: Update) -> Result<Update, F
     Ok(query.set(column, value(alloc, words, 0)?)?)
 }
 
-/// Reads a delete: `Numbers where Number = 2`.
+/// Reads a delete: `Numbers where Number = 2`. There may be several conditions.
 pub(crate) fn delete(alloc: Global, words: &mut Words) -> Result<Delete, Failure> {
-    let query = Delete::from(alloc, words.name()?)?;
-    if words.takes("where") {
-        return Ok(query.with(expression(alloc, words)?)?);
+    let mut query = Delete::from(alloc, words.name()?)?;
+    for _ in 0..words.len() {
+        if !words.takes("where") {
+            break;
+        }
+        query = query.with(expression(alloc, words)?)?;
     }
     Ok(query)
 }

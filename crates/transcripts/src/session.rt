@@ -3,7 +3,7 @@
 use crate::failure::Failure;
 use crate::kept::Kept;
 use crate::words::Words;
-use msi::Package;
+use msi::{Package, PropertySet, StringPool};
 use msi_container_tests::counting::Counting;
 use std::alloc::Global;
 
@@ -24,10 +24,12 @@ const PLAIN: Behaviour = Behaviour {
     lasts: false,
 };
 
-/// A package, and the bytes of earlier ones.
+/// A package, the bytes of earlier ones, and a string pool and a property set of no package.
 #[derive(Drop)]
 pub(crate) struct Session {
     pub(crate) package: Option<Package<Counting>>,
+    pub(crate) pool: Option<StringPool>,
+    pub(crate) properties: Option<PropertySet>,
     pub(crate) kept: Kept,
     behaviour: Behaviour,
     /// How many calls the device of the last package got that was closed.
@@ -43,6 +45,8 @@ impl Session {
     pub(crate) fn new(alloc: Global) -> Session {
         Session {
             package: None,
+            pool: None,
+            properties: None,
             kept: Kept::new(alloc),
             behaviour: PLAIN,
             calls: 0,

@@ -4,6 +4,7 @@ use crate::failure::Failure;
 use crate::words::{Words, count_of, number_of};
 use msi::{CodePage, LanguageId, SummaryInfo, Timestamp};
 use std::alloc::{AllocError, Global};
+use uuid::Uuid;
 
 /// The failure of a call on another property.
 const NO_PROPERTY: Failure = Failure::Unreadable("a summary has no such property");
@@ -84,8 +85,10 @@ fn print_keywords(answer: &mut String, summary: &SummaryInfo) -> Result<(), Fail
     if keywords.is_empty() {
         answer.push_str("none")?;
     }
+    let mut before = "";
     for keyword in &keywords {
-        write!(answer, "{:?} ", keyword.as_str())?;
+        write!(answer, "{before}{:?}", keyword.as_str())?;
+        before = " ";
     }
     Ok(())
 }
@@ -96,8 +99,10 @@ fn print_languages(answer: &mut String, summary: &SummaryInfo) -> Result<(), Fai
     if languages.is_empty() {
         answer.push_str("none")?;
     }
+    let mut before = "";
     for language in &languages {
-        write!(answer, "{} ", language.id())?;
+        write!(answer, "{before}{}", language.id())?;
+        before = " ";
     }
     Ok(())
 }
@@ -120,6 +125,7 @@ pub(crate) fn set(
         "languages" => set_languages(alloc, summary, words)?,
         "keywords" => set_keywords(alloc, summary, words)?,
         "codepage" => summary.set_codepage(codepage(words)?)?,
+        "uuid" => set_uuid(summary, words.name()?)?,
         _ => set_number(summary, property, words)?,
     }
     Ok(())
@@ -141,6 +147,14 @@ fn set_keywords(
         keywords.push(String::from_str(alloc, words.name()?)?)?;
     }
     Ok(summary.set_keywords(keywords.as_slice())?)
+}
+
+/// Sets the UUID.
+fn set_uuid(summary: &mut SummaryInfo, text: &str) -> Result<(), Failure> {
+    match Uuid::parse_str(text) {
+        Ok(uuid) => Ok(summary.set_uuid(uuid)?),
+        Err(_) => Err(Failure::Unreadable("a UUID is missing")),
+    }
 }
 
 /// Sets the languages.
@@ -179,6 +193,9 @@ fn set_time(summary: &mut SummaryInfo, property: &str, ticks: u64) -> Result<(),
         "last_printed" => summary.set_last_printed(time)?,
         "creation_time" => summary.set_creation_time(time)?,
         "last_saved_time" => summary.set_last_save_time(time)?,
+        "last_printed_to_now" => summary.set_last_printed_to_now(time)?,
+        "creation_time_to_now" => summary.set_creation_time_to_now(time)?,
+        "last_saved_time_to_now" => summary.set_last_save_time_to_now(time)?,
         _ => return Err(NO_PROPERTY),
     }
     Ok(())

@@ -37,7 +37,7 @@ fn letter(alloc: Global, number: i32) -> Result<Value, Failure> {
 }
 
 /// Reads the values of a row: `(1, "One", NULL)`.
-fn row(alloc: Global, words: &mut Words, number: i32) -> Result<Vec<Value>, Failure> {
+pub(crate) fn row(alloc: Global, words: &mut Words, number: i32) -> Result<Vec<Value>, Failure> {
     words.open()?;
     let mut values = Vec::new(alloc);
     for _ in 0..words.len() {
