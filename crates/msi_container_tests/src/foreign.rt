@@ -2,9 +2,10 @@
 
 use crate::container::is_read;
 use crate::samples::{END, FAT, Sizes, changed, put};
-use msi_container::compound::{Name, read};
+use msi_container::compound::{Contents, Name, read, read_shared};
 use msi_text::Error;
 use std::alloc::{AllocError, Global};
+use std::rc::Rc;
 
 /// Puts 32-bit numbers, one behind the other.
 fn put_numbers(file: &mut Vec<u8>, at: usize, numbers: &[u32]) {
@@ -97,18 +98,30 @@ fn is_known(alloc: Global, bytes: &[u8], known: &[(usize, u8)]) -> Result<bool, 
     Ok(wanted.as_slice() == bytes)
 }
 
-/// Whether a stream of a file has these bytes, and zeros elsewhere.
+/// Whether a stream of these contents has these bytes, and zeros elsewhere.
 fn has_stream(
     alloc: Global,
-    file: &[u8],
+    contents: &Contents,
     name: &str,
     known: &[(usize, u8)],
 ) -> Result<bool, Error> {
-    let contents = read(alloc, file)?;
     Ok(match contents.streams.get(&Name::new(name)?) {
         Some(held) => is_known(alloc, held.as_slice(), known)?,
         None => false,
     })
+}
+
+/// Whether a stream of a file has these bytes, and zeros elsewhere, where it is copied and where it is a part of the
+/// file's bytes.
+fn is_stream_read(
+    alloc: Global,
+    file: Vec<u8>,
+    name: &str,
+    known: &[(usize, u8)],
+) -> Result<bool, Error> {
+    let copied = read(alloc, file.as_slice())?;
+    let shared = read_shared(alloc, Rc::new(alloc, file)?)?;
+    Ok(has_stream(alloc, &copied, name, known)? && has_stream(alloc, &shared, name, known)?)
 }
 
 /// The version, how long the file is made, its streams, whether there are storages, and how many steps it takes to
@@ -165,10 +178,9 @@ fn file(alloc: Global, version: u8, len: usize) -> Result<Vec<u8>, AllocError> {
 fn is_told(alloc: Global, row: &Foreign) -> Result<bool, Error> {
     let (version, len, all, has_storages, steps, name, known) = row;
     let file = file(alloc, *version, *len)?;
-    let file = file.as_slice();
     Ok(
-        is_read(alloc, file, *all, *has_storages, *steps)?
-            && has_stream(alloc, file, *name, *known)?,
+        is_read(alloc, file.as_slice(), *all, *has_storages, *steps)?
+            && is_stream_read(alloc, file, *name, *known)?,
     )
 }
 

@@ -80,13 +80,12 @@ where
     package.flush()
 }
 
-/// Makes the stream of a name, or empties it, and fills it with these bytes, which are dropped.
+/// Makes the stream of a name, or empties it, and fills it with these bytes, which aren't copied.
 fn fill_stream<F: Device>(
     package: &mut Package<F>,
     name: &str,
     bytes: Vec<u8>,
 ) -> Result<(), Error> {
     let stream = package.write_stream(name)?;
-    stream.write_all(bytes.as_slice())?;
-    Ok(())
+    Ok(stream.write_vec(bytes)?)
 }
