@@ -7,6 +7,7 @@ use crate::failure::Failure;
 use crate::files::{self, FileCall};
 use crate::looks::{self, Look};
 use crate::packages::{self, PackageCall};
+use crate::parsing::{self, Parsed};
 use crate::queries::select;
 use crate::session::Session;
 use crate::words::Words;
@@ -32,10 +33,12 @@ enum Call {
     PrintQuery,
     /// Prints an expression as the library does.
     PrintExpression,
+    /// Reads texts, and prints what they spell.
+    Parse(Parsed),
 }
 
 /// Each call by its name.
-static CALLS: [(&str, Call); 49] = [
+static CALLS: [(&str, Call); 53] = [
     ("device", Call::Package(PackageCall::Device)),
     ("create", Call::Package(PackageCall::Create)),
     ("open", Call::Package(PackageCall::Open)),
@@ -88,6 +91,10 @@ static CALLS: [(&str, Call); 49] = [
     ("writes", Call::Writes),
     ("print_query", Call::PrintQuery),
     ("print_expression", Call::PrintExpression),
+    ("parse_query", Call::Parse(Parsed::Query)),
+    ("parse_expression", Call::Parse(Parsed::Expression)),
+    ("parse_nested", Call::Parse(Parsed::Nested)),
+    ("parse_random", Call::Parse(Parsed::Random)),
 ];
 
 /// Returns the call of a name.
@@ -161,6 +168,7 @@ fn print_text(
             let query = select(alloc, words)?;
             write!(answer, "{query}")?;
         }
+        Call::Parse(parsed) => parsing::make(alloc, parsed, words, answer)?,
         _ => {
             let expression = expression(alloc, words)?;
             write!(answer, "{expression}")?;
