@@ -1,20 +1,23 @@
 //! The calls by their names, and the answer of each.
 
-use crate::changes::{self, Change};
-use crate::conditions::expression;
-use crate::containers::{self, BytesCall};
-use crate::failure::Failure;
-use crate::files::{self, FileCall};
-use crate::looks::{self, Look};
-use crate::packages::{self, PackageCall};
-use crate::queries::select;
-use crate::session::Session;
-use crate::texts::{self, TextCall};
-use crate::words::Words;
-use crate::{cells, evaluation, pools, properties, tables};
 use std::alloc::Global;
 use std::io::{Read, Seek, Write};
 use std::rt::Files;
+use transcripts_packages::changes::{self, Change};
+use transcripts_packages::looks::{self, Look};
+use transcripts_packages::packages::{self, PackageCall};
+use transcripts_packages::session::Session;
+use transcripts_packages::summaries;
+use transcripts_queries::conditions::expression;
+use transcripts_queries::queries::select;
+use transcripts_queries::{cells, evaluation, tables};
+use transcripts_texts::pools;
+use transcripts_texts::texts::{self, TextCall};
+use transcripts_words::containers::{self, BytesCall};
+use transcripts_words::failure::Failure;
+use transcripts_words::files::{self, FileCall};
+use transcripts_words::kept::Kept;
+use transcripts_words::words::Words;
 
 /// A call.
 #[derive(Clone, Copy)]
@@ -42,7 +45,7 @@ enum Call {
 }
 
 /// Each call by its name.
-static CALLS: [(&str, Call); 63] = [
+static CALLS: [(&str, Call); 65] = [
     ("device", Call::Package(PackageCall::Device)),
     ("create", Call::Package(PackageCall::Create)),
     ("open", Call::Package(PackageCall::Open)),
@@ -81,6 +84,8 @@ static CALLS: [(&str, Call); 63] = [
     ("select", Call::Look(Look::Select)),
     ("names", Call::Look(Look::Names)),
     ("count", Call::Look(Look::Count)),
+    ("evaluate", Call::Look(Look::Evaluate)),
+    ("values", Call::Look(Look::Values)),
     ("bytes", Call::Bytes(BytesCall::Bytes)),
     ("show", Call::Bytes(BytesCall::Show)),
     ("number", Call::Bytes(BytesCall::Number)),
@@ -124,17 +129,15 @@ fn call_named(name: &str) -> Option<Call> {
 /// Makes a call on values, columns, rows or expressions.
 fn make_named(
     alloc: Global,
-    session: &Session,
+    kept: &Kept,
     name: &str,
     words: &mut Words,
     answer: &mut String,
 ) -> Result<(), Failure> {
-    if tables::make(alloc, name, words, answer)?
-        || evaluation::make(alloc, session, name, words, answer)?
-    {
+    if tables::make(alloc, name, words, answer)? || evaluation::make(alloc, name, words, answer)? {
         return Ok(());
     }
-    cells::make(alloc, &session.kept, name, words, answer)
+    cells::make(alloc, kept, name, words, answer)
 }
 
 /// Makes a call, and prints its answer as lines.
@@ -150,9 +153,9 @@ where
 {
     let name = words.word()?;
     match call_named(name) {
-        None => make_named(rt.alloc(), session, name, words, answer)?,
+        None => make_named(rt.alloc(), &session.stock.kept, name, words, answer)?,
         Some(Call::File(call)) => {
-            files::make(rt, session, call, words)?;
+            files::make(rt, &session.stock.kept, call, words)?;
             answer.push_str("ok")?;
         }
         Some(call) => make_other(rt.alloc(), session, call, words, answer)?,
@@ -177,11 +180,11 @@ fn make_other(
         }
         Call::Look(look) => return looks::print(alloc, session.package()?, look, words, answer),
         Call::Bytes(call) => {
-            return containers::make(alloc, &mut session.kept, call, words, answer);
+            return containers::make(alloc, &mut session.stock.kept, call, words, answer);
         }
-        Call::Text(call) => return texts::print(alloc, &session.kept, call, words, answer),
-        Call::Pool => return pools::make(alloc, session, words, answer),
-        Call::Properties => return properties::make(alloc, session, words, answer),
+        Call::Text(call) => return texts::print(alloc, &session.stock.kept, call, words, answer),
+        Call::Pool => return pools::make(alloc, &mut session.stock, words, answer),
+        Call::Properties => return summaries::make(alloc, session, words, answer),
         _ => return print_text(alloc, session, call, words, answer),
     }
     answer.push_str("ok")?;

@@ -6,42 +6,16 @@
 #![tactic(auto)]
 
 mod calls;
-mod cells;
-mod changes;
-mod columns;
-mod conditions;
-mod containers;
-mod cursors;
-mod evaluation;
-mod failure;
-mod files;
-mod given;
-mod kept;
-mod lines;
-mod looks;
-mod packages;
-mod pictures;
-mod pools;
-mod properties;
-mod queries;
-mod reports;
-mod session;
-mod summary;
-mod tables;
-mod texts;
-mod tokens;
 mod transcript;
 mod trials;
-mod values;
-mod words;
 
-use failure::Failure;
-use lines::lines;
-use reports::Report;
 use std::io::{Read, Seek, Write};
 use std::process::ExitCode;
 use std::rt::{Env, Files};
 use std::{env, fs};
+use transcripts_words::failure::Failure;
+use transcripts_words::lines::lines;
+use transcripts_words::reports::Report;
 
 /// Runs the transcript in a file, and returns whether each answer is as expected. A transcript without answers isn't.
 fn run_file<R>(rt: &R, file: &str, is_trial: bool) -> Result<bool, Failure>

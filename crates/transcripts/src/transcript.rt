@@ -1,14 +1,15 @@
 //! Makes the calls of a transcript.
 
-use crate::failure::Failure;
-use crate::lines::Line;
-use crate::reports::{Report, empty_answer};
-use crate::session::Session;
-use crate::tokens::tokens;
-use crate::words::Words;
-use crate::{calls, cursors, trials};
+use crate::{calls, trials};
 use std::io::{Read, Seek, Write};
 use std::rt::Files;
+use transcripts_packages::cursors;
+use transcripts_packages::session::Session;
+use transcripts_words::failure::Failure;
+use transcripts_words::lines::Line;
+use transcripts_words::reports::{Report, empty_answer};
+use transcripts_words::tokens::tokens;
+use transcripts_words::words::Words;
 
 /// Makes the calls of a transcript, in order.
 pub(crate) fn run<R>(rt: &R, report: &mut Report, lines: &[Line]) -> Result<(), Failure>

@@ -1,0 +1,252 @@
+//! Calls on the reader or the writer of a stream, whose lines are indented below the call that opens the stream.
+
+use crate::session::Session;
+use msi::{StreamReader, StreamWriter};
+use std::alloc::Global;
+use std::io::{Read, Seek, SeekFrom, Write};
+use transcripts_words::failure::Failure;
+use transcripts_words::kept::{Kept, pieces, print_bytes};
+use transcripts_words::lines::Line;
+use transcripts_words::reports::{Report, empty_answer};
+use transcripts_words::tokens::tokens;
+use transcripts_words::words::Words;
+
+/// Opens a stream for writing, and makes the calls below. Fails if there is no package, if memory runs out, and if
+/// nothing can be printed.
+pub fn write<R>(
+    rt: &R,
+    report: &mut Report,
+    session: &mut Session,
+    name: &str,
+    line: &Line,
+    rest: &[Line],
+) -> Result<(), Failure>
+where
+    R: Print + AllocGlobal,
+{
+    let Some(package) = &mut session.package else {
+        return Err(Failure::Unreadable("there is no package"));
+    };
+    let mut answer = String::from_str(rt.alloc(), "ok")?;
+    match package.write_stream(name) {
+        Ok(stream) => {
+            report.check(rt, line, rest, Ok(()), &mut answer)?;
+            write_lines(rt, report, &session.stock.kept, stream, rest)
+        }
+        Err(error) => report.check(rt, line, rest, Err(Failure::from(error)), &mut answer),
+    }
+}
+
+/// Makes the calls on a writer.
+fn write_lines<R>(
+    rt: &R,
+    report: &mut Report,
+    kept: &Kept,
+    stream: StreamWriter,
+    rest: &[Line],
+) -> Result<(), Failure>
+where
+    R: Print + AllocGlobal,
+{
+    for i in 0..rest.len() {
+        if rest[i].is_call() {
+            break;
+        }
+        if rest[i].is_cursor_call() {
+            write_line(rt, report, kept, &mut *stream, &rest[i], &rest[i + 1..])?;
+        }
+    }
+    Ok(())
+}
+
+/// Makes a call on a writer, and checks its answer.
+fn write_line<R>(
+    rt: &R,
+    report: &mut Report,
+    kept: &Kept,
+    stream: StreamWriter,
+    line: &Line,
+    rest: &[Line],
+) -> Result<(), Failure>
+where
+    R: Print + AllocGlobal,
+{
+    let mut answer = empty_answer(rt.alloc())?;
+    let tokens = tokens(rt.alloc(), line.text())?;
+    let mut words = Words::new(tokens.as_slice());
+    let outcome = if words.takes("try") && report.is_trial() {
+        try_call(rt, kept, stream, words, &mut answer)
+    } else {
+        make_write(rt.alloc(), kept, stream, &mut words, &mut answer)
+    };
+    report.check(rt, line, rest, outcome, &mut answer)
+}
+
+/// Makes a call on a writer that may be refused memory. Such a call is made again, where the bytes and the position
+/// are as before.
+fn try_call<R>(
+    rt: &R,
+    kept: &Kept,
+    stream: StreamWriter,
+    words: Words,
+    answer: &mut String,
+) -> Result<(), Failure>
+where
+    R: Print + AllocGlobal,
+{
+    let before = picture(rt.alloc(), &mut *stream)?;
+    print!(rt; "[")?;
+    let outcome = make_write(rt.alloc(), kept, &mut *stream, &mut { words }, answer);
+    println!(rt; "]")?;
+    match outcome {
+        Err(failure) if failure.is_memory() => {}
+        _ => return outcome,
+    }
+    if picture(rt.alloc(), &mut *stream)?.as_slice() != before.as_slice() {
+        return Err(Failure::CHANGED);
+    }
+    answer.clear();
+    make_write(rt.alloc(), kept, stream, &mut { words }, answer)
+}
+
+/// Returns the bytes and the position of a writer.
+fn picture(alloc: Global, stream: StreamWriter) -> Result<Vec<u8>, Failure> {
+    let mut bytes = Vec::from_slice(alloc, stream.as_slice())?;
+    let place = stream.seek(SeekFrom::Current(0))?;
+    bytes.extend_from_slice(place.to_le_bytes().as_slice())?;
+    Ok(bytes)
+}
+
+/// Makes a call on a writer: `write PIECES`, `seek start 4`, `flush`.
+fn make_write(
+    alloc: Global,
+    kept: &Kept,
+    stream: StreamWriter,
+    words: &mut Words,
+    answer: &mut String,
+) -> Result<(), Failure> {
+    match words.word()? {
+        "write" => {
+            let piece = pieces(alloc, kept, words)?;
+            write!(answer, "{}", stream.write(piece.as_slice())?)?;
+        }
+        "seek" => write!(answer, "{}", stream.seek(target(words)?)?)?,
+        "flush" => {
+            stream.flush()?;
+            answer.push_str("ok")?;
+        }
+        _ => return Err(Failure::Unreadable("a writer has no such call")),
+    }
+    words.end()
+}
+
+/// Opens a stream for reading, and makes the calls below. Fails if there is no package, if memory runs out, and if
+/// nothing can be printed.
+pub fn read<R>(
+    rt: &R,
+    report: &mut Report,
+    session: &Session,
+    name: &str,
+    line: &Line,
+    rest: &[Line],
+) -> Result<(), Failure>
+where
+    R: Print + AllocGlobal,
+{
+    let mut answer = String::from_str(rt.alloc(), "ok")?;
+    match session.package()?.read_stream(name) {
+        Ok(stream) => {
+            report.check(rt, line, rest, Ok(()), &mut answer)?;
+            read_lines(rt, report, stream, rest)
+        }
+        Err(error) => report.check(rt, line, rest, Err(Failure::from(error)), &mut answer),
+    }
+}
+
+/// Makes the calls on a reader.
+fn read_lines<R>(
+    rt: &R,
+    report: &mut Report,
+    mut stream: StreamReader,
+    rest: &[Line],
+) -> Result<(), Failure>
+where
+    R: Print + AllocGlobal,
+{
+    for i in 0..rest.len() {
+        if rest[i].is_call() {
+            break;
+        }
+        if rest[i].is_cursor_call() {
+            let mut answer = String::new(rt.alloc());
+            let outcome = read_line(rt.alloc(), &mut stream, &rest[i], &mut answer);
+            report.check(rt, &rest[i], &rest[i + 1..], outcome, &mut answer)?;
+        }
+    }
+    Ok(())
+}
+
+/// Makes a call on a reader: `read 10`; `read_all 10`, which reads to the end by pieces of so many bytes; or
+/// `seek end -2`.
+fn read_line(
+    alloc: Global,
+    stream: &mut StreamReader,
+    line: &Line,
+    answer: &mut String,
+) -> Result<(), Failure> {
+    let tokens = tokens(alloc, line.text())?;
+    let mut words = Words::new(tokens.as_slice());
+    match words.word()? {
+        "read" => {
+            let piece = read_piece(alloc, stream, words.count()?)?;
+            print_bytes(answer, piece.as_slice())?;
+        }
+        "read_all" => {
+            let ahead = read_all(alloc, stream, words.count()?)?;
+            print_bytes(answer, ahead.as_slice())?;
+        }
+        "seek" => write!(answer, "{}", stream.seek(target(&mut words)?)?)?,
+        _ => return Err(Failure::Unreadable("a reader has no such call")),
+    }
+    words.end()
+}
+
+/// Reads once, into so many bytes.
+fn read_piece(alloc: Global, stream: &mut StreamReader, len: usize) -> Result<Vec<u8>, Failure> {
+    let mut piece = vec![in alloc; 0; len]?;
+    let count = stream.read(piece.as_mut_slice())?;
+    piece.truncate(count);
+    Ok(piece)
+}
+
+/// Reads to the end, in pieces of at most so many bytes.
+fn read_all(alloc: Global, stream: &mut StreamReader, len: usize) -> Result<Vec<u8>, Failure> {
+    let mut all = Vec::new(alloc);
+    for _ in 0..u64::MAX {
+        let piece = read_piece(alloc, stream, len)?;
+        if piece.is_empty() {
+            break;
+        }
+        all.extend_from_slice(piece.as_slice())?;
+    }
+    Ok(all)
+}
+
+/// Reads where a seek goes: `start 4`, `current -1` or `end -2`.
+fn target(words: &mut Words) -> Result<SeekFrom, Failure> {
+    let from = words.word()?;
+    let offset = words.word()?;
+    if from == "start" {
+        let place = offset.parse::<u64>().ok().ok_or(NO_OFFSET)?;
+        return Ok(SeekFrom::Start(place));
+    }
+    let offset = offset.parse::<i64>().ok().ok_or(NO_OFFSET)?;
+    match from {
+        "current" => Ok(SeekFrom::Current(offset)),
+        "end" => Ok(SeekFrom::End(offset)),
+        _ => Err(Failure::Unreadable("a seek begins nowhere")),
+    }
+}
+
+/// The failure of a seek without a number.
+const NO_OFFSET: Failure = Failure::Unreadable("a seek goes nowhere");

@@ -1,0 +1,11 @@
+//! The calls of transcripts on values, columns, rows and queries, which need no package.
+#![tactic(auto)]
+
+pub mod cells;
+pub mod columns;
+pub mod conditions;
+pub mod evaluation;
+mod given;
+pub mod queries;
+pub mod tables;
+mod values;

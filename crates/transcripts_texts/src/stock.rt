@@ -1,0 +1,28 @@
+//! What calls that need no package work on.
+
+use msi_summary::PropertySet;
+use msi_text::StringPool;
+use std::alloc::Global;
+use transcripts_words::kept::Kept;
+
+/// Bytes by name, and a string pool and a property set of no package.
+#[derive(Drop)]
+pub struct Stock {
+    /// The bytes, as those of a device that a package was written to.
+    pub kept: Kept,
+    /// The pool, once a call has made one.
+    pub pool: Option<StringPool>,
+    /// The property set, once a call has made one.
+    pub properties: Option<PropertySet>,
+}
+
+impl Stock {
+    /// Returns a stock of nothing, in whose memory bytes are kept later.
+    pub fn new(alloc: Global) -> Stock {
+        Stock {
+            kept: Kept::new(alloc),
+            pool: None,
+            properties: None,
+        }
+    }
+}

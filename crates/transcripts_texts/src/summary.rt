@@ -1,0 +1,233 @@
+//! Calls on the summary.
+
+use msi_summary::SummaryInfo;
+use msi_text::{CodePage, LanguageId, Timestamp};
+use std::alloc::{AllocError, Global};
+use transcripts_words::failure::Failure;
+use transcripts_words::words::{Words, count_of, number_of};
+use uuid::Uuid;
+
+/// The failure of a call on another property.
+const NO_PROPERTY: Failure = Failure::Unreadable("a summary has no such property");
+
+/// Prints a property. Fails if a summary has none of this name, and if memory runs out.
+pub fn print(answer: &mut String, summary: &SummaryInfo, property: &str) -> Result<(), Failure> {
+    match property {
+        "title" => print_text(answer, summary.title())?,
+        "subject" => print_text(answer, summary.subject())?,
+        "author" => print_text(answer, summary.author())?,
+        "comments" => print_text(answer, summary.comments())?,
+        "last_saved_by" => print_text(answer, summary.last_saved_by())?,
+        "creating_application" => print_text(answer, summary.creating_application())?,
+        "arch" => print_text(answer, summary.arch())?,
+        "languages" => print_languages(answer, summary)?,
+        "keywords" => print_keywords(answer, summary)?,
+        "codepage" => write!(answer, "{}", summary.codepage().id())?,
+        "uuid" => print_uuid(answer, summary)?,
+        _ => print_number(answer, summary, property)?,
+    }
+    Ok(())
+}
+
+/// Prints a text.
+fn print_text(answer: &mut String, text: Option<&str>) -> Result<(), AllocError> {
+    match text {
+        Some(text) => write!(answer, "{text:?}"),
+        None => answer.push_str("none"),
+    }
+}
+
+/// Prints a number, or a time as its count of 100 ns since 1601.
+fn print_number(answer: &mut String, summary: &SummaryInfo, property: &str) -> Result<(), Failure> {
+    let number = match property {
+        "page_count" => summary.page_count(),
+        "word_count" => summary.word_count(),
+        "character_count" => summary.character_count(),
+        "doc_security" => summary.doc_security(),
+        _ => return print_time(answer, summary, property),
+    };
+    match number {
+        Some(number) => write!(answer, "{number}")?,
+        None => answer.push_str("none")?,
+    }
+    Ok(())
+}
+
+/// Prints a time as its count of 100 ns since 1601.
+fn print_time(answer: &mut String, summary: &SummaryInfo, property: &str) -> Result<(), Failure> {
+    let time = match property {
+        "last_printed" => summary.last_printed(),
+        "creation_time" => summary.creation_time(),
+        "last_saved_time" => summary.last_saved_time(),
+        _ => return Err(NO_PROPERTY),
+    };
+    match time {
+        Some(time) => write!(answer, "{}", time.ticks())?,
+        None => answer.push_str("none")?,
+    }
+    Ok(())
+}
+
+/// Prints the UUID.
+fn print_uuid(answer: &mut String, summary: &SummaryInfo) -> Result<(), AllocError> {
+    match summary.uuid() {
+        Some(uuid) => write!(answer, "{uuid}"),
+        None => answer.push_str("none"),
+    }
+}
+
+/// Prints the keywords.
+fn print_keywords(answer: &mut String, summary: &SummaryInfo) -> Result<(), Failure> {
+    let keywords = summary.keywords()?;
+    if keywords.is_empty() {
+        answer.push_str("none")?;
+    }
+    let mut before = "";
+    for keyword in &keywords {
+        write!(answer, "{before}{:?}", keyword.as_str())?;
+        before = " ";
+    }
+    Ok(())
+}
+
+/// Prints the numbers of the languages.
+fn print_languages(answer: &mut String, summary: &SummaryInfo) -> Result<(), Failure> {
+    let languages = summary.languages()?;
+    if languages.is_empty() {
+        answer.push_str("none")?;
+    }
+    let mut before = "";
+    for language in &languages {
+        write!(answer, "{before}{}", language.id())?;
+        before = " ";
+    }
+    Ok(())
+}
+
+/// Sets a property to what comes next. Fails if a summary has none of this name, if its value can't be read or is
+/// refused, and if memory runs out.
+pub fn set(
+    alloc: Global,
+    summary: &mut SummaryInfo,
+    property: &str,
+    words: &mut Words,
+) -> Result<(), Failure> {
+    match property {
+        "title" => summary.set_title(words.name()?)?,
+        "subject" => summary.set_subject(words.name()?)?,
+        "author" => summary.set_author(words.name()?)?,
+        "comments" => summary.set_comments(words.name()?)?,
+        "last_saved_by" => summary.set_last_saved_by(words.name()?)?,
+        "creating_application" => summary.set_creating_application(words.name()?)?,
+        "arch" => summary.set_arch(words.name()?)?,
+        "languages" => set_languages(alloc, summary, words)?,
+        "keywords" => set_keywords(alloc, summary, words)?,
+        "codepage" => summary.set_codepage(codepage(words)?)?,
+        "uuid" => set_uuid(summary, words.name()?)?,
+        _ => set_number(summary, property, words)?,
+    }
+    Ok(())
+}
+
+/// Reads the number of a code page. Fails if none has it.
+pub fn codepage(words: &mut Words) -> Result<CodePage, Failure> {
+    CodePage::from_id(words.number()?).ok_or(Failure::Unreadable("there is no such code page"))
+}
+
+/// Sets the keywords.
+fn set_keywords(
+    alloc: Global,
+    summary: &mut SummaryInfo,
+    words: &mut Words,
+) -> Result<(), Failure> {
+    let mut keywords = Vec::new(alloc);
+    for _ in 0..words.len() {
+        keywords.push(String::from_str(alloc, words.name()?)?)?;
+    }
+    Ok(summary.set_keywords(keywords.as_slice())?)
+}
+
+/// Sets the UUID.
+fn set_uuid(summary: &mut SummaryInfo, text: &str) -> Result<(), Failure> {
+    match Uuid::parse_str(text) {
+        Ok(uuid) => Ok(summary.set_uuid(uuid)?),
+        Err(_) => Err(Failure::Unreadable("a UUID is missing")),
+    }
+}
+
+/// Sets the languages.
+fn set_languages(
+    alloc: Global,
+    summary: &mut SummaryInfo,
+    words: &mut Words,
+) -> Result<(), Failure> {
+    let mut languages = Vec::new(alloc);
+    for _ in 0..words.len() {
+        let Ok(id) = u16::try_from(words.number()?) else {
+            return Err(Failure::Unreadable("no language has this number"));
+        };
+        languages.push(LanguageId::from_id(id))?;
+    }
+    Ok(summary.set_languages(languages.as_slice())?)
+}
+
+/// Sets a number or a time.
+fn set_number(summary: &mut SummaryInfo, property: &str, words: &mut Words) -> Result<(), Failure> {
+    let number = words.word()?;
+    match property {
+        "page_count" => summary.set_page_count(number_of(number)?)?,
+        "word_count" => summary.set_word_count(number_of(number)?)?,
+        "character_count" => summary.set_character_count(number_of(number)?)?,
+        "doc_security" => summary.set_doc_security(number_of(number)?)?,
+        _ => return set_time(summary, property, count_of(number)? as u64),
+    }
+    Ok(())
+}
+
+/// Sets a time to a count of 100 ns since 1601.
+fn set_time(summary: &mut SummaryInfo, property: &str, ticks: u64) -> Result<(), Failure> {
+    let time = Timestamp::from_ticks(ticks);
+    match property {
+        "last_printed" => summary.set_last_printed(time)?,
+        "creation_time" => summary.set_creation_time(time)?,
+        "last_saved_time" => summary.set_last_save_time(time)?,
+        "last_printed_to_now" => summary.set_last_printed_to_now(time)?,
+        "creation_time_to_now" => summary.set_creation_time_to_now(time)?,
+        "last_saved_time_to_now" => summary.set_last_save_time_to_now(time)?,
+        _ => return Err(NO_PROPERTY),
+    }
+    Ok(())
+}
+
+/// Clears a property. Fails if a summary has none of this name, and if memory runs out.
+pub fn clear(summary: &mut SummaryInfo, property: &str) -> Result<(), Failure> {
+    match property {
+        "title" => summary.clear_title(),
+        "subject" => summary.clear_subject(),
+        "author" => summary.clear_author(),
+        "comments" => summary.clear_comments(),
+        "last_saved_by" => summary.clear_last_saved_by(),
+        "creating_application" => summary.clear_creating_application(),
+        "arch" => summary.clear_arch()?,
+        "languages" => summary.clear_languages()?,
+        "keywords" => summary.clear_keywords()?,
+        _ => return clear_number(summary, property),
+    }
+    Ok(())
+}
+
+/// Clears a number or a time.
+fn clear_number(summary: &mut SummaryInfo, property: &str) -> Result<(), Failure> {
+    match property {
+        "page_count" => summary.clear_page_count(),
+        "word_count" => summary.clear_word_count(),
+        "character_count" => summary.clear_character_count(),
+        "doc_security" => summary.clear_doc_security(),
+        "last_printed" => summary.clear_last_printed(),
+        "creation_time" => summary.clear_creation_time(),
+        "last_saved_time" => summary.clear_last_save_time(),
+        "uuid" => summary.clear_uuid(),
+        _ => return Err(NO_PROPERTY),
+    }
+    Ok(())
+}
