@@ -21,7 +21,7 @@ use msi_container_device::Source;
 use msi_container_device::parts::read_all;
 use msi_container_format::contents::{Contents, StreamMap};
 use msi_container_format::name::Name;
-use msi_container_read::read;
+use msi_container_read::read_shared;
 use msi_database::Database;
 use msi_database_schema::names::{string_data_key, string_pool_key, summary_key};
 use msi_streams::OpenStream;
@@ -32,6 +32,7 @@ use msi_text::parts::{pool_builder_of, pool_of};
 use msi_text::stringpool::{StringPool, StringPoolBuilder};
 use std::alloc::Global;
 use std::marker::Model;
+use std::rc::Rc;
 
 /// What the bytes of a package say. A contract sees the package as it is just opened.
 #[derive(Drop)]
@@ -143,7 +144,7 @@ fn open_contents(alloc: Global, contents: Contents) -> Result<Opened, Error>
     })
 }
 
-/// What the bytes of a package say. They are given back to memory as soon as its streams are copied.
+/// What the bytes of a package say. They are given back to memory once no stream is a part of them.
 ///
 /// # Errors
 /// Those of [`Package::open`], but `Io`.
@@ -151,8 +152,8 @@ pub(crate) fn open_bytes(alloc: Global, bytes: Vec<u8>) -> Result<Opened, Error>
     ensures ok { IfOk result (λ opened. OpensTo bytes.items (Ok opened)) }
     ensures kind { IfErr result (IsOpenRefusal bytes.items) }
 {
-    let contents = read(alloc, bytes.as_slice())?;
-    drop(bytes);
+    let bytes = Rc::new(alloc, bytes)?;
+    let contents = read_shared(alloc, bytes)?;
     open_contents(alloc, contents)
 }
 

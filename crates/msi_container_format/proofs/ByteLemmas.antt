@@ -25,3 +25,10 @@ pub bytes_at_past : (bytes : List ℕ) (from k : ℕ)
 bytes_at_past bytes from k past =
     map-range_with_len_more (λ i. get_or bytes (from + i) 0) 0 k k (omega arith)
     ∙ ap (λ b. bytes_at bytes from k ++ b ∷ []) (get_or_past bytes (from + k) 0 past)
+
+-- the bytes between two positions
+pub bytes_between : (bytes : List ℕ) (start end : ℕ)
+    → start ≤ end
+    → end ≤ length bytes
+    → slice_range bytes start end ≡ bytes_at bytes start (end - start)
+bytes_between bytes start end order inside = bytes_within bytes start (end - start) start end (omega arith) (omega arith)

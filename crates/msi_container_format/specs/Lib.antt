@@ -1,6 +1,7 @@
 -- The words of this crate.
 pub mod Format
 pub mod Bytes
+pub mod HeldBytes
 pub mod Chains
 pub mod Trees
 pub mod Names

@@ -4,18 +4,35 @@ ghost use Rattle.std.specs.Prelude.{◌≡◌, ◌==◌, length, ◌<◌, ◌^�
 ghost use Rattle.std.specs.Borrow.{sem};
 ghost use Rattle.std.specs.FinMap as finite;
 ghost use Rattle.std.specs.Option.{option_copied, option_copied_mut};
-ghost use Rattle.msi_container_format.specs.Lending.{LendsBytes, LendsStream};
+ghost use Rattle.msi_container_format.specs.Lending.{LendsStream};
 ghost use Rattle.msi_container_format.specs.Streams.{with_or_without};
 
 use crate::name::Name;
+use crate::part::Part;
 use std::alloc::{AllocFailed, Global};
 use std::collections::{BTreeMap, btree_map};
+use std::fmt;
 use std::marker::Model;
 
-/// The bytes of a stream.
-#[derive(Debug, Drop)]
+/// Who has the bytes of a stream.
+#[derive(Drop)]
+pub(crate) enum Held {
+    /// This stream alone.
+    Alone(Vec<u8>),
+    /// All the parts of a file's bytes together.
+    Part(Part),
+}
+
+/// The bytes of a stream: its own, or a part of a file's bytes that other streams share.
 pub struct Bytes {
-    held: Vec<u8>,
+    held: Held,
+}
+
+/// Written out, so that a function that owns one calls one drop, and its proof doesn't go through those of the parts.
+impl Drop for Bytes {
+    fn drop(self) {
+        let Bytes { held: _ } = self;
+    }
 }
 
 impl Model for Bytes {
@@ -23,7 +40,9 @@ impl Model for Bytes {
 
     ghost Value = { List ℕ };
 
-    ghost view = { λ b. b.held.items };
+    ghost use Rattle.msi_container_format.specs.HeldBytes.{bytes_of};
+
+    ghost view = { λ b. bytes_of b.held };
 }
 
 impl Bytes {
@@ -31,30 +50,37 @@ impl Bytes {
     pub fn from_vec(held: Vec<u8>) -> Bytes
         ensures { result ≡ held.items }
     {
-        Bytes { held }
+        Bytes {
+            held: Held::Alone(held),
+        }
     }
 
-    /// Returns the vector of the bytes. It takes no memory.
-    pub fn into_vec(self) -> Vec<u8>
-        ensures { result.items ≡ self }
+    /// The stream that has a part of some bytes. It shares them.
+    pub(crate) fn from_part(part: Part) -> Bytes
+        ensures { result ≡ part }
     {
-        let Bytes { held } = self;
-        held
+        Bytes {
+            held: Held::Part(part),
+        }
     }
 
     /// Returns the bytes.
     pub fn as_slice(&self) -> &[u8]
         ensures { result.now ≡ self.now }
     {
-        self.held.as_slice()
+        match &self.held {
+            Held::Alone(bytes) => bytes.as_slice(),
+            Held::Part(part) => part.as_slice(),
+        }
     }
+}
 
-    /// Returns a mutable borrow of the vector of the bytes. What the caller leaves in it are the stream's bytes.
-    pub fn as_mut_vec(&mut self) -> &mut Vec<u8>
-        ensures* left { sem 𝓛 (LendsBytes self.entry result) }
-        ensures held { result.now.items ≡ self.old }
-    {
-        &mut self.held
+/// Shows the bytes, whoever has them.
+impl fmt::Debug for Bytes {
+    fn fmt<W: fmt::Write>(&self, f: &mut fmt::Formatter<W>) -> fmt::Result {
+        f.debug_struct("Bytes")
+            .field("held", &self.as_slice())
+            .finish()
     }
 }
 

@@ -13,3 +13,4 @@ pub mod NamedSizesLemmas
 pub mod StepRows
 pub mod SharedNamesLemmas
 pub mod MapNamesLemmas
+pub mod RunLemmas

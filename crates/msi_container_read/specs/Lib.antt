@@ -2,3 +2,4 @@
 pub mod Reading
 pub mod Steps
 pub mod Listings
+pub mod Runs

@@ -6,10 +6,11 @@ mod listing;
 mod names;
 mod reading;
 mod reasons;
+mod runs;
 mod sizes;
 mod streams;
 
 pub use listing::list;
 pub use msi_container_chains::parts::Steps;
-pub use reading::{read, read_counted};
+pub use reading::{read, read_counted, read_shared};
 pub use sizes::{Listing, Sizes};

@@ -1,7 +1,7 @@
 //! Reading a compound file.
 
 ghost use Rattle.std.specs.Prelude.{◌≡◌, ℕ, List, [], ◌+◌, ◌-◌, ◌<◌, ◌≤◌, ◌^◌, ◌++◌, length, sum_by, vec_len, IfOk};
-ghost use Rattle.std.specs.Prelude.{OnOk, OnErr, IsErrOf};
+ghost use Rattle.std.specs.Prelude.{IfSome, OnOk, OnErr, IsErrOf};
 ghost use Rattle.msi_text_base.specs.Results.{IsUnlessMemory};
 ghost use Rattle.msi_text_base.specs.declared.errors.ErrorKind.TheVariants.{InvalidData};
 ghost use Rattle.std.specs.List.{AllZip};
@@ -33,6 +33,7 @@ use msi_container_format::format::{
 use msi_container_format::parts::number32;
 use msi_text_base::{Error, ErrorKind};
 use std::alloc::Global;
+use std::rc::Rc;
 
 /// Returns the contents that the bytes hold, as a compound file of version 3 or 4 (MS-CFB 2).
 ///
@@ -70,6 +71,44 @@ pub fn read_counted(alloc: Global, bytes: &[u8], steps: &mut Steps) -> Result<Co
         → steps.new ≡ counted.steps_of plan) }
     ensures kept { IfOk result (λ contents. counted.bytes_kept contents ≤ counted.rounded_length bytes.now) }
 {
+    read_from(alloc, bytes, None, steps)
+}
+
+/// Returns the contents that the bytes hold, as `read` returns them. It keeps the bytes: a stream of at least 4096
+/// bytes that lies in them in one piece, in sectors that follow one another, is a part of them, and is not copied. All
+/// other streams are copied. The bytes are given back to memory with the last stream that is a part of them.
+///
+/// # Errors
+/// Fails as `read` does.
+pub fn read_shared(alloc: Global, bytes: Rc<Vec<u8>>) -> Result<Contents, Error>
+    ensures found { IfOk result (λ contents. container.Holds bytes.value.items contents) }
+    ensures only { (contents : held.Contents) → container.Holds bytes.value.items contents
+        → IsUnlessMemory result contents }
+    ensures kinds { FailsByData result }
+    ensures kept { IfOk result
+        (λ contents. counted.bytes_kept contents ≤ counted.rounded_length bytes.value.items) }
+{
+    let mut steps = Steps::new();
+    read_from(alloc, bytes.as_slice(), Some(&bytes), &mut steps)
+}
+
+/// The contents that the bytes hold, by steps that are counted from 0 on. Where there is an image, it has these bytes,
+/// and the streams that lie in one piece are parts of it. Errors are those of `read`.
+fn read_from(
+    alloc: Global,
+    bytes: &[u8],
+    image: Option<&Rc<Vec<u8>>>,
+    steps: &mut Steps,
+) -> Result<Contents, Error>
+    requires { IfSome image (λ whole. whole.now.value.items ≡ bytes.now) }
+    ensures found { IfOk result (λ contents. container.Holds bytes.now contents) }
+    ensures only { (contents : held.Contents) → container.Holds bytes.now contents → IsUnlessMemory result contents }
+    ensures kinds { FailsByData result }
+    ensures bounded { counted.IsWithinSectors bytes.now steps.new }
+    ensures exact { OnOk result ((plan : container.Plan) → container.IsPlan bytes.now plan
+        → steps.new ≡ counted.steps_of plan) }
+    ensures kept { IfOk result (λ contents. counted.bytes_kept contents ≤ counted.rounded_length bytes.now) }
+{
     *steps = Steps::new();
     let outline = read_outline(alloc, bytes, steps)?;
     let directory = Directory {
@@ -79,6 +118,7 @@ pub fn read_counted(alloc: Global, bytes: &[u8], steps: &mut Steps) -> Result<Co
     let streams = collect(
         alloc,
         &directory,
+        image,
         &outline.mini_stream,
         &outline.storages,
         &outline.streams,

@@ -1,7 +1,7 @@
 //! The streams of a directory: which entries they are, their members, and their bytes.
 
 ghost use Rattle.std.specs.Prelude.{◌≡◌, ℕ, List, ◌+◌, ◌*◌, ◌<◌, ◌≤◌, ◌^◌, ◌++◌, length, vec_len, IfOk, IsErr, IsErrOf};
-ghost use Rattle.std.specs.Prelude.{OnOk, filter, ◌==◌, map, sum_by};
+ghost use Rattle.std.specs.Prelude.{IfSome, OnOk, filter, ◌==◌, map, sum_by};
 ghost use Rattle.std.specs.List.{AllZip, range_with_len};
 ghost use Rattle.std.specs.FinMap.{from_entries};
 ghost use Rattle.msi_text_base.specs.declared.errors.ErrorKind.TheVariants.{InvalidData, OutOfMemory};
@@ -14,12 +14,14 @@ ghost use Rattle.msi_container_chains.specs.Counts.{links};
 
 use crate::directory::Directory;
 use crate::names::{insert_stream, names_of, own_name};
+use crate::runs::run_start;
 use msi_container_chains::parts::{AllocationTable, Claims, Steps, sector_size, walk};
 use msi_container_format::contents::{Bytes, StreamMap};
 use msi_container_format::format::{MINI_SECTOR_SIZE, MINI_STREAM_CUTOFF, STORAGE};
-use msi_container_format::parts::{place, push_bytes};
+use msi_container_format::parts::{part_of, place, push_bytes};
 use msi_text_base::Error;
 use std::alloc::Global;
+use std::rc::Rc;
 
 /// The least size of a stream that lies in sectors; a smaller one lies in mini sectors.
 const CUTOFF: u64 = MINI_STREAM_CUTOFF as u64;
@@ -230,39 +232,68 @@ fn mini_sector_bytes(
     Ok(held)
 }
 
-/// The bytes of an entry's stream, which lies in these members. The only error is `OutOfMemory`.
-fn stream_bytes(
+/// The stream of the first `count` bytes of some sectors. It is a part of the image, where there is one in which they
+/// lie in one piece, and else a copy. The only error is `OutOfMemory`.
+fn sector_stream(
+    alloc: Global,
+    bytes: &[u8],
+    image: Option<&Rc<Vec<u8>>>,
+    sectors: &[u32],
+    count: usize,
+) -> Result<Bytes, Error>
+    requires count { count ≤ length sectors.now * container.sector_size bytes.now }
+    requires image { IfSome image (λ whole. whole.now.value.items ≡ bytes.now) }
+    ensures ok { IfOk result (λ held. held
+        ≡ map (container.sector_byte bytes.now sectors.now) (range_with_len 0 count)) }
+    ensures memory { IsErr result → IsErrOf result OutOfMemory }
+{
+    if let Some(image) = image {
+        if let Some(start) = run_start(bytes, sectors, count) {
+            return Ok(part_of(image.clone()?, start, count));
+        }
+    }
+    let held = sector_bytes(alloc, bytes, sectors, count)?;
+    Ok(Bytes::from_vec(held))
+}
+
+/// An entry's stream, which lies in these members. The only error is `OutOfMemory`.
+fn stream_of(
     alloc: Global,
     directory: &Directory,
+    image: Option<&Rc<Vec<u8>>>,
     mini_stream: &[u32],
     entry: u32,
     chain: &[u32],
-) -> Result<Vec<u8>, Error>
+) -> Result<Bytes, Error>
+    requires image { IfSome image (λ whole. whole.now.value.items ≡ directory.now.bytes.now) }
     requires below { entry < container.entry_count directory.now.bytes.now directory.now.sectors.now }
     requires covered { spec.IsCovered directory.now.bytes.now mini_stream.now
         directory.now.sectors.now entry chain.now }
-    ensures ok { IfOk result (λ held. held.items
+    ensures ok { IfOk result (λ held. held
         ≡ container.stream_bytes directory.now.bytes.now mini_stream.now directory.now.sectors.now entry chain.now) }
     ensures memory { IsErr result → IsErrOf result OutOfMemory }
 {
     let size = directory.size(entry);
     if size < CUTOFF {
-        mini_sector_bytes(alloc, directory.bytes, mini_stream, chain, size as usize)
+        let held = mini_sector_bytes(alloc, directory.bytes, mini_stream, chain, size as usize)?;
+        Ok(Bytes::from_vec(held))
     } else {
-        sector_bytes(alloc, directory.bytes, chain, size as usize)
+        sector_stream(alloc, directory.bytes, image, chain, size as usize)
     }
 }
 
-/// The streams of these entries, by name. `InvalidData` where a name isn't well formed, or two storages or streams
-/// have one; `OutOfMemory`.
+/// The streams of these entries, by name. Those that lie in one piece in the image, where there is one, are parts of
+/// it. `InvalidData` where a name isn't well formed, or two storages or streams have one; `OutOfMemory`.
 pub(crate) fn collect(
     alloc: Global,
     directory: &Directory,
+    image: Option<&Rc<Vec<u8>>>,
     mini_stream: &[u32],
     storages: &[u32],
     entries: &[u32],
     chains: &[Vec<u32>],
 ) -> Result<StreamMap, Error>
+    requires image { IfSome image (λ whole. whole.now.value.items ≡ directory.now.bytes.now) }
     requires storages { AreBelow
         (container.entry_count directory.now.bytes.now directory.now.sectors.now) storages.now }
     requires below { AreBelow (container.entry_count directory.now.bytes.now directory.now.sectors.now) entries.now }
@@ -281,8 +312,15 @@ pub(crate) fn collect(
     let mut streams = StreamMap::new(alloc);
     for (entry, chain) in entries.iter().zip(chains) {
         let name = own_name(directory, *entry, &taken)?;
-        let held = stream_bytes(alloc, directory, mini_stream, *entry, chain.as_slice())?;
-        insert_stream(&mut streams, name, Bytes::from_vec(held))?;
+        let held = stream_of(
+            alloc,
+            directory,
+            image,
+            mini_stream,
+            *entry,
+            chain.as_slice(),
+        )?;
+        insert_stream(&mut streams, name, held)?;
     }
     Ok(streams)
 }

@@ -2,9 +2,10 @@
 
 use crate::container::is_read;
 use crate::samples::{END, FAT, Sizes, changed, put};
-use msi_container::compound::{Name, read};
+use msi_container::compound::{Contents, Name, read, read_shared};
 use msi_text::Error;
 use std::alloc::{AllocError, Global};
+use std::rc::Rc;
 
 /// Puts 32-bit numbers, one behind the other.
 fn put_numbers(file: &mut Vec<u8>, at: usize, numbers: &[u32]) {
@@ -63,6 +64,24 @@ pub(crate) fn version_4(alloc: Global) -> Result<Vec<u8>, AllocError> {
     Ok(file)
 }
 
+/// Version 4, 20480 bytes: the FAT in sector 0, the directory in 1, a stream of 8192 bytes in 3 and 2.
+fn scattered_stream(alloc: Global) -> Result<Vec<u8>, AllocError> {
+    let mut file = vec![in alloc; 0; 20480]?;
+    put_header(&mut file, 4, 1, END);
+    put_numbers(&mut file, 4096, &[FAT, END, END, 2]);
+    put_entries(
+        &mut file,
+        8192,
+        &[
+            (b'R', 5, [NONE, NONE, 1], [END, 0]),
+            (b's', 2, [NONE, NONE, NONE], [3, 8192]),
+        ],
+    );
+    put(&mut file, 12288, &[7]);
+    put(&mut file, 20479, &[9]);
+    Ok(file)
+}
+
 /// Version 3: the FAT in sector 0, the directory in 1, the mini FAT in 2, the mini stream in 3. The streams b and a
 /// have 100 and 1 bytes, in mini sectors 2, 0 and 1; the root's size is no multiple of 64, the siblings are out of
 /// order, and a storage lies below the root.
@@ -97,28 +116,55 @@ fn is_known(alloc: Global, bytes: &[u8], known: &[(usize, u8)]) -> Result<bool, 
     Ok(wanted.as_slice() == bytes)
 }
 
-/// Whether a stream of a file has these bytes, and zeros elsewhere.
+/// Whether a stream of these contents has these bytes, and zeros elsewhere.
 fn has_stream(
     alloc: Global,
-    file: &[u8],
+    contents: &Contents,
     name: &str,
     known: &[(usize, u8)],
 ) -> Result<bool, Error> {
-    let contents = read(alloc, file)?;
     Ok(match contents.streams.get(&Name::new(name)?) {
         Some(held) => is_known(alloc, held.as_slice(), known)?,
         None => false,
     })
 }
 
-/// The version, how long the file is made, its streams, whether there are storages, and how many steps it takes to
-/// read; and of a stream the name and what is known.
-type Foreign<'a> = (u8, usize, Sizes<'a>, bool, u64, &'a str, &'a [(usize, u8)]);
+/// Whether a stream of a file has these bytes, and zeros elsewhere, where it is copied and where it is a part of the
+/// file's bytes.
+fn is_stream_read(
+    alloc: Global,
+    file: Vec<u8>,
+    name: &str,
+    known: &[(usize, u8)],
+) -> Result<bool, Error> {
+    let copied = read(alloc, file.as_slice())?;
+    let shared = read_shared(alloc, Rc::new(alloc, file)?)?;
+    Ok(has_stream(alloc, &copied, name, known)? && has_stream(alloc, &shared, name, known)?)
+}
 
-static FOREIGN: [Foreign<'static>; 5] = [
+/// Which file is made.
+enum Made {
+    Version4,
+    ScatteredStream,
+    SmallStreams,
+}
+
+/// The file, how long it is made, its streams, whether there are storages, and how many steps it takes to read; and of
+/// a stream the name and what is known.
+type Foreign<'a> = (
+    Made,
+    usize,
+    Sizes<'a>,
+    bool,
+    u64,
+    &'a str,
+    &'a [(usize, u8)],
+);
+
+static FOREIGN: [Foreign<'static>; 6] = [
     // One step is the directory's sector: the stream has a single one.
     (
-        4,
+        Made::Version4,
         16384,
         &[("s", 4096)],
         false,
@@ -127,10 +173,28 @@ static FOREIGN: [Foreign<'static>; 5] = [
         &[(0, 7), (4095, 9)],
     ),
     // A cut last sector reads as followed by zeros, as long as it starts inside the file.
-    (4, 12289, &[("s", 4096)], false, 1, "s", &[(0, 7)]),
+    (
+        Made::Version4,
+        12289,
+        &[("s", 4096)],
+        false,
+        1,
+        "s",
+        &[(0, 7)],
+    ),
+    // The stream's first sector stands behind its second one.
+    (
+        Made::ScatteredStream,
+        20480,
+        &[("s", 8192)],
+        false,
+        2,
+        "s",
+        &[(4095, 9), (4096, 7)],
+    ),
     // Directory 1, mini FAT 1, and one of the two mini sectors of b.
     (
-        3,
+        Made::SmallStreams,
         2560,
         &[("a", 1), ("b", 100)],
         true,
@@ -138,10 +202,18 @@ static FOREIGN: [Foreign<'static>; 5] = [
         "b",
         &[(0, 3), (99, 5)],
     ),
-    (3, 2560, &[("a", 1), ("b", 100)], true, 3, "a", &[(0, 4)]),
+    (
+        Made::SmallStreams,
+        2560,
+        &[("a", 1), ("b", 100)],
+        true,
+        3,
+        "a",
+        &[(0, 4)],
+    ),
     // One byte past a whole sector changes nothing.
     (
-        3,
+        Made::SmallStreams,
         2561,
         &[("a", 1), ("b", 100)],
         true,
@@ -151,24 +223,23 @@ static FOREIGN: [Foreign<'static>; 5] = [
     ),
 ];
 
-/// The file of a version, so many bytes long.
-fn file(alloc: Global, version: u8, len: usize) -> Result<Vec<u8>, AllocError> {
-    let file = if version == 4 {
-        version_4(alloc)?
-    } else {
-        small_streams(alloc)?
+/// A file, so many bytes long.
+fn file(alloc: Global, made: &Made, len: usize) -> Result<Vec<u8>, AllocError> {
+    let file = match made {
+        Made::Version4 => version_4(alloc)?,
+        Made::ScatteredStream => scattered_stream(alloc)?,
+        Made::SmallStreams => small_streams(alloc)?,
     };
     changed(alloc, file.as_slice(), 0, &[], len)
 }
 
 /// Whether a file is read and listed as its row says.
 fn is_told(alloc: Global, row: &Foreign) -> Result<bool, Error> {
-    let (version, len, all, has_storages, steps, name, known) = row;
-    let file = file(alloc, *version, *len)?;
-    let file = file.as_slice();
+    let (made, len, all, has_storages, steps, name, known) = row;
+    let file = file(alloc, made, *len)?;
     Ok(
-        is_read(alloc, file, *all, *has_storages, *steps)?
-            && has_stream(alloc, file, *name, *known)?,
+        is_read(alloc, file.as_slice(), *all, *has_storages, *steps)?
+            && is_stream_read(alloc, file, *name, *known)?,
     )
 }
 

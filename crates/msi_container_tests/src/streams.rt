@@ -14,8 +14,8 @@ enum Deed {
     Get(Option<&'static [u8]>),
     /// These bytes are put in its place, and then the stream that was there is put back, or that none was.
     PutBack(&'static [u8]),
-    /// A byte is written behind its own.
-    Push(u8),
+    /// These bytes are written in place of its own.
+    Write(&'static [u8]),
     /// It is taken out with these bytes, if it is there.
     Remove(Option<&'static [u8]>),
 }
@@ -50,7 +50,7 @@ fn is_put_back(
 /// Takes a stream out, and returns whether it had these bytes, or wasn't there.
 fn is_removed(streams: &mut StreamMap, name: &Name, bytes: Option<&[u8]>) -> bool {
     match (streams.remove(name), bytes) {
-        (Some(held), Some(bytes)) => held.into_vec().as_slice() == bytes,
+        (Some(held), Some(bytes)) => held.as_slice() == bytes,
         (None, None) => true,
         _ => false,
     }
@@ -63,9 +63,10 @@ fn goes(alloc: Global, streams: &mut StreamMap, name: &str, deed: &Deed) -> Resu
         Deed::Insert(bytes) => streams.insert(name, stream(alloc, *bytes)?)?,
         Deed::Get(bytes) => return Ok(has(streams, &name, *bytes)),
         Deed::PutBack(bytes) => return is_put_back(alloc, streams, &name, *bytes),
-        Deed::Push(byte) => {
+        Deed::Write(bytes) => {
+            let bytes = stream(alloc, *bytes)?;
             if let Some(held) = streams.get_mut(&name) {
-                held.as_mut_vec().push(*byte)?;
+                *held = bytes;
             }
         }
         Deed::Remove(bytes) => return Ok(is_removed(streams, &name, *bytes)),
@@ -94,7 +95,7 @@ static DEEDS: [(&str, Deed, usize); 18] = [
     ("b", Deed::PutBack(&[]), 1),
     ("b", Deed::Get(None), 1),
     // What is written into a lent stream is its own from then on.
-    ("a", Deed::Push(7), 1),
+    ("a", Deed::Write(&[1, 7]), 1),
     ("a", Deed::Remove(Some(&[1, 7])), 0),
 ];
 

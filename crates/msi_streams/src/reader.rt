@@ -38,6 +38,13 @@ impl<'a> StreamReader<'a> {
     {
         StreamReader { bytes, place: 0 }
     }
+
+    /// Returns the bytes from the position on, which stays.
+    pub fn rest(&self) -> &'a [u8]
+        ensures { result.now ≡ bytes_ahead self.now }
+    {
+        &self.bytes[self.place..]
+    }
 }
 
 impl Read for StreamReader<'_> {

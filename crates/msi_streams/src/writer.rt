@@ -64,6 +64,25 @@ impl OpenStream {
         self.place = 0;
         Bytes::from_vec(mem::replace(&mut self.bytes, Vec::new(alloc)))
     }
+
+    /// Writes a whole vector of bytes as `write` does. A stream without bytes takes the vector itself: that takes no
+    /// memory, and copies nothing.
+    ///
+    /// # Errors
+    /// `OutOfMemory`; then nothing is written.
+    pub fn write_vec(&mut self, bytes: Vec<u8>) -> io::Result<()>
+        ensures ok { OnOk result (self.new ≡ after_write self.old bytes.items) }
+        ensures err { OnErr result (self.new ≡ self.old) }
+        ensures kind { IfErr result (λ error. error_kind error ≡ OutOfMemory) }
+    {
+        if self.bytes.is_empty() {
+            self.place = bytes.len();
+            self.bytes = bytes;
+            return Ok(());
+        }
+        self.write(bytes.as_slice())?;
+        Ok(())
+    }
 }
 
 impl Write for OpenStream {

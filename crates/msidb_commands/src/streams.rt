@@ -40,18 +40,13 @@ where
     O: Write,
 {
     let package = msi::open(rt, file)?;
-    Ok(copy_buffered(rt.alloc(), package.read_stream(name)?, output)?)
+    Ok(write_rest(package.read_stream(name)?, output)?)
 }
 
-/// Writes the bytes of a stream through a buffer.
-fn copy_buffered<W: Write>(
-    alloc: Global,
-    mut stream: StreamReader<'_>,
-    output: &mut W,
-) -> io::Result<()> {
-    let mut bytes = buffer(alloc, output)?;
-    io::copy(&mut stream, &mut bytes)?;
-    bytes.flush()
+/// Writes the bytes of a stream from where they lie: they are in one piece already, so a buffer would only copy them.
+fn write_rest<W: Write>(stream: StreamReader<'_>, output: &mut W) -> io::Result<()> {
+    output.write_all(stream.rest())?;
+    output.flush()
 }
 
 /// Stores standard input as a stream of a package, and writes the package. Whether the file can be opened is reported
@@ -80,13 +75,12 @@ where
     package.flush()
 }
 
-/// Makes the stream of a name, or empties it, and fills it with these bytes, which are dropped.
+/// Makes the stream of a name, or empties it, and fills it with these bytes, which aren't copied.
 fn fill_stream<F: Device>(
     package: &mut Package<F>,
     name: &str,
     bytes: Vec<u8>,
 ) -> Result<(), Error> {
     let stream = package.write_stream(name)?;
-    stream.write_all(bytes.as_slice())?;
-    Ok(())
+    Ok(stream.write_vec(bytes)?)
 }

@@ -106,7 +106,7 @@ pub(crate) fn table_stream(alloc: Global, bytes: &[u8], table: &str) -> Result<V
     let key = table_key(alloc, table)?;
     let mut contents = compound::read(alloc, bytes)?;
     match contents.streams.remove(&key) {
-        Some(bytes) => Ok(bytes.into_vec()),
+        Some(bytes) => Ok(Vec::from_slice(alloc, bytes.as_slice())?),
         None => Err(Failure::Unreadable("the table has no stream")),
     }
 }

@@ -23,8 +23,8 @@ held v = v.items
 chain_at : (chains : List (Vec ℕ Global)) (i : ℕ) (v : Vec ℕ Global) (chain : List ℕ) → i < length chains → v ≡ get_or chains i v → chain ≡ v.items → get_or (views chains) i [] ≡ chain
 chain_at chains i v chain l is seen = get_or-map held chains i v [] l ∙ ap held (sym is) ∙ sym seen
 
-pub stream_bytes-requires-clause-covered : goal.stream_bytes-requires-clause-covered
-stream_bytes-requires-clause-covered c =
+pub stream_of-requires-clause-covered : goal.stream_of-requires-clause-covered
+stream_of-requires-clause-covered c =
     let entries = c.args.entries.now in
     let chains = c.args.chains.now in
     let l = c.loop-entry in
@@ -106,8 +106,8 @@ loop-entry-preserved c =
     let named : c.in_ok-name.name ≡ name bytes sectors k = c.in_ok-name.ensures.found ∙ ap (name bytes sectors) at in
     let has : HasName bytes sectors k = rw at at c.in_ok-name.ensures.ok in
     let free : taken (name bytes sectors k) ≡ false = rw at at c.in_ok-name.ensures.free in
-    let read : c.from_vec.result ≡ stream_bytes bytes mini_stream sectors k (get_or (views chains) i []) = c.from_vec.ensures ∙ c.in_ok-held.ensures.ok ∙ rw (← chain, at) refl in
-    let grown = begun_more bytes sectors c.args.storages.now entries taken l.streams c.in_ok-name.name c.from_vec.result i turn.0 named has free c.in_ok-insert_stream.ensures.free l.invariant.names in
+    let read : c.in_ok-held.held ≡ stream_bytes bytes mini_stream sectors k (get_or (views chains) i []) = c.in_ok-held.ensures.ok ∙ rw (← chain, at) refl in
+    let grown = begun_more bytes sectors c.args.storages.now entries taken l.streams c.in_ok-name.name c.in_ok-held.held i turn.0 named has free c.in_ok-insert_stream.ensures.free l.invariant.names in
     let more = from_named_bytes_more bytes mini_stream sectors entries (views chains) i grown.own turn.0 (omega (arith, length-map chains held)) in
     record {
       held = rw length_push (c.in_ok-insert_stream.ensures.ok ∙ rw (l.invariant.held, named, read) (sym more));

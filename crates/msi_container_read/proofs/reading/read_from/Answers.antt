@@ -9,7 +9,7 @@ use Rattle.msi_container_read.proofs.KeptLemmas.{kept}
 use Rattle.msi_container_read.proofs.PlanPartsLemmas.{memory_left}
 use Rattle.msi_container_read.proofs.SharedNamesLemmas.{plan_names}
 use Rattle.msi_container_read.proofs.StepLemmas.{within_from_none}
-use Rattle.msi_container_read.proofs.reading.read_counted.Goals as goal
+use Rattle.msi_container_read.proofs.reading.read_from.Goals as goal
 
 pub returns-in_err-outline-clause-only : goal.returns-in_err-outline-clause-only
 returns-in_err-outline-clause-only c = λ contents (plan, h, e).
