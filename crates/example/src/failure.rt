@@ -3,10 +3,11 @@
 use std::alloc::AllocError;
 use std::{fmt, io};
 
-/// An error of the package, or of the CSV writer.
+/// An error of the package, of the text of a query, or of the CSV writer.
 #[derive(Debug, Drop)]
 pub(crate) enum Failure {
     Package(msi::Error),
+    Query(msi::ParseError),
     Csv(csv::Error),
 }
 
@@ -14,6 +15,7 @@ impl fmt::Display for Failure {
     fn fmt<W: fmt::Write>(&self, f: &mut fmt::Formatter<W>) -> fmt::Result {
         match self {
             Failure::Package(error) => write!(f, "{error}"),
+            Failure::Query(error) => write!(f, "the query, {error}"),
             Failure::Csv(error) => write!(f, "{error}"),
         }
     }
@@ -22,6 +24,12 @@ impl fmt::Display for Failure {
 impl From<msi::Error> for Failure {
     fn from(error: msi::Error) -> Failure {
         Failure::Package(error)
+    }
+}
+
+impl From<msi::ParseError> for Failure {
+    fn from(error: msi::ParseError) -> Failure {
+        Failure::Query(error)
     }
 }
 

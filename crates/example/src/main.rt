@@ -1,5 +1,5 @@
-//! Prints a table of an installer package as CSV, by `example FILE TABLE`. Without arguments it runs the code of
-//! `docs/GUIDE.md`.
+//! Prints the rows of an installer package that a query selects as CSV: `example FILE "SELECT .. FROM .."`. Without
+//! arguments it runs the code of `docs/GUIDE.md`.
 #![tactic(auto)]
 
 mod failure;
@@ -7,26 +7,27 @@ mod guide;
 
 use csv::Writer;
 use failure::Failure;
-use msi::{Row, Rows, Select, Value};
+use msi::{Parse, Row, Rows, Select, Value};
 use std::alloc::{AllocError, Global};
 use std::io::{Read, Seek, Write};
 use std::process::ExitCode;
 use std::rt::{Env, Files};
 use std::{env, io};
 
-/// Prints a table as CSV: the names of its columns, then its rows.
-fn print_table<R>(rt: &R, file: &str, table: &str) -> Result<(), Failure>
+/// Prints the rows that a query selects as CSV: the names of their columns, then the rows.
+fn print_rows<R>(rt: &R, file: &str, query: &str) -> Result<(), Failure>
 where
     R: Files + Print + AllocGlobal,
     R::File: Read + Seek + Drop,
 {
+    let query = Select::parse(rt.alloc(), query)?;
     let package = msi::open(rt, file)?;
-    let rows = package.select_rows(Select::table(rt.alloc(), table)?)?;
-    write_table(rt.alloc(), &mut Writer::from_writer(io::writer(rt)), rows)
+    let rows = package.select_rows(query)?;
+    write_rows(rt.alloc(), &mut Writer::from_writer(io::writer(rt)), rows)
 }
 
 /// Writes the names of the columns of rows, and the rows.
-fn write_table<W>(alloc: Global, output: &mut Writer<W>, rows: Rows) -> Result<(), Failure>
+fn write_rows<W>(alloc: Global, output: &mut Writer<W>, rows: Rows) -> Result<(), Failure>
 where
     W: Write + Drop,
 {
@@ -78,7 +79,7 @@ where
     let words: Vec<String> = env::args(rt)?.skip(1).collect(rt.alloc())?;
     match words.as_slice() {
         [] => guide::follow(rt)?,
-        [file, table] => print_table(rt, file.as_str(), table.as_str())?,
+        [file, query] => print_rows(rt, file.as_str(), query.as_str())?,
         _ => return Ok(false),
     }
     Ok(true)
@@ -88,7 +89,7 @@ fn main(rt: HostRuntime) -> ExitCode {
     match run(&rt) {
         Ok(true) => ExitCode::SUCCESS,
         Ok(false) => {
-            let _ = eprintln!(rt; "usage: example [FILE TABLE]");
+            let _ = eprintln!(rt; "usage: example [FILE QUERY]");
             ExitCode::from(2)
         }
         Err(failure) => {

@@ -9,6 +9,7 @@ use transcripts_packages::packages::{self, PackageCall};
 use transcripts_packages::session::Session;
 use transcripts_packages::summaries;
 use transcripts_queries::conditions::expression;
+use transcripts_queries::parsing::{self, Parsed};
 use transcripts_queries::queries::select;
 use transcripts_queries::{cells, evaluation, tables};
 use transcripts_texts::pools;
@@ -42,10 +43,12 @@ enum Call {
     PrintQuery,
     /// Prints an expression as the library does.
     PrintExpression,
+    /// Reads texts, and prints what they spell.
+    Parse(Parsed),
 }
 
 /// Each call by its name.
-static CALLS: [(&str, Call); 65] = [
+static CALLS: [(&str, Call); 69] = [
     ("device", Call::Package(PackageCall::Device)),
     ("create", Call::Package(PackageCall::Create)),
     ("open", Call::Package(PackageCall::Open)),
@@ -114,6 +117,10 @@ static CALLS: [(&str, Call); 65] = [
     ("writes", Call::Writes),
     ("print_query", Call::PrintQuery),
     ("print_expression", Call::PrintExpression),
+    ("parse_query", Call::Parse(Parsed::Query)),
+    ("parse_expression", Call::Parse(Parsed::Expression)),
+    ("parse_nested", Call::Parse(Parsed::Nested)),
+    ("parse_random", Call::Parse(Parsed::Random)),
 ];
 
 /// Returns the call of a name.
@@ -206,6 +213,7 @@ fn print_text(
             let query = select(alloc, words)?;
             write!(answer, "{query}")?;
         }
+        Call::Parse(parsed) => parsing::make(alloc, parsed, words, answer)?,
         _ => {
             let expression = expression(alloc, words)?;
             write!(answer, "{expression}")?;

@@ -8,7 +8,7 @@ use transcripts_words::words::Words;
 
 /// An operator, or a parenthesis that is still open.
 #[derive(Clone, Copy)]
-enum Operator {
+pub(crate) enum Operator {
     Group,
     Or,
     And,
@@ -33,7 +33,7 @@ enum Operator {
 }
 
 /// An operator's word, and how strongly it binds.
-type Spelled = (&'static str, Operator, u8);
+pub(crate) type Spelled = (&'static str, Operator, u8);
 
 /// The operators in front of an operand.
 static PREFIXES: [Spelled; 3] = [
@@ -43,7 +43,7 @@ static PREFIXES: [Spelled; 3] = [
 ];
 
 /// The operators between two operands.
-static INFIXES: [Spelled; 17] = [
+pub(crate) static INFIXES: [Spelled; 17] = [
     ("OR", Operator::Or, 1),
     ("AND", Operator::And, 2),
     ("=", Operator::Equal, 4),
@@ -181,7 +181,12 @@ impl Pending {
 }
 
 /// Returns an operator of two operands.
-fn applied(alloc: Global, operator: Operator, left: Expr, right: Expr) -> Result<Expr, Failure> {
+pub(crate) fn applied(
+    alloc: Global,
+    operator: Operator,
+    left: Expr,
+    right: Expr,
+) -> Result<Expr, Failure> {
     Ok(match operator {
         Operator::Or => left.or(alloc, right)?,
         Operator::And => left.and(alloc, right)?,

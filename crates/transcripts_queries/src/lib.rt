@@ -6,6 +6,8 @@ pub mod columns;
 pub mod conditions;
 pub mod evaluation;
 mod given;
+pub mod parsing;
 pub mod queries;
+mod random;
 pub mod tables;
 mod values;

@@ -1,0 +1,78 @@
+-- Worked rows of texts, by computation: their symbols, what they spell, and where they are refused.
+use Rattle.std.proofs.Common.{◌≡◌, ℕ, true, false, List, [], ◌∷◌, Err, refl, codes, map, pos, negsuc}
+use Rattle.msi_table_values.specs.declared.value.Value.TheVariants.{Int}
+use Rattle.msi_query_operators.specs.declared.operators.UnaryOp.TheVariants as one
+use Rattle.msi_query_operators.specs.declared.operators.BinaryOp.TheVariants as two
+use Rattle.msi_query_expressions.specs.Expressions.{literal, column, binary}
+use Rattle.msi_query_parse.specs.declared.token.Kind.TheVariants as k
+use Rattle.msi_query_parse.specs.declared.refusal.Expected.TheVariants as expected
+use Rattle.msi_query_parse.specs.declared.refusal.ParseError.TheVariants.{Refused}
+use Rattle.msi_query_parse.specs.Tokens.{token, skip_blanks, same_kind, kind_of_word}
+use Rattle.msi_query_parse.specs.Texts.{positive}
+use Rattle.msi_query_parse.specs.Input.{expect, sees, after, rise, refusal, kind, spelling, next, left as left_of}
+use Rattle.msi_query_parse.specs.Reading.{whole, condition, expression, level, operand, operations, operation, climb, bracketed, term, end}
+use Rattle.msi_query_parse.specs.Symbols.{Symbol, mark, named, number, AreSymbols}
+use Rattle.msi_query_parse.specs.Printed.{phrase_of, is_readable}
+use Rattle.msi_query_parse.specs.Grammar.{Phrase, constant, reference, grouped, front, link, plain, phrase_symbols, is_phrase, expression_of}
+
+pub words : AreSymbols (codes "a-(B.c Or 12)") (named (codes "a") ∷ mark k.Sub ∷ mark k.Open ∷ named (codes "B.c") ∷ mark k.Or ∷ number 12 ∷ mark k.Close ∷ [])
+unfolding token skip_blanks same_kind kind_of_word
+words = record { rest = []; spans = (refl, refl, (refl, refl, (refl, refl, (refl, refl, (refl, refl, (refl, refl, (refl, refl, refl))))))); end = refl }
+
+marks : AreSymbols (codes "<>!=<= <<") (mark k.Ne ∷ mark k.Ne ∷ mark k.Le ∷ mark k.Shl ∷ [])
+unfolding token skip_blanks same_kind kind_of_word
+marks = record { rest = []; spans = (refl, refl, (refl, refl, (refl, refl, (refl, refl, refl)))); end = refl }
+
+-- an end that is missing
+unclosed : AreSymbols (codes "a = 'b") (named (codes "a") ∷ mark k.Eq ∷ mark k.Unclosed ∷ named (codes "b") ∷ [])
+unfolding token skip_blanks same_kind kind_of_word
+unclosed = record { rest = []; spans = (refl, refl, (refl, refl, (refl, refl, (refl, refl, refl)))); end = refl }
+
+abbrev foo : Phrase
+foo = reference (plain (codes "Foo"))
+
+abbrev bar : Phrase
+bar = reference (plain (codes "Bar"))
+
+abbrev baz : Phrase
+baz = reference (plain (codes "Baz"))
+
+-- `Foo - (Bar - Baz)` and `Foo - Bar - Baz`
+abbrev right : Phrase
+right = link k.Sub foo (grouped (link k.Sub bar baz))
+
+abbrev left : Phrase
+left = link k.Sub (link k.Sub foo bar) baz
+
+right_spells : AreSymbols (codes "Foo - (Bar - Baz)") (phrase_symbols right)
+unfolding token skip_blanks same_kind kind_of_word
+right_spells = record { rest = []; spans = (refl, refl, (refl, refl, (refl, refl, (refl, refl, (refl, refl, (refl, refl, (refl, refl, refl))))))); end = refl }
+
+left_spells : AreSymbols (codes "Foo-Bar-Baz") (phrase_symbols left)
+unfolding token skip_blanks same_kind kind_of_word
+left_spells = record { rest = []; spans = (refl, refl, (refl, refl, (refl, refl, (refl, refl, (refl, refl, refl))))); end = refl }
+
+-- brackets are needed on the right, and a minus before digits belongs to them
+both_are : map is_phrase (right ∷ left ∷ link k.Sub foo (link k.Sub bar baz) ∷ front one.Neg (constant (Int (pos 5))) ∷ []) ≡ true ∷ true ∷ false ∷ false ∷ []
+both_are = refl
+
+they_mean : map expression_of (right ∷ left ∷ []) ≡ binary two.Sub (column (codes "Foo")) (binary two.Sub (column (codes "Bar")) (column (codes "Baz")))
+    ∷ binary two.Sub (binary two.Sub (column (codes "Foo")) (column (codes "Bar"))) (column (codes "Baz")) ∷ []
+they_mean = refl
+
+-- they print as these phrases
+they_print : map phrase_of (binary two.Sub (column (codes "Foo")) (binary two.Sub (column (codes "Bar")) (column (codes "Baz")))
+    ∷ binary two.Sub (binary two.Sub (column (codes "Foo")) (column (codes "Bar"))) (column (codes "Baz")) ∷ []) ≡ right ∷ left ∷ []
+they_print = refl
+
+-- what is readable when it is printed: names with full stops, and no key word in any case
+pub readable_ones : map is_readable (binary two.Sub (column (codes "Foo.a")) (binary two.Sub (column (codes "Bar")) (literal (Int (negsuc 4))))
+    ∷ column (codes "And") ∷ column (codes "a b") ∷ []) ≡ true ∷ false ∷ false ∷ []
+unfolding same_kind kind_of_word
+readable_ones = refl
+
+-- a refusal has its place, and what was expected there
+pub refused : map (whole condition) (codes "1 +" ∷ codes "(1" ∷ codes "1 2" ∷ []) ≡ Err (Refused (record { place = 3; expected = expected.Operand }))
+    ∷ Err (Refused (record { place = 2; expected = expected.CloseBracket })) ∷ Err (Refused (record { place = 2; expected = expected.End })) ∷ []
+unfolding token skip_blanks same_kind kind_of_word condition expression level operand operations operation climb bracketed term positive end expect sees after rise refusal kind spelling next left_of
+refused = refl

@@ -1,0 +1,332 @@
+-- What a query prints spells it.
+use Rattle.std.proofs.Common.{◌≡◌, ℕ, suc, Bool, true, false, not, cond, ◌&&◌, ◌==◌, List, [], ◌∷◌, ◌++◌, map, length, nat_le, codes, refl, sym, ap, ap₂, subst, ◌∙◌, Option, Some, None, option_map, option_and_then, is_none, append_assoc, append-nil, flat_map, leb-true, eqb-true, arith}
+use Rattle.std.specs.List.{list_all, join_by}
+use Rattle.std.specs.Fmt.{◌++?◌}
+use Rattle.std.proofs.lemmas.Bool.{and_parts, and_from}
+use Rattle.msi_text_base.specs.Lists.{all_present}
+use Rattle.msi_table_values.specs.declared.value.Value.{Value}
+use Rattle.msi_table_values.specs.Values.{value_text}
+use Rattle.msi_query_operators.specs.declared.operators.BinaryOp.TheVariants as two
+use Rattle.msi_query_expressions.specs.Expressions.{Expression}
+use Rattle.msi_query_expressions.specs.Printing.{expression_text}
+use Rattle.msi_query.specs.declared.query.JoinKind.{JoinKind}
+use Rattle.msi_query.specs.Queries.{Clauses, Query, table, join, no_clauses, projected_query}
+use Rattle.msi_query.specs.QueryTexts.{listed, where_text, columns_text, select_text, join_word, bare_name, or_bracketed, side_text, query_text, row_text, rows_text, insert_text, set_text, sets_text, update_text, delete_text}
+use Rattle.msi_query_parse.specs.declared.token.Kind.TheVariants as k
+use Rattle.msi_query_parse.specs.Symbols.{Symbol, mark, named}
+use Rattle.msi_query_parse.specs.Grammar.{ColumnName, plain, bytes_of, name_symbols, value_symbols, is_value, separated, phrase_symbols, expression_of}
+use Rattle.msi_query_parse.specs.Grammar.{Source, whole, both_of, where_symbols, column_symbols, in_brackets, source_symbols, is_query, is_join, is_where, is_source, source_height, narrowed_by, query_meant, join_mark}
+use Rattle.msi_query_parse.specs.Grammar.{Constant, of_value, constant_symbols, constant_value, is_literal, row_symbols, rows_symbols, set_symbols, sets_symbols}
+use Rattle.msi_query_parse.specs.Printed.{phrase_of, is_readable_name, is_readable, is_readable_condition, are_readable_clauses, selected, or_whole, source_of, has_readable_parts}
+use Rattle.msi_query_parse.specs.Printed.{PrintedSelectsAreReadBack, PrintedInsertsAreReadBack, PrintedUpdatesAreReadBack, PrintedDeletesAreReadBack}
+use Rattle.msi_query_parse.proofs.LeadsLemmas.{Front, Leads, front_leads, tail_tail, link_leads, leads_link, leads_tail, as_leads, no_tail, Prints, Tails, text_prints, text_tails, prints_tails, tails_tails, front_prints, link_prints, linked_prints, enclosed_prints, symbols_of}
+use Rattle.msi_query_parse.proofs.PieceLemmas.{open_front, close_link, comma_link, between, star_front, select_front, from_link, where_link, join_link, on_link, insert_front, values_link, update_front, set_link, delete_front}
+use Rattle.msi_query_parse.proofs.PrintedLemmas.{name_leads, value_prints, Readable, readable}
+
+-- ---- lists
+
+abbrev behind_commas : List (List ℕ) → List ℕ
+behind_commas = flat_map (λ (t : List ℕ). codes ", " ++ t)
+
+abbrev cons_present : Option (List (List ℕ)) → Option (List ℕ) → Option (List (List ℕ))
+cons_present q o = option_and_then (λ (x : List ℕ). option_map (λ (xs : List (List ℕ)). x ∷ xs) q) o
+
+-- the symbols behind the first of a list
+abbrev behind : List (List Symbol) → List Symbol
+behind [] = []
+behind (s ∷ ss) = mark k.Comma ∷ (s ++ behind ss)
+
+separated-behind : (s : List Symbol) (ss : List (List Symbol)) → separated (s ∷ ss) ≡ s ++ behind ss
+separated-behind s [] = sym (append-nil s)
+separated-behind s (t ∷ ss) = ap (λ (x : List Symbol). s ++ mark k.Comma ∷ x) (separated-behind t ss)
+
+cons_tails : (o : Option (List ℕ)) (q : Option (List (List ℕ))) (s t : List Symbol) → Prints o s → Tails (option_map behind_commas q) t
+    → Tails (option_map behind_commas (cons_present q o)) (mark k.Comma ∷ (s ++ t))
+cons_tails None q s t h g = record { tail = λ text e. absurd (let clash : None ≡ Some text = e in cc) }
+cons_tails (Some a) None s t h g = record { tail = λ text e. absurd (let clash : None ≡ Some text = e in cc) }
+cons_tails (Some a) (Some texts) s t h g = text_tails ((codes ", " ++ a) ++ behind_commas texts) (mark k.Comma ∷ (s ++ t))
+    (tail_tail (codes ", " ++ a) (behind_commas texts) (mark k.Comma ∷ s) t (link_leads (codes ", ") a (mark k.Comma ∷ []) s comma_link (h.leads a refl)) (g.tail (behind_commas texts) refl))
+
+cons_prints : (o : Option (List ℕ)) (q : Option (List (List ℕ))) (s t : List Symbol) → Prints o s → Tails (option_map behind_commas q) t
+    → Prints (option_map (join_by (λ (t : List ℕ). t) (codes ", ")) (cons_present q o)) (s ++ t)
+cons_prints None q s t h g = record { leads = λ text e. absurd (let clash : None ≡ Some text = e in cc) }
+cons_prints (Some a) None s t h g = record { leads = λ text e. absurd (let clash : None ≡ Some text = e in cc) }
+cons_prints (Some a) (Some texts) s t h g = text_prints (a ++ behind_commas texts) (s ++ t) (leads_tail a (behind_commas texts) s t (h.leads a refl) (g.tail (behind_commas texts) refl))
+
+module _ {X : Type 0} (f : X → Option (List ℕ)) (g : X → List Symbol) (p : X → Bool) (one : (x : X) → p x ≡ true → Prints (f x) (g x)) where
+  others_tails : (xs : List X) → list_all p xs ≡ true → Tails (option_map behind_commas (all_present (map f xs))) (behind (map g xs))
+  others_tails [] h = text_tails [] [] no_tail
+  others_tails (x ∷ xs) h = let parts = and_parts (p x) (list_all p xs) h in
+      cons_tails (f x) (all_present (map f xs)) (g x) (behind (map g xs)) (one x parts.0) (others_tails xs parts.1)
+
+  listed_prints : (xs : List X) → list_all p xs ≡ true → Prints (listed (map f xs)) (separated (map g xs))
+  listed_prints [] h = text_prints [] [] (record { over = λ after a. refl })
+  listed_prints (x ∷ xs) h = let parts = and_parts (p x) (list_all p xs) h in
+      subst (λ (s : List Symbol). Prints (listed (map f (x ∷ xs))) s) (sym (separated-behind (g x) (map g xs)))
+      (cons_prints (f x) (all_present (map f xs)) (g x) (behind (map g xs)) (one x parts.0) (others_tails xs parts.1))
+
+maps : {X Y Z : Type 0} (g : Y → Z) (h : X → Y) (xs : List X) → map g (map h xs) ≡ map (λ (x : X). g (h x)) xs
+maps g h [] = refl
+maps g h (x ∷ xs) = ap (λ t. g (h x) ∷ t) (maps g h xs)
+
+maps_back : {X Y : Type 0} (g : Y → X) (h : X → Y) → ((x : X) → g (h x) ≡ x) → (xs : List X) → map g (map h xs) ≡ xs
+maps_back g h e [] = refl
+maps_back g h e (x ∷ xs) = ap₂ (λ a b. a ∷ b) (e x) (maps_back g h e xs)
+
+all_mapped : {X Y : Type 0} (p : Y → Bool) (q : X → Bool) (h : X → Y) → ((x : X) → q x ≡ true → p (h x) ≡ true) → (xs : List X) → list_all q xs ≡ true → list_all p (map h xs) ≡ true
+all_mapped p q h e [] a = refl
+all_mapped p q h e (x ∷ xs) a = let parts = and_parts (q x) (list_all q xs) a in and_from _ _ (e x parts.0) (all_mapped p q h e xs parts.1)
+
+-- ---- conditions
+
+condition_tails : (c : Option Expression) → is_readable_condition c ≡ true → Tails (where_text c) (where_symbols (option_map phrase_of c))
+condition_tails None h = text_tails [] [] no_tail
+condition_tails (Some e) h = let r = readable e h in
+    link_prints (codes " WHERE ") (expression_text e) (mark k.Where ∷ []) (phrase_symbols (phrase_of e)) where_link r.prints
+
+condition_rules : (c : Option Expression) → is_readable_condition c ≡ true → is_where (option_map phrase_of c) ≡ true
+condition_rules None h = refl
+condition_rules (Some e) h = let r = readable e h in and_from _ _ r.follows r.low
+
+condition_met : (c : Option Expression) → is_readable_condition c ≡ true → option_map expression_of (option_map phrase_of c) ≡ c
+condition_met None h = refl
+condition_met (Some e) h = let r = readable e h in ap (λ (x : Expression). Some x) r.means
+
+-- ---- deletes
+
+named_table : (word name : List ℕ) (s : List Symbol) → Front word s → is_readable_name name ≡ true → Prints (Some (word ++ name)) (s ++ (named name ∷ []))
+named_table word name s f h = text_prints (word ++ name) (s ++ (named name ∷ [])) (front_leads word name s (named name ∷ []) f (name_leads name h))
+
+pub deletes_are_read_back : PrintedDeletesAreReadBack
+deletes_are_read_back q text h is =
+    let parts = and_parts (is_readable_name q.table) (is_readable_condition q.condition) h in
+    record {
+      condition = option_map phrase_of q.condition;
+      rules = condition_rules q.condition parts.1;
+      symbols = symbols_of (delete_text q) (mark k.Delete ∷ mark k.From ∷ named q.table ∷ where_symbols (option_map phrase_of q.condition))
+          (prints_tails (Some (codes "DELETE FROM " ++ q.table)) (where_text q.condition) (mark k.Delete ∷ mark k.From ∷ named q.table ∷ []) (where_symbols (option_map phrase_of q.condition))
+          (named_table (codes "DELETE FROM ") q.table (mark k.Delete ∷ mark k.From ∷ []) delete_front parts.0) (condition_tails q.condition parts.1)) text is;
+      met = condition_met q.condition parts.1;
+    }
+
+-- ---- inserts
+
+row_prints : (row : List Value) → list_all is_value row ≡ true → Prints (row_text row) (row_symbols (map of_value row))
+row_prints row h = enclosed_prints (codes "(") (codes ")") (listed (map value_text row)) (mark k.Open ∷ []) (separated (map constant_symbols (map of_value row))) (mark k.Close ∷ []) open_front
+    (subst (λ (ss : List (List Symbol)). Prints (listed (map value_text row)) (separated ss)) (sym (maps constant_symbols of_value row))
+    (listed_prints value_text value_symbols is_value value_prints row h)) close_link
+
+rows_tails : (rows : List (List Value)) → list_all (list_all is_value) rows ≡ true → Tails (rows_text rows) (rows_symbols (map (map of_value) rows))
+rows_tails [] h = text_tails [] [] no_tail
+rows_tails (row ∷ rows) h = link_prints (codes " VALUES ") (listed (map row_text (row ∷ rows))) (mark k.Values ∷ []) (separated (map row_symbols (map (map of_value) (row ∷ rows)))) values_link
+    (subst (λ (ss : List (List Symbol)). Prints (listed (map row_text (row ∷ rows))) (separated ss)) (sym (maps row_symbols (map of_value) (row ∷ rows)))
+    (listed_prints row_text (λ (r : List Value). row_symbols (map of_value r)) (list_all is_value) row_prints (row ∷ rows) h))
+
+pub inserts_are_read_back : PrintedInsertsAreReadBack
+inserts_are_read_back q text h is =
+    let parts = and_parts (is_readable_name q.table) (list_all (list_all is_value) q.rows) h in
+    record {
+      rows = map (map of_value) q.rows;
+      rules = all_mapped (list_all is_literal) (list_all is_value) (map of_value) (λ row a. all_mapped is_literal is_value of_value (λ x b. b) row a) q.rows parts.1;
+      symbols = symbols_of (insert_text q) (mark k.Insert ∷ mark k.Into ∷ named q.table ∷ rows_symbols (map (map of_value) q.rows))
+          (prints_tails (Some (codes "INSERT INTO " ++ q.table)) (rows_text q.rows) (mark k.Insert ∷ mark k.Into ∷ named q.table ∷ []) (rows_symbols (map (map of_value) q.rows))
+          (named_table (codes "INSERT INTO ") q.table (mark k.Insert ∷ mark k.Into ∷ []) insert_front parts.0) (rows_tails q.rows parts.1)) text is;
+      value = maps_back (map constant_value) (map of_value) (λ row. maps_back constant_value of_value (λ x. refl) row) q.rows;
+    }
+
+-- ---- updates
+
+abbrev set_of : List ℕ × Value → ColumnName × Constant
+set_of s = (plain s.0, of_value s.1)
+
+abbrev is_readable_set : List ℕ × Value → Bool
+is_readable_set s = is_readable_name s.0 && is_value s.1
+
+set_prints : (s : List ℕ × Value) → is_readable_set s ≡ true → Prints (set_text s) (set_symbols (set_of s))
+set_prints s h =
+    let parts = and_parts (is_readable_name s.0) (is_value s.1) h in
+    front_prints (s.0 ++ codes " = ") (value_text s.1) (named s.0 ∷ mark k.Eq ∷ []) (value_symbols s.1)
+    (leads_link s.0 (codes " = ") (named s.0 ∷ []) (mark k.Eq ∷ []) (name_leads s.0 parts.0) (between two.Eq)) (value_prints s.1 parts.1)
+
+sets_tails : (sets : List (List ℕ × Value)) → list_all is_readable_set sets ≡ true → Tails (sets_text sets) (sets_symbols (map set_of sets))
+sets_tails [] h = text_tails [] [] no_tail
+sets_tails (s ∷ sets) h = link_prints (codes " SET ") (listed (map set_text (s ∷ sets))) (mark k.Set ∷ []) (separated (map set_symbols (map set_of (s ∷ sets)))) set_link
+    (subst (λ (ss : List (List Symbol)). Prints (listed (map set_text (s ∷ sets))) (separated ss)) (sym (maps set_symbols set_of (s ∷ sets)))
+    (listed_prints set_text (λ (r : List ℕ × Value). set_symbols (set_of r)) is_readable_set set_prints (s ∷ sets) h))
+
+pub updates_are_read_back : PrintedUpdatesAreReadBack
+updates_are_read_back q text h is =
+    let outer = and_parts (is_readable_name q.table && list_all is_readable_set q.sets) (is_readable_condition q.condition) h in
+    let parts = and_parts (is_readable_name q.table) (list_all is_readable_set q.sets) outer.0 in
+    record {
+      sets = map set_of q.sets;
+      condition = option_map phrase_of q.condition;
+      rules = and_from _ _ (all_mapped (λ (s : ColumnName × Constant). is_literal s.1) is_readable_set set_of
+          (λ s a. (and_parts (is_readable_name s.0) (is_value s.1) a).1) q.sets parts.1) (condition_rules q.condition outer.1);
+      symbols = symbols_of (update_text q) (mark k.Update ∷ named q.table ∷ sets_symbols (map set_of q.sets) ++ where_symbols (option_map phrase_of q.condition))
+          (prints_tails (Some (codes "UPDATE " ++ q.table)) (sets_text q.sets ++? where_text q.condition) (mark k.Update ∷ named q.table ∷ [])
+          (sets_symbols (map set_of q.sets) ++ where_symbols (option_map phrase_of q.condition))
+          (named_table (codes "UPDATE ") q.table (mark k.Update ∷ []) update_front parts.0)
+          (tails_tails (sets_text q.sets) (where_text q.condition) (sets_symbols (map set_of q.sets)) (where_symbols (option_map phrase_of q.condition))
+          (sets_tails q.sets parts.1) (condition_tails q.condition outer.1))) text is;
+      value = maps_back (λ (s : ColumnName × Constant). (bytes_of s.0, constant_value s.1)) set_of (λ s. refl) q.sets;
+      met = condition_met q.condition outer.1;
+    }
+
+-- ---- selects
+
+all_present-Some : (names : List (List ℕ)) → all_present (map (λ (n : List ℕ). Some n) names) ≡ Some names
+all_present-Some [] = refl
+all_present-Some (n ∷ ns) = ap (λ (o : Option (List (List ℕ))). option_map (λ (xs : List (List ℕ)). n ∷ xs) o) (all_present-Some ns)
+
+columns_lead : (names : List (List ℕ)) → list_all is_readable_name names ≡ true → Leads (columns_text names) (column_symbols (map plain names))
+columns_lead [] h = as_leads (codes "*") (mark k.Star ∷ []) star_front
+columns_lead (n ∷ ns) h =
+    let p = listed_prints (λ (n : List ℕ). Some n) (λ (n : List ℕ). named n ∷ []) is_readable_name
+    (λ (n : List ℕ) (a : is_readable_name n ≡ true). text_prints n (named n ∷ []) (name_leads n a)) (n ∷ ns) h in
+    subst (λ (ss : List (List Symbol)). Leads (columns_text (n ∷ ns)) (separated ss)) (sym (maps name_symbols plain (n ∷ ns)))
+    (p.leads (columns_text (n ∷ ns)) (ap (λ (o : Option (List (List ℕ))). option_map (join_by (λ (t : List ℕ). t) (codes ", ")) o) (all_present-Some (n ∷ ns))))
+
+select_prints : (c : Clauses) (o : Option (List ℕ)) (source : Source) → are_readable_clauses c ≡ true → Prints o (source_symbols source) → Prints (select_text c o) (source_symbols (selected c source))
+select_prints c o source h p =
+    let parts = and_parts (list_all is_readable_name c.columns) (is_readable_condition c.condition) h in
+    let first : List Symbol = mark k.Select ∷ column_symbols (map plain c.columns) in
+    let ends : List Symbol = where_symbols (option_map phrase_of c.condition) in
+    subst (λ (t : List Symbol). Prints (select_text c o) t)
+    (append_assoc first (mark k.From ∷ []) (source_symbols source ++ ends) ∙ sym (append_assoc first (mark k.From ∷ source_symbols source) ends))
+    (front_prints ((codes "SELECT " ++ columns_text c.columns) ++ codes " FROM ") (o ++? where_text c.condition) (first ++ mark k.From ∷ []) (source_symbols source ++ ends)
+    (leads_link (codes "SELECT " ++ columns_text c.columns) (codes " FROM ") first (mark k.From ∷ [])
+    (front_leads (codes "SELECT ") (columns_text c.columns) (mark k.Select ∷ []) (column_symbols (map plain c.columns)) select_front (columns_lead c.columns parts.0)) from_link)
+    (prints_tails o (where_text c.condition) (source_symbols source) ends p (condition_tails c.condition parts.1)))
+
+none_at_0 : {X : Type 0} (xs : List X) → (length xs == 0) ≡ true → xs ≡ []
+none_at_0 [] e = refl
+none_at_0 (x ∷ xs) e = let zero_is : suc (length xs) ≡ 0 = eqb-true (length (x ∷ xs)) 0 e in absurd (omega arith)
+
+none_is : {X : Type 0} (o : Option X) → is_none o ≡ true → o ≡ None
+none_is None e = refl
+none_is (Some x) e = absurd (let clash : false ≡ true = e in cc)
+
+bare_is : (name : List ℕ) (c : Clauses) → ((length c.columns == 0) && is_none c.condition) ≡ true → table name no_clauses ≡ table name c
+bare_is name c h = let parts = and_parts (length c.columns == 0) (is_none c.condition) h in
+    ap₂ (λ (columns : List (List ℕ)) (condition : Option Expression). table name (record { columns = columns; condition = condition }))
+    (sym (none_at_0 c.columns parts.0)) (sym (none_is c.condition parts.1))
+
+clauses_meant : (c : Clauses) (source : Source) → are_readable_clauses c ≡ true
+    → query_meant (selected c source) ≡ projected_query (narrowed_by (query_meant source) c.condition) c.columns
+clauses_meant c source h = let parts = and_parts (list_all is_readable_name c.columns) (is_readable_condition c.condition) h in
+    ap₂ (λ (condition : Option Expression) (columns : List (List ℕ)). projected_query (narrowed_by (query_meant source) condition) columns)
+    (condition_met c.condition parts.1) (maps_back bytes_of plain (λ n. refl) c.columns)
+
+table_meant : (name : List ℕ) (condition : Option Expression) (columns : List (List ℕ))
+    → projected_query (narrowed_by (table name no_clauses) condition) columns ≡ table name (record { columns = columns; condition = condition })
+table_meant name None columns = refl
+table_meant name (Some e) columns = refl
+
+join_meant : (kind : JoinKind) (l r : Query) (on : Expression) (condition : Option Expression) (columns : List (List ℕ))
+    → projected_query (narrowed_by (join kind l r on no_clauses) condition) columns ≡ join kind l r on (record { columns = columns; condition = condition })
+join_meant kind l r on None columns = refl
+join_meant kind l r on (Some e) columns = refl
+
+-- a query in its own words, and as a side of a join
+record Printed (q : Query) : Type 0 where
+  prints : Prints (query_text q) (source_symbols (source_of q))
+  follows : is_source (source_of q) ≡ true
+  means : query_meant (source_of q) ≡ q
+
+abbrev side_of : Query → Source
+side_of q = or_whole (bare_name q) (source_of q)
+
+record Side (q : Query) : Type 0 where
+  prints : Prints (side_text q (query_text q)) (in_brackets (side_of q) (source_symbols (side_of q)))
+  follows : is_source (side_of q) ≡ true
+  no_join : is_join (side_of q) ≡ false
+  means : query_meant (side_of q) ≡ q
+
+abbrev whole_or : List ℕ → Clauses → Bool → Source
+whole_or name c b = or_whole (cond b (Some name) None) (source_of (table name c))
+
+side : (q : Query) → has_readable_parts q ≡ true → Printed q → Side q
+side (join kind l r on_e c) h p = record {
+  prints = enclosed_prints (codes "(") (codes ")") (query_text (join kind l r on_e c)) (mark k.Open ∷ []) (source_symbols (source_of (join kind l r on_e c))) (mark k.Close ∷ []) open_front p.prints close_link;
+  follows = p.follows;
+  no_join = refl;
+  means = p.means;
+}
+side (table name c) h p = record {
+  prints = go_prints ((length c.columns == 0) && is_none c.condition);
+  follows = go_follows ((length c.columns == 0) && is_none c.condition);
+  no_join = go_no_join ((length c.columns == 0) && is_none c.condition);
+  means = go_means ((length c.columns == 0) && is_none c.condition) refl;
+}
+  where
+    go_prints : (b : Bool) → Prints (or_bracketed (cond b (Some name) None) (query_text (table name c))) (in_brackets (whole_or name c b) (source_symbols (whole_or name c b)))
+    go_prints true = text_prints name (named name ∷ []) (name_leads name (and_parts (is_readable_name name) (are_readable_clauses c) h).0)
+    go_prints false = enclosed_prints (codes "(") (codes ")") (query_text (table name c)) (mark k.Open ∷ []) (source_symbols (source_of (table name c))) (mark k.Close ∷ []) open_front p.prints close_link
+
+    go_follows : (b : Bool) → is_source (whole_or name c b) ≡ true
+    go_follows true = refl
+    go_follows false = p.follows
+
+    go_no_join : (b : Bool) → is_join (whole_or name c b) ≡ false
+    go_no_join true = refl
+    go_no_join false = refl
+
+    go_means : (b : Bool) → ((length c.columns == 0) && is_none c.condition) ≡ b → query_meant (whole_or name c b) ≡ table name c
+    go_means true e = bare_is name c e
+    go_means false e = p.means
+
+joined_prints : (kind : JoinKind) (l r : Query) (on_e : Expression) → Side l → Side r → Readable on_e
+    → Prints (side_text l (query_text l) ++? Some (join_word kind) ++? side_text r (query_text r) ++? Some (codes " ON ") ++? expression_text on_e)
+    (source_symbols (both_of kind (side_of l) (side_of r) (phrase_of on_e)))
+joined_prints kind l r on_e a b e =
+    let first : List Symbol = in_brackets (side_of l) (source_symbols (side_of l)) in
+    let second : List Symbol = in_brackets (side_of r) (source_symbols (side_of r)) in
+    let last : List Symbol = phrase_symbols (phrase_of on_e) in
+    subst (λ (t : List Symbol). Prints (side_text l (query_text l) ++? Some (join_word kind) ++? side_text r (query_text r) ++? Some (codes " ON ") ++? expression_text on_e) t)
+    (sym (append_assoc first (mark (join_mark kind) ∷ mark k.Join ∷ second) (mark k.On ∷ last)))
+    (linked_prints (join_word kind) (side_text l (query_text l)) (side_text r (query_text r) ++? Some (codes " ON ") ++? expression_text on_e)
+    first (mark (join_mark kind) ∷ mark k.Join ∷ []) (second ++ mark k.On ∷ last) a.prints (join_link kind)
+    (linked_prints (codes " ON ") (side_text r (query_text r)) (expression_text on_e) second (mark k.On ∷ []) last b.prints on_link e.prints))
+
+printed : (q : Query) → has_readable_parts q ≡ true → Printed q
+printed (table name c) h =
+    let parts = and_parts (is_readable_name name) (are_readable_clauses c) h in
+    let clauses = and_parts (list_all is_readable_name c.columns) (is_readable_condition c.condition) parts.1 in
+    record {
+      prints = select_prints c (Some name) (whole name) parts.1 (text_prints name (named name ∷ []) (name_leads name parts.0));
+      follows = condition_rules c.condition clauses.1;
+      means = clauses_meant c (whole name) parts.1 ∙ table_meant name c.condition c.columns;
+    }
+printed (join kind l r on_e c) h =
+    let outer = and_parts (has_readable_parts l && has_readable_parts r && is_readable on_e) (are_readable_clauses c) h in
+    let inner = and_parts (has_readable_parts l && has_readable_parts r) (is_readable on_e) outer.0 in
+    let sides = and_parts (has_readable_parts l) (has_readable_parts r) inner.0 in
+    let clauses = and_parts (list_all is_readable_name c.columns) (is_readable_condition c.condition) outer.1 in
+    let a = side l sides.0 (printed l sides.0) in
+    let b = side r sides.1 (printed r sides.1) in
+    let e = readable on_e inner.1 in
+    record {
+      prints = select_prints c _ (both_of kind (side_of l) (side_of r) (phrase_of on_e)) outer.1 (joined_prints kind l r on_e a b e);
+      follows = and_from _ _ (and_from _ _ (and_from _ _ (and_from _ _ (and_from _ _ a.follows b.follows) (ap not b.no_join)) (and_from _ _ e.follows e.low)) refl) (condition_rules c.condition clauses.1);
+      means = clauses_meant c (both_of kind (side_of l) (side_of r) (phrase_of on_e)) outer.1
+          ∙ ap (λ (q : Query). projected_query (narrowed_by q c.condition) c.columns)
+          (ap₂ (λ (x y : Query). join kind x y (expression_of (phrase_of on_e)) no_clauses) a.means b.means ∙ ap (λ (x : Expression). join kind l r x no_clauses) e.means)
+          ∙ join_meant kind l r on_e c.condition c.columns;
+    }
+
+is_query-source_of : (q : Query) → is_query (source_of q) ≡ true
+is_query-source_of (table name c) = refl
+is_query-source_of (join kind l r on_e c) = refl
+
+pub selects_are_read_back : PrintedSelectsAreReadBack
+selects_are_read_back q text h is =
+    let parts = and_parts (has_readable_parts q) (nat_le (source_height (source_of q)) 200) h in
+    let p = printed q parts.0 in
+    record {
+      source = source_of q;
+      rules = and_from _ _ (is_query-source_of q) p.follows;
+      height = leb-true _ 200 parts.1;
+      symbols = symbols_of (query_text q) (source_symbols (source_of q)) p.prints text is;
+      value = p.means;
+    }

@@ -1,0 +1,323 @@
+-- Queries for rows that are spelled are read.
+use Rattle.std.proofs.Common.{◌≡◌, ℕ, zero, suc, ◌+◌, ◌-◌, ◌^◌, ◌==◌, ◌<◌, ◌≤◌, ◌⊎◌, inl, inr, max, min, true, false, ◌||◌, if◌then◌else◌, List, [], ◌∷◌, ◌++◌, map, length, Option, Some, None, option_map, Ok, Err, refl, sym, ◌∙◌, ap, arith}
+use Rattle.std.specs.List.{list_all}
+use Rattle.std.proofs.lemmas.Bool.{leb-true}
+use Rattle.msi_query.specs.declared.query.JoinKind.{JoinKind}
+use Rattle.msi_query.specs.declared.query.JoinKind.TheVariants.{Inner, Left}
+use Rattle.msi_query.specs.Queries.{Query, table, join, no_clauses, narrowed_query, projected_query}
+use Rattle.msi_query_parse.specs.declared.token.Kind.{Kind}
+use Rattle.msi_query_parse.specs.declared.token.Kind.TheVariants as k
+use Rattle.msi_query_parse.specs.declared.refusal.Expected.TheVariants as expected
+use Rattle.msi_query_parse.specs.Input.{Input, Outcome, Reader, and_then, ◌<$>◌, ◌>>=◌, pure, kind, next, sees, after, refusal, left, start_of}
+use Rattle.msi_query_parse.specs.Operators.{binds}
+use Rattle.msi_query_parse.specs.Texts.{text}
+use Rattle.msi_query_parse.specs.Reading as reading
+use Rattle.msi_query_parse.specs.Reading.{name, column, columns, one_column, selected, condition, is_name, dotted, table_named, narrowed, joined_by, sees_join, bracketed_query, side, joined_at, joined, joins_from, joins, joins_behind, first_bracketed, source, select, query, whole, listed_from}
+use Rattle.msi_query_parse.specs.Symbols.{Symbol, mark, named}
+use Rattle.msi_query_parse.specs.Grammar.{Phrase, ColumnName, plain, parts, Source, whole as whole_table, both_of, query_of, bytes_of, name_symbols, column_symbols, in_brackets, join_mark, source_symbols, is_query, is_join, is_source, is_where, source_height, query_meant, where_symbols, phrase_symbols, expression_of, SpellsSelect}
+use Rattle.msi_query_parse.proofs.SymbolLemmas.{spans_shorter}
+use Rattle.msi_query_parse.proofs.Steps.{Next, Leads, leads_on, risen, risen_height, after_yes, after_no}
+use Rattle.msi_query_parse.proofs.NamesRead.{first_kind, at, kind_at, next_at, leads_next, then_read, mark_kind, sees_yes, sees_no, expect_read, risen_then, name_read, named_here, column_read, whole_read, end_kind}
+use Rattle.msi_query_parse.proofs.ExpressionsRead.{both_left, both_right, denied, leads_split, condition_read}
+use Rattle.msi_query_parse.proofs.ListLemmas.{listed_read, listed_fails}
+use Rattle.msi_query_parse.proofs.ValueLemmas.{goes_map}
+use Rattle.msi_query_parse.proofs.ChangesRead.{where_read}
+use Rattle.msi_query_parse.proofs.SourcesSpelled.{with_names, any_name, side_height, side_high, narrowed_is, join_rest, join_value}
+
+-- ---- columns
+
+name_item : (found : List (List ℕ)) (c : ColumnName) (i : Input) (b : List ℕ) → any_name c ≡ true → Leads i.ahead (name_symbols c) b → (first_kind b ≡ k.Dot → ⊥) → one_column found i ≡ Ok (with_names found (c ∷ []), at i b i.height)
+name_item found c i b good h no_dot = then_read _ (column_read expected.Columns c i b h no_dot) refl
+
+column_some : (c : ColumnName) → 1 ≤ length (name_symbols c)
+column_some (plain n) = omega arith
+column_some (parts n m) = omega arith
+
+any_names : (cs : List ColumnName) → list_all any_name cs ≡ true
+any_names [] = refl
+any_names (c ∷ cs) = any_names cs
+
+-- no name begins with a star
+column_fails : (i : Input) → kind i ≡ k.Star → column expected.Columns i ≡ Err (refusal expected.Columns i)
+unfolding column name
+column_fails i e = ap (λ c. and_then (if is_name c then text i else Err (refusal expected.Columns i))
+    (λ first m. (if sees k.Dot m then dotted first <$> name expected.Name else pure first) (after k.Dot m))) e
+
+no_star : (m : Input) (n : ℕ) (all : List (List ℕ)) (j : Input) → listed_from expected.Columns one_column n [] m ≡ Ok (all, j) → kind m ≡ k.Star → ⊥
+no_star m n all j h e = listed_fails (List (List ℕ)) ColumnName expected.Columns one_column name_symbols any_name with_names n [] all m j (refusal expected.Columns m)
+    (ap (λ o. and_then o (λ x. pure ([] ++ x ∷ []))) (column_fails m e)) h
+
+selected_read : (cs : List ColumnName) (i : Input) (b : List ℕ) → Leads i.ahead (column_symbols cs) b → first_kind b ≡ k.From → selected i ≡ Ok (map bytes_of cs, at i b i.height)
+unfolding selected left
+selected_read [] i b h from =
+    let l = leads_next i (mark k.Star) [] b h in
+    let on = sees_yes k.Star i (mark_kind l.0 (λ x. cc)) in
+    ap (λ t. (if t then pure [] else columns) (after k.Star i)) on ∙ ap (λ y. Ok ([], y)) (after_yes k.Star i on ∙ next_at i b i.height l.1.spans refl)
+selected_read (c ∷ cs) i b h from =
+    let read = listed_read (List (List ℕ)) ColumnName expected.Columns one_column name_symbols any_name with_names name_item column_some (goes_map bytes_of) cs c (length i.ahead) [] i b (omega arith) (any_names (c ∷ cs)) h
+    (λ e. let f : k.From ≡ k.Comma = sym from ∙ e in cc) (λ e. let f : k.From ≡ k.Dot = sym from ∙ e in cc) in
+    let off = sees_no k.Star i (no_star i (length i.ahead) _ (at i b i.height) read) in
+    ap (λ t. (if t then pure [] else columns) (after k.Star i)) off ∙ ap columns (after_no k.Star i off) ∙ read
+
+-- ---- what follows
+
+-- a query ends at the end, or at a bracket
+abbrev pub Ends : List ℕ → Type 0
+Ends b = (first_kind b ≡ k.End) ⊎ (first_kind b ≡ k.Close)
+
+ends_other : (b : List ℕ) (other : Kind) → Ends b → (k.End ≡ other → ⊥) → (k.Close ≡ other → ⊥) → first_kind b ≡ other → ⊥
+ends_other b other (inl e) f g h = f (sym e ∙ h)
+ends_other b other (inr e) f g h = g (sym e ∙ h)
+
+ends_loose : (b : List ℕ) → Ends b → binds (first_kind b) ≡ 0
+ends_loose b (inl e) = ap binds e
+ends_loose b (inr e) = ap binds e
+
+-- what stands where a condition, or what ends the query, comes next
+where_other : (c : Option Phrase) (i : Input) (b : List ℕ) (other : Kind) → Leads i.ahead (where_symbols c) b → Ends b → (k.Where ≡ other → ⊥) → (k.End ≡ other → ⊥) → (k.Close ≡ other → ⊥) → kind i ≡ other → ⊥
+where_other None i b other h end w f g e = ends_other b other end f g (sym (kind_at i b h.spans) ∙ e)
+where_other (Some p) i b other h end w f g e = w (sym (mark_kind {i = i} {other = k.Where} (leads_next i (mark k.Where) (phrase_symbols p) b h).0 (λ x. cc)) ∙ e)
+
+where_loose : (c : Option Phrase) (i : Input) (b : List ℕ) → Leads i.ahead (where_symbols c) b → Ends b → binds (kind i) ≡ 0
+where_loose None i b h end = ap binds (kind_at i b h.spans) ∙ ends_loose b end
+where_loose (Some p) i b h end = ap binds (mark_kind {i = i} {other = k.Where} (leads_next i (mark k.Where) (phrase_symbols p) b h).0 (λ x. cc))
+
+join_loose : (kind_seen : JoinKind) → binds (join_mark kind_seen) ≡ 0
+join_loose Inner = refl
+join_loose Left = refl
+
+join_no_dot : (kind_seen : JoinKind) → join_mark kind_seen ≡ k.Dot → ⊥
+join_no_dot Inner e = cc
+join_no_dot Left e = cc
+
+join_known : (kind_seen : JoinKind) → join_mark kind_seen ≡ k.Unknown → ⊥
+join_known Inner e = cc
+join_known Left e = cc
+
+join_seen : (kind_seen : JoinKind) (i : Input) → kind i ≡ join_mark kind_seen → sees_join i ≡ true
+join_seen Inner i e = ap (λ t. t || sees k.Left i) (sees_yes k.Inner i e)
+join_seen Left i e = ap (λ t. t || sees k.Left i) (sees_no k.Inner i (λ f. let g : k.Inner ≡ k.Left = sym f ∙ e in cc)) ∙ sees_yes k.Left i e
+
+join_unseen : (i : Input) → (kind i ≡ k.Inner → ⊥) → (kind i ≡ k.Left → ⊥) → sees_join i ≡ false
+join_unseen i f g = ap (λ t. t || sees k.Left i) (sees_no k.Inner i f) ∙ sees_no k.Left i g
+
+not_name : (i : Input) (c : Kind) → kind i ≡ c → is_name c ≡ false → is_name (kind i) ≡ false
+not_name i c e f = ap is_name e ∙ f
+
+-- ---- sides
+
+table_read : (n : List ℕ) (i : Input) → Next i (named n) → table_named i ≡ Ok (table n no_clauses, next i)
+unfolding table_named
+table_read n i h = then_read _ (name_read expected.Side i n h) refl
+
+-- a reader of queries less high
+abbrev pub ReadsQuery : ℕ → Reader Query → Type 0
+ReadsQuery d below = (s : Source) (i : Input) (b : List ℕ) → is_query s ≡ true → is_source s ≡ true → source_height s < d → Leads i.ahead (source_symbols s) b → Ends b
+    → below i ≡ Ok (query_meant s, at i b (max i.height (source_height s + 1)))
+
+same_at : {A : Type 0} (a : A) (i : Input) (b : List ℕ) (m n : ℕ) → m ≡ n → ◌≡◌ {A = Outcome A} (Ok (a, at i b m)) (Ok (a, at i b n))
+same_at a i b m n e = ap (λ x. Ok (a, at i b x)) e
+
+some_deep : (d : ℕ) → 1 ≤ d → (d == 0) ≡ false
+some_deep d h = grind arith
+
+close_at : (i : Input) (a b : List ℕ) (h : ℕ) → (next (at (next i) a (max (next i).height h))).ahead ≡ b → next (at (next i) a (max (next i).height h)) ≡ at i b (max i.height h)
+unfolding next
+close_at i a b h e = ap (λ x. at i x (max i.height h)) e
+
+joined_at_end : (i : Input) (a c b : List ℕ) (l r h : ℕ) → max (l + 1) r ≡ h
+    → at (next (at (next (risen (at i a l))) c (max (next (risen (at i a l))).height r))) b (next (at (next (risen (at i a l))) c (max (next (risen (at i a l))).height r))).height ≡ at i b h
+unfolding next
+joined_at_end i a c b l r h e = ap (λ x. at i b x) e
+
+select_end : (i : Input) (a c b : List ℕ) (h n : ℕ) → max i.height h ≡ n
+    → at (at (record (next (at (next i) a (next i).height)) { height = 0 }) c (max (next (at (next i) a (next i).height)).height h)) b (max (next (at (next i) a (next i).height)).height h) ≡ at i b n
+unfolding next
+select_end i a c b h n e = ap (λ x. at i b x) e
+
+leads_both : (s t : List Symbol) (a b c : List ℕ) → Leads a s b → Leads b t c → Leads a (s ++ t) c
+leads_both s t a b c h g = leads_on h g
+
+-- past a token, a level higher
+leads_up : (i : Input) (c : Kind) (symbols : List Symbol) (b : List ℕ) → Leads i.ahead (mark c ∷ symbols) b → Next i (mark c) × Leads (risen i).ahead symbols b
+unfolding next
+leads_up i c symbols b h = let l = leads_next i (mark c) symbols b h in (l.0, l.1)
+
+side_low : {d : ℕ} (s : Source) → source_height s < d → side_height s ≤ d
+side_low (whole_table n) h = omega arith
+side_low (query_of names from on) h = omega arith
+side_low (both_of kind_seen l r on) h = omega arith
+
+plain_low : {d : ℕ} (s : Source) → is_query s ≡ false → side_height s ≤ d
+plain_low {d} s e = let none : side_height s ≡ 0 = ap (λ t. if t then source_height s + 1 else 0) e in omega arith
+
+plain_leads : (s : Source) (a b : List ℕ) → is_query s ≡ false → Leads a (source_symbols s) b → Leads a (in_brackets s (source_symbols s)) b
+plain_leads (whole_table n) a b e h = h
+plain_leads (both_of kind_seen l r on) a b e h = h
+plain_leads (query_of names from on) a b e h = absurd (cc)
+
+module _ (d : ℕ) (below : Reader Query) (reads : ReadsQuery d below) where
+  side_read : (s : Source) (i : Input) (b : List ℕ) → is_join s ≡ false → is_source s ≡ true → side_height s ≤ d → Leads i.ahead (in_brackets s (source_symbols s)) b
+      → side d below i ≡ Ok (query_meant s, at i b (max i.height (side_height s)))
+  unfolding side bracketed_query
+  side_read (whole_table n) i b no_join rules low h =
+      let l = leads_next i (named n) [] b h in
+      let off = sees_no k.Open i (λ e. let f : is_name (kind i) ≡ false = ap is_name e in let g : is_name (kind i) ≡ true = (named_here i n l.0).0 in let both : true ≡ false = sym g ∙ f in cc) in
+      let level : i.height ≡ max i.height 0 = omega arith in
+      ap (λ t. if t then bracketed_query d below i else table_named i) off ∙ table_read n i l.0 ∙ ap (λ y. Ok (table n no_clauses, y)) (next_at i b (max i.height 0) l.1.spans level)
+  side_read (query_of names from on) i b no_join rules low h =
+      let s = query_of names from on in
+      let l = leads_next i (mark k.Open) (source_symbols s ++ mark k.Close ∷ []) b h in
+      let m = next i in
+      let p = leads_split (source_symbols s) (mark k.Close ∷ []) m.ahead b l.1 in
+      let place = at m p.0 (max m.height (source_height s + 1)) in
+      let c = leads_next place (mark k.Close) [] b p.2 in
+      let is = mark_kind {i = place} {other = k.Close} c.0 (λ x. cc) in
+      let opens = mark_kind {i = i} {other = k.Open} l.0 (λ x. cc) in
+      ap (λ t. if t then bracketed_query d below i else table_named i) (sees_yes k.Open i opens)
+      ∙ ap (λ t. if t then Err (refusal expected.FewerLevels i) else reading.in_brackets d below i) (some_deep d (omega arith))
+      ∙ then_read _ (reads s m p.0 refl rules (omega arith) p.1 (inr (sym (kind_at place p.0 refl) ∙ is)))
+      (then_read _ (expect_read k.Close expected.CloseBracket place is) (ap (λ y. Ok (query_meant s, y)) (close_at i p.0 b (source_height s + 1) c.1.spans)))
+  side_read (both_of kind_seen l r on) i b no_join rules low h = absurd (cc)
+
+  -- ---- joins
+
+  joined_read : (kind_seen : JoinKind) (l r : Source) (on : Phrase) (i : Input) (a b : List ℕ) → kind (at i a (source_height l)) ≡ join_mark kind_seen
+      → Leads (risen (at i a (source_height l))).ahead ((mark k.Join ∷ in_brackets r (source_symbols r)) ++ mark k.On ∷ phrase_symbols on) b
+      → is_source r ≡ true → is_join r ≡ false → is_where (Some on) ≡ true → source_height l < d → source_height r < d → binds (first_kind b) ≡ 0 → (first_kind b ≡ k.Dot → ⊥)
+      → joined d below (query_meant l) (at i a (source_height l)) ≡ Ok (query_meant (both_of kind_seen l r on), at i b (max (source_height l) (source_height r) + 1))
+  unfolding joined
+  joined_read kind_seen l r on i a b is h rules no_join good left right loose no_dot =
+      let m = at i a (source_height l) in
+      let up = risen m in
+      let level = risen_height m in
+      let high = side_high r no_join in
+      let w = leads_next up (mark k.Join) (in_brackets r (source_symbols r) ++ mark k.On ∷ phrase_symbols on) b h in
+      let word = mark_kind {i = up} {other = k.Join} w.0 (λ x. cc) in
+      let p = leads_split (in_brackets r (source_symbols r)) (mark k.On ∷ phrase_symbols on) (next up).ahead b w.1 in
+      let past = at (next up) p.0 (max (next up).height (side_height r)) in
+      let o = leads_next past (mark k.On) (phrase_symbols on) b p.2 in
+      let on_word = mark_kind {i = past} {other = k.On} o.0 (λ x. cc) in
+      let same : join kind_seen (query_meant l) (query_meant r) (expression_of on) no_clauses ≡ joined_by (kind m) (query_meant l) (query_meant r) (expression_of on) = join_value kind_seen m (query_meant l) (query_meant r) (expression_of on) is in
+      risen_then d (join_rest d below (query_meant l) (kind m)) m left
+      ∙ then_read _ (expect_read k.Join expected.Join up word)
+      (then_read _ (side_read r (next up) p.0 no_join rules (omega arith) p.1)
+      (then_read _ (expect_read k.On expected.On past on_word)
+      (then_read _ (condition_read on (next past) b o.1 (both_left _ _ good) (leb-true _ 200 (both_right _ _ good)) loose no_dot)
+      (ap (λ q. Ok (q, at (next past) b (next past).height)) (sym same)
+      ∙ ap (λ y. Ok (join kind_seen (query_meant l) (query_meant r) (expression_of on) no_clauses, y)) (joined_at_end i a p.0 b (source_height l) (side_height r) (max (source_height l) (source_height r) + 1) (omega arith))))))
+
+  pub record SourceReached (s : Source) (i : Input) (b : List ℕ) : Type 0 where
+    pub turns_left : ℕ
+    pub enough : length b ≤ turns_left
+    pub read : source d below i ≡ joins_from d below turns_left (query_meant s) (at i b (source_height s))
+
+  reached : (kind_seen : JoinKind) (l r : Source) (on : Phrase) (i : Input) (a b : List ℕ) (symbols : List Symbol) → Leads a (mark (join_mark kind_seen) ∷ symbols) b → kind (at i a (source_height l)) ≡ join_mark kind_seen
+      → joined d below (query_meant l) (at i a (source_height l)) ≡ Ok (query_meant (both_of kind_seen l r on), at i b (max (source_height l) (source_height r) + 1))
+      → (n : ℕ) → length a ≤ n → source d below i ≡ joins_from d below n (query_meant l) (at i a (source_height l)) → SourceReached (both_of kind_seen l r on) i b
+  unfolding joins_from
+  reached kind_seen l r on i a b symbols h is o zero short e = let fewer = spans_shorter (mark (join_mark kind_seen) ∷ symbols) a b h.spans in absurd (omega arith)
+  reached kind_seen l r on i a b symbols h is o (suc n) short e =
+      let fewer = spans_shorter (mark (join_mark kind_seen) ∷ symbols) a b h.spans in
+      let m = at i a (source_height l) in
+      record {
+        turns_left = n;
+        enough = omega arith;
+        read = e ∙ ap (λ t. if t then (joined d below (query_meant l) >>= joins_from d below n) m else Ok (query_meant l, m)) (join_seen kind_seen m is) ∙ then_read _ o refl;
+      }
+
+  source_reached : (s : Source) (i : Input) (b : List ℕ) → is_source s ≡ true → source_height s ≤ d → side_height s ≤ d → i.height ≡ 0 → Leads i.ahead (in_brackets s (source_symbols s)) b
+      → (is_query s ≡ true → sees_join (at i b (source_height s)) ≡ true) → binds (first_kind b) ≡ 0 → (first_kind b ≡ k.Dot → ⊥) → SourceReached s i b
+  unfolding source joins left
+  source_reached (whole_table n) i b rules low room flat h more loose no_dot =
+      let l = leads_next i (named n) [] b h in
+      record {
+        turns_left = length b;
+        enough = omega arith;
+        read = ap (λ t. if t then (table_named >>= joins d below) i else first_bracketed d below i) (named_here i n l.0).0
+            ∙ then_read _ (table_read n i l.0) (ap (joins d below (table n no_clauses)) (next_at i b 0 l.1.spans flat));
+      }
+  source_reached (query_of names from on) i b rules low room flat h more loose no_dot =
+      let s = query_of names from on in
+      let l = leads_next i (mark k.Open) (source_symbols s ++ mark k.Close ∷ []) b h in
+      let opens = mark_kind {i = i} {other = k.Open} l.0 (λ x. cc) in
+      let lowered : max i.height (source_height s + 1) - 1 ≡ source_height s = omega arith in
+      let m = at i b (source_height s) in
+      record {
+        turns_left = length b;
+        enough = omega arith;
+        read = ap (λ t. if t then (table_named >>= joins d below) i else first_bracketed d below i) (not_name i k.Open opens refl)
+            ∙ then_read _ (side_read s i b refl rules room h)
+            (ap (λ x. joins_behind d below (query_meant s) (at i b x)) lowered
+            ∙ ap (λ t. if t then joins d below (query_meant s) m else Err (refusal expected.JoinKind m)) (more refl));
+      }
+  source_reached (both_of kind_seen l r on) i b rules low room flat h more loose no_dot =
+      let outer = leads_split (in_brackets l (source_symbols l) ++ mark (join_mark kind_seen) ∷ mark k.Join ∷ in_brackets r (source_symbols r)) (mark k.On ∷ phrase_symbols on) i.ahead b h in
+      let inner = leads_split (in_brackets l (source_symbols l)) (mark (join_mark kind_seen) ∷ mark k.Join ∷ in_brackets r (source_symbols r)) i.ahead outer.0 outer.1 in
+      let a = inner.0 in
+      let rest = leads_both (mark (join_mark kind_seen) ∷ mark k.Join ∷ in_brackets r (source_symbols r)) (mark k.On ∷ phrase_symbols on) a outer.0 b inner.2 outer.2 in
+      let m = at i a (source_height l) in
+      let n = leads_up m (join_mark kind_seen) ((mark k.Join ∷ in_brackets r (source_symbols r)) ++ mark k.On ∷ phrase_symbols on) b rest in
+      let is = mark_kind {i = m} {other = join_mark kind_seen} n.0 (join_known kind_seen) in
+      let first : first_kind a ≡ join_mark kind_seen = sym (kind_at m a refl) ∙ is in
+      let where_part = both_right _ _ rules in
+      let parts = both_left _ _ rules in
+      let no_join = denied _ (both_right _ _ parts) in
+      let sides = both_left _ _ parts in
+      let high = side_low l (omega arith) in
+      let before = source_reached l i a (both_left _ _ sides) (omega arith) high flat inner.1 (λ e. join_seen kind_seen m is) (ap binds first ∙ join_loose kind_seen) (λ e. join_no_dot kind_seen (sym first ∙ e)) in
+      reached kind_seen l r on i a b ((mark k.Join ∷ in_brackets r (source_symbols r)) ++ mark k.On ∷ phrase_symbols on) rest is
+      (joined_read kind_seen l r on i a b is n.1 (both_right _ _ sides) no_join where_part (omega arith) (omega arith) loose no_dot) before.turns_left before.enough before.read
+
+  joins_stop : (n : ℕ) (q : Query) (m : Input) → sees_join m ≡ false → joins_from d below n q m ≡ Ok (q, m)
+  unfolding joins_from
+  joins_stop zero q m e = refl
+  joins_stop (suc n) q m e = ap (λ t. if t then (joined d below q >>= joins_from d below n) m else Ok (q, m)) e
+
+  -- ---- queries
+
+  select_read : (names : List ColumnName) (s : Source) (on : Option Phrase) (i : Input) (b : List ℕ) → d ≤ 200 → is_source (query_of names s on) ≡ true → source_height s ≤ d → Leads i.ahead (source_symbols (query_of names s on)) b → Ends b
+      → select d below i ≡ Ok (query_meant (query_of names s on), at i b (max i.height (source_height s + 1)))
+  unfolding select narrowed
+  select_read names s on i b deep rules low h end =
+      let good = both_right _ _ rules in
+      let parts = both_left _ _ rules in
+      let no_query = denied _ (both_right _ _ parts) in
+      let l = leads_next i (mark k.Select) ((column_symbols names ++ mark k.From ∷ source_symbols s) ++ where_symbols on) b h in
+      let m = next i in
+      let outer = leads_split (column_symbols names ++ mark k.From ∷ source_symbols s) (where_symbols on) m.ahead b l.1 in
+      let inner = leads_split (column_symbols names) (mark k.From ∷ source_symbols s) m.ahead outer.0 outer.1 in
+      let cols = at m inner.0 m.height in
+      let f = leads_next cols (mark k.From) (source_symbols s) outer.0 inner.2 in
+      let from = mark_kind {i = cols} {other = k.From} f.0 (λ x. cc) in
+      let flat = record (next cols) { height = 0 } in
+      let place = at flat outer.0 (source_height s) in
+      let tail = outer.2 in
+      let unseen = join_unseen place (where_other on place b k.Inner tail end (λ x. cc) (λ x. cc) (λ x. cc)) (where_other on place b k.Left tail end (λ x. cc) (λ x. cc) (λ x. cc)) in
+      let reached_source = source_reached s flat outer.0 (both_left _ _ parts) low (plain_low s no_query) refl (plain_leads s flat.ahead outer.0 no_query f.1) (λ e. let g : true ≡ false = sym e ∙ no_query in cc)
+      (ap binds (sym (kind_at place outer.0 refl)) ∙ where_loose on place b tail end)
+      (λ e. where_other on place b k.Dot tail end (λ x. cc) (λ x. cc) (λ x. cc) (kind_at place outer.0 refl ∙ e)) in
+      let o = option_map expression_of on in
+      let left_at = at flat outer.0 (max (next cols).height (min (source_height s + 1) (2 ^ 64 - 1))) in
+      let read_where = where_read (narrowed_query (query_meant s)) (query_meant s) on left_at b good tail (ends_loose b end) (ends_other b k.Dot end (λ x. cc) (λ x. cc)) (ends_other b k.Where end (λ x. cc) (λ x. cc)) in
+      let capped : max i.height (min (source_height s + 1) (2 ^ 64 - 1)) ≡ max i.height (source_height s + 1) = omega arith in
+      then_read _ (expect_read k.Select expected.Select i (mark_kind l.0 (λ x. cc)))
+      (then_read _ (selected_read names m inner.0 inner.1 (sym (kind_at cols inner.0 refl) ∙ from))
+      (then_read _ (expect_read k.From expected.From cols from)
+      (then_read _ (reached_source.read ∙ joins_stop reached_source.turns_left (query_meant s) place unseen)
+      (then_read _ read_where
+      (ap (λ q. Ok (projected_query q (map bytes_of names), at left_at b left_at.height)) (narrowed_is (query_meant s) o)
+      ∙ ap (λ y. Ok (query_meant (query_of names s on), y)) (select_end i inner.0 outer.0 b (min (source_height s + 1) (2 ^ 64 - 1)) (max i.height (source_height s + 1)) capped))))))
+
+pub query_read : (d : ℕ) → d ≤ 201 → ReadsQuery d (query d)
+unfolding query
+query_read zero deep s i b is rules low h end = absurd (omega arith)
+query_read (suc d) deep (query_of names s on) i b is rules low h end = select_read d (query d) (query_read d (omega arith)) names s on i b (omega arith) rules (omega arith) h end
+query_read (suc d) deep (whole_table n) i b is rules low h end = absurd (cc)
+query_read (suc d) deep (both_of kind_seen l r on) i b is rules low h end = absurd (cc)
+
+pub select_spells : (text : List ℕ) (q : Query) → SpellsSelect text q → whole (query 201) text ≡ Ok q
+select_spells text q s =
+    let high = s.height in
+    let read = query_read 201 (omega arith) s.source (start_of text) s.symbols.rest (both_left _ _ s.rules) (both_right _ _ s.rules) (omega arith) (record { spans = s.symbols.spans }) (inl (end_kind s.symbols.rest s.symbols.end)) in
+    whole_read (query 201) text _ _ read s.symbols.end ∙ ap Ok s.value

@@ -1,0 +1,92 @@
+//! Laws of the definitions themselves: each is the contract of a function without a body.
+
+ghost use Rattle.msi_query_parse.specs.Agreement.{Agrees, SpellsOne, SpellsStatement};
+ghost use Rattle.msi_query_parse.specs.Grammar.{SpellsDelete, SpellsExpression, SpellsInsert};
+ghost use Rattle.msi_query_parse.specs.Grammar.{SpellsSelect, SpellsUpdate};
+ghost use Rattle.msi_query_parse.specs.Reading.{condition, delete, insert, query, statement, update};
+ghost use Rattle.msi_query_parse.specs.Symbols.{TextsHaveOneListOfSymbols};
+ghost use Rattle.msi_query_parse.specs.Printed.{PrintedExpressionsAreReadBack, PrintedSelectsAreReadBack};
+ghost use Rattle.msi_query_parse.specs.Printed.{PrintedInsertsAreReadBack, PrintedUpdatesAreReadBack};
+ghost use Rattle.msi_query_parse.specs.Printed.{PrintedDeletesAreReadBack};
+ghost use Rattle.msi_query_parse.specs.Printed.{ExpressionsThatPrintAlikeAreOne, SelectsThatPrintAlikeAreOne};
+
+/// No text has two lists of symbols, so what it spells is a matter of the grammar alone.
+pub fn texts_have_one_list_of_symbols()
+    ensures { TextsHaveOneListOfSymbols }
+{}
+
+/// An expression is read from a text exactly if the text spells it, and no text spells two.
+pub fn expressions_are_read_as_spelled()
+    ensures agrees { Agrees condition SpellsExpression }
+    ensures one { SpellsOne SpellsExpression }
+{}
+
+/// A query for rows is read from a text exactly if the text spells it, and no text spells two.
+pub fn selects_are_read_as_spelled()
+    ensures agrees { Agrees (query 201) SpellsSelect }
+    ensures one { SpellsOne SpellsSelect }
+{}
+
+/// A query that inserts rows is read from a text exactly if the text spells it, and no text spells two.
+pub fn inserts_are_read_as_spelled()
+    ensures agrees { Agrees insert SpellsInsert }
+    ensures one { SpellsOne SpellsInsert }
+{}
+
+/// A query that changes rows is read from a text exactly if the text spells it, and no text spells two.
+pub fn updates_are_read_as_spelled()
+    ensures agrees { Agrees update SpellsUpdate }
+    ensures one { SpellsOne SpellsUpdate }
+{}
+
+/// A query that removes rows is read from a text exactly if the text spells it, and no text spells two.
+pub fn deletes_are_read_as_spelled()
+    ensures agrees { Agrees delete SpellsDelete }
+    ensures one { SpellsOne SpellsDelete }
+{}
+
+/// A query of any kind is read from a text exactly if the text spells it, and no text spells two.
+pub fn statements_are_read_as_spelled()
+    ensures agrees { Agrees statement SpellsStatement }
+    ensures one { SpellsOne SpellsStatement }
+{}
+
+/// What an expression prints spells that expression, if it is one that the constructors made, its columns have names
+/// that are Identifiers and no key words, and it has at most 200 levels of operators and brackets.
+pub fn printed_expressions_are_read_back()
+    ensures { PrintedExpressionsAreReadBack }
+{}
+
+/// What a query for rows prints spells that query, if its tables and columns have names that are Identifiers and no key
+/// words, its conditions are readable as `printed_expressions_are_read_back` has it, and it has at most 200 levels of
+/// joins.
+pub fn printed_selects_are_read_back()
+    ensures { PrintedSelectsAreReadBack }
+{}
+
+/// What an insert prints spells that insert, if its table has a name that is an Identifier and no key word.
+pub fn printed_inserts_are_read_back()
+    ensures { PrintedInsertsAreReadBack }
+{}
+
+/// What an update prints spells that update, if its table and columns have names that are Identifiers and no key words,
+/// and its condition is readable.
+pub fn printed_updates_are_read_back()
+    ensures { PrintedUpdatesAreReadBack }
+{}
+
+/// What a delete prints spells that delete, if its table has a name that is an Identifier and no key word, and its
+/// condition is readable.
+pub fn printed_deletes_are_read_back()
+    ensures { PrintedDeletesAreReadBack }
+{}
+
+/// Two readable expressions that print the same text are equal.
+pub fn expressions_that_print_alike_are_one()
+    ensures { ExpressionsThatPrintAlikeAreOne }
+{}
+
+/// Two readable queries for rows that print the same text are equal.
+pub fn selects_that_print_alike_are_one()
+    ensures { SelectsThatPrintAlikeAreOne }
+{}

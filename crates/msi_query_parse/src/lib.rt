@@ -1,0 +1,25 @@
+//! Reads queries and expressions from text: what they print, and what people write.
+//!
+//! `Select::parse(alloc, "SELECT Name FROM Users WHERE Age >= 18")` returns the query for these rows. A text that
+//! spells no query is refused with the byte at which it stops to be one, and with what was expected there.
+#![tactic(auto)]
+
+mod expressions;
+mod grammar;
+pub mod laws;
+mod lex;
+mod names;
+mod operators;
+mod parse;
+mod queries;
+pub mod refusal;
+mod sources;
+mod statement;
+mod texts;
+mod token;
+mod tokens;
+mod values;
+
+pub use parse::Parse;
+pub use refusal::{Expected, ParseError, Refused};
+pub use statement::Statement;

@@ -1,0 +1,96 @@
+//! Names of tables and columns.
+
+ghost use Rattle.std.specs.Prelude.{◌≡◌, ◌++◌, ◌∷◌, [], IfOk};
+ghost use Rattle.msi_query_parse.specs.Input.{Reads};
+ghost use Rattle.msi_query_parse.specs.Reading as spec;
+
+use crate::refusal::{Expected, ParseError};
+use crate::texts::text;
+use crate::token::Kind;
+use crate::tokens::Tokens;
+use msi_text::{Items, Text};
+use std::alloc::{AllocError, Global};
+
+/// Whether a token is a name.
+pub(crate) fn is_name(kind: Kind) -> bool
+    ensures { result ≡ spec.is_name kind }
+{
+    matches!(kind, Kind::Name | Kind::QuotedName)
+}
+
+/// Reads a name.
+#[tactic(auto, unfolding(crate::specs::Reading::name))]
+pub(crate) fn name(
+    alloc: Global,
+    tokens: &mut Tokens<'_>,
+    expected: Expected,
+) -> Result<Text, ParseError>
+    ensures { Reads (spec.name expected tokens.old) result tokens.new }
+{
+    if is_name(tokens.peek()) {
+        text(alloc, tokens)
+    } else {
+        Err(tokens.refuse(expected))
+    }
+}
+
+/// Two names with a full stop between them.
+fn dotted(table: Text, column: &Text) -> Result<Text, AllocError>
+    ensures { IfOk result (λ name. name ≡ spec.dotted table column.now) }
+{
+    let mut name = table.into_string();
+    name.push_str(".")?;
+    name.push_str(column.as_str())?;
+    Ok(Text::from_string(name))
+}
+
+/// Reads the name of a column, which may be that of a table, a full stop and its own.
+#[tactic(auto, unfolding(crate::specs::Reading::column))]
+pub(crate) fn column(
+    alloc: Global,
+    tokens: &mut Tokens<'_>,
+    expected: Expected,
+) -> Result<Text, ParseError>
+    ensures { Reads (spec.column expected tokens.old) result tokens.new }
+{
+    let first = name(alloc, tokens, expected)?;
+    if !tokens.eat(Kind::Dot) {
+        return Ok(first);
+    }
+    let second = name(alloc, tokens, Expected::Name)?;
+    Ok(dotted(first, &second)?)
+}
+
+/// Adds a name.
+fn with_name(names: Items<Text>, name: Text) -> Result<Items<Text>, AllocError>
+    ensures { IfOk result (λ all. all ≡ names ++ name ∷ []) }
+{
+    let mut names = names.into_vec();
+    names.push(name)?;
+    Ok(Items::from_vec(names))
+}
+
+/// Reads names of columns, one or more, with commas between them.
+fn columns(alloc: Global, tokens: &mut Tokens<'_>) -> Result<Items<Text>, ParseError>
+    ensures { Reads (spec.columns tokens.old) result tokens.new }
+{
+    let mut found = Items::from_vec(Vec::new(alloc));
+    for _turn in 0..tokens.left() {
+        found = with_name(found, column(alloc, tokens, Expected::Columns)?)?;
+        if !tokens.eat(Kind::Comma) {
+            return Ok(found);
+        }
+    }
+    Err(tokens.refuse(Expected::Columns))
+}
+
+/// Reads the columns that are selected: none for a star.
+#[tactic(auto, unfolding(crate::specs::Reading::selected))]
+pub(crate) fn selected(alloc: Global, tokens: &mut Tokens<'_>) -> Result<Items<Text>, ParseError>
+    ensures { Reads (spec.selected tokens.old) result tokens.new }
+{
+    if tokens.eat(Kind::Star) {
+        return Ok(Items::from_vec(Vec::new(alloc)));
+    }
+    columns(alloc, tokens)
+}

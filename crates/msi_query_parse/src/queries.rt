@@ -1,0 +1,110 @@
+//! Queries that change rows.
+
+ghost use Rattle.msi_query_parse.specs.Input.{Reads};
+ghost use Rattle.msi_query_parse.specs.Reading as spec;
+
+use crate::grammar::condition;
+use crate::names::{column, name};
+use crate::refusal::{Expected, ParseError};
+use crate::token::Kind;
+use crate::tokens::Tokens;
+use crate::values::{row, value};
+use msi_query::{Delete, Insert, Update};
+use std::alloc::Global;
+
+/// Reads rows, one or more, with commas between them.
+fn rows(alloc: Global, tokens: &mut Tokens<'_>, mut query: Insert) -> Result<Insert, ParseError>
+    ensures { Reads (spec.rows query tokens.old) result tokens.new }
+{
+    for _turn in 0..tokens.left() {
+        query = query.row(row(alloc, tokens)?.into_vec())?;
+        if !tokens.eat(Kind::Comma) {
+            return Ok(query);
+        }
+    }
+    Err(tokens.refuse(Expected::OpenBracket))
+}
+
+/// Reads a query that inserts rows.
+#[tactic(auto, unfolding(crate::specs::Reading::insert))]
+pub(crate) fn insert(alloc: Global, tokens: &mut Tokens<'_>) -> Result<Insert, ParseError>
+    ensures { Reads (spec.insert tokens.old) result tokens.new }
+{
+    tokens.expect(Kind::Insert, Expected::Insert)?;
+    tokens.expect(Kind::Into, Expected::Into)?;
+    let table = name(alloc, tokens, Expected::Name)?;
+    let query = Insert::into(alloc, table.as_str())?;
+    if !tokens.eat(Kind::Values) {
+        return Ok(query);
+    }
+    rows(alloc, tokens, query)
+}
+
+/// Reads a column and its new value.
+#[tactic(auto, unfolding(crate::specs::Reading::assignment))]
+fn assignment(alloc: Global, tokens: &mut Tokens<'_>, query: Update) -> Result<Update, ParseError>
+    ensures { Reads (spec.assignment query tokens.old) result tokens.new }
+{
+    let column = column(alloc, tokens, Expected::Name)?;
+    tokens.expect(Kind::Eq, Expected::Equals)?;
+    let value = value(alloc, tokens)?;
+    Ok(query.set(column.as_str(), value)?)
+}
+
+/// Reads assignments, one or more, with commas between them.
+fn assignments(
+    alloc: Global,
+    tokens: &mut Tokens<'_>,
+    mut query: Update,
+) -> Result<Update, ParseError>
+    ensures { Reads (spec.assignments query tokens.old) result tokens.new }
+{
+    for _turn in 0..tokens.left() {
+        query = assignment(alloc, tokens, query)?;
+        if !tokens.eat(Kind::Comma) {
+            return Ok(query);
+        }
+    }
+    Err(tokens.refuse(Expected::Name))
+}
+
+/// Reads what an update sets, if it sets something.
+#[tactic(auto, unfolding(crate::specs::Reading::sets))]
+fn sets(alloc: Global, tokens: &mut Tokens<'_>, query: Update) -> Result<Update, ParseError>
+    ensures { Reads (spec.sets query tokens.old) result tokens.new }
+{
+    if !tokens.eat(Kind::Set) {
+        return Ok(query);
+    }
+    assignments(alloc, tokens, query)
+}
+
+/// Reads a query that changes rows.
+#[tactic(auto, unfolding(crate::specs::Reading::update))]
+pub(crate) fn update(alloc: Global, tokens: &mut Tokens<'_>) -> Result<Update, ParseError>
+    ensures { Reads (spec.update tokens.old) result tokens.new }
+{
+    tokens.expect(Kind::Update, Expected::Update)?;
+    let table = name(alloc, tokens, Expected::Name)?;
+    let query = Update::table(alloc, table.as_str())?;
+    let query = sets(alloc, tokens, query)?;
+    if !tokens.eat(Kind::Where) {
+        return Ok(query);
+    }
+    Ok(query.with(condition(alloc, tokens)?)?)
+}
+
+/// Reads a query that removes rows.
+#[tactic(auto, unfolding(crate::specs::Reading::delete))]
+pub(crate) fn delete(alloc: Global, tokens: &mut Tokens<'_>) -> Result<Delete, ParseError>
+    ensures { Reads (spec.delete tokens.old) result tokens.new }
+{
+    tokens.expect(Kind::Delete, Expected::Delete)?;
+    tokens.expect(Kind::From, Expected::From)?;
+    let table = name(alloc, tokens, Expected::Name)?;
+    let query = Delete::from(alloc, table.as_str())?;
+    if !tokens.eat(Kind::Where) {
+        return Ok(query);
+    }
+    Ok(query.with(condition(alloc, tokens)?)?)
+}
