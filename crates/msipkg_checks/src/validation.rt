@@ -1,0 +1,58 @@
+//! Rows of `_Validation` for columns that aren't there.
+
+use crate::faults::Faults;
+use msi::{Package, Row, Rows, Select, Source, Value};
+use msipkg_output::Failure;
+use std::alloc::Global;
+
+/// Finds the rows of `_Validation` for columns that aren't in their tables. Those of tables that aren't there are no
+/// faults: many tools put in the rows of all standard tables.
+///
+/// # Errors
+/// Fails with `OutOfMemory`.
+pub(crate) fn check_validation<F: Source>(
+    alloc: Global,
+    package: &Package<F>,
+    faults: &mut Faults,
+) -> Result<(), Failure> {
+    let query = Select::table(alloc, "_Validation")?.columns(&["Table", "Column"])?;
+    match package.select_rows(query) {
+        Ok(rows) => check_rows(package, rows, faults),
+        Err(_) => Ok(()),
+    }
+}
+
+/// Finds such rows.
+fn check_rows<F: Source>(
+    package: &Package<F>,
+    rows: Rows<'_>,
+    faults: &mut Faults,
+) -> Result<(), Failure> {
+    for row in rows {
+        check_row(package, &row?, faults)?;
+    }
+    Ok(())
+}
+
+/// Adds a fault if the row's column isn't in its table.
+fn check_row<F: Source>(
+    package: &Package<F>,
+    row: &Row,
+    faults: &mut Faults,
+) -> Result<(), Failure> {
+    if row.len() < 2 {
+        return Ok(());
+    }
+    let (Value::Str(table), Value::Str(column)) = (&row[0], &row[1]) else {
+        return Ok(());
+    };
+    match package.get_table(table.as_str()) {
+        Some(found) if !found.has_column(column.as_str()) => {
+            let what = "_Validation describes it, and the table hasn't got it";
+            let name = column.as_str();
+            faults.of_column(table.as_str(), name, what)?;
+            Ok(())
+        }
+        _ => Ok(()),
+    }
+}
