@@ -1,0 +1,27 @@
+//! Why texts and archives are refused: a sentence for each rule.
+
+use msi_text::Reason;
+
+pub(crate) const LINES_FEW: Reason = Reason(
+    "the names of the columns, their types and the name of the table were expected",
+);
+
+pub(crate) const TYPES_OTHER: Reason = Reason("a type for each column was expected");
+
+pub(crate) const TEXT_FIELD: Reason = Reason(
+    "a text was expected that isn't empty and has no control character that has to be replaced",
+);
+
+pub(crate) const TYPE_FIELD: Reason = Reason(
+    "a type was expected: s or l with a width, i2, i4 or v0, in upper case where null is taken",
+);
+
+pub(crate) const TABLE_MISSING: Reason = Reason("a table's name was expected behind the code page");
+
+pub(crate) const NUMBER_FIELD: Reason = Reason("a number of 32 bits was expected");
+
+pub(crate) const ROW_OTHER: Reason = Reason("a field for each column was expected");
+
+pub(crate) const NO_TEXT: Reason = Reason(
+    "a part of the archive has no text that reads back as it",
+);
