@@ -1,18 +1,19 @@
 -- What follows for calls where reading and the grammar agree, and that they agree on queries of any kind.
 use Rattle.std.proofs.Common.{◌≡◌, ℕ, true, List, ◌∷◌, ◌++◌, Result, Ok, Err, IfOk, refl, sym, ◌∙◌, ap, subst}
 use Rattle.msi_query.specs.Queries.{Query, InsertQuery, UpdateQuery, DeleteQuery}
-use Rattle.msi_query_parse.specs.declared.token.Kind.{Kind}
-use Rattle.msi_query_parse.specs.declared.token.Kind.TheVariants as k
-use Rattle.msi_query_parse.specs.declared.refusal.Expected.TheVariants as expected
-use Rattle.msi_query_parse.specs.declared.refusal.ParseError.{ParseError}
+use Rattle.msi_query_tokens.specs.declared.token.Kind.{Kind}
+use Rattle.msi_query_tokens.specs.declared.token.Kind.TheVariants as k
+use Rattle.msi_query_tokens.specs.declared.refusal.Expected.TheVariants as expected
+use Rattle.msi_query_tokens.specs.declared.refusal.ParseError.{ParseError}
+use Rattle.msi_query_tokens.specs.Input.{Input, Reader, and_then, pure, kind, refusal, start_of}
+use Rattle.msi_query_tokens.specs.Symbols.{mark, named}
+use Rattle.msi_query_tokens.proofs.StepLemmas.{Leads, then_ok, ok_is, ok_value, ok_place, refused}
 use Rattle.msi_query_parse.specs.declared.statement.Statement.{Statement}
 use Rattle.msi_query_parse.specs.declared.statement.Statement.TheVariants as any
-use Rattle.msi_query_parse.specs.Input.{Input, Reader, and_then, pure, kind, refusal, start_of}
 use Rattle.msi_query_parse.specs.Reading.{whole, Gives, condition, query, insert, update, delete, statement_by, statement}
-use Rattle.msi_query_parse.specs.Symbols.{mark, named}
 use Rattle.msi_query_parse.specs.Grammar.{Source, whole as whole_table, both_of, query_of, is_query, source_symbols, rows_symbols, sets_symbols, where_symbols, column_symbols, SpellsExpression, SpellsSelect, SpellsInsert, SpellsUpdate, SpellsDelete}
 use Rattle.msi_query_parse.specs.Agreement.{SpellsStatement, Agrees, SpellsOne, RefusesUnspelled}
-use Rattle.msi_query_parse.proofs.Steps.{Leads, then_ok, ok_is, ok_value, ok_place, refused, whole_ok}
+use Rattle.msi_query_parse.proofs.Wholes.{whole_ok}
 use Rattle.msi_query_parse.proofs.NamesRead.{leads_next, then_read, mark_kind, whole_read}
 use Rattle.msi_query_parse.proofs.ExpressionsRead.{both_left, expression_spells}
 use Rattle.msi_query_parse.proofs.ExpressionsSpelled.{expression_spelled}

@@ -4,15 +4,15 @@ use Rattle.std.specs.List.{list_all}
 use Rattle.std.proofs.lemmas.Bool.{leb-true}
 use Rattle.msi_query_expressions.specs.Expressions.{Expression}
 use Rattle.msi_query.specs.Queries.{InsertQuery, UpdateQuery, DeleteQuery}
-use Rattle.msi_query_parse.specs.declared.token.Kind.{Kind}
-use Rattle.msi_query_parse.specs.declared.token.Kind.TheVariants as k
-use Rattle.msi_query_parse.specs.declared.refusal.Expected.TheVariants as expected
-use Rattle.msi_query_parse.specs.Input.{Input, ◌<$>◌, pure, kind, next, sees, after, left, start_of}
+use Rattle.msi_query_tokens.specs.declared.token.Kind.{Kind}
+use Rattle.msi_query_tokens.specs.declared.token.Kind.TheVariants as k
+use Rattle.msi_query_tokens.specs.declared.refusal.Expected.TheVariants as expected
+use Rattle.msi_query_tokens.specs.Input.{Input, ◌<$>◌, pure, kind, next, sees, after, left, start_of}
+use Rattle.msi_query_tokens.specs.Symbols.{Symbol, mark, named}
+use Rattle.msi_query_tokens.proofs.StepLemmas.{Leads, after_yes, after_no}
 use Rattle.msi_query_parse.specs.Operators.{binds}
 use Rattle.msi_query_parse.specs.Reading.{condition, rows, one_row, insert_into, insert, assignment, assignments, sets, update_of, where_also, update, delete_from, delete, whole}
-use Rattle.msi_query_parse.specs.Symbols.{Symbol, mark, named}
 use Rattle.msi_query_parse.specs.Grammar.{Phrase, ColumnName, plain, parts, Constant, name_symbols, constant_symbols, is_literal, is_where, where_symbols, phrase_symbols, expression_of, row_symbols, rows_symbols, set_symbols, sets_symbols, separated, SpellsInsert, SpellsUpdate, SpellsDelete}
-use Rattle.msi_query_parse.proofs.Steps.{Leads, after_yes, after_no}
 use Rattle.msi_query_parse.proofs.NamesRead.{first_kind, at, kind_at, leads_next, then_read, mark_kind, sees_yes, sees_no, expect_read, name_read, column_read, whole_read, end_kind}
 use Rattle.msi_query_parse.proofs.ExpressionsRead.{both_left, both_right, leads_split, condition_read}
 use Rattle.msi_query_parse.proofs.ListLemmas.{listed_read}

@@ -4,13 +4,14 @@ use Rattle.std.specs.List.{list_all}
 use Rattle.std.proofs.lemmas.Bool.{le-leb}
 use Rattle.msi_query_expressions.specs.Expressions.{Expression}
 use Rattle.msi_query.specs.Queries.{InsertQuery, UpdateQuery, DeleteQuery}
-use Rattle.msi_query_parse.specs.declared.token.Kind.TheVariants as k
-use Rattle.msi_query_parse.specs.declared.refusal.Expected.TheVariants as expected
-use Rattle.msi_query_parse.specs.Input.{Input, ◌<$>◌, pure, next, sees, after, expect, left, start_of}
+use Rattle.msi_query_tokens.specs.declared.token.Kind.TheVariants as k
+use Rattle.msi_query_tokens.specs.declared.refusal.Expected.TheVariants as expected
+use Rattle.msi_query_tokens.specs.Input.{Input, ◌<$>◌, pure, next, sees, after, expect, left, start_of}
+use Rattle.msi_query_tokens.specs.Symbols.{mark, named}
+use Rattle.msi_query_tokens.proofs.StepLemmas.{Leads, stays, leads_on, then_ok, ok_value, ok_place, next_to, next_height, next_mark, sees_ok, after_yes, after_no, expect_ok}
 use Rattle.msi_query_parse.specs.Reading.{name, column, condition, value, row, rows, one_row, insert_into, insert, assignment, assignments, sets, update_of, where_also, update, delete_from, delete, whole}
-use Rattle.msi_query_parse.specs.Symbols.{mark, named}
 use Rattle.msi_query_parse.specs.Grammar.{Phrase, ColumnName, Constant, bytes_of, constant_symbols, constant_value, is_literal, is_where, where_symbols, phrase_symbols, expression_of, row_symbols, rows_symbols, set_symbols, sets_symbols, SpellsInsert, SpellsUpdate, SpellsDelete}
-use Rattle.msi_query_parse.proofs.Steps.{Leads, stays, leads_on, then_ok, ok_value, ok_place, next_to, next_height, next_mark, sees_ok, after_yes, after_no, expect_ok, whole_ok}
+use Rattle.msi_query_parse.proofs.Wholes.{whole_ok}
 use Rattle.msi_query_parse.proofs.NamesSpelled.{name_ok, column_ok}
 use Rattle.msi_query_parse.proofs.ExpressionsSpelled.{both_true, condition_ok}
 use Rattle.msi_query_parse.proofs.ListLemmas.{Item, listed_ok}

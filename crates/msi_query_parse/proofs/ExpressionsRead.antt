@@ -7,17 +7,18 @@ use Rattle.msi_query_operators.specs.declared.operators.UnaryOp.{UnaryOp}
 use Rattle.msi_query_operators.specs.declared.operators.UnaryOp.TheVariants as one
 use Rattle.msi_query_expressions.specs.Expressions.{Expression, literal, column as column_of}
 use Rattle.msi_query_expressions.specs.Folding.{folded_unary}
-use Rattle.msi_query_parse.specs.declared.token.Kind.{Kind}
-use Rattle.msi_query_parse.specs.declared.token.Kind.TheVariants as k
-use Rattle.msi_query_parse.specs.declared.refusal.Expected.TheVariants as expected
-use Rattle.msi_query_parse.specs.Input.{Input, Outcome, Reader, and_then, ◌<$>◌, ◌>>=◌, pure, kind, spelling, next, sees, left, start_of}
-use Rattle.msi_query_parse.specs.Texts.{text, negative}
+use Rattle.msi_query_tokens.specs.declared.token.Kind.{Kind}
+use Rattle.msi_query_tokens.specs.declared.token.Kind.TheVariants as k
+use Rattle.msi_query_tokens.specs.declared.refusal.Expected.TheVariants as expected
+use Rattle.msi_query_tokens.specs.Tokens.{is_name}
+use Rattle.msi_query_tokens.specs.Input.{Input, Outcome, Reader, and_then, ◌<$>◌, ◌>>=◌, pure, kind, spelling, next, sees, left, start_of}
+use Rattle.msi_query_tokens.specs.Texts.{text, negative}
+use Rattle.msi_query_tokens.specs.Symbols.{Symbol, mark, named, number, quote, symbol_of}
+use Rattle.msi_query_tokens.proofs.SymbolLemmas.{is_text, quoted_token, spans_split, spans_shorter}
+use Rattle.msi_query_tokens.proofs.StepLemmas.{Next, Leads, risen, risen_height}
 use Rattle.msi_query_parse.specs.Operators.{binds, linked}
-use Rattle.msi_query_parse.specs.Reading.{is_name, column, term_by, term, negated, bracketed, operand_by, operand, operation_by, operation, climb, operations, level, expression, condition, whole}
-use Rattle.msi_query_parse.specs.Symbols.{Symbol, mark, named, number, quote, symbol_of}
+use Rattle.msi_query_parse.specs.Reading.{column, term_by, term, negated, bracketed, operand_by, operand, operation_by, operation, climb, operations, level, expression, condition, whole}
 use Rattle.msi_query_parse.specs.Grammar.{Phrase, constant, minus_zero, reference, grouped, front, link, ColumnName, plain, parts, bytes_of, name_symbols, value_symbols, phrase_symbols, phrase_level, phrase_height, is_phrase, is_digits, front_mark, expression_of, SpellsExpression}
-use Rattle.msi_query_parse.proofs.SymbolLemmas.{is_text, quoted_token, spans_split, spans_shorter}
-use Rattle.msi_query_parse.proofs.Steps.{Next, Leads, risen, risen_height}
 use Rattle.msi_query_parse.proofs.NamesRead.{first_kind, at, kind_at, next_at, leads_next, then_read, mark_kind, sees_yes, sees_no, expect_read, risen_read, text_read, named_here, column_read, positive_read, negative_read, number_here, whole_read, end_kind}
 use Rattle.msi_query_parse.proofs.ExpressionsSpelled.{binds_small}
 

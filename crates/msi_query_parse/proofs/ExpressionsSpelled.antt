@@ -6,19 +6,20 @@ use Rattle.msi_query_operators.specs.declared.operators.UnaryOp.{UnaryOp}
 use Rattle.msi_query_operators.specs.declared.operators.UnaryOp.TheVariants as one
 use Rattle.msi_query_expressions.specs.Expressions.{Expression, literal, column as column_of}
 use Rattle.msi_query_expressions.specs.Folding.{folded_unary}
-use Rattle.msi_query_parse.specs.declared.token.Kind.{Kind}
-use Rattle.msi_query_parse.specs.declared.token.Kind.TheVariants as k
-use Rattle.msi_query_parse.specs.declared.refusal.Expected.TheVariants as expected
-use Rattle.msi_query_parse.specs.Tokens.{token}
-use Rattle.msi_query_parse.specs.Input.{Input, Reader, ◌<$>◌, ◌>>=◌, pure, kind, spelling, next, sees, expect, refusal, left, start_of}
-use Rattle.msi_query_parse.specs.Texts.{text, positive, negative, number_of}
+use Rattle.msi_query_tokens.specs.declared.token.Kind.{Kind}
+use Rattle.msi_query_tokens.specs.declared.token.Kind.TheVariants as k
+use Rattle.msi_query_tokens.specs.declared.refusal.Expected.TheVariants as expected
+use Rattle.msi_query_tokens.specs.Tokens.{token}
+use Rattle.msi_query_tokens.specs.Input.{Input, Reader, ◌<$>◌, ◌>>=◌, pure, kind, spelling, next, sees, expect, refusal, left, start_of}
+use Rattle.msi_query_tokens.specs.Texts.{text, positive, negative, number_of}
+use Rattle.msi_query_tokens.specs.Symbols.{Symbol, mark, ends, symbol_of}
+use Rattle.msi_query_tokens.proofs.TokenLemmas.{is_kind}
+use Rattle.msi_query_tokens.proofs.SymbolLemmas.{quoted_symbol, is_text, number_token, behind_shorter, spans_shorter}
+use Rattle.msi_query_tokens.proofs.StepLemmas.{Next, Leads, stays, leads_on, then_ok, ok_value, ok_place, refused, text_ok, next_to, next_height, next_mark, goes_on, sees_ok, expect_ok, risen, rise_take, risen_to, risen_height}
 use Rattle.msi_query_parse.specs.Operators.{binds, linked}
 use Rattle.msi_query_parse.specs.Reading.{column, term_by, term, negated, bracketed, operand_by, operand, operation, climb, operations, level, expression, condition, whole}
-use Rattle.msi_query_parse.specs.Symbols.{Symbol, mark, ends, symbol_of}
 use Rattle.msi_query_parse.specs.Grammar.{Phrase, constant, minus_zero, reference, grouped, front, link, phrase_symbols, name_symbols, phrase_level, phrase_height, is_phrase, is_digits, is_minus, front_mark, expression_of, SpellsExpression}
-use Rattle.msi_query_parse.proofs.TokenLemmas.{is_kind}
-use Rattle.msi_query_parse.proofs.SymbolLemmas.{quoted_symbol, is_text, number_token, behind_shorter, spans_shorter}
-use Rattle.msi_query_parse.proofs.Steps.{Next, Leads, stays, leads_on, then_ok, ok_value, ok_place, refused, text_ok, next_to, next_height, next_mark, goes_on, sees_ok, expect_ok, risen, rise_take, risen_to, risen_height, whole_ok}
+use Rattle.msi_query_parse.proofs.Wholes.{whole_ok}
 use Rattle.msi_query_parse.proofs.NamesSpelled.{column_ok, positive_ok, negative_ok, next_number}
 
 -- ---- levels

@@ -1,9 +1,6 @@
 -- The lemmas of this crate.
 pub mod Turns
-pub mod Utf8Lemmas
-pub mod TokenLemmas
-pub mod SymbolLemmas
-pub mod Steps
+pub mod Wholes
 pub mod NamesSpelled
 pub mod ExpressionsSpelled
 pub mod NamesRead
@@ -14,8 +11,6 @@ pub mod ChangesSpelled
 pub mod ChangesRead
 pub mod SourcesSpelled
 pub mod SourcesRead
-pub mod CutLemmas
-pub mod LeadsLemmas
 pub mod PieceLemmas
 pub mod PrintedLemmas
 pub mod PrintedQueryLemmas

@@ -1,15 +1,15 @@
 -- Lists with commas between their items: what is read is spelled, and what is spelled is read.
 use Rattle.std.proofs.Common.{◌≡◌, ℕ, zero, suc, ◌+◌, ◌≤◌, Bool, true, false, if◌then◌else◌, List, [], ◌∷◌, map, length, Ok, Err, refl, sym, ◌∙◌, ap, subst, arith}
 use Rattle.std.specs.List.{list_all}
-use Rattle.msi_query_parse.specs.declared.token.Kind.TheVariants as k
-use Rattle.msi_query_parse.specs.declared.refusal.Expected.{Expected}
-use Rattle.msi_query_parse.specs.declared.refusal.ParseError.{ParseError}
-use Rattle.msi_query_parse.specs.Input.{Input, Reader, and_then, pure, next, sees, after, refusal}
+use Rattle.msi_query_tokens.specs.declared.token.Kind.TheVariants as k
+use Rattle.msi_query_tokens.specs.declared.refusal.Expected.{Expected}
+use Rattle.msi_query_tokens.specs.declared.refusal.ParseError.{ParseError}
+use Rattle.msi_query_tokens.specs.Input.{Input, Reader, and_then, pure, next, sees, after, refusal}
+use Rattle.msi_query_tokens.specs.Symbols.{Symbol, mark}
+use Rattle.msi_query_tokens.proofs.SymbolLemmas.{spans_shorter, behind_shorter}
+use Rattle.msi_query_tokens.proofs.StepLemmas.{Leads, leads_on, then_ok, ok_value, ok_place, refused, next_to, next_height, next_mark, sees_ok, after_yes, after_no}
 use Rattle.msi_query_parse.specs.Reading.{listed_from}
-use Rattle.msi_query_parse.specs.Symbols.{Symbol, mark}
 use Rattle.msi_query_parse.specs.Grammar.{separated}
-use Rattle.msi_query_parse.proofs.SymbolLemmas.{spans_shorter, behind_shorter}
-use Rattle.msi_query_parse.proofs.Steps.{Leads, leads_on, then_ok, ok_value, ok_place, refused, next_to, next_height, next_mark, sees_ok, after_yes, after_no}
 use Rattle.msi_query_parse.proofs.NamesRead.{first_kind, at, kind_at, leads_next, then_read, mark_kind, sees_yes, sees_no}
 use Rattle.msi_query_parse.proofs.ExpressionsSpelled.{both_true}
 use Rattle.msi_query_parse.proofs.ExpressionsRead.{both_left, both_right, leads_split}

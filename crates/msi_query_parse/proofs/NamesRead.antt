@@ -1,19 +1,19 @@
 -- Names and numbers that are spelled are read.
 use Rattle.std.proofs.Common.{◌≡◌, ℕ, ◌+◌, ◌<◌, true, false, if◌then◌else◌, List, [], ◌∷◌, Option, Some, None, Ok, Err, refl, sym, ◌∙◌, ap, ap₂, nat_le, pos, neg_ℤ}
 use Rattle.std.proofs.lemmas.Bool.{lt-ltb}
-use Rattle.msi_query_parse.specs.declared.token.Kind.{Kind}
-use Rattle.msi_query_parse.specs.declared.token.Kind.TheVariants as k
-use Rattle.msi_query_parse.specs.declared.refusal.Expected.{Expected}
-use Rattle.msi_query_parse.specs.declared.refusal.Expected.TheVariants as expected
-use Rattle.msi_query_parse.specs.Input.{Input, Outcome, Reader, and_then, ◌<$>◌, ◌>>◌, pure, take_token, kind, spelling, next, sees, after, expect, rise, refusal, start_of}
-use Rattle.msi_query_parse.specs.Tokens.{token}
-use Rattle.msi_query_parse.specs.Texts.{text, checked, taken, positive, negative, number_of, plain_bytes}
-use Rattle.msi_query_parse.specs.Reading.{is_name, name, column, dotted, end, end_by, whole, without_rest}
-use Rattle.msi_query_parse.specs.Symbols.{Symbol, mark, named, number, ends, checked_bytes}
+use Rattle.msi_query_tokens.specs.declared.token.Kind.{Kind}
+use Rattle.msi_query_tokens.specs.declared.token.Kind.TheVariants as k
+use Rattle.msi_query_tokens.specs.declared.refusal.Expected.{Expected}
+use Rattle.msi_query_tokens.specs.declared.refusal.Expected.TheVariants as expected
+use Rattle.msi_query_tokens.specs.Input.{Input, Outcome, Reader, and_then, ◌<$>◌, ◌>>◌, pure, take_token, kind, spelling, next, sees, after, expect, rise, refusal, start_of}
+use Rattle.msi_query_tokens.specs.Tokens.{token, is_name}
+use Rattle.msi_query_tokens.specs.Texts.{text, checked, taken, positive, negative, number_of, plain_bytes}
+use Rattle.msi_query_tokens.specs.Symbols.{Symbol, mark, named, number, ends, checked_bytes}
+use Rattle.msi_query_tokens.proofs.TokenLemmas.{is_kind, kind_is, other_kind, plain_name}
+use Rattle.msi_query_tokens.proofs.SymbolLemmas.{named_token, number_token, marked_kind}
+use Rattle.msi_query_tokens.proofs.StepLemmas.{Next, Leads, risen, after_yes, after_no}
+use Rattle.msi_query_parse.specs.Reading.{name, column, dotted, end, end_by, whole, without_rest}
 use Rattle.msi_query_parse.specs.Grammar.{ColumnName, plain, parts, bytes_of, name_symbols}
-use Rattle.msi_query_parse.proofs.TokenLemmas.{is_kind, kind_is, other_kind, plain_name}
-use Rattle.msi_query_parse.proofs.SymbolLemmas.{named_token, number_token, marked_kind}
-use Rattle.msi_query_parse.proofs.Steps.{Next, Leads, risen, after_yes, after_no}
 
 -- ---- places
 

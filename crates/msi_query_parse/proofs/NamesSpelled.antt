@@ -1,16 +1,17 @@
 -- Names and numbers that were read are spelled.
 use Rattle.std.proofs.Common.{◌≡◌, ℕ, Bool, true, false, if◌then◌else◌, List, Ok, refl, sym, ◌∙◌, ap, nat_le, ℤ, pos, neg_ℤ}
-use Rattle.msi_query_parse.specs.declared.token.Kind.TheVariants as k
-use Rattle.msi_query_parse.specs.declared.refusal.Expected.{Expected}
-use Rattle.msi_query_parse.specs.declared.refusal.Expected.TheVariants as expected
-use Rattle.msi_query_parse.specs.Input.{Input, ◌<$>◌, pure, kind, spelling, next, sees, after, refusal}
-use Rattle.msi_query_parse.specs.Texts.{text, positive, negative, number_of}
-use Rattle.msi_query_parse.specs.Reading.{is_name, name, column, dotted}
-use Rattle.msi_query_parse.specs.Symbols.{mark, named, number, ends}
+use Rattle.msi_query_tokens.specs.declared.token.Kind.TheVariants as k
+use Rattle.msi_query_tokens.specs.declared.refusal.Expected.{Expected}
+use Rattle.msi_query_tokens.specs.declared.refusal.Expected.TheVariants as expected
+use Rattle.msi_query_tokens.specs.Tokens.{is_name}
+use Rattle.msi_query_tokens.specs.Input.{Input, ◌<$>◌, pure, kind, spelling, next, sees, after, refusal}
+use Rattle.msi_query_tokens.specs.Texts.{text, positive, negative, number_of}
+use Rattle.msi_query_tokens.specs.Symbols.{mark, named, number, ends}
+use Rattle.msi_query_tokens.proofs.TokenLemmas.{other_kind}
+use Rattle.msi_query_tokens.proofs.SymbolLemmas.{named_symbol}
+use Rattle.msi_query_tokens.proofs.StepLemmas.{Next, Leads, stays, then_ok, ok_value, ok_place, passed, text_ok, next_to, next_height, next_mark, sees_ok, after_yes, after_no}
+use Rattle.msi_query_parse.specs.Reading.{name, column, dotted}
 use Rattle.msi_query_parse.specs.Grammar.{ColumnName, plain, parts, bytes_of, name_symbols}
-use Rattle.msi_query_parse.proofs.TokenLemmas.{other_kind}
-use Rattle.msi_query_parse.proofs.SymbolLemmas.{named_symbol}
-use Rattle.msi_query_parse.proofs.Steps.{Next, Leads, stays, then_ok, ok_value, ok_place, passed, text_ok, next_to, next_height, next_mark, sees_ok, after_yes, after_no}
 
 name_goes_on : (i : Input) → is_name (kind i) ≡ true → ends i.ahead ≡ false
 unfolding kind

@@ -4,14 +4,14 @@ use Rattle.msi_table_values.specs.declared.value.Value.TheVariants.{Int}
 use Rattle.msi_query_operators.specs.declared.operators.UnaryOp.TheVariants as one
 use Rattle.msi_query_operators.specs.declared.operators.BinaryOp.TheVariants as two
 use Rattle.msi_query_expressions.specs.Expressions.{literal, column, binary}
-use Rattle.msi_query_parse.specs.declared.token.Kind.TheVariants as k
-use Rattle.msi_query_parse.specs.declared.refusal.Expected.TheVariants as expected
-use Rattle.msi_query_parse.specs.declared.refusal.ParseError.TheVariants.{Refused}
-use Rattle.msi_query_parse.specs.Tokens.{token, skip_blanks, same_kind, kind_of_word}
-use Rattle.msi_query_parse.specs.Texts.{positive}
-use Rattle.msi_query_parse.specs.Input.{expect, sees, after, rise, refusal, kind, spelling, next, left as left_of}
+use Rattle.msi_query_tokens.specs.declared.token.Kind.TheVariants as k
+use Rattle.msi_query_tokens.specs.declared.refusal.Expected.TheVariants as expected
+use Rattle.msi_query_tokens.specs.declared.refusal.ParseError.TheVariants.{Refused}
+use Rattle.msi_query_tokens.specs.Tokens.{token, skip_blanks, same_kind, kind_of_word}
+use Rattle.msi_query_tokens.specs.Texts.{positive}
+use Rattle.msi_query_tokens.specs.Input.{expect, sees, after, rise, refusal, kind, spelling, next, left as left_of}
+use Rattle.msi_query_tokens.specs.Symbols.{Symbol, mark, named, number, AreSymbols}
 use Rattle.msi_query_parse.specs.Reading.{whole, condition, expression, level, operand, operations, operation, climb, bracketed, term, end}
-use Rattle.msi_query_parse.specs.Symbols.{Symbol, mark, named, number, AreSymbols}
 use Rattle.msi_query_parse.specs.Printed.{phrase_of, is_readable}
 use Rattle.msi_query_parse.specs.Grammar.{Phrase, constant, reference, grouped, front, link, plain, phrase_symbols, is_phrase, expression_of}
 

@@ -8,14 +8,14 @@ use Rattle.msi_query_operators.specs.OperatorTexts.{op_text, unary_text}
 use Rattle.msi_query.specs.declared.query.JoinKind.{JoinKind}
 use Rattle.msi_query.specs.declared.query.JoinKind.TheVariants.{Inner, Left}
 use Rattle.msi_query.specs.QueryTexts.{join_word}
-use Rattle.msi_query_parse.specs.declared.token.Kind.{Kind}
-use Rattle.msi_query_parse.specs.declared.token.Kind.TheVariants as k
-use Rattle.msi_query_parse.specs.Tokens.{token, skip_blanks, same_kind, kind_of_word}
-use Rattle.msi_query_parse.specs.Symbols.{Symbol, mark, Spans}
+use Rattle.msi_query_tokens.specs.declared.token.Kind.{Kind}
+use Rattle.msi_query_tokens.specs.declared.token.Kind.TheVariants as k
+use Rattle.msi_query_tokens.specs.Tokens.{token, skip_blanks, same_kind, kind_of_word}
+use Rattle.msi_query_tokens.specs.Symbols.{Symbol, mark, Spans}
+use Rattle.msi_query_tokens.proofs.CutLemmas.{Over, over_append, over_one, blank_skipped}
+use Rattle.msi_query_tokens.proofs.LeadsLemmas.{Front, Link}
 use Rattle.msi_query_parse.specs.Grammar.{front_mark, join_mark}
 use Rattle.msi_query_parse.specs.Printed.{op_mark}
-use Rattle.msi_query_parse.proofs.CutLemmas.{Over, over_append, over_one, blank_skipped}
-use Rattle.msi_query_parse.proofs.LeadsLemmas.{Front, Link}
 
 -- a blank behind, and one in front
 blank_behind : (text rest : List ℕ) (s : List Symbol) → Over text s (32 ∷ rest) → Over text s rest

@@ -3,12 +3,9 @@ use Rattle.std.proofs.Common.{◌≡◌, ℕ, suc, ◌+◌, ◌≤◌, Bool, tru
 use Rattle.std.specs.List.{list_all}
 use Rattle.std.specs.Char.{is_ascii}
 use Rattle.std.specs.Fmt.{debug_str, ◌++?◌}
-use denote.Enum.Bare.{same_true}
-use Rattle.std.proofs.Common.{rules}
 use Rattle.std.proofs.lemmas.List.Folds.{list_all-append}
 use Rattle.std.proofs.lemmas.Bool.{and_parts, and_from, leb-true, le-leb, not-true, ltb-false}
-use Rattle.std.proofs.lemmas.Bool.Decides.{nat_tests}
-use Rattle.msi_text.specs.CategoryRules.{starts_name, continues_name, is_identifier}
+use Rattle.msi_text.specs.CategoryRules.{is_identifier}
 use Rattle.msi_table_values.specs.declared.value.Value.{Value}
 use Rattle.msi_table_values.specs.declared.value.Value.TheVariants as v
 use Rattle.msi_table_values.specs.Values.{value_text}
@@ -19,17 +16,15 @@ use Rattle.msi_query_operators.specs.OperatorTexts.{op_level, op_text, unary_tex
 use Rattle.msi_query_expressions.specs.Expressions.{Expression, literal, column, unary, binary, both, either, names_in}
 use Rattle.msi_query_expressions.specs.Folding.{folded_unary, folded_binary, fits_literal, is_built, is_folded, is_literal, literals_fit}
 use Rattle.msi_query_expressions.specs.Printing.{expression_text, level, bracketed}
-use Rattle.msi_query_parse.specs.contracts.token.Kind.{the_type}
-use Rattle.msi_query_parse.specs.declared.lex.Class.TheVariants as class
-use Rattle.msi_query_parse.specs.declared.token.Kind.{Kind}
-use Rattle.msi_query_parse.specs.declared.token.Kind.TheVariants as k
+use Rattle.msi_query_tokens.specs.declared.token.Kind.{Kind}
+use Rattle.msi_query_tokens.specs.declared.token.Kind.TheVariants as k
+use Rattle.msi_query_tokens.specs.Tokens.{same_kind, kind_of_word}
+use Rattle.msi_query_tokens.specs.Symbols.{mark, named, number, quote, symbol_of}
+use Rattle.msi_query_tokens.proofs.CutLemmas.{Over, word_over, name_over, digits_over, Digits, decimal_digits, quoted_over, body}
+use Rattle.msi_query_tokens.proofs.LeadsLemmas.{Leads, Link, Prints, text_prints, front_leads, front_prints, linked_prints, enclosed_prints, symbols_of}
 use Rattle.msi_query_parse.specs.Operators.{binds, linked}
-use Rattle.msi_query_parse.specs.Tokens.{same_kind, kind_of_word, is_in}
-use Rattle.msi_query_parse.specs.Symbols.{mark, named, number, quote, symbol_of}
 use Rattle.msi_query_parse.specs.Grammar.{Phrase, grouped, link, value_symbols, phrase_symbols, phrase_level, phrase_height, is_phrase, is_constant, is_digits, is_minus, is_value, expression_of, front_mark}
 use Rattle.msi_query_parse.specs.Printed.{op_mark, within, phrase_of, is_readable_name, is_readable, PrintedExpressionsAreReadBack}
-use Rattle.msi_query_parse.proofs.CutLemmas.{Over, word_over, digits_over, Digits, decimal_digits, quoted_over, body}
-use Rattle.msi_query_parse.proofs.LeadsLemmas.{Leads, Link, Prints, text_prints, front_leads, front_prints, linked_prints, enclosed_prints, symbols_of}
 use Rattle.msi_query_parse.proofs.PieceLemmas.{open_front, close_link, minus_front, in_front, between, and_link, or_link}
 
 -- ---- what the phrase stands for
@@ -163,32 +158,10 @@ follows_rules (either l r) f g =
 
 -- ---- names
 
-starts_letter : (c : ℕ) → starts_name c ≡ true → is_in class.Letter c ≡ true
-starts_letter c h = grind (arith, nat_tests)
-
-continues_word : (c : ℕ) → continues_name c ≡ true → is_in class.Name c ≡ true
-continues_word c h = grind (arith, nat_tests)
-
-all_continue : (cs : List ℕ) → list_all continues_name cs ≡ true → list_all (is_in class.Name) cs ≡ true
-all_continue [] h = refl
-all_continue (c ∷ cs) h = let parts = and_parts (continues_name c) (list_all continues_name cs) h in
-    and_from _ _ (continues_word c parts.0) (all_continue cs parts.1)
-
-kind_is : (a b : Kind) → same_kind a b ≡ true → a ≡ b
-unfolding same_kind
-kind_is a b h = same_true the_type (search rules) a b h
-
 pub name_leads : (name : List ℕ) → is_readable_name name ≡ true → Leads name (named name ∷ [])
-unfolding same_kind
-name_leads [] h = absurd (let clash : false ≡ true = h in cc)
-name_leads (c ∷ cs) h =
-    let parts = and_parts (is_identifier (c ∷ cs)) (same_kind (kind_of_word (c ∷ cs)) k.Name) h in
-    let word = and_parts (starts_name c) (list_all continues_name cs) parts.0 in
-    let kind = kind_is (kind_of_word (c ∷ cs)) k.Name parts.1 in
-    record {
-      over = λ after a. subst (λ (w : Kind). Over ((c ∷ cs) ++ after) (symbol_of w (c ∷ cs) ∷ []) after) kind
-          (word_over c cs after (starts_letter c word.0) (all_continue cs word.1) a (ap (λ (w : Kind). same_kind w k.End) kind));
-    }
+name_leads name h =
+    let parts = and_parts (is_identifier name) (same_kind (kind_of_word name) k.Name) h in
+    record { over = λ after a. name_over name after parts.0 parts.1 a }
 
 -- ---- values
 

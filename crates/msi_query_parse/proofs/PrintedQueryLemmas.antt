@@ -12,14 +12,14 @@ use Rattle.msi_query_expressions.specs.Printing.{expression_text}
 use Rattle.msi_query.specs.declared.query.JoinKind.{JoinKind}
 use Rattle.msi_query.specs.Queries.{Clauses, Query, table, join, no_clauses, projected_query}
 use Rattle.msi_query.specs.QueryTexts.{listed, where_text, columns_text, select_text, join_word, bare_name, or_bracketed, side_text, query_text, row_text, rows_text, insert_text, set_text, sets_text, update_text, delete_text}
-use Rattle.msi_query_parse.specs.declared.token.Kind.TheVariants as k
-use Rattle.msi_query_parse.specs.Symbols.{Symbol, mark, named}
+use Rattle.msi_query_tokens.specs.declared.token.Kind.TheVariants as k
+use Rattle.msi_query_tokens.specs.Symbols.{Symbol, mark, named}
+use Rattle.msi_query_tokens.proofs.LeadsLemmas.{Front, Leads, front_leads, tail_tail, link_leads, leads_link, leads_tail, as_leads, no_tail, Prints, Tails, text_prints, text_tails, prints_tails, tails_tails, front_prints, link_prints, linked_prints, enclosed_prints, symbols_of}
 use Rattle.msi_query_parse.specs.Grammar.{ColumnName, plain, bytes_of, name_symbols, value_symbols, is_value, separated, phrase_symbols, expression_of}
 use Rattle.msi_query_parse.specs.Grammar.{Source, whole, both_of, where_symbols, column_symbols, in_brackets, source_symbols, is_query, is_join, is_where, is_source, source_height, narrowed_by, query_meant, join_mark}
 use Rattle.msi_query_parse.specs.Grammar.{Constant, of_value, constant_symbols, constant_value, is_literal, row_symbols, rows_symbols, set_symbols, sets_symbols}
 use Rattle.msi_query_parse.specs.Printed.{phrase_of, is_readable_name, is_readable, is_readable_condition, are_readable_clauses, selected, or_whole, source_of, has_readable_parts}
 use Rattle.msi_query_parse.specs.Printed.{PrintedSelectsAreReadBack, PrintedInsertsAreReadBack, PrintedUpdatesAreReadBack, PrintedDeletesAreReadBack}
-use Rattle.msi_query_parse.proofs.LeadsLemmas.{Front, Leads, front_leads, tail_tail, link_leads, leads_link, leads_tail, as_leads, no_tail, Prints, Tails, text_prints, text_tails, prints_tails, tails_tails, front_prints, link_prints, linked_prints, enclosed_prints, symbols_of}
 use Rattle.msi_query_parse.proofs.PieceLemmas.{open_front, close_link, comma_link, between, star_front, select_front, from_link, where_link, join_link, on_link, insert_front, values_link, update_front, set_link, delete_front}
 use Rattle.msi_query_parse.proofs.PrintedLemmas.{name_leads, value_prints, Readable, readable}
 

@@ -5,18 +5,19 @@ use Rattle.std.proofs.lemmas.Bool.{leb-true}
 use Rattle.msi_query.specs.declared.query.JoinKind.{JoinKind}
 use Rattle.msi_query.specs.declared.query.JoinKind.TheVariants.{Inner, Left}
 use Rattle.msi_query.specs.Queries.{Query, table, join, no_clauses, narrowed_query, projected_query}
-use Rattle.msi_query_parse.specs.declared.token.Kind.{Kind}
-use Rattle.msi_query_parse.specs.declared.token.Kind.TheVariants as k
-use Rattle.msi_query_parse.specs.declared.refusal.Expected.TheVariants as expected
-use Rattle.msi_query_parse.specs.Input.{Input, Outcome, Reader, and_then, ◌<$>◌, ◌>>=◌, pure, kind, next, sees, after, refusal, left, start_of}
+use Rattle.msi_query_tokens.specs.declared.token.Kind.{Kind}
+use Rattle.msi_query_tokens.specs.declared.token.Kind.TheVariants as k
+use Rattle.msi_query_tokens.specs.declared.refusal.Expected.TheVariants as expected
+use Rattle.msi_query_tokens.specs.Tokens.{is_name}
+use Rattle.msi_query_tokens.specs.Input.{Input, Outcome, Reader, and_then, ◌<$>◌, ◌>>=◌, pure, kind, next, sees, after, refusal, left, start_of}
+use Rattle.msi_query_tokens.specs.Texts.{text}
+use Rattle.msi_query_tokens.specs.Symbols.{Symbol, mark, named}
+use Rattle.msi_query_tokens.proofs.SymbolLemmas.{spans_shorter}
+use Rattle.msi_query_tokens.proofs.StepLemmas.{Next, Leads, leads_on, risen, risen_height, after_yes, after_no}
 use Rattle.msi_query_parse.specs.Operators.{binds}
-use Rattle.msi_query_parse.specs.Texts.{text}
 use Rattle.msi_query_parse.specs.Reading as reading
-use Rattle.msi_query_parse.specs.Reading.{name, column, columns, one_column, selected, condition, is_name, dotted, table_named, narrowed, joined_by, sees_join, bracketed_query, side, joined_at, joined, joins_from, joins, joins_behind, first_bracketed, source, select, query, whole, listed_from}
-use Rattle.msi_query_parse.specs.Symbols.{Symbol, mark, named}
+use Rattle.msi_query_parse.specs.Reading.{name, column, columns, one_column, selected, condition, dotted, table_named, narrowed, joined_by, sees_join, bracketed_query, side, joined_at, joined, joins_from, joins, joins_behind, first_bracketed, source, select, query, whole, listed_from}
 use Rattle.msi_query_parse.specs.Grammar.{Phrase, ColumnName, plain, parts, Source, whole as whole_table, both_of, query_of, bytes_of, name_symbols, column_symbols, in_brackets, join_mark, source_symbols, is_query, is_join, is_source, is_where, source_height, query_meant, where_symbols, phrase_symbols, expression_of, SpellsSelect}
-use Rattle.msi_query_parse.proofs.SymbolLemmas.{spans_shorter}
-use Rattle.msi_query_parse.proofs.Steps.{Next, Leads, leads_on, risen, risen_height, after_yes, after_no}
 use Rattle.msi_query_parse.proofs.NamesRead.{first_kind, at, kind_at, next_at, leads_next, then_read, mark_kind, sees_yes, sees_no, expect_read, risen_then, name_read, named_here, column_read, whole_read, end_kind}
 use Rattle.msi_query_parse.proofs.ExpressionsRead.{both_left, both_right, denied, leads_split, condition_read}
 use Rattle.msi_query_parse.proofs.ListLemmas.{listed_read, listed_fails}

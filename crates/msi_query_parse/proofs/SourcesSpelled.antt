@@ -5,16 +5,18 @@ use Rattle.msi_query_expressions.specs.Expressions.{Expression}
 use Rattle.msi_query.specs.declared.query.JoinKind.{JoinKind}
 use Rattle.msi_query.specs.declared.query.JoinKind.TheVariants.{Inner, Left}
 use Rattle.msi_query.specs.Queries.{Query, table, join, no_clauses, narrowed_query, projected_query}
-use Rattle.msi_query_parse.specs.declared.token.Kind.{Kind}
-use Rattle.msi_query_parse.specs.declared.token.Kind.TheVariants as k
-use Rattle.msi_query_parse.specs.declared.refusal.Expected.TheVariants as expected
-use Rattle.msi_query_parse.specs.Input.{Input, Reader, ◌<$>◌, ◌>>=◌, ◌>>◌, pure, kind, next, sees, after, expect, refusal, left, start_of}
+use Rattle.msi_query_tokens.specs.declared.token.Kind.{Kind}
+use Rattle.msi_query_tokens.specs.declared.token.Kind.TheVariants as k
+use Rattle.msi_query_tokens.specs.declared.refusal.Expected.TheVariants as expected
+use Rattle.msi_query_tokens.specs.Tokens.{is_name}
+use Rattle.msi_query_tokens.specs.Input.{Input, Reader, ◌<$>◌, ◌>>=◌, ◌>>◌, pure, kind, next, sees, after, expect, refusal, left, start_of}
+use Rattle.msi_query_tokens.specs.Symbols.{Symbol, mark, named}
+use Rattle.msi_query_tokens.proofs.SymbolLemmas.{behind_shorter}
+use Rattle.msi_query_tokens.proofs.StepLemmas.{Next, Leads, stays, leads_on, then_ok, ok_value, ok_place, refused, next_to, next_height, next_mark, sees_ok, after_yes, after_no, expect_ok, risen, rise_then, risen_to, risen_height}
 use Rattle.msi_query_parse.specs.Reading as reading
-use Rattle.msi_query_parse.specs.Reading.{name, column, columns, one_column, selected, condition, is_name, table_named, narrowed, joined_by, sees_join, bracketed_query, side, joined_at, joined, joins_from, joins, joins_behind, first_bracketed, source, select, query, whole}
-use Rattle.msi_query_parse.specs.Symbols.{Symbol, mark, named}
+use Rattle.msi_query_parse.specs.Reading.{name, column, columns, one_column, selected, condition, table_named, narrowed, joined_by, sees_join, bracketed_query, side, joined_at, joined, joins_from, joins, joins_behind, first_bracketed, source, select, query, whole}
 use Rattle.msi_query_parse.specs.Grammar.{Phrase, ColumnName, Source, whole as whole_table, both_of, query_of, bytes_of, name_symbols, column_symbols, in_brackets, join_mark, source_symbols, is_query, is_join, is_source, is_where, source_height, query_meant, narrowed_by, where_symbols, phrase_symbols, expression_of, separated, SpellsSelect}
-use Rattle.msi_query_parse.proofs.SymbolLemmas.{behind_shorter}
-use Rattle.msi_query_parse.proofs.Steps.{Next, Leads, stays, leads_on, then_ok, ok_value, ok_place, refused, next_to, next_height, next_mark, sees_ok, after_yes, after_no, expect_ok, risen, rise_then, risen_to, risen_height, whole_ok}
+use Rattle.msi_query_parse.proofs.Wholes.{whole_ok}
 use Rattle.msi_query_parse.proofs.NamesSpelled.{name_ok, column_ok}
 use Rattle.msi_query_parse.proofs.ExpressionsSpelled.{both_true, condition_ok}
 use Rattle.msi_query_parse.proofs.ListLemmas.{Item, listed_ok}

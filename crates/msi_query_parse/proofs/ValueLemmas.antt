@@ -4,16 +4,16 @@ use Rattle.std.specs.List.{list_all}
 use Rattle.std.proofs.lemmas.Bool.{leb-true, le-leb}
 use Rattle.msi_table_values.specs.declared.value.Value.{Value}
 use Rattle.msi_table_values.specs.declared.value.Value.TheVariants as v
-use Rattle.msi_query_parse.specs.declared.token.Kind.{Kind}
-use Rattle.msi_query_parse.specs.declared.token.Kind.TheVariants as k
-use Rattle.msi_query_parse.specs.declared.refusal.Expected.TheVariants as expected
-use Rattle.msi_query_parse.specs.Input.{Input, and_then, ◌<$>◌, ◌>>=◌, ◌>>◌, pure, kind, spelling, next, sees, after, expect, refusal, left}
-use Rattle.msi_query_parse.specs.Texts.{text, positive, negative, number_of}
+use Rattle.msi_query_tokens.specs.declared.token.Kind.{Kind}
+use Rattle.msi_query_tokens.specs.declared.token.Kind.TheVariants as k
+use Rattle.msi_query_tokens.specs.declared.refusal.Expected.TheVariants as expected
+use Rattle.msi_query_tokens.specs.Input.{Input, and_then, ◌<$>◌, ◌>>=◌, ◌>>◌, pure, kind, spelling, next, sees, after, expect, refusal, left}
+use Rattle.msi_query_tokens.specs.Texts.{text, positive, negative, number_of}
+use Rattle.msi_query_tokens.specs.Symbols.{mark, number, quote, ends}
+use Rattle.msi_query_tokens.proofs.SymbolLemmas.{quoted_symbol, quoted_token, is_text}
+use Rattle.msi_query_tokens.proofs.StepLemmas.{Leads, stays, leads_on, then_ok, ok_value, ok_place, passed, refused, next_to, next_height, next_mark, goes_on, sees_ok, after_yes, after_no, expect_ok, text_ok}
 use Rattle.msi_query_parse.specs.Reading.{digits, negative_value, value_by, value, one_value, values, row, listed_from}
-use Rattle.msi_query_parse.specs.Symbols.{mark, number, quote, ends}
 use Rattle.msi_query_parse.specs.Grammar.{Constant, of_value, zero_below, constant_symbols, constant_value, is_literal, row_symbols, separated}
-use Rattle.msi_query_parse.proofs.SymbolLemmas.{quoted_symbol, quoted_token, is_text}
-use Rattle.msi_query_parse.proofs.Steps.{Leads, stays, leads_on, then_ok, ok_value, ok_place, passed, refused, next_to, next_height, next_mark, goes_on, sees_ok, after_yes, after_no, expect_ok, text_ok}
 use Rattle.msi_query_parse.proofs.NamesSpelled.{positive_ok, negative_ok, next_number}
 use Rattle.msi_query_parse.proofs.NamesRead.{first_kind, at, kind_at, next_at, leads_next, then_read, mark_kind, sees_yes, sees_no, expect_read, text_read, positive_read, negative_read, number_here}
 use Rattle.msi_query_parse.proofs.ExpressionsRead.{leads_split}

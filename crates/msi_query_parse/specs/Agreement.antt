@@ -1,10 +1,10 @@
 -- Reading and the grammar agree: a text is read as what it spells, and refused where it spells nothing.
 use Rattle.std.specs.Prelude.{◌≡◌, ◌≢◌, ℕ, ◌↔◌, List, Result, Ok, IfErr}
-use Rattle.msi_query_parse.specs.declared.refusal.ParseError.{ParseError}
-use Rattle.msi_query_parse.specs.declared.refusal.ParseError.TheVariants.{OutOfMemory}
+use Rattle.msi_query_tokens.specs.declared.refusal.ParseError.{ParseError}
+use Rattle.msi_query_tokens.specs.declared.refusal.ParseError.TheVariants.{OutOfMemory}
+use Rattle.msi_query_tokens.specs.Input.{Reader}
 use Rattle.msi_query_parse.specs.declared.statement.Statement.{Statement}
 use Rattle.msi_query_parse.specs.declared.statement.Statement.TheVariants as any
-use Rattle.msi_query_parse.specs.Input.{Reader}
 use Rattle.msi_query_parse.specs.Reading.{whole}
 use Rattle.msi_query_parse.specs.Grammar.{SpellsSelect, SpellsInsert, SpellsUpdate, SpellsDelete}
 

@@ -12,11 +12,11 @@ use Rattle.msi_query.specs.declared.query.JoinKind.{JoinKind}
 use Rattle.msi_query.specs.declared.query.JoinKind.TheVariants.{Inner, Left}
 use Rattle.msi_query.specs.Queries.{Query, table, join, no_clauses, narrowed_query, projected_query}
 use Rattle.msi_query.specs.Queries.{InsertQuery, UpdateQuery, DeleteQuery}
-use Rattle.msi_query_parse.specs.declared.token.Kind.{Kind}
-use Rattle.msi_query_parse.specs.declared.token.Kind.TheVariants as k
+use Rattle.msi_query_tokens.specs.declared.token.Kind.{Kind}
+use Rattle.msi_query_tokens.specs.declared.token.Kind.TheVariants as k
+use Rattle.msi_query_tokens.specs.Symbols.{Symbol, mark, named, number, quote, AreSymbols}
 use Rattle.msi_query_parse.specs.Operators.{binds, linked}
 use Rattle.msi_query_parse.specs.Reading.{dotted}
-use Rattle.msi_query_parse.specs.Symbols.{Symbol, mark, named, number, quote, AreSymbols}
 
 -- ---- names and literals
 

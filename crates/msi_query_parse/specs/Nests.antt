@@ -4,8 +4,8 @@ use Rattle.std.specs.declared.alloc.Global.{Global}
 use denote.Ref.{MutBor}
 use Rattle.msi_query_expressions.specs.Expressions.{Expression}
 use Rattle.msi_query.specs.Queries.{Query}
-use Rattle.msi_query_parse.specs.declared.refusal.ParseError.{ParseError}
-use Rattle.msi_query_parse.specs.Input.{Input, Reads}
+use Rattle.msi_query_tokens.specs.declared.refusal.ParseError.{ParseError}
+use Rattle.msi_query_tokens.specs.Input.{Input, Reads}
 use Rattle.msi_query_parse.specs.Reading.{expression, query}
 
 pub record Nests (depth : ℕ) (pre : Global → MutBor Input → ℕ → ℕ → Type 0)

@@ -11,9 +11,9 @@ use Rattle.msi_query_expressions.specs.Folding.{is_built}
 use Rattle.msi_query_expressions.specs.Printing.{level, expression_text}
 use Rattle.msi_query.specs.Queries.{Clauses, Query, table, join, InsertQuery, UpdateQuery, DeleteQuery}
 use Rattle.msi_query.specs.QueryTexts.{bare_name, query_text, insert_text, update_text, delete_text}
-use Rattle.msi_query_parse.specs.declared.token.Kind.{Kind}
-use Rattle.msi_query_parse.specs.declared.token.Kind.TheVariants as k
-use Rattle.msi_query_parse.specs.Tokens.{kind_of_word, same_kind}
+use Rattle.msi_query_tokens.specs.declared.token.Kind.{Kind}
+use Rattle.msi_query_tokens.specs.declared.token.Kind.TheVariants as k
+use Rattle.msi_query_tokens.specs.Tokens.{kind_of_word, same_kind}
 use Rattle.msi_query_parse.specs.Grammar.{Phrase, constant, reference, grouped, front, link, plain, phrase_height}
 use Rattle.msi_query_parse.specs.Grammar.{is_value, Source, whole, both_of, query_of, source_height}
 use Rattle.msi_query_parse.specs.Grammar.{SpellsExpression, SpellsSelect, SpellsInsert, SpellsUpdate, SpellsDelete}

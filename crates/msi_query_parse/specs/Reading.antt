@@ -9,26 +9,22 @@ use Rattle.msi_query_expressions.specs.Folding.{folded_unary}
 use Rattle.msi_query.specs.declared.query.JoinKind.TheVariants.{Inner, Left}
 use Rattle.msi_query.specs.Queries.{Query, table, join, no_clauses, narrowed as narrowed_by, narrowed_query}
 use Rattle.msi_query.specs.Queries.{projected_query, InsertQuery, UpdateQuery, DeleteQuery}
-use Rattle.msi_query_parse.specs.declared.token.Kind.{Kind}
-use Rattle.msi_query_parse.specs.declared.token.Kind.TheVariants as k
-use Rattle.msi_query_parse.specs.declared.refusal.Expected.{Expected}
-use Rattle.msi_query_parse.specs.declared.refusal.Expected.TheVariants as expected
-use Rattle.msi_query_parse.specs.declared.refusal.ParseError.{ParseError}
-use Rattle.msi_query_parse.specs.declared.refusal.ParseError.TheVariants.{OutOfMemory}
+use Rattle.msi_query_tokens.specs.declared.token.Kind.{Kind}
+use Rattle.msi_query_tokens.specs.declared.token.Kind.TheVariants as k
+use Rattle.msi_query_tokens.specs.declared.refusal.Expected.{Expected}
+use Rattle.msi_query_tokens.specs.declared.refusal.Expected.TheVariants as expected
+use Rattle.msi_query_tokens.specs.declared.refusal.ParseError.{ParseError}
+use Rattle.msi_query_tokens.specs.declared.refusal.ParseError.TheVariants.{OutOfMemory}
+use Rattle.msi_query_tokens.specs.Tokens.{is_name}
+use Rattle.msi_query_tokens.specs.Input.{Input, Outcome, start_of, Reader, ◌>>=◌, ◌>>◌, ◌<$>◌, pure, refuse, peek}
+use Rattle.msi_query_tokens.specs.Input.{take_token, eat, expect}
+use Rattle.msi_query_tokens.specs.Input.{kind, sees, turns, enter, rise, leave, lower, restore}
+use Rattle.msi_query_tokens.specs.Texts.{text, positive, negative}
 use Rattle.msi_query_parse.specs.declared.statement.Statement.{Statement}
 use Rattle.msi_query_parse.specs.declared.statement.Statement.TheVariants as any
-use Rattle.msi_query_parse.specs.Input.{Input, Outcome, start_of, Reader, ◌>>=◌, ◌>>◌, ◌<$>◌, pure, refuse, peek}
-use Rattle.msi_query_parse.specs.Input.{take_token, eat, expect}
-use Rattle.msi_query_parse.specs.Input.{kind, sees, turns, enter, rise, leave, lower, restore}
-use Rattle.msi_query_parse.specs.Texts.{text, positive, negative}
 use Rattle.msi_query_parse.specs.Operators.{binds, linked}
 
 -- ---- names
-
-abbrev pub is_name : Kind → Bool
-is_name k.Name = true
-is_name k.QuotedName = true
-is_name _ = false
 
 unfoldable pub name : Expected → Reader (List ℕ)
 name missing = λ i. if is_name (kind i) then text i else refuse missing i

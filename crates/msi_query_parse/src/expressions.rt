@@ -1,17 +1,17 @@
 //! Expressions, by precedence climbing.
 
-ghost use Rattle.msi_query_parse.specs.Input.{Reads};
+ghost use Rattle.msi_query_tokens.specs.Input.{Reads};
 ghost use Rattle.msi_query_parse.specs.Reading as spec;
 ghost use Rattle.msi_query_parse.specs.Nests.{Nests};
 
 use crate::grammar::Grammar;
 use crate::names::column;
 use crate::operators::{binds, linked};
-use crate::refusal::{Expected, ParseError};
-use crate::texts::{negative, positive, text};
-use crate::token::Kind;
-use crate::tokens::Tokens;
 use msi_query::Expr;
+use msi_query_tokens::refusal::{Expected, ParseError};
+use msi_query_tokens::texts::{negative, positive, text};
+use msi_query_tokens::token::Kind;
+use msi_query_tokens::tokens::Tokens;
 use std::alloc::Global;
 
 /// What an operand in front of which an operator stands needs: no operator between two operands binds so tightly.

@@ -1,12 +1,12 @@
 //! The rules that hold expressions take the reader of those as a parameter, so that each is proved by itself.
 
-ghost use Rattle.msi_query_parse.specs.Input.{Reads};
+ghost use Rattle.msi_query_tokens.specs.Input.{Reads};
 ghost use Rattle.msi_query_parse.specs.Reading as spec;
 ghost use Rattle.msi_query_parse.specs.Nests.{Nests};
 
-use crate::refusal::{Expected, ParseError};
-use crate::tokens::{MAX_HEIGHT, Tokens};
 use msi_query::Expr;
+use msi_query_tokens::refusal::{Expected, ParseError};
+use msi_query_tokens::tokens::{MAX_HEIGHT, Tokens};
 use std::alloc::Global;
 
 /// How to read what stands one level below.

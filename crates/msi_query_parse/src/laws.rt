@@ -4,16 +4,12 @@ ghost use Rattle.msi_query_parse.specs.Agreement.{Agrees, SpellsOne, SpellsState
 ghost use Rattle.msi_query_parse.specs.Grammar.{SpellsDelete, SpellsExpression, SpellsInsert};
 ghost use Rattle.msi_query_parse.specs.Grammar.{SpellsSelect, SpellsUpdate};
 ghost use Rattle.msi_query_parse.specs.Reading.{condition, delete, insert, query, statement, update};
-ghost use Rattle.msi_query_parse.specs.Symbols.{TextsHaveOneListOfSymbols};
 ghost use Rattle.msi_query_parse.specs.Printed.{PrintedExpressionsAreReadBack, PrintedSelectsAreReadBack};
 ghost use Rattle.msi_query_parse.specs.Printed.{PrintedInsertsAreReadBack, PrintedUpdatesAreReadBack};
 ghost use Rattle.msi_query_parse.specs.Printed.{PrintedDeletesAreReadBack};
 ghost use Rattle.msi_query_parse.specs.Printed.{ExpressionsThatPrintAlikeAreOne, SelectsThatPrintAlikeAreOne};
 
-/// No text has two lists of symbols, so what it spells is a matter of the grammar alone.
-pub fn texts_have_one_list_of_symbols()
-    ensures { TextsHaveOneListOfSymbols }
-{}
+pub use msi_query_tokens::laws::texts_have_one_list_of_symbols;
 
 /// An expression is read from a text exactly if the text spells it, and no text spells two.
 pub fn expressions_are_read_as_spelled()

@@ -7,19 +7,14 @@
 mod expressions;
 mod grammar;
 pub mod laws;
-mod lex;
 mod names;
 mod operators;
 mod parse;
 mod queries;
-pub mod refusal;
 mod sources;
 mod statement;
-mod texts;
-mod token;
-mod tokens;
 mod values;
 
+pub use msi_query_tokens::{Expected, ParseError, Refused, refusal};
 pub use parse::Parse;
-pub use refusal::{Expected, ParseError, Refused};
 pub use statement::Statement;

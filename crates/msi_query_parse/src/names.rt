@@ -1,22 +1,15 @@
 //! Names of tables and columns.
 
 ghost use Rattle.std.specs.Prelude.{◌≡◌, ◌++◌, ◌∷◌, [], IfOk};
-ghost use Rattle.msi_query_parse.specs.Input.{Reads};
+ghost use Rattle.msi_query_tokens.specs.Input.{Reads};
 ghost use Rattle.msi_query_parse.specs.Reading as spec;
 
-use crate::refusal::{Expected, ParseError};
-use crate::texts::text;
-use crate::token::Kind;
-use crate::tokens::Tokens;
+use msi_query_tokens::refusal::{Expected, ParseError};
+use msi_query_tokens::texts::text;
+use msi_query_tokens::token::Kind;
+use msi_query_tokens::tokens::Tokens;
 use msi_text::{Items, Text};
 use std::alloc::{AllocError, Global};
-
-/// Whether a token is a name.
-pub(crate) fn is_name(kind: Kind) -> bool
-    ensures { result ≡ spec.is_name kind }
-{
-    matches!(kind, Kind::Name | Kind::QuotedName)
-}
 
 /// Reads a name.
 #[tactic(auto, unfolding(crate::specs::Reading::name))]
@@ -27,7 +20,7 @@ pub(crate) fn name(
 ) -> Result<Text, ParseError>
     ensures { Reads (spec.name expected tokens.old) result tokens.new }
 {
-    if is_name(tokens.peek()) {
+    if tokens.peek().is_name() {
         text(alloc, tokens)
     } else {
         Err(tokens.refuse(expected))

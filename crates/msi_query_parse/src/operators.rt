@@ -3,8 +3,8 @@
 ghost use Rattle.std.specs.Prelude.{◌≡◌, ◌≤◌, IfOk};
 ghost use Rattle.msi_query_parse.specs.Operators as spec;
 
-use crate::token::Kind;
 use msi_query::Expr;
+use msi_query_tokens::token::Kind;
 use msi_text::errors::Error;
 use std::alloc::Global;
 

@@ -1,21 +1,21 @@
 //! The public calls: what can be read from text.
 
 ghost use Rattle.std.specs.Prelude.{◌≡◌, IfOk};
+ghost use Rattle.msi_query_tokens.specs.Input.{Reads};
 ghost use Rattle.msi_query_parse.specs.Agreement.{RefusesUnspelled, SpellsStatement};
 ghost use Rattle.msi_query_parse.specs.Grammar.{SpellsDelete, SpellsExpression, SpellsInsert};
 ghost use Rattle.msi_query_parse.specs.Grammar.{SpellsSelect, SpellsUpdate};
-ghost use Rattle.msi_query_parse.specs.Input.{Reads};
 ghost use Rattle.msi_query_parse.specs.Reading as spec;
 ghost use Rattle.msi_query_parse.specs.Reading.{Gives, whole};
 
 use crate::grammar::condition;
 use crate::queries::{delete, insert, update};
-use crate::refusal::{Expected, ParseError};
 use crate::sources::select;
 use crate::statement::Statement;
-use crate::token::Kind;
-use crate::tokens::Tokens;
 use msi_query::{Delete, Expr, Insert, Select, Update};
+use msi_query_tokens::refusal::{Expected, ParseError};
+use msi_query_tokens::token::Kind;
+use msi_query_tokens::tokens::Tokens;
 use std::alloc::Global;
 
 /// Refuses what goes on behind a whole query.

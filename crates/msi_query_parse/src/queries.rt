@@ -1,15 +1,15 @@
 //! Queries that change rows.
 
-ghost use Rattle.msi_query_parse.specs.Input.{Reads};
+ghost use Rattle.msi_query_tokens.specs.Input.{Reads};
 ghost use Rattle.msi_query_parse.specs.Reading as spec;
 
 use crate::grammar::condition;
 use crate::names::{column, name};
-use crate::refusal::{Expected, ParseError};
-use crate::token::Kind;
-use crate::tokens::Tokens;
 use crate::values::{row, value};
 use msi_query::{Delete, Insert, Update};
+use msi_query_tokens::refusal::{Expected, ParseError};
+use msi_query_tokens::token::Kind;
+use msi_query_tokens::tokens::Tokens;
 use std::alloc::Global;
 
 /// Reads rows, one or more, with commas between them.

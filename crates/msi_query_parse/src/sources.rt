@@ -2,16 +2,16 @@
 
 ghost use Rattle.std.specs.Prelude.{◌≡◌, IfOk};
 ghost use Rattle.msi_query.specs.Queries.{projected_query};
-ghost use Rattle.msi_query_parse.specs.Input.{Reads};
+ghost use Rattle.msi_query_tokens.specs.Input.{Reads};
 ghost use Rattle.msi_query_parse.specs.Reading as spec;
 ghost use Rattle.msi_query_parse.specs.Nests.{NestsQueries};
 
 use crate::grammar::condition;
-use crate::names::{is_name, name, selected};
-use crate::refusal::{Expected, ParseError};
-use crate::token::Kind;
-use crate::tokens::{MAX_HEIGHT, Tokens};
+use crate::names::{name, selected};
 use msi_query::{Expr, Select};
+use msi_query_tokens::refusal::{Expected, ParseError};
+use msi_query_tokens::token::Kind;
+use msi_query_tokens::tokens::{MAX_HEIGHT, Tokens};
 use msi_text::{Error, Text};
 use std::alloc::Global;
 
@@ -138,7 +138,7 @@ impl<F: Fn(Global, &mut Tokens<'_>, usize) -> Result<Select, ParseError>> Source
         requires { NestsQueries self.now.depth (F.pre self.now.query) (F.post self.now.query) }
         ensures { Reads (spec.source self.now.depth (spec.query self.now.depth) tokens.old) result tokens.new }
     {
-        if is_name(tokens.peek()) {
+        if tokens.peek().is_name() {
             let first = table(self.alloc, tokens)?;
             return self.joins(tokens, first);
         }

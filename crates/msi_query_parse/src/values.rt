@@ -1,13 +1,13 @@
 //! Values of rows and assignments.
 
 ghost use Rattle.std.specs.Prelude.{◌≡◌, ◌++◌, ◌∷◌, [], IfOk};
-ghost use Rattle.msi_query_parse.specs.Input.{Reads};
+ghost use Rattle.msi_query_tokens.specs.Input.{Reads};
 ghost use Rattle.msi_query_parse.specs.Reading as spec;
 
-use crate::refusal::{Expected, ParseError};
-use crate::texts::{negative, positive, text};
-use crate::token::Kind;
-use crate::tokens::Tokens;
+use msi_query_tokens::refusal::{Expected, ParseError};
+use msi_query_tokens::texts::{negative, positive, text};
+use msi_query_tokens::token::Kind;
+use msi_query_tokens::tokens::Tokens;
 use msi_table::Value;
 use msi_text::Items;
 use std::alloc::{AllocError, Global};

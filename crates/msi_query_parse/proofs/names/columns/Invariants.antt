@@ -1,5 +1,5 @@
 use Rattle.std.proofs.Common.{◌≡◌, ◌-◌}
-use Rattle.msi_query_parse.specs.declared.refusal.Expected.TheVariants as expected
+use Rattle.msi_query_tokens.specs.declared.refusal.Expected.TheVariants as expected
 use Rattle.msi_query_parse.specs.Reading.{columns, listed_from, one_column}
 use Rattle.msi_query_parse.proofs.names.columns.Given as goal
 

@@ -1,5 +1,5 @@
 use Rattle.std.proofs.Common.{◌≡◌, ◌-◌}
-use Rattle.msi_query_parse.specs.declared.refusal.Expected.TheVariants as expected
+use Rattle.msi_query_tokens.specs.declared.refusal.Expected.TheVariants as expected
 use Rattle.msi_query_parse.specs.Reading.{rows, listed_from, one_row}
 use Rattle.msi_query_parse.proofs.queries.rows.Given as goal
 

@@ -1,6 +1,6 @@
 use Rattle.std.proofs.Common.{rules, arith}
 use Rattle.std.proofs.lemmas.Grind.{common_steps}
-use Rattle.msi_query_parse.specs.declared.refusal.Expected.TheVariants as expected
+use Rattle.msi_query_tokens.specs.declared.refusal.Expected.TheVariants as expected
 use Rattle.msi_query_parse.specs.Reading.{listed_from, one_value}
 use Rattle.msi_query_parse.proofs.Turns.{one_more, no_more}
 use Rattle.msi_query_parse.proofs.values.values.Goals as goal

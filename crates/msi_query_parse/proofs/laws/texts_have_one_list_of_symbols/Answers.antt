@@ -1,5 +1,0 @@
-use Rattle.msi_query_parse.proofs.SymbolLemmas.{one_list}
-use Rattle.msi_query_parse.proofs.laws.texts_have_one_list_of_symbols.Goals as goal
-
-pub returns : goal.returns
-returns c = one_list

@@ -1,0 +1,7 @@
+-- The lemmas of this crate.
+pub mod Utf8Lemmas
+pub mod TokenLemmas
+pub mod SymbolLemmas
+pub mod StepLemmas
+pub mod CutLemmas
+pub mod LeadsLemmas
