@@ -1,0 +1,7 @@
+use Rattle.std.proofs.Common.{◌≡◌, true, take}
+use Rattle.std.specs.List.{list_all}
+use Rattle.msi_text_archive.specs.Writing.{has_field}
+use Rattle.msi_text_archive.proofs.writable.check_names.Given as goal
+
+abbrev pub invariant-loop-i : goal.invariant-loop-i
+invariant-loop-i l = list_all has_field (take l.i l.names) ≡ true

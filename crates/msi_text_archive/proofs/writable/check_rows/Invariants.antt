@@ -1,0 +1,7 @@
+use Rattle.std.proofs.Common.{◌≡◌, true, take}
+use Rattle.std.specs.List.{list_all}
+use Rattle.msi_text_archive.specs.Writing.{has_row_line}
+use Rattle.msi_text_archive.proofs.writable.check_rows.Given as goal
+
+abbrev pub invariant-loop-i : goal.invariant-loop-i
+invariant-loop-i l = list_all (has_row_line l.columns) (take l.i l.rows) ≡ true

@@ -1,0 +1,10 @@
+-- The words of this crate.
+pub mod Characters
+pub mod Archives
+pub mod Lists
+pub mod Fields
+pub mod TypeFields
+pub mod TextArchives
+pub mod Reading
+pub mod Writing
+pub mod ArchiveLaws

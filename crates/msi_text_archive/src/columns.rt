@@ -1,0 +1,72 @@
+//! The first two lines of a text archive: the columns and their types.
+
+ghost use Rattle.std.specs.Prelude.{◌≡◌, map};
+ghost use Rattle.msi_text_base.specs.Results.{Gives};
+ghost use Rattle.msi_text_archive.specs.Lists.{each_pair};
+ghost use Rattle.msi_text_archive.specs.Reading.{column_in, columns_in};
+
+use crate::archive::ArchiveColumn;
+use crate::errors::{ArchiveError, Place, at, uneven};
+use crate::fields::{header_fields, text_at};
+use crate::reasons;
+use crate::type_fields::type_of;
+use msi_text::errors::ErrorKind;
+use std::alloc::Global;
+
+/// The column of a name and the type below it, which are the fields of this number.
+#[tactic(auto, unfolding(crate::specs::Reading::column_in))]
+fn column_of(
+    alloc: Global,
+    number: usize,
+    name: &str,
+    field: &str,
+) -> Result<ArchiveColumn, ArchiveError>
+    ensures { Gives (λ column. column) result (column_in name.now field.now) }
+{
+    let first = Place {
+        line: 1,
+        field: number,
+    };
+    let name = text_at(alloc, first, name)?;
+    let second = Place {
+        line: 2,
+        field: number,
+    };
+    let found = at(second, type_of(field))?;
+    Ok(ArchiveColumn::new(name, found.coltype, found.is_localizable, found.is_nullable))
+}
+
+/// The columns of names and as many types.
+fn columns_with(
+    alloc: Global,
+    names: &[&str],
+    types: &[&str],
+) -> Result<Vec<ArchiveColumn>, ArchiveError>
+    ensures { Gives (λ columns. columns.items) result
+        (each_pair column_in (map (λ name. name.now) names.now) (map (λ type. type.now) types.now)) }
+{
+    if names.len() != types.len() {
+        let place = uneven(2, names.len(), types.len());
+        return Err(ArchiveError::new(place, ErrorKind::InvalidData, reasons::TYPES_OTHER));
+    }
+    let mut columns = Vec::new(alloc);
+    for i in 0..names.len() {
+        let column = column_of(alloc, i + 1, names[i], types[i])?;
+        columns.push(column)?;
+    }
+    Ok(columns)
+}
+
+/// The columns that the first two lines name.
+#[tactic(auto, unfolding(crate::specs::Reading::columns_in))]
+pub(crate) fn columns_of(
+    alloc: Global,
+    names: &str,
+    types: &str,
+) -> Result<Vec<ArchiveColumn>, ArchiveError>
+    ensures { Gives (λ columns. columns.items) result (columns_in names.now types.now) }
+{
+    let names = header_fields(alloc, names)?;
+    let types = header_fields(alloc, types)?;
+    columns_with(alloc, names.as_slice(), types.as_slice())
+}

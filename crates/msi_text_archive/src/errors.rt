@@ -1,0 +1,135 @@
+//! Errors with the place of a text at which they are.
+
+ghost use Rattle.std.specs.Prelude.{◌≡◌, ◌≢◌};
+ghost use Rattle.msi_text_base.specs.declared.errors.ErrorKind.TheVariants.{OutOfMemory};
+ghost use Rattle.msi_text_archive.specs.Writing.{Checks};
+
+use msi_text::errors::{Error, ErrorKind, Reason};
+use std::alloc::{AllocError, AllocFailed};
+use std::fmt;
+use std::marker::Model;
+
+/// A place in a text archive.
+#[derive(Clone, Copy, Debug, PartialEq, Eq)]
+pub struct Place {
+    /// The line, counted from 1.
+    pub line: usize,
+    /// The field in the line, counted from 1.
+    pub field: usize,
+}
+
+/// Why a text isn't read, or an archive not written: the place in the text, and the rule that is broken there, for
+/// people. Contracts see the kind alone.
+#[derive(Debug, Drop)]
+pub struct ArchiveError {
+    place: Option<Place>,
+    error: Error,
+}
+
+impl Model for ArchiveError {
+    ghost use Rattle.msi_text_base.specs.declared.errors.ErrorKind.{ErrorKind};
+
+    ghost Value = { ErrorKind };
+
+    ghost view = { λ e. e.error };
+}
+
+impl ArchiveError {
+    /// Returns an error at a place.
+    pub(crate) fn new(place: Place, kind: ErrorKind, reason: Reason) -> ArchiveError
+        ensures { result ≡ kind }
+    {
+        ArchiveError {
+            place: Some(place),
+            error: Error::new(kind, reason),
+        }
+    }
+
+    /// Returns the place in the text that was read or that would be written, or `None` where memory was refused.
+    pub fn place(&self) -> Option<Place> {
+        self.place
+    }
+
+    /// Returns the kind of the error: `OutOfMemory`, or `InvalidData` of a text and `InvalidInput` of an archive.
+    pub fn kind(&self) -> ErrorKind
+        ensures { result ≡ self.now }
+    {
+        self.error.kind()
+    }
+
+    /// Returns the rule that is broken, for people to read.
+    pub fn reason(&self) -> Reason {
+        self.error.reason()
+    }
+}
+
+/// Writes the place, the kind and the rule, as `line 4, field 2: InvalidData: a number of 32 bits was expected`.
+impl fmt::Display for ArchiveError {
+    fn fmt<W: fmt::Write>(&self, f: &mut fmt::Formatter<W>) -> fmt::Result {
+        if let Some(place) = self.place {
+            write!(f, "line {}, field {}: ", place.line, place.field)?;
+        }
+        write!(f, "{}", self.error)
+    }
+}
+
+impl std::error::Error for ArchiveError {}
+
+impl From<AllocError> for ArchiveError {
+    ghost from_gives = { λ _ e. e ≡ OutOfMemory };
+
+    fn from(refused: AllocError) -> ArchiveError {
+        ArchiveError {
+            place: None,
+            error: Error::from(refused),
+        }
+    }
+}
+
+impl<T: Drop> From<AllocFailed<T>> for ArchiveError {
+    ghost from_gives = { λ _ e. e ≡ OutOfMemory };
+
+    fn from(refused: AllocFailed<T>) -> ArchiveError {
+        ArchiveError {
+            place: None,
+            error: Error::from(refused),
+        }
+    }
+}
+
+/// What was read of a field, with its place where that is an error; memory is refused at no place.
+pub(crate) fn at<T>(place: Place, read: Result<T, Error>) -> Result<T, ArchiveError>
+    ensures { result ≡ read }
+{
+    match read {
+        Ok(value) => Ok(value),
+        Err(error) => match error.kind() {
+            ErrorKind::OutOfMemory => Err(ArchiveError { place: None, error }),
+            _ => Err(ArchiveError {
+                place: Some(place),
+                error,
+            }),
+        },
+    }
+}
+
+/// Refuses a part of an archive that has no field.
+pub(crate) fn check(holds: bool, place: Place, reason: Reason) -> Result<(), ArchiveError>
+    ensures { Checks result holds }
+{
+    if holds {
+        Ok(())
+    } else {
+        Err(ArchiveError::new(place, ErrorKind::InvalidInput, reason))
+    }
+}
+
+/// The place in a line of another number of fields than there are columns: the first that is missing or too many.
+pub(crate) fn uneven(line: usize, columns: usize, fields: usize) -> Place
+    requires { columns ≢ fields }
+{
+    Place {
+        line,
+        field: columns.min(fields) + 1,
+    }
+}

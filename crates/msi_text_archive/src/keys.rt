@@ -1,0 +1,95 @@
+//! The third line of a text archive: the page, the table and its keys.
+
+ghost use Rattle.std.specs.Prelude.{◌≡◌, ◌≤◌, map};
+ghost use Rattle.msi_text_base.specs.Results.{Gives};
+ghost use Rattle.msi_text_base.specs.declared.errors.ErrorKind.TheVariants.{InvalidData};
+ghost use Rattle.msi_text_archive.specs.Fields.{text_in};
+ghost use Rattle.msi_text_archive.specs.Lists.{each};
+ghost use Rattle.msi_text_archive.specs.Reading.{keys_in, keys_with as keys_with_in};
+
+use crate::errors::{ArchiveError, Place};
+use crate::fields::text_at;
+use crate::reasons;
+use crate::type_fields::u16_of;
+use msi_text::errors::ErrorKind;
+use msi_text::text::{Items, Text};
+use std::alloc::Global;
+use std::marker::Model;
+
+/// What the third line says.
+#[derive(Drop)]
+pub(crate) struct KeysLine {
+    pub(crate) page: Option<u16>,
+    pub(crate) table: Text,
+    pub(crate) keys: Items<Text>,
+}
+
+impl Model for KeysLine {
+    ghost use Rattle.msi_text_archive.specs.Archives.{KeysDef};
+
+    ghost Value = { KeysDef };
+
+    ghost view = { λ k. record { page = k.page; table = k.table; keys = k.keys } };
+}
+
+/// The names of the key columns that fields mean, which stand behind so many others.
+fn names_of(alloc: Global, before: usize, fields: &[&str]) -> Result<Vec<Text>, ArchiveError>
+    requires { before ≤ 2 }
+    ensures { Gives (λ names. names.items) result (each text_in (map (λ field. field.now) fields.now)) }
+{
+    let mut names = Vec::new(alloc);
+    for i in 0..fields.len() {
+        let place = Place {
+            line: 3,
+            field: before + i + 1,
+        };
+        let name = text_at(alloc, place, fields[i])?;
+        names.push(name)?;
+    }
+    Ok(names)
+}
+
+/// The line of a page, with the fields of the table and the keys.
+#[tactic(auto, unfolding(crate::specs::Reading::keys_with))]
+fn keys_with(
+    alloc: Global,
+    page: Option<u16>,
+    table: &str,
+    keys: &[&str],
+) -> Result<KeysLine, ArchiveError>
+    ensures { Gives (λ line. line) result (keys_with_in page table.now (map (λ field. field.now) keys.now)) }
+{
+    let field = if page.is_some() { 2 } else { 1 };
+    let place = Place { line: 3, field };
+    let table = text_at(alloc, place, table)?;
+    let keys = names_of(alloc, field, keys)?;
+    Ok(KeysLine {
+        page,
+        table,
+        keys: Items::from_vec(keys),
+    })
+}
+
+/// The error of a line without a table's name, which was expected in this field.
+fn without_table(field: usize) -> ArchiveError
+    ensures { result ≡ InvalidData }
+{
+    let place = Place { line: 3, field };
+    ArchiveError::new(place, ErrorKind::InvalidData, reasons::TABLE_MISSING)
+}
+
+/// What the fields of the third line say.
+pub(crate) fn keys_of(alloc: Global, fields: &[&str]) -> Result<KeysLine, ArchiveError>
+    ensures { Gives (λ line. line) result (keys_in (map (λ field. field.now) fields.now)) }
+{
+    let Some((first, others)) = fields.split_first() else {
+        return Err(without_table(1));
+    };
+    let Some(page) = u16_of(first) else {
+        return keys_with(alloc, None, first, others);
+    };
+    match others.split_first() {
+        Some((table, keys)) => keys_with(alloc, Some(page), table, keys),
+        None => Err(without_table(2)),
+    }
+}

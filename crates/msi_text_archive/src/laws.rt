@@ -1,0 +1,13 @@
+//! What holds of the format itself: each is the contract of a function without a body.
+
+ghost use Rattle.msi_text_archive.specs.ArchiveLaws.{OneArchive, OthersHaveNoText};
+
+/// A text means at most one archive.
+pub fn one_archive()
+    ensures { OneArchive }
+{}
+
+/// An archive that a text means can be written: one that is refused has no text.
+pub fn others_have_no_text()
+    ensures { OthersHaveNoText }
+{}

@@ -1,0 +1,7 @@
+//! Tests of text archives.
+#![tactic(auto)]
+
+#[cfg(test)]
+mod exports;
+#[cfg(test)]
+mod refusals;
