@@ -1,0 +1,44 @@
+//! The tables of the pages.
+
+ghost use Rattle.std.specs.Prelude.{◌≡◌};
+ghost use Rattle.msi_text_pages.specs.Tables.{page_text};
+
+pub(crate) mod single_bytes;
+pub(crate) mod windows_932;
+pub(crate) mod windows_936;
+pub(crate) mod windows_949;
+pub(crate) mod windows_950;
+
+use crate::page::Page;
+
+/// The characters of a page: those of the bytes from 80 on that stand alone, and then a row of 192 for each first byte
+/// of two, those of the second bytes from 40 on. An ASCII character fills a place that stands for nothing.
+#[tactic(auto, unfolding(crate::specs::Tables::page_text))]
+pub(crate) fn page_text(page: Page) -> &'static str
+    ensures { result.now ≡ page_text page }
+{
+    match page {
+        Page::Windows874 => single_bytes::WINDOWS_874,
+        Page::Windows932 => windows_932::WINDOWS_932,
+        Page::Windows936 => windows_936::WINDOWS_936,
+        Page::Windows949 => windows_949::WINDOWS_949,
+        Page::Windows950 => windows_950::WINDOWS_950,
+        Page::Windows1250 => single_bytes::WINDOWS_1250,
+        Page::Windows1251 => single_bytes::WINDOWS_1251,
+        Page::Windows1253 => single_bytes::WINDOWS_1253,
+        Page::Windows1254 => single_bytes::WINDOWS_1254,
+        Page::Windows1255 => single_bytes::WINDOWS_1255,
+        Page::Windows1256 => single_bytes::WINDOWS_1256,
+        Page::Windows1257 => single_bytes::WINDOWS_1257,
+        Page::Windows1258 => single_bytes::WINDOWS_1258,
+        Page::MacintoshCyrillic => single_bytes::MACINTOSH_CYRILLIC,
+        Page::Iso88592 => single_bytes::ISO_8859_2,
+        Page::Iso88593 => single_bytes::ISO_8859_3,
+        Page::Iso88594 => single_bytes::ISO_8859_4,
+        Page::Iso88595 => single_bytes::ISO_8859_5,
+        Page::Iso88596 => single_bytes::ISO_8859_6,
+        Page::Iso88597 => single_bytes::ISO_8859_7,
+        Page::Iso88598 => single_bytes::ISO_8859_8,
+        Page::Iso88599 => single_bytes::ISO_8859_9,
+    }
+}
