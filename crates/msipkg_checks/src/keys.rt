@@ -1,0 +1,122 @@
+//! The columns to which foreign keys refer, and values as texts.
+
+use crate::reading::pass_over;
+use msi::{Package, Rows, Select, Source, Value};
+use msipkg_output::Failure;
+use std::alloc::{AllocError, Global};
+use std::collections::{BTreeMap, BTreeSet};
+
+/// Returns a value's text: a number in decimal, and nothing for null and streams.
+///
+/// # Errors
+/// Fails if memory is refused.
+pub(crate) fn key_text(alloc: Global, value: &Value) -> Result<Option<String>, AllocError> {
+    match value {
+        Value::Int(number) => Ok(Some(number.to_string(alloc)?)),
+        Value::Str(text) => Ok(Some(String::from_str(alloc, text.as_str())?)),
+        Value::Null | Value::Binary => Ok(None),
+    }
+}
+
+/// Columns with the texts of their values. A column is read once, however many foreign keys refer to it, and a text is
+/// held once, however many columns have it.
+#[derive(Drop)]
+pub(crate) struct KeyColumns {
+    alloc: Global,
+    /// The number of each text.
+    texts: BTreeMap<String, usize>,
+    /// The number of each column, by its place in its table and the table's name.
+    columns: BTreeMap<String, usize>,
+    /// Which column has which text.
+    keys: BTreeSet<Key>,
+}
+
+/// A text of a column, each by its number.
+#[derive(Clone, Copy, Debug, PartialEq, Eq, PartialOrd, Ord, Hash)]
+struct Key {
+    column: usize,
+    text: usize,
+}
+
+impl KeyColumns {
+    /// Returns no columns.
+    pub(crate) fn new(alloc: Global) -> KeyColumns {
+        KeyColumns {
+            alloc,
+            texts: BTreeMap::new(alloc),
+            columns: BTreeMap::new(alloc),
+            keys: BTreeSet::new(alloc),
+        }
+    }
+
+    /// Returns the number of a table's column, whose place is counted from 1. It has no texts if there is no such table
+    /// or column, or if the table can't be read.
+    ///
+    /// # Errors
+    /// Fails with `OutOfMemory`.
+    pub(crate) fn column<F: Source>(
+        &mut self,
+        package: &Package<F>,
+        table: &str,
+        place: i32,
+    ) -> Result<usize, Failure> {
+        let name = format!(in self.alloc; "{place} {table}")?;
+        if let Some(column) = self.columns.get(name.as_str()) {
+            return Ok(*column);
+        }
+        let column = self.columns.len();
+        self.columns.insert(name, column)?;
+        match package.select_rows(Select::table(self.alloc, table)?) {
+            Ok(rows) => self.add_rows(column, usize::try_from(place).unwrap_or(0), rows)?,
+            Err(error) => pass_over(error)?,
+        }
+        Ok(column)
+    }
+
+    /// Adds the texts of rows in the column at a place, counted from 1.
+    fn add_rows(&mut self, column: usize, place: usize, rows: Rows<'_>) -> Result<(), Failure> {
+        for row in rows {
+            let row = row?;
+            if place >= 1 && place <= row.len() {
+                self.add_value(column, &row[place - 1])?;
+            }
+        }
+        Ok(())
+    }
+
+    /// Adds a value's text, if it has one.
+    fn add_value(&mut self, column: usize, value: &Value) -> Result<(), AllocError> {
+        if let Some(text) = key_text(self.alloc, value)? {
+            let text = self.text_number(text)?;
+            self.keys.insert(Key { column, text })?;
+        }
+        Ok(())
+    }
+
+    /// Returns the number of a text, which is a new one if there was none.
+    fn text_number(&mut self, text: String) -> Result<usize, AllocError> {
+        if let Some(number) = self.texts.get(text.as_str()) {
+            return Ok(*number);
+        }
+        let number = self.texts.len();
+        self.texts.insert(text, number)?;
+        Ok(number)
+    }
+
+    /// Returns whether one of these columns has a text.
+    pub(crate) fn have_text(&self, columns: &BTreeSet<usize>, text: &str) -> bool {
+        let Some(text) = self.texts.get(text) else {
+            return false;
+        };
+        for column in columns {
+            let key = Key {
+                column: *column,
+                text: *text,
+            };
+            if self.keys.contains(&key) {
+                return true;
+            }
+        }
+        false
+    }
+}

@@ -1,0 +1,16 @@
+//! Tables that can't be read.
+
+use msi::{Error, ErrorKind};
+use msipkg_output::Failure;
+
+/// Passes over the error with which rows can't be selected: a table or a column isn't there, or the table can't be
+/// read.
+///
+/// # Errors
+/// Fails with `OutOfMemory` if that is the error.
+pub(crate) fn pass_over(error: Error) -> Result<(), Failure> {
+    if error.kind() == ErrorKind::OutOfMemory {
+        return Err(Failure::from(error));
+    }
+    Ok(())
+}

@@ -1,0 +1,143 @@
+//! Foreign keys that no row has.
+
+use crate::keys::{KeyColumns, key_text};
+use crate::reading::pass_over;
+use crate::report::{Cell, Report};
+use msi::{Package, Row, Rows, Select, Source, Table};
+use msipkg_output::Failure;
+use std::alloc::Global;
+use std::collections::BTreeSet;
+
+/// A column with a foreign key, and the numbers of the columns to which it refers.
+#[derive(Drop)]
+struct Reference {
+    /// The column's place in its table, from 0.
+    place: usize,
+    targets: BTreeSet<usize>,
+}
+
+/// Finds the values of columns with a foreign key that no row has of the tables to which it refers. Tables that can't
+/// be read are passed over.
+///
+/// # Errors
+/// Fails with `OutOfMemory`, and so do the other calls.
+pub(crate) fn check_references<F: Source>(
+    alloc: Global,
+    package: &Package<F>,
+    report: &mut Report,
+) -> Result<(), Failure> {
+    let mut keys = KeyColumns::new(alloc);
+    for table in package.tables() {
+        check_table(alloc, package, table, &mut keys, report)?;
+    }
+    Ok(())
+}
+
+/// Finds such values of a table.
+fn check_table<F: Source>(
+    alloc: Global,
+    package: &Package<F>,
+    table: &Table,
+    keys: &mut KeyColumns,
+    report: &mut Report,
+) -> Result<(), Failure> {
+    let references = references_of(alloc, package, table, keys)?;
+    if references.is_empty() {
+        return Ok(());
+    }
+    match package.select_rows(Select::table(alloc, table.name())?) {
+        Ok(rows) => check_rows(alloc, table, rows, references.as_slice(), keys, report),
+        Err(error) => pass_over(error),
+    }
+}
+
+/// Returns the columns of a table that have a foreign key.
+fn references_of<F: Source>(
+    alloc: Global,
+    package: &Package<F>,
+    table: &Table,
+    keys: &mut KeyColumns,
+) -> Result<Vec<Reference>, Failure> {
+    let mut references = Vec::new(alloc);
+    for (place, column) in table.columns().iter().enumerate() {
+        if let Some((tables, number)) = column.foreign_key() {
+            let targets = targets_of(alloc, package, tables, number, keys)?;
+            references.push(Reference { place, targets })?;
+        }
+    }
+    Ok(references)
+}
+
+/// Returns the columns to which a foreign key refers: those at a place, counted from 1, of tables whose names stand
+/// between semicolons.
+fn targets_of<F: Source>(
+    alloc: Global,
+    package: &Package<F>,
+    tables: &str,
+    place: i32,
+    keys: &mut KeyColumns,
+) -> Result<BTreeSet<usize>, Failure> {
+    let mut targets = BTreeSet::new(alloc);
+    for table in tables.split(';') {
+        if package.has_table(table) {
+            targets.insert(keys.column(package, table, place)?)?;
+        }
+    }
+    Ok(targets)
+}
+
+/// Finds the values of rows whose foreign keys no row has.
+fn check_rows(
+    alloc: Global,
+    table: &Table,
+    rows: Rows<'_>,
+    references: &[Reference],
+    keys: &KeyColumns,
+    report: &mut Report,
+) -> Result<(), Failure> {
+    let mut number = 0usize;
+    for row in rows {
+        number = number.saturating_add(1);
+        let row = row?;
+        for reference in references {
+            if !is_met(alloc, &row, reference, keys)? {
+                add_missing(table, number, reference.place, report)?;
+            }
+        }
+    }
+    Ok(())
+}
+
+/// Returns whether a row has the key to which a row refers, which is so for null.
+fn is_met(
+    alloc: Global,
+    row: &Row,
+    reference: &Reference,
+    keys: &KeyColumns,
+) -> Result<bool, Failure> {
+    if reference.place >= row.len() {
+        return Ok(true);
+    }
+    match key_text(alloc, &row[reference.place])? {
+        Some(text) => Ok(keys.have_text(&reference.targets, text.as_str())),
+        None => Ok(true),
+    }
+}
+
+/// Adds the error of a cell whose key no row has.
+fn add_missing(
+    table: &Table,
+    row: usize,
+    place: usize,
+    report: &mut Report,
+) -> Result<(), Failure> {
+    if let Some(column) = table.columns().get(place) {
+        let cell = Cell {
+            table: table.name(),
+            row,
+            column: column.name(),
+        };
+        report.add_cell(cell, "no row has this key")?;
+    }
+    Ok(())
+}

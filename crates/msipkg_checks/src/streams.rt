@@ -1,0 +1,181 @@
+//! Streams that no row names, and rows whose stream isn't there.
+
+use crate::keys::key_text;
+use crate::reading::pass_over;
+use crate::report::Report;
+use msi::{Column, ColumnType, Package, Row, Rows, Select, Source, Table, Value};
+use msipkg_output::Failure;
+use std::alloc::{AllocError, Global};
+use std::collections::BTreeSet;
+
+/// Finds the streams that no row names, and the names of rows for which there is no stream. A row with a stream names
+/// it after its table and its key, as `Icon.App`, and a row of `Media` names a cabinet behind a `#`.
+///
+/// # Errors
+/// Fails with `OutOfMemory`, and so do the other calls.
+pub(crate) fn check_streams<F: Source>(
+    alloc: Global,
+    package: &Package<F>,
+    report: &mut Report,
+) -> Result<(), Failure> {
+    let mut names = BTreeSet::new(alloc);
+    for table in package.tables() {
+        add_names(alloc, package, table, &mut names)?;
+    }
+    add_cabinets(alloc, package, &mut names)?;
+    check_unnamed(package, &names, report)?;
+    check_missing(package, &names, report)
+}
+
+/// Finds the streams whose name isn't among these.
+fn check_unnamed<F: Source>(
+    package: &Package<F>,
+    names: &BTreeSet<String>,
+    report: &mut Report,
+) -> Result<(), Failure> {
+    for stream in package.streams() {
+        let stream = stream?;
+        let name = stream.as_str();
+        if !package.has_stream(name) {
+            let message = "it isn't found under its name, which is stored in another form";
+            report.add_part("stream", name, message)?;
+        } else if !names.contains(name) {
+            report.add_part("stream", name, "no row names it")?;
+        }
+    }
+    Ok(())
+}
+
+/// Finds the names for which there is no stream.
+fn check_missing<F: Source>(
+    package: &Package<F>,
+    names: &BTreeSet<String>,
+    report: &mut Report,
+) -> Result<(), Failure> {
+    for name in names {
+        if !package.has_stream(name.as_str()) {
+            report.add_part(
+                "stream",
+                name.as_str(),
+                "a row names it, and it isn't there",
+            )?;
+        }
+    }
+    Ok(())
+}
+
+/// Adds the names of the streams of a table's rows, if it has a column of streams.
+fn add_names<F: Source>(
+    alloc: Global,
+    package: &Package<F>,
+    table: &Table,
+    names: &mut BTreeSet<String>,
+) -> Result<(), Failure> {
+    if !has_stream_column(table) {
+        return Ok(());
+    }
+    match package.select_rows(Select::table(alloc, table.name())?) {
+        Ok(rows) => add_row_names(alloc, table, rows, names),
+        Err(error) => pass_over(error),
+    }
+}
+
+/// Returns whether a table has a column of streams.
+fn has_stream_column(table: &Table) -> bool {
+    for column in table.columns() {
+        if matches!(column.coltype(), ColumnType::Binary) {
+            return true;
+        }
+    }
+    false
+}
+
+/// Adds the names of the streams of rows.
+fn add_row_names(
+    alloc: Global,
+    table: &Table,
+    rows: Rows<'_>,
+    names: &mut BTreeSet<String>,
+) -> Result<(), Failure> {
+    for row in rows {
+        let row = row?;
+        if has_stream(&row) {
+            names.insert(stream_name(alloc, table, &row)?)?;
+        }
+    }
+    Ok(())
+}
+
+/// Returns whether one of a row's values is a stream.
+fn has_stream(row: &Row) -> bool {
+    for i in 0..row.len() {
+        if matches!(&row[i], Value::Binary) {
+            return true;
+        }
+    }
+    false
+}
+
+/// Returns the name of a row's stream: its table and the values of its key, parted by dots.
+fn stream_name(alloc: Global, table: &Table, row: &Row) -> Result<String, AllocError> {
+    let columns: &[Column] = table.columns();
+    let mut name = String::from_str(alloc, table.name())?;
+    for i in 0..row.len().min(columns.len()) {
+        if columns[i].is_primary_key() {
+            push_key(alloc, &row[i], &mut name)?;
+        }
+    }
+    Ok(name)
+}
+
+/// Puts a dot and a value of a key behind a name.
+fn push_key(alloc: Global, value: &Value, name: &mut String) -> Result<(), AllocError> {
+    name.push('.')?;
+    match key_text(alloc, value)? {
+        Some(text) => name.push_str(text.as_str()),
+        None => Ok(()),
+    }
+}
+
+/// Adds the names of the cabinets that are streams.
+fn add_cabinets<F: Source>(
+    alloc: Global,
+    package: &Package<F>,
+    names: &mut BTreeSet<String>,
+) -> Result<(), Failure> {
+    let query = Select::table(alloc, "Media")?.columns(&["Cabinet"])?;
+    match package.select_rows(query) {
+        Ok(rows) => add_cabinet_names(alloc, rows, names),
+        Err(error) => pass_over(error),
+    }
+}
+
+/// Adds the names behind a `#`.
+fn add_cabinet_names(
+    alloc: Global,
+    rows: Rows<'_>,
+    names: &mut BTreeSet<String>,
+) -> Result<(), Failure> {
+    for row in rows {
+        let row = row?;
+        if !row.is_empty() {
+            add_cabinet_name(alloc, &row[0], names)?;
+        }
+    }
+    Ok(())
+}
+
+/// Adds the name behind a `#`, if there is one.
+fn add_cabinet_name(
+    alloc: Global,
+    value: &Value,
+    names: &mut BTreeSet<String>,
+) -> Result<(), AllocError> {
+    let Value::Str(text) = value else {
+        return Ok(());
+    };
+    if let Some(name) = text.as_str().strip_prefix('#') {
+        names.insert(String::from_str(alloc, name)?)?;
+    }
+    Ok(())
+}

@@ -1,0 +1,58 @@
+//! The commands that write files.
+
+use crate::Asked;
+use msipkg_changes::{
+    New, add_streams, carry_out_statements, create_package, remove_streams, set_properties,
+};
+use msipkg_looks::{Folder, extract_streams};
+use msipkg_output::Failure;
+use std::fs::OpenFile;
+use std::io::{Read, Seek, Write};
+use std::rt::Files;
+
+/// Whether a command writes a file.
+pub(crate) fn is_change(asked: &Asked<'_, '_>) -> bool {
+    match asked.name {
+        "new" | "add" | "remove" | "exec" | "extract" => true,
+        "summary" => !asked.texts("set").is_empty() || !asked.texts("clear").is_empty(),
+        _ => false,
+    }
+}
+
+/// Carries out a command that writes a file.
+///
+/// # Errors
+/// Fails as the command does.
+pub(crate) fn change<R, E>(rt: &R, asked: &Asked<'_, '_>, errors: &mut E) -> Result<(), Failure>
+where
+    R: Files + AllocGlobal,
+    R::File: OpenFile + Read + Write + Seek + Drop,
+    E: Write,
+{
+    let file = asked.file();
+    match asked.name {
+        "new" => create_package(rt, file, wanted(asked)),
+        "add" => add_streams(rt, file, asked.texts("NAME=PATH"), errors),
+        "remove" => remove_streams(rt, file, asked.texts("NAME"), errors),
+        "exec" => carry_out_statements(rt, file, asked.texts("TEXT"), errors),
+        "extract" => extract_streams(rt, file, asked.texts("NAME"), target_of(asked), errors),
+        _ => set_properties(rt, file, asked.texts("set"), asked.texts("clear"), errors),
+    }
+}
+
+/// The package that `new` makes.
+fn wanted<'a>(asked: &Asked<'a, '_>) -> New<'a> {
+    New {
+        kind: asked.text("kind"),
+        page: asked.given.get_str("page"),
+        is_forced: asked.given.get_flag("force"),
+    }
+}
+
+/// The folder that `extract` writes to.
+fn target_of<'a>(asked: &Asked<'a, '_>) -> Folder<'a> {
+    Folder {
+        path: asked.text("output"),
+        is_forced: asked.given.get_flag("force"),
+    }
+}

@@ -1,0 +1,156 @@
+//! The commands of the program `msipkg`, over any files and writers.
+#![tactic(auto)]
+
+mod batch;
+mod changing;
+mod looking;
+mod several;
+mod words;
+
+pub use batch::run_lines;
+use clap::ArgMatches;
+use clap::error::ErrorKind;
+use msipkg_output::{Failure, Shown, Style};
+use std::fs::OpenFile;
+use std::io::{BufWriter, Read, Seek, Write};
+use std::rt::Files;
+
+/// How many bytes are collected before they go to the output.
+const CAPACITY: usize = 64 * 1024;
+
+/// Runs a command over its arguments and two writers. Returns the exit status: 0 on success; 1 on an error, which is
+/// written to `errors`; 2 with a hint there, if the arguments match no command.
+pub fn run<R, O, E>(
+    rt: &R,
+    words: &[String],
+    is_terminal: bool,
+    output: &mut O,
+    errors: &mut E,
+) -> u8
+where
+    R: Files + AllocGlobal,
+    R::File: OpenFile + Read + Write + Seek + Drop,
+    O: Write + Drop,
+    E: Write,
+{
+    match words::matches_of(rt.alloc(), words) {
+        Ok(matches) => run_matched(rt, &matches, is_terminal, output, errors),
+        Err(error) => show_parse(&error, output, errors),
+    }
+}
+
+/// Shows why the words gave no command: help and the version on the output, and a mistake with its hint on `errors`.
+fn show_parse<O: Write, E: Write>(error: &clap::Error, output: &mut O, errors: &mut E) -> u8 {
+    if error.use_stderr() {
+        let _ = write!(errors, "{error}");
+        return status_of(error.kind());
+    }
+    match write!(output, "{error}") {
+        Ok(()) => 0,
+        Err(_) => 1,
+    }
+}
+
+/// The exit status for words that gave no command: memory may have run out, too.
+fn status_of(kind: ErrorKind) -> u8 {
+    match kind {
+        ErrorKind::OutOfMemory => 1,
+        _ => 2,
+    }
+}
+
+/// Runs the command that the words ask for.
+fn run_matched<R, O, E>(
+    rt: &R,
+    matches: &ArgMatches<'_>,
+    is_terminal: bool,
+    output: &mut O,
+    errors: &mut E,
+) -> u8
+where
+    R: Files + AllocGlobal,
+    R::File: OpenFile + Read + Write + Seek + Drop,
+    O: Write + Drop,
+    E: Write,
+{
+    let Some((name, given)) = matches.subcommand() else {
+        return 2;
+    };
+    let style = Style {
+        is_terminal,
+        is_escaped: is_terminal || given.get_flag("escape"),
+    };
+    let asked = Asked { name, given, style };
+    match carry_out(rt, &asked, output, errors) {
+        Ok(is_well) => u8::from(!is_well),
+        Err(failure) => {
+            tell(asked.file(), &failure, errors);
+            1
+        }
+    }
+}
+
+/// A command with what was given to it.
+#[derive(Clone, Copy)]
+pub(crate) struct Asked<'a, 'b> {
+    pub(crate) name: &'a str,
+    pub(crate) given: &'b ArgMatches<'a>,
+    pub(crate) style: Style,
+}
+
+impl<'a, 'b> Asked<'a, 'b> {
+    /// The first file.
+    pub(crate) fn file(&self) -> &'a str {
+        self.text("FILE")
+    }
+
+    /// Whether JSON is to be printed.
+    pub(crate) fn is_json(&self) -> bool {
+        self.given.get_flag("json")
+    }
+
+    /// The value of an argument, or the empty text.
+    pub(crate) fn text(&self, id: &str) -> &'a str {
+        self.given.get_str(id).unwrap_or("")
+    }
+
+    /// The values of an argument.
+    pub(crate) fn texts(&self, id: &str) -> &'b [&'a str] {
+        match self.given.get_strs(id) {
+            Some(texts) => texts,
+            None => &[],
+        }
+    }
+}
+
+/// Writes on a line why a command failed on a file.
+pub(crate) fn tell<E: Write>(file: &str, failure: &Failure, errors: &mut E) {
+    let file = Shown::escaped(file);
+    let _ = writeln!(errors, "msipkg: {file}: {failure}");
+}
+
+/// Carries out a command, and returns whether all is well: nothing was found to be wrong.
+fn carry_out<R, O, E>(
+    rt: &R,
+    asked: &Asked<'_, '_>,
+    output: &mut O,
+    errors: &mut E,
+) -> Result<bool, Failure>
+where
+    R: Files + AllocGlobal,
+    R::File: OpenFile + Read + Write + Seek + Drop,
+    O: Write + Drop,
+    E: Write,
+{
+    if asked.name == "batch" {
+        return Err(Failure::rule("batch is no command of a batch"));
+    }
+    if changing::is_change(asked) {
+        changing::change(rt, asked, errors)?;
+        return Ok(true);
+    }
+    let mut lines = BufWriter::with_capacity(rt.alloc(), CAPACITY, output)?;
+    let is_well = looking::look(rt, asked, &mut lines, errors)?;
+    lines.flush()?;
+    Ok(is_well)
+}

@@ -1,0 +1,133 @@
+//! `info FILE..`: what a package is, in a few lines.
+
+use crate::facts::Facts;
+use crate::summary::{add_summary, print_facts};
+use crate::tables::count_rows;
+use msi::{Error, Package, PackageType, Source};
+use msipkg_files::{StoredStreams, open_package, stored_streams, stream_bytes};
+use msipkg_output::{Failure, Style};
+use std::alloc::{AllocError, Global};
+use std::io::{Read, Seek, Write};
+use std::rt::Files;
+
+/// Prints what a package is, as lines or as JSON on one line.
+///
+/// # Errors
+/// Fails as opening the package does, and as the writer does.
+pub fn print_info<R, O>(
+    rt: &R,
+    style: Style,
+    file: &str,
+    is_json: bool,
+    output: &mut O,
+) -> Result<(), Failure>
+where
+    R: Files + AllocGlobal,
+    R::File: Read + Seek + Drop,
+    O: Write,
+{
+    let mut package = open_package(rt, file)?;
+    let stored = stored_streams(rt, file, &package)?;
+    let facts = facts_of(rt.alloc(), &mut package, stored.as_ref())?;
+    print_facts(rt.alloc(), style, file, is_json, &facts, output)
+}
+
+/// Returns all that is told of a package.
+fn facts_of<F: Source>(
+    alloc: Global,
+    package: &mut Package<F>,
+    stored: Option<&StoredStreams>,
+) -> Result<Facts, Failure> {
+    let mut facts = Facts::new(alloc);
+    add_package(alloc, package, stored, &mut facts)?;
+    Ok(facts)
+}
+
+/// Adds all that is told of a package.
+fn add_package<F: Source>(
+    alloc: Global,
+    package: &mut Package<F>,
+    stored: Option<&StoredStreams>,
+    facts: &mut Facts,
+) -> Result<(), Failure> {
+    facts.text("kind", Some(kind_name(package.package_type())))?;
+    let page = package.database_codepage().id();
+    facts.number("database_codepage", Some(i64::from(page)))?;
+    add_summary(alloc, package.summary_info(), facts)?;
+    add_tables(alloc, package, facts)?;
+    add_streams(package, stored, facts)?;
+    facts.truth("signed", package.has_digital_signature())?;
+    add_changeable(alloc, package, facts)?;
+    Ok(())
+}
+
+/// The name of a package's kind, as `new` takes it.
+fn kind_name(kind: PackageType) -> &'static str {
+    match kind {
+        PackageType::Installer => "installer",
+        PackageType::Patch => "patch",
+        PackageType::Transform => "transform",
+    }
+}
+
+/// Adds the numbers of tables, of those that can't be read, and of rows.
+fn add_tables<F: Source>(
+    alloc: Global,
+    package: &Package<F>,
+    facts: &mut Facts,
+) -> Result<(), AllocError> {
+    let (mut unreadable, mut rows) = (0usize, 0usize);
+    for table in package.tables() {
+        match count_rows(alloc, package, table.name()) {
+            Ok(count) => rows = rows.saturating_add(count),
+            Err(_) => unreadable = unreadable.saturating_add(1),
+        }
+    }
+    facts.number("tables", signed(package.tables().len()))?;
+    if unreadable > 0 {
+        facts.number("unreadable_tables", signed(unreadable))?;
+    }
+    facts.number("rows", signed(rows))
+}
+
+/// Adds the numbers of streams, and of their bytes.
+fn add_streams<F: Source>(
+    package: &Package<F>,
+    stored: Option<&StoredStreams>,
+    facts: &mut Facts,
+) -> Result<(), Failure> {
+    let (mut streams, mut bytes) = (0usize, 0usize);
+    for name in package.streams() {
+        let len = stream_bytes(package, stored, name?.as_str())?.len();
+        streams = streams.saturating_add(1);
+        bytes = bytes.saturating_add(len);
+    }
+    facts.number("streams", signed(streams))?;
+    facts.number("stream_bytes", signed(bytes))?;
+    Ok(())
+}
+
+/// A count as a signed number.
+fn signed(count: usize) -> Option<i64> {
+    i64::try_from(count).ok()
+}
+
+/// Adds whether the package's tables can be changed, and if not, why: its counts may be too low, or storages lie below
+/// its root. The page is set to itself, which is a change like any other, and nothing is written.
+fn add_changeable<F: Source>(
+    alloc: Global,
+    package: &mut Package<F>,
+    facts: &mut Facts,
+) -> Result<(), AllocError> {
+    let page = package.database_codepage();
+    match package.set_database_codepage(page) {
+        Ok(()) => facts.truth("changeable", true),
+        Err(error) => add_refusal(alloc, &error, facts),
+    }
+}
+
+/// Adds why a package's tables can't be changed.
+fn add_refusal(alloc: Global, error: &Error, facts: &mut Facts) -> Result<(), AllocError> {
+    facts.truth("changeable", false)?;
+    facts.text("why_not", Some(error.to_string(alloc)?.as_str()))
+}

@@ -1,0 +1,21 @@
+//! What `msipkg` tells of packages without changing them.
+#![tactic(auto)]
+
+mod columns;
+pub mod extract;
+mod facts;
+pub mod info;
+pub mod query;
+pub mod schema;
+pub mod streams;
+pub mod summary;
+pub mod tables;
+mod times;
+
+pub use extract::{Folder, extract_streams};
+pub use info::print_info;
+pub use query::print_query;
+pub use schema::print_schema;
+pub use streams::print_streams;
+pub use summary::print_summary;
+pub use tables::print_tables;

@@ -1,0 +1,26 @@
+//! Times as texts.
+
+use msi::Timestamp;
+use std::alloc::{AllocError, Global};
+
+/// Returns a time in UTC as ISO 8601 has it, as `2024-02-29T12:00:00Z`. One past the year 9999 is the number of its
+/// ticks of 100 ns since 1601.
+///
+/// # Errors
+/// Fails if memory is refused.
+pub(crate) fn time_text(alloc: Global, time: Timestamp) -> Result<String, AllocError> {
+    match instant_of(time) {
+        Some(instant) => instant.to_string(alloc),
+        None => {
+            let ticks = time.ticks();
+            format!(in alloc; "{ticks} ticks")
+        }
+    }
+}
+
+/// The instant of a time, if it lies before the year 10000.
+fn instant_of(time: Timestamp) -> Option<jiff::Timestamp> {
+    let (seconds, nanoseconds) = time.to_unix();
+    let nanoseconds = i32::try_from(nanoseconds).ok()?;
+    jiff::Timestamp::new(seconds, nanoseconds).ok()
+}

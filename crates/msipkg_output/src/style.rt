@@ -1,0 +1,23 @@
+//! Where the output goes, and whether its texts are escaped.
+
+use crate::escape::Shown;
+
+/// How texts are printed.
+#[derive(Clone, Copy, Debug)]
+pub struct Style {
+    /// Whether people read the output on a terminal.
+    pub is_terminal: bool,
+    /// Whether what a terminal would obey, or not show, is printed as an escape.
+    pub is_escaped: bool,
+}
+
+impl Style {
+    /// Returns a text as it is printed.
+    pub fn show<'a>(self, text: &'a str) -> Shown<'a> {
+        if self.is_escaped {
+            Shown::escaped(text)
+        } else {
+            Shown::raw(text)
+        }
+    }
+}
