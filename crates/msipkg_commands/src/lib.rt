@@ -116,10 +116,7 @@ impl<'a, 'b> Asked<'a, 'b> {
 
     /// The values of an argument.
     pub(crate) fn texts(&self, id: &str) -> &'b [&'a str] {
-        match self.given.get_strs(id) {
-            Some(texts) => texts,
-            None => &[],
-        }
+        self.given.get_strs(id).unwrap_or(&[])
     }
 }
 
