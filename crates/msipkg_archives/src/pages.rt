@@ -1,0 +1,50 @@
+//! The bytes of text archives, and their texts.
+
+use msi::CodePage;
+use msi_text_archive::ArchiveError;
+use msipkg_output::Failure;
+use std::alloc::{AllocError, Global};
+
+/// Returns the text of a file's bytes, in the code page that its third line names, or else in UTF-8, of which ASCII is
+/// a part.
+///
+/// # Errors
+/// Fails if there is no such page, if the bytes are no text in it, and if memory is refused.
+pub(crate) fn decoded(alloc: Global, bytes: &[u8]) -> Result<String, Failure> {
+    let page = match page_number(bytes) {
+        Some(number) => CodePage::from_id(i32::from(number)),
+        None => Some(CodePage::Utf8),
+    };
+    match page {
+        Some(page) => Ok(page.decode(alloc, bytes)?),
+        None => Err(Failure::rule("its third line names a code page that isn't known")),
+    }
+}
+
+/// The number in front of the third line.
+fn page_number(bytes: &[u8]) -> Option<u16> {
+    let line = bytes.split(|byte| *byte == b'\n').nth(2)?;
+    let field = line.split(|byte| *byte == b'\t').next()?;
+    let text = std::str::from_utf8(field).ok()?;
+    text.parse::<u16>().ok()
+}
+
+/// Returns the failure of an archive's error in a file: its line and field, and the rule that is broken there.
+pub(crate) fn failure_of(alloc: Global, path: &str, error: &ArchiveError) -> Failure {
+    let failure = Failure::rule(error.reason().0);
+    match place_text(alloc, path, error) {
+        Ok(place) => failure.at(alloc, "file", place.as_str()),
+        Err(_) => failure,
+    }
+}
+
+/// The text of a place in a file.
+fn place_text(alloc: Global, path: &str, error: &ArchiveError) -> Result<String, AllocError> {
+    match error.place() {
+        Some(place) => {
+            let (line, field) = (place.line, place.field);
+            format!(in alloc; "{path}: line {line}, field {field}")
+        }
+        None => String::from_str(alloc, path),
+    }
+}
