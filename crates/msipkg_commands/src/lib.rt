@@ -3,6 +3,8 @@
 
 mod batch;
 mod changing;
+mod exchange_words;
+mod exchanging;
 mod looking;
 mod several;
 mod words;
@@ -85,9 +87,14 @@ where
         Ok(is_well) => u8::from(!is_well),
         Err(failure) => {
             tell(asked.file(), &failure, errors);
-            1
+            trouble_status(asked.name)
         }
     }
+}
+
+/// The exit status for a command that failed: `diff` has 1 where something differs, and 2 for a failure.
+fn trouble_status(name: &str) -> u8 {
+    if name == "diff" { 2 } else { 1 }
 }
 
 /// A command with what was given to it.

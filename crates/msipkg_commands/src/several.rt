@@ -127,7 +127,11 @@ fn tell_one<O: Write, E: Write>(
 }
 
 /// The line of a file that failed, as JSON.
-fn failure_json(alloc: Global, file: &str, failure: &Failure) -> Result<String, AllocError> {
+pub(crate) fn failure_json(
+    alloc: Global,
+    file: &str,
+    failure: &Failure,
+) -> Result<String, AllocError> {
     let mut object = JsonObject::new(alloc)?;
     object.put_text("file", Some(file))?;
     object.put_text("error", Some(failure.to_string(alloc)?.as_str()))?;
