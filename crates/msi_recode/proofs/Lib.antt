@@ -1,0 +1,4 @@
+-- The lemmas of this crate.
+pub mod TextsLemmas
+pub mod StreamsLemmas
+pub mod RecodedLemmas

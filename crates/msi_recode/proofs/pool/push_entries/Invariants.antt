@@ -1,0 +1,6 @@
+use Rattle.std.proofs.Common.{◌≡◌, ◌++◌, take}
+use Rattle.msi_recode.specs.PoolRecoding.{entries_written}
+use Rattle.msi_recode.proofs.pool.push_entries.Given as goal
+
+abbrev pub invariant-loop-place : goal.invariant-loop-place
+invariant-loop-place l = l.held.items ≡ l.fn.held.items ++ entries_written (take l.place-index l.places)
