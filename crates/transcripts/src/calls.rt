@@ -1,24 +1,23 @@
 //! The calls by their names, and the answer of each.
 
+use crate::changes::{self, Change};
+use crate::looks::{self, Look};
+use crate::packages::{self, PackageCall};
+use crate::session::Session;
+use crate::{pools, summaries};
 use std::alloc::Global;
 use std::io::{Read, Seek, Write};
 use std::rt::Files;
-use transcripts_packages::changes::{self, Change};
-use transcripts_packages::looks::{self, Look};
-use transcripts_packages::packages::{self, PackageCall};
-use transcripts_packages::session::Session;
-use transcripts_packages::summaries;
 use transcripts_queries::conditions::expression;
 use transcripts_queries::parsing::{self, Parsed};
 use transcripts_queries::queries::select;
 use transcripts_queries::{cells, evaluation, tables};
-use transcripts_texts::pools;
+use transcripts_texts::containers::{self, BytesCall};
+use transcripts_texts::failure::Failure;
+use transcripts_texts::files::{self, FileCall};
+use transcripts_texts::kept::Kept;
 use transcripts_texts::texts::{self, TextCall};
-use transcripts_words::containers::{self, BytesCall};
-use transcripts_words::failure::Failure;
-use transcripts_words::files::{self, FileCall};
-use transcripts_words::kept::Kept;
-use transcripts_words::words::Words;
+use transcripts_texts::words::{Words, named};
 
 /// A call.
 #[derive(Clone, Copy)]
@@ -123,16 +122,6 @@ static CALLS: [(&str, Call); 69] = [
     ("parse_random", Call::Parse(Parsed::Random)),
 ];
 
-/// Returns the call of a name.
-fn call_named(name: &str) -> Option<Call> {
-    for (known, call) in &CALLS {
-        if *known == name {
-            return Some(*call);
-        }
-    }
-    None
-}
-
 /// Makes a call on values, columns, rows or expressions.
 fn make_named(
     alloc: Global,
@@ -159,7 +148,7 @@ where
     R::File: Read + Write + Seek + Drop,
 {
     let name = words.word()?;
-    match call_named(name) {
+    match named(&CALLS, name) {
         None => make_named(rt.alloc(), &session.stock.kept, name, words, answer)?,
         Some(Call::File(call)) => {
             files::make(rt, &session.stock.kept, call, words)?;
@@ -179,23 +168,38 @@ fn make_other(
     answer: &mut String,
 ) -> Result<(), Failure> {
     match call {
-        Call::Package(call) => packages::make(alloc, session, call, words)?,
-        Call::Change(change) => changes::make(alloc, session.package_mut()?, change, words)?,
-        Call::Recount => {
-            write!(answer, "{}", session.package_mut()?.recount()?)?;
-            return Ok(());
+        Call::Recount => recount(session, answer),
+        Call::Look(call) => looks::print(alloc, session.package()?, call, words, answer),
+        Call::Bytes(call) => containers::make(alloc, &mut session.stock.kept, call, words, answer),
+        Call::Text(call) => texts::print(alloc, &session.stock.kept, call, words, answer),
+        Call::Pool => pools::make(alloc, &mut session.stock, words, answer),
+        Call::Properties => summaries::make(alloc, session, words, answer),
+        Call::Package(_) | Call::Change(_) => {
+            make_silent(alloc, session, call, words)?;
+            Ok(answer.push_str("ok")?)
         }
-        Call::Look(look) => return looks::print(alloc, session.package()?, look, words, answer),
-        Call::Bytes(call) => {
-            return containers::make(alloc, &mut session.stock.kept, call, words, answer);
-        }
-        Call::Text(call) => return texts::print(alloc, &session.stock.kept, call, words, answer),
-        Call::Pool => return pools::make(alloc, &mut session.stock, words, answer),
-        Call::Properties => return summaries::make(alloc, session, words, answer),
-        _ => return print_text(alloc, session, call, words, answer),
+        call => print_text(alloc, session, call, words, answer),
     }
-    answer.push_str("ok")?;
-    Ok(())
+}
+
+/// Makes a call that makes, changes or ends a package, and answers nothing.
+fn make_silent(
+    alloc: Global,
+    session: &mut Session,
+    call: Call,
+    words: &mut Words,
+) -> Result<(), Failure> {
+    match call {
+        Call::Package(call) => packages::make(alloc, session, call, words),
+        Call::Change(call) => changes::make(alloc, session.package_mut()?, call, words),
+        _ => Ok(()),
+    }
+}
+
+/// Counts the cells of the package anew, and prints how many counts changed.
+fn recount(session: &mut Session, answer: &mut String) -> Result<(), Failure> {
+    let changed = session.package_mut()?.recount()?;
+    Ok(write!(answer, "{changed}")?)
 }
 
 /// Prints what needs no package.
@@ -207,17 +211,20 @@ fn print_text(
     answer: &mut String,
 ) -> Result<(), Failure> {
     match call {
-        Call::Calls => write!(answer, "{}", session.calls)?,
-        Call::Writes => write!(answer, "{}", session.writes)?,
-        Call::PrintQuery => {
-            let query = select(alloc, words)?;
-            write!(answer, "{query}")?;
-        }
-        Call::Parse(parsed) => parsing::make(alloc, parsed, words, answer)?,
-        _ => {
-            let expression = expression(alloc, words)?;
-            write!(answer, "{expression}")?;
-        }
+        Call::Calls => Ok(write!(answer, "{}", session.calls)?),
+        Call::Writes => Ok(write!(answer, "{}", session.writes)?),
+        Call::PrintQuery => print_query(alloc, words, answer),
+        Call::Parse(parsed) => parsing::make(alloc, parsed, words, answer),
+        _ => print_expression(alloc, words, answer),
     }
-    Ok(())
+}
+
+fn print_query(alloc: Global, words: &mut Words, answer: &mut String) -> Result<(), Failure> {
+    let query = select(alloc, words)?;
+    Ok(write!(answer, "{query}")?)
+}
+
+fn print_expression(alloc: Global, words: &mut Words, answer: &mut String) -> Result<(), Failure> {
+    let expression = expression(alloc, words)?;
+    Ok(write!(answer, "{expression}")?)
 }

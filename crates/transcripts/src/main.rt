@@ -6,6 +6,15 @@
 #![tactic(auto)]
 
 mod calls;
+mod changes;
+mod cursors;
+mod looks;
+mod packages;
+mod pictures;
+mod pools;
+mod properties;
+mod session;
+mod summaries;
 mod transcript;
 mod trials;
 
@@ -13,9 +22,9 @@ use std::io::{Read, Seek, Write};
 use std::process::ExitCode;
 use std::rt::{Env, Files};
 use std::{env, fs};
-use transcripts_words::failure::Failure;
-use transcripts_words::lines::lines;
-use transcripts_words::reports::Report;
+use transcripts_texts::failure::Failure;
+use transcripts_texts::lines::lines;
+use transcripts_texts::reports::Report;
 
 /// Runs the transcript in a file, and returns whether each answer is as expected. A transcript without answers isn't.
 fn run_file<R>(rt: &R, file: &str, is_trial: bool) -> Result<bool, Failure>

@@ -1,15 +1,14 @@
 //! Makes the calls of a transcript.
 
-use crate::{calls, trials};
+use crate::session::Session;
+use crate::{calls, cursors, trials};
 use std::io::{Read, Seek, Write};
 use std::rt::Files;
-use transcripts_packages::cursors;
-use transcripts_packages::session::Session;
-use transcripts_words::failure::Failure;
-use transcripts_words::lines::Line;
-use transcripts_words::reports::{Report, empty_answer};
-use transcripts_words::tokens::tokens;
-use transcripts_words::words::Words;
+use transcripts_texts::failure::Failure;
+use transcripts_texts::lines::Line;
+use transcripts_texts::reports::{Report, empty_answer};
+use transcripts_texts::tokens::tokens;
+use transcripts_texts::words::Words;
 
 /// Makes the calls of a transcript, in order.
 pub(crate) fn run<R>(rt: &R, report: &mut Report, lines: &[Line]) -> Result<(), Failure>

@@ -2,12 +2,12 @@
 //! to be refused any.
 
 use crate::calls;
+use crate::pictures::picture;
+use crate::session::Session;
 use std::io::{Read, Seek, Write};
 use std::rt::Files;
-use transcripts_packages::pictures::picture;
-use transcripts_packages::session::Session;
-use transcripts_words::failure::Failure;
-use transcripts_words::words::Words;
+use transcripts_texts::failure::Failure;
+use transcripts_texts::words::Words;
 
 /// Makes a call, again if it is refused memory. The package has to answer then what it did before.
 pub(crate) fn make<R>(

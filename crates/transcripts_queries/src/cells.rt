@@ -7,10 +7,38 @@ use msi_table::parts::{self, fits_table, sort_by_keys};
 use msi_table::{Table, Value, ValueRef};
 use msi_text::{CodePage, Items, LanguageId, StringPool, Text};
 use std::alloc::{AllocError, Global};
-use transcripts_words::failure::Failure;
-use transcripts_words::kept::{Kept, pieces, print_bytes};
-use transcripts_words::words::Words;
+use transcripts_texts::failure::Failure;
+use transcripts_texts::kept::{Kept, pieces, print_bytes};
+use transcripts_texts::words::{Words, named};
 use uuid::Uuid;
+
+/// A call on values, or on rows of cells.
+#[derive(Clone, Copy)]
+enum Call {
+    PrintValue,
+    PrintAligned,
+    PrintCut,
+    ValueFrom,
+    Compare,
+    Cell,
+    WriteRows,
+    ReadRows,
+    SelectGiven,
+    SortRows,
+}
+
+static CALLS: [(&str, Call); 10] = [
+    ("print_value", Call::PrintValue),
+    ("print_aligned", Call::PrintAligned),
+    ("print_cut", Call::PrintCut),
+    ("value_from", Call::ValueFrom),
+    ("compare", Call::Compare),
+    ("cell", Call::Cell),
+    ("write_rows", Call::WriteRows),
+    ("read_rows", Call::ReadRows),
+    ("select_given", Call::SelectGiven),
+    ("sort_rows", Call::SortRows),
+];
 
 /// Makes a call on values or rows of cells, and prints its answer. Fails if there is no such call, if it can't be read
 /// or is refused, and if memory runs out.
@@ -21,48 +49,97 @@ pub fn make(
     words: &mut Words,
     answer: &mut String,
 ) -> Result<(), Failure> {
+    let Some(call) = named(&CALLS, call) else {
+        return Err(Failure::Unreadable("there is no such call"));
+    };
     match call {
-        "print_value" => write!(answer, "{}", value(alloc, words, 0)?)?,
-        "print_aligned" => print_aligned(answer, &value(alloc, words, 0)?)?,
-        "print_cut" => print_cut(answer, &value(alloc, words, 0)?)?,
-        "value_from" => write!(answer, "{}", value_from(alloc, words)?)?,
-        "compare" => compare(alloc, answer, words)?,
-        "cell" => print_cell(alloc, answer, value(alloc, words, 0)?)?,
-        "write_rows" => write_rows(alloc, answer, words)?,
-        "read_rows" => read_rows(alloc, kept, answer, words)?,
-        "select_given" => select_given(alloc, answer, words)?,
-        "sort_rows" => sort_rows(alloc, answer, words)?,
-        _ => return Err(Failure::Unreadable("there is no such call")),
+        Call::Compare => compare(alloc, answer, words),
+        Call::WriteRows => write_rows(alloc, answer, words),
+        Call::ReadRows => read_rows(alloc, kept, answer, words),
+        Call::SelectGiven => select_given(alloc, answer, words),
+        Call::SortRows => sort_rows(alloc, answer, words),
+        Call::Cell => print_cell(alloc, answer, value(alloc, words, 0)?),
+        Call::ValueFrom => Ok(print_value(answer, &value_from(alloc, words)?, call)?),
+        call => Ok(print_value(answer, &value(alloc, words, 0)?, call)?),
     }
-    Ok(())
+}
+
+/// Prints a value as a call does.
+fn print_value(answer: &mut String, value: &Value, call: Call) -> Result<(), AllocError> {
+    match call {
+        Call::PrintAligned => print_aligned(answer, value),
+        Call::PrintCut => print_cut(answer, value),
+        _ => write!(answer, "{value}"),
+    }
 }
 
 /// Prints a value in a width of 3 and of 8, to the left, to the right, and in the middle.
 fn print_aligned(answer: &mut String, value: &Value) -> Result<(), AllocError> {
-    write!(
-        answer,
-        "{value:3}|{value:8}|{value:<8}|{value:>8}|{value:*^7}|{value:é^9}|{value:_>14}"
-    )
+    write!(answer, "{value:3}|{value:8}|")?;
+    write!(answer, "{value:<8}|{value:>8}|")?;
+    print_filled(answer, value)
+}
+
+/// Prints a value in a width that other characters fill.
+fn print_filled(answer: &mut String, value: &Value) -> Result<(), AllocError> {
+    write!(answer, "{value:*^7}|{value:é^9}|")?;
+    write!(answer, "{value:_>14}")
 }
 
 /// Prints a value that is cut, in a width or in none.
 fn print_cut(answer: &mut String, value: &Value) -> Result<(), AllocError> {
-    write!(answer, "{value:.3}|{value:4.3}|{value:>4.2}")
+    write!(answer, "{value:.3}|{value:4.3}|")?;
+    write!(answer, "{value:>4.2}")
 }
+
+/// What a value is made of.
+#[derive(Clone, Copy)]
+enum Source {
+    Bool,
+    I16,
+    U16,
+    I32,
+    String,
+    Text,
+    Uuid,
+    Language,
+    Languages,
+}
+
+static SOURCES: [(&str, Source); 9] = [
+    ("bool", Source::Bool),
+    ("i16", Source::I16),
+    ("u16", Source::U16),
+    ("i32", Source::I32),
+    ("string", Source::String),
+    ("text", Source::Text),
+    ("uuid", Source::Uuid),
+    ("language", Source::Language),
+    ("languages", Source::Languages),
+];
 
 /// Reads what a value is made of: the type, and what is given of it.
 fn value_from(alloc: Global, words: &mut Words) -> Result<Value, Failure> {
-    match words.word()? {
-        "bool" => Ok(Value::from(words.word()? == "true")),
-        "i16" => from_i16(words),
-        "u16" => Ok(Value::from(number_of_16_bits(words)?)),
-        "i32" => Ok(Value::from(words.number()?)),
-        "string" => Ok(Value::from(String::from_str(alloc, words.name()?)?)),
-        "text" => Ok(Value::from_text(alloc, words.name()?)?),
-        "uuid" => from_uuid(alloc, words.word()?),
-        "language" => from_language(alloc, number_of_16_bits(words)?),
-        "languages" => from_languages(alloc, words),
-        _ => Err(Failure::Unreadable("a value isn't made of that")),
+    let Some(source) = named(&SOURCES, words.word()?) else {
+        return Err(Failure::Unreadable("a value isn't made of that"));
+    };
+    match source {
+        Source::I16 => from_i16(words),
+        Source::U16 => from_u16(words),
+        Source::I32 => from_i32(words),
+        Source::Language => from_language(alloc, words),
+        Source::Languages => from_languages(alloc, words),
+        source => from_name(alloc, source, words.name()?),
+    }
+}
+
+/// Returns what a name or a text is told to be.
+fn from_name(alloc: Global, source: Source, name: &str) -> Result<Value, Failure> {
+    match source {
+        Source::Bool => Ok(Value::from(name == "true")),
+        Source::String => Ok(Value::from(String::from_str(alloc, name)?)),
+        Source::Uuid => from_uuid(alloc, name),
+        _ => Ok(Value::from_text(alloc, name)?),
     }
 }
 
@@ -82,6 +159,18 @@ fn from_i16(words: &mut Words) -> Result<Value, Failure> {
     }
 }
 
+/// Reads the value of a number of 16 bits without a sign.
+fn from_u16(words: &mut Words) -> Result<Value, Failure> {
+    let number = number_of_16_bits(words)?;
+    Ok(Value::from(number))
+}
+
+/// Reads the value of a number of 32 bits.
+fn from_i32(words: &mut Words) -> Result<Value, Failure> {
+    let number = words.number()?;
+    Ok(Value::from(number))
+}
+
 /// Reads a number of 16 bits without a sign.
 fn number_of_16_bits(words: &mut Words) -> Result<u16, Failure> {
     match u16::try_from(words.number()?) {
@@ -90,8 +179,9 @@ fn number_of_16_bits(words: &mut Words) -> Result<u16, Failure> {
     }
 }
 
-/// Returns the value of a language.
-fn from_language(alloc: Global, id: u16) -> Result<Value, Failure> {
+/// Reads the value of a language.
+fn from_language(alloc: Global, words: &mut Words) -> Result<Value, Failure> {
+    let id = number_of_16_bits(words)?;
     Ok(Value::from_language(alloc, LanguageId::from_id(id))?)
 }
 
@@ -99,23 +189,38 @@ fn from_language(alloc: Global, id: u16) -> Result<Value, Failure> {
 fn from_languages(alloc: Global, words: &mut Words) -> Result<Value, Failure> {
     let mut languages = Vec::new(alloc);
     for _ in 0..words.len() {
-        languages.push(LanguageId::from_id(number_of_16_bits(words)?))?;
+        let id = number_of_16_bits(words)?;
+        languages.push(LanguageId::from_id(id))?;
     }
     Ok(Value::from_languages(alloc, languages.as_slice())?)
 }
 
 /// Prints how a copy of a value stands to another value.
 fn compare(alloc: Global, answer: &mut String, words: &mut Words) -> Result<(), Failure> {
-    let copy = value(alloc, words, 0)?.clone(alloc)?;
+    let first = value(alloc, words, 0)?;
     let other = value(alloc, words, 0)?;
-    answer.push_str(if copy == other {
+    print_order(alloc, answer, &first, &other)
+}
+
+fn print_order(
+    alloc: Global,
+    answer: &mut String,
+    value: &Value,
+    other: &Value,
+) -> Result<(), Failure> {
+    let copy = value.clone(alloc)?;
+    Ok(answer.push_str(order_of(&copy, other))?)
+}
+
+/// Returns how a value stands to another.
+fn order_of(value: &Value, other: &Value) -> &'static str {
+    if *value == *other {
         "equal"
-    } else if copy < other {
+    } else if *value < *other {
         "less"
     } else {
         "greater"
-    })?;
-    Ok(())
+    }
 }
 
 /// Prints how many texts a pool has with the cell of a value, and what the cell stands for: first, and once it is given
@@ -123,19 +228,25 @@ fn compare(alloc: Global, answer: &mut String, words: &mut Words) -> Result<(), 
 fn print_cell(alloc: Global, answer: &mut String, value: Value) -> Result<(), Failure> {
     let mut pool = StringPool::new(alloc, CodePage::Utf8);
     let cell = ValueRef::create(value, &mut pool)?;
-    writeln!(
-        answer,
-        "{} {}",
-        pool.num_strings(),
-        cell.to_value(alloc, &pool)?
-    )?;
+    write!(answer, "{} ", pool.num_strings())?;
+    print_cell_value(alloc, answer, &pool, cell)?;
     cell.remove(&mut pool)?;
-    writeln!(answer, "{}", cell.to_value(alloc, &pool)?)?;
-    match cell.remove(&mut pool) {
-        Ok(()) => answer.push_str("ok")?,
-        Err(error) => write!(answer, "{}", error.kind())?,
-    }
-    Ok(())
+    print_cell_value(alloc, answer, &pool, cell)?;
+    Ok(match cell.remove(&mut pool) {
+        Ok(()) => answer.push_str("ok"),
+        Err(error) => write!(answer, "{}", error.kind()),
+    }?)
+}
+
+/// Prints the value that a cell stands for, as a line.
+fn print_cell_value(
+    alloc: Global,
+    answer: &mut String,
+    pool: &StringPool,
+    cell: ValueRef,
+) -> Result<(), Failure> {
+    let value = cell.to_value(alloc, pool)?;
+    Ok(writeln!(answer, "{value}")?)
 }
 
 /// Reads the columns of a table, and returns the table under a name.

@@ -2,10 +2,10 @@
 
 use msi_table::{Column, ColumnBuilder};
 use std::alloc::{AllocError, Global};
+use transcripts_texts::failure::Failure;
 use transcripts_texts::texts::category;
-use transcripts_words::failure::Failure;
-use transcripts_words::tokens::Mark;
-use transcripts_words::words::Words;
+use transcripts_texts::tokens::Mark;
+use transcripts_texts::words::{Words, named};
 
 /// The type of a column, which is named last.
 #[derive(Clone, Copy)]
@@ -29,16 +29,6 @@ static KINDS: [(&str, Kind); 7] = [
     ("binary", Kind::Binary),
 ];
 
-/// Returns the type of a name, if there is one.
-fn kind_named(name: &str) -> Option<Kind> {
-    for (known, kind) in &KINDS {
-        if *known == name {
-            return Some(*kind);
-        }
-    }
-    None
-}
-
 /// Reads the columns of a table: `(Number key int16, Word nullable string 50)`. Fails if they can't be read, and if
 /// memory runs out.
 pub fn columns(alloc: Global, words: &mut Words) -> Result<Vec<Column>, Failure> {
@@ -61,25 +51,32 @@ pub(crate) fn column(alloc: Global, words: &mut Words) -> Result<Column, Failure
     let mut builder = Column::build(alloc, words.name()?)?;
     for _ in 0..words.len() {
         let word = words.word()?;
-        if let Some(kind) = kind_named(word) {
-            return of_kind(builder, words, kind);
+        match named(&KINDS, word) {
+            Some(kind) => return of_kind(builder, words, kind),
+            None => builder = with_option(alloc, builder, words, word)?,
         }
-        builder = with_option(alloc, builder, words, word)?;
     }
     Err(Failure::Unreadable("a column has no type"))
 }
 
 /// Returns the column of a type.
 fn of_kind(builder: ColumnBuilder, words: &mut Words, kind: Kind) -> Result<Column, Failure> {
-    Ok(match kind {
-        Kind::Int16 => builder.int16(),
-        Kind::Int32 => builder.int32(),
-        Kind::Binary => builder.binary(),
-        Kind::String => builder.string(words.count()?),
-        Kind::IdString => builder.id_string(words.count()?),
-        Kind::TextString => builder.text_string(words.count()?),
-        Kind::FormattedString => builder.formatted_string(words.count()?),
-    })
+    match kind {
+        Kind::Int16 => Ok(builder.int16()),
+        Kind::Int32 => Ok(builder.int32()),
+        Kind::Binary => Ok(builder.binary()),
+        kind => Ok(of_length(builder, kind, words.count()?)),
+    }
+}
+
+/// Returns the column of a type of texts, which have at most so many characters.
+fn of_length(builder: ColumnBuilder, kind: Kind, length: usize) -> Column {
+    match kind {
+        Kind::IdString => builder.id_string(length),
+        Kind::TextString => builder.text_string(length),
+        Kind::FormattedString => builder.formatted_string(length),
+        _ => builder.string(length),
+    }
 }
 
 /// Makes a call of a builder.
@@ -93,12 +90,24 @@ fn with_option(
         "key" => Ok(builder.primary_key()),
         "nullable" => Ok(builder.nullable()),
         "localizable" => Ok(builder.localizable()),
-        "range" => Ok(builder.range(words.number()?, words.number()?)),
-        "foreign_key" => Ok(builder.foreign_key(words.name()?, words.number()?)?),
+        "range" => with_range(builder, words),
+        "foreign_key" => with_foreign_key(builder, words),
         "category" => Ok(builder.category(category(words.word()?)?)),
         "enum_values" => Ok(builder.enum_values(names(alloc, words)?.as_slice())?),
         _ => Err(Failure::Unreadable("a column has no such option")),
     }
+}
+
+fn with_range(builder: ColumnBuilder, words: &mut Words) -> Result<ColumnBuilder, Failure> {
+    let least = words.number()?;
+    let most = words.number()?;
+    Ok(builder.range(least, most))
+}
+
+fn with_foreign_key(builder: ColumnBuilder, words: &mut Words) -> Result<ColumnBuilder, Failure> {
+    let table = words.name()?;
+    let number = words.number()?;
+    Ok(builder.foreign_key(table, number)?)
 }
 
 /// Reads names: `("a", "b")`.
@@ -130,16 +139,22 @@ pub fn print_columns(answer: &mut String, columns: &[Column]) -> Result<(), Allo
 pub(crate) fn print_column(answer: &mut String, column: &Column) -> Result<(), AllocError> {
     write!(answer, "{} {}", column.name(), column.coltype())?;
     print_flags(answer, column)?;
+    print_limits(answer, column)?;
+    print_texts(answer, column)
+}
+
+/// Prints which numbers, keys and texts of a category a column takes.
+fn print_limits(answer: &mut String, column: &Column) -> Result<(), AllocError> {
     if let Some((least, most)) = column.value_range() {
         write!(answer, " range {least} {most}")?;
     }
     if let Some((table, number)) = column.foreign_key() {
         write!(answer, " foreign_key {table} {number}")?;
     }
-    if let Some(category) = column.category() {
-        write!(answer, " category {}", category.name())?;
+    match column.category() {
+        Some(category) => write!(answer, " category {}", category.name()),
+        None => Ok(()),
     }
-    print_texts(answer, column)
 }
 
 /// Prints whether a column is a part of the key, takes null and is localizable.

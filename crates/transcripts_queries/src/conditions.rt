@@ -1,10 +1,11 @@
 //! Reads expressions, such as `Number > 1 AND Word = "Two"`, in which blanks stand around each operator.
 
 use msi_query::Expr;
+use msi_text::Error;
 use std::alloc::Global;
-use transcripts_words::failure::Failure;
-use transcripts_words::tokens::{Mark, Token};
-use transcripts_words::words::Words;
+use transcripts_texts::failure::Failure;
+use transcripts_texts::tokens::{Mark, Token};
+use transcripts_texts::words::Words;
 
 /// An operator, or a parenthesis that is still open.
 #[derive(Clone, Copy)]
@@ -104,18 +105,25 @@ impl Pending {
     /// Reads what stands in front of an operand, or an operand.
     fn read_operand(&mut self, alloc: Global, token: &Token) -> Result<(), Failure> {
         match token {
-            Token::Mark(Mark::Open) => {
-                self.groups = self.groups.saturating_add(1);
-                self.operators.push((Operator::Group, 0))?;
-            }
-            Token::Text(text) => self.push_operand(Expr::string(alloc, text.as_str())?)?,
-            Token::Word(word) => match spelled(&PREFIXES, word.as_str()) {
-                Some(prefix) => self.operators.push(prefix)?,
-                None => self.push_operand(operand(alloc, word.as_str())?)?,
-            },
-            _ => return Err(Failure::Unreadable("an operand is missing")),
+            Token::Mark(Mark::Open) => self.open_group(),
+            Token::Text(text) => self.push_operand(Expr::string(alloc, text.as_str())?),
+            Token::Word(word) => self.read_word(alloc, word.as_str()),
+            _ => Err(Failure::Unreadable("an operand is missing")),
         }
-        Ok(())
+    }
+
+    /// Opens a parenthesis.
+    fn open_group(&mut self) -> Result<(), Failure> {
+        self.groups = self.groups.saturating_add(1);
+        Ok(self.operators.push((Operator::Group, 0))?)
+    }
+
+    /// Reads a word that is an operator in front of an operand, or an operand.
+    fn read_word(&mut self, alloc: Global, word: &str) -> Result<(), Failure> {
+        match spelled(&PREFIXES, word) {
+            Some(prefix) => Ok(self.operators.push(prefix)?),
+            None => self.push_operand(operand(alloc, word)?),
+        }
     }
 
     fn push_operand(&mut self, operand: Expr) -> Result<(), Failure> {
@@ -169,14 +177,29 @@ impl Pending {
     fn apply(&mut self, alloc: Global, operator: Operator) -> Result<(), Failure> {
         let last = self.operand()?;
         let made = match operator {
-            Operator::Group => last,
-            Operator::Not => last.not(alloc)?,
-            Operator::Negate => last.neg(alloc)?,
-            Operator::Invert => last.bitinv(alloc)?,
-            _ => applied(alloc, operator, self.operand()?, last)?,
+            Operator::Group | Operator::Not | Operator::Negate | Operator::Invert => {
+                prefixed(alloc, operator, last)?
+            }
+            _ => self.paired(alloc, operator, last)?,
         };
         self.operands.push(made)?;
         Ok(())
+    }
+
+    /// Returns an operator of the last operand and one that stood behind it.
+    fn paired(&mut self, alloc: Global, operator: Operator, right: Expr) -> Result<Expr, Failure> {
+        let left = self.operand()?;
+        Ok(applied(alloc, operator, left, right)?)
+    }
+}
+
+/// Returns an operator of one operand, or for a parenthesis the operand.
+pub(crate) fn prefixed(alloc: Global, operator: Operator, operand: Expr) -> Result<Expr, Error> {
+    match operator {
+        Operator::Not => operand.not(alloc),
+        Operator::Negate => operand.neg(alloc),
+        Operator::Invert => operand.bitinv(alloc),
+        _ => Ok(operand),
     }
 }
 
@@ -186,46 +209,50 @@ pub(crate) fn applied(
     operator: Operator,
     left: Expr,
     right: Expr,
-) -> Result<Expr, Failure> {
-    Ok(match operator {
-        Operator::Or => left.or(alloc, right)?,
-        Operator::And => left.and(alloc, right)?,
-        Operator::Equal => left.eq(alloc, right)?,
-        Operator::NotEqual => left.ne(alloc, right)?,
-        Operator::Less => left.lt(alloc, right)?,
-        Operator::AtMost => left.le(alloc, right)?,
-        Operator::More => left.gt(alloc, right)?,
-        Operator::AtLeast => left.ge(alloc, right)?,
-        _ => calculated(alloc, operator, left, right)?,
-    })
+) -> Result<Expr, Error> {
+    match operator {
+        Operator::Or => left.or(alloc, right),
+        Operator::And => left.and(alloc, right),
+        Operator::Equal => left.eq(alloc, right),
+        Operator::NotEqual => left.ne(alloc, right),
+        Operator::Less => left.lt(alloc, right),
+        Operator::AtMost => left.le(alloc, right),
+        Operator::More => left.gt(alloc, right),
+        Operator::AtLeast => left.ge(alloc, right),
+        _ => calculated(alloc, operator, left, right),
+    }
 }
 
 /// Returns an operator of two numbers.
-fn calculated(alloc: Global, operator: Operator, left: Expr, right: Expr) -> Result<Expr, Failure> {
-    Ok(match operator {
-        Operator::BitOr => left.bitor(alloc, right)?,
-        Operator::BitXor => left.bitxor(alloc, right)?,
-        Operator::BitAnd => left.bitand(alloc, right)?,
-        Operator::ShiftLeft => left.shl(alloc, right)?,
-        Operator::ShiftRight => left.shr(alloc, right)?,
-        Operator::Add => left.add(alloc, right)?,
-        Operator::Subtract => left.sub(alloc, right)?,
-        Operator::Multiply => left.mul(alloc, right)?,
-        _ => left.div(alloc, right)?,
-    })
+fn calculated(alloc: Global, operator: Operator, left: Expr, right: Expr) -> Result<Expr, Error> {
+    match operator {
+        Operator::BitOr => left.bitor(alloc, right),
+        Operator::BitXor => left.bitxor(alloc, right),
+        Operator::BitAnd => left.bitand(alloc, right),
+        Operator::ShiftLeft => left.shl(alloc, right),
+        Operator::ShiftRight => left.shr(alloc, right),
+        Operator::Add => left.add(alloc, right),
+        Operator::Subtract => left.sub(alloc, right),
+        Operator::Multiply => left.mul(alloc, right),
+        _ => left.div(alloc, right),
+    }
 }
 
 /// Returns the operand that a word spells.
-fn operand(alloc: Global, word: &str) -> Result<Expr, Failure> {
+fn operand(alloc: Global, word: &str) -> Result<Expr, Error> {
     match word {
-        "NULL" => return Ok(Expr::null()),
-        "TRUE" => return Ok(Expr::boolean(true)),
-        "FALSE" => return Ok(Expr::boolean(false)),
-        _ => {}
+        "NULL" => Ok(Expr::null()),
+        "TRUE" => Ok(Expr::boolean(true)),
+        "FALSE" => Ok(Expr::boolean(false)),
+        _ => number_or_column(alloc, word),
     }
+}
+
+/// Returns the number that a word spells, or the column of that name.
+fn number_or_column(alloc: Global, word: &str) -> Result<Expr, Error> {
     match word.parse::<i32>() {
         Ok(number) => Ok(Expr::integer(number)),
-        Err(_) => Ok(Expr::col(alloc, word)?),
+        Err(_) => Expr::col(alloc, word),
     }
 }
 

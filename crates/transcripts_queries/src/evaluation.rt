@@ -5,13 +5,33 @@ use crate::columns::columns;
 use crate::conditions::expression;
 use crate::queries::{delete, insert, insert_singly, update};
 use crate::values::row;
-use msi_query::Expr;
 use msi_query::parts::{RowFilter, knows_names};
-use msi_table::{Row, Rows, ValueRef};
+use msi_query::{Delete, Expr, Insert, Update};
+use msi_table::{Column, Row, Rows, ValueRef};
 use msi_text::{CodePage, Items, StringPool};
-use std::alloc::Global;
-use transcripts_words::failure::Failure;
-use transcripts_words::words::Words;
+use std::alloc::{AllocError, Global};
+use transcripts_texts::failure::Failure;
+use transcripts_texts::words::{Words, named};
+
+/// A call on an expression or a change.
+#[derive(Clone, Copy)]
+enum Call {
+    PrintDelete,
+    PrintUpdate,
+    PrintInsert,
+    PrintRowByRow,
+    ColumnNames,
+    Meets,
+}
+
+static CALLS: [(&str, Call); 6] = [
+    ("print_delete", Call::PrintDelete),
+    ("print_update", Call::PrintUpdate),
+    ("print_insert", Call::PrintInsert),
+    ("print_row_by_row", Call::PrintRowByRow),
+    ("column_names", Call::ColumnNames),
+    ("meets", Call::Meets),
+];
 
 /// Makes a call on an expression or a change, and returns whether there is such a call. Fails if it can't be
 /// read, and if memory runs out.
@@ -21,16 +41,35 @@ pub fn make(
     words: &mut Words,
     answer: &mut String,
 ) -> Result<bool, Failure> {
-    match call {
-        "print_delete" => write!(answer, "{}", delete(alloc, words)?)?,
-        "print_update" => write!(answer, "{}", update(alloc, words)?)?,
-        "print_insert" => write!(answer, "{}", insert(alloc, words)?)?,
-        "print_row_by_row" => write!(answer, "{}", insert_singly(alloc, words)?)?,
-        "column_names" => print_names(alloc, answer, &expression(alloc, words)?)?,
-        "meets" => print_meets(alloc, answer, words)?,
-        _ => return Ok(false),
-    }
+    let Some(call) = named(&CALLS, call) else {
+        return Ok(false);
+    };
+    print(alloc, call, words, answer)?;
     Ok(true)
+}
+
+/// Makes a call, and prints its answer.
+fn print(alloc: Global, call: Call, words: &mut Words, answer: &mut String) -> Result<(), Failure> {
+    match call {
+        Call::PrintDelete => print_delete(answer, &delete(alloc, words)?),
+        Call::PrintUpdate => print_update(answer, &update(alloc, words)?),
+        Call::PrintInsert => print_insert(answer, &insert(alloc, words)?),
+        Call::PrintRowByRow => print_insert(answer, &insert_singly(alloc, words)?),
+        Call::ColumnNames => print_names(alloc, answer, &expression(alloc, words)?),
+        Call::Meets => print_meets(alloc, answer, words),
+    }
+}
+
+fn print_delete(answer: &mut String, query: &Delete) -> Result<(), Failure> {
+    Ok(write!(answer, "{query}")?)
+}
+
+fn print_update(answer: &mut String, query: &Update) -> Result<(), Failure> {
+    Ok(write!(answer, "{query}")?)
+}
+
+fn print_insert(answer: &mut String, query: &Insert) -> Result<(), Failure> {
+    Ok(write!(answer, "{query}")?)
 }
 
 /// Prints the names of the columns in an expression, in alphabetical order.
@@ -61,13 +100,26 @@ fn print_meets(alloc: Global, answer: &mut String, words: &mut Words) -> Result<
     let mut pool = StringPool::new(alloc, CodePage::Utf8);
     let front = cells(alloc, &mut pool, words)?;
     let back = cells(alloc, &mut pool, words)?;
-    if !words.takes("where") {
-        let filter = RowFilter::new(alloc, columns.as_slice(), None)?;
-        return print_met(alloc, answer, &filter, &pool, [&front, &back]);
+    let rows = [&front, &back];
+    if words.takes("where") {
+        return print_met_where(alloc, answer, words, columns.as_slice(), &pool, rows);
     }
+    let filter = RowFilter::new(alloc, columns.as_slice(), None)?;
+    print_met(alloc, answer, &filter, &pool, rows)
+}
+
+/// Reads a condition, and prints whether the first of two rows meets it alone, and with the other behind.
+fn print_met_where(
+    alloc: Global,
+    answer: &mut String,
+    words: &mut Words,
+    columns: &[Column],
+    pool: &StringPool,
+    rows: [&Items<ValueRef>; 2],
+) -> Result<(), Failure> {
     let condition = expression(alloc, words)?;
-    let filter = RowFilter::new(alloc, columns.as_slice(), Some(&condition))?;
-    print_met(alloc, answer, &filter, &pool, [&front, &back])
+    let filter = RowFilter::new(alloc, columns, Some(&condition))?;
+    print_met(alloc, answer, &filter, pool, rows)
 }
 
 /// Prints whether the first of two rows gets through a filter alone, and with the other behind.
@@ -81,8 +133,7 @@ fn print_met(
     let [front, back] = rows;
     let alone = filter.meets(alloc, pool, front.as_slice())?;
     let paired = filter.meets_pair(alloc, pool, front.as_slice(), back.as_slice())?;
-    write!(answer, "{alone} {paired}")?;
-    Ok(())
+    Ok(write!(answer, "{alone} {paired}")?)
 }
 
 /// Prints what an expression is worth on each row, each as a line; for an expression that names a column which the rows
@@ -107,11 +158,10 @@ fn print_worth(
     row: &Row,
 ) -> Result<(), Failure> {
     if !knows_names(expression, row.columns()) {
-        answer.push_str("no such column\n")?;
-        return Ok(());
+        return Ok(answer.push_str("no such column\n")?);
     }
-    writeln!(answer, "{}", expression.eval(alloc, row)?)?;
-    Ok(())
+    let worth = expression.eval(alloc, row)?;
+    Ok(writeln!(answer, "{worth}")?)
 }
 
 /// Prints how many rows of a query are left, and the value of a column in a copy of the next one, until none is left.
@@ -124,10 +174,7 @@ pub fn print_values(
 ) -> Result<(), Failure> {
     for _ in 0..rows.len() {
         write!(answer, "{} ", rows.len())?;
-        match rows.next() {
-            Some(row) => print_value(answer, &row?.clone(alloc)?, name)?,
-            None => return Err(Failure::Unreadable("there are fewer rows than was said")),
-        }
+        print_next(alloc, answer, name, &mut rows)?;
     }
     write!(answer, "{}", rows.len())?;
     match rows.next() {
@@ -136,12 +183,28 @@ pub fn print_values(
     }
 }
 
-/// Prints the value of a column.
-fn print_value(answer: &mut String, row: &Row, name: &str) -> Result<(), Failure> {
-    if row.has_column(name) {
-        writeln!(answer, "{}", row[name])?;
-    } else {
-        answer.push_str("no such column\n")?;
+/// Prints the value of a column in a copy of the next row.
+fn print_next(
+    alloc: Global,
+    answer: &mut String,
+    name: &str,
+    rows: &mut Rows,
+) -> Result<(), Failure> {
+    match rows.next() {
+        Some(row) => print_copy(alloc, answer, name, &row?),
+        None => Err(Failure::Unreadable("there are fewer rows than was said")),
     }
-    Ok(())
+}
+
+fn print_copy(alloc: Global, answer: &mut String, name: &str, row: &Row) -> Result<(), Failure> {
+    let copy = row.clone(alloc)?;
+    Ok(print_value(answer, &copy, name)?)
+}
+
+/// Prints the value of a column.
+fn print_value(answer: &mut String, row: &Row, name: &str) -> Result<(), AllocError> {
+    if row.has_column(name) {
+        return writeln!(answer, "{}", row[name]);
+    }
+    answer.push_str("no such column\n")
 }

@@ -14,9 +14,9 @@ use msi_table::parts::copied_columns;
 use msi_table::{Column, ValueRef};
 use msi_text::{CodePage, Error, IntoText, Items, StringPool};
 use std::alloc::Global;
-use transcripts_words::failure::Failure;
-use transcripts_words::tokens::{Mark, Token};
-use transcripts_words::words::Words;
+use transcripts_texts::failure::Failure;
+use transcripts_texts::tokens::{Mark, Token};
+use transcripts_texts::words::Words;
 
 /// The columns and the rows of a table.
 #[derive(Drop)]

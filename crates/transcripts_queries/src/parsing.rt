@@ -5,8 +5,8 @@ use msi_query::Expr;
 use msi_query_parse::{Parse, ParseError, Statement};
 use msi_text::ErrorKind;
 use std::alloc::Global;
-use transcripts_words::failure::Failure;
-use transcripts_words::words::Words;
+use transcripts_texts::failure::Failure;
+use transcripts_texts::words::Words;
 
 /// What is read from a text.
 #[derive(Clone, Copy)]

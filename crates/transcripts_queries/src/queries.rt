@@ -5,10 +5,11 @@ use crate::conditions::expression;
 use crate::values::{rows, value};
 use msi_query::{Delete, Insert, Select, Update};
 use msi_table::{Column, Row, Rows};
+use msi_text::Error;
 use std::alloc::{AllocError, Global};
-use transcripts_words::failure::Failure;
-use transcripts_words::tokens::Mark;
-use transcripts_words::words::Words;
+use transcripts_texts::failure::Failure;
+use transcripts_texts::tokens::Mark;
+use transcripts_texts::words::{Words, named};
 
 /// What stands behind a table in a query.
 #[derive(Clone, Copy)]
@@ -19,15 +20,16 @@ enum Clause {
     LeftJoin,
 }
 
+static CLAUSES: [(&str, Clause); 4] = [
+    ("columns", Clause::Columns),
+    ("where", Clause::Where),
+    ("inner_join", Clause::InnerJoin),
+    ("left_join", Clause::LeftJoin),
+];
+
 /// Reads the word of a clause, if there is one.
 fn next_clause(words: &mut Words) -> Option<Clause> {
-    let clause = match words.peek_word()? {
-        "columns" => Clause::Columns,
-        "where" => Clause::Where,
-        "inner_join" => Clause::InnerJoin,
-        "left_join" => Clause::LeftJoin,
-        _ => return None,
-    };
+    let clause = named(&CLAUSES, words.peek_word()?)?;
     let _ = words.next();
     Some(clause)
 }
@@ -159,16 +161,26 @@ pub fn print_rows(answer: &mut String, mut rows: Rows) -> Result<(), Failure> {
         answer.push_str("no rows")?;
     }
     for _ in 0..rows.len() {
-        match rows.next() {
-            Some(Ok(row)) => print_row(answer, &row)?,
-            Some(Err(_)) if rows.next().is_some() => {
-                return Err(Failure::Unreadable("rows go on behind a refused one"));
-            }
-            Some(Err(error)) => return Err(Failure::from(error)),
-            None => return Err(Failure::Unreadable("there are fewer rows than was said")),
-        }
+        print_next(answer, &mut rows)?;
     }
     Ok(())
+}
+
+/// Prints the next row.
+fn print_next(answer: &mut String, rows: &mut Rows) -> Result<(), Failure> {
+    match rows.next() {
+        Some(Ok(row)) => Ok(print_row(answer, &row)?),
+        Some(Err(error)) => Err(refusal(error, rows)),
+        None => Err(Failure::Unreadable("there are fewer rows than was said")),
+    }
+}
+
+/// Returns the failure of a row that can't be made, behind which there is none.
+fn refusal(error: Error, rows: &mut Rows) -> Failure {
+    match rows.next() {
+        Some(_) => Failure::Unreadable("rows go on behind a refused one"),
+        None => Failure::from(error),
+    }
 }
 
 /// Prints the values of a row.

@@ -2,9 +2,9 @@
 
 use msi_table::Value;
 use std::alloc::Global;
-use transcripts_words::failure::Failure;
-use transcripts_words::tokens::Token;
-use transcripts_words::words::{Words, number_of};
+use transcripts_texts::failure::Failure;
+use transcripts_texts::tokens::Token;
+use transcripts_texts::words::{Words, number_of};
 
 /// Reads a value of the row of a number: `NULL`, a number, a text; or `number`, which is the row's number, `digits`,
 /// the text of that, and `letter`, one of 21,000 letters for it.
@@ -30,7 +30,8 @@ fn value_of(alloc: Global, word: &str, number: i32) -> Result<Value, Failure> {
 
 /// Returns a text of one character.
 fn letter(alloc: Global, number: i32) -> Result<Value, Failure> {
-    let letter = char::from_u32(0x4E00 + (number % 21_000).unsigned_abs());
+    let place = number.unsigned_abs() % 21_000;
+    let letter = char::from_u32(place.wrapping_add(0x4E00));
     let mut text = String::new(alloc);
     text.push(letter.unwrap_or('?'))?;
     Ok(Value::from(text))

@@ -1,9 +1,9 @@
 //! What calls that need no package work on.
 
+use crate::kept::Kept;
 use msi_summary::PropertySet;
 use msi_text::StringPool;
 use std::alloc::Global;
-use transcripts_words::kept::Kept;
 
 /// Bytes by name, and a string pool and a property set of no package.
 #[derive(Drop)]

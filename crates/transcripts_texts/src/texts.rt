@@ -1,13 +1,13 @@
 //! Calls on code pages, categories, languages, times and errors, which need no package.
 
+use crate::failure::Failure;
+use crate::kept::{Kept, pieces, print_bytes};
 use crate::summary::codepage;
+use crate::words::{Words, named};
 use msi_text::reasons::{MEMORY, PAGE_BYTE};
 use msi_text::{Category, CodePage, Error, ErrorKind, LanguageId, Reason, Timestamp};
 use std::alloc::{AllocError, Global};
 use std::fmt;
-use transcripts_words::failure::Failure;
-use transcripts_words::kept::{Kept, pieces, print_bytes};
-use transcripts_words::words::Words;
 
 /// A call that needs no package.
 #[derive(Clone, Copy)]
@@ -53,7 +53,7 @@ pub fn print(
         TextCall::Language => language(words, answer),
         TextCall::PrintLanguage => {
             let id = short(words)?;
-            print_formats(answer, LanguageId::from_id(id))
+            Ok(print_formats(answer, LanguageId::from_id(id))?)
         }
         TextCall::ReadMoment => read_moment(alloc, kept, words, answer),
         TextCall::WriteMoment => write_moment(alloc, words, answer),
@@ -65,39 +65,55 @@ pub fn print(
 /// Prints an answer of a few words.
 fn print_fact(call: TextCall, words: &mut Words, answer: &mut String) -> Result<(), Failure> {
     match call {
-        TextCall::Carries => {
-            let page = codepage(words)?;
-            write!(answer, "{}", page.carries(words.name()?))?;
-        }
-        TextCall::Page => print_page(answer, page(words)?)?,
-        TextCall::Category => {
-            let category = category(words.word()?)?;
-            write!(answer, "{}", category.validate(words.name()?))?;
-        }
-        TextCall::FromUnix => {
-            let secs = words.word()?.parse::<i64>().ok().ok_or(NO_NUMBER)?;
-            let nanos = long(words)?;
-            write!(answer, "{}", Timestamp::from_unix(secs, nanos).ticks())?;
-        }
-        _ => {
-            let ticks = words.count()? as u64;
-            let (secs, nanos) = Timestamp::from_ticks(ticks).to_unix();
-            write!(answer, "{secs} {nanos}")?;
-        }
+        TextCall::Carries => print_carries(words, answer),
+        TextCall::Page => Ok(print_page(answer, page(words)?)?),
+        TextCall::Category => print_category(words, answer),
+        TextCall::FromUnix => print_from_unix(words, answer),
+        _ => print_to_unix(words, answer),
     }
-    Ok(())
+}
+
+fn print_carries(words: &mut Words, answer: &mut String) -> Result<(), Failure> {
+    let page = codepage(words)?;
+    let carries = page.carries(words.name()?);
+    Ok(write!(answer, "{carries}")?)
+}
+
+fn print_category(words: &mut Words, answer: &mut String) -> Result<(), Failure> {
+    let category = category(words.word()?)?;
+    let is_taken = category.validate(words.name()?);
+    Ok(write!(answer, "{is_taken}")?)
+}
+
+/// Prints the ticks of a Unix time, told as seconds and nanoseconds.
+fn print_from_unix(words: &mut Words, answer: &mut String) -> Result<(), Failure> {
+    let secs = seconds(words.word()?)?;
+    let nanos = long(words)?;
+    let ticks = Timestamp::from_unix(secs, nanos).ticks();
+    Ok(write!(answer, "{ticks}")?)
+}
+
+fn print_to_unix(words: &mut Words, answer: &mut String) -> Result<(), Failure> {
+    let ticks = words.count()? as u64;
+    let (secs, nanos) = Timestamp::from_ticks(ticks).to_unix();
+    Ok(write!(answer, "{secs} {nanos}")?)
 }
 
 /// The failure of a call on a number that isn't there, or is too large.
 const NO_NUMBER: Failure = Failure::Unreadable("a number is missing");
 
+/// Returns the seconds that a word spells, which may be below 0.
+fn seconds(word: &str) -> Result<i64, Failure> {
+    word.parse::<i64>().ok().ok_or(NO_NUMBER)
+}
+
 /// Reads a number of 16 bits.
-fn short(words: &mut Words) -> Result<u16, Failure> {
+pub(crate) fn short(words: &mut Words) -> Result<u16, Failure> {
     u16::try_from(words.count()?).ok().ok_or(NO_NUMBER)
 }
 
 /// Reads a number of 32 bits.
-pub(crate) fn long(words: &mut Words) -> Result<u32, Failure> {
+pub fn long(words: &mut Words) -> Result<u32, Failure> {
     u32::try_from(words.count()?).ok().ok_or(NO_NUMBER)
 }
 
@@ -146,29 +162,53 @@ fn print_page(answer: &mut String, page: Option<CodePage>) -> Result<(), AllocEr
     }
 }
 
-/// Prints a language, told as its parts, an id of 32 bits, a tag, an id or a number.
-fn language(words: &mut Words, answer: &mut String) -> Result<(), Failure> {
-    let language = match words.word()? {
-        "parts" => {
-            let primary = short(words)?;
-            LanguageId::new(primary, short(words)?)
-        }
-        "lcid" => LanguageId::from_lcid(long(words)?),
-        "tag" => LanguageId::from_tag(words.name()?),
-        "id" => LanguageId::from_id(short(words)?),
-        "number" => LanguageId::from(short(words)?),
-        "default" => LanguageId::default(),
-        _ => return Err(Failure::Unreadable("a language isn't told so")),
-    };
-    print_language(answer, language)
+/// How a language is told.
+#[derive(Clone, Copy)]
+enum Form {
+    Parts,
+    Lcid,
+    Tag,
+    Id,
+    Number,
+    Default,
 }
 
-fn print_language(answer: &mut String, language: LanguageId) -> Result<(), Failure> {
+static FORMS: [(&str, Form); 6] = [
+    ("parts", Form::Parts),
+    ("lcid", Form::Lcid),
+    ("tag", Form::Tag),
+    ("id", Form::Id),
+    ("number", Form::Number),
+    ("default", Form::Default),
+];
+
+/// Prints a language, told as its parts, an id of 32 bits, a tag, an id or a number.
+fn language(words: &mut Words, answer: &mut String) -> Result<(), Failure> {
+    let form = named(&FORMS, words.word()?);
+    let language = match form.ok_or(Failure::Unreadable("a language isn't told so"))? {
+        Form::Parts => return print_parts(words, answer),
+        Form::Lcid => LanguageId::from_lcid(long(words)?),
+        Form::Tag => LanguageId::from_tag(words.name()?),
+        Form::Id => LanguageId::from_id(short(words)?),
+        Form::Number => LanguageId::from(short(words)?),
+        Form::Default => LanguageId::default(),
+    };
+    Ok(print_language(answer, language)?)
+}
+
+/// Prints the language of two parts.
+fn print_parts(words: &mut Words, answer: &mut String) -> Result<(), Failure> {
+    let primary = short(words)?;
+    let sub = short(words)?;
+    Ok(print_language(answer, LanguageId::new(primary, sub))?)
+}
+
+fn print_language(answer: &mut String, language: LanguageId) -> Result<(), AllocError> {
     let id = u16::from(language);
     let primary = language.primary_language_id();
     let sub = language.sub_language_id();
-    write!(answer, "{id} {} {primary} {sub}", language.tag())?;
-    Ok(())
+    write!(answer, "{id} {} ", language.tag())?;
+    write!(answer, "{primary} {sub}")
 }
 
 /// A value that prints in hexadecimal, with small letters and with capitals.
@@ -183,12 +223,22 @@ impl<T: fmt::LowerHex + fmt::UpperHex> fmt::Display for InHex<T> {
 }
 
 /// Prints an id in decimal digits, in hexadecimal ones, and where a value that holds it hands on its width.
-fn print_formats(answer: &mut String, id: LanguageId) -> Result<(), Failure> {
-    writeln!(answer, "{id}|{id:>6}|{id:<6}|{id:06}")?;
-    writeln!(answer, "{id:x}|{id:X}|{id:04x}|{id:#06X}|{id:>5x}")?;
+fn print_formats(answer: &mut String, id: LanguageId) -> Result<(), AllocError> {
+    print_decimal(answer, id)?;
+    print_hexadecimal(answer, id)?;
     let spelled = InHex(id);
-    write!(answer, "{spelled:5}")?;
-    Ok(())
+    write!(answer, "{spelled:5}")
+}
+
+fn print_decimal(answer: &mut String, id: LanguageId) -> Result<(), AllocError> {
+    write!(answer, "{id}|{id:>6}|")?;
+    writeln!(answer, "{id:<6}|{id:06}")
+}
+
+fn print_hexadecimal(answer: &mut String, id: LanguageId) -> Result<(), AllocError> {
+    write!(answer, "{id:x}|{id:X}|")?;
+    write!(answer, "{id:04x}|{id:#06X}|")?;
+    writeln!(answer, "{id:>5x}")
 }
 
 fn read_moment(
@@ -215,21 +265,31 @@ fn write_moment(alloc: Global, words: &mut Words, answer: &mut String) -> Result
 /// Reasons of errors. The first one is of no library.
 static REASONS: [Reason; 3] = [Reason("a sector is used twice"), PAGE_BYTE, MEMORY];
 
-/// Prints an error of a kind, for the reason that is told by its text, and this reason.
-fn print_error(words: &mut Words, answer: &mut String) -> Result<(), Failure> {
-    let kind = match words.word()? {
+/// Returns the reason that is told by its text, if there is one.
+fn reason_told(text: &str) -> Option<Reason> {
+    for reason in &REASONS {
+        if reason.0 == text {
+            return Some(*reason);
+        }
+    }
+    None
+}
+
+/// Returns the kind of errors of a name.
+fn kind_named(name: &str) -> ErrorKind {
+    match name {
         "InvalidData" => ErrorKind::InvalidData,
         "InvalidInput" => ErrorKind::InvalidInput,
         _ => ErrorKind::OutOfMemory,
-    };
-    let text = words.name()?;
-    for reason in &REASONS {
-        if reason.0 == text {
-            let error = Error::new(kind, *reason);
-            writeln!(answer, "{error}")?;
-            write!(answer, "{}", error.reason())?;
-            return Ok(());
-        }
     }
-    Err(Failure::Unreadable("there is no such reason"))
+}
+
+/// Prints an error of a kind, for the reason that is told by its text, and this reason.
+fn print_error(words: &mut Words, answer: &mut String) -> Result<(), Failure> {
+    let kind = kind_named(words.word()?);
+    let Some(reason) = reason_told(words.name()?) else {
+        return Err(Failure::Unreadable("there is no such reason"));
+    };
+    let error = Error::new(kind, reason);
+    Ok(write!(answer, "{error}\n{}", error.reason())?)
 }

@@ -8,14 +8,14 @@ use transcripts_queries::columns::print_columns;
 use transcripts_queries::conditions::expression;
 use transcripts_queries::evaluation::{print_values, print_worths};
 use transcripts_queries::queries::{print_names, print_rows, select};
+use transcripts_texts::failure::Failure;
+use transcripts_texts::kept::print_bytes;
 use transcripts_texts::summary;
-use transcripts_words::failure::Failure;
-use transcripts_words::kept::print_bytes;
-use transcripts_words::words::Words;
+use transcripts_texts::words::Words;
 
 /// A call that looks at a package.
 #[derive(Clone, Copy)]
-pub enum Look {
+pub(crate) enum Look {
     /// Prints what the package is for.
     PackageType,
     /// Prints the id of the database's code page.
@@ -54,7 +54,7 @@ pub enum Look {
 
 /// Prints the answer of a call that looks at a package. Fails if the call can't be read or is refused, and if memory
 /// runs out.
-pub fn print(
+pub(crate) fn print(
     alloc: Global,
     package: &Package<Counting>,
     look: Look,
@@ -62,45 +62,55 @@ pub fn print(
     answer: &mut String,
 ) -> Result<(), Failure> {
     match look {
-        Look::Tables => print_tables(answer, package.tables())?,
-        Look::Columns => print_table(answer, package, words.name()?)?,
-        Look::Streams => print_streams(answer, package.streams())?,
-        Look::ReadStream => print_stream(alloc, answer, package, words.name()?)?,
-        Look::Summary => summary::print(answer, package.summary_info(), words.word()?)?,
+        Look::Columns => Ok(print_table(answer, package, words.name()?)?),
+        Look::Streams => print_streams(answer, package.streams()),
+        Look::ReadStream => print_stream(alloc, answer, package, words.name()?),
+        Look::Summary => summary::print(answer, package.summary_info(), words.word()?),
         Look::Select | Look::Names | Look::Count => {
-            print_query(alloc, answer, package, look, words)?;
+            print_query(alloc, answer, package, look, words)
         }
-        Look::Evaluate => evaluate(alloc, answer, package, words)?,
-        Look::Values => print_column_values(alloc, answer, package, words)?,
-        _ => print_fact(answer, package, look, words)?,
+        Look::Evaluate => evaluate(alloc, answer, package, words),
+        Look::Values => print_column_values(alloc, answer, package, words),
+        Look::HasTable | Look::HasStream => print_has(answer, package, look, words.name()?),
+        look => Ok(print_fact(answer, package, look)?),
     }
-    Ok(())
 }
 
-/// Prints an answer of one word.
+/// Prints whether there is a table or a stream of a name.
+fn print_has(
+    answer: &mut String,
+    package: &Package<Counting>,
+    look: Look,
+    name: &str,
+) -> Result<(), Failure> {
+    let has = match look {
+        Look::HasTable => package.has_table(name),
+        _ => package.has_stream(name),
+    };
+    Ok(write!(answer, "{has}")?)
+}
+
+/// Prints the names of the tables, or an answer of one word.
 fn print_fact(
     answer: &mut String,
     package: &Package<Counting>,
     look: Look,
-    words: &mut Words,
-) -> Result<(), Failure> {
-    let is_so = match look {
-        Look::PackageType => {
-            write!(answer, "{:?}", package.package_type())?;
-            return Ok(());
-        }
-        Look::Codepage => {
-            write!(answer, "{}", package.database_codepage().id())?;
-            return Ok(());
-        }
+) -> Result<(), AllocError> {
+    match look {
+        Look::Tables => print_tables(answer, package.tables()),
+        Look::PackageType => write!(answer, "{:?}", package.package_type()),
+        Look::Codepage => write!(answer, "{}", package.database_codepage().id()),
+        look => write!(answer, "{}", is_so(package, look)),
+    }
+}
+
+/// Returns the answer of a look that asks whether something is so.
+fn is_so(package: &Package<Counting>, look: Look) -> bool {
+    match look {
         Look::IsWritable => package.is_writable(),
         Look::DeviceFailed => package.device_failed(),
-        Look::HasTable => package.has_table(words.name()?),
-        Look::HasStream => package.has_stream(words.name()?),
         _ => package.has_digital_signature(),
-    };
-    write!(answer, "{is_so}")?;
-    Ok(())
+    }
 }
 
 /// Prints the names of tables, each as a line.
@@ -167,11 +177,10 @@ fn print_query(
 ) -> Result<(), Failure> {
     let rows = selected(alloc, package, words)?;
     match look {
-        Look::Names => print_names(answer, rows.columns())?,
-        Look::Count => write!(answer, "{}", rows.len())?,
-        _ => print_rows(answer, rows)?,
+        Look::Names => Ok(print_names(answer, rows.columns())?),
+        Look::Count => Ok(write!(answer, "{}", rows.len())?),
+        _ => print_rows(answer, rows),
     }
-    Ok(())
 }
 
 /// Prints what an expression is worth on each row of a query: `Number + 1 on Numbers`.

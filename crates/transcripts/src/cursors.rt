@@ -4,16 +4,16 @@ use crate::session::Session;
 use msi::{StreamReader, StreamWriter};
 use std::alloc::Global;
 use std::io::{Read, Seek, SeekFrom, Write};
-use transcripts_words::failure::Failure;
-use transcripts_words::kept::{Kept, pieces, print_bytes};
-use transcripts_words::lines::Line;
-use transcripts_words::reports::{Report, empty_answer};
-use transcripts_words::tokens::tokens;
-use transcripts_words::words::Words;
+use transcripts_texts::failure::Failure;
+use transcripts_texts::kept::{Kept, pieces, print_bytes};
+use transcripts_texts::lines::Line;
+use transcripts_texts::reports::{Report, empty_answer};
+use transcripts_texts::tokens::tokens;
+use transcripts_texts::words::Words;
 
 /// Opens a stream for writing, and makes the calls below. Fails if there is no package, if memory runs out, and if
 /// nothing can be printed.
-pub fn write<R>(
+pub(crate) fn write<R>(
     rt: &R,
     report: &mut Report,
     session: &mut Session,
@@ -142,7 +142,7 @@ fn make_write(
 
 /// Opens a stream for reading, and makes the calls below. Fails if there is no package, if memory runs out, and if
 /// nothing can be printed.
-pub fn read<R>(
+pub(crate) fn read<R>(
     rt: &R,
     report: &mut Report,
     session: &Session,

@@ -56,6 +56,14 @@ struct Reader {
 }
 
 impl Reader {
+    /// Reads all lines of a file.
+    fn read_all(&mut self, alloc: Global, text: &str) -> Result<(), Failure> {
+        for (i, line) in text.lines().enumerate() {
+            self.read(alloc, i.saturating_add(1), line)?;
+        }
+        Ok(())
+    }
+
     /// Reads a line.
     fn read(&mut self, alloc: Global, number: usize, text: &str) -> Result<(), Failure> {
         if let Some(rows) = text.strip_prefix("foreach ") {
@@ -65,13 +73,17 @@ impl Reader {
             return self.end(alloc);
         }
         let text = String::from_str(alloc, text)?;
-        let line = Line { number, text };
-        if self.rows.is_empty() {
-            self.lines.push(line)?;
+        self.push(Line { number, text })
+    }
+
+    /// Adds a line to its block, if it stands in one.
+    fn push(&mut self, line: Line) -> Result<(), Failure> {
+        let lines = if self.rows.is_empty() {
+            &mut self.lines
         } else {
-            self.block.push(line)?;
-        }
-        Ok(())
+            &mut self.block
+        };
+        Ok(lines.push(line)?)
     }
 
     /// Repeats the lines of a block, once for each of its rows.
@@ -140,9 +152,7 @@ pub fn lines(alloc: Global, text: &str) -> Result<Vec<Line>, Failure> {
         rows: Vec::new(alloc),
         block: Vec::new(alloc),
     };
-    for (i, line) in text.lines().enumerate() {
-        reader.read(alloc, i.saturating_add(1), line)?;
-    }
+    reader.read_all(alloc, text)?;
     if reader.rows.is_empty() {
         return Ok(reader.lines);
     }

@@ -72,15 +72,27 @@ impl<'a> Report<'a> {
         answer: &str,
     ) -> Result<(), Failure> {
         self.differing = self.differing.saturating_add(1);
-        println!(rt; "{}:{}: {}", self.file, line.number, line.text())?;
-        for line in expected {
-            println!(rt; "- {}", line.expected())?;
-        }
-        for line in answer.lines() {
-            println!(rt; "+ {line}")?;
-        }
-        Ok(())
+        print!(rt; "{}:{}: ", self.file, line.number)?;
+        println!(rt; "{}", line.text())?;
+        print_expected(rt, expected)?;
+        print_found(rt, answer)
     }
+}
+
+/// Prints the answer that is expected.
+fn print_expected<R: Print>(rt: &R, expected: &[Line]) -> Result<(), Failure> {
+    for line in expected {
+        println!(rt; "- {}", line.expected())?;
+    }
+    Ok(())
+}
+
+/// Prints the answer that was found.
+fn print_found<R: Print>(rt: &R, answer: &str) -> Result<(), Failure> {
+    for line in answer.lines() {
+        println!(rt; "+ {line}")?;
+    }
+    Ok(())
 }
 
 /// Returns the lines with answers that come first.

@@ -1,16 +1,16 @@
 //! Calls on a property set beside the summary of a package: one becomes the other.
 
+use crate::properties;
 use crate::session::Session;
 use msi::SummaryInfo;
 use msi_summary::parts::{summary_bytes, summary_of};
 use std::alloc::Global;
-use transcripts_texts::properties;
-use transcripts_words::failure::Failure;
-use transcripts_words::words::Words;
+use transcripts_texts::failure::Failure;
+use transcripts_texts::words::Words;
 
 /// Makes a call on the property set, and prints its answer. Fails if there is no set, or no package where the call
 /// needs one, if the call can't be read or is refused, and if memory runs out.
-pub fn make(
+pub(crate) fn make(
     alloc: Global,
     session: &mut Session,
     words: &mut Words,

@@ -65,13 +65,24 @@ fn look(
 ) -> Result<(), Failure> {
     let bytes = kept.bytes(name)?;
     match call {
-        BytesCall::Size => write!(answer, "{}", bytes.len())?,
-        BytesCall::Same => write!(answer, "{}", bytes == kept.bytes(words.name()?)?)?,
-        BytesCall::Number => write!(answer, "{}", number(bytes, words.count()?)?)?,
-        BytesCall::RawStreams => print_names(alloc, answer, bytes)?,
-        _ => print_bytes(answer, range(bytes, words)?)?,
+        BytesCall::Size => Ok(write!(answer, "{}", bytes.len())?),
+        BytesCall::Same => print_same(kept, words.name()?, answer, bytes),
+        BytesCall::Number => print_number(answer, bytes, words.count()?),
+        BytesCall::RawStreams => print_names(alloc, answer, bytes),
+        _ => Ok(print_bytes(answer, range(bytes, words)?)?),
     }
-    Ok(())
+}
+
+/// Prints whether bytes are those of a name.
+fn print_same(kept: &Kept, name: &str, answer: &mut String, bytes: &[u8]) -> Result<(), Failure> {
+    let is_same = bytes == kept.bytes(name)?;
+    Ok(write!(answer, "{is_same}")?)
+}
+
+/// Prints the number of 32 bits at a position.
+fn print_number(answer: &mut String, bytes: &[u8], at: usize) -> Result<(), Failure> {
+    let number = number(bytes, at)?;
+    Ok(write!(answer, "{number}")?)
 }
 
 /// Returns the bytes in the range that comes next, or all if there is none.
@@ -95,10 +106,15 @@ fn number(bytes: &[u8], at: usize) -> Result<u32, Failure> {
 fn print_names(alloc: Global, answer: &mut String, bytes: &[u8]) -> Result<(), Failure> {
     let contents = compound::read(alloc, bytes)?;
     for (name, _) in contents.streams.iter() {
-        let name = name.to_text(alloc)?;
-        writeln!(answer, "{:?}", name.as_str())?;
+        print_name(alloc, answer, name)?;
     }
     Ok(())
+}
+
+/// Prints the name of a stream as a line.
+fn print_name(alloc: Global, answer: &mut String, name: &Name) -> Result<(), Failure> {
+    let name = name.to_text(alloc)?;
+    Ok(writeln!(answer, "{:?}", name.as_str())?)
 }
 
 /// Returns the bytes of the stream of a table in a container.
@@ -135,18 +151,42 @@ fn changed(
     words: &mut Words,
 ) -> Result<Vec<u8>, Failure> {
     let mut contents = compound::read(alloc, kept.bytes(name)?)?;
+    change(alloc, kept, call, words, &mut contents)?;
+    Ok(compound::write(alloc, &contents, 0)?)
+}
+
+/// Changes a container as a call does.
+fn change(
+    alloc: Global,
+    kept: &Kept,
+    call: BytesCall,
+    words: &mut Words,
+    contents: &mut Contents,
+) -> Result<(), Failure> {
     match call {
-        BytesCall::SetClsid => set_clsid(&mut contents, pieces(alloc, kept, words)?.as_slice()),
+        BytesCall::SetClsid => {
+            set_clsid(contents, pieces(alloc, kept, words)?.as_slice());
+            Ok(())
+        }
         BytesCall::RemoveRaw => {
             contents.streams.remove(&key(alloc, words)?);
+            Ok(())
         }
-        _ => {
-            let key = key(alloc, words)?;
-            let bytes = Bytes::from_vec(pieces(alloc, kept, words)?);
-            contents.streams.insert(key, bytes)?;
-        }
+        _ => set_stream(alloc, kept, words, contents),
     }
-    Ok(compound::write(alloc, &contents, 0)?)
+}
+
+/// Sets a stream to pieces.
+fn set_stream(
+    alloc: Global,
+    kept: &Kept,
+    words: &mut Words,
+    contents: &mut Contents,
+) -> Result<(), Failure> {
+    let key = key(alloc, words)?;
+    let bytes = pieces(alloc, kept, words)?;
+    contents.streams.insert(key, Bytes::from_vec(bytes))?;
+    Ok(())
 }
 
 /// Sets the root's CLSID.

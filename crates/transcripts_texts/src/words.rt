@@ -126,3 +126,13 @@ pub fn count_of(word: &str) -> Result<usize, Failure> {
         Err(_) => Err(Failure::Unreadable("a count is missing")),
     }
 }
+
+/// Returns what a table has for a name, if it has the name.
+pub fn named<T: Copy>(table: &[(&str, T)], name: &str) -> Option<T> {
+    for (known, value) in table {
+        if *known == name {
+            return Some(*value);
+        }
+    }
+    None
+}

@@ -4,13 +4,13 @@ use crate::session::Session;
 use msi::{Error, Package, PackageType};
 use msi_container_tests::counting::Counting;
 use std::alloc::Global;
-use transcripts_words::failure::Failure;
-use transcripts_words::kept::pieces;
-use transcripts_words::words::Words;
+use transcripts_texts::failure::Failure;
+use transcripts_texts::kept::pieces;
+use transcripts_texts::words::Words;
 
 /// A call that makes a package, or ends one.
 #[derive(Clone, Copy)]
-pub enum PackageCall {
+pub(crate) enum PackageCall {
     /// Says what the next device does.
     Device,
     /// Creates a package, over bytes that the device has already.
@@ -27,7 +27,7 @@ pub enum PackageCall {
 
 /// Makes a call that makes a package or ends one. Fails if the call can't be read or is refused, and if memory runs
 /// out.
-pub fn make(
+pub(crate) fn make(
     alloc: Global,
     session: &mut Session,
     call: PackageCall,

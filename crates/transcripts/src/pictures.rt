@@ -6,11 +6,11 @@ use msi_container_tests::counting::Counting;
 use std::alloc::{AllocError, Global};
 use std::io::Read;
 use transcripts_queries::queries::print_rows;
-use transcripts_words::failure::Failure;
+use transcripts_texts::failure::Failure;
 
 /// Returns all that the package of a session answers, and the bytes that a flush would write; none if there is none.
 /// Fails if memory runs out, and if something can't be read.
-pub fn picture(alloc: Global, session: &Session) -> Result<Vec<u8>, Failure> {
+pub(crate) fn picture(alloc: Global, session: &Session) -> Result<Vec<u8>, Failure> {
     let Some(package) = &session.package else {
         return Ok(Vec::new(alloc));
     };
@@ -36,7 +36,8 @@ fn print_facts(answers: &mut String, package: &Package<Counting>) -> Result<(), 
     let is_writable = package.is_writable();
     let has_failed = package.device_failed();
     let title = package.summary_info().title();
-    write!(answers, "{page} {is_writable} {has_failed} {title:?}")
+    write!(answers, "{page} {is_writable} ")?;
+    write!(answers, "{has_failed} {title:?}")
 }
 
 /// Prints a table: its name, and its rows.

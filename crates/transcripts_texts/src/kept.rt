@@ -52,13 +52,24 @@ impl Kept {
 pub fn pieces(alloc: Global, kept: &Kept, words: &mut Words) -> Result<Vec<u8>, Failure> {
     let mut all = Vec::new(alloc);
     for _ in 0..words.len() {
-        let Some(token) = words.next() else {
-            break;
-        };
-        let piece = piece(alloc, kept, token)?;
-        repeat(&mut all, piece.as_slice(), times(words)?)?;
+        add_piece(alloc, kept, words, &mut all)?;
     }
     Ok(all)
+}
+
+/// Adds the piece that comes next, if there is one.
+fn add_piece(
+    alloc: Global,
+    kept: &Kept,
+    words: &mut Words,
+    all: &mut Vec<u8>,
+) -> Result<(), Failure> {
+    let Some(token) = words.next() else {
+        return Ok(());
+    };
+    let times = times(words)?;
+    let piece = piece(alloc, kept, token)?;
+    Ok(repeat(all, piece.as_slice(), times)?)
 }
 
 /// Reads how many times a piece stands there.
