@@ -1,13 +1,13 @@
 //! The calls by their names, and the answer of each.
 
+use crate::changes::{self, Change};
+use crate::looks::{self, Look};
+use crate::packages::{self, PackageCall};
+use crate::session::Session;
+use crate::summaries;
 use std::alloc::Global;
 use std::io::{Read, Seek, Write};
 use std::rt::Files;
-use transcripts_packages::changes::{self, Change};
-use transcripts_packages::looks::{self, Look};
-use transcripts_packages::packages::{self, PackageCall};
-use transcripts_packages::session::Session;
-use transcripts_packages::summaries;
 use transcripts_queries::conditions::expression;
 use transcripts_queries::parsing::{self, Parsed};
 use transcripts_queries::queries::select;

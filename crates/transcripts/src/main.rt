@@ -6,6 +6,13 @@
 #![tactic(auto)]
 
 mod calls;
+mod changes;
+mod cursors;
+mod looks;
+mod packages;
+mod pictures;
+mod session;
+mod summaries;
 mod transcript;
 mod trials;
 

@@ -1,10 +1,9 @@
 //! Makes the calls of a transcript.
 
-use crate::{calls, trials};
+use crate::session::Session;
+use crate::{calls, cursors, trials};
 use std::io::{Read, Seek, Write};
 use std::rt::Files;
-use transcripts_packages::cursors;
-use transcripts_packages::session::Session;
 use transcripts_words::failure::Failure;
 use transcripts_words::lines::Line;
 use transcripts_words::reports::{Report, empty_answer};

@@ -2,10 +2,10 @@
 //! to be refused any.
 
 use crate::calls;
+use crate::pictures::picture;
+use crate::session::Session;
 use std::io::{Read, Seek, Write};
 use std::rt::Files;
-use transcripts_packages::pictures::picture;
-use transcripts_packages::session::Session;
 use transcripts_words::failure::Failure;
 use transcripts_words::words::Words;
 

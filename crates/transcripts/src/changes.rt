@@ -11,7 +11,7 @@ use transcripts_words::words::Words;
 
 /// A call that changes a package, and answers nothing.
 #[derive(Clone, Copy)]
-pub enum Change {
+pub(crate) enum Change {
     /// Creates a table.
     CreateTable,
     /// Drops a table.
@@ -41,7 +41,7 @@ pub enum Change {
 }
 
 /// Makes a change. Fails if the call can't be read or is refused, and if memory runs out.
-pub fn make(
+pub(crate) fn make(
     alloc: Global,
     package: &mut Package<Counting>,
     change: Change,

@@ -13,7 +13,7 @@ use transcripts_words::words::Words;
 
 /// Opens a stream for writing, and makes the calls below. Fails if there is no package, if memory runs out, and if
 /// nothing can be printed.
-pub fn write<R>(
+pub(crate) fn write<R>(
     rt: &R,
     report: &mut Report,
     session: &mut Session,
@@ -142,7 +142,7 @@ fn make_write(
 
 /// Opens a stream for reading, and makes the calls below. Fails if there is no package, if memory runs out, and if
 /// nothing can be printed.
-pub fn read<R>(
+pub(crate) fn read<R>(
     rt: &R,
     report: &mut Report,
     session: &Session,

@@ -10,7 +10,7 @@ use transcripts_words::words::Words;
 
 /// A call that makes a package, or ends one.
 #[derive(Clone, Copy)]
-pub enum PackageCall {
+pub(crate) enum PackageCall {
     /// Says what the next device does.
     Device,
     /// Creates a package, over bytes that the device has already.
@@ -27,7 +27,7 @@ pub enum PackageCall {
 
 /// Makes a call that makes a package or ends one. Fails if the call can't be read or is refused, and if memory runs
 /// out.
-pub fn make(
+pub(crate) fn make(
     alloc: Global,
     session: &mut Session,
     call: PackageCall,

@@ -15,7 +15,7 @@ use transcripts_words::words::Words;
 
 /// A call that looks at a package.
 #[derive(Clone, Copy)]
-pub enum Look {
+pub(crate) enum Look {
     /// Prints what the package is for.
     PackageType,
     /// Prints the id of the database's code page.
@@ -54,7 +54,7 @@ pub enum Look {
 
 /// Prints the answer of a call that looks at a package. Fails if the call can't be read or is refused, and if memory
 /// runs out.
-pub fn print(
+pub(crate) fn print(
     alloc: Global,
     package: &Package<Counting>,
     look: Look,

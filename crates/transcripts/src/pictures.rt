@@ -10,7 +10,7 @@ use transcripts_words::failure::Failure;
 
 /// Returns all that the package of a session answers, and the bytes that a flush would write; none if there is none.
 /// Fails if memory runs out, and if something can't be read.
-pub fn picture(alloc: Global, session: &Session) -> Result<Vec<u8>, Failure> {
+pub(crate) fn picture(alloc: Global, session: &Session) -> Result<Vec<u8>, Failure> {
     let Some(package) = &session.package else {
         return Ok(Vec::new(alloc));
     };

@@ -10,7 +10,7 @@ use transcripts_words::words::Words;
 
 /// Makes a call on the property set, and prints its answer. Fails if there is no set, or no package where the call
 /// needs one, if the call can't be read or is refused, and if memory runs out.
-pub fn make(
+pub(crate) fn make(
     alloc: Global,
     session: &mut Session,
     words: &mut Words,

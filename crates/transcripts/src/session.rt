@@ -26,16 +26,16 @@ const PLAIN: Behaviour = Behaviour {
 
 /// A package, the bytes of earlier ones, and what else calls need that no package has.
 #[derive(Drop)]
-pub struct Session {
+pub(crate) struct Session {
     /// The package, if there is one.
     pub(crate) package: Option<Package<Counting>>,
     /// What calls that need no package work on.
-    pub stock: Stock,
+    pub(crate) stock: Stock,
     behaviour: Behaviour,
     /// How many calls the device of the last package got that was closed.
-    pub calls: usize,
+    pub(crate) calls: usize,
     /// How many of them were writes.
-    pub writes: usize,
+    pub(crate) writes: usize,
 }
 
 /// The failure of a call that needs a package.
@@ -43,7 +43,7 @@ const NO_PACKAGE: Failure = Failure::Unreadable("there is no package");
 
 impl Session {
     /// Returns a session without a package, and with nothing in stock.
-    pub fn new(alloc: Global) -> Session {
+    pub(crate) fn new(alloc: Global) -> Session {
         Session {
             package: None,
             stock: Stock::new(alloc),
@@ -54,12 +54,12 @@ impl Session {
     }
 
     /// Returns the package. Fails if there is none.
-    pub fn package(&self) -> Result<&Package<Counting>, Failure> {
+    pub(crate) fn package(&self) -> Result<&Package<Counting>, Failure> {
         self.package.as_ref().ok_or(NO_PACKAGE)
     }
 
     /// Returns the package, to be changed. Fails if there is none.
-    pub fn package_mut(&mut self) -> Result<&mut Package<Counting>, Failure> {
+    pub(crate) fn package_mut(&mut self) -> Result<&mut Package<Counting>, Failure> {
         self.package.as_mut().ok_or(NO_PACKAGE)
     }
 
