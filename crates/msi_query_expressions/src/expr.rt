@@ -52,9 +52,15 @@ pub(crate) enum Tree<C> {
 ///
 /// Evaluation, printing, `column_names` and the drop go down the tree by recursion, so its depth is bounded by the
 /// stack alone.
-#[derive(Drop)]
 pub struct Expr {
     tree: Tree<Text>,
+}
+
+/// Written out, so that a function that owns one calls one drop, and its proof doesn't go through that of the tree.
+impl Drop for Expr {
+    fn drop(self) {
+        let Expr { tree: _ } = self;
+    }
 }
 
 impl Model for Expr {

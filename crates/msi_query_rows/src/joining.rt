@@ -99,11 +99,7 @@ pub(crate) fn joined_rows(
     ensures kind { OnlyMemory result }
 {
     let filter = RowFilter::new(alloc, columns, Some(on))?;
-    let Relation {
-        name: _name,
-        columns: right_columns,
-        rows: right,
-    } = right;
+    let (_name, right_columns, right) = right.into_parts();
     let join = Join {
         kind,
         filter: &filter,

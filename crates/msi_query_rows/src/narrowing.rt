@@ -120,11 +120,7 @@ pub(crate) fn selected(
         ≡ selected_by clauses.now (relation_values pool.now.places relation)) }
     ensures kind { OnlyMemory result }
 {
-    let Relation {
-        name,
-        columns,
-        rows,
-    } = relation;
+    let (name, columns, rows) = relation.into_parts();
     let rows = kept_rows(alloc, pool, columns.as_slice(), clauses.condition(), rows)?;
     let names = clauses.columns();
     if names.is_empty() {

@@ -15,11 +15,21 @@ use std::alloc::Global;
 use std::marker::Model;
 
 /// A name, columns, and rows of cells, whose texts are in a pool. Contracts see the cells.
-#[derive(Drop)]
 pub struct Relation {
     pub(crate) name: Text,
     pub(crate) columns: Items<Column>,
     pub(crate) rows: Vec<Items<ValueRef>>,
+}
+
+/// Written out, so that a function that owns one calls one drop, and its proof doesn't go through those of the parts.
+impl Drop for Relation {
+    fn drop(self) {
+        let Relation {
+            name: _,
+            columns: _,
+            rows: _,
+        } = self;
+    }
 }
 
 impl Model for Relation {
@@ -61,6 +71,20 @@ impl Relation {
         ensures { result.now ≡ self.now.rows }
     {
         self.rows.as_slice()
+    }
+
+    /// The name, the columns and the rows.
+    pub(crate) fn into_parts(self) -> (Text, Items<Column>, Vec<Items<ValueRef>>)
+        ensures name { result.0 ≡ self.name }
+        ensures columns { result.1 ≡ self.columns }
+        ensures rows { result.2.items ≡ self.rows }
+    {
+        let Relation {
+            name,
+            columns,
+            rows,
+        } = self;
+        (name, columns, rows)
     }
 
     /// The rows as callers see them, over the pool of their texts. Each has a cell for each column.

@@ -7,7 +7,7 @@ ghost use Rattle.msi_query_tokens.specs.Tokens as spec;
 use crate::token::{KEY_WORDS, Kind};
 
 /// Which bytes go on with a token.
-#[derive(Clone, Copy, Debug)]
+#[derive(Clone, Copy)]
 enum Class {
     Blank,
     Digit,

@@ -37,7 +37,7 @@ fn undoubled(alloc: Global, quote: u8, mut text: &[u8]) -> Result<Vec<u8>, Alloc
 }
 
 /// What the bytes of a text in double quotes that were read last belong to.
-#[derive(Clone, Copy, Debug)]
+#[derive(Clone, Copy)]
 pub(crate) enum Mode {
     Plain,
     /// Behind a backslash.

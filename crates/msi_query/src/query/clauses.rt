@@ -13,10 +13,19 @@ use std::marker::Model;
 
 /// The columns that are selected, where an empty list selects all, and the condition on rows, if any. The condition
 /// is evaluated before columns are left out.
-#[derive(Drop)]
 pub struct Clauses {
     columns: Items<Text>,
     condition: Option<Expr>,
+}
+
+/// Written out, so that a function that owns them calls one drop, and its proof doesn't go through those of the parts.
+impl Drop for Clauses {
+    fn drop(self) {
+        let Clauses {
+            columns: _,
+            condition: _,
+        } = self;
+    }
 }
 
 impl Model for Clauses {

@@ -13,7 +13,7 @@ pub returns-in-Some-clause-ok : goal.returns-in-Some-clause-ok
 returns-in-Some-clause-ok c =
     IfOk-weaker c.rows_by_index.result _ _
     (λ rows h. h ∙ join_same c.args.kind c.args.pool.now.places c.in_ok-filter.filter c.args.columns.now c.args.on.now (length c.as_slice.result.now) (length c.args.right.columns)
-    c.rows-in-Some.result.now c.args.left.now.rows c.right.inside.rows.items c.args.right.rows
+    c.rows-in-Some.result.now c.args.left.now.rows c.into_parts-name.result.2.items c.args.right.rows
     c.in_ok-filter.ensures.ok (search rules) c.rows-in-Some.ensures (search rules))
     c.rows_by_index.ensures.ok
 
