@@ -1,5 +1,6 @@
 -- The lemmas of this crate.
 pub mod ClaimLemmas
+pub mod StepLemmas
 pub mod ChainLemmas
 pub mod WholeChainLemmas
 pub mod FatLemmas

@@ -1,12 +1,13 @@
 use Rattle.std.proofs.Common.{List, arith, ◌≡◌, ℕ, ◌++◌, length, get_or, take, vec_len, ◌∙◌, sym, ap, Some}
 use Rattle.std.proofs.lemmas.Result.{err_from_is_err_and}
-use Rattle.std.proofs.lemmas.List.{append_assoc}
+use Rattle.std.proofs.lemmas.List.{append_assoc, take_all}
 use Rattle.std.proofs.lemmas.Option.{none-some}
 use Rattle.msi_container_chains.specs.Claims.{IsFree}
 use Rattle.msi_container_chains.specs.Walks.{follower}
 use Rattle.msi_container_format.specs.Container.{successor}
 use Rattle.msi_container_chains.proofs.ClaimLemmas.{claim_lacked_memory}
 use Rattle.msi_container_chains.proofs.ChainLemmas.{chain_push, same_push, follower_is, next_is, free_at}
+use Rattle.msi_container_chains.proofs.StepLemmas.{used_more, used_one_more, used_same, used_most}
 use Rattle.msi_container_chains.proofs.walks.walk.Goals as goal
 
 pub returns-in_err-sector-clause-only : goal.returns-in_err-sector-clause-only
@@ -47,3 +48,45 @@ loop-preserved c =
       only = λ chain is can. rw pushed (same_push next c.args.start c.args.count c.loop.counter s xs chain is c.loop-test.true (i.only chain is can) follows);
       steps = omega (arith, i.so_far.long, c.in_ok-sector.ensures.step, ap (λ (q : List ℕ). length q) c.deref.ensures.value);
     }
+
+pub next_member-requires : goal.next_member-requires
+next_member-requires c =
+    let now = c.loop.claims in
+    let i = c.loop.invariant in
+    omega (arith, used_more c.args.claims.now.list now.list c.loop.chain i.claimed, used_most now.marks now.list now.counted, i.so_far.long, c.loop.chain.ok, i.limit, i.steps, c.requires)
+
+pub returns-in_err-sector-clause-bounded : goal.returns-in_err-sector-clause-bounded
+returns-in_err-sector-clause-bounded c =
+    let i = c.loop.invariant in
+    let step = ap (λ (q : List ℕ). length q) c.deref.ensures.value in
+    omega (arith, used_more c.args.claims.now.list c.loop.claims.list c.loop.chain i.claimed, i.so_far.long, c.loop.chain.ok, i.steps, step, c.in_err-sector.ensures.step)
+
+pub returns-in_err-claim-clause-bounded : goal.returns-in_err-claim-clause-bounded
+returns-in_err-claim-clause-bounded c =
+    let i = c.loop.invariant in
+    let step = ap (λ (q : List ℕ). length q) c.deref.ensures.value in
+    let same = used_same c.loop.claims.list c.claim.new.self.list c.in_err-claim.ensures.err in
+    omega (arith, used_more c.args.claims.now.list c.loop.claims.list c.loop.chain i.claimed, same, i.so_far.long, c.loop.chain.ok, i.steps, step, c.in_ok-sector.ensures.step)
+
+pub returns-in_err-push-clause-bounded : goal.returns-in_err-push-clause-bounded
+returns-in_err-push-clause-bounded c =
+    let i = c.loop.invariant in
+    let step = ap (λ (q : List ℕ). length q) c.deref.ensures.value in
+    let more = used_one_more c.loop.claims.list c.claim.new.self.list c.in_ok-sector.sector c.in_ok-claim.ensures.ok.1 in
+    omega (arith, used_more c.args.claims.now.list c.loop.claims.list c.loop.chain i.claimed, more, i.so_far.long, c.loop.chain.ok, i.steps, step, c.in_ok-sector.ensures.step)
+
+pub returns-clause-found : goal.returns-clause-found
+returns-clause-found c =
+    let all : c.loop.counter ≡ c.args.count = omega arith in
+    (rw all at c.loop.invariant.so_far, c.loop.invariant.claimed)
+
+pub returns-clause-only : goal.returns-clause-only
+returns-clause-only c = λ chain is can. c.loop.invariant.only chain is can ∙ take_all c.loop.counter chain (omega (arith, is.long))
+
+pub returns-clause-bounded : goal.returns-clause-bounded
+returns-clause-bounded c =
+    let i = c.loop.invariant in
+    omega (arith, used_more c.args.claims.now.list c.loop.claims.list c.loop.chain i.claimed, i.so_far.long, c.loop.chain.ok, i.steps)
+
+pub returns-clause-exact : goal.returns-clause-exact
+returns-clause-exact c = omega (arith, c.loop.invariant.steps, c.loop.invariant.so_far.long)
