@@ -1,5 +1,6 @@
 -- The lemmas of this crate.
 pub mod ValueLemmas
+pub mod StepLemmas
 pub mod HeaderLemmas
 pub mod SpelledSetLemmas
 pub mod PairsLoopLemmas

@@ -10,7 +10,7 @@ use Rattle.msi_text_base.specs.declared.codepage.CodePage.{CodePage}
 use Rattle.msi_text_base.specs.declared.errors.ErrorKind.{ErrorKind}
 use Rattle.msi_text_base.specs.declared.errors.ErrorKind.TheVariants.{InvalidInput, OutOfMemory}
 use Rattle.msi_text_base.specs.Lists.{all_present}
-use Rattle.msi_text_base.proofs.OptionLemmas.{some_there}
+use Rattle.msi_text_base.proofs.OptionLemmas.{some_is, some_there}
 use Rattle.msi_text_pool.specs.PoolWriting.{is_refused_spelling}
 use Rattle.msi_summary_properties.specs.declared.propset.PropertyValue.{PropertyValue}
 use Rattle.msi_summary_properties.specs.Properties.{Properties, page_of}
@@ -44,6 +44,22 @@ padded_told (Some bytes) told =
     let short : length (padded_to_four bytes) < 2 ^ 32 = told_short (padded_to_four bytes) told in
     let padded = length-padded bytes in
     short_told bytes (omega arith)
+
+-- a value that is refused is refused with its padding too
+pub untold_padded : (o : Option (List ℕ)) → is_refused_spelling o ≡ true → is_refused_spelling (option_map padded_to_four o) ≡ true
+untold_padded None untold = untold
+untold_padded (Some bytes) untold =
+    let long : 2 ^ 32 ≤ length bytes = untold_long bytes untold in
+    let padded = length-padded bytes in
+    long_untold (padded_to_four bytes) (omega arith)
+
+-- how long a value of n bytes is with its padding
+pub sized_padded : (o : Option (List ℕ)) (n pad : ℕ) → option_map length o ≡ Some n → pad ≡ (4 - n % 4) % 4
+    → n + pad ≡ length (unwrap_or (option_map padded_to_four o) [])
+sized_padded None n pad size e = absurd cc
+sized_padded (Some bytes) n pad size e =
+    let is : length bytes ≡ n = some_is (length bytes) n size in
+    ap (λ k. n + k) e ∙ ap (λ k. k + (4 - k % 4) % 4) (sym is) ∙ sym (length-padded bytes)
 
 pub padded_written : (o : Option (List ℕ)) (held : List ℕ) (pad : ℕ) → is_refused_spelling o ≡ false → pad ≡ (4 - length (unwrap_or o []) % 4) % 4
     → (held ++ unwrap_or o []) ++ replicate pad 0 ≡ held ++ unwrap_or (option_map padded_to_four o) []
