@@ -1,6 +1,6 @@
 //! The rows that describe a table, in `_Tables`, `_Columns` and `_Validation` (MSI SDK, "System tables").
 
-ghost use Rattle.std.specs.Prelude.{◌≡◌, ◌≤◌, IfOk, IsTrue, length, option_map};
+ghost use Rattle.std.specs.Prelude.{◌≡◌, ◌≤◌, IfOk, IsTrue, codes, if◌then◌else◌, length, option_map};
 ghost use Rattle.msi_text.specs.Categories.{category_name};
 ghost use Rattle.msi_text_base.specs.Results.{OnlyMemory};
 ghost use Rattle.msi_table_values.specs.Columns.{HasShortLength, type_bits as bits_of};
@@ -63,10 +63,12 @@ fn column_row(
     ensures ok { IfOk result (λ row. row ≡ row_of_column table.now (number, column.now)) }
     ensures kind { OnlyMemory result }
 {
+    let table = table.into_text(alloc)?;
+    let name = column.name().into_text(alloc)?;
     let row = [
-        Value::Str(table.into_text(alloc)?),
+        Value::Str(table),
         Value::Int(i32::from(number)),
-        Value::Str(column.name().into_text(alloc)?),
+        Value::Str(name),
         Value::Int(i32::from(type_bits(column))),
     ];
     Ok(Items::from_vec(Vec::from_array(alloc, row)?))
@@ -184,6 +186,13 @@ fn category(alloc: Global, column: &Column) -> Result<Value, Error>
     }
 }
 
+/// Whether a column takes null, as `_Validation` spells it.
+fn nullability(column: &Column) -> &'static str
+    ensures { result.now ≡ (if column.now.is_nullable then codes "Y" else codes "N") }
+{
+    if column.is_nullable() { "Y" } else { "N" }
+}
+
 /// Returns the row of `_Validation` that describes a table's column.
 ///
 /// # Errors
@@ -192,17 +201,22 @@ pub fn validation_row(alloc: Global, table: &str, column: &Column) -> Result<Ite
     ensures ok { IfOk result (λ row. row ≡ validating_row table.now column.now) }
     ensures kind { OnlyMemory result }
 {
-    let nullable = if column.is_nullable() { "Y" } else { "N" };
+    let table = table.into_text(alloc)?;
+    let name = column.name().into_text(alloc)?;
+    let nullable = nullability(column).into_text(alloc)?;
+    let key_table = key_table(alloc, column)?;
+    let category = category(alloc, column)?;
+    let listed = listed_values(alloc, column)?;
     let row = [
-        Value::Str(table.into_text(alloc)?),
-        Value::Str(column.name().into_text(alloc)?),
-        Value::Str(nullable.into_text(alloc)?),
+        Value::Str(table),
+        Value::Str(name),
+        Value::Str(nullable),
         least(column),
         greatest(column),
-        key_table(alloc, column)?,
+        key_table,
         key_column(column),
-        category(alloc, column)?,
-        listed_values(alloc, column)?,
+        category,
+        listed,
         Value::Null,
     ];
     Ok(Items::from_vec(Vec::from_array(alloc, row)?))
