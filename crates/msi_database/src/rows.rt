@@ -301,7 +301,9 @@ impl Database {
         ensures kind { IfErr result (IsRefusal (updates.update_rows self.old.database query)) }
         ensures early { AnswersFirst (early_update_refusals self.old.database query) result }
     {
-        let new = self.rows_updated(&update_parts(query))?;
+        // Without `?` here the parts are dropped once, and not on each way out.
+        let made = self.rows_updated(&update_parts(query));
+        let new = made?;
         self.finish_rows(new)
     }
 
@@ -320,7 +322,9 @@ impl Database {
         ensures kind { IfErr result (IsRefusal (deletes.delete_rows self.old.database query)) }
         ensures early { AnswersFirst (early_delete_refusals self.old.database query) result }
     {
-        let new = self.rows_deleted(&delete_parts(query))?;
+        // Without `?` here the parts are dropped once, and not on each way out.
+        let made = self.rows_deleted(&delete_parts(query));
+        let new = made?;
         self.finish_rows(new)
     }
 }
