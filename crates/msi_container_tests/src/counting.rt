@@ -44,21 +44,6 @@ impl Counting {
         }
     }
 
-    /// A device over this memory, whose reads give as little as its writes take. Its fault is an interruption.
-    pub fn interrupted(memory: Memory, most: usize, failing: usize) -> Counting {
-        Counting {
-            memory,
-            most,
-            most_read: most,
-            failing,
-            lasts: false,
-            fault: io::ErrorKind::Interrupted,
-            calls: 0,
-            writes: 0,
-            failed: false,
-        }
-    }
-
     /// Begins a call, which fails where its turn has come.
     fn begin(&mut self) -> io::Result<()>
         ensures memory { self.new.memory ≡ self.old.memory }

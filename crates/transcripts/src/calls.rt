@@ -4,7 +4,7 @@ use crate::changes::{self, Change};
 use crate::looks::{self, Look};
 use crate::packages::{self, PackageCall};
 use crate::session::Session;
-use crate::summaries;
+use crate::{devices, summaries};
 use std::alloc::Global;
 use std::io::{Read, Seek, Write};
 use std::rt::Files;
@@ -18,6 +18,7 @@ use transcripts_words::containers::{self, BytesCall};
 use transcripts_words::failure::Failure;
 use transcripts_words::files::{self, FileCall};
 use transcripts_words::kept::Kept;
+use transcripts_words::stream_names;
 use transcripts_words::words::Words;
 
 /// A call.
@@ -31,6 +32,10 @@ enum Call {
     Bytes(BytesCall),
     File(FileCall),
     Text(TextCall),
+    /// Makes a call on the name of a stream.
+    StreamName,
+    /// Makes calls on a device.
+    OnDevice,
     /// Makes a call on the string pool.
     Pool,
     /// Makes a call on the property set.
@@ -48,7 +53,7 @@ enum Call {
 }
 
 /// Each call by its name.
-static CALLS: [(&str, Call); 69] = [
+static CALLS: [(&str, Call); 78] = [
     ("device", Call::Package(PackageCall::Device)),
     ("create", Call::Package(PackageCall::Create)),
     ("open", Call::Package(PackageCall::Open)),
@@ -98,6 +103,18 @@ static CALLS: [(&str, Call); 69] = [
     ("set_clsid", Call::Bytes(BytesCall::SetClsid)),
     ("set_raw", Call::Bytes(BytesCall::SetRaw)),
     ("remove_raw", Call::Bytes(BytesCall::RemoveRaw)),
+    ("overwrite_raw", Call::Bytes(BytesCall::OverwriteRaw)),
+    ("put_back_raw", Call::Bytes(BytesCall::PutBackRaw)),
+    ("write_container", Call::Bytes(BytesCall::WriteContainer)),
+    ("read_container", Call::Bytes(BytesCall::ReadContainer)),
+    ("share_container", Call::Bytes(BytesCall::ShareContainer)),
+    ("list_container", Call::Bytes(BytesCall::ListContainer)),
+    (
+        "refused_beginnings",
+        Call::Bytes(BytesCall::RefusedBeginnings),
+    ),
+    ("stream_name", Call::StreamName),
+    ("on_device", Call::OnDevice),
     ("save", Call::File(FileCall::Save)),
     ("decode", Call::Text(TextCall::Decode)),
     ("encode", Call::Text(TextCall::Encode)),
@@ -190,6 +207,7 @@ fn make_other(
             return containers::make(alloc, &mut session.stock.kept, call, words, answer);
         }
         Call::Text(call) => return texts::print(alloc, &session.stock.kept, call, words, answer),
+        Call::OnDevice => return devices::make(alloc, session, words, answer),
         Call::Pool => return pools::make(alloc, &mut session.stock, words, answer),
         Call::Properties => return summaries::make(alloc, session, words, answer),
         _ => return print_text(alloc, session, call, words, answer),
@@ -209,6 +227,7 @@ fn print_text(
     match call {
         Call::Calls => write!(answer, "{}", session.calls)?,
         Call::Writes => write!(answer, "{}", session.writes)?,
+        Call::StreamName => stream_names::make(alloc, words, answer)?,
         Call::PrintQuery => {
             let query = select(alloc, words)?;
             write!(answer, "{query}")?;

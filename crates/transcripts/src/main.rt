@@ -8,6 +8,7 @@
 mod calls;
 mod changes;
 mod cursors;
+mod devices;
 mod looks;
 mod packages;
 mod pictures;

@@ -3,6 +3,7 @@
 use msi::Package;
 use msi_container_tests::counting::Counting;
 use std::alloc::Global;
+use std::io;
 use transcripts_texts::stock::Stock;
 use transcripts_words::failure::Failure;
 use transcripts_words::words::Words;
@@ -14,6 +15,7 @@ struct Behaviour {
     most_read: usize,
     failing: usize,
     lasts: bool,
+    fault: io::ErrorKind,
 }
 
 /// The behaviour of a device that takes and gives all, and never fails.
@@ -22,6 +24,7 @@ const PLAIN: Behaviour = Behaviour {
     most_read: usize::MAX,
     failing: 0,
     lasts: false,
+    fault: io::ErrorKind::BrokenPipe,
 };
 
 /// A package, the bytes of earlier ones, and what else calls need that no package has.
@@ -75,11 +78,13 @@ impl Session {
             most_read,
             failing,
             lasts,
+            fault,
         } = self.behaviour;
         self.behaviour = PLAIN;
         let mut device = Counting::new(bytes, most, failing);
         device.most_read = most_read;
         device.lasts = lasts;
+        device.fault = fault;
         device
     }
 
@@ -90,7 +95,7 @@ impl Session {
         self.stock.kept.keep(name, device.memory.into_vec());
     }
 
-    /// Reads what the next device does: `most 512 most_read 7 failing 12 lasts`.
+    /// Reads what the next device does: `most 512 most_read 7 failing 12 lasts interrupted`.
     pub(crate) fn behave(&mut self, words: &mut Words) -> Result<(), Failure> {
         let mut behaviour = PLAIN;
         for _ in 0..words.len() {
@@ -102,6 +107,7 @@ impl Session {
                 "most_read" => behaviour.most_read = words.count()?,
                 "failing" => behaviour.failing = words.count()?,
                 "lasts" => behaviour.lasts = true,
+                "interrupted" => behaviour.fault = io::ErrorKind::Interrupted,
                 _ => return Err(Failure::Unreadable("a device has no such behaviour")),
             }
         }

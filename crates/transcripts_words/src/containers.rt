@@ -1,11 +1,13 @@
 //! Calls on bytes that are kept, and on the streams of a compound file among them.
 
+use crate::contents::{print_listed, print_read, print_shared, refused_beginnings, written};
 use crate::failure::Failure;
 use crate::kept::{Kept, pieces, print_bytes, ranged};
 use crate::tokens::Token;
 use crate::words::Words;
-use msi_container::compound::{self, Bytes, Contents, Name};
+use msi_container::compound::{self, Bytes, Contents, Name, StreamMap};
 use msi_container::streamname;
+use msi_container_format::parts::put_back;
 use std::alloc::Global;
 
 /// A call on bytes that are kept. Their name comes first.
@@ -29,6 +31,20 @@ pub enum BytesCall {
     SetRaw,
     /// Removes a stream.
     RemoveRaw,
+    /// Writes pieces over a stream, if it is there.
+    OverwriteRaw,
+    /// Sets a stream to pieces, and then back to what it was.
+    PutBackRaw,
+    /// Keeps the file of streams.
+    WriteContainer,
+    /// Prints what a file holds.
+    ReadContainer,
+    /// Prints what it holds if its streams share its bytes.
+    ShareContainer,
+    /// Prints the lengths of its streams.
+    ListContainer,
+    /// Prints how many of its beginnings are refused.
+    RefusedBeginnings,
 }
 
 /// Makes a call on bytes that are kept, and prints its answer. Fails if the call can't be read, if its bytes are no
@@ -43,9 +59,12 @@ pub fn make(
     let name = words.name()?;
     let bytes = match call {
         BytesCall::Bytes => pieces(alloc, kept, words)?,
-        BytesCall::SetClsid | BytesCall::SetRaw | BytesCall::RemoveRaw => {
-            changed(alloc, kept, call, name, words)?
-        }
+        BytesCall::WriteContainer => written(alloc, words)?,
+        BytesCall::SetClsid
+        | BytesCall::SetRaw
+        | BytesCall::RemoveRaw
+        | BytesCall::OverwriteRaw
+        | BytesCall::PutBackRaw => changed(alloc, kept, call, name, words)?,
         _ => return look(alloc, kept, call, name, words, answer),
     };
     kept.reserve(alloc, name)?;
@@ -65,12 +84,46 @@ fn look(
 ) -> Result<(), Failure> {
     let bytes = kept.bytes(name)?;
     match call {
-        BytesCall::Size => write!(answer, "{}", bytes.len())?,
-        BytesCall::Same => write!(answer, "{}", bytes == kept.bytes(words.name()?)?)?,
-        BytesCall::Number => write!(answer, "{}", number(bytes, words.count()?)?)?,
-        BytesCall::RawStreams => print_names(alloc, answer, bytes)?,
-        _ => print_bytes(answer, range(bytes, words)?)?,
+        BytesCall::Show => print_range(answer, bytes, words),
+        BytesCall::Same => print_same(answer, kept, bytes, words),
+        BytesCall::Number => print_number(answer, bytes, words),
+        BytesCall::RawStreams => print_names(alloc, answer, bytes),
+        BytesCall::ReadContainer => print_read(alloc, answer, bytes, words),
+        BytesCall::ShareContainer => print_shared(alloc, answer, bytes),
+        BytesCall::ListContainer => print_listed(alloc, answer, bytes),
+        BytesCall::RefusedBeginnings => print_count(answer, refused_beginnings(alloc, bytes)),
+        _ => print_count(answer, bytes.len()),
     }
+}
+
+fn print_count(answer: &mut String, count: usize) -> Result<(), Failure> {
+    write!(answer, "{count}")?;
+    Ok(())
+}
+
+/// Prints whether bytes are those of the name that comes next.
+fn print_same(
+    answer: &mut String,
+    kept: &Kept,
+    bytes: &[u8],
+    words: &mut Words,
+) -> Result<(), Failure> {
+    let others = kept.bytes(words.name()?)?;
+    write!(answer, "{}", bytes == others)?;
+    Ok(())
+}
+
+/// Prints the number at the position that comes next.
+fn print_number(answer: &mut String, bytes: &[u8], words: &mut Words) -> Result<(), Failure> {
+    let number = number(bytes, words.count()?)?;
+    write!(answer, "{number}")?;
+    Ok(())
+}
+
+/// Prints the bytes in the range that comes next, or all if there is none.
+fn print_range(answer: &mut String, bytes: &[u8], words: &mut Words) -> Result<(), Failure> {
+    let bytes = range(bytes, words)?;
+    print_bytes(answer, bytes)?;
     Ok(())
 }
 
@@ -143,10 +196,27 @@ fn changed(
         _ => {
             let key = key(alloc, words)?;
             let bytes = Bytes::from_vec(pieces(alloc, kept, words)?);
-            contents.streams.insert(key, bytes)?;
+            put(&mut contents.streams, call, key, bytes)?;
         }
     }
     Ok(compound::write(alloc, &contents, 0)?)
+}
+
+/// Puts bytes in a stream's place.
+fn put(streams: &mut StreamMap, call: BytesCall, key: Name, bytes: Bytes) -> Result<(), Failure> {
+    match call {
+        BytesCall::OverwriteRaw => {
+            if let Some(held) = streams.get_mut(&key) {
+                *held = bytes;
+            }
+        }
+        BytesCall::PutBackRaw => {
+            let held = streams.replace(key.duplicate(), bytes)?;
+            put_back(streams, &key, held);
+        }
+        _ => streams.insert(key, bytes)?,
+    }
+    Ok(())
 }
 
 /// Sets the root's CLSID.

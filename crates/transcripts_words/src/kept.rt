@@ -46,12 +46,15 @@ impl Kept {
     }
 }
 
-/// Reads pieces up to the line's end: bytes as hexadecimal digits, texts, bytes that are kept, `@NAME`, and the stream
-/// of a table in them, `@NAME/TABLE`; of these a part, `@NAME:0..512`. With `*3` behind it a piece stands there three
-/// times. Fails at what is no piece, at a name or a table that has no bytes, and if memory runs out.
+/// Reads pieces up to a mark or the line's end: bytes as hexadecimal digits, texts, bytes that are kept, `@NAME`, and
+/// the stream of a table in them, `@NAME/TABLE`; of these a part, `@NAME:0..512`. With `*3` behind it a piece stands
+/// there three times. Fails at what is no piece, at a name or a table that has no bytes, and if memory runs out.
 pub fn pieces(alloc: Global, kept: &Kept, words: &mut Words) -> Result<Vec<u8>, Failure> {
     let mut all = Vec::new(alloc);
     for _ in 0..words.len() {
+        if matches!(words.peek(), Some(Token::Mark(_))) {
+            break;
+        }
         let Some(token) = words.next() else {
             break;
         };
@@ -62,7 +65,7 @@ pub fn pieces(alloc: Global, kept: &Kept, words: &mut Words) -> Result<Vec<u8>, 
 }
 
 /// Reads how many times a piece stands there.
-fn times(words: &mut Words) -> Result<usize, Failure> {
+pub(crate) fn times(words: &mut Words) -> Result<usize, Failure> {
     let Some(count) = words.peek_word().and_then(|word| word.strip_prefix('*')) else {
         return Ok(1);
     };
@@ -150,10 +153,15 @@ const MOST: usize = 256;
 
 /// Prints bytes, or their number and their Adler-32 checksum if they are many. Fails if memory runs out.
 pub fn print_bytes(answer: &mut String, bytes: &[u8]) -> Result<(), AllocError> {
+    print_few(answer, bytes, MOST)
+}
+
+/// Prints bytes, or their number and their checksum if they are more than so many.
+pub(crate) fn print_few(answer: &mut String, bytes: &[u8], most: usize) -> Result<(), AllocError> {
     if bytes.is_empty() {
         return answer.push_str("no bytes");
     }
-    if bytes.len() > MOST {
+    if bytes.len() > most {
         return write!(
             answer,
             "{} bytes, adler32 {:08x}",

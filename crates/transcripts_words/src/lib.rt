@@ -2,10 +2,13 @@
 #![tactic(auto)]
 
 pub mod containers;
+mod contents;
+pub mod devices;
 pub mod failure;
 pub mod files;
 pub mod kept;
 pub mod lines;
 pub mod reports;
+pub mod stream_names;
 pub mod tokens;
 pub mod words;

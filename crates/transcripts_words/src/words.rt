@@ -75,6 +75,15 @@ impl<'a> Words<'a> {
         is_next
     }
 
+    /// Reads the count behind a word if that comes next, and returns another one if it doesn't. Fails if no count is
+    /// there.
+    pub fn count_behind(&mut self, word: &str, otherwise: usize) -> Result<usize, Failure> {
+        if self.takes(word) {
+            return self.count();
+        }
+        Ok(otherwise)
+    }
+
     /// Goes past a mark if it comes next, and returns whether it does.
     pub fn takes_mark(&mut self, mark: Mark) -> bool {
         let is_next = matches!(self.peek(), Some(Token::Mark(next)) if *next == mark);

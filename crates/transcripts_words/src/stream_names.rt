@@ -1,0 +1,70 @@
+//! Calls on the names of streams.
+
+use crate::failure::Failure;
+use crate::kept::times;
+use crate::words::Words;
+use msi_container::streamname;
+use std::alloc::{AllocError, Global};
+
+/// The names that aren't encoded.
+static SPECIAL: [&str; 4] = [
+    streamname::DIGITAL_SIGNATURE_STREAM_NAME,
+    streamname::MSI_DIGITAL_SIGNATURE_EX_STREAM_NAME,
+    streamname::SUMMARY_INFO_STREAM_NAME,
+    streamname::DOCUMENT_SUMMARY_INFO_STREAM_NAME,
+];
+
+/// Makes a call on a name: `encode table "_Columns"`, `decode "a"` or `is_valid "a" *62`, or `special`, and prints its
+/// answer. Fails if the call can't be read, and if memory runs out.
+pub fn make(alloc: Global, words: &mut Words, answer: &mut String) -> Result<(), Failure> {
+    let verb = words.word()?;
+    if verb == "special" {
+        return Ok(print_special(answer)?);
+    }
+    let is_table = words.takes("table");
+    let name = repeated(alloc, words.name()?, times(words)?)?;
+    let name = name.as_str();
+    match verb {
+        "encode" => print_units(answer, streamname::encode(alloc, name, is_table)?.as_str())?,
+        "decode" => print_decoded(alloc, answer, name)?,
+        "is_valid" => write!(answer, "{}", streamname::is_valid(name, is_table))?,
+        _ => return Err(Failure::Unreadable("a name has no such call")),
+    }
+    Ok(())
+}
+
+/// Prints the names that aren't encoded, each as a line.
+fn print_special(answer: &mut String) -> Result<(), AllocError> {
+    for name in &SPECIAL {
+        writeln!(answer, "{name:?}")?;
+    }
+    Ok(())
+}
+
+/// Returns a text so many times.
+fn repeated(alloc: Global, text: &str, times: usize) -> Result<String, AllocError> {
+    let mut all = String::new(alloc);
+    for _ in 0..times {
+        all.push_str(text)?;
+    }
+    Ok(all)
+}
+
+/// Prints the units of a name.
+fn print_units(answer: &mut String, name: &str) -> Result<(), AllocError> {
+    for (i, unit) in name.encode_utf16().enumerate() {
+        if i > 0 {
+            answer.push(' ')?;
+        }
+        write!(answer, "{unit:04X}")?;
+    }
+    Ok(())
+}
+
+/// Prints what a name is decoded to, behind `table` if it is that of a table.
+fn print_decoded(alloc: Global, answer: &mut String, name: &str) -> Result<(), Failure> {
+    let (text, is_table) = streamname::decode(alloc, name)?;
+    answer.push_str(if is_table { "table " } else { "" })?;
+    write!(answer, "{:?}", text.as_str())?;
+    Ok(())
+}
