@@ -2,8 +2,7 @@
 
 use crate::held::written;
 use msi::{CodePage, Memory, Package, PackageType};
-use msipkg_files::{create_file, overwrite_file};
-use msipkg_output::Failure;
+use msipkg_output::{Failure, create_file, overwrite_file};
 use std::alloc::Global;
 use std::fs::OpenFile;
 use std::io::Write;

@@ -1,8 +1,7 @@
 //! Packages that are held in memory while they are changed.
 
 use msi::{Memory, Package};
-use msipkg_files::replace_file;
-use msipkg_output::{Failure, Shown};
+use msipkg_output::{Failure, Shown, replace_file};
 use std::fs::{self, OpenFile};
 use std::io::{Read, Seek, Write};
 use std::rt::Files;

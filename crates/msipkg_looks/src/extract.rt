@@ -2,11 +2,10 @@
 //! is written outside the folder.
 
 use msi::{Package, Source};
-use msipkg_files::{
-    SafeNames, StoredStreams, create_file, open_package, overwrite_file, stored_streams,
-    stream_bytes,
+use msipkg_output::{
+    Failure, SafeNames, Shown, StoredStreams, create_file, open_package, overwrite_file,
+    stored_streams, stream_bytes,
 };
-use msipkg_output::{Failure, Shown};
 use std::alloc::{AllocError, Global};
 use std::fs::{self, OpenFile};
 use std::io::{Read, Seek, Write};

@@ -1,8 +1,7 @@
 //! `query FILE TEXT`: the rows that a query selects.
 
 use msi::{Package, Parse, Select, Source};
-use msipkg_files::open_package;
-use msipkg_output::{Failure, Format, Style, write_rows};
+use msipkg_output::{Failure, Format, Style, open_package, write_rows};
 use std::alloc::Global;
 use std::io::{Read, Seek, Write};
 use std::rt::Files;

@@ -4,9 +4,8 @@ use crate::columns::{
     category_text, definition_text, flags_text, reference_text, type_text, values_text,
 };
 use msi::{Column, Package, Source, Table, Text};
-use msipkg_files::open_package;
 use msipkg_output::json::{self, JsonObject};
-use msipkg_output::{Failure, Grid, Style};
+use msipkg_output::{Failure, Grid, Style, open_package};
 use serde_json::Value;
 use std::alloc::{AllocError, Global};
 use std::io::{self, Read, Seek, Write};

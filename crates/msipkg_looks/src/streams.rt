@@ -1,8 +1,9 @@
 //! `streams FILE`: the names of a package's streams, and how many bytes they have.
 
 use msi::{Package, Source};
-use msipkg_files::{StoredStreams, open_package, stored_streams, stream_bytes};
-use msipkg_output::{Failure, Grid, Style};
+use msipkg_output::{
+    Failure, Grid, StoredStreams, Style, open_package, stored_streams, stream_bytes,
+};
 use std::alloc::{AllocError, Global};
 use std::io::{Read, Seek, Write};
 use std::rt::Files;

@@ -3,9 +3,8 @@
 use crate::facts::Facts;
 use crate::times::time_text;
 use msi::{Error, SummaryInfo, Timestamp};
-use msipkg_files::open_package;
 use msipkg_output::json::{self, JsonObject};
-use msipkg_output::{Failure, Style};
+use msipkg_output::{Failure, Style, open_package};
 use std::alloc::{AllocError, Global};
 use std::io::{Read, Seek, Write};
 use std::rt::Files;

@@ -1,8 +1,7 @@
 //! `tables FILE`: the names of a package's tables, and how many rows they have.
 
 use msi::{Error, Package, Select, Source, Table};
-use msipkg_files::open_package;
-use msipkg_output::{Failure, Grid, Style};
+use msipkg_output::{Failure, Grid, Style, open_package};
 use std::alloc::{AllocError, Global};
 use std::io::{Read, Seek, Write};
 use std::rt::Files;

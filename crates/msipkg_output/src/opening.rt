@@ -1,7 +1,7 @@
 //! Opening the package of a file for looking at it.
 
+use crate::failure::Failure;
 use msi::{Metered, Package};
-use msipkg_output::Failure;
 use std::fs;
 use std::io::{Read, Seek};
 use std::rt::Files;

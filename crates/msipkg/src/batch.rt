@@ -1,6 +1,6 @@
 //! `batch`: commands of a text, a line each.
 
-use crate::run;
+use crate::commands::run;
 use std::alloc::{AllocError, Global};
 use std::fs::OpenFile;
 use std::io::{self, Read, Seek, Write};
@@ -10,7 +10,7 @@ use std::rt::Files;
 /// Runs the commands of an input, a line each, and prints each line before what it prints. A line has the words behind
 /// the program's name; quotes keep blanks. Messages go to the output too, and a status that isn't 0 has a line of its
 /// own. An empty line and one that begins with `#` are printed alone. Returns the highest status.
-pub fn run_lines<R, I, O>(rt: &R, input: &mut I, output: &mut O) -> u8
+pub(crate) fn run_lines<R, I, O>(rt: &R, input: &mut I, output: &mut O) -> u8
 where
     R: Files + AllocGlobal,
     R::File: OpenFile + Read + Write + Seek + Drop,

@@ -1,6 +1,6 @@
 //! The commands that print.
 
-use crate::Asked;
+use crate::commands::Asked;
 use crate::several::print_each;
 use msipkg_looks::schema::Form;
 use msipkg_looks::{print_query, print_schema, print_streams, print_summary, print_tables};

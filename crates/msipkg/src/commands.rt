@@ -1,13 +1,6 @@
-//! The commands of the program `msipkg`, over any files and writers.
-#![tactic(auto)]
+//! A command over any files and writers: from arguments to what they ask for, from a failure to its line and status.
 
-mod batch;
-mod changing;
-mod looking;
-mod several;
-mod words;
-
-pub use batch::run_lines;
+use crate::{changing, looking, words};
 use clap::ArgMatches;
 use clap::error::ErrorKind;
 use msipkg_output::{Failure, Shown, Style};
@@ -20,7 +13,7 @@ const CAPACITY: usize = 64 * 1024;
 
 /// Runs a command over its arguments and two writers. Returns the exit status: 0 on success; 1 on an error, which is
 /// written to `errors`; 2 with a hint there, if the arguments match no command.
-pub fn run<R, O, E>(
+pub(crate) fn run<R, O, E>(
     rt: &R,
     words: &[String],
     is_terminal: bool,

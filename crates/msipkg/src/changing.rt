@@ -1,6 +1,6 @@
 //! The commands that write files.
 
-use crate::Asked;
+use crate::commands::Asked;
 use msipkg_changes::{
     New, add_streams, carry_out_statements, create_package, remove_streams, set_properties,
 };

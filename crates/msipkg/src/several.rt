@@ -1,6 +1,6 @@
 //! Commands that take several files: a fault in one is told, and the others go on.
 
-use crate::{Asked, tell};
+use crate::commands::{Asked, tell};
 use msipkg_changes::recount_package;
 use msipkg_checks::print_check;
 use msipkg_looks::print_info;
