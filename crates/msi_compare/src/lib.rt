@@ -1,0 +1,11 @@
+//! Compares the rows of two tables by their keys: which rows are removed, which are changed, and which are added.
+#![tactic(auto)]
+
+mod comparing;
+mod index;
+mod keys;
+pub mod laws;
+#[cfg(test)]
+mod tests;
+
+pub use comparing::{Difference, differences};

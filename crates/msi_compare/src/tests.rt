@@ -1,0 +1,43 @@
+//! Two tables that differ by a removed, two changed and an added row.
+
+use crate::{Difference, differences};
+use msi_table::column::Column;
+use msi_table::value::Value;
+use msi_text_base::errors::Error;
+use msi_text_base::text::Items;
+use std::alloc::Global;
+use std::process::Abort;
+
+/// The rows of keys and values.
+fn rows(alloc: Global, all: &[(i32, i32)]) -> Result<Vec<Items<Value>>, Error> {
+    let mut rows = Vec::new(alloc);
+    for (key, value) in all {
+        let row = vec![in alloc; Value::Int(*key), Value::Int(*value)]?;
+        rows.push(Items::from_vec(row))?;
+    }
+    Ok(rows)
+}
+
+/// The differences between rows with a key and a value each.
+fn found(alloc: Global, old: &[(i32, i32)], new: &[(i32, i32)]) -> Result<Vec<Difference>, Error> {
+    let key = Column::build(alloc, "Key")?.primary_key().int16();
+    let value = Column::build(alloc, "Value")?.int16();
+    let columns = vec![in alloc; key, value]?;
+    let old = rows(alloc, old)?;
+    let new = rows(alloc, new)?;
+    differences(alloc, columns.as_slice(), old.as_slice(), new.as_slice())
+}
+
+#[test]
+fn rows_are_paired_by_their_keys(rt: HostRuntime) {
+    let old = [(1, 10), (2, 20), (3, 30), (4, 40)];
+    let new = [(4, 41), (1, 10), (5, 50), (3, 33)];
+    let found = found(rt.alloc(), &old, &new).expect(&rt, "no error");
+    let wanted = [
+        Difference::Removed(1),
+        Difference::Changed(2, 3),
+        Difference::Changed(3, 0),
+        Difference::Added(2),
+    ];
+    assert!(rt; found.as_slice() == wanted.as_slice());
+}
