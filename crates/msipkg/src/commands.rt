@@ -78,9 +78,14 @@ where
         Ok(is_well) => u8::from(!is_well),
         Err(failure) => {
             tell(asked.file(), &failure, errors);
-            1
+            failure_status(asked.name)
         }
     }
+}
+
+/// The exit status for a command that failed: `diff` has 1 where something differs, and 2 for a failure.
+fn failure_status(name: &str) -> u8 {
+    if name == "diff" { 2 } else { 1 }
 }
 
 /// A command with what was given to it.

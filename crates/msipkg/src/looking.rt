@@ -1,6 +1,7 @@
 //! The commands that print.
 
 use crate::commands::Asked;
+use crate::exchanging::exchange;
 use crate::several::print_each;
 use msipkg_looks::schema::Form;
 use msipkg_looks::{print_query, print_schema, print_streams, print_summary, print_tables};
@@ -27,6 +28,7 @@ where
 {
     match asked.name {
         "info" | "check" => return print_each(rt, asked, output, errors),
+        "export" | "import" | "diff" => return exchange(rt, asked, output, errors),
         "tables" => print_tables(rt, asked.style, asked.file(), output)?,
         "streams" => print_streams(rt, asked.style, asked.file(), output)?,
         _ => look_closer(rt, asked, output)?,

@@ -4,6 +4,8 @@
 mod batch;
 mod changing;
 mod commands;
+mod exchange_words;
+mod exchanging;
 mod looking;
 mod several;
 mod words;

@@ -1,5 +1,6 @@
 //! The words of the command line.
 
+use crate::exchange_words::exchange_commands;
 use clap::{Arg, ArgAction, ArgMatches, Command, Error};
 use std::alloc::{AllocError, Global};
 
@@ -26,7 +27,8 @@ fn program<'a>(alloc: Global) -> Result<Command<'a>, AllocError> {
         .no_binary_name(true)
         .propagate_version(true)
         .subcommand_required(true);
-    changing_commands(alloc, looking_commands(alloc, program)?)
+    let program = changing_commands(alloc, looking_commands(alloc, program)?)?;
+    exchange_commands(alloc, program)
 }
 
 /// Adds the commands that look.

@@ -1,7 +1,8 @@
 //! `summary FILE --set NAME=VALUE.. --clear NAME..`: properties of a package's summary.
 
+use crate::create::page_of;
 use crate::held::{load, store};
-use msi::{CodePage, Error, LanguageId, Memory, Package, SummaryInfo, Timestamp};
+use msi::{Error, LanguageId, Memory, Package, SummaryInfo, Timestamp};
 use msipkg_output::Failure;
 use std::alloc::Global;
 use std::fs::OpenFile;
@@ -46,7 +47,7 @@ fn set_all(
         set_pair(alloc, summary, pair)?;
     }
     for name in cleared {
-        if let Err(failure) = clear(summary, name) {
+        if let Err(failure) = clear_property(summary, name) {
             return Err(failure.at(alloc, "property", name));
         }
     }
@@ -58,14 +59,22 @@ fn set_pair(alloc: Global, summary: &mut SummaryInfo, pair: &str) -> Result<(), 
     let Some((name, value)) = pair.split_once('=') else {
         return Err(Failure::rule("it isn't of the form NAME=VALUE").at(alloc, "word", pair));
     };
-    match set(alloc, summary, name, value) {
+    match set_property(alloc, summary, name, value) {
         Ok(()) => Ok(()),
         Err(failure) => Err(failure.at(alloc, "property", name)),
     }
 }
 
-/// Sets a property.
-fn set(alloc: Global, summary: &mut SummaryInfo, name: &str, value: &str) -> Result<(), Failure> {
+/// Sets the property of a name to the value that a text stands for.
+///
+/// # Errors
+/// Fails if there is no such property, if it doesn't take the value, and with `OutOfMemory`.
+pub fn set_property(
+    alloc: Global,
+    summary: &mut SummaryInfo,
+    name: &str,
+    value: &str,
+) -> Result<(), Failure> {
     match name {
         "last_printed" | "creation_time" | "last_saved_time" => set_time(summary, name, value),
         "page_count" | "word_count" | "character_count" | "doc_security" => {
@@ -126,8 +135,12 @@ fn set_time(summary: &mut SummaryInfo, name: &str, value: &str) -> Result<(), Fa
     Ok(set?)
 }
 
-/// The time of a text, if it is one as ISO 8601 has it, as `2024-02-29T12:00:00Z`.
+/// The time of a text, if it is one as `summary` prints it: as ISO 8601 has it, as `2024-02-29T12:00:00Z`, or a number
+/// of ticks.
 fn time_of(text: &str) -> Option<Timestamp> {
+    if let Some(number) = text.strip_suffix(" ticks") {
+        return Some(Timestamp::from_ticks(number.parse::<u64>().ok()?));
+    }
     let instant = text.parse::<jiff::Timestamp>().ok()?;
     let nanoseconds = instant.as_nanosecond();
     let seconds = i64::try_from(nanoseconds.div_euclid(NANOSECONDS)).ok()?;
@@ -137,14 +150,7 @@ fn time_of(text: &str) -> Option<Timestamp> {
 
 /// Sets the code page of the summary.
 fn set_page(summary: &mut SummaryInfo, value: &str) -> Result<(), Failure> {
-    let known = match value.parse::<i32>() {
-        Ok(number) => CodePage::from_id(number),
-        Err(_) => None,
-    };
-    match known {
-        Some(page) => Ok(summary.set_codepage(page)?),
-        None => Err(Failure::rule("there is no code page of this number")),
-    }
+    Ok(summary.set_codepage(page_of(value)?)?)
 }
 
 /// Sets the UUID of the package.
@@ -178,8 +184,11 @@ fn set_languages(alloc: Global, summary: &mut SummaryInfo, value: &str) -> Resul
     Ok(summary.set_languages(languages.as_slice())?)
 }
 
-/// Clears a property.
-fn clear(summary: &mut SummaryInfo, name: &str) -> Result<(), Failure> {
+/// Clears the property of a name.
+///
+/// # Errors
+/// Fails if there is no such property that can be cleared, and with `OutOfMemory`.
+pub fn clear_property(summary: &mut SummaryInfo, name: &str) -> Result<(), Failure> {
     match name {
         "keywords" => summary.clear_keywords()?,
         "arch" => summary.clear_arch()?,

@@ -4,31 +4,6 @@ use msi::{Column, ColumnType};
 use msipkg_output::Style;
 use std::alloc::{AllocError, Global};
 
-/// Returns a column's type as the installer writes it: a letter and a length, as `s72`, `i2` or `v0`. A small letter
-/// stands for a column that isn't nullable, and `l` for texts that can be localized.
-///
-/// # Errors
-/// Fails if memory is refused.
-pub(crate) fn type_text(alloc: Global, column: &Column) -> Result<String, AllocError> {
-    let (letter, length) = match column.coltype() {
-        ColumnType::Int16 => ('i', 2),
-        ColumnType::Int32 => ('i', 4),
-        ColumnType::Str(length) => (text_letter(column), length),
-        ColumnType::Binary => ('v', 0),
-    };
-    let letter = if column.is_nullable() {
-        letter.to_ascii_uppercase()
-    } else {
-        letter
-    };
-    format!(in alloc; "{letter}{length}")
-}
-
-/// The letter of a column of texts.
-fn text_letter(column: &Column) -> char {
-    if column.is_localizable() { 'l' } else { 's' }
-}
-
 /// Returns what a column is, in words: `key`, `nullable`, `localizable`.
 ///
 /// # Errors

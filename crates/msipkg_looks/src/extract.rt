@@ -3,22 +3,12 @@
 
 use msi::{Package, Source};
 use msipkg_output::{
-    Failure, SafeNames, Shown, StoredStreams, create_file, open_package, overwrite_file,
-    stored_streams, stream_bytes,
+    Failure, Folder, SafeNames, Shown, StoredStreams, open_package, stored_streams, stream_bytes,
 };
-use std::alloc::{AllocError, Global};
+use std::alloc::Global;
 use std::fs::{self, OpenFile};
 use std::io::{Read, Seek, Write};
 use std::rt::Files;
-
-/// Where the files go.
-#[derive(Clone, Copy, Debug)]
-pub struct Folder<'a> {
-    /// The path of the folder, which is made where it isn't there.
-    pub path: &'a str,
-    /// Whether files that are there already are replaced.
-    pub is_forced: bool,
-}
 
 /// Writes streams to files of a folder, or all streams where none is named. Where a stream's name isn't a safe name of
 /// a file, the file has an escaped one, and `notes` gets a line that says so.
@@ -144,28 +134,5 @@ where
         let (name, safe) = (Shown::escaped(name), safe.as_str());
         writeln!(notes, "msipkg: stream {name}: its file is {safe}")?;
     }
-    let path = path_in(rt.alloc(), folder.path, safe.as_str())?;
-    match write_path(rt, path.as_str(), bytes, folder.is_forced) {
-        Ok(()) => Ok(()),
-        Err(failure) => Err(failure.at(rt.alloc(), "file", path.as_str())),
-    }
-}
-
-/// Makes a file, or replaces it where that is asked for.
-fn write_path<R>(rt: &R, path: &str, bytes: &[u8], is_forced: bool) -> Result<(), Failure>
-where
-    R: Files + AllocGlobal,
-    R::File: OpenFile + Write + Drop,
-{
-    if is_forced {
-        overwrite_file(rt, path, bytes)
-    } else {
-        create_file(rt, path, bytes)
-    }
-}
-
-/// The path of a name in a folder.
-fn path_in(alloc: Global, folder: &str, name: &str) -> Result<String, AllocError> {
-    let folder = folder.strip_suffix('/').unwrap_or(folder);
-    format!(in alloc; "{folder}/{name}")
+    folder.write(rt, safe.as_str(), bytes)
 }

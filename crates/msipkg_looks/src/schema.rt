@@ -1,12 +1,9 @@
 //! `schema FILE [TABLE..]`: the columns of tables, and what they take.
 
-use crate::columns::{
-    category_text, definition_text, flags_text, reference_text, type_text, values_text,
-};
-use msi::{Column, Package, Source, Table, Text};
+use crate::columns::{category_text, definition_text, flags_text, reference_text, values_text};
+use msi::{Column, Package, Source, Table};
 use msipkg_output::json::{self, JsonObject};
-use msipkg_output::{Failure, Grid, Style, open_package};
-use serde_json::Value;
+use msipkg_output::{Failure, Grid, Style, chosen_tables, columns_json, open_package, type_text};
 use std::alloc::{AllocError, Global};
 use std::io::{self, Read, Seek, Write};
 use std::rt::Files;
@@ -65,7 +62,7 @@ fn write_schema<F: Source, W: Write>(
     form: Form,
     output: &mut W,
 ) -> Result<(), Failure> {
-    let tables = chosen_tables(alloc, package, names)?;
+    let tables = chosen_tables(alloc, package, names, true)?;
     match form {
         Form::Rows => write_rows(alloc, style, tables.as_slice(), output)?,
         Form::Json => write_json(alloc, style, file, tables.as_slice(), output)?,
@@ -142,32 +139,6 @@ fn write_keys<W: Write>(style: Style, table: &Table, output: &mut W) -> io::Resu
     Ok(())
 }
 
-/// The tables of these names, or all tables where there is none.
-fn chosen_tables<'a, F: Source>(
-    alloc: Global,
-    package: &'a Package<F>,
-    names: &[&str],
-) -> Result<Vec<&'a Table>, Failure> {
-    let mut tables = Vec::new(alloc);
-    if names.is_empty() {
-        for table in package.tables() {
-            tables.push(table)?;
-        }
-    }
-    for name in names {
-        match package.get_table(name) {
-            Some(table) => tables.push(table)?,
-            None => return Err(missing(alloc, name)),
-        }
-    }
-    Ok(tables)
-}
-
-/// The failure of a table that isn't there.
-fn missing(alloc: Global, name: &str) -> Failure {
-    Failure::rule("there is no table of this name").at(alloc, "table", name)
-}
-
 /// A row for each column.
 fn schema_grid(alloc: Global, style: Style, tables: &[&Table]) -> Result<Grid, AllocError> {
     let mut grid = Grid::headed(alloc, HEADS.as_slice())?;
@@ -239,69 +210,9 @@ fn schema_json(alloc: Global, file: &str, tables: &[&Table]) -> Result<String, A
 
 /// A table as JSON.
 fn table_json(alloc: Global, table: &Table) -> Result<String, AllocError> {
-    let mut items = Vec::new(alloc);
-    for column in table.columns() {
-        items.push(column_json(alloc, column)?)?;
-    }
+    let columns = columns_json(alloc, table.columns())?;
     let mut object = JsonObject::new(alloc)?;
     object.put_text("table", Some(table.name()))?;
-    object.put_json("columns", json::list(alloc, items.as_slice())?.as_str())?;
+    object.put_json("columns", columns.as_str())?;
     object.finish()
-}
-
-/// A column as JSON. What the column doesn't have isn't there.
-fn column_json(alloc: Global, column: &Column) -> Result<String, AllocError> {
-    let mut object = JsonObject::new(alloc)?;
-    object.put_text("column", Some(column.name()))?;
-    object.put_text("type", Some(type_text(alloc, column)?.as_str()))?;
-    object.put("key", Value::from(column.is_primary_key()))?;
-    object.put("nullable", Value::from(column.is_nullable()))?;
-    object.put("localizable", Value::from(column.is_localizable()))?;
-    put_limits(alloc, column, &mut object)?;
-    object.finish()
-}
-
-/// Puts what a column's values are limited to.
-fn put_limits(alloc: Global, column: &Column, object: &mut JsonObject) -> Result<(), AllocError> {
-    if let Some(category) = column.category() {
-        object.put_text("category", Some(category.name()))?;
-    }
-    put_range(column, object)?;
-    put_values(alloc, column, object)?;
-    put_reference(column, object)
-}
-
-/// Puts the range of a column's numbers.
-fn put_range(column: &Column, object: &mut JsonObject) -> Result<(), AllocError> {
-    let Some((min, max)) = column.value_range() else {
-        return Ok(());
-    };
-    object.put("min", Value::from(min))?;
-    object.put("max", Value::from(max))
-}
-
-/// Puts the texts that a column takes.
-fn put_values(alloc: Global, column: &Column, object: &mut JsonObject) -> Result<(), AllocError> {
-    match column.enum_values() {
-        Some(texts) => object.put_json("values", texts_json(alloc, texts)?.as_str()),
-        None => Ok(()),
-    }
-}
-
-/// Texts as a JSON list.
-fn texts_json(alloc: Global, texts: &[Text]) -> Result<String, AllocError> {
-    let mut items = Vec::new(alloc);
-    for text in texts {
-        items.push(json::quoted(alloc, text.as_str())?)?;
-    }
-    json::list(alloc, items.as_slice())
-}
-
-/// Puts the column that a column's values stand in.
-fn put_reference(column: &Column, object: &mut JsonObject) -> Result<(), AllocError> {
-    let Some((table, number)) = column.foreign_key() else {
-        return Ok(());
-    };
-    object.put_text("key_table", Some(table))?;
-    object.put("key_column", Value::from(number))
 }

@@ -1,14 +1,12 @@
 //! `summary FILE`: the properties of a package's summary.
 
 use crate::facts::Facts;
-use crate::times::time_text;
 use msi::{Error, SummaryInfo, Timestamp};
 use msipkg_output::json::{self, JsonObject};
-use msipkg_output::{Failure, Style, open_package};
+use msipkg_output::{Failure, Style, open_package, time_text, uuid_text};
 use std::alloc::{AllocError, Global};
 use std::io::{Read, Seek, Write};
 use std::rt::Files;
-use uuid::Uuid;
 
 /// Prints a line for each property that is there, or all of them as JSON on one line.
 ///
@@ -125,13 +123,6 @@ fn add_languages(alloc: Global, summary: &SummaryInfo, facts: &mut Facts) -> Res
     facts.numbers("languages", numbers)?;
     facts.texts("language_tags", tags)?;
     Ok(())
-}
-
-/// A UUID as the installer writes it: in braces and capital letters.
-fn uuid_text(alloc: Global, uuid: Uuid) -> Result<String, AllocError> {
-    let mut room = Uuid::encode_buffer();
-    let text = uuid.braced().encode_upper(&mut room);
-    String::from_str(alloc, text)
 }
 
 /// Adds when things were done to the package.

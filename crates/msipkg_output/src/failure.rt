@@ -1,6 +1,7 @@
 //! Why a command failed, and where, for people to read.
 
 use crate::escape::Shown;
+use crate::json::JsonObject;
 use msi::{Error, ParseError};
 use std::alloc::{AllocError, AllocFailed, Global};
 use std::{fmt, io};
@@ -116,4 +117,15 @@ impl From<csv::Error> for Failure {
     fn from(error: csv::Error) -> Failure {
         Failure::new(Cause::Csv(error))
     }
+}
+
+/// Returns the line of a file that failed, as JSON.
+///
+/// # Errors
+/// Fails if memory is refused.
+pub fn failure_json(alloc: Global, file: &str, failure: &Failure) -> Result<String, AllocError> {
+    let mut object = JsonObject::new(alloc)?;
+    object.put_text("file", Some(file))?;
+    object.put_text("error", Some(failure.to_string(alloc)?.as_str()))?;
+    object.finish()
 }

@@ -93,6 +93,27 @@ pub fn quoted(alloc: Global, text: &str) -> Result<String, AllocError> {
     Value::try_from_str(alloc, text)?.to_string(alloc)
 }
 
+/// Writes a text as a JSON string, as the style has it.
+///
+/// # Errors
+/// Fails if memory is refused, and as the writer does.
+pub fn write_quoted<W: Write>(
+    alloc: Global,
+    style: Style,
+    text: &str,
+    output: &mut W,
+) -> io::Result<()> {
+    if text.bytes().all(|byte| is_plain(style, byte)) {
+        return write!(output, "\"{text}\"");
+    }
+    write_text(style, quoted(alloc, text)?.as_str(), output)
+}
+
+/// Whether a byte stands for itself in a JSON string, wherever it is printed.
+fn is_plain(style: Style, byte: u8) -> bool {
+    byte >= 0x20 && byte != b'"' && byte != b'\\' && (byte < 0x7F || !style.is_escaped)
+}
+
 /// Returns a list of texts that are written as JSON already.
 ///
 /// # Errors

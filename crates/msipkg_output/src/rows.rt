@@ -2,11 +2,12 @@
 
 use crate::failure::Failure;
 use crate::grid::Grid;
-use crate::json::{quoted, write_text};
+use crate::json::{quoted, write_quoted, write_text};
 use crate::style::Style;
 use csv::Writer;
 use msi::{Column, Row, Rows, Value};
 use std::alloc::{AllocError, Global};
+use std::fmt;
 use std::io::{self, Write};
 
 /// How rows are printed.
@@ -61,38 +62,39 @@ pub fn write_rows<W: Write + Drop>(
     }
 }
 
-/// Writes a value's text.
-fn write_value<W: Write>(style: Style, value: &Value, output: &mut W) -> io::Result<()> {
-    match value {
-        Value::Null => Ok(()),
-        Value::Int(number) => write!(output, "{number}"),
-        Value::Str(text) => write!(output, "{}", style.show(text.as_str())),
-        Value::Binary => write!(output, "{STREAM}"),
-    }
+/// A value that prints as the style has it.
+#[derive(Clone, Copy)]
+pub struct ShownValue<'a> {
+    /// How texts print.
+    pub style: Style,
+    /// The value.
+    pub value: &'a Value,
 }
 
-/// Returns a value's text.
-fn text_of(alloc: Global, style: Style, value: &Value) -> Result<String, AllocError> {
-    match value {
-        Value::Null => Ok(String::new(alloc)),
-        Value::Int(number) => number.to_string(alloc),
-        Value::Str(text) => style.show(text.as_str()).to_string(alloc),
-        Value::Binary => STREAM.to_string(alloc),
+impl fmt::Display for ShownValue<'_> {
+    fn fmt<W: fmt::Write>(&self, f: &mut fmt::Formatter<W>) -> fmt::Result {
+        match self.value {
+            Value::Null => Ok(()),
+            Value::Int(number) => write!(f, "{number}"),
+            Value::Str(text) => write!(f, "{}", self.style.show(text.as_str())),
+            Value::Binary => f.write_str(STREAM),
+        }
     }
 }
 
 /// Returns the texts of a row.
 fn texts_of(alloc: Global, style: Style, row: &Row) -> Result<Vec<String>, AllocError> {
-    let mut texts = Vec::new(alloc);
+    let mut texts = Vec::with_capacity(alloc, row.len())?;
     for i in 0..row.len() {
-        texts.push(text_of(alloc, style, &row[i])?)?;
+        let value = &row[i];
+        texts.push(ShownValue { style, value }.to_string(alloc)?)?;
     }
     Ok(texts)
 }
 
 /// Returns the names of columns.
 fn names_of(alloc: Global, style: Style, columns: &[Column]) -> Result<Vec<String>, AllocError> {
-    let mut names = Vec::new(alloc);
+    let mut names = Vec::with_capacity(alloc, columns.len())?;
     for column in columns {
         names.push(style.show(column.name()).to_string(alloc)?)?;
     }
@@ -126,8 +128,8 @@ fn write_tabs<W: Write>(style: Style, rows: Rows<'_>, output: &mut W) -> Result<
 fn write_tab_row<W: Write>(style: Style, row: &Row, output: &mut W) -> io::Result<()> {
     let mut before = "";
     for i in 0..row.len() {
-        write!(output, "{before}")?;
-        write_value(style, &row[i], output)?;
+        let value = &row[i];
+        write!(output, "{before}{}", ShownValue { style, value })?;
         before = "\t";
     }
     writeln!(output)
@@ -150,14 +152,13 @@ fn write_lines<W: Write>(style: Style, rows: Rows<'_>, output: &mut W) -> Result
 fn write_value_lines<W: Write>(style: Style, row: &Row, output: &mut W) -> io::Result<()> {
     let columns = row.columns();
     for i in 0..row.len().min(columns.len()) {
-        write!(output, "{} = ", style.show(columns[i].name()))?;
-        write_value(style, &row[i], output)?;
-        writeln!(output)?;
+        let (name, value) = (style.show(columns[i].name()), &row[i]);
+        writeln!(output, "{name} = {}", ShownValue { style, value })?;
     }
     Ok(())
 }
 
-/// Writes CSV.
+/// Writes CSV. Each value goes through one text, so that a row takes no memory of its own.
 fn write_csv<W: Write + Drop>(
     alloc: Global,
     style: Style,
@@ -165,26 +166,44 @@ fn write_csv<W: Write + Drop>(
     output: &mut W,
 ) -> Result<(), Failure> {
     let mut writer = Writer::from_writer(output);
-    write_record(
-        &mut writer,
-        names_of(alloc, style, rows.columns())?.as_slice(),
-    )?;
+    let mut field = String::new(alloc);
+    write_heads(style, rows.columns(), &mut field, &mut writer)?;
     for row in rows {
-        write_record(&mut writer, texts_of(alloc, style, &row?)?.as_slice())?;
+        write_record(style, &row?, &mut field, &mut writer)?;
     }
     writer.flush()?;
     Ok(())
 }
 
-/// Writes texts as a line of CSV.
-fn write_record<W: Write + Drop>(
+/// Writes the names of columns as a line of CSV.
+fn write_heads<W: Write + Drop>(
+    style: Style,
+    columns: &[Column],
+    field: &mut String,
     writer: &mut Writer<W>,
-    texts: &[String],
-) -> Result<(), csv::Error> {
-    for text in texts {
-        writer.write_field(text.as_bytes())?;
+) -> Result<(), Failure> {
+    for column in columns {
+        field.clear();
+        write!(field, "{}", style.show(column.name()))?;
+        writer.write_field(field.as_bytes())?;
     }
-    writer.end_record()
+    Ok(writer.end_record()?)
+}
+
+/// Writes a row as a line of CSV.
+fn write_record<W: Write + Drop>(
+    style: Style,
+    row: &Row,
+    field: &mut String,
+    writer: &mut Writer<W>,
+) -> Result<(), Failure> {
+    for i in 0..row.len() {
+        let value = &row[i];
+        field.clear();
+        write!(field, "{}", ShownValue { style, value })?;
+        writer.write_field(field.as_bytes())?;
+    }
+    Ok(writer.end_record()?)
 }
 
 /// Writes a JSON list of objects, one a line.
@@ -195,24 +214,20 @@ fn write_json<W: Write>(
     output: &mut W,
 ) -> Result<(), Failure> {
     let names = quoted_names(alloc, rows.columns())?;
-    let mut is_first = true;
     write!(output, "[")?;
+    let mut before = "\n";
     for row in rows {
-        if !is_first {
-            write!(output, ",")?;
-        }
-        is_first = false;
-        writeln!(output)?;
+        write!(output, "{before}")?;
+        before = ",\n";
         write_object(alloc, style, names.as_slice(), &row?, output)?;
     }
-    writeln!(output)?;
-    writeln!(output, "]")?;
+    writeln!(output, "\n]")?;
     Ok(())
 }
 
 /// Returns the names of columns as JSON.
 fn quoted_names(alloc: Global, columns: &[Column]) -> Result<Vec<String>, AllocError> {
-    let mut names = Vec::new(alloc);
+    let mut names = Vec::with_capacity(alloc, columns.len())?;
     for column in columns {
         names.push(quoted(alloc, column.name())?)?;
     }
@@ -227,23 +242,31 @@ fn write_object<W: Write>(
     row: &Row,
     output: &mut W,
 ) -> io::Result<()> {
-    let mut object = String::new(alloc);
+    let mut before = "{";
     for i in 0..row.len().min(names.len()) {
-        object.push_str(if i == 0 { "{" } else { "," })?;
-        object.push_str(names[i].as_str())?;
-        object.push(':')?;
-        object.push_str(json_of(alloc, &row[i])?.as_str())?;
+        write!(output, "{before}")?;
+        before = ",";
+        write_text(style, names[i].as_str(), output)?;
+        write!(output, ":")?;
+        write_json_value(alloc, style, &row[i], output)?;
     }
-    object.push('}')?;
-    write_text(style, object.as_str(), output)
+    write!(output, "}}")
 }
 
-/// Returns a value as JSON.
-fn json_of(alloc: Global, value: &Value) -> Result<String, AllocError> {
+/// Writes a value as JSON, where a stream is `true`.
+///
+/// # Errors
+/// Fails if memory is refused, and as the writer does.
+pub fn write_json_value<W: Write>(
+    alloc: Global,
+    style: Style,
+    value: &Value,
+    output: &mut W,
+) -> io::Result<()> {
     match value {
-        Value::Null => "null".to_string(alloc),
-        Value::Int(number) => number.to_string(alloc),
-        Value::Str(text) => quoted(alloc, text.as_str()),
-        Value::Binary => "true".to_string(alloc),
+        Value::Null => write!(output, "null"),
+        Value::Int(number) => write!(output, "{number}"),
+        Value::Str(text) => write_quoted(alloc, style, text.as_str(), output),
+        Value::Binary => write!(output, "true"),
     }
 }

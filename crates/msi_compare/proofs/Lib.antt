@@ -1,0 +1,5 @@
+-- Lemmas of this crate.
+mod KeyLemmas
+mod PlaceLemmas
+mod EachLemmas
+mod LawLemmas
