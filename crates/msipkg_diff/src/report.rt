@@ -291,8 +291,10 @@ fn push_member(
     members: &mut String,
 ) -> Result<(), AllocError> {
     let name = quoted(alloc, name)?;
-    let before = if members.is_empty() { "" } else { "," };
-    write!(members, "{before}{name}:{json}")
+    if !members.is_empty() {
+        members.push(',')?;
+    }
+    write!(members, "{name}:{json}")
 }
 
 /// Puts the members of a side as an object, and empties them, unless there is none.

@@ -102,10 +102,7 @@ fn report_rows(
 
 /// The values of a row, or none.
 fn values_of(row: Option<&Items<Value>>) -> &[Value] {
-    match row {
-        Some(row) => row.as_slice(),
-        None => &[],
-    }
+    row.map(|row| row.as_slice()).unwrap_or(&[])
 }
 
 /// Puts the values of a row that another doesn't have, or all of them where there is no other.

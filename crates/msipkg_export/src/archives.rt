@@ -3,7 +3,7 @@
 use crate::archive_parts::text_value;
 use crate::archive_texts::archive_text;
 use crate::summary::{PROPERTIES, property_text};
-use crate::table_archives::{StreamFile, TableArchive, table_archive};
+use crate::table_archives::{StreamFile, table_archive};
 use msi::{CodePage, Column, Error, Items, Package, Source, SummaryInfo, Table, Value};
 use msipkg_output::{Failure, Folder, SafeNames, chosen_tables, path_in};
 use std::alloc::{AllocError, Global};
@@ -53,8 +53,7 @@ impl Exported {
     /// Notes the streams of rows.
     fn add(&mut self, files: Vec<StreamFile>) -> Result<(), AllocError> {
         for file in files {
-            let StreamFile { stream, file: _ } = file;
-            self.streams.insert(stream)?;
+            self.streams.insert(file.into_stream())?;
         }
         Ok(())
     }
@@ -123,11 +122,11 @@ where
     R::File: OpenFile + Write + Drop,
     F: Source,
 {
-    let TableArchive { text, files } = table_archive(rt.alloc(), package, table)?;
+    let archive = table_archive(rt.alloc(), package, table)?;
     let page = package.database_codepage();
-    write_text(rt, folder, safe, page, text.as_str())?;
-    write_files(rt, package, files.as_slice(), folder, safe)?;
-    Ok(files)
+    write_text(rt, folder, safe, page, archive.text.as_str())?;
+    write_files(rt, package, archive.files.as_slice(), folder, safe)?;
+    Ok(archive.into_files())
 }
 
 /// Writes the text of an archive to its file, in a code page.

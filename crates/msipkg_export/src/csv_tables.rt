@@ -1,6 +1,6 @@
 //! Tables as comma-separated values: the names of the columns, and then a line for each row.
 
-use crate::export::BARE;
+use crate::exporting::BARE;
 use crate::table_rows::rows_of;
 use msi::{Package, Source, Table};
 use msipkg_output::{Failure, Folder, Format, SafeNames, Style, chosen_tables, write_rows};

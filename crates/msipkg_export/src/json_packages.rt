@@ -35,7 +35,7 @@ pub fn write_package<F: Source, W: Write>(
     if names.is_empty() {
         write_streams(alloc, style, package, output)?;
     }
-    Ok(writeln!(output, "}}")?)
+    Ok(output.write_all(b"}\n")?)
 }
 
 /// Writes the path of a package, and what it is.
@@ -46,7 +46,7 @@ fn write_head<F: Source, W: Write>(
     package: &Package<F>,
     output: &mut W,
 ) -> io::Result<()> {
-    write!(output, "{{\"file\":")?;
+    output.write_all(b"{\"file\":")?;
     write_quoted(alloc, style, file, output)?;
     let kind = kind_name(package.package_type());
     let page = package.database_codepage().id();
@@ -61,7 +61,7 @@ fn write_summary<W: Write>(
     output: &mut W,
 ) -> Result<(), Failure> {
     let json = summary_json(alloc, summary)?;
-    write!(output, ",\"summary\":")?;
+    output.write_all(b",\"summary\":")?;
     Ok(write_text(style, json.as_str(), output)?)
 }
 
@@ -84,14 +84,14 @@ fn write_tables<F: Source, W: Write>(
     tables: &[&Table],
     output: &mut W,
 ) -> Result<(), Failure> {
-    write!(output, ",\"tables\":[")?;
+    output.write_all(b",\"tables\":[")?;
     let mut before = "";
     for table in tables {
-        write!(output, "{before}")?;
+        output.write_all(before.as_bytes())?;
         before = ",";
         write_table(alloc, style, package, table, output)?;
     }
-    Ok(write!(output, "]")?)
+    Ok(output.write_all(b"]")?)
 }
 
 /// Writes a table.
@@ -114,9 +114,9 @@ fn write_columns<W: Write>(
     table: &Table,
     output: &mut W,
 ) -> io::Result<()> {
-    write!(output, "{{\"table\":")?;
+    output.write_all(b"{\"table\":")?;
     write_quoted(alloc, style, table.name(), output)?;
-    write!(output, ",\"columns\":")?;
+    output.write_all(b",\"columns\":")?;
     let json = columns_json(alloc, table.columns())?;
     write_text(style, json.as_str(), output)
 }
@@ -128,25 +128,25 @@ fn write_rows<W: Write>(
     rows: Rows<'_>,
     output: &mut W,
 ) -> Result<(), Failure> {
-    write!(output, ",\"rows\":[")?;
-    let mut before = "[";
+    output.write_all(b",\"rows\":[")?;
+    let mut before: &[u8] = b"[";
     for row in rows {
-        write!(output, "{before}")?;
-        before = ",[";
+        output.write_all(before)?;
+        before = b",[";
         write_row(alloc, style, &row?, output)?;
     }
-    Ok(write!(output, "]}}")?)
+    Ok(output.write_all(b"]}")?)
 }
 
 /// Writes the values of a row, and ends it.
 fn write_row<W: Write>(alloc: Global, style: Style, row: &Row, output: &mut W) -> io::Result<()> {
     let mut before = "";
     for i in 0..row.len() {
-        write!(output, "{before}")?;
+        output.write_all(before.as_bytes())?;
         before = ",";
         write_json_value(alloc, style, &row[i], output)?;
     }
-    write!(output, "]")
+    output.write_all(b"]")
 }
 
 /// Writes the streams that are found under their names.
@@ -156,17 +156,17 @@ fn write_streams<F: Source, W: Write>(
     package: &Package<F>,
     output: &mut W,
 ) -> Result<(), Failure> {
-    write!(output, ",\"streams\":[")?;
-    let mut before = "";
+    output.write_all(b",\"streams\":[")?;
+    let mut before: &[u8] = b"";
     for name in package.streams() {
         let name = name?;
         if let Ok(stream) = package.read_stream(name.as_str()) {
-            write!(output, "{before}")?;
-            before = ",";
+            output.write_all(before)?;
+            before = b",";
             write_stream(alloc, style, name.as_str(), stream.rest(), output)?;
         }
     }
-    Ok(write!(output, "]")?)
+    Ok(output.write_all(b"]")?)
 }
 
 /// Writes a stream.
@@ -177,12 +177,12 @@ fn write_stream<W: Write>(
     bytes: &[u8],
     output: &mut W,
 ) -> io::Result<()> {
-    write!(output, "{{\"stream\":")?;
+    output.write_all(b"{\"stream\":")?;
     write_quoted(alloc, style, name, output)?;
-    write!(output, ",\"base64\":\"")?;
+    output.write_all(b",\"base64\":\"")?;
     for piece in bytes.chunks(PIECE) {
         let text = STANDARD.encode(alloc, piece)?;
         output.write_all(text.as_bytes())?;
     }
-    write!(output, "\"}}")
+    output.write_all(b"\"}")
 }

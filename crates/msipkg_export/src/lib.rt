@@ -7,13 +7,13 @@ mod archive_parts;
 mod archive_texts;
 pub mod archives;
 pub mod csv_tables;
-pub mod export;
+pub mod exporting;
 pub mod json_packages;
 pub mod summary;
 pub mod table_archives;
 pub mod table_rows;
 
 pub use archive_errors::failure_of;
-pub use export::{Target, export, export_each};
+pub use exporting::{Target, export, export_each};
 pub use summary::{PROPERTIES, property_text};
 pub use table_rows::rows_of;

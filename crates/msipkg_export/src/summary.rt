@@ -117,7 +117,8 @@ fn keywords_text(alloc: Global, summary: &SummaryInfo) -> Result<Option<String>,
     let mut text = String::new(alloc);
     let mut before = "";
     for keyword in &keywords {
-        write!(text, "{before}{keyword}")?;
+        text.push_str(before)?;
+        text.push_str(keyword.as_str())?;
         before = "; ";
     }
     Ok(Some(text))
@@ -134,7 +135,8 @@ fn template_text(alloc: Global, summary: &SummaryInfo) -> Result<Option<String>,
     let mut before = ";";
     for language in &languages {
         let id = language.id();
-        write!(text, "{before}{id}")?;
+        text.push_str(before)?;
+        write!(text, "{id}")?;
         before = ",";
     }
     Ok(Some(text))

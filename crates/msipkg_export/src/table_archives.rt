@@ -3,7 +3,7 @@
 use crate::archive_parts::text_value;
 use crate::archive_texts::archive_text;
 use crate::table_rows::rows_of;
-use msi::{Items, Package, Row, Rows, Source, Table, Value};
+use msi::{CodePage, Items, Package, Row, Rows, Source, Table, Value};
 use msipkg_output::{Failure, SafeNames, Shown, Style, push_key};
 use std::alloc::{AllocError, Global};
 use std::io::{self, Write};
@@ -23,6 +23,14 @@ impl Drop for StreamFile {
     }
 }
 
+impl StreamFile {
+    /// Returns the name of the stream.
+    pub(crate) fn into_stream(self) -> String {
+        let StreamFile { stream, file: _ } = self;
+        stream
+    }
+}
+
 /// A table as the text of an archive, with the files of its rows' streams.
 pub struct TableArchive {
     /// The text.
@@ -35,6 +43,14 @@ pub struct TableArchive {
 impl Drop for TableArchive {
     fn drop(self) {
         let TableArchive { text: _, files: _ } = self;
+    }
+}
+
+impl TableArchive {
+    /// Returns the streams of the rows.
+    pub(crate) fn into_files(self) -> Vec<StreamFile> {
+        let TableArchive { text: _, files } = self;
+        files
     }
 }
 
@@ -69,15 +85,7 @@ pub fn table_archive<F: Source>(
 ) -> Result<TableArchive, Failure> {
     let rows = rows_of(alloc, package, table.name())?;
     let gathered = gather(alloc, table.name(), rows)?;
-    let Gathering {
-        alloc: _,
-        given: _,
-        files,
-        rows,
-    } = gathered;
-    let page = package.database_codepage();
-    let text = archive_text(alloc, page, table.name(), table.columns(), rows)?;
-    Ok(TableArchive { text, files })
+    gathered.write(package.database_codepage(), table)
 }
 
 /// The rows of a table as an archive has them.
@@ -95,6 +103,18 @@ fn gather(alloc: Global, table: &str, rows: Rows<'_>) -> Result<Gathering, Failu
 }
 
 impl Gathering {
+    /// The archive of a table with these rows.
+    fn write(self, page: CodePage, table: &Table) -> Result<TableArchive, Failure> {
+        let Gathering {
+            alloc,
+            given: _,
+            files,
+            rows,
+        } = self;
+        let text = archive_text(alloc, page, table.name(), table.columns(), rows)?;
+        Ok(TableArchive { text, files })
+    }
+
     /// Adds a row.
     fn add_row(&mut self, table: &str, row: &Row) -> Result<(), Failure> {
         let mut values = Vec::with_capacity(self.alloc, row.len())?;
@@ -169,10 +189,11 @@ fn write_shown<W: Write>(text: &str, output: &mut W) -> io::Result<()> {
 
 /// Writes the fields of a line with escapes.
 fn write_shown_line<W: Write>(line: &str, output: &mut W) -> io::Result<()> {
-    let mut before = "";
+    let mut before: &[u8] = b"";
     for field in line.split('\t') {
-        write!(output, "{before}{}", Shown::escaped(field))?;
-        before = "\t";
+        output.write_all(before)?;
+        write!(output, "{}", Shown::escaped(field))?;
+        before = b"\t";
     }
     writeln!(output)
 }

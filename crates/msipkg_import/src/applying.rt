@@ -19,21 +19,22 @@ use std::alloc::Global;
 pub(crate) fn apply(
     alloc: Global,
     package: &mut Package<Memory>,
-    gathered: Gathered,
+    mut gathered: Gathered,
 ) -> Result<(), Failure> {
-    let Gathered {
-        page,
-        summary,
-        tables,
-        streams,
-    } = gathered;
-    if let Some(page) = page {
-        package.set_database_codepage(page_of(page.as_str())?)?;
-    }
+    let tables = gathered.take_tables(alloc);
+    apply_page(package, gathered.page.as_ref())?;
     apply_tables(alloc, package, tables)?;
-    apply_streams(alloc, package, streams.as_slice())?;
-    match summary {
+    apply_streams(alloc, package, gathered.streams.as_slice())?;
+    match &gathered.summary {
         Some(properties) => apply_summary(alloc, package, properties.as_slice()),
+        None => Ok(()),
+    }
+}
+
+/// Gives a package a code page.
+fn apply_page(package: &mut Package<Memory>, page: Option<&String>) -> Result<(), Failure> {
+    match page {
+        Some(page) => Ok(package.set_database_codepage(page_of(page.as_str())?)?),
         None => Ok(()),
     }
 }
@@ -44,25 +45,25 @@ fn apply_tables(
     package: &mut Package<Memory>,
     mut tables: Vec<GivenTable>,
 ) -> Result<(), Failure> {
-    let validation = take_validation(alloc, &mut tables)?;
+    let validation = take_validation(alloc, tables.as_mut_slice())?;
     refine(alloc, validation.as_slice(), tables.as_mut_slice())?;
     for table in tables {
-        apply_named(alloc, package, table)?;
+        apply_given(alloc, package, table)?;
     }
     Ok(describe(alloc, package, validation.as_slice())?)
 }
 
 /// Gives a package a table, unless it is `_Validation`.
-fn apply_named(
+fn apply_given(
     alloc: Global,
     package: &mut Package<Memory>,
     table: GivenTable,
 ) -> Result<(), Failure> {
-    let GivenTable { name, content } = table;
-    if name.as_str() == VALIDATION {
+    if table.name.as_str() == VALIDATION {
         return Ok(());
     }
-    match apply_table(alloc, package, name.as_str(), content) {
+    let name = String::from_str(alloc, table.name.as_str())?;
+    match apply_table(alloc, package, name.as_str(), table.into_content()) {
         Ok(()) => Ok(()),
         Err(failure) => Err(failure.at(alloc, "table", name.as_str())),
     }
@@ -123,16 +124,16 @@ fn values_of(
         make_table(alloc, package, name, columns.as_slice())?;
     }
     let columns = columns_of(package, name);
-    check_names(alloc, columns, names)?;
+    check_names(alloc, name, columns, names)?;
     values_of_rows(alloc, name, columns, names, rows)
 }
 
 /// The columns of a table.
 fn columns_of<'a>(package: &'a Package<Memory>, name: &str) -> &'a [Column] {
-    match package.get_table(name) {
-        Some(table) => table.columns(),
-        None => &[],
-    }
+    package
+        .get_table(name)
+        .map(|table| table.columns())
+        .unwrap_or(&[])
 }
 
 /// Inserts rows into a table.

@@ -64,7 +64,19 @@ pub(crate) fn at_row(
     row: usize,
     column: Option<&str>,
 ) -> Failure {
-    match row_text(alloc, table, row.saturating_add(1), column) {
+    let place = row_text(alloc, table, row.saturating_add(1), column);
+    at_table(alloc, failure, place)
+}
+
+/// Returns the failure of a rule at a column of a table.
+pub(crate) fn at_column(alloc: Global, rule: &'static str, table: &str, column: &str) -> Failure {
+    let place = format!(in alloc; "{table}: column {column}");
+    at_table(alloc, Failure::rule(rule), place)
+}
+
+/// A failure at a place in a table, if there was memory for its text.
+fn at_table(alloc: Global, failure: Failure, place: Result<String, AllocError>) -> Failure {
+    match place {
         Ok(place) => failure.at(alloc, "table", place.as_str()),
         Err(_) => failure,
     }

@@ -1,6 +1,6 @@
 //! Rows of fields as rows of values.
 
-use crate::checking::at_row;
+use crate::checking::{at_column, at_row};
 use crate::described::Described;
 use msi::{Column, ColumnType, Value};
 use msipkg_output::Failure;
@@ -71,13 +71,14 @@ fn field_at(row: &[String], place: usize) -> &str {
 /// Fails at that column.
 pub(crate) fn check_names(
     alloc: Global,
+    table: &str,
     columns: &[Column],
     names: &[String],
 ) -> Result<(), Failure> {
     for name in names {
         if !columns.iter().any(|column| column.name() == name.as_str()) {
-            let what = Failure::rule("the table has no such column");
-            return Err(what.at(alloc, "column", name.as_str()));
+            let rule = "the table has no such column";
+            return Err(at_column(alloc, rule, table, name.as_str()));
         }
     }
     Ok(())
@@ -96,12 +97,22 @@ pub(crate) fn values_of_rows(
 ) -> Result<Vec<Vec<Value>>, Failure> {
     let mut all = Vec::with_capacity(alloc, rows.len())?;
     for i in 0..rows.len() {
-        match values_of(alloc, columns, names, rows[i].as_slice()) {
-            Ok(values) => all.push(values)?,
-            Err(failure) => return Err(at_row(alloc, failure, table, i, None)),
-        }
+        let row = GivenRow {
+            table,
+            number: i,
+            fields: rows[i].as_slice(),
+        };
+        all.push(values_of(alloc, columns, names, &row)?)?;
     }
     Ok(all)
+}
+
+/// A row of fields, its table and its number there.
+#[derive(Clone, Copy)]
+struct GivenRow<'a> {
+    table: &'a str,
+    number: usize,
+    fields: &'a [String],
 }
 
 /// The values of a row.
@@ -109,18 +120,28 @@ fn values_of(
     alloc: Global,
     columns: &[Column],
     names: &[String],
-    row: &[String],
+    row: &GivenRow<'_>,
 ) -> Result<Vec<Value>, Failure> {
     let mut values = Vec::with_capacity(alloc, columns.len())?;
     for column in columns {
-        let place = names.iter().position(|name| name.as_str() == column.name());
-        let field = match place {
-            Some(place) => field_at(row, place),
-            None => "",
-        };
-        values.push(value_of(alloc, column.coltype(), field)?)?;
+        let field = field_of(names, row.fields, column.name());
+        match value_of(alloc, column.coltype(), field) {
+            Ok(value) => values.push(value)?,
+            Err(failure) => {
+                let name = Some(column.name());
+                return Err(at_row(alloc, failure, row.table, row.number, name));
+            }
+        }
     }
     Ok(values)
+}
+
+/// The field of a column's name, or the empty text.
+fn field_of<'a>(names: &[String], fields: &'a [String], name: &str) -> &'a str {
+    match names.iter().position(|other| other.as_str() == name) {
+        Some(place) => field_at(fields, place),
+        None => "",
+    }
 }
 
 /// The value of a field.
@@ -133,7 +154,7 @@ fn value_of(alloc: Global, coltype: ColumnType, field: &str) -> Result<Value, Fa
         ColumnType::Binary => Ok(Value::Binary),
         ColumnType::Int16 | ColumnType::Int32 => match field.parse::<i32>() {
             Ok(number) => Ok(Value::Int(number)),
-            Err(_) => Err(Failure::rule("a field is no number of 32 bits")),
+            Err(_) => Err(Failure::rule("it is no number of 32 bits")),
         },
     }
 }

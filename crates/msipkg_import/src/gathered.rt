@@ -3,6 +3,7 @@
 use crate::described::Described;
 use msi::Value;
 use std::alloc::{AllocError, Global};
+use std::mem;
 
 /// The rows of a table.
 #[derive(Drop)]
@@ -32,6 +33,14 @@ impl Drop for GivenTable {
             name: _,
             content: _,
         } = self;
+    }
+}
+
+impl GivenTable {
+    /// Returns the rows.
+    pub(crate) fn into_content(self) -> Content {
+        let GivenTable { name: _, content } = self;
+        content
     }
 }
 
@@ -79,6 +88,11 @@ impl Gathered {
             tables: Vec::new(alloc),
             streams: Vec::new(alloc),
         }
+    }
+
+    /// Takes the tables out.
+    pub(crate) fn take_tables(&mut self, alloc: Global) -> Vec<GivenTable> {
+        mem::replace(&mut self.tables, Vec::new(alloc))
     }
 
     /// Adds a table.

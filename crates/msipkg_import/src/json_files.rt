@@ -62,7 +62,7 @@ fn property_of<'a>(summary: &'a Json, name: &str) -> Option<&'a str> {
 fn gather_tables(alloc: Global, tables: &[Json], gathered: &mut Gathered) -> Result<(), Failure> {
     for table in tables {
         let name = text_of(table, "table");
-        match table_of(alloc, table) {
+        match table_of(alloc, name, table) {
             Ok(content) => gathered.add_table(alloc, name, content)?,
             Err(failure) => return Err(failure.at(alloc, "table", name)),
         }
@@ -71,8 +71,8 @@ fn gather_tables(alloc: Global, tables: &[Json], gathered: &mut Gathered) -> Res
 }
 
 /// What a table has.
-fn table_of(alloc: Global, table: &Json) -> Result<Content, Failure> {
-    let columns = columns_of(alloc, list_of(table, "columns"))?;
+fn table_of(alloc: Global, name: &str, table: &Json) -> Result<Content, Failure> {
+    let columns = columns_of(alloc, name, list_of(table, "columns"))?;
     let rows = rows_of(alloc, list_of(table, "rows"))?;
     Ok(Content::Values { columns, rows })
 }

@@ -1,5 +1,6 @@
 //! Columns and rows from JSON.
 
+use crate::checking::at_column;
 use crate::described::Described;
 use msi::{Category, ColumnType, Value};
 use msipkg_output::Failure;
@@ -34,22 +35,25 @@ fn items_of<'a>(object: &'a Json, name: &str) -> Option<&'a [Json]> {
 ///
 /// # Errors
 /// Fails if a column isn't described.
-pub(crate) fn columns_of(alloc: Global, items: &[Json]) -> Result<Vec<Described>, Failure> {
-    let mut columns = Vec::new(alloc);
+pub(crate) fn columns_of(
+    alloc: Global,
+    table: &str,
+    items: &[Json],
+) -> Result<Vec<Described>, Failure> {
+    let mut columns = Vec::with_capacity(alloc, items.len())?;
     for item in items {
-        columns.push(column_of(alloc, item)?)?;
+        columns.push(column_of(alloc, table, item)?)?;
     }
     Ok(columns)
 }
 
 /// A column.
-fn column_of(alloc: Global, item: &Json) -> Result<Described, Failure> {
+fn column_of(alloc: Global, table: &str, item: &Json) -> Result<Described, Failure> {
     let name = text_of(item, "column");
     let mut described = Described::new(alloc, name, ColumnType::Int16)?;
     if !described.take_type(text_of(item, "type")) {
-        return Err(Failure::rule("its type is one such as s72, i2 or v0").at(
-            alloc, "column", name,
-        ));
+        let rule = "its type is one such as s72, i2 or v0";
+        return Err(at_column(alloc, rule, table, name));
     }
     take_limits(alloc, item, &mut described)?;
     Ok(described)

@@ -8,42 +8,13 @@ use std::alloc::{AllocError, Global};
 /// The table that describes columns further.
 pub(crate) const VALIDATION: &str = "_Validation";
 
-/// The places of a row's values.
-const TABLE: usize = 0;
-
-const COLUMN: usize = 1;
-
-const MIN: usize = 3;
-
-const MAX: usize = 4;
-
-const KEY_TABLE: usize = 5;
-
-const KEY_COLUMN: usize = 6;
-
-const CATEGORY: usize = 7;
-
-const SET: usize = 8;
-
-const DESCRIPTION: usize = 9;
-
-/// The text at a place of a row, if there is one.
-fn text_at(row: &[Value], place: usize) -> Option<&str> {
-    row.get(place)?.as_str()
-}
-
-/// The number at a place of a row, if there is one.
-fn number_at(row: &[Value], place: usize) -> Option<i32> {
-    row.get(place)?.as_int()
-}
-
 /// Takes the rows of `_Validation` out of given tables.
 ///
 /// # Errors
 /// Fails if memory is refused, and so do the other calls.
 pub(crate) fn take_validation(
     alloc: Global,
-    tables: &mut Vec<GivenTable>,
+    tables: &mut [GivenTable],
 ) -> Result<Vec<Vec<Value>>, AllocError> {
     let mut taken = Vec::new(alloc);
     for table in tables.iter_mut() {
@@ -63,13 +34,31 @@ pub(crate) fn refine(
     tables: &mut [GivenTable],
 ) -> Result<(), AllocError> {
     for row in rows {
-        for table in tables.iter_mut() {
-            if text_at(row.as_slice(), TABLE) == Some(table.name.as_str()) {
-                refine_table(alloc, row.as_slice(), &mut table.content)?;
-            }
+        refine_tables(alloc, row.as_slice(), tables)?;
+    }
+    Ok(())
+}
+
+/// Says of the column of a row what the row says.
+fn refine_tables(
+    alloc: Global,
+    row: &[Value],
+    tables: &mut [GivenTable],
+) -> Result<(), AllocError> {
+    for table in tables.iter_mut() {
+        if is_named(row, 0, table.name.as_str()) {
+            refine_table(alloc, row, &mut table.content)?;
         }
     }
     Ok(())
+}
+
+/// Whether a row has a name at a place.
+fn is_named(row: &[Value], place: usize, name: &str) -> bool {
+    match row.get(place) {
+        Some(value) => value.as_str() == Some(name),
+        None => false,
+    }
 }
 
 /// Says of a table's column what a row says.
@@ -78,7 +67,7 @@ fn refine_table(alloc: Global, row: &[Value], content: &mut Content) -> Result<(
         return Ok(());
     };
     for column in columns.iter_mut() {
-        if text_at(row, COLUMN) == Some(column.name.as_str()) {
+        if is_named(row, 1, column.name.as_str()) {
             refine_column(alloc, row, column)?;
         }
     }
@@ -87,20 +76,25 @@ fn refine_table(alloc: Global, row: &[Value], content: &mut Content) -> Result<(
 
 /// Says of a column what its row says.
 fn refine_column(alloc: Global, row: &[Value], column: &mut Described) -> Result<(), AllocError> {
-    column.min = number_at(row, MIN);
-    column.max = number_at(row, MAX);
-    column.category = match text_at(row, CATEGORY) {
-        Some(name) => name.parse::<Category>().ok(),
-        None => None,
+    let [_, _, _, min, max, table, number, category, set, ..] = row else {
+        return Ok(());
     };
-    if let (Some(table), Some(number)) = (text_at(row, KEY_TABLE), number_at(row, KEY_COLUMN)) {
+    column.min = min.as_int();
+    column.max = max.as_int();
+    column.category = category_of(category);
+    if let (Some(table), Some(number)) = (table.as_str(), number.as_int()) {
         column.key_table = Some(String::from_str(alloc, table)?);
         column.key_column = number;
     }
-    if let Some(set) = text_at(row, SET) {
+    if let Some(set) = set.as_str() {
         column.values = pieces(alloc, set)?;
     }
     Ok(())
+}
+
+/// The category of a name, if it is one.
+fn category_of(name: &Value) -> Option<Category> {
+    name.as_str()?.parse::<Category>().ok()
 }
 
 /// The pieces of a text between each two semicolons.
@@ -119,28 +113,39 @@ pub(crate) fn describe(
     rows: &[Vec<Value>],
 ) -> Result<(), Error> {
     for row in rows {
-        let row = row.as_slice();
-        if let (Some(table), Some(column), Some(text)) = (
-            text_at(row, TABLE),
-            text_at(row, COLUMN),
-            text_at(row, DESCRIPTION),
-        ) {
-            package.update_rows(description_update(alloc, table, column, text)?)?;
+        if let [table, column, .., text] = row.as_slice() {
+            describe_column(alloc, package, table, column, text)?;
         }
     }
     Ok(())
 }
 
+/// Describes a column for people, if its row has a text.
+fn describe_column(
+    alloc: Global,
+    package: &mut Package<Memory>,
+    table: &Value,
+    column: &Value,
+    text: &Value,
+) -> Result<(), Error> {
+    if !text.is_str() {
+        return Ok(());
+    }
+    let query = description_update(alloc, table, column, text)?;
+    package.update_rows(query)
+}
+
 /// The query that describes a column.
 fn description_update(
     alloc: Global,
-    table: &str,
-    column: &str,
-    text: &str,
+    table: &Value,
+    column: &Value,
+    text: &Value,
 ) -> Result<Update, Error> {
+    let (table, column) = (table.as_str().unwrap_or(""), column.as_str().unwrap_or(""));
     let is_table = Expr::col(alloc, "Table")?.eq(alloc, Expr::string(alloc, table)?)?;
     let is_column = Expr::col(alloc, "Column")?.eq(alloc, Expr::string(alloc, column)?)?;
     Update::table(alloc, VALIDATION)?
-        .set("Description", Value::from_text(alloc, text)?)?
+        .set("Description", text.clone(alloc)?)?
         .with(is_table.and(alloc, is_column)?)
 }

@@ -32,12 +32,12 @@ impl Folder<'_> {
     }
 }
 
-/// Returns a result with the path of a file at which it failed, if it has no place yet.
+/// Returns what a call returned, with the path of its file where it failed and has no place yet.
 ///
 /// # Errors
-/// Fails as the result does.
-pub fn at_file(alloc: Global, path: &str, result: Result<(), Failure>) -> Result<(), Failure> {
-    match result {
+/// Fails as the call did.
+pub fn at_file(alloc: Global, path: &str, done: Result<(), Failure>) -> Result<(), Failure> {
+    match done {
         Ok(()) => Ok(()),
         Err(failure) => Err(failure.at(alloc, "file", path)),
     }

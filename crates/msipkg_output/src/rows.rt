@@ -214,14 +214,14 @@ fn write_json<W: Write>(
     output: &mut W,
 ) -> Result<(), Failure> {
     let names = quoted_names(alloc, rows.columns())?;
-    write!(output, "[")?;
-    let mut before = "\n";
+    output.write_all(b"[")?;
+    let mut before: &[u8] = b"\n";
     for row in rows {
-        write!(output, "{before}")?;
-        before = ",\n";
+        output.write_all(before)?;
+        before = b",\n";
         write_object(alloc, style, names.as_slice(), &row?, output)?;
     }
-    writeln!(output, "\n]")?;
+    output.write_all(b"\n]\n")?;
     Ok(())
 }
 
@@ -244,13 +244,13 @@ fn write_object<W: Write>(
 ) -> io::Result<()> {
     let mut before = "{";
     for i in 0..row.len().min(names.len()) {
-        write!(output, "{before}")?;
+        output.write_all(before.as_bytes())?;
         before = ",";
         write_text(style, names[i].as_str(), output)?;
-        write!(output, ":")?;
+        output.write_all(b":")?;
         write_json_value(alloc, style, &row[i], output)?;
     }
-    write!(output, "}}")
+    output.write_all(b"}")
 }
 
 /// Writes a value as JSON, where a stream is `true`.
@@ -264,9 +264,9 @@ pub fn write_json_value<W: Write>(
     output: &mut W,
 ) -> io::Result<()> {
     match value {
-        Value::Null => write!(output, "null"),
+        Value::Null => output.write_all(b"null"),
         Value::Int(number) => write!(output, "{number}"),
         Value::Str(text) => write_quoted(alloc, style, text.as_str(), output),
-        Value::Binary => write!(output, "true"),
+        Value::Binary => output.write_all(b"true"),
     }
 }
