@@ -5,7 +5,7 @@ use crate::given::select_given;
 use crate::values::{rows, value};
 use msi_table::parts::{self, fits_table, sort_by_keys};
 use msi_table::{Table, Value, ValueRef};
-use msi_text::{CodePage, Items, LanguageId, StringPool, Text};
+use msi_text::{CodePage, Error, Items, LanguageId, StringPool, Text};
 use std::alloc::{AllocError, Global};
 use transcripts_words::failure::Failure;
 use transcripts_words::kept::{Kept, pieces, print_bytes};
@@ -22,84 +22,103 @@ pub fn make(
     answer: &mut String,
 ) -> Result<(), Failure> {
     match call {
-        "print_value" => write!(answer, "{}", value(alloc, words, 0)?)?,
-        "print_aligned" => print_aligned(answer, &value(alloc, words, 0)?)?,
-        "print_cut" => print_cut(answer, &value(alloc, words, 0)?)?,
-        "value_from" => write!(answer, "{}", value_from(alloc, words)?)?,
-        "compare" => compare(alloc, answer, words)?,
-        "cell" => print_cell(alloc, answer, value(alloc, words, 0)?)?,
-        "write_rows" => write_rows(alloc, answer, words)?,
-        "read_rows" => read_rows(alloc, kept, answer, words)?,
-        "select_given" => select_given(alloc, answer, words)?,
-        "sort_rows" => sort_rows(alloc, answer, words)?,
-        _ => return Err(Failure::Unreadable("there is no such call")),
+        "print_value" | "print_aligned" | "print_cut" => print_value(alloc, answer, call, words),
+        "value_from" => print_value_from(alloc, answer, words),
+        "compare" => compare(alloc, answer, words),
+        "cell" => print_cell(alloc, answer, words),
+        "write_rows" => write_rows(alloc, answer, words),
+        "read_rows" => read_rows(alloc, kept, answer, words),
+        "select_given" => select_given(alloc, answer, words),
+        "sort_rows" => sort_rows(alloc, answer, words),
+        _ => Err(Failure::Unreadable("there is no such call")),
     }
+}
+
+/// Prints a value, in a form that the call names.
+fn print_value(
+    alloc: Global,
+    answer: &mut String,
+    call: &str,
+    words: &mut Words,
+) -> Result<(), Failure> {
+    let value = value(alloc, words, 0)?;
+    print_formatted(answer, call, &value)?;
     Ok(())
 }
 
-/// Prints a value in a width of 3 and of 8, to the left, to the right, and in the middle.
-fn print_aligned(answer: &mut String, value: &Value) -> Result<(), AllocError> {
-    write!(
-        answer,
-        "{value:3}|{value:8}|{value:<8}|{value:>8}|{value:*^7}|{value:é^9}|{value:_>14}"
-    )
+/// Prints a value plainly; in a width of 3 and of 8, to the left, to the right, and in the middle; or cut, in a width
+/// and in none.
+fn print_formatted(answer: &mut String, call: &str, value: &Value) -> Result<(), AllocError> {
+    match call {
+        "print_aligned" => write!(
+            answer,
+            "{value:3}|{value:8}|{value:<8}|{value:>8}|{value:*^7}|{value:é^9}|{value:_>14}"
+        ),
+        "print_cut" => write!(answer, "{value:.3}|{value:4.3}|{value:>4.2}"),
+        _ => write!(answer, "{value}"),
+    }
 }
 
-/// Prints a value that is cut, in a width or in none.
-fn print_cut(answer: &mut String, value: &Value) -> Result<(), AllocError> {
-    write!(answer, "{value:.3}|{value:4.3}|{value:>4.2}")
+/// Prints the value that is made of what comes next.
+fn print_value_from(alloc: Global, answer: &mut String, words: &mut Words) -> Result<(), Failure> {
+    let value = value_from(alloc, words)?;
+    write!(answer, "{value}")?;
+    Ok(())
 }
 
 /// Reads what a value is made of: the type, and what is given of it.
 fn value_from(alloc: Global, words: &mut Words) -> Result<Value, Failure> {
-    match words.word()? {
-        "bool" => Ok(Value::from(words.word()? == "true")),
-        "i16" => from_i16(words),
-        "u16" => Ok(Value::from(number_of_16_bits(words)?)),
-        "i32" => Ok(Value::from(words.number()?)),
-        "string" => Ok(Value::from(String::from_str(alloc, words.name()?)?)),
-        "text" => Ok(Value::from_text(alloc, words.name()?)?),
-        "uuid" => from_uuid(alloc, words.word()?),
-        "language" => from_language(alloc, number_of_16_bits(words)?),
+    let kind = words.word()?;
+    match kind {
+        "bool" | "string" | "text" | "uuid" => from_name(alloc, kind, words.name()?),
         "languages" => from_languages(alloc, words),
-        _ => Err(Failure::Unreadable("a value isn't made of that")),
+        _ => from_number(alloc, kind, words.number()?),
+    }
+}
+
+/// Returns the value of a type that a text spells.
+fn from_name(alloc: Global, kind: &str, name: &str) -> Result<Value, Failure> {
+    match kind {
+        "bool" => Ok(Value::from(name == "true")),
+        "string" => Ok(Value::from(String::from_str(alloc, name)?)),
+        "text" => Ok(Value::from_text(alloc, name)?),
+        _ => from_uuid(alloc, name),
     }
 }
 
 /// Returns the value of a UUID.
-fn from_uuid(alloc: Global, word: &str) -> Result<Value, Failure> {
-    match Uuid::parse_str(word) {
+fn from_uuid(alloc: Global, text: &str) -> Result<Value, Failure> {
+    match Uuid::parse_str(text) {
         Ok(uuid) => Ok(Value::from_uuid(alloc, uuid)?),
         Err(_) => Err(Failure::Unreadable("a UUID is missing")),
     }
 }
 
-/// Reads the value of a number of 16 bits and a sign.
-fn from_i16(words: &mut Words) -> Result<Value, Failure> {
-    match i16::try_from(words.number()?) {
-        Ok(number) => Ok(Value::from(number)),
-        Err(_) => Err(Failure::Unreadable("a number is too large")),
+/// Returns the value of a type that a number stands for.
+fn from_number(alloc: Global, kind: &str, number: i32) -> Result<Value, Failure> {
+    match kind {
+        "i16" => Ok(Value::from(i16::try_from(number).ok().ok_or(TOO_LARGE)?)),
+        "u16" => Ok(Value::from(unsigned(number)?)),
+        "i32" => Ok(Value::from(number)),
+        "language" => Ok(Value::from_language(alloc, LanguageId::from_id(unsigned(number)?))?),
+        _ => Err(Failure::Unreadable("a value isn't made of that")),
     }
 }
 
-/// Reads a number of 16 bits without a sign.
-fn number_of_16_bits(words: &mut Words) -> Result<u16, Failure> {
-    match u16::try_from(words.number()?) {
-        Ok(number) => Ok(number),
-        Err(_) => Err(Failure::Unreadable("a number is too large")),
-    }
-}
+/// The failure of a number that has more than 16 bits.
+const TOO_LARGE: Failure = Failure::Unreadable("a number is too large");
 
-/// Returns the value of a language.
-fn from_language(alloc: Global, id: u16) -> Result<Value, Failure> {
-    Ok(Value::from_language(alloc, LanguageId::from_id(id))?)
+/// Returns a number of 16 bits without a sign.
+fn unsigned(number: i32) -> Result<u16, Failure> {
+    u16::try_from(number).ok().ok_or(TOO_LARGE)
 }
 
 /// Reads the value of languages, up to the line's end.
 fn from_languages(alloc: Global, words: &mut Words) -> Result<Value, Failure> {
     let mut languages = Vec::new(alloc);
     for _ in 0..words.len() {
-        languages.push(LanguageId::from_id(number_of_16_bits(words)?))?;
+        let id = unsigned(words.number()?)?;
+        languages.push(LanguageId::from_id(id))?;
     }
     Ok(Value::from_languages(alloc, languages.as_slice())?)
 }
@@ -108,34 +127,52 @@ fn from_languages(alloc: Global, words: &mut Words) -> Result<Value, Failure> {
 fn compare(alloc: Global, answer: &mut String, words: &mut Words) -> Result<(), Failure> {
     let copy = value(alloc, words, 0)?.clone(alloc)?;
     let other = value(alloc, words, 0)?;
-    answer.push_str(if copy == other {
+    answer.push_str(order(&copy, &other))?;
+    Ok(())
+}
+
+/// Returns how a value stands to another one.
+fn order(value: &Value, other: &Value) -> &'static str {
+    if value == other {
         "equal"
-    } else if copy < other {
+    } else if value < other {
         "less"
     } else {
         "greater"
-    })?;
-    Ok(())
+    }
 }
 
 /// Prints how many texts a pool has with the cell of a value, and what the cell stands for: first, and once it is given
 /// back. Last comes whether it can be given back again.
-fn print_cell(alloc: Global, answer: &mut String, value: Value) -> Result<(), Failure> {
+fn print_cell(alloc: Global, answer: &mut String, words: &mut Words) -> Result<(), Failure> {
     let mut pool = StringPool::new(alloc, CodePage::Utf8);
-    let cell = ValueRef::create(value, &mut pool)?;
-    writeln!(
-        answer,
-        "{} {}",
-        pool.num_strings(),
-        cell.to_value(alloc, &pool)?
-    )?;
+    let cell = ValueRef::create(value(alloc, words, 0)?, &mut pool)?;
+    write!(answer, "{} ", pool.num_strings())?;
+    print_cell_value(alloc, answer, &pool, &cell)?;
     cell.remove(&mut pool)?;
-    writeln!(answer, "{}", cell.to_value(alloc, &pool)?)?;
-    match cell.remove(&mut pool) {
-        Ok(()) => answer.push_str("ok")?,
-        Err(error) => write!(answer, "{}", error.kind())?,
-    }
+    print_cell_value(alloc, answer, &pool, &cell)?;
+    print_removal(answer, cell.remove(&mut pool))?;
     Ok(())
+}
+
+/// Prints what a cell stands for.
+fn print_cell_value(
+    alloc: Global,
+    answer: &mut String,
+    pool: &StringPool,
+    cell: &ValueRef,
+) -> Result<(), Failure> {
+    let value = cell.to_value(alloc, pool)?;
+    writeln!(answer, "{value}")?;
+    Ok(())
+}
+
+/// Prints whether a cell was given back.
+fn print_removal(answer: &mut String, removal: Result<(), Error>) -> Result<(), AllocError> {
+    match removal {
+        Ok(()) => answer.push_str("ok"),
+        Err(error) => write!(answer, "{}", error.kind()),
+    }
 }
 
 /// Reads the columns of a table, and returns the table under a name.
@@ -186,10 +223,8 @@ pub(crate) fn print_cells(
         return Ok(());
     }
     for row in rows {
-        print_values(
-            answer,
-            parts::values(alloc, pool, row.as_slice())?.as_slice(),
-        )?;
+        let values = parts::values(alloc, pool, row.as_slice())?;
+        print_values(answer, values.as_slice())?;
     }
     Ok(())
 }
@@ -209,11 +244,17 @@ fn write_rows(alloc: Global, answer: &mut String, words: &mut Words) -> Result<(
     let mut pool = StringPool::new(alloc, CodePage::Utf8);
     let table = table(alloc, "T", words)?;
     let cells = cells(alloc, &mut pool, words)?;
-    if !fits_table(&table, cells.as_slice()) {
+    let bytes = written(alloc, &table, cells)?;
+    print_bytes(answer, bytes.as_slice())?;
+    Ok(())
+}
+
+/// Returns the bytes of the stream of a table of rows.
+fn written(alloc: Global, table: &Table, rows: Vec<Items<ValueRef>>) -> Result<Vec<u8>, Failure> {
+    if !fits_table(table, rows.as_slice()) {
         return Err(Failure::Unreadable("the table can't store these rows"));
     }
-    print_bytes(answer, parts::write_rows(alloc, &table, cells)?.as_slice())?;
-    Ok(())
+    Ok(parts::write_rows(alloc, table, rows)?)
 }
 
 /// Prints the rows in the stream of a table, whose texts are all empty.

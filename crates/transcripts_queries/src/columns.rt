@@ -71,15 +71,24 @@ pub(crate) fn column(alloc: Global, words: &mut Words) -> Result<Column, Failure
 
 /// Returns the column of a type.
 fn of_kind(builder: ColumnBuilder, words: &mut Words, kind: Kind) -> Result<Column, Failure> {
+    let length = length(words, kind)?;
     Ok(match kind {
         Kind::Int16 => builder.int16(),
         Kind::Int32 => builder.int32(),
         Kind::Binary => builder.binary(),
-        Kind::String => builder.string(words.count()?),
-        Kind::IdString => builder.id_string(words.count()?),
-        Kind::TextString => builder.text_string(words.count()?),
-        Kind::FormattedString => builder.formatted_string(words.count()?),
+        Kind::String => builder.string(length),
+        Kind::IdString => builder.id_string(length),
+        Kind::TextString => builder.text_string(length),
+        Kind::FormattedString => builder.formatted_string(length),
     })
+}
+
+/// Reads the length of a type's texts, where it has texts.
+fn length(words: &mut Words, kind: Kind) -> Result<usize, Failure> {
+    match kind {
+        Kind::Int16 | Kind::Int32 | Kind::Binary => Ok(0),
+        _ => words.count(),
+    }
 }
 
 /// Makes a call of a builder.
@@ -93,12 +102,38 @@ fn with_option(
         "key" => Ok(builder.primary_key()),
         "nullable" => Ok(builder.nullable()),
         "localizable" => Ok(builder.localizable()),
-        "range" => Ok(builder.range(words.number()?, words.number()?)),
-        "foreign_key" => Ok(builder.foreign_key(words.name()?, words.number()?)?),
-        "category" => Ok(builder.category(category(words.word()?)?)),
-        "enum_values" => Ok(builder.enum_values(names(alloc, words)?.as_slice())?),
+        "range" => with_range(builder, words),
+        "foreign_key" => with_foreign_key(builder, words),
+        "category" => with_category(builder, words),
+        "enum_values" => with_values(alloc, builder, words),
         _ => Err(Failure::Unreadable("a column has no such option")),
     }
+}
+
+fn with_range(builder: ColumnBuilder, words: &mut Words) -> Result<ColumnBuilder, Failure> {
+    let least = words.number()?;
+    let most = words.number()?;
+    Ok(builder.range(least, most))
+}
+
+fn with_foreign_key(builder: ColumnBuilder, words: &mut Words) -> Result<ColumnBuilder, Failure> {
+    let table = words.name()?;
+    let number = words.number()?;
+    Ok(builder.foreign_key(table, number)?)
+}
+
+fn with_category(builder: ColumnBuilder, words: &mut Words) -> Result<ColumnBuilder, Failure> {
+    let category = category(words.word()?)?;
+    Ok(builder.category(category))
+}
+
+fn with_values(
+    alloc: Global,
+    builder: ColumnBuilder,
+    words: &mut Words,
+) -> Result<ColumnBuilder, Failure> {
+    let texts = names(alloc, words)?;
+    Ok(builder.enum_values(texts.as_slice())?)
 }
 
 /// Reads names: `("a", "b")`.
@@ -130,16 +165,22 @@ pub fn print_columns(answer: &mut String, columns: &[Column]) -> Result<(), Allo
 pub(crate) fn print_column(answer: &mut String, column: &Column) -> Result<(), AllocError> {
     write!(answer, "{} {}", column.name(), column.coltype())?;
     print_flags(answer, column)?;
-    if let Some((least, most)) = column.value_range() {
-        write!(answer, " range {least} {most}")?;
-    }
-    if let Some((table, number)) = column.foreign_key() {
-        write!(answer, " foreign_key {table} {number}")?;
-    }
+    print_numbers(answer, column)?;
     if let Some(category) = column.category() {
         write!(answer, " category {}", category.name())?;
     }
     print_texts(answer, column)
+}
+
+/// Prints the least and the most number that a column takes, and the column to which it refers.
+fn print_numbers(answer: &mut String, column: &Column) -> Result<(), AllocError> {
+    if let Some((least, most)) = column.value_range() {
+        write!(answer, " range {least} {most}")?;
+    }
+    match column.foreign_key() {
+        Some((table, number)) => write!(answer, " foreign_key {table} {number}"),
+        None => Ok(()),
+    }
 }
 
 /// Prints whether a column is a part of the key, takes null and is localizable.

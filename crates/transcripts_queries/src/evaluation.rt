@@ -7,9 +7,9 @@ use crate::queries::{delete, insert, insert_singly, update};
 use crate::values::row;
 use msi_query::Expr;
 use msi_query::parts::{RowFilter, knows_names};
-use msi_table::{Row, Rows, ValueRef};
-use msi_text::{CodePage, Items, StringPool};
-use std::alloc::Global;
+use msi_table::{Column, Row, Rows, ValueRef};
+use msi_text::{CodePage, Error, Items, StringPool};
+use std::alloc::{AllocError, Global};
 use transcripts_words::failure::Failure;
 use transcripts_words::words::Words;
 
@@ -21,26 +21,68 @@ pub fn make(
     words: &mut Words,
     answer: &mut String,
 ) -> Result<bool, Failure> {
-    match call {
-        "print_delete" => write!(answer, "{}", delete(alloc, words)?)?,
-        "print_update" => write!(answer, "{}", update(alloc, words)?)?,
-        "print_insert" => write!(answer, "{}", insert(alloc, words)?)?,
-        "print_row_by_row" => write!(answer, "{}", insert_singly(alloc, words)?)?,
-        "column_names" => print_names(alloc, answer, &expression(alloc, words)?)?,
-        "meets" => print_meets(alloc, answer, words)?,
+    let outcome = match call {
+        "print_delete" => print_delete(alloc, answer, words),
+        "print_update" => print_update(alloc, answer, words),
+        "print_insert" => print_insert(alloc, answer, words),
+        "print_row_by_row" => print_row_by_row(alloc, answer, words),
+        "column_names" => print_names(alloc, answer, words),
+        "meets" => print_meets(alloc, answer, words),
         _ => return Ok(false),
-    }
+    };
+    outcome?;
     Ok(true)
 }
 
+/// Prints a delete as the library does.
+fn print_delete(alloc: Global, answer: &mut String, words: &mut Words) -> Result<(), Failure> {
+    let query = delete(alloc, words)?;
+    write!(answer, "{query}")?;
+    Ok(())
+}
+
+/// Prints an update as the library does.
+fn print_update(alloc: Global, answer: &mut String, words: &mut Words) -> Result<(), Failure> {
+    let query = update(alloc, words)?;
+    write!(answer, "{query}")?;
+    Ok(())
+}
+
+/// Prints an insert as the library does.
+fn print_insert(alloc: Global, answer: &mut String, words: &mut Words) -> Result<(), Failure> {
+    let query = insert(alloc, words)?;
+    write!(answer, "{query}")?;
+    Ok(())
+}
+
+/// Prints an insert to which rows are added one by one.
+fn print_row_by_row(alloc: Global, answer: &mut String, words: &mut Words) -> Result<(), Failure> {
+    let query = insert_singly(alloc, words)?;
+    write!(answer, "{query}")?;
+    Ok(())
+}
+
 /// Prints the names of the columns in an expression, in alphabetical order.
-fn print_names(alloc: Global, answer: &mut String, expression: &Expr) -> Result<(), Failure> {
+fn print_names(alloc: Global, answer: &mut String, words: &mut Words) -> Result<(), Failure> {
+    let expression = expression(alloc, words)?;
+    let mut names = names(alloc, &expression)?;
+    names.sort()?;
+    print_lines(answer, names.as_slice())?;
+    Ok(())
+}
+
+/// Returns the names of the columns in an expression.
+fn names(alloc: Global, expression: &Expr) -> Result<Vec<&str>, Error> {
     let mut names = Vec::new(alloc);
     for name in &expression.column_names(alloc)? {
         names.push(*name)?;
     }
-    names.sort()?;
-    for name in &names {
+    Ok(names)
+}
+
+/// Prints names, each as a line.
+fn print_lines(answer: &mut String, names: &[&str]) -> Result<(), AllocError> {
+    for name in names {
         writeln!(answer, "{name}")?;
     }
     Ok(())
@@ -57,17 +99,30 @@ fn cells(
 
 /// Reads columns, two rows and a condition, and prints whether the first row meets it alone, and with the other behind.
 fn print_meets(alloc: Global, answer: &mut String, words: &mut Words) -> Result<(), Failure> {
-    let columns = columns(alloc, words)?;
     let mut pool = StringPool::new(alloc, CodePage::Utf8);
+    let columns = columns(alloc, words)?;
     let front = cells(alloc, &mut pool, words)?;
     let back = cells(alloc, &mut pool, words)?;
-    if !words.takes("where") {
-        let filter = RowFilter::new(alloc, columns.as_slice(), None)?;
-        return print_met(alloc, answer, &filter, &pool, [&front, &back]);
+    let rows = [&front, &back];
+    if words.takes("where") {
+        return print_meets_condition(alloc, answer, words, columns.as_slice(), &pool, rows);
     }
+    let filter = RowFilter::new(alloc, columns.as_slice(), None)?;
+    print_met(alloc, answer, &filter, &pool, rows)
+}
+
+/// Reads a condition, and prints whether the first of two rows meets it alone, and with the other behind.
+fn print_meets_condition(
+    alloc: Global,
+    answer: &mut String,
+    words: &mut Words,
+    columns: &[Column],
+    pool: &StringPool,
+    rows: [&Items<ValueRef>; 2],
+) -> Result<(), Failure> {
     let condition = expression(alloc, words)?;
-    let filter = RowFilter::new(alloc, columns.as_slice(), Some(&condition))?;
-    print_met(alloc, answer, &filter, &pool, [&front, &back])
+    let filter = RowFilter::new(alloc, columns, Some(&condition))?;
+    print_met(alloc, answer, &filter, pool, rows)
 }
 
 /// Prints whether the first of two rows gets through a filter alone, and with the other behind.

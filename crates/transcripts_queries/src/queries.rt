@@ -3,7 +3,7 @@
 use crate::columns::names;
 use crate::conditions::expression;
 use crate::values::{rows, value};
-use msi_query::{Delete, Insert, Select, Update};
+use msi_query::{Delete, Expr, Insert, Select, Update};
 use msi_table::{Column, Row, Rows};
 use std::alloc::{AllocError, Global};
 use transcripts_words::failure::Failure;
@@ -55,10 +55,22 @@ fn narrowed(
     query: Select,
     clause: Clause,
 ) -> Result<Select, Failure> {
-    Ok(match clause {
-        Clause::Where => query.with(expression(alloc, words)?)?,
-        _ => query.columns(names(alloc, words)?.as_slice())?,
-    })
+    match clause {
+        Clause::Where => filtered(alloc, words, query),
+        _ => projected(alloc, words, query),
+    }
+}
+
+/// Reads the condition of a query.
+fn filtered(alloc: Global, words: &mut Words, query: Select) -> Result<Select, Failure> {
+    let condition = expression(alloc, words)?;
+    Ok(query.with(condition)?)
+}
+
+/// Reads the columns that a query keeps.
+fn projected(alloc: Global, words: &mut Words, query: Select) -> Result<Select, Failure> {
+    let names = names(alloc, words)?;
+    Ok(query.columns(names.as_slice())?)
 }
 
 /// Reads the right side of a join, and on what it is joined.
@@ -69,14 +81,20 @@ fn joined(
     clause: Clause,
 ) -> Result<Select, Failure> {
     let side = side(alloc, words)?;
-    if !words.takes("on") {
-        return Err(Failure::Unreadable("a join has no condition"));
+    let on = condition_of_join(alloc, words)?;
+    let joined = match clause {
+        Clause::InnerJoin => query.inner_join(side, on),
+        _ => query.left_join(side, on),
+    };
+    Ok(joined?)
+}
+
+/// Reads on what a query is joined.
+fn condition_of_join(alloc: Global, words: &mut Words) -> Result<Expr, Failure> {
+    if words.takes("on") {
+        return expression(alloc, words);
     }
-    let on = expression(alloc, words)?;
-    Ok(match clause {
-        Clause::InnerJoin => query.inner_join(side, on)?,
-        _ => query.left_join(side, on)?,
-    })
+    Err(Failure::Unreadable("a join has no condition"))
 }
 
 /// Reads the right side of a join: a table, or a query of one table in parentheses.
@@ -99,8 +117,9 @@ fn side(alloc: Global, words: &mut Words) -> Result<Select, Failure> {
 
 /// Reads an insert: `Numbers (1, "One") (2, "Two")`. Fails if it can't be read, and if memory runs out.
 pub fn insert(alloc: Global, words: &mut Words) -> Result<Insert, Failure> {
-    let query = Insert::into(alloc, words.name()?)?;
-    Ok(query.rows(rows(alloc, words)?)?)
+    let name = words.name()?;
+    let rows = rows(alloc, words)?;
+    Ok(Insert::into(alloc, name)?.rows(rows)?)
 }
 
 /// Reads an insert to which rows are added one by one.
@@ -125,9 +144,15 @@ pub fn update(alloc: Global, words: &mut Words) -> Result<Update, Failure> {
         goes_on = words.takes_mark(Mark::Comma);
     }
     if words.takes("where") {
-        return Ok(query.with(expression(alloc, words)?)?);
+        return with_condition(alloc, words, query);
     }
     Ok(query)
+}
+
+/// Reads the condition of an update.
+fn with_condition(alloc: Global, words: &mut Words, query: Update) -> Result<Update, Failure> {
+    let condition = expression(alloc, words)?;
+    Ok(query.with(condition)?)
 }
 
 /// Reads a column and its new value.
@@ -136,7 +161,8 @@ fn with_set(alloc: Global, words: &mut Words, query: Update) -> Result<Update, F
     if !words.takes("=") {
         return Err(Failure::Unreadable("a column is set to nothing"));
     }
-    Ok(query.set(column, value(alloc, words, 0)?)?)
+    let value = value(alloc, words, 0)?;
+    Ok(query.set(column, value)?)
 }
 
 /// Reads a delete: `Numbers where Number = 2`. There may be several conditions. Fails if it can't be read, and

@@ -4,7 +4,7 @@ use crate::stock::Stock;
 use crate::summary::codepage;
 use crate::texts::long;
 use msi_text::parts::{forget_texts, incref_widening, string_ref};
-use msi_text::{StringPool, StringPoolBuilder, StringRef};
+use msi_text::{Error, StringPool, StringPoolBuilder, StringRef};
 use std::alloc::{AllocError, Global};
 use transcripts_words::failure::Failure;
 use transcripts_words::kept::{pieces, print_bytes};
@@ -18,6 +18,11 @@ fn pool(stock: &Stock) -> Result<&StringPool, Failure> {
     stock.pool.as_ref().ok_or(NO_POOL)
 }
 
+/// Returns the pool, to be changed.
+fn pool_mut(stock: &mut Stock) -> Result<&mut StringPool, Failure> {
+    stock.pool.as_mut().ok_or(NO_POOL)
+}
+
 /// Makes a call on the pool, and prints its answer. Fails if there is no pool, if the call can't be read or is refused,
 /// and if memory runs out.
 pub fn make(
@@ -28,21 +33,44 @@ pub fn make(
 ) -> Result<(), Failure> {
     let verb = words.word()?;
     match verb {
-        "new" => stock.pool = Some(StringPool::new(alloc, codepage(words)?)),
-        "read" => read(alloc, stock, words)?,
-        "clone" => stock.pool = Some(pool(stock)?.clone()?),
-        "write_pool" | "write_data" => write(alloc, stock, verb, words)?,
-        "get" | "places" | "facts" | "operations" | "is_writable" => {
-            return print(pool(stock)?, verb, words, answer);
-        }
-        "read_reference" => return read_reference(alloc, stock, words, answer),
-        "write_reference" => return write_reference(alloc, words, answer),
+        "get" => print_one(stock, words, answer),
+        "places" | "facts" | "operations" | "is_writable" => print(stock, verb, answer),
+        "incref" | "incref_widening" => incref(alloc, stock, verb, words, answer),
+        "read_reference" => read_reference(alloc, stock, words, answer),
+        "write_reference" => write_reference(alloc, words, answer),
         _ => {
-            let pool = stock.pool.as_mut().ok_or(NO_POOL)?;
-            return change(alloc, pool, verb, words, answer);
+            make_silent(alloc, stock, verb, words)?;
+            answer.push_str("ok")?;
+            Ok(())
         }
     }
-    answer.push_str("ok")?;
+}
+
+/// Makes a call that prints nothing of its own.
+fn make_silent(
+    alloc: Global,
+    stock: &mut Stock,
+    verb: &str,
+    words: &mut Words,
+) -> Result<(), Failure> {
+    match verb {
+        "new" => new(alloc, stock, words),
+        "read" => read(alloc, stock, words),
+        "clone" => clone(stock),
+        "write_pool" | "write_data" => write(alloc, stock, verb, words),
+        _ => change(alloc, pool_mut(stock)?, verb, words),
+    }
+}
+
+fn new(alloc: Global, stock: &mut Stock, words: &mut Words) -> Result<(), Failure> {
+    let page = codepage(words)?;
+    stock.set_pool(StringPool::new(alloc, page));
+    Ok(())
+}
+
+fn clone(stock: &mut Stock) -> Result<(), Failure> {
+    let clone = pool(stock)?.clone()?;
+    stock.set_pool(clone);
     Ok(())
 }
 
@@ -50,9 +78,14 @@ pub fn make(
 fn read(alloc: Global, stock: &mut Stock, words: &mut Words) -> Result<(), Failure> {
     let places = stock.kept.bytes(words.name()?)?;
     let texts = stock.kept.bytes(words.name()?)?;
-    let builder = StringPoolBuilder::read_from_pool(alloc, places)?;
-    stock.pool = Some(builder.build_from_data(alloc, texts)?);
+    let pool = pool_of(alloc, places, texts)?;
+    stock.set_pool(pool);
     Ok(())
+}
+
+/// Returns the pool of two streams.
+fn pool_of(alloc: Global, places: &[u8], texts: &[u8]) -> Result<StringPool, Error> {
+    StringPoolBuilder::read_from_pool(alloc, places)?.build_from_data(alloc, texts)
 }
 
 /// Keeps what a writer gets of one of the pool's streams, also if it fails. Behind the name may stand how many bytes
@@ -74,15 +107,25 @@ fn write_to(
     bytes: &mut Vec<u8>,
 ) -> Result<(), Failure> {
     if words.peek().is_some() {
-        *bytes = vec![in alloc; 0; words.count()?]?;
-        let mut room: &mut [u8] = bytes.as_mut_slice();
-        pool.write_pool(&mut room)?;
-    } else if verb == "write_pool" {
-        pool.write_pool(bytes)?;
-    } else {
-        pool.write_data(bytes)?;
+        return write_to_room(alloc, pool, words.count()?, bytes);
     }
-    Ok(())
+    let outcome = match verb {
+        "write_pool" => pool.write_pool(bytes),
+        _ => pool.write_data(bytes),
+    };
+    Ok(outcome?)
+}
+
+/// Writes the entries to a writer with room for so many bytes.
+fn write_to_room(
+    alloc: Global,
+    pool: &StringPool,
+    room: usize,
+    bytes: &mut Vec<u8>,
+) -> Result<(), Failure> {
+    *bytes = vec![in alloc; 0; room]?;
+    let mut room: &mut [u8] = bytes.as_mut_slice();
+    Ok(pool.write_pool(&mut room)?)
 }
 
 /// Returns the place of a number from 1 to 16777215, or the one of these that comes nearest.
@@ -90,25 +133,33 @@ fn reference(number: u32) -> StringRef {
     string_ref(number.min(16_777_215).max(1))
 }
 
-/// Prints what the pool has.
-fn print(
-    pool: &StringPool,
-    verb: &str,
-    words: &mut Words,
-    answer: &mut String,
-) -> Result<(), Failure> {
-    match verb {
-        "get" => print_place(answer, pool, reference(long(words)?))?,
-        "places" => print_places(answer, pool)?,
-        "facts" => print_facts(answer, pool)?,
-        "operations" => answer.push_str(match pool.operations() {
-            0 => "none",
-            1..=8 => "1 to 8",
-            _ => "more",
-        })?,
-        _ => write!(answer, "{}", pool.is_writable())?,
-    }
+/// Prints the text and the count of the place that comes next.
+fn print_one(stock: &Stock, words: &mut Words, answer: &mut String) -> Result<(), Failure> {
+    let pool = pool(stock)?;
+    let place = reference(long(words)?);
+    print_place(answer, pool, place)?;
     Ok(())
+}
+
+/// Prints what the pool has.
+fn print(stock: &Stock, verb: &str, answer: &mut String) -> Result<(), Failure> {
+    let pool = pool(stock)?;
+    let outcome = match verb {
+        "places" => print_places(answer, pool),
+        "facts" => print_facts(answer, pool),
+        "operations" => answer.push_str(operations(pool)),
+        _ => write!(answer, "{}", pool.is_writable()),
+    };
+    Ok(outcome?)
+}
+
+/// Returns how many operations the last call made.
+fn operations(pool: &StringPool) -> &'static str {
+    match pool.operations() {
+        0 => "none",
+        1..=8 => "1 to 8",
+        _ => "more",
+    }
 }
 
 /// The most bytes of a text that an answer spells.
@@ -154,37 +205,59 @@ fn change(
     pool: &mut StringPool,
     verb: &str,
     words: &mut Words,
-    answer: &mut String,
 ) -> Result<(), Failure> {
     match verb {
-        "incref" | "incref_widening" => return incref(alloc, pool, verb, words, answer),
-        "decref" => pool.decref(reference(long(words)?))?,
-        "incref_each" => incref_each(alloc, pool, words)?,
-        "decref_each" => decref_each(pool, words.count()?)?,
-        "set_codepage" => pool.set_codepage(codepage(words)?),
-        "widen" => pool.widen(),
-        "forget_texts" => forget(alloc, pool, words)?,
-        _ => return Err(Failure::Unreadable("a pool has no such call")),
+        "decref" => decref(pool, words),
+        "incref_each" => incref_each(alloc, pool, words),
+        "decref_each" => decref_each(pool, words),
+        "set_codepage" => set_codepage(pool, words),
+        "widen" => {
+            pool.widen();
+            Ok(())
+        }
+        "forget_texts" => forget(alloc, pool, words),
+        _ => Err(Failure::Unreadable("a pool has no such call")),
     }
-    answer.push_str("ok")?;
+}
+
+fn decref(pool: &mut StringPool, words: &mut Words) -> Result<(), Failure> {
+    let place = reference(long(words)?);
+    Ok(pool.decref(place)?)
+}
+
+fn set_codepage(pool: &mut StringPool, words: &mut Words) -> Result<(), Failure> {
+    let page = codepage(words)?;
+    pool.set_codepage(page);
     Ok(())
 }
 
 /// Stores a text, and prints the number of its place.
 fn incref(
     alloc: Global,
-    pool: &mut StringPool,
+    stock: &mut Stock,
     verb: &str,
     words: &mut Words,
     answer: &mut String,
 ) -> Result<(), Failure> {
-    let text = String::from_str(alloc, words.name()?)?;
-    let place = match verb {
-        "incref" => pool.incref(text)?,
-        _ => incref_widening(pool, text)?,
-    };
+    let pool = pool_mut(stock)?;
+    let text = words.name()?;
+    let place = place_of(alloc, pool, verb, text)?;
     write!(answer, "{}", place.number())?;
     Ok(())
+}
+
+/// Stores a text, and returns its place.
+fn place_of(
+    alloc: Global,
+    pool: &mut StringPool,
+    verb: &str,
+    text: &str,
+) -> Result<StringRef, Error> {
+    let text = String::from_str(alloc, text)?;
+    match verb {
+        "incref" => pool.incref(text),
+        _ => incref_widening(pool, text),
+    }
 }
 
 /// The failure where a text takes another place than the one of its number, or a call takes more than 8 operations.
@@ -206,30 +279,48 @@ fn incref_each(alloc: Global, pool: &mut StringPool, words: &mut Words) -> Resul
     let letter = words.name()?;
     let step = words.count()?.max(1);
     for number in (1..=65535_u32).step_by(step) {
-        let place = pool.incref(format!(in alloc; "{letter}{number}")?)?;
-        if place.number().unsigned_abs() != number {
-            return Err(ASTRAY);
-        }
-        check_operations(pool)?;
+        incref_at(alloc, pool, letter, number)?;
     }
     Ok(())
 }
 
+/// Stores a letter and a number as a text, which has to take the place of this number.
+fn incref_at(
+    alloc: Global,
+    pool: &mut StringPool,
+    letter: &str,
+    number: u32,
+) -> Result<(), Failure> {
+    let text = format!(in alloc; "{letter}{number}")?;
+    let place = pool.incref(text)?;
+    if place.number().unsigned_abs() != number {
+        return Err(ASTRAY);
+    }
+    check_operations(pool)
+}
+
 /// Gives back the place of each number of 16 bits from 1 on, by steps.
-fn decref_each(pool: &mut StringPool, step: usize) -> Result<(), Failure> {
-    for number in (1..=65535_u32).step_by(step.max(1)) {
+fn decref_each(pool: &mut StringPool, words: &mut Words) -> Result<(), Failure> {
+    let step = words.count()?.max(1);
+    for number in (1..=65535_u32).step_by(step) {
         pool.decref(string_ref(number))?;
         check_operations(pool)?;
     }
     Ok(())
 }
 
-/// Forgets the texts of free places: those of no mark, where `+` and `-` stand for each place.
-fn forget(alloc: Global, pool: &mut StringPool, words: &mut Words) -> Result<(), Failure> {
+/// Returns whether each character is a `+`.
+fn marks(alloc: Global, word: &str) -> Result<Vec<bool>, AllocError> {
     let mut marks = Vec::new(alloc);
-    for mark in words.word()?.chars() {
+    for mark in word.chars() {
         marks.push(mark == '+')?;
     }
+    Ok(marks)
+}
+
+/// Forgets the texts of free places: those of no mark, where `+` and `-` stand for each place.
+fn forget(alloc: Global, pool: &mut StringPool, words: &mut Words) -> Result<(), Failure> {
+    let marks = marks(alloc, words.word()?)?;
     if marks.len() != pool.num_strings() as usize {
         return Err(Failure::Unreadable("each place needs a mark"));
     }
@@ -246,12 +337,16 @@ fn read_reference(
 ) -> Result<(), Failure> {
     let is_long = words.word()? == "long";
     let bytes = pieces(alloc, &stock.kept, words)?;
-    let mut reader = bytes.as_slice();
-    match StringRef::read(&mut reader, is_long)? {
-        Some(place) => write!(answer, "{}", place.number())?,
-        None => answer.push_str("none")?,
-    }
-    Ok(())
+    print_reference(answer, bytes.as_slice(), is_long)
+}
+
+/// Prints the number of the reference in bytes.
+fn print_reference(answer: &mut String, mut bytes: &[u8], is_long: bool) -> Result<(), Failure> {
+    let outcome = match StringRef::read(&mut bytes, is_long)? {
+        Some(place) => write!(answer, "{}", place.number()),
+        None => answer.push_str("none"),
+    };
+    Ok(outcome?)
 }
 
 /// Prints the bytes of a reference, or of none.

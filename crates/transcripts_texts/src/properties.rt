@@ -7,7 +7,7 @@ use msi_summary::{OperatingSystem, PropertySet, PropertyValue};
 use msi_text::{IntoText, Timestamp};
 use std::alloc::{AllocError, Global};
 use transcripts_words::failure::Failure;
-use transcripts_words::kept::{Kept, pieces};
+use transcripts_words::kept::pieces;
 use transcripts_words::words::Words;
 
 /// The failure of a call that needs a set.
@@ -28,35 +28,55 @@ pub fn make(
 ) -> Result<(), Failure> {
     let verb = words.word()?;
     match verb {
-        "new" => stock.properties = Some(new(alloc, &stock.kept, words)?),
-        "read" => stock.properties = Some(read(alloc, &stock.kept, words)?),
+        "get" => return print_property(stock, words, answer),
+        "codepage" | "is_writable" => return print(stock, verb, answer),
+        "new" => new(alloc, stock, words)?,
+        "read" => read(alloc, stock, words)?,
         "write" => write(alloc, stock, words)?,
-        "get" | "codepage" | "is_writable" => return print(set(stock)?, verb, words, answer),
-        _ => change(alloc, stock.properties.as_mut().ok_or(NO_SET)?, verb, words)?,
+        _ => change(alloc, set_mut(stock)?, verb, words)?,
     }
     answer.push_str("ok")?;
     Ok(())
 }
 
-/// Reads what a new set is made of: the system, its version, and the format identifier.
-fn new(alloc: Global, kept: &Kept, words: &mut Words) -> Result<PropertySet, Failure> {
-    let os = match words.word()? {
-        "Win16" => OperatingSystem::Win16,
-        "Macintosh" => OperatingSystem::Macintosh,
-        "Win32" => OperatingSystem::Win32,
-        _ => return Err(Failure::Unreadable("there is no such system")),
-    };
-    let version = long(words)? & 0xFFFF;
-    let mut format = [0; 16];
-    for (old, new) in format.iter_mut().zip(&pieces(alloc, kept, words)?) {
-        *old = *new;
-    }
-    Ok(PropertySet::new(alloc, os, version as u16, format))
+/// Returns the set, to be changed.
+fn set_mut(stock: &mut Stock) -> Result<&mut PropertySet, Failure> {
+    stock.properties.as_mut().ok_or(NO_SET)
 }
 
-fn read(alloc: Global, kept: &Kept, words: &mut Words) -> Result<PropertySet, Failure> {
-    let bytes = pieces(alloc, kept, words)?;
-    Ok(PropertySet::read(alloc, bytes.as_slice())?)
+/// Reads the system that a set was made on.
+fn system(words: &mut Words) -> Result<OperatingSystem, Failure> {
+    match words.word()? {
+        "Win16" => Ok(OperatingSystem::Win16),
+        "Macintosh" => Ok(OperatingSystem::Macintosh),
+        "Win32" => Ok(OperatingSystem::Win32),
+        _ => Err(Failure::Unreadable("there is no such system")),
+    }
+}
+
+/// Reads what a new set is made of: the system, its version, and the format identifier.
+fn new(alloc: Global, stock: &mut Stock, words: &mut Words) -> Result<(), Failure> {
+    let os = system(words)?;
+    let version = long(words)? & 0xFFFF;
+    let format = format_of(pieces(alloc, &stock.kept, words)?.as_slice());
+    stock.set_properties(PropertySet::new(alloc, os, version as u16, format));
+    Ok(())
+}
+
+/// Returns the format identifier that begins with these bytes.
+fn format_of(bytes: &[u8]) -> [u8; 16] {
+    let mut format = [0; 16];
+    for (old, new) in format.iter_mut().zip(bytes) {
+        *old = *new;
+    }
+    format
+}
+
+fn read(alloc: Global, stock: &mut Stock, words: &mut Words) -> Result<(), Failure> {
+    let bytes = pieces(alloc, &stock.kept, words)?;
+    let set = PropertySet::read(alloc, bytes.as_slice())?;
+    stock.set_properties(set);
+    Ok(())
 }
 
 /// Keeps what a writer gets of the set, also if it fails. Behind the name may stand how many bytes the writer has room
@@ -84,19 +104,22 @@ fn write_to(
     Ok(set.write(&mut room)?)
 }
 
-/// Prints what the set has.
-fn print(
-    set: &PropertySet,
-    verb: &str,
-    words: &mut Words,
-    answer: &mut String,
-) -> Result<(), Failure> {
-    match verb {
-        "get" => print_value(answer, set.get(long(words)?))?,
-        "codepage" => write!(answer, "{}", set.codepage().id())?,
-        _ => write!(answer, "{}", set.is_writable())?,
-    }
+/// Prints the value of the property that comes next.
+fn print_property(stock: &Stock, words: &mut Words, answer: &mut String) -> Result<(), Failure> {
+    let set = set(stock)?;
+    let id = long(words)?;
+    print_value(answer, set.get(id))?;
     Ok(())
+}
+
+/// Prints what the set has.
+fn print(stock: &Stock, verb: &str, answer: &mut String) -> Result<(), Failure> {
+    let set = set(stock)?;
+    let outcome = match verb {
+        "codepage" => write!(answer, "{}", set.codepage().id()),
+        _ => write!(answer, "{}", set.is_writable()),
+    };
+    Ok(outcome?)
 }
 
 /// Prints a value as it is set.
@@ -121,38 +144,69 @@ fn change(
     words: &mut Words,
 ) -> Result<(), Failure> {
     match verb {
-        "set" => {
-            let id = long(words)?;
-            set.set(id, value(alloc, words)?)?;
-        }
-        "remove" => set.remove(long(words)?),
-        "set_codepage" => set.set_codepage(codepage(words)?)?,
-        _ => return Err(Failure::Unreadable("a property set has no such call")),
+        "set" => set_property(alloc, set, words),
+        "remove" => remove_property(set, words),
+        "set_codepage" => set_codepage(set, words),
+        _ => Err(Failure::Unreadable("a property set has no such call")),
     }
+}
+
+fn set_property(alloc: Global, set: &mut PropertySet, words: &mut Words) -> Result<(), Failure> {
+    let id = long(words)?;
+    let value = value(alloc, words)?;
+    Ok(set.set(id, value)?)
+}
+
+fn remove_property(set: &mut PropertySet, words: &mut Words) -> Result<(), Failure> {
+    let id = long(words)?;
+    set.remove(id);
     Ok(())
+}
+
+fn set_codepage(set: &mut PropertySet, words: &mut Words) -> Result<(), Failure> {
+    let page = codepage(words)?;
+    Ok(set.set_codepage(page)?)
 }
 
 /// Reads a value: its type, and what that needs.
 fn value(alloc: Global, words: &mut Words) -> Result<PropertyValue, Failure> {
-    match words.word()? {
+    let kind = words.word()?;
+    match kind {
         "Empty" => Ok(PropertyValue::Empty),
         "Null" => Ok(PropertyValue::Null),
-        "I4" => Ok(PropertyValue::I4(words.number()?)),
-        "LpStr" => Ok(PropertyValue::LpStr(words.name()?.into_text(alloc)?)),
-        "FileTime" => {
-            let ticks = words.count()? as u64;
-            Ok(PropertyValue::FileTime(Timestamp::from_ticks(ticks)))
-        }
-        kind => small_value(kind, words.number()?),
+        "LpStr" => text_value(alloc, words),
+        "FileTime" => time_value(words),
+        _ => number_value(kind, words.number()?),
     }
 }
 
-/// Returns the value of a small number, whose type is `I1` or `I2`.
-fn small_value(kind: &str, number: i32) -> Result<PropertyValue, Failure> {
-    let value = match kind {
-        "I1" => i8::try_from(number).ok().map(PropertyValue::I1),
-        "I2" => i16::try_from(number).ok().map(PropertyValue::I2),
-        _ => None,
-    };
-    value.ok_or(Failure::Unreadable("a property has no such value"))
+/// Reads the value of a text.
+fn text_value(alloc: Global, words: &mut Words) -> Result<PropertyValue, Failure> {
+    let text = words.name()?.into_text(alloc)?;
+    Ok(PropertyValue::LpStr(text))
+}
+
+/// Reads the value of a time.
+fn time_value(words: &mut Words) -> Result<PropertyValue, Failure> {
+    let ticks = words.count()? as u64;
+    Ok(PropertyValue::FileTime(Timestamp::from_ticks(ticks)))
+}
+
+/// The failure of a value that no property has.
+const NO_VALUE: Failure = Failure::Unreadable("a property has no such value");
+
+/// Returns the value of a number, whose type is `I1`, `I2` or `I4`.
+fn number_value(kind: &str, number: i32) -> Result<PropertyValue, Failure> {
+    match kind {
+        "I1" => match i8::try_from(number) {
+            Ok(number) => Ok(PropertyValue::I1(number)),
+            Err(_) => Err(NO_VALUE),
+        },
+        "I2" => match i16::try_from(number) {
+            Ok(number) => Ok(PropertyValue::I2(number)),
+            Err(_) => Err(NO_VALUE),
+        },
+        "I4" => Ok(PropertyValue::I4(number)),
+        _ => Err(NO_VALUE),
+    }
 }

@@ -4,7 +4,7 @@ use msi_summary::SummaryInfo;
 use msi_text::{CodePage, LanguageId, Timestamp};
 use std::alloc::{AllocError, Global};
 use transcripts_words::failure::Failure;
-use transcripts_words::words::{Words, count_of, number_of};
+use transcripts_words::words::Words;
 use uuid::Uuid;
 
 /// The failure of a call on another property.
@@ -12,21 +12,21 @@ const NO_PROPERTY: Failure = Failure::Unreadable("a summary has no such property
 
 /// Prints a property. Fails if a summary has none of this name, and if memory runs out.
 pub fn print(answer: &mut String, summary: &SummaryInfo, property: &str) -> Result<(), Failure> {
-    match property {
-        "title" => print_text(answer, summary.title())?,
-        "subject" => print_text(answer, summary.subject())?,
-        "author" => print_text(answer, summary.author())?,
-        "comments" => print_text(answer, summary.comments())?,
-        "last_saved_by" => print_text(answer, summary.last_saved_by())?,
-        "creating_application" => print_text(answer, summary.creating_application())?,
-        "arch" => print_text(answer, summary.arch())?,
-        "languages" => print_languages(answer, summary)?,
-        "keywords" => print_keywords(answer, summary)?,
-        "codepage" => write!(answer, "{}", summary.codepage().id())?,
-        "uuid" => print_uuid(answer, summary)?,
-        _ => print_number(answer, summary, property)?,
-    }
-    Ok(())
+    let outcome = match property {
+        "title" => print_text(answer, summary.title()),
+        "subject" => print_text(answer, summary.subject()),
+        "author" => print_text(answer, summary.author()),
+        "comments" => print_text(answer, summary.comments()),
+        "last_saved_by" => print_text(answer, summary.last_saved_by()),
+        "creating_application" => print_text(answer, summary.creating_application()),
+        "arch" => print_text(answer, summary.arch()),
+        "codepage" => write!(answer, "{}", summary.codepage().id()),
+        "uuid" => print_uuid(answer, summary),
+        "languages" => return print_languages(answer, summary),
+        "keywords" => return print_keywords(answer, summary),
+        _ => return print_number(answer, summary, property),
+    };
+    Ok(outcome?)
 }
 
 /// Prints a text.
@@ -46,11 +46,11 @@ fn print_number(answer: &mut String, summary: &SummaryInfo, property: &str) -> R
         "doc_security" => summary.doc_security(),
         _ => return print_time(answer, summary, property),
     };
-    match number {
-        Some(number) => write!(answer, "{number}")?,
-        None => answer.push_str("none")?,
-    }
-    Ok(())
+    let outcome = match number {
+        Some(number) => write!(answer, "{number}"),
+        None => answer.push_str("none"),
+    };
+    Ok(outcome?)
 }
 
 /// Prints a time as its count of 100 ns since 1601.
@@ -61,11 +61,11 @@ fn print_time(answer: &mut String, summary: &SummaryInfo, property: &str) -> Res
         "last_saved_time" => summary.last_saved_time(),
         _ => return Err(NO_PROPERTY),
     };
-    match time {
-        Some(time) => write!(answer, "{}", time.ticks())?,
-        None => answer.push_str("none")?,
-    }
-    Ok(())
+    let outcome = match time {
+        Some(time) => write!(answer, "{}", time.ticks()),
+        None => answer.push_str("none"),
+    };
+    Ok(outcome?)
 }
 
 /// Prints the UUID.
@@ -79,27 +79,29 @@ fn print_uuid(answer: &mut String, summary: &SummaryInfo) -> Result<(), AllocErr
 /// Prints the keywords.
 fn print_keywords(answer: &mut String, summary: &SummaryInfo) -> Result<(), Failure> {
     let keywords = summary.keywords()?;
-    if keywords.is_empty() {
-        answer.push_str("none")?;
-    }
     let mut before = "";
     for keyword in &keywords {
         write!(answer, "{before}{:?}", keyword.as_str())?;
         before = " ";
     }
-    Ok(())
+    Ok(print_none(answer, keywords.is_empty())?)
 }
 
 /// Prints the numbers of the languages.
 fn print_languages(answer: &mut String, summary: &SummaryInfo) -> Result<(), Failure> {
     let languages = summary.languages()?;
-    if languages.is_empty() {
-        answer.push_str("none")?;
-    }
     let mut before = "";
     for language in &languages {
         write!(answer, "{before}{}", language.id())?;
         before = " ";
+    }
+    Ok(print_none(answer, languages.is_empty())?)
+}
+
+/// Prints that a list has nothing, if so.
+fn print_none(answer: &mut String, is_empty: bool) -> Result<(), AllocError> {
+    if is_empty {
+        return answer.push_str("none");
     }
     Ok(())
 }
@@ -113,25 +115,48 @@ pub fn set(
     words: &mut Words,
 ) -> Result<(), Failure> {
     match property {
-        "title" => summary.set_title(words.name()?)?,
-        "subject" => summary.set_subject(words.name()?)?,
-        "author" => summary.set_author(words.name()?)?,
-        "comments" => summary.set_comments(words.name()?)?,
-        "last_saved_by" => summary.set_last_saved_by(words.name()?)?,
-        "creating_application" => summary.set_creating_application(words.name()?)?,
-        "arch" => summary.set_arch(words.name()?)?,
-        "languages" => set_languages(alloc, summary, words)?,
-        "keywords" => set_keywords(alloc, summary, words)?,
-        "codepage" => summary.set_codepage(codepage(words)?)?,
-        "uuid" => set_uuid(summary, words.name()?)?,
-        _ => set_number(summary, property, words)?,
+        "languages" => set_languages(alloc, summary, words),
+        "keywords" => set_keywords(alloc, summary, words),
+        "codepage" => set_codepage(summary, words),
+        "page_count" | "word_count" | "character_count" | "doc_security" => {
+            set_number(summary, property, words)
+        }
+        "title"
+        | "subject"
+        | "author"
+        | "comments"
+        | "last_saved_by"
+        | "creating_application"
+        | "arch"
+        | "uuid" => set_text(summary, property, words.name()?),
+        _ => set_time(summary, property, words),
     }
-    Ok(())
+}
+
+/// Sets a text, or the UUID that a text spells.
+fn set_text(summary: &mut SummaryInfo, property: &str, text: &str) -> Result<(), Failure> {
+    let outcome = match property {
+        "title" => summary.set_title(text),
+        "subject" => summary.set_subject(text),
+        "author" => summary.set_author(text),
+        "comments" => summary.set_comments(text),
+        "last_saved_by" => summary.set_last_saved_by(text),
+        "creating_application" => summary.set_creating_application(text),
+        "arch" => summary.set_arch(text),
+        _ => return set_uuid(summary, text),
+    };
+    Ok(outcome?)
 }
 
 /// Reads the number of a code page. Fails if none has it.
 pub fn codepage(words: &mut Words) -> Result<CodePage, Failure> {
     CodePage::from_id(words.number()?).ok_or(Failure::Unreadable("there is no such code page"))
+}
+
+/// Sets the code page.
+fn set_codepage(summary: &mut SummaryInfo, words: &mut Words) -> Result<(), Failure> {
+    let page = codepage(words)?;
+    Ok(summary.set_codepage(page)?)
 }
 
 /// Sets the keywords.
@@ -155,6 +180,14 @@ fn set_uuid(summary: &mut SummaryInfo, text: &str) -> Result<(), Failure> {
     }
 }
 
+/// Reads the number of a language.
+fn language_id(words: &mut Words) -> Result<u16, Failure> {
+    match u16::try_from(words.number()?) {
+        Ok(id) => Ok(id),
+        Err(_) => Err(Failure::Unreadable("no language has this number")),
+    }
+}
+
 /// Sets the languages.
 fn set_languages(
     alloc: Global,
@@ -163,40 +196,36 @@ fn set_languages(
 ) -> Result<(), Failure> {
     let mut languages = Vec::new(alloc);
     for _ in 0..words.len() {
-        let Ok(id) = u16::try_from(words.number()?) else {
-            return Err(Failure::Unreadable("no language has this number"));
-        };
-        languages.push(LanguageId::from_id(id))?;
+        languages.push(LanguageId::from_id(language_id(words)?))?;
     }
     Ok(summary.set_languages(languages.as_slice())?)
 }
 
-/// Sets a number or a time.
+/// Sets a number.
 fn set_number(summary: &mut SummaryInfo, property: &str, words: &mut Words) -> Result<(), Failure> {
-    let number = words.word()?;
-    match property {
-        "page_count" => summary.set_page_count(number_of(number)?)?,
-        "word_count" => summary.set_word_count(number_of(number)?)?,
-        "character_count" => summary.set_character_count(number_of(number)?)?,
-        "doc_security" => summary.set_doc_security(number_of(number)?)?,
-        _ => return set_time(summary, property, count_of(number)? as u64),
-    }
-    Ok(())
+    let number = words.number()?;
+    let outcome = match property {
+        "page_count" => summary.set_page_count(number),
+        "word_count" => summary.set_word_count(number),
+        "character_count" => summary.set_character_count(number),
+        _ => summary.set_doc_security(number),
+    };
+    Ok(outcome?)
 }
 
 /// Sets a time to a count of 100 ns since 1601.
-fn set_time(summary: &mut SummaryInfo, property: &str, ticks: u64) -> Result<(), Failure> {
-    let time = Timestamp::from_ticks(ticks);
-    match property {
-        "last_printed" => summary.set_last_printed(time)?,
-        "creation_time" => summary.set_creation_time(time)?,
-        "last_saved_time" => summary.set_last_save_time(time)?,
-        "last_printed_to_now" => summary.set_last_printed_to_now(time)?,
-        "creation_time_to_now" => summary.set_creation_time_to_now(time)?,
-        "last_saved_time_to_now" => summary.set_last_save_time_to_now(time)?,
+fn set_time(summary: &mut SummaryInfo, property: &str, words: &mut Words) -> Result<(), Failure> {
+    let time = Timestamp::from_ticks(words.count()? as u64);
+    let outcome = match property {
+        "last_printed" => summary.set_last_printed(time),
+        "creation_time" => summary.set_creation_time(time),
+        "last_saved_time" => summary.set_last_save_time(time),
+        "last_printed_to_now" => summary.set_last_printed_to_now(time),
+        "creation_time_to_now" => summary.set_creation_time_to_now(time),
+        "last_saved_time_to_now" => summary.set_last_save_time_to_now(time),
         _ => return Err(NO_PROPERTY),
-    }
-    Ok(())
+    };
+    Ok(outcome?)
 }
 
 /// Clears a property. Fails if a summary has none of this name, and if memory runs out.
@@ -208,12 +237,20 @@ pub fn clear(summary: &mut SummaryInfo, property: &str) -> Result<(), Failure> {
         "comments" => summary.clear_comments(),
         "last_saved_by" => summary.clear_last_saved_by(),
         "creating_application" => summary.clear_creating_application(),
-        "arch" => summary.clear_arch()?,
-        "languages" => summary.clear_languages()?,
-        "keywords" => summary.clear_keywords()?,
-        _ => return clear_number(summary, property),
+        _ => return clear_template(summary, property),
     }
     Ok(())
+}
+
+/// Clears a property whose text other properties are in too, or a number or a time.
+fn clear_template(summary: &mut SummaryInfo, property: &str) -> Result<(), Failure> {
+    let outcome = match property {
+        "arch" => summary.clear_arch(),
+        "languages" => summary.clear_languages(),
+        "keywords" => summary.clear_keywords(),
+        _ => return clear_number(summary, property),
+    };
+    Ok(outcome?)
 }
 
 /// Clears a number or a time.

@@ -51,10 +51,7 @@ pub fn print(
         TextCall::Decode => decode(alloc, kept, words, answer),
         TextCall::Encode => encode(alloc, words, answer),
         TextCall::Language => language(words, answer),
-        TextCall::PrintLanguage => {
-            let id = short(words)?;
-            print_formats(answer, LanguageId::from_id(id))
-        }
+        TextCall::PrintLanguage => print_formats(answer, LanguageId::from_id(short(words)?)),
         TextCall::ReadMoment => read_moment(alloc, kept, words, answer),
         TextCall::WriteMoment => write_moment(alloc, words, answer),
         TextCall::Error => print_error(words, answer),
@@ -65,31 +62,49 @@ pub fn print(
 /// Prints an answer of a few words.
 fn print_fact(call: TextCall, words: &mut Words, answer: &mut String) -> Result<(), Failure> {
     match call {
-        TextCall::Carries => {
-            let page = codepage(words)?;
-            write!(answer, "{}", page.carries(words.name()?))?;
-        }
-        TextCall::Page => print_page(answer, page(words)?)?,
-        TextCall::Category => {
-            let category = category(words.word()?)?;
-            write!(answer, "{}", category.validate(words.name()?))?;
-        }
-        TextCall::FromUnix => {
-            let secs = words.word()?.parse::<i64>().ok().ok_or(NO_NUMBER)?;
-            let nanos = long(words)?;
-            write!(answer, "{}", Timestamp::from_unix(secs, nanos).ticks())?;
-        }
-        _ => {
-            let ticks = words.count()? as u64;
-            let (secs, nanos) = Timestamp::from_ticks(ticks).to_unix();
-            write!(answer, "{secs} {nanos}")?;
-        }
+        TextCall::Carries => carries(words, answer),
+        TextCall::Page => print_page(answer, page(words)?),
+        TextCall::Category => validate(words, answer),
+        TextCall::FromUnix => from_unix(words, answer),
+        _ => to_unix(words, answer),
     }
+}
+
+fn carries(words: &mut Words, answer: &mut String) -> Result<(), Failure> {
+    let page = codepage(words)?;
+    let is_carried = page.carries(words.name()?);
+    write!(answer, "{is_carried}")?;
+    Ok(())
+}
+
+fn validate(words: &mut Words, answer: &mut String) -> Result<(), Failure> {
+    let category = category(words.word()?)?;
+    let is_valid = category.validate(words.name()?);
+    write!(answer, "{is_valid}")?;
+    Ok(())
+}
+
+fn from_unix(words: &mut Words, answer: &mut String) -> Result<(), Failure> {
+    let secs = seconds(words)?;
+    let nanos = long(words)?;
+    write!(answer, "{}", Timestamp::from_unix(secs, nanos).ticks())?;
+    Ok(())
+}
+
+fn to_unix(words: &mut Words, answer: &mut String) -> Result<(), Failure> {
+    let ticks = words.count()? as u64;
+    let (secs, nanos) = Timestamp::from_ticks(ticks).to_unix();
+    write!(answer, "{secs} {nanos}")?;
     Ok(())
 }
 
 /// The failure of a call on a number that isn't there, or is too large.
 const NO_NUMBER: Failure = Failure::Unreadable("a number is missing");
+
+/// Reads a number of 64 bits and a sign.
+fn seconds(words: &mut Words) -> Result<i64, Failure> {
+    words.word()?.parse::<i64>().ok().ok_or(NO_NUMBER)
+}
 
 /// Reads a number of 16 bits.
 fn short(words: &mut Words) -> Result<u16, Failure> {
@@ -109,7 +124,17 @@ fn decode(
 ) -> Result<(), Failure> {
     let page = codepage(words)?;
     let bytes = pieces(alloc, kept, words)?;
-    let text = page.decode(alloc, bytes.as_slice())?;
+    print_decoded(alloc, page, bytes.as_slice(), answer)
+}
+
+/// Prints the text of bytes in a code page.
+fn print_decoded(
+    alloc: Global,
+    page: CodePage,
+    bytes: &[u8],
+    answer: &mut String,
+) -> Result<(), Failure> {
+    let text = page.decode(alloc, bytes)?;
     write!(answer, "{:?}", text.as_str())?;
     Ok(())
 }
@@ -139,28 +164,43 @@ pub fn category(name: &str) -> Result<Category, Failure> {
     Err(Failure::Unreadable("there is no such category"))
 }
 
-fn print_page(answer: &mut String, page: Option<CodePage>) -> Result<(), AllocError> {
-    match page {
+fn print_page(answer: &mut String, page: Option<CodePage>) -> Result<(), Failure> {
+    let outcome = match page {
         Some(page) => write!(answer, "{} {:?}", page.id(), page.name()),
         None => answer.push_str("none"),
-    }
+    };
+    Ok(outcome?)
 }
 
 /// Prints a language, told as its parts, an id of 32 bits, a tag, an id or a number.
 fn language(words: &mut Words, answer: &mut String) -> Result<(), Failure> {
-    let language = match words.word()? {
-        "parts" => {
-            let primary = short(words)?;
-            LanguageId::new(primary, short(words)?)
-        }
-        "lcid" => LanguageId::from_lcid(long(words)?),
-        "tag" => LanguageId::from_tag(words.name()?),
-        "id" => LanguageId::from_id(short(words)?),
-        "number" => LanguageId::from(short(words)?),
-        "default" => LanguageId::default(),
-        _ => return Err(Failure::Unreadable("a language isn't told so")),
-    };
-    print_language(answer, language)
+    let kind = words.word()?;
+    match kind {
+        "parts" => print_language_of_parts(words, answer),
+        "default" => print_language(answer, LanguageId::default()),
+        "tag" => print_language(answer, LanguageId::from_tag(words.name()?)),
+        _ => print_numbered_language(answer, kind, long(words)?),
+    }
+}
+
+/// Prints the language of a primary language and a sub-language.
+fn print_language_of_parts(words: &mut Words, answer: &mut String) -> Result<(), Failure> {
+    let primary = short(words)?;
+    let sub = short(words)?;
+    print_language(answer, LanguageId::new(primary, sub))
+}
+
+/// Prints the language of a number, which has 16 bits or is an id of 32.
+fn print_numbered_language(answer: &mut String, kind: &str, number: u32) -> Result<(), Failure> {
+    if kind == "lcid" {
+        return print_language(answer, LanguageId::from_lcid(number));
+    }
+    let number = u16::try_from(number).ok().ok_or(NO_NUMBER)?;
+    match kind {
+        "id" => print_language(answer, LanguageId::from_id(number)),
+        "number" => print_language(answer, LanguageId::from(number)),
+        _ => Err(Failure::Unreadable("a language isn't told so")),
+    }
 }
 
 fn print_language(answer: &mut String, language: LanguageId) -> Result<(), Failure> {
@@ -184,11 +224,10 @@ impl<T: fmt::LowerHex + fmt::UpperHex> fmt::Display for InHex<T> {
 
 /// Prints an id in decimal digits, in hexadecimal ones, and where a value that holds it hands on its width.
 fn print_formats(answer: &mut String, id: LanguageId) -> Result<(), Failure> {
+    let spelled = InHex(id);
     writeln!(answer, "{id}|{id:>6}|{id:<6}|{id:06}")?;
     writeln!(answer, "{id:x}|{id:X}|{id:04x}|{id:#06X}|{id:>5x}")?;
-    let spelled = InHex(id);
-    write!(answer, "{spelled:5}")?;
-    Ok(())
+    Ok(write!(answer, "{spelled:5}")?)
 }
 
 fn read_moment(
@@ -215,21 +254,31 @@ fn write_moment(alloc: Global, words: &mut Words, answer: &mut String) -> Result
 /// Reasons of errors. The first one is of no library.
 static REASONS: [Reason; 3] = [Reason("a sector is used twice"), PAGE_BYTE, MEMORY];
 
-/// Prints an error of a kind, for the reason that is told by its text, and this reason.
-fn print_error(words: &mut Words, answer: &mut String) -> Result<(), Failure> {
-    let kind = match words.word()? {
+/// Returns the kind of a name.
+fn kind_named(name: &str) -> ErrorKind {
+    match name {
         "InvalidData" => ErrorKind::InvalidData,
         "InvalidInput" => ErrorKind::InvalidInput,
         _ => ErrorKind::OutOfMemory,
-    };
-    let text = words.name()?;
+    }
+}
+
+/// Returns the reason of a text.
+fn reason(text: &str) -> Result<Reason, Failure> {
     for reason in &REASONS {
         if reason.0 == text {
-            let error = Error::new(kind, *reason);
-            writeln!(answer, "{error}")?;
-            write!(answer, "{}", error.reason())?;
-            return Ok(());
+            return Ok(*reason);
         }
     }
     Err(Failure::Unreadable("there is no such reason"))
+}
+
+/// Prints an error of a kind, for the reason that is told by its text, and this reason.
+fn print_error(words: &mut Words, answer: &mut String) -> Result<(), Failure> {
+    let kind = kind_named(words.word()?);
+    let reason = reason(words.name()?)?;
+    let error = Error::new(kind, reason);
+    writeln!(answer, "{error}")?;
+    write!(answer, "{}", error.reason())?;
+    Ok(())
 }
