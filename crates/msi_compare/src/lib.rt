@@ -5,7 +5,5 @@ mod comparing;
 mod index;
 mod keys;
 pub mod laws;
-#[cfg(test)]
-mod tests;
 
 pub use comparing::{Difference, differences};

@@ -1,8 +1,7 @@
 //! Two tables that differ by a removed, two changed and an added row.
 
-use crate::{Difference, differences};
-use msi_table::column::Column;
-use msi_table::value::Value;
+use msi_compare::{Difference, differences};
+use msi_table_values::{Column, Value};
 use msi_text_base::errors::Error;
 use msi_text_base::text::Items;
 use std::alloc::Global;
