@@ -9,7 +9,7 @@ use Rattle.msi_table_values.specs.CellValues.{row_values}
 use Rattle.msi_container_write.specs.LayoutLaw.{IsName}
 use Rattle.msi_database_schema.proofs.RowOrderLemmas.{names_total}
 use Rattle.msi_database_changes.specs.Database.{CountsAreExact, is_sound, rows_of}
-use Rattle.msi_table.specs.KeyOrder.{key_of, same_key}
+use Rattle.msi_table_order.specs.KeyOrder.{key_of, same_key}
 use Rattle.msi_database_changes.specs.Laws.{KeysAreDistinct}
 use Rattle.msi_database_changes.proofs.DescribingLemmas.{rows_at_is}
 use Rattle.msi_database.specs.Fresh as databases

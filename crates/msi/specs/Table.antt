@@ -1,10 +1,10 @@
 -- The words of values, columns and tables, which public clauses cite.
 pub use Rattle.msi_table.specs.Cells
-pub use Rattle.msi_table.specs.StoredOrder
-pub use Rattle.msi_table.specs.KeyOrder
+pub use Rattle.msi_table_order.specs.StoredOrder
+pub use Rattle.msi_table_order.specs.KeyOrder
 pub use Rattle.msi_table.specs.Tables
 pub use Rattle.msi_table.specs.Rows
-pub use Rattle.msi_table.specs.SortedRows
+pub use Rattle.msi_table_order.specs.SortedRows
 pub use Rattle.msi_table.specs.Utf8Rows
 pub use Rattle.msi_table_values.specs.declared.column.ColumnType
 pub use Rattle.msi_table_values.specs.declared.value.Value

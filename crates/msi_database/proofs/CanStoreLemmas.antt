@@ -9,8 +9,8 @@ use Rattle.msi_table_values.specs.declared.value.ValueRef.{ValueRef}
 use Rattle.msi_table_values.specs.Columns.{ColumnDef, types_of}
 use Rattle.msi_table.specs.Tables.{TableDef}
 use Rattle.msi_table_values.specs.Fitting.{FitsRow, FitsTable}
-use Rattle.msi_table.specs.StoredOrder.{row_cmp, in_stored_order}
-use Rattle.msi_table.proofs.StableSortLemmas.{sort_moves}
+use Rattle.msi_table_order.specs.StoredOrder.{row_cmp, in_stored_order}
+use Rattle.msi_table_order.proofs.StableSortLemmas.{sort_moves}
 use Rattle.msi_database_schema.proofs.RowOrderLemmas.{names_total}
 use Rattle.msi_database_changes.specs.Database.{table_at}
 use Rattle.msi_database_changes.specs.Changes.{Change, no_change, with_stored}

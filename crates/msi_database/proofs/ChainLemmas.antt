@@ -10,7 +10,7 @@ use Rattle.msi_table_values.specs.declared.value.Value.{Value}
 use Rattle.msi_table_values.specs.declared.value.Value.TheVariants.{Str}
 use Rattle.msi_table_values.specs.declared.value.ValueRef.{ValueRef}
 use Rattle.msi_table_values.specs.Columns.{ColumnDef}
-use Rattle.msi_table.specs.StoredOrder.{in_stored_order}
+use Rattle.msi_table_order.specs.StoredOrder.{in_stored_order}
 use Rattle.msi_text.specs.Refusals.{first_refusal, or_refused, ◌>>=◌}
 use Rattle.msi_query_joins.specs.Rows.{TableCells}
 use Rattle.msi_database_schema.specs.Keys.{is_table_name}

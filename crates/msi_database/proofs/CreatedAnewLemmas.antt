@@ -11,7 +11,7 @@ use Rattle.msi_table_values.specs.declared.value.Value.{Value}
 use Rattle.msi_table_values.specs.declared.value.ValueRef.{ValueRef}
 use Rattle.msi_table_values.specs.Columns.{ColumnDef, types_of}
 use Rattle.msi_table_values.specs.Fitting.{FitsTable}
-use Rattle.msi_table.specs.KeyOrder.{in_key_order}
+use Rattle.msi_table_order.specs.KeyOrder.{in_key_order}
 use Rattle.msi_table.specs.Tables.{TableDef}
 use Rattle.msi_text.specs.Refusals.{IsRefusal, Refusals, first_refusal, or_refused, unless, unless_refused, ◌>>=◌}
 use Rattle.msi_query_joins.specs.Rows.{TableCells}

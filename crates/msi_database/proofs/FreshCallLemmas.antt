@@ -27,7 +27,7 @@ use Rattle.msi_database_changes.specs.Changes.{Change, no_change, pool_of, with_
 use Rattle.msi_database_cells.specs.Texts.{PoolInUse, UsedPool, in_use, rows_put}
 use Rattle.msi_database_changes.specs.Create.{added_to, described_by_rows}
 use Rattle.msi_database_changes.specs.Insert.{cells_added, rows_added}
-use Rattle.msi_table.specs.KeyOrder.{in_key_order}
+use Rattle.msi_table_order.specs.KeyOrder.{in_key_order}
 use Rattle.msi_database_changes.proofs.FitTestLemmas.{cells_fit, each_fits}
 use Rattle.msi_database_storage.specs.Streams.{stream_of_rows}
 use Rattle.msi_database_storage.specs.declared.storing.Stored.{Stored}

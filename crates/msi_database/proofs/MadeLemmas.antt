@@ -17,7 +17,7 @@ use Rattle.msi_database_schema.specs.Description.{column_rows, validation_rows}
 use Rattle.msi_database_changes.specs.Database.{Database, is_sound, table_at, rows_of}
 use Rattle.msi_database_changes.specs.Changes.{Change, no_change, pool_of, with_stored, sound_refusal}
 use Rattle.msi_database_cells.specs.Texts.{PoolInUse, in_turn, rows_put}
-use Rattle.msi_table.specs.KeyOrder.{in_key_order}
+use Rattle.msi_table_order.specs.KeyOrder.{in_key_order}
 use Rattle.msi_database_changes.specs.Insert.{cells_added, insert_at_width, rows_inserted, rows_added, row_refusals}
 use Rattle.msi_database_changes.specs.Update.{update_at_width, update_refusals, is_update_barred, row_updated, rows_updated}
 use Rattle.msi_database_changes.specs.Delete.{delete_rows, rows_deleted}

@@ -17,7 +17,7 @@ use Rattle.msi_database_schema.specs.Description.{column_rows, validation_rows}
 use Rattle.msi_database_changes.specs.Database.{Database, table_at, rows_of}
 use Rattle.msi_database_changes.specs.Changes.{Change, no_change, pool_of, with_stored, sound_refusal}
 use Rattle.msi_database_cells.specs.Texts.{PoolInUse, rows_put}
-use Rattle.msi_table.specs.KeyOrder.{in_key_order}
+use Rattle.msi_table_order.specs.KeyOrder.{in_key_order}
 use Rattle.msi_database_changes.specs.Insert.{cells_added, insert_at_width, rows_inserted, rows_added, row_refusals}
 use Rattle.msi_database_changes.specs.Create.{create_at_width, table_refusals, with_new_table}
 use Rattle.msi_database_changes.specs.Drop.{drop_table, rows_forgotten, table_released}

@@ -26,7 +26,7 @@ use Rattle.msi_database_changes.specs.Widening.{widened, widening}
 use Rattle.msi_database_cells.specs.Setting.{cells_set}
 use Rattle.msi_database_cells.specs.Texts.{PoolInUse, UsedPool, cell_released, in_turn, in_use, rows_put, rows_released, settled}
 use Rattle.msi_database_cells.proofs.NarrowLemmas.{cells_set_grows, cells_set_narrow, released_many, rows_put_narrow, turn_narrow}
-use Rattle.msi_table.specs.KeyOrder.{in_key_order}
+use Rattle.msi_table_order.specs.KeyOrder.{in_key_order}
 use Rattle.msi_database_changes.specs.Insert.{table_with, cells_added, insert_at_width, insert_rows, row_refusals}
 use Rattle.msi_database_changes.specs.Update.{is_update_barred, row_updated, update_refusals, update_at_width, update_rows}
 use Rattle.msi_database_changes.specs.Delete.{delete_rows, rows_meeting}

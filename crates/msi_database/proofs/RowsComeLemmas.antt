@@ -12,7 +12,7 @@ use Rattle.msi_table_values.specs.declared.value.ValueRef.{ValueRef}
 use Rattle.msi_table_values.specs.Columns.{types_of}
 use Rattle.msi_table_values.specs.Fitting.{FitsTable}
 use Rattle.msi_table_values.specs.CellValues.{row_values}
-use Rattle.msi_table.specs.StoredOrder.{in_stored_order}
+use Rattle.msi_table_order.specs.StoredOrder.{in_stored_order}
 use Rattle.msi_query.specs.Queries.{InsertQuery, UpdateQuery, DeleteQuery}
 use Rattle.msi_query_joins.specs.Rows.{TableCells}
 use Rattle.msi_database_schema.specs.Keys.{is_table_name}

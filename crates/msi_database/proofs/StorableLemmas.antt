@@ -16,7 +16,7 @@ use Rattle.msi_table_values.specs.Fitting.{FitsTable}
 use Rattle.msi_text.specs.Refusals.{Refusals, first_refusal}
 use Rattle.msi_query_joins.specs.Rows.{TableCells}
 use Rattle.msi_database_cells.specs.Texts.{PoolInUse, cell_put, in_turn, rows_put}
-use Rattle.msi_table.specs.KeyOrder.{in_key_order, key_of, same_key}
+use Rattle.msi_table_order.specs.KeyOrder.{in_key_order, key_of, same_key}
 use Rattle.msi_database_changes.specs.Insert.{cells_added, keys_of, row_fits, row_refusals, table_with}
 use Rattle.msi_database_cells.specs.KeySets.{key_refusals}
 use Rattle.msi_database_changes.proofs.RefusedLemmas.{front_fails, first_fails, each_passes}

@@ -16,7 +16,7 @@ use Rattle.msi_text_base.specs.Lists.{list_cmp}
 use Rattle.msi_table_values.specs.declared.value.ValueRef.{ValueRef}
 use Rattle.msi_table.specs.Tables.{CanStore, TableDef, long_table_of}
 use Rattle.msi_text_pool_base.specs.Pool.{Pool}
-use Rattle.msi_table.proofs.ReadBackLemmas.{all_at}
+use Rattle.msi_table_order.proofs.SortedRowsLemmas.{all_at}
 use Rattle.msi_table_values.specs.Columns.{ColumnDef, types_of}
 use Rattle.msi_table_values.specs.Fitting.{FitsTable}
 use Rattle.msi_query_joins.specs.Rows.{TableCells}

@@ -12,7 +12,7 @@ use Rattle.msi_table_values.specs.declared.value.ValueRef.{ValueRef}
 use Rattle.msi_table_values.specs.CellValues.{row_values}
 use Rattle.msi_table_values.specs.Columns.{ColumnDef}
 use Rattle.msi_table_values.specs.Values.{value_cmp}
-use Rattle.msi_table.specs.KeyOrder.{key_of, same_key}
+use Rattle.msi_table_order.specs.KeyOrder.{key_of, same_key}
 
 -- the keys of rows of cells of these columns, in the rows' order
 abbrev pub keys_of_rows : List Place → List ColumnDef → List (List ValueRef) → List (List Value)

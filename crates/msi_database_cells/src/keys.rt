@@ -11,7 +11,7 @@ ghost use Rattle.msi_text.specs.Refusals.{IsRefusal, first_refusal, unless_refus
 ghost use Rattle.msi_table_values.specs.declared.value.Value.{Value as ValueOf};
 ghost use Rattle.msi_table_values.specs.OrderLaws.{value_cmp-total};
 ghost use Rattle.msi_table_values.specs.Values.{value_cmp};
-ghost use Rattle.msi_table.specs.KeyOrder.{key_of, same_key};
+ghost use Rattle.msi_table_order.specs.KeyOrder.{key_of, same_key};
 ghost use Rattle.msi_database_cells.specs.KeySets.{HasKeys, clash_refusals, key_refusals, keys_of_rows};
 ghost use Rattle.msi_database_cells.specs.Views.{seen_row};
 

@@ -16,8 +16,8 @@ use Rattle.msi_text_base.proofs.OptionLemmas.{none_there}
 use Rattle.msi_table_values.specs.declared.value.Value.{Value}
 use Rattle.msi_table_values.specs.declared.value.Value.TheVariants.{Str}
 use Rattle.msi_table_values.specs.Columns.{ColumnDef}
-use Rattle.msi_table.specs.StoredOrder.{in_stored_order}
-use Rattle.msi_table.specs.KeyOrder.{in_key_order}
+use Rattle.msi_table_order.specs.StoredOrder.{in_stored_order}
+use Rattle.msi_table_order.specs.KeyOrder.{in_key_order}
 use Rattle.msi_text.specs.Refusals.{unless_refused, ◌>>=◌}
 use Rattle.msi_database_schema.specs.Keys.{is_table_name}
 use Rattle.msi_database_schema.specs.System.{validation_name, columns_name, tables_name, validation_columns}

@@ -11,7 +11,7 @@ use Rattle.msi_table_values.specs.declared.value.Value.TheVariants.{Str}
 use Rattle.msi_table_values.specs.Columns.{ColumnDef}
 use Rattle.msi_text.specs.Refusals.{first_refusal}
 use Rattle.msi_database_schema.specs.Keys.{is_table_name}
-use Rattle.msi_table.specs.KeyOrder.{in_key_order}
+use Rattle.msi_table_order.specs.KeyOrder.{in_key_order}
 use Rattle.msi_database_schema.specs.System.{columns_name, tables_name, validation_name}
 use Rattle.msi_database_changes.specs.Database.{Database, rows_of, is_sound}
 use Rattle.msi_query_joins.specs.Rows.{TableCells}

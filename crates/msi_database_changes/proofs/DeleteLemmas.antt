@@ -6,7 +6,7 @@ use Rattle.msi_text_base.specs.declared.errors.ErrorKind.TheVariants.{InvalidDat
 use Rattle.msi_text_places.specs.FirstFitLaws.{TakenPlacesHoldTheirText, GivenBackTakesOne}
 use Rattle.msi_table_values.specs.declared.value.ValueRef.{ValueRef}
 use Rattle.msi_table_values.specs.CellValues.{row_values}
-use Rattle.msi_table.specs.StoredOrder.{row_cmp, in_stored_order}
+use Rattle.msi_table_order.specs.StoredOrder.{row_cmp, in_stored_order}
 use Rattle.msi_query.specs.Queries.{DeleteQuery}
 use Rattle.msi_query_expressions.specs.Conditions.{meets}
 use Rattle.msi_query_joins.specs.Selection.{has_columns, condition_names}

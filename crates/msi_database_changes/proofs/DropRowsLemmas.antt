@@ -11,8 +11,8 @@ use Rattle.msi_table_values.specs.declared.value.Value.{Value}
 use Rattle.msi_table_values.specs.declared.value.Value.TheVariants.{Str}
 use Rattle.msi_table_values.specs.declared.value.ValueRef.{ValueRef}
 use Rattle.msi_table_values.specs.CellValues.{row_values}
-use Rattle.msi_table.specs.StoredOrder.{row_cmp, in_stored_order}
-use Rattle.msi_table.specs.KeyOrder.{same_key}
+use Rattle.msi_table_order.specs.StoredOrder.{row_cmp, in_stored_order}
+use Rattle.msi_table_order.specs.KeyOrder.{same_key}
 use Rattle.msi_database_schema.specs.System.{columns_name, is_schema_table, is_system_table, tables_name, validation_name}
 use Rattle.msi_database_changes.specs.Database.{Database, table_at, has_table, rows_of, is_sound}
 use Rattle.msi_query_joins.specs.Rows.{TableCells}

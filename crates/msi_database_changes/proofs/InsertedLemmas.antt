@@ -13,9 +13,9 @@ use Rattle.msi_table_values.specs.declared.value.ValueRef.{ValueRef}
 use Rattle.msi_table_values.specs.Columns.{ColumnDef}
 use Rattle.msi_table_values.specs.ValidValues.{is_valid_value}
 use Rattle.msi_table_values.specs.CellValues.{row_values}
-use Rattle.msi_table.specs.StoredOrder.{row_cmp, in_stored_order}
+use Rattle.msi_table_order.specs.StoredOrder.{row_cmp, in_stored_order}
 use Rattle.msi_text.specs.Refusals.{Refusals, first_refusal, unless_refused, or_refused, ◌>>=◌}
-use Rattle.msi_table.specs.KeyOrder.{key_of, same_key, key_cmp, in_key_order}
+use Rattle.msi_table_order.specs.KeyOrder.{key_of, same_key, key_cmp, in_key_order}
 use Rattle.msi_database_changes.specs.Database.{Database, table_at, rows_of, is_sound, CountsAreExact}
 use Rattle.msi_query_joins.specs.Rows.{TableCells}
 use Rattle.msi_database_changes.specs.Changes.{Change, pool_of, with_stored}

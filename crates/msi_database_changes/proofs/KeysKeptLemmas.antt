@@ -10,11 +10,11 @@ use Rattle.msi_table_values.specs.declared.value.Value.{Value}
 use Rattle.msi_table_values.specs.declared.value.ValueRef.{ValueRef}
 use Rattle.msi_table_values.specs.Columns.{ColumnDef, column_index, column_named}
 use Rattle.msi_table_values.specs.ValidValues.{is_valid_value}
-use Rattle.msi_table.specs.StoredOrder.{row_cmp, parts_where, in_stored_order}
-use Rattle.msi_table.proofs.RowOrderLemmas.{is_key}
+use Rattle.msi_table_order.specs.StoredOrder.{row_cmp, parts_where, in_stored_order}
+use Rattle.msi_table_order.proofs.RowOrderLemmas.{is_key}
 use Rattle.msi_query.specs.Queries.{UpdateQuery, DeleteQuery}
 use Rattle.msi_query_expressions.specs.Conditions.{meets}
-use Rattle.msi_table.specs.KeyOrder.{key_of, same_key}
+use Rattle.msi_table_order.specs.KeyOrder.{key_of, same_key}
 use Rattle.msi_database_changes.specs.Database.{Database, table_at, rows_of, is_sound}
 use Rattle.msi_query_joins.specs.Rows.{TableCells}
 use Rattle.msi_database_changes.specs.Changes.{Change, no_change, pool_of}

@@ -6,7 +6,7 @@ use Rattle.msi_text_places.specs.FirstFit.{most_places}
 use Rattle.msi_text_places.specs.FirstFitLaws.{TakenPlacesHoldTheirText, GivenBackTakesOne}
 use Rattle.msi_table_values.specs.declared.value.ValueRef.{ValueRef}
 use Rattle.msi_table_values.specs.CellValues.{row_values}
-use Rattle.msi_table.specs.StoredOrder.{row_cmp, in_stored_order}
+use Rattle.msi_table_order.specs.StoredOrder.{row_cmp, in_stored_order}
 use Rattle.msi_database_changes.specs.Database.{Database, table_at, rows_of, is_sound, CountsAreExact}
 use Rattle.msi_query_joins.specs.Rows.{TableCells}
 use Rattle.msi_database_changes.specs.Changes.{Change, pool_of}

@@ -14,7 +14,7 @@ use Rattle.msi_table_values.specs.Columns.{ColumnDef}
 use Rattle.msi_table_values.specs.CellValues.{row_values}
 use Rattle.msi_query.specs.Queries.{UpdateQuery}
 use Rattle.msi_database_changes.specs.Insert.{table_with}
-use Rattle.msi_table.specs.KeyOrder.{key_of, same_key}
+use Rattle.msi_table_order.specs.KeyOrder.{key_of, same_key}
 use Rattle.msi_database_changes.specs.RowUpdates.{RowUpdateDef, row_set}
 use Rattle.msi_database_changes.specs.Update.{keys_collide, set_is_valid, set_refusals, sets_key, values_after}
 use Rattle.msi_database_cells.proofs.KeySetLemmas.{refused}

@@ -19,7 +19,7 @@ use Rattle.msi_database_changes.specs.Database.{Database, table_at, with_table, 
 use Rattle.msi_database_changes.specs.Changes.{Change, no_change}
 use Rattle.msi_database_changes.specs.Create.{create_at_width}
 use Rattle.msi_database_changes.specs.Drop.{is_row_about, rows_forgotten, table_released, drop_table}
-use Rattle.msi_table.specs.KeyOrder.{key_of, same_key}
+use Rattle.msi_table_order.specs.KeyOrder.{key_of, same_key}
 use Rattle.msi_database_changes.specs.Laws.{rows_at, KeysAreDistinct}
 use Rattle.msi_database_changes.proofs.StoredLemmas.{WellFormed}
 use Rattle.msi_database_changes.proofs.InsertedLemmas.{inserted_parts, inserted_sound, inserted_well}

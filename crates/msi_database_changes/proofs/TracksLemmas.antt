@@ -13,8 +13,8 @@ use Rattle.msi_text_base.specs.Lists.{list_cmp}
 use Rattle.msi_table_values.specs.declared.value.ValueRef.{ValueRef}
 use Rattle.msi_table_values.specs.Columns.{ColumnDef, types_of}
 use Rattle.msi_table_values.specs.Fitting.{FitsRow, FitsTable}
-use Rattle.msi_table.specs.StoredOrder.{in_stored_order}
-use Rattle.msi_table.proofs.SortedFitsLemmas.{sorted_fits}
+use Rattle.msi_table_order.specs.StoredOrder.{in_stored_order}
+use Rattle.msi_table_order.proofs.SortedFitsLemmas.{sorted_fits}
 use Rattle.msi_database_schema.specs.Keys.{is_table_name}
 use Rattle.msi_database_changes.specs.Database.{Database, table_at, rows_of, is_sound}
 use Rattle.msi_query_joins.specs.Rows.{TableCells}

@@ -6,7 +6,7 @@ use Rattle.msi_text.specs.Refusals.{Refusals}
 use Rattle.msi_query_joins.specs.Rows.{TableCells}
 use Rattle.msi_table_values.specs.declared.value.ValueRef.{ValueRef}
 use Rattle.msi_table_values.specs.Columns.{ColumnDef}
-use Rattle.msi_table.specs.StoredOrder.{in_stored_order}
+use Rattle.msi_table_order.specs.StoredOrder.{in_stored_order}
 use Rattle.msi_database_changes.specs.Database.{Database, table_at, with_table, with_places, is_sound}
 
 -- a change of tables: the parts after it, whether a text was taken or given back, and the tables that are stored anew

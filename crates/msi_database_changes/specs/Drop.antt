@@ -9,7 +9,7 @@ use Rattle.msi_text.specs.Refusals.{Refusals, unless_refused, or_refused, ◌>>=
 use Rattle.msi_table_values.specs.declared.value.Value.TheVariants.{Str}
 use Rattle.msi_table_values.specs.declared.value.ValueRef.{ValueRef}
 use Rattle.msi_table_values.specs.CellValues.{row_values}
-use Rattle.msi_table.specs.KeyOrder.{same_key}
+use Rattle.msi_table_order.specs.KeyOrder.{same_key}
 use Rattle.msi_database_schema.specs.Keys.{is_table_name}
 use Rattle.msi_database_schema.specs.System.{tables_name, columns_name, validation_name, is_system_table}
 use Rattle.msi_database_changes.specs.Database.{Database, table_at, without_table, with_places, rows_of}

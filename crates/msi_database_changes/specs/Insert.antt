@@ -12,7 +12,7 @@ use Rattle.msi_table_values.specs.declared.value.Value.{Value}
 use Rattle.msi_table_values.specs.declared.value.ValueRef.{ValueRef}
 use Rattle.msi_table_values.specs.Columns.{ColumnDef}
 use Rattle.msi_table_values.specs.ValidValues.{is_valid_value}
-use Rattle.msi_table.specs.KeyOrder.{key_of, same_key, in_key_order}
+use Rattle.msi_table_order.specs.KeyOrder.{key_of, same_key, in_key_order}
 use Rattle.msi_query.specs.Queries.{InsertQuery}
 use Rattle.msi_database_schema.specs.System.{is_system_table}
 use Rattle.msi_database_changes.specs.Database.{Database, table_at, rows_of}

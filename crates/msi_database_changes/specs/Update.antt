@@ -13,7 +13,7 @@ use Rattle.msi_table_values.specs.declared.value.ValueRef.{ValueRef}
 use Rattle.msi_table_values.specs.Columns.{ColumnDef, column_named}
 use Rattle.msi_table_values.specs.ValidValues.{is_valid_value}
 use Rattle.msi_table_values.specs.CellValues.{row_values}
-use Rattle.msi_table.specs.KeyOrder.{key_of, same_key}
+use Rattle.msi_table_order.specs.KeyOrder.{key_of, same_key}
 use Rattle.msi_query.specs.Queries.{UpdateQuery}
 use Rattle.msi_query_expressions.specs.Conditions.{meets}
 use Rattle.msi_query_joins.specs.Selection.{has_columns, condition_names}

@@ -10,7 +10,7 @@ ghost use Rattle.msi_text.specs.Refusals.{IsRefusal, or_refused, unless_refused}
 ghost use Rattle.msi_table_values.specs.Columns.{column_named};
 ghost use Rattle.msi_table_values.specs.CellValues.{row_values};
 ghost use Rattle.msi_database_changes.specs.Insert.{table_with};
-ghost use Rattle.msi_table.specs.KeyOrder.{key_of, same_key};
+ghost use Rattle.msi_table_order.specs.KeyOrder.{key_of, same_key};
 ghost use Rattle.msi_database_changes.specs.RowUpdates.{row_set, update_of};
 ghost use Rattle.msi_database_cells.specs.Texts.{in_turn, in_use};
 ghost use Rattle.msi_database_changes.specs.Update.{keys_collide, row_updated, set_is_valid};

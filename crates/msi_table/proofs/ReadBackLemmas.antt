@@ -1,6 +1,6 @@
 -- Tables read back.
 use Rattle.std.proofs.Common.{◌≡◌, ℕ, zero, suc, ◌+◌, ◌*◌, ◌/◌, ◌<◌, ◌≤◌, Bool, true, false, List, [], ◌∷◌, ◌++◌, length, take, drop, refl, sym, ap, ◌∙◌, arith, map, Some, None, sum, subst, Option}
-use Rattle.std.specs.List.{flat_map, slice_get, AllByRecursion}
+use Rattle.std.specs.List.{flat_map, slice_get}
 use Rattle.std.specs.Prelude.{slice_index_or, nat_le, if◌then◌else◌}
 use Rattle.std.proofs.lemmas.List as lists
 use Rattle.std.proofs.lemmas.List.FromFn.{fill_by_all}
@@ -14,6 +14,7 @@ use Rattle.msi_table_values.specs.declared.column.ColumnType.{ColumnType}
 use Rattle.msi_table_values.specs.declared.column.ColumnType.TheVariants as coltype
 use Rattle.msi_table_values.specs.declared.value.ValueRef.{ValueRef}
 use Rattle.msi_table_values.specs.declared.value.ValueRef.TheVariants as cell
+use Rattle.msi_table_order.proofs.SortedRowsLemmas.{all_at}
 use Rattle.msi_table.specs.Cells.{cell_in, cell_bytes, width, widths, row_count, cell_at, rows_in, column_bytes, table_bytes}
 use Rattle.msi_table_values.specs.Fitting.{cell_of, FitsRow, FitsTable}
 use Rattle.msi_table_values.proofs.FittingLemmas.{fits_at, fits_length}
@@ -32,11 +33,6 @@ place_after n w ws m = omega (arith, ap (λ s. n * s) (sum_by-cons (λ (x : ℕ)
 
 if_few : {X : Type 0} (n : ℕ) (o : Option X) → n ≤ 65536 → (if nat_le n 65536 then o else None) ≡ o
 if_few n o h = grind (arith, nat_tests)
-
-pub all_at : {X : Type 0} (P : X → Type 0) (xs : List X) (i : ℕ) (d : X) → AllByRecursion P xs → i < length xs → P (slice_index_or xs i d)
-all_at P [] i d h l = absurd (omega arith)
-all_at P (x ∷ xs) zero d h l = h.0
-all_at P (x ∷ xs) (suc i) d h l = all_at P xs i d h.1 (omega arith)
 
 -- a list is its elements by their indices
 pub is_tabulated : {X : Type 0} (f : ℕ → X) (xs : List X) (n : ℕ) (d : X) → length xs ≡ n → ((k : ℕ) → k < n → slice_index_or xs k d ≡ f k) → xs ≡ tabulated n f

@@ -20,7 +20,7 @@ use Rattle.msi_table.specs.Rows.{AreAsWide}
 use Rattle.msi_table.specs.Tables.{ReadRowsFit}
 use Rattle.msi_table_values.proofs.FittingLemmas.{fits_by_cells}
 use Rattle.msi_table_values.proofs.ColumnTypesLemmas.{length-types_of}
-use Rattle.msi_table.proofs.ReadBackLemmas.{all_at}
+use Rattle.msi_table_order.proofs.SortedRowsLemmas.{all_at}
 
 pub length-tabulated : {X : Type 0} (n : ℕ) (f : ℕ → X) → length (tabulated n f) ≡ n
 length-tabulated n f = lists.length-map (numbers_from 0 n) f ∙ length-numbers_from 0 n

@@ -1,10 +1,7 @@
 -- The words of this crate.
 pub mod Cells
-pub mod StoredOrder
-pub mod KeyOrder
 pub mod Tables
 pub mod Rows
-pub mod SortedRows
 pub mod Utf8Rows
 pub mod Census
 -- The words of the crates below, which public clauses cite.

@@ -5,7 +5,7 @@ use Rattle.msi_table.specs.Cells.{rows_in, table_bytes}
 use Rattle.msi_table_values.specs.Columns.{ColumnDef, greatest_16, types_of}
 use Rattle.msi_table_values.specs.Fitting.{FitsTable}
 use Rattle.msi_table.specs.Rows.{AreAsWide}
-use Rattle.msi_table.specs.StoredOrder.{in_stored_order}
+use Rattle.msi_table_order.specs.StoredOrder.{in_stored_order}
 
 -- a table: its references to texts are long where those of the pool are
 pub record TableDef : Type 0 where

@@ -4,7 +4,6 @@
 mod cells;
 mod census;
 pub mod laws;
-mod order;
 pub mod parts;
 mod reasons;
 pub mod row;

@@ -9,13 +9,13 @@ ghost use Rattle.msi_table_values.specs.Columns.{has_column as has_one, types_of
 ghost use Rattle.msi_table.specs.Cells.{table_bytes};
 ghost use Rattle.msi_table.specs.Tables.{CanStore, long_table_of, rows_spelled, stored_bytes, table_of};
 ghost use Rattle.msi_table.specs.Rows.{AreAsWide, value_named as value_in_row};
-ghost use Rattle.msi_table.specs.StoredOrder.{in_stored_order};
+ghost use Rattle.msi_table_order.specs.StoredOrder.{in_stored_order};
 
 pub use crate::census::Census;
-pub use crate::order::sort_by_keys;
 use crate::row::{Row, Rows, values_of};
 use crate::table::Table;
 use crate::{rows as reading, writing};
+pub use msi_table_order::order::sort_by_keys;
 use msi_table_values::column::Column;
 use msi_table_values::parts as columns_and_values;
 pub use msi_table_values::parts::{

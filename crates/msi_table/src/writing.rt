@@ -6,11 +6,11 @@ ghost use Rattle.msi_text_base.specs.Results.{OnlyMemory};
 ghost use Rattle.msi_table.specs.Cells.{cell_bytes, table_bytes, rows_in, stored_number};
 ghost use Rattle.msi_table_values.specs.Fitting.{cell_of, FitsColumn, FitsTable};
 ghost use Rattle.msi_table_values.specs.Columns.{types_of};
-ghost use Rattle.msi_table.specs.StoredOrder.{in_stored_order};
+ghost use Rattle.msi_table_order.specs.StoredOrder.{in_stored_order};
 ghost use Rattle.msi_table.specs.Tables.{stored_bytes};
 
 use crate::cells::width;
-use crate::order::sort_rows;
+use msi_table_order::order::sort_rows;
 use msi_table_values::column::{Column, ColumnType};
 use msi_table_values::value::ValueRef;
 use msi_text::errors::Error;

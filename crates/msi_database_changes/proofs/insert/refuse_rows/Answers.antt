@@ -8,7 +8,7 @@ use Rattle.msi_table_values.specs.declared.value.ValueRef.{ValueRef}
 use Rattle.msi_table_values.specs.Columns.{ColumnDef}
 use Rattle.msi_text.proofs.RefusalLemmas.{err_passed}
 use Rattle.msi_database_changes.specs.Insert.{keys_of, row_fits, row_refusals, table_with}
-use Rattle.msi_table.specs.KeyOrder.{key_of}
+use Rattle.msi_table_order.specs.KeyOrder.{key_of}
 use Rattle.msi_database_cells.specs.KeySets.{clash_refusals}
 use Rattle.msi_database_changes.proofs.InsertingLemmas.{length_refusals, too_long, short_enough, refused_in_front, passed, refused_behind, none_refuses}
 use Rattle.msi_database_changes.proofs.RefusedLemmas.{refused_between}

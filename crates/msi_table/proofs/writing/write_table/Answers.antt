@@ -9,7 +9,8 @@ use Rattle.msi_table_values.specs.Columns.{ColumnDef, types_of}
 use Rattle.msi_table_values.specs.Fitting.{FitsRow}
 use Rattle.msi_table_values.proofs.ColumnTypesLemmas.{below_types, length-types_of, type_at}
 use Rattle.msi_table_values.proofs.FittingLemmas.{fits_at}
-use Rattle.msi_table.proofs.ReadBackLemmas.{all_at, column_written, rows_in-table_bytes}
+use Rattle.msi_table.proofs.ReadBackLemmas.{column_written, rows_in-table_bytes}
+use Rattle.msi_table_order.proofs.SortedRowsLemmas.{all_at}
 use Rattle.msi_table.proofs.writing.write_table.Goals as goal
 
 pub write_column-requires : goal.write_column-requires

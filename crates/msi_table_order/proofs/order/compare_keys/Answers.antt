@@ -4,8 +4,8 @@ use Rattle.std.specs.Option.{option_cmp}
 use Rattle.std.specs.List.{slice_get}
 use Rattle.msi_table_values.specs.CellValues.{value_of_cell, row_values}
 use Rattle.msi_table_values.specs.Values.{value_cmp}
-use Rattle.msi_table.proofs.RowOrderLemmas.{skipped, decided_here, decided_later, is_key, values_at}
-use Rattle.msi_table.proofs.order.compare_keys.Goals as goal
+use Rattle.msi_table_order.proofs.RowOrderLemmas.{skipped, decided_here, decided_later, is_key, values_at}
+use Rattle.msi_table_order.proofs.order.compare_keys.Goals as goal
 
 pub loop-i-preserved-then-not-is_primary_key : goal.loop-i-preserved-then-not-is_primary_key
 loop-i-preserved-then-not-is_primary_key c =

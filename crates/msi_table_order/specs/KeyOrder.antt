@@ -9,7 +9,7 @@ use Rattle.msi_table_values.specs.declared.value.ValueRef.{ValueRef}
 use Rattle.msi_table_values.specs.declared.value.Value.{Value}
 use Rattle.msi_table_values.specs.Values.{value_cmp}
 use Rattle.msi_table_values.specs.Columns.{ColumnDef}
-use Rattle.msi_table.specs.StoredOrder.{parts_where}
+use Rattle.msi_table_order.specs.StoredOrder.{parts_where}
 use Rattle.msi_table_values.specs.CellValues.{row_values}
 
 -- the values of a row's key columns

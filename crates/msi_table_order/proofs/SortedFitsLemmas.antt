@@ -3,10 +3,10 @@ use Rattle.std.proofs.Common.{List, arith}
 use Rattle.msi_table_values.specs.declared.column.ColumnType.{ColumnType}
 use Rattle.msi_table_values.specs.declared.value.ValueRef.{ValueRef}
 use Rattle.msi_table_values.specs.Columns.{ColumnDef}
-use Rattle.msi_table.specs.StoredOrder.{row_cmp, in_stored_order}
+use Rattle.msi_table_order.specs.StoredOrder.{row_cmp, in_stored_order}
 use Rattle.msi_table_values.specs.Fitting.{FitsRow, FitsTable}
-use Rattle.msi_table.proofs.RowOrderLemmas.{row_cmp-weak}
-use Rattle.msi_table.proofs.StableSortLemmas.{all_sorted, length_sorted}
+use Rattle.msi_table_order.proofs.RowOrderLemmas.{row_cmp-weak}
+use Rattle.msi_table_order.proofs.StableSortLemmas.{all_sorted, length_sorted}
 use Rattle.std.proofs.Common.{Bool}
 
 pub sorted_fits : (columns : List ColumnDef) (long : Bool) (types : List ColumnType) (rows : List (List ValueRef)) → FitsTable long types rows → FitsTable long types (in_stored_order columns rows)

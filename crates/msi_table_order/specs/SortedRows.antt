@@ -10,8 +10,8 @@ use Rattle.msi_table_values.specs.declared.value.ValueRef.{ValueRef}
 use Rattle.msi_table_values.specs.Fitting.{cell_of, FitsRow}
 use Rattle.msi_table_values.specs.CellValues.{value_of_cell}
 use Rattle.msi_table_values.specs.Columns.{ColumnDef, types_of, is_of_category_binary}
-use Rattle.msi_table.specs.KeyOrder.{in_key_order, key_cmp}
-use Rattle.msi_table.specs.StoredOrder.{in_stored_order, row_cmp}
+use Rattle.msi_table_order.specs.KeyOrder.{in_key_order, key_cmp}
+use Rattle.msi_table_order.specs.StoredOrder.{in_stored_order, row_cmp}
 use Rattle.msi_table_values.specs.Values.{value_cmp}
 
 -- the same elements, none less than the one before it, and those that tie as they stood

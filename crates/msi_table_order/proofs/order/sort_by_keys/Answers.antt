@@ -2,10 +2,10 @@ use Rattle.std.proofs.Common.{◌≡◌, rules, ap}
 use Rattle.std.proofs.lemmas.Fn.{always_returns_same}
 use Rattle.std.proofs.lemmas.Result.{IfOk-at_ok}
 use Rattle.std.specs.Ordering.{is_lt}
-use Rattle.msi_table.specs.KeyOrder.{key_cmp, in_key_order}
-use Rattle.msi_table.proofs.RowOrderLemmas.{key_cmp-weak}
-use Rattle.msi_table.proofs.StableSortLemmas.{sorted_by_closure}
-use Rattle.msi_table.proofs.order.sort_by_keys.Goals as goal
+use Rattle.msi_table_order.specs.KeyOrder.{key_cmp, in_key_order}
+use Rattle.msi_table_order.proofs.RowOrderLemmas.{key_cmp-weak}
+use Rattle.msi_table_order.proofs.StableSortLemmas.{sorted_by_closure}
+use Rattle.msi_table_order.proofs.order.sort_by_keys.Goals as goal
 
 pub returns-clause-ok : goal.returns-clause-ok
 returns-clause-ok c =

@@ -1,5 +1,5 @@
 -- The orders of rows: each is the one stable sort, and a first column of numbers ascends.
-use Rattle.std.proofs.Common.{◌≡◌, ℕ, ◌+◌, Bool, false, List, [], ◌∷◌, refl, sym, ap, ◌∙◌, arith, Ordering, ⊎_elim}
+use Rattle.std.proofs.Common.{◌≡◌, ℕ, ◌+◌, ◌<◌, zero, suc, length, Bool, false, List, [], ◌∷◌, refl, sym, ap, ◌∙◌, arith, Ordering, ⊎_elim}
 use Rattle.std.specs.Prelude.{slice_index_or, ⊤}
 use Rattle.std.specs.List.{AllByRecursion}
 use Rattle.std.specs.List.Sorted.{IsSortedByKey}
@@ -13,14 +13,18 @@ use Rattle.msi_table_values.specs.declared.value.ValueRef.TheVariants as cell
 use Rattle.msi_table_values.specs.Fitting.{cell_of, FitsColumn, FitsRow}
 use Rattle.msi_table_values.specs.CellValues.{value_of_cell}
 use Rattle.msi_table_values.specs.Columns.{ColumnDef, types_of, is_of_category_binary}
-use Rattle.msi_table.specs.KeyOrder.{key_cmp}
-use Rattle.msi_table.specs.SortedRows.{HoldsNumbers, LeadingNumbersAscend, RowsAreSortedByKeys, StoredRowsAreSorted}
+use Rattle.msi_table_order.specs.KeyOrder.{key_cmp}
+use Rattle.msi_table_order.specs.SortedRows.{HoldsNumbers, LeadingNumbersAscend, RowsAreSortedByKeys, StoredRowsAreSorted}
 use Rattle.msi_table_values.specs.CellOrder.{cell_cmp}
-use Rattle.msi_table.specs.StoredOrder.{in_stored_order, ordering_cells, row_cmp}
+use Rattle.msi_table_order.specs.StoredOrder.{in_stored_order, ordering_cells, row_cmp}
 use Rattle.msi_table_values.specs.Values.{value_cmp}
-use Rattle.msi_table.proofs.ReadBackLemmas.{all_at}
-use Rattle.msi_table.proofs.RowOrderLemmas.{row_cmp-weak, key_cmp-weak}
-use Rattle.msi_table.proofs.StableSortLemmas.{all_sorted, only_stable_sort}
+use Rattle.msi_table_order.proofs.RowOrderLemmas.{row_cmp-weak, key_cmp-weak}
+use Rattle.msi_table_order.proofs.StableSortLemmas.{all_sorted, only_stable_sort}
+
+pub all_at : {X : Type 0} (P : X → Type 0) (xs : List X) (i : ℕ) (d : X) → AllByRecursion P xs → i < length xs → P (slice_index_or xs i d)
+all_at P [] i d h l = absurd (omega arith)
+all_at P (x ∷ xs) zero d h l = h.0
+all_at P (x ∷ xs) (suc i) d h l = all_at P xs i d h.1 (omega arith)
 
 pub stored_sorted : StoredRowsAreSorted
 stored_sorted columns rows sorted = only_stable_sort (row_cmp columns) (row_cmp-weak columns) rows sorted

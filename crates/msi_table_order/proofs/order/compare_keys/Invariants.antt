@@ -1,7 +1,7 @@
 use Rattle.std.proofs.Common.{◌≡◌}
-use Rattle.msi_table.specs.KeyOrder.{key_cmp}
-use Rattle.msi_table.proofs.RowOrderLemmas.{keys_from}
-use Rattle.msi_table.proofs.order.compare_keys.Given as goal
+use Rattle.msi_table_order.specs.KeyOrder.{key_cmp}
+use Rattle.msi_table_order.proofs.RowOrderLemmas.{keys_from}
+use Rattle.msi_table_order.proofs.order.compare_keys.Given as goal
 
 abbrev pub invariant-loop-i : goal.invariant-loop-i
 invariant-loop-i l = record {

@@ -3,8 +3,8 @@ use Rattle.std.specs.Prelude.{not}
 use Rattle.std.specs.Option.{option_cmp}
 use Rattle.std.specs.List.{slice_get}
 use Rattle.msi_table_values.specs.CellOrder.{cell_cmp}
-use Rattle.msi_table.proofs.RowOrderLemmas.{skipped, decided_here, decided_later, orders_rows}
-use Rattle.msi_table.proofs.order.compare_rows.Goals as goal
+use Rattle.msi_table_order.proofs.RowOrderLemmas.{skipped, decided_here, decided_later, orders_rows}
+use Rattle.msi_table_order.proofs.order.compare_rows.Goals as goal
 
 pub loop-i-preserved-then-is_of_category_binary : goal.loop-i-preserved-then-is_of_category_binary
 loop-i-preserved-then-is_of_category_binary c = record {

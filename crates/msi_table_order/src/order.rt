@@ -1,12 +1,12 @@
-//! The orders of rows: the one in which a table stores them, and the one of their keys.
+//! Sorts rows: into the order in which a table stores them, and into that of their keys.
 
 ghost use Rattle.std.specs.Prelude.{◌≡◌, OnOk, OnErr, option_map};
 ghost use Rattle.std.specs.List.{slice_get};
 ghost use Rattle.std.specs.Option.{option_cmp};
 ghost use Rattle.msi_text_base.specs.Results.{OnlyMemory};
 ghost use Rattle.msi_table_values.specs.CellValues.{value_of_cell};
-ghost use Rattle.msi_table.specs.KeyOrder.{key_cmp, in_key_order};
-ghost use Rattle.msi_table.specs.StoredOrder.{row_cmp, in_stored_order};
+ghost use Rattle.msi_table_order.specs.KeyOrder.{key_cmp, in_key_order};
+ghost use Rattle.msi_table_order.specs.StoredOrder.{row_cmp, in_stored_order};
 ghost use Rattle.msi_table_values.specs.Values.{value_cmp};
 
 use msi_table_values::column::Column;
@@ -42,11 +42,11 @@ fn compare_rows(columns: &[Column], row: &[ValueRef], other: &[ValueRef]) -> Ord
     Ordering::Equal
 }
 
-/// Puts rows into their stored order.
-pub(crate) fn sort_rows(
-    columns: &[Column],
-    rows: &mut Vec<Items<ValueRef>>,
-) -> Result<(), AllocError>
+/// Puts rows into their stored order; rows that tie stay in their order. If it fails, they are as before.
+///
+/// # Errors
+/// Fails if memory runs out.
+pub fn sort_rows(columns: &[Column], rows: &mut Vec<Items<ValueRef>>) -> Result<(), AllocError>
     ensures ok { OnOk result (rows.new.items ≡ in_stored_order columns.now rows.old.items) }
     ensures err { OnErr result (rows.new.items ≡ rows.old.items) }
 {

@@ -1,7 +1,7 @@
 use Rattle.std.proofs.Common.{◌≡◌}
-use Rattle.msi_table.specs.StoredOrder.{row_cmp}
-use Rattle.msi_table.proofs.RowOrderLemmas.{stored_from}
-use Rattle.msi_table.proofs.order.compare_rows.Given as goal
+use Rattle.msi_table_order.specs.StoredOrder.{row_cmp}
+use Rattle.msi_table_order.proofs.RowOrderLemmas.{stored_from}
+use Rattle.msi_table_order.proofs.order.compare_rows.Given as goal
 
 abbrev pub invariant-loop-i : goal.invariant-loop-i
 invariant-loop-i l = record {

@@ -11,7 +11,7 @@ use Rattle.std.proofs.lemmas.List.Sorted.{sorted_far, IsPermutation-refl, IsPerm
 use Rattle.msi_text_base.specs.Lists.{placed, stable_sort}
 use Rattle.msi_text_base.proofs.BoolLemmas.{by_test, yes_is_no}
 use Rattle.msi_text_base.proofs.ListLemmas.{same_head, same_tail, filter_yes, filter_no, filter_same, all_weaker, all_from_places}
-use Rattle.msi_table.specs.SortedRows.{IsStableSort}
+use Rattle.msi_table_order.specs.SortedRows.{IsStableSort}
 
 no_cons : {X P : Type 0} (x : X) (xs : List X) → [] ≡ x ∷ xs → P
 no_cons x xs e = cc

@@ -16,9 +16,9 @@ use Rattle.msi_table_values.specs.OrderLaws.{cell_cmp-total, value_cmp-total}
 use Rattle.msi_table_values.specs.declared.value.ValueRef.{ValueRef}
 use Rattle.msi_table_values.specs.CellValues.{value_of_cell, row_values}
 use Rattle.msi_table_values.specs.Values.{value_cmp}
-use Rattle.msi_table.specs.StoredOrder.{parts_where, ordering_cells, row_cmp}
+use Rattle.msi_table_order.specs.StoredOrder.{parts_where, ordering_cells, row_cmp}
 use Rattle.msi_table_values.specs.CellOrder.{cell_cmp}
-use Rattle.msi_table.specs.KeyOrder.{key_of, key_cmp}
+use Rattle.msi_table_order.specs.KeyOrder.{key_of, key_cmp}
 
 -- both orders compare the parts of rows as lists
 pub row_cmp-weak : (columns : List ColumnDef) → IsStrictWeakOrder (λ x y. is_lt (row_cmp columns x y))

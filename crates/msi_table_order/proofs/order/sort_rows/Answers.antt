@@ -1,10 +1,10 @@
 use Rattle.std.proofs.Common.{◌≡◌, rules, ap}
 use Rattle.std.proofs.lemmas.Fn.{always_returns_same}
 use Rattle.std.specs.Ordering.{is_lt}
-use Rattle.msi_table.specs.StoredOrder.{row_cmp}
-use Rattle.msi_table.proofs.RowOrderLemmas.{row_cmp-weak}
-use Rattle.msi_table.proofs.StableSortLemmas.{sorted_by_closure}
-use Rattle.msi_table.proofs.order.sort_rows.Goals as goal
+use Rattle.msi_table_order.specs.StoredOrder.{row_cmp}
+use Rattle.msi_table_order.proofs.RowOrderLemmas.{row_cmp-weak}
+use Rattle.msi_table_order.proofs.StableSortLemmas.{sorted_by_closure}
+use Rattle.msi_table_order.proofs.order.sort_rows.Goals as goal
 
 pub returns-clause-ok : goal.returns-clause-ok
 returns-clause-ok c = sorted_by_closure _ _ (row_cmp c.args.columns.now) (row_cmp-weak c.args.columns.now)

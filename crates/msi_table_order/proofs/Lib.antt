@@ -1,0 +1,5 @@
+-- The lemmas of this crate.
+pub mod StableSortLemmas
+pub mod RowOrderLemmas
+pub mod SortedFitsLemmas
+pub mod SortedRowsLemmas

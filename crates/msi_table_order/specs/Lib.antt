@@ -1,0 +1,4 @@
+-- The words of this crate.
+pub mod StoredOrder
+pub mod KeyOrder
+pub mod SortedRows
