@@ -5,7 +5,7 @@ use std::{fmt, io};
 
 /// An error of the package, of the text of a query, or of the CSV writer.
 #[derive(Debug, Drop)]
-pub(crate) enum Failure {
+pub enum Failure {
     Package(msi::Error),
     Query(msi::ParseError),
     Csv(csv::Error),

@@ -8,7 +8,10 @@ use std::alloc::Global;
 use std::io::{self, Read, Write};
 
 /// Does the tasks in turn.
-pub(crate) fn follow(rt: &(impl Print + AllocGlobal)) -> Result<(), Error> {
+///
+/// # Errors
+/// Fails if memory runs out, or if standard output can't be written.
+pub fn follow(rt: &(impl Print + AllocGlobal)) -> Result<(), Error> {
     let file = fill_package(rt)?;
     open_and_handle_errors(rt, file)?;
     open_and_handle_errors(rt, b"Dear reader".to_vec(rt.alloc())?)

@@ -7,6 +7,7 @@ use msi_container_device::{Buffered, Metered};
 use msi_text::Error;
 use std::alloc::Global;
 use std::io::{self, Cursor, Seek, SeekFrom};
+use std::process::Abort;
 
 /// Reads of memory end at its end.
 const READS: [Step; 8] = [
@@ -44,10 +45,10 @@ fn memory_goes(alloc: Global, row: &InMemory) -> Result<bool, Error> {
     Ok(count == steps.len() && memory.into_vec().as_slice() == *held)
 }
 
-#[test]
-fn memory_is_read_to_its_end_and_written_past_it(rt: HostRuntime) {
+/// Checks that memory is read to its end, and written past it.
+pub(crate) fn memory_is_read_to_its_end_and_written_past_it(rt: &HostRuntime, abort: &impl Abort) {
     for row in &IN_MEMORY {
-        assert!(rt; memory_goes(rt.alloc(), row).expect(&rt, "a device"));
+        assert!(abort; memory_goes(rt.alloc(), row).expect(abort, "a device"));
     }
 }
 
@@ -142,11 +143,14 @@ fn metered_goes(alloc: Global, row: &OverFile) -> Result<bool, Error> {
     Ok(count == steps.len() && file.bytes.get_ref().as_slice() == *held)
 }
 
-#[test]
-fn files_are_written_and_read_and_faults_raise_the_flag(rt: HostRuntime) {
+/// Checks that files are written and read, and that errors raise the flag.
+pub(crate) fn files_are_written_and_read_and_faults_raise_the_flag(
+    rt: &HostRuntime,
+    abort: &impl Abort,
+) {
     for row in &METERED {
-        let is_so = metered_goes(rt.alloc(), row).expect(&rt, "a device");
-        assert!(rt; is_so, "stubborn: {}", row.0);
+        let is_so = metered_goes(rt.alloc(), row).expect(abort, "a device");
+        assert!(abort; is_so, "stubborn: {}", row.0);
     }
 }
 
@@ -176,7 +180,7 @@ fn are_collected(alloc: Global) -> Result<bool, Error> {
     }
 }
 
-#[test]
-fn pieces_are_collected_and_read_back(rt: HostRuntime) {
-    assert!(rt; are_collected(rt.alloc()).expect(&rt, "a device"));
+/// Checks that pieces are collected, and read back.
+pub(crate) fn pieces_are_collected_and_read_back(rt: &HostRuntime, abort: &impl Abort) {
+    assert!(abort; are_collected(rt.alloc()).expect(abort, "a device"));
 }

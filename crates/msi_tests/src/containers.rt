@@ -19,14 +19,14 @@ static WRAPPED: [(&'static str, usize, u64, &'static str); 4] = [
     ("App.exe", 4095, 6144, "App.exe\tstream\t4095\n"),
 ];
 
-#[test]
-fn streams_are_wrapped_and_listed(rt: HostRuntime) {
-    let path = path(&rt, "wrapped").expect(&rt, "a path");
+/// Checks that `wrap` makes files of the right size, and that `raw` lists their stream.
+pub(crate) fn streams_are_wrapped_and_listed(rt: &HostRuntime, abort: &impl Abort) {
+    let path = path(rt, "wrapped").expect(abort, "a path");
     for row in &WRAPPED {
         let all = ["wrap", "FILE", row.0];
-        check(&rt, &all, wraps(&rt, &all, path.as_str(), row.1, row.2));
+        check(abort, &all, wraps(rt, &all, path.as_str(), row.1, row.2));
         let raw = ["raw", "FILE"];
-        check(&rt, &raw, shows(&rt, &raw, path.as_str(), row.3));
+        check(abort, &raw, shows(rt, &raw, path.as_str(), row.3));
     }
-    fs::remove_file(&rt, path.as_str()).expect(&rt, "a file");
+    fs::remove_file(rt, path.as_str()).expect(abort, "a file");
 }

@@ -2,8 +2,8 @@
 
 use crate::readme::file;
 use msi::{Error, ErrorKind};
-use std::test::Fail;
-use std::{env, fs, process};
+use std::process::{self, Abort};
+use std::{env, fs, io};
 
 /// What stands at a path before it is opened.
 #[derive(Clone, Copy, Debug)]
@@ -22,20 +22,22 @@ const OPENED: [(Given, Option<ErrorKind>); 4] = [
 ];
 
 /// A path that no other test uses, where nothing stands yet.
-fn path(rt: &HostRuntime) -> Result<String, Fail> {
+fn path(rt: &HostRuntime) -> io::Result<String> {
     let folder = env::temp_dir(rt)?;
     let id = process::id(rt.process());
     Ok(format!(in rt.alloc(); "{}/msi-{id}-files", folder.as_path().display())?)
 }
 
 /// Puts what is given at a path.
-fn put(rt: &HostRuntime, path: &str, given: Given) -> Result<(), Fail> {
+fn put(rt: &HostRuntime, abort: &impl Abort, path: &str, given: Given) {
     match given {
         Given::Nothing => {}
-        Given::Text(text) => fs::write(rt, path, text)?,
-        Given::Package => fs::write(rt, path, file(rt.alloc())?)?,
+        Given::Text(text) => fs::write(rt, path, text).expect(abort, "a file"),
+        Given::Package => {
+            let package = file(rt.alloc()).expect(abort, "a package");
+            fs::write(rt, path, package).expect(abort, "a file");
+        }
     }
-    Ok(())
 }
 
 /// Why a package isn't opened. One that is opened is dropped.
@@ -56,14 +58,13 @@ fn is_left_alone(rt: &HostRuntime, path: &str, kind: Option<ErrorKind>) -> bool 
     read == kind && changed == kind && before.as_deref() == after.as_deref()
 }
 
-#[test]
-fn opening_leaves_the_file_as_it_was(rt: HostRuntime) -> Result<(), Fail> {
-    let path = path(&rt)?;
+/// Checks what opening takes and refuses, and that it leaves the file as it was.
+pub(crate) fn opening_leaves_the_file_as_it_was(rt: &HostRuntime, abort: &impl Abort) {
+    let path = path(rt).expect(abort, "a path");
     for (given, kind) in &OPENED {
-        put(&rt, path.as_str(), *given)?;
-        let left = is_left_alone(&rt, path.as_str(), *kind);
-        assert!(rt; left, "{given:?}");
-        let _ = fs::remove_file(&rt, path.as_str());
+        put(rt, abort, path.as_str(), *given);
+        let left = is_left_alone(rt, path.as_str(), *kind);
+        assert!(abort; left, "{given:?}");
+        let _ = fs::remove_file(rt, path.as_str());
     }
-    Ok(())
 }

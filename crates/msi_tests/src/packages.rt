@@ -34,13 +34,16 @@ const COLUMNS: &str = "Table\tNumber\tName\tType
 \"_Validation\"\t10\t\"Description\"\t7679
 ";
 
-#[test]
-fn a_new_package_has_its_system_tables_and_a_title(rt: HostRuntime) {
-    let path = path(&rt, "new").expect(&rt, "a path");
+/// Checks that a new package has its system tables and a title.
+pub(crate) fn a_new_package_has_its_system_tables_and_a_title(
+    rt: &HostRuntime,
+    abort: &impl Abort,
+) {
+    let path = path(rt, "new").expect(abort, "a path");
     for row in &NEW {
-        check(&rt, row.0, shows(&rt, row.0, path.as_str(), row.1));
+        check(abort, row.0, shows(rt, row.0, path.as_str(), row.1));
     }
-    fs::remove_file(&rt, path.as_str()).expect(&rt, "a file");
+    fs::remove_file(rt, path.as_str()).expect(abort, "a file");
 }
 
 /// Whether this input, put as a stream, is the only one listed and comes back.
@@ -53,17 +56,17 @@ fn stores(rt: &HostRuntime, path: &str, input: &str) -> io::Result<bool> {
     )
 }
 
-#[test]
-fn what_is_put_is_listed_and_comes_back(rt: HostRuntime) {
-    let path = path(&rt, "put").expect(&rt, "a path");
+/// Checks that what is put is listed, and comes back.
+pub(crate) fn what_is_put_is_listed_and_comes_back(rt: &HostRuntime, abort: &impl Abort) {
+    let path = path(rt, "put").expect(abort, "a path");
     let new = ["new", "FILE"];
-    check(&rt, &new, shows(&rt, &new, path.as_str(), ""));
-    let input = "\n\"\tZ".repeat(rt.alloc(), 25_000).expect(&rt, "memory");
+    check(abort, &new, shows(rt, &new, path.as_str(), ""));
+    let input = "\n\"\tZ".repeat(rt.alloc(), 25_000).expect(abort, "memory");
     for input in [input.as_str(), "less", "", "more than before"] {
-        let found = stores(&rt, path.as_str(), input);
-        check(&rt, &[input.get(..16).unwrap_or(input)], found);
+        let found = stores(rt, path.as_str(), input);
+        check(abort, &[input.get(..16).unwrap_or(input)], found);
     }
-    fs::remove_file(&rt, path.as_str()).expect(&rt, "a file");
+    fs::remove_file(rt, path.as_str()).expect(abort, "a file");
 }
 
 /// Whether a stream is put where another file takes the place of the package while standard input is read.
@@ -76,12 +79,15 @@ fn puts_moved(rt: &HostRuntime, path: &str, moved: &str) -> io::Result<bool> {
     )
 }
 
-#[test]
-fn the_file_is_closed_while_standard_input_is_read(rt: HostRuntime) {
-    let closed = path(&rt, "closed").expect(&rt, "a path");
-    let moved = path(&rt, "moved").expect(&rt, "a path");
-    check(&rt, &[], puts_moved(&rt, closed.as_str(), moved.as_str()));
-    fs::remove_file(&rt, closed.as_str()).expect(&rt, "a file");
+/// Checks that the file is closed while standard input is read.
+pub(crate) fn the_file_is_closed_while_standard_input_is_read(
+    rt: &HostRuntime,
+    abort: &impl Abort,
+) {
+    let closed = path(rt, "closed").expect(abort, "a path");
+    let moved = path(rt, "moved").expect(abort, "a path");
+    check(abort, &[], puts_moved(rt, closed.as_str(), moved.as_str()));
+    fs::remove_file(rt, closed.as_str()).expect(abort, "a file");
 }
 
 /// How the pool's stream begins in a new package: the texts are UTF-8, and 21 cells refer to the first, of 11 bytes.
@@ -110,12 +116,12 @@ fn recounts(rt: &HostRuntime, path: &str) -> io::Result<bool> {
     Ok(uncount(rt, path)? && shows(rt, &recount, path, "1\n")? && shows(rt, &recount, path, "0\n")?)
 }
 
-#[test]
-fn a_recount_prints_how_many_counts_were_wrong(rt: HostRuntime) {
-    let path = path(&rt, "recount").expect(&rt, "a path");
+/// Checks that a recount prints how many counts were wrong.
+pub(crate) fn a_recount_prints_how_many_counts_were_wrong(rt: &HostRuntime, abort: &impl Abort) {
+    let path = path(rt, "recount").expect(abort, "a path");
     let new = ["new", "FILE"];
-    check(&rt, &new, shows(&rt, &new, path.as_str(), ""));
-    check(&rt, &["recount"], recounts(&rt, path.as_str()));
-    check(&rt, &["put"], stores(&rt, path.as_str(), "bytes"));
-    fs::remove_file(&rt, path.as_str()).expect(&rt, "a file");
+    check(abort, &new, shows(rt, &new, path.as_str(), ""));
+    check(abort, &["recount"], recounts(rt, path.as_str()));
+    check(abort, &["put"], stores(rt, path.as_str(), "bytes"));
+    fs::remove_file(rt, path.as_str()).expect(abort, "a file");
 }

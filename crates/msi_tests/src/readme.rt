@@ -21,17 +21,17 @@ pub(crate) fn file(alloc: Global) -> Result<Vec<u8>, Error> {
     numbers(alloc)
 }
 
-#[test]
-fn the_example_makes_a_package_with_a_row(rt: HostRuntime) {
+/// Checks that the example makes a package with a row.
+pub(crate) fn the_example_makes_a_package_with_a_row(rt: &HostRuntime, abort: &impl Abort) {
     let alloc = rt.alloc();
     let package = Package::open(
         alloc,
-        Memory::from_vec(numbers(alloc).expect(&rt, "no error")),
+        Memory::from_vec(numbers(alloc).expect(abort, "no error")),
     )
-    .expect(&rt, "no error");
+    .expect(abort, "no error");
     let count = package
-        .select_rows(Select::table(alloc, "Numbers").expect(&rt, "no error"))
-        .expect(&rt, "no error")
+        .select_rows(Select::table(alloc, "Numbers").expect(abort, "no error"))
+        .expect(abort, "no error")
         .count();
-    assert_eq!(rt; count, 1);
+    assert_eq!(abort; count, 1);
 }

@@ -50,14 +50,14 @@ static FAULTS: [(&'static [&'static str], &'static str); 33] = [
     (&["--help"], USAGE),
 ];
 
-#[test]
-fn faults_are_told_and_leave_the_file_as_it_was(rt: HostRuntime) {
-    let path = path(&rt, "faults").expect(&rt, "a path");
-    fs::write(&rt, path.as_str(), "as it was").expect(&rt, "a file");
+/// Checks that errors are reported and leave the file as it was.
+pub(crate) fn faults_are_told_and_leave_the_file_as_it_was(rt: &HostRuntime, abort: &impl Abort) {
+    let path = path(rt, "faults").expect(abort, "a path");
+    fs::write(rt, path.as_str(), "as it was").expect(abort, "a file");
     for row in &FAULTS {
-        check(&rt, row.0, refuses(&rt, row.0, path.as_str(), row.1));
+        check(abort, row.0, refuses(rt, row.0, path.as_str(), row.1));
     }
-    fs::remove_file(&rt, path.as_str()).expect(&rt, "a file");
+    fs::remove_file(rt, path.as_str()).expect(abort, "a file");
 }
 
 /// The words that make the file, those of a run, and its line of errors.
@@ -76,14 +76,17 @@ static REFUSED: [Refusal<'static>; 8] = [
     (&["new", "FILE"], &["put", "FILE", "a/b"], "InvalidInput"),
 ];
 
-#[test]
-fn what_a_package_refuses_leaves_the_file_as_it_was(rt: HostRuntime) {
-    let path = path(&rt, "refused").expect(&rt, "a path");
+/// Checks that what a package refuses leaves the file as it was.
+pub(crate) fn what_a_package_refuses_leaves_the_file_as_it_was(
+    rt: &HostRuntime,
+    abort: &impl Abort,
+) {
+    let path = path(rt, "refused").expect(abort, "a path");
     for row in &REFUSED {
-        check(&rt, row.0, shows(&rt, row.0, path.as_str(), ""));
-        check(&rt, row.1, refuses(&rt, row.1, path.as_str(), row.2));
+        check(abort, row.0, shows(rt, row.0, path.as_str(), ""));
+        check(abort, row.1, refuses(rt, row.1, path.as_str(), row.2));
     }
-    fs::remove_file(&rt, path.as_str()).expect(&rt, "a file");
+    fs::remove_file(rt, path.as_str()).expect(abort, "a file");
 }
 
 /// The fault that is told first where standard input and output fail.
@@ -110,18 +113,18 @@ static FIRST: [Refusal<'static>; 10] = [
     (&["new", "FILE"], &["summary", "FILE"], "Io"),
 ];
 
-#[test]
-fn the_first_fault_is_told(rt: HostRuntime) {
-    let path = path(&rt, "broken").expect(&rt, "a path");
+/// Checks that the first of several errors is reported.
+pub(crate) fn the_first_fault_is_told(rt: &HostRuntime, abort: &impl Abort) {
+    let path = path(rt, "broken").expect(abort, "a path");
     for row in &FIRST {
-        check(&rt, row.0, shows(&rt, row.0, path.as_str(), ""));
+        check(abort, row.0, shows(rt, row.0, path.as_str(), ""));
         check(
-            &rt,
+            abort,
             row.1,
-            ends_moving(&rt, row.1, path.as_str(), "", row.2),
+            ends_moving(rt, row.1, path.as_str(), "", row.2),
         );
     }
-    fs::remove_file(&rt, path.as_str()).expect(&rt, "a file");
+    fs::remove_file(rt, path.as_str()).expect(abort, "a file");
 }
 
 /// Commands that print.
@@ -133,16 +136,16 @@ static PRINTING: [&'static [&'static str]; 5] = [
     &["streams", "FILE"],
 ];
 
-#[test]
-fn output_that_cannot_be_flushed_is_an_error(rt: HostRuntime) {
-    let path = path(&rt, "unflushed").expect(&rt, "a path");
+/// Checks that output which can't be flushed is an error.
+pub(crate) fn output_that_cannot_be_flushed_is_an_error(rt: &HostRuntime, abort: &impl Abort) {
+    let path = path(rt, "unflushed").expect(abort, "a path");
     check(
-        &rt,
+        abort,
         &["new"],
-        shows(&rt, &["new", "FILE"], path.as_str(), ""),
+        shows(rt, &["new", "FILE"], path.as_str(), ""),
     );
     for words in &PRINTING {
-        check(&rt, words, ends_unflushed(&rt, words, path.as_str(), "Io"));
+        check(abort, words, ends_unflushed(rt, words, path.as_str(), "Io"));
     }
-    fs::remove_file(&rt, path.as_str()).expect(&rt, "a file");
+    fs::remove_file(rt, path.as_str()).expect(abort, "a file");
 }

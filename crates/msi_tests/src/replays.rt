@@ -92,12 +92,12 @@ fn on_opened(alloc: Global, bytes: Vec<u8>) -> Result<(bool, Vec<u8>), Error> {
     Ok(answered(replay_over(alloc, bytes, calls(alloc)?)?))
 }
 
-#[test]
-fn a_list_of_calls_is_answered(rt: HostRuntime) {
-    let (is_new, bytes) = on_new(rt.alloc()).expect(&rt, "no error");
-    assert!(rt; is_new);
+/// Checks the results of a list of calls.
+pub(crate) fn a_list_of_calls_is_answered(rt: &HostRuntime, abort: &impl Abort) {
+    let (is_new, bytes) = on_new(rt.alloc()).expect(abort, "no error");
+    assert!(abort; is_new);
     let len = bytes.len();
-    let (is_opened, again) = on_opened(rt.alloc(), bytes).expect(&rt, "no error");
-    assert!(rt; is_opened);
-    assert_eq!(rt; again.len(), len);
+    let (is_opened, again) = on_opened(rt.alloc(), bytes).expect(abort, "no error");
+    assert!(abort; is_opened);
+    assert_eq!(abort; again.len(), len);
 }

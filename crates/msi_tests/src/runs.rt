@@ -158,7 +158,7 @@ pub(crate) fn ends_unflushed(
 }
 
 /// Checks what was found of a run over these words.
-pub(crate) fn check(rt: &impl Abort, all: &[&str], found: io::Result<bool>) {
-    let is_so = found.expect(rt, "memory and files");
-    assert!(rt; is_so, "{all:?}");
+pub(crate) fn check(abort: &impl Abort, all: &[&str], found: io::Result<bool>) {
+    let is_so = found.expect(abort, "memory and files");
+    assert!(abort; is_so, "{all:?}");
 }

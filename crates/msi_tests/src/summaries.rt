@@ -80,12 +80,12 @@ fn file(alloc: Global) -> Result<Vec<u8>, Error> {
     Ok(package.into_reader().into_vec())
 }
 
-#[test]
-fn all_that_a_summary_tells_is_printed_in_order(rt: HostRuntime) {
-    let path = path(&rt, "summary").expect(&rt, "a path");
-    let file = file(rt.alloc()).expect(&rt, "a package");
-    fs::write(&rt, path.as_str(), file.as_slice()).expect(&rt, "a file");
+/// Checks that all that a summary has is printed in order.
+pub(crate) fn all_that_a_summary_tells_is_printed_in_order(rt: &HostRuntime, abort: &impl Abort) {
+    let path = path(rt, "summary").expect(abort, "a path");
+    let file = file(rt.alloc()).expect(abort, "a package");
+    fs::write(rt, path.as_str(), file.as_slice()).expect(abort, "a file");
     let summary = ["summary", "FILE"];
-    check(&rt, &summary, shows(&rt, &summary, path.as_str(), SUMMARY));
-    fs::remove_file(&rt, path.as_str()).expect(&rt, "a file");
+    check(abort, &summary, shows(rt, &summary, path.as_str(), SUMMARY));
+    fs::remove_file(rt, path.as_str()).expect(abort, "a file");
 }

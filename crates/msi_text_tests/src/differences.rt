@@ -27,16 +27,16 @@ fn found(alloc: Global, old: &[(i32, i32)], new: &[(i32, i32)]) -> Result<Vec<Di
     differences(alloc, columns.as_slice(), old.as_slice(), new.as_slice())
 }
 
-#[test]
-fn rows_are_paired_by_their_keys(rt: HostRuntime) {
+/// Checks that rows are paired by their keys.
+pub(crate) fn rows_are_paired_by_their_keys(rt: &HostRuntime, abort: &impl Abort) {
     let old = [(1, 10), (2, 20), (3, 30), (4, 40)];
     let new = [(4, 41), (1, 10), (5, 50), (3, 33)];
-    let found = found(rt.alloc(), &old, &new).expect(&rt, "no error");
+    let found = found(rt.alloc(), &old, &new).expect(abort, "no error");
     let wanted = [
         Difference::Removed(1),
         Difference::Changed(2, 3),
         Difference::Changed(3, 0),
         Difference::Added(2),
     ];
-    assert!(rt; found.as_slice() == wanted.as_slice());
+    assert!(abort; found.as_slice() == wanted.as_slice());
 }

@@ -3,6 +3,7 @@
 use msi_table_values::{ColumnType, Value};
 use msi_text_archive::{ArchiveError, read, write};
 use std::alloc::Global;
+use std::process::Abort;
 
 /// A column of each type that `CREATE TABLE` names.
 const TYPES: &'static str = "K\tN\tM\tS\tL\tO\tP\tE\tF\tG\tH\tLoc\r\n\
@@ -52,11 +53,11 @@ fn is_kept(
     )
 }
 
-#[test]
-fn exports_are_read_and_written_as_they_were(rt: HostRuntime) {
+/// Checks that exports are read, and written as they were.
+pub(crate) fn exports_are_read_and_written_as_they_were(rt: &HostRuntime, abort: &impl Abort) {
     for row in &EXPORTED {
-        assert!(rt;
-            is_kept(rt.alloc(), row).expect(&rt, "an archive"),
+        assert!(abort;
+            is_kept(rt.alloc(), row).expect(abort, "an archive"),
             "{}",
             row.2
         );
@@ -92,9 +93,9 @@ fn has_columns(alloc: Global, text: &str) -> Result<bool, ArchiveError> {
     )
 }
 
-#[test]
-fn types_are_those_of_the_columns(rt: HostRuntime) {
-    assert!(rt; has_columns(rt.alloc(), TYPES).expect(&rt, "an archive"));
+/// Checks that types are those of the columns.
+pub(crate) fn types_are_those_of_the_columns(rt: &HostRuntime, abort: &impl Abort) {
+    assert!(abort; has_columns(rt.alloc(), TYPES).expect(abort, "an archive"));
 }
 
 /// Texts; and the row, the column, and what stands there: a number, a text, or null where there is neither.
@@ -135,11 +136,11 @@ fn has_cell(
     })
 }
 
-#[test]
-fn values_are_those_that_were_stored(rt: HostRuntime) {
+/// Checks that values are those that were stored.
+pub(crate) fn values_are_those_that_were_stored(rt: &HostRuntime, abort: &impl Abort) {
     for row in &CELLS {
-        assert!(rt;
-            has_cell(rt.alloc(), row).expect(&rt, "an archive"),
+        assert!(abort;
+            has_cell(rt.alloc(), row).expect(abort, "an archive"),
             "{} {}",
             row.1,
             row.2

@@ -3,6 +3,7 @@
 use msi_text_base::Error;
 use msi_text_pages::Page;
 use std::alloc::Global;
+use std::process::Abort;
 
 /// The id of a page, bytes, and the text that they stand for and that is written as them.
 static WORKED: [(i32, &[u8], &str); 25] = [
@@ -56,11 +57,11 @@ fn is_worked(alloc: Global, row: &(i32, &[u8], &str)) -> Result<bool, Error> {
     Ok(read.as_str() == *text && written.as_slice() == *bytes)
 }
 
-#[test]
-fn texts_are_those_of_other_programs(rt: HostRuntime) {
+/// Checks that texts are those of other programs.
+pub(crate) fn texts_are_those_of_other_programs(rt: &HostRuntime, abort: &impl Abort) {
     for row in &WORKED {
-        let is_so = is_worked(rt.alloc(), row).expect(&rt, "a text");
-        assert!(rt; is_so, "{}: {}", row.0, row.2);
+        let is_so = is_worked(rt.alloc(), row).expect(abort, "a text");
+        assert!(abort; is_so, "{}: {}", row.0, row.2);
     }
 }
 
@@ -91,11 +92,11 @@ fn is_unmapped(alloc: Global, row: &(i32, &[u8], usize)) -> Result<bool, Error> 
     Ok(decoder.decode(alloc, *bytes).is_err() && decoder.first_unmapped(*bytes) == Some(*place))
 }
 
-#[test]
-fn sequences_without_a_character_are_refused(rt: HostRuntime) {
+/// Checks that sequences without a character are refused.
+pub(crate) fn sequences_without_a_character_are_refused(rt: &HostRuntime, abort: &impl Abort) {
     for row in &UNMAPPED {
-        let is_so = is_unmapped(rt.alloc(), row).expect(&rt, "a decoder");
-        assert!(rt; is_so, "{}: {}", row.0, row.2);
+        let is_so = is_unmapped(rt.alloc(), row).expect(abort, "a decoder");
+        assert!(abort; is_so, "{}: {}", row.0, row.2);
     }
 }
 
@@ -119,10 +120,13 @@ fn is_lacked(alloc: Global, row: &(i32, &str, usize)) -> Result<bool, Error> {
     Ok(lacks && encoder.first_missing(*text) == Some(*place))
 }
 
-#[test]
-fn texts_with_characters_that_a_page_lacks_are_refused(rt: HostRuntime) {
+/// Checks that texts with characters that a page lacks are refused.
+pub(crate) fn texts_with_characters_that_a_page_lacks_are_refused(
+    rt: &HostRuntime,
+    abort: &impl Abort,
+) {
     for row in &LACKED {
-        let is_so = is_lacked(rt.alloc(), row).expect(&rt, "an encoder");
-        assert!(rt; is_so, "{}: {}", row.0, row.1);
+        let is_so = is_lacked(rt.alloc(), row).expect(abort, "an encoder");
+        assert!(abort; is_so, "{}: {}", row.0, row.1);
     }
 }

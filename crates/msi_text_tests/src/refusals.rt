@@ -4,6 +4,7 @@ use msi_table_values::{ColumnType, Value};
 use msi_text::{Items, Text};
 use msi_text_archive::{Archive, ArchiveColumn, ArchiveError, read, write};
 use std::alloc::{AllocError, Global};
+use std::process::Abort;
 
 /// Texts that mean nothing, and what is told.
 static REFUSED: [(&str, &str); 14] = [
@@ -43,11 +44,11 @@ fn is_refused(alloc: Global, text: &str, told: &str) -> Result<bool, AllocError>
     }
 }
 
-#[test]
-fn texts_are_refused_where_they_mean_nothing(rt: HostRuntime) {
+/// Checks that texts are refused where they mean nothing.
+pub(crate) fn texts_are_refused_where_they_mean_nothing(rt: &HostRuntime, abort: &impl Abort) {
     for row in &REFUSED {
-        assert!(rt;
-            is_refused(rt.alloc(), row.0, row.1).expect(&rt, "memory"),
+        assert!(abort;
+            is_refused(rt.alloc(), row.0, row.1).expect(abort, "memory"),
             "{}",
             row.0
         );
@@ -235,9 +236,13 @@ fn is_told(alloc: Global, row: &(Keyed, Named, Cell, &'static str)) -> Result<bo
     }
 }
 
-#[test]
-fn archives_are_refused_where_no_text_means_them(rt: HostRuntime) {
+/// Checks that archives are refused where no text means them.
+pub(crate) fn archives_are_refused_where_no_text_means_them(rt: &HostRuntime, abort: &impl Abort) {
     for row in &UNWRITABLE {
-        assert!(rt; is_told(rt.alloc(), row).expect(&rt, "memory"), "{}", row.3);
+        assert!(abort;
+            is_told(rt.alloc(), row).expect(abort, "memory"),
+            "{}",
+            row.3
+        );
     }
 }

@@ -1,6 +1,7 @@
 //! Makes the calls of transcripts, and prints each call that answers otherwise than expected:
 //! `transcripts check FILE..`. The exit status is 1 if one does, and 2 for wrong usage. `docs/TRANSCRIPTS.md` shows
-//! what stands in a transcript.
+//! what stands in a transcript. Before them it runs the tests that are functions, and the code of `docs/GUIDE.md`,
+//! which prints some lines.
 //!
 //! `transcripts trials FILE..` is what `tools/try-faults` runs: there each call behind `try` may be refused memory.
 #![tactic(auto)]
@@ -17,20 +18,23 @@ mod summaries;
 mod transcript;
 mod trials;
 
-use std::io::{Read, Seek, Write};
-use std::process::ExitCode;
-use std::rt::{Env, Files};
+use std::process::{Abort, ExitCode};
 use std::{env, fs};
 use transcripts_words::failure::Failure;
 use transcripts_words::lines::lines;
 use transcripts_words::reports::Report;
 
+/// Runs the tests that are functions, and the code of the guide. A test that fails ends the program.
+fn run_functions(rt: &HostRuntime, abort: &impl Abort) -> Result<(), Failure> {
+    msi_text_tests::run(rt, abort);
+    msi_container_tests::run(rt, abort);
+    msi_tests::run(rt, abort);
+    example::guide::follow(rt)?;
+    Ok(())
+}
+
 /// Runs the transcript in a file, and returns whether each answer is as expected. A transcript without answers isn't.
-fn run_file<R>(rt: &R, file: &str, is_trial: bool) -> Result<bool, Failure>
-where
-    R: Files + Print + Eprint + AllocGlobal,
-    R::File: Read + Write + Seek + Drop,
-{
+fn run_file(rt: &HostRuntime, file: &str, is_trial: bool) -> Result<bool, Failure> {
     let text = fs::read_to_string(rt, file)?;
     let lines = lines(rt.alloc(), text.as_str())?;
     let mut report = Report::new(file, is_trial);
@@ -47,11 +51,7 @@ where
 }
 
 /// Runs the transcripts in files, and returns whether each answer is as expected.
-fn run_files<R>(rt: &R, files: &[String], is_trial: bool) -> Result<bool, Failure>
-where
-    R: Files + Print + Eprint + AllocGlobal,
-    R::File: Read + Write + Seek + Drop,
-{
+fn run_files(rt: &HostRuntime, files: &[String], is_trial: bool) -> Result<bool, Failure> {
     let mut are_expected = true;
     for file in files {
         are_expected &= run_file(rt, file.as_str(), is_trial)?;
@@ -60,17 +60,16 @@ where
 }
 
 /// Does what the arguments ask for, and returns the exit status.
-fn run<R>(rt: &R) -> Result<u8, Failure>
-where
-    R: Files + Env + Print + Eprint + AllocGlobal,
-    R::File: Read + Write + Seek + Drop,
-{
+fn run(rt: &HostRuntime, abort: &impl Abort) -> Result<u8, Failure> {
     let words: Vec<String> = env::args(rt)?.skip(1).collect(rt.alloc())?;
     let Some((verb, files)) = words.as_slice().split_first() else {
         return Ok(2);
     };
     let are_expected = match verb.as_str() {
-        "check" => run_files(rt, files, false)?,
+        "check" => {
+            run_functions(rt, abort)?;
+            run_files(rt, files, false)?
+        }
         "trials" => run_files(rt, files, true)?,
         _ => return Ok(2),
     };
@@ -78,7 +77,7 @@ where
 }
 
 fn main(rt: HostRuntime) -> ExitCode {
-    match run(&rt) {
+    match run(&rt, &rt) {
         Ok(2) => {
             let _ = eprintln!(rt; "usage: transcripts check|trials FILE..");
             ExitCode::from(2)

@@ -1,21 +1,23 @@
-//! Prints the rows of an installer package that a query selects as CSV: `example FILE "SELECT .. FROM .."`. Without
-//! arguments it runs the code of `docs/GUIDE.md`.
+//! Prints the rows of an installer package that a query selects as CSV; and the code of `docs/GUIDE.md`, which the
+//! program `transcripts` runs.
 #![tactic(auto)]
 
 mod failure;
-mod guide;
+pub mod guide;
 
 use csv::Writer;
-use failure::Failure;
+pub use failure::Failure;
 use msi::{Parse, Row, Rows, Select, Value};
 use std::alloc::{AllocError, Global};
+use std::io;
 use std::io::{Read, Seek, Write};
-use std::process::ExitCode;
-use std::rt::{Env, Files};
-use std::{env, io};
+use std::rt::Files;
 
 /// Prints the rows that a query selects as CSV: the names of their columns, then the rows.
-fn print_rows<R>(rt: &R, file: &str, query: &str) -> Result<(), Failure>
+///
+/// # Errors
+/// Fails if the text is no query, and if the file can't be opened, read or queried or the rows can't be printed.
+pub fn print_rows<R>(rt: &R, file: &str, query: &str) -> Result<(), Failure>
 where
     R: Files + Print + AllocGlobal,
     R::File: Read + Seek + Drop,
@@ -67,34 +69,5 @@ fn text_of(alloc: Global, value: &Value) -> Result<String, AllocError> {
         Value::Int(number) => number.to_string(alloc),
         Value::Str(text) => text.to_string(alloc),
         Value::Binary => "binary".to_string(alloc),
-    }
-}
-
-/// Does what the arguments ask for, and returns whether they are right.
-fn run<R>(rt: &R) -> Result<bool, Failure>
-where
-    R: Files + Env + Print + AllocGlobal,
-    R::File: Read + Seek + Drop,
-{
-    let words: Vec<String> = env::args(rt)?.skip(1).collect(rt.alloc())?;
-    match words.as_slice() {
-        [] => guide::follow(rt)?,
-        [file, query] => print_rows(rt, file.as_str(), query.as_str())?,
-        _ => return Ok(false),
-    }
-    Ok(true)
-}
-
-fn main(rt: HostRuntime) -> ExitCode {
-    match run(&rt) {
-        Ok(true) => ExitCode::SUCCESS,
-        Ok(false) => {
-            let _ = eprintln!(rt; "usage: example [FILE QUERY]");
-            ExitCode::from(2)
-        }
-        Err(failure) => {
-            let _ = eprintln!(rt; "example: {failure}");
-            ExitCode::FAILURE
-        }
     }
 }
