@@ -1,10 +1,12 @@
-//! Tests of packages that no transcript of `crates/transcripts` can express: the example of the README, packages in
-//! files, lists of calls, and the commands of `msidb`. The program `transcripts` runs them.
+//! Tests of packages that no transcript of `crates/transcripts` can express: the examples of the README and the code of
+//! the guide, packages in files, lists of calls, and the commands of `msidb`. The program `transcripts` runs them.
 #![tactic(auto)]
 
 mod containers;
 mod files;
+mod guide;
 mod packages;
+mod printing;
 mod readme;
 mod refusals;
 mod replays;
@@ -13,9 +15,12 @@ mod summaries;
 
 use std::process::Abort;
 
-/// Runs each test. The first one that fails ends the program with a message.
+/// Runs each test. The first one that fails ends the program with a message. Some print lines, which whoever runs the
+/// program compares.
 pub fn run(rt: &HostRuntime, abort: &impl Abort) {
     readme::the_example_makes_a_package_with_a_row(rt, abort);
+    printing::rows_of_a_file_are_printed(rt, abort);
+    guide::follow(rt).expect(abort, "the guide");
     files::opening_leaves_the_file_as_it_was(rt, abort);
     replays::a_list_of_calls_is_answered(rt, abort);
     containers::streams_are_wrapped_and_listed(rt, abort);

@@ -1,7 +1,6 @@
 //! Makes the calls of transcripts, and prints each call that answers otherwise than expected:
 //! `transcripts check FILE..`. The exit status is 1 if one does, and 2 for wrong usage. `docs/TRANSCRIPTS.md` shows
-//! what stands in a transcript. Before them it runs the tests that are functions, and the code of `docs/GUIDE.md`,
-//! which prints some lines.
+//! what stands in a transcript. Before them it runs the tests that are functions, of which some print lines.
 //!
 //! `transcripts trials FILE..` is what `tools/try-faults` runs: there each call behind `try` may be refused memory.
 #![tactic(auto)]
@@ -24,13 +23,11 @@ use transcripts_words::failure::Failure;
 use transcripts_words::lines::lines;
 use transcripts_words::reports::Report;
 
-/// Runs the tests that are functions, and the code of the guide. A test that fails ends the program.
-fn run_functions(rt: &HostRuntime, abort: &impl Abort) -> Result<(), Failure> {
+/// Runs the tests that are functions. One that fails ends the program.
+fn run_functions(rt: &HostRuntime, abort: &impl Abort) {
     msi_text_tests::run(rt, abort);
     msi_container_tests::run(rt, abort);
     msi_tests::run(rt, abort);
-    example::guide::follow(rt)?;
-    Ok(())
 }
 
 /// Runs the transcript in a file, and returns whether each answer is as expected. A transcript without answers isn't.
@@ -67,7 +64,7 @@ fn run(rt: &HostRuntime, abort: &impl Abort) -> Result<u8, Failure> {
     };
     let are_expected = match verb.as_str() {
         "check" => {
-            run_functions(rt, abort)?;
+            run_functions(rt, abort);
             run_files(rt, files, false)?
         }
         "trials" => run_files(rt, files, true)?,

@@ -1,4 +1,5 @@
-//! The tasks of the guide, in its order. Each is done on a package in memory, and prints a line or two.
+//! The code of `docs/GUIDE.md`, in its order. Each task is done on a package in memory, and prints a line or two, which
+//! whoever runs the tests compares.
 
 use msi::{
     Column, Delete, Error, ErrorKind, Expr, Insert, LanguageId, Memory, Package, PackageType, Row,
@@ -8,10 +9,7 @@ use std::alloc::Global;
 use std::io::{self, Read, Write};
 
 /// Does the tasks in turn.
-///
-/// # Errors
-/// Fails if memory runs out, or if standard output can't be written.
-pub fn follow(rt: &(impl Print + AllocGlobal)) -> Result<(), Error> {
+pub(crate) fn follow(rt: &(impl Print + AllocGlobal)) -> Result<(), Error> {
     let file = fill_package(rt)?;
     open_and_handle_errors(rt, file)?;
     open_and_handle_errors(rt, b"Dear reader".to_vec(rt.alloc())?)
