@@ -22,3 +22,6 @@ pub use Rattle.msi_table_values.specs.OrderLaws
 pub use Rattle.msi_table_values.specs.Fitting
 pub use Rattle.msi_table_values.specs.StoredValues
 pub use Rattle.msi_table_values.specs.Utf8Texts
+pub use Rattle.msi_table_order.specs.StoredOrder
+pub use Rattle.msi_table_order.specs.KeyOrder
+pub use Rattle.msi_table_order.specs.SortedRows
