@@ -6,6 +6,7 @@ use Rattle.msi.proofs.ChangeLemmas.{after_drop, answered_behind, change_left}
 use Rattle.msi.specs.State.{parts_of}
 use Rattle.msi.specs.Steps.{changing}
 use Rattle.msi.specs.Whole.{Leaves}
+use Rattle.std.proofs.lemmas.Result.{err_from_is_err_and}
 use Rattle.msi.proofs.package.Package.drop_table.Goals as goal
 
 pub invariant_of-self-2 : goal.invariant_of-self-2
@@ -34,3 +35,9 @@ returns-clause-ok g c =
     (change_left _ c.args.self.now c.self.view_is (λ (d : Database). drop_table d c.args.name.now) c.in_ok-check_storages.ensures
     c.settle.new.database c.drop_table.new.self c.settle.new.name c.settle.new.current.bytes c.in_ok-is_pool_used.is_pool_used
     c.settle.ensures.database c.settle.ensures.taken c.in_ok-is_pool_used.ensures.ok c.in_ok-is_pool_used.ensures.used)
+
+pub returns-in_err-check_storages-clause-ok : goal.returns-in_err-check_storages-clause-ok
+returns-in_err-check_storages-clause-ok g c = let p = err_from_is_err_and c.from_residual.result c.from_residual.ensures.1 in rw p.1 tt
+
+pub returns-in_err-is_pool_used-clause-ok : goal.returns-in_err-is_pool_used-clause-ok
+returns-in_err-is_pool_used-clause-ok g c = let p = err_from_is_err_and c.from_residual-in_err-is_pool_used.result c.from_residual-in_err-is_pool_used.ensures.1 in rw p.1 tt
