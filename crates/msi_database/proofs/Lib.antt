@@ -20,6 +20,8 @@ pub mod TablesKeptLemmas
 pub mod WholeLemmas
 pub mod PageLemmas
 pub mod PartsLemmas
+pub mod PassedLemmas
+pub mod SystemRowsLemmas
 pub mod TableListLemmas
 pub mod EditLemmas
 pub mod FinishLemmas

@@ -64,7 +64,7 @@ fn is_description(set: &Assignment) -> bool
 fn sets_description_alone(sets: &[Assignment]) -> bool
     ensures { result ≡ list_all (λ s. bytes_eq s.0 (codes "Description")) sets.now }
 {
-    sets.iter().all(|set| is_description(set))
+    sets.iter().all(is_description)
 }
 
 /// Whether an update is barred: of the system tables only Description in `_Validation` may be set.

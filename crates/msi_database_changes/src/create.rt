@@ -59,7 +59,7 @@ fn are_named(columns: &[Column]) -> bool
 fn has_key(columns: &[Column]) -> bool
     ensures { result ≡ list_any (λ c. c.is_primary_key) columns.now }
 {
-    columns.iter().any(|column| column.is_primary_key())
+    columns.iter().any(Column::is_primary_key)
 }
 
 /// Whether a column limits its texts to a number of characters that its type's bits don't tell.
@@ -76,7 +76,7 @@ fn is_long(column: &Column) -> bool
 fn has_long(columns: &[Column]) -> bool
     ensures { result ≡ list_any (λ c. is_too_long c.coltype) columns.now }
 {
-    columns.iter().any(|column| is_long(column))
+    columns.iter().any(is_long)
 }
 
 /// Whether a column of streams is a key or localizable, which its type's bits don't tell.
@@ -91,7 +91,7 @@ fn is_marked_binary(column: &Column) -> bool
 fn has_marked_binary(columns: &[Column]) -> bool
     ensures { result ≡ list_any (λ c. is_binary c.coltype && (c.is_primary_key || c.is_localizable)) columns.now }
 {
-    columns.iter().any(|column| is_marked_binary(column))
+    columns.iter().any(is_marked_binary)
 }
 
 /// Whether a text has a semicolon.
@@ -106,7 +106,7 @@ fn lists_semicolon(column: &Column) -> bool
     ensures { result ≡ list_any (list_any (λ b. b == 59)) column.now.enum_values }
 {
     match column.enum_values() {
-        Some(texts) => texts.iter().any(|text| has_semicolon(text)),
+        Some(texts) => texts.iter().any(has_semicolon),
         None => false,
     }
 }
@@ -115,7 +115,7 @@ fn lists_semicolon(column: &Column) -> bool
 fn has_listed_semicolon(columns: &[Column]) -> bool
     ensures { result ≡ list_any (λ c. list_any (list_any (λ b. b == 59)) c.enum_values) columns.now }
 {
-    columns.iter().any(|column| lists_semicolon(column))
+    columns.iter().any(lists_semicolon)
 }
 
 /// A refusal for a reason.

@@ -1,10 +1,11 @@
 //! What operators return.
 
-ghost use Rattle.std.specs.Prelude.{◌≡◌, ◌++◌, IfOk, IfErr, IsErr, IsTrue, None};
+ghost use Rattle.std.specs.Prelude.{◌≡◌, ◌++◌, IfOk, IfErr, IfSome, IsErr, IsTrue, None};
 ghost use Rattle.msi_text_base.specs.declared.errors.ErrorKind.TheVariants.{OutOfMemory};
 ghost use Rattle.msi_table_values.specs.Values.{int_of};
+ghost use Rattle.msi_table_values.specs.declared.value.Value.TheVariants.{Str};
 ghost use Rattle.msi_query_operators.specs.declared.operators.BinaryOp.TheVariants.{Add, Shl, Shr};
-ghost use Rattle.msi_query_operators.specs.OperatorValues.{is_sum, of_numbers, of_operands};
+ghost use Rattle.msi_query_operators.specs.OperatorValues.{is_sum, of_numbers, of_operands, truth};
 ghost use Rattle.msi_query_operators.specs.OperatorValues.{unary_value as value_of_one, binary_value as value_of_two};
 ghost use Rattle.msi_query_operators.specs.Operands.{operand_value, number_or_null as value_or_null};
 ghost use Rattle.msi_table_values.specs.Views.{seen_value};
@@ -109,6 +110,34 @@ fn joined_copy(alloc: Global, text: &str, rest: &str) -> Result<Text, Error>
     Ok(Text::from_string(whole))
 }
 
+/// A text that is looked at joined with another, else Null.
+///
+/// # Errors
+/// `OutOfMemory`.
+fn joined_view(alloc: Global, left: ValueView, rest: &str) -> Result<Value, Error>
+    ensures ok { IfOk result (λ value. value ≡ of_operands Add (seen_value left.entry) (Str rest.now)) }
+    ensures kind { IfErr result (λ kind. kind ≡ OutOfMemory) }
+{
+    match left {
+        ValueView::Str(text) => Ok(Value::Str(joined_copy(alloc, text, rest)?)),
+        _ => Ok(Value::Null),
+    }
+}
+
+/// A text that was computed joined with another, else Null.
+///
+/// # Errors
+/// `OutOfMemory`.
+fn joined_value(left: Value, rest: &str) -> Result<Value, Error>
+    ensures ok { IfOk result (λ value. value ≡ of_operands Add left (Str rest.now)) }
+    ensures kind { IfErr result (λ kind. kind ≡ OutOfMemory) }
+{
+    match left {
+        Value::Str(text) => Ok(Value::Str(joined(text, rest)?)),
+        _ => Ok(Value::Null),
+    }
+}
+
 /// Two texts joined, else Null.
 ///
 /// # Errors
@@ -120,11 +149,8 @@ fn joined_texts(alloc: Global, left: Operand, right: ValueView) -> Result<Value,
 {
     match right {
         ValueView::Str(rest) => match left {
-            Operand::Borrowed(ValueView::Str(text)) => {
-                Ok(Value::Str(joined_copy(alloc, text, rest)?))
-            }
-            Operand::Computed(Value::Str(text)) => Ok(Value::Str(joined(text, rest)?)),
-            _ => Ok(Value::Null),
+            Operand::Borrowed(view) => joined_view(alloc, view, rest),
+            Operand::Computed(value) => joined_value(value, rest),
         },
         _ => Ok(Value::Null),
     }
@@ -151,6 +177,24 @@ fn arithmetic(alloc: Global, op: BinaryOp, left: Operand, right: ValueView) -> R
     }
 }
 
+/// What a comparison says of two values; nothing for another operator.
+fn compared(op: BinaryOp, left: ValueView, right: ValueView) -> Option<bool>
+    ensures says { let value = value_of_two op (seen_value left.entry) (seen_value right.entry) in
+        IfSome result (λ holds. value ≡ truth holds) }
+    ensures other { let value = value_of_two op (seen_value left.entry) (seen_value right.entry) in
+        result ≡ None → value ≡ of_operands op (seen_value left.entry) (seen_value right.entry) }
+{
+    match op {
+        BinaryOp::Eq => Some(left.compare(right).is_eq()),
+        BinaryOp::Ne => Some(left.compare(right).is_ne()),
+        BinaryOp::Lt => Some(left.compare(right).is_lt()),
+        BinaryOp::Le => Some(left.compare(right).is_le()),
+        BinaryOp::Gt => Some(left.compare(right).is_gt()),
+        BinaryOp::Ge => Some(left.compare(right).is_ge()),
+        _ => None,
+    }
+}
+
 /// Returns what an operator gives of two operands.
 ///
 /// # Errors
@@ -165,13 +209,8 @@ pub fn binary_value(
     ensures kind { IfErr result (λ kind. kind ≡ OutOfMemory) }
     ensures memory { IsErr result → IsTrue (is_sum op) }
 {
-    match op {
-        BinaryOp::Eq => Ok(Value::from(left.as_view().compare(right).is_eq())),
-        BinaryOp::Ne => Ok(Value::from(left.as_view().compare(right).is_ne())),
-        BinaryOp::Lt => Ok(Value::from(left.as_view().compare(right).is_lt())),
-        BinaryOp::Le => Ok(Value::from(left.as_view().compare(right).is_le())),
-        BinaryOp::Gt => Ok(Value::from(left.as_view().compare(right).is_gt())),
-        BinaryOp::Ge => Ok(Value::from(left.as_view().compare(right).is_ge())),
-        _ => arithmetic(alloc, op, left, right),
+    match compared(op, left.as_view(), right) {
+        Some(holds) => Ok(Value::from(holds)),
+        None => arithmetic(alloc, op, left, right),
     }
 }

@@ -4,3 +4,4 @@ pub mod JoinLemmas
 pub mod WidthLemmas
 pub mod IndexLemmas
 pub mod EarlyLemmas
+pub mod RefusedLemmas

@@ -11,6 +11,7 @@ use Rattle.msi_database.specs.Agreement.{described_by, schema_in}
 use Rattle.msi_database.specs.NamedTexts.{RowsNameFewTexts, SystemRowsNameFewTexts}
 use Rattle.msi_database.proofs.NamedTextsLemmas.{on_ok, rows_few}
 use Rattle.msi_database.proofs.ReadingLemmas.{described_fails, schema_is, told_kind, told_long, told_ok}
+use Rattle.msi_database.proofs.PassedLemmas.{memory_refused, no_value}
 use Rattle.msi_database.proofs.reading.tables_in.Goals as goal
 
 pub returns-clause-ok : goal.returns-clause-ok
@@ -53,3 +54,57 @@ returns-clause-kind c = let streams = entries c.args.streams.now in let raw = un
     told_kind streams raw c.tables_of_cells.result raw.long s refl is
     (described_fails streams raw c.requires.bytes (values c.as_slice.result.now) (values c.as_slice-2.result.now) (values c.args.validation.now) tables columns)
     c.tables_of_cells.ensures
+
+pub returns-in_err-tables_columns-clause-ok : goal.returns-in_err-tables_columns-clause-ok
+returns-in_err-tables_columns-clause-ok c = no_value _ c.from_residual.result c.in_err-tables_columns.field-0.0 c.from_residual.ensures.1
+
+pub returns-in_err-tables_columns-clause-long : goal.returns-in_err-tables_columns-clause-long
+returns-in_err-tables_columns-clause-long c = no_value _ c.from_residual.result c.in_err-tables_columns.field-0.0 c.from_residual.ensures.1
+
+pub returns-in_err-tables_columns-clause-bounded : goal.returns-in_err-tables_columns-clause-bounded
+returns-in_err-tables_columns-clause-bounded c = no_value _ c.from_residual.result c.in_err-tables_columns.field-0.0 c.from_residual.ensures.1
+
+pub returns-in_err-tables_columns-clause-kind : goal.returns-in_err-tables_columns-clause-kind
+returns-in_err-tables_columns-clause-kind c = memory_refused c.from_residual.result c.in_err-tables_columns.field-0.0 _ c.from_residual.ensures.1 c.in_err-tables_columns.ensures.kind
+
+pub returns-in_err-tables-clause-ok : goal.returns-in_err-tables-clause-ok
+returns-in_err-tables-clause-ok c = no_value _ c.from_residual-in_err-tables.result c.in_err-tables.field-0.0 c.from_residual-in_err-tables.ensures.1
+
+pub returns-in_err-tables-clause-long : goal.returns-in_err-tables-clause-long
+returns-in_err-tables-clause-long c = no_value _ c.from_residual-in_err-tables.result c.in_err-tables.field-0.0 c.from_residual-in_err-tables.ensures.1
+
+pub returns-in_err-tables-clause-bounded : goal.returns-in_err-tables-clause-bounded
+returns-in_err-tables-clause-bounded c = no_value _ c.from_residual-in_err-tables.result c.in_err-tables.field-0.0 c.from_residual-in_err-tables.ensures.1
+
+pub returns-in_err-columns_columns-clause-ok : goal.returns-in_err-columns_columns-clause-ok
+returns-in_err-columns_columns-clause-ok c = no_value _ c.from_residual-in_err-columns_columns.result c.in_err-columns_columns.field-0.0 c.from_residual-in_err-columns_columns.ensures.1
+
+pub returns-in_err-columns_columns-clause-long : goal.returns-in_err-columns_columns-clause-long
+returns-in_err-columns_columns-clause-long c = no_value _ c.from_residual-in_err-columns_columns.result c.in_err-columns_columns.field-0.0 c.from_residual-in_err-columns_columns.ensures.1
+
+pub returns-in_err-columns_columns-clause-bounded : goal.returns-in_err-columns_columns-clause-bounded
+returns-in_err-columns_columns-clause-bounded c = no_value _ c.from_residual-in_err-columns_columns.result c.in_err-columns_columns.field-0.0 c.from_residual-in_err-columns_columns.ensures.1
+
+pub returns-in_err-columns_columns-clause-kind : goal.returns-in_err-columns_columns-clause-kind
+returns-in_err-columns_columns-clause-kind c = memory_refused c.from_residual-in_err-columns_columns.result c.in_err-columns_columns.field-0.0 _ c.from_residual-in_err-columns_columns.ensures.1 c.in_err-columns_columns.ensures.kind
+
+pub returns-in_err-columns-clause-ok : goal.returns-in_err-columns-clause-ok
+returns-in_err-columns-clause-ok c = no_value _ c.from_residual-in_err-columns.result c.in_err-columns.field-0.0 c.from_residual-in_err-columns.ensures.1
+
+pub returns-in_err-columns-clause-long : goal.returns-in_err-columns-clause-long
+returns-in_err-columns-clause-long c = no_value _ c.from_residual-in_err-columns.result c.in_err-columns.field-0.0 c.from_residual-in_err-columns.ensures.1
+
+pub returns-in_err-columns-clause-bounded : goal.returns-in_err-columns-clause-bounded
+returns-in_err-columns-clause-bounded c = no_value _ c.from_residual-in_err-columns.result c.in_err-columns.field-0.0 c.from_residual-in_err-columns.ensures.1
+
+pub returns-in_err-refuse_many_texts-clause-ok : goal.returns-in_err-refuse_many_texts-clause-ok
+returns-in_err-refuse_many_texts-clause-ok c = no_value _ c.from_residual-in_err-refuse_many_texts.result c.in_err-refuse_many_texts.field-0.0 c.from_residual-in_err-refuse_many_texts.ensures.1
+
+pub returns-in_err-refuse_many_texts-clause-long : goal.returns-in_err-refuse_many_texts-clause-long
+returns-in_err-refuse_many_texts-clause-long c = no_value _ c.from_residual-in_err-refuse_many_texts.result c.in_err-refuse_many_texts.field-0.0 c.from_residual-in_err-refuse_many_texts.ensures.1
+
+pub returns-in_err-refuse_many_texts-clause-bounded : goal.returns-in_err-refuse_many_texts-clause-bounded
+returns-in_err-refuse_many_texts-clause-bounded c = no_value _ c.from_residual-in_err-refuse_many_texts.result c.in_err-refuse_many_texts.field-0.0 c.from_residual-in_err-refuse_many_texts.ensures.1
+
+pub returns-in_err-refuse_many_texts-clause-kind : goal.returns-in_err-refuse_many_texts-clause-kind
+returns-in_err-refuse_many_texts-clause-kind c = memory_refused c.from_residual-in_err-refuse_many_texts.result c.in_err-refuse_many_texts.field-0.0 _ c.from_residual-in_err-refuse_many_texts.ensures.1 c.in_err-refuse_many_texts.ensures.kind

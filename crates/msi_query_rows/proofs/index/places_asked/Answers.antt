@@ -1,4 +1,4 @@
-use Rattle.std.proofs.Common.{Some, sym, ◌∙◌, rules}
+use Rattle.std.proofs.Common.{Some, sym, ◌∙◌}
 use Rattle.msi_query_expressions.specs.Conditions.{meets}
 use Rattle.msi_query_rows.proofs.IndexLemmas.{asked_pass}
 use Rattle.msi_query_rows.proofs.index.places_asked.Goals as goal

@@ -2,6 +2,7 @@ use Rattle.std.proofs.Common.{length, ◌∙◌, rules}
 use Rattle.std.proofs.lemmas.Result.{IfOk-weaker}
 use Rattle.msi_query_rows.proofs.IndexLemmas.{filter_passes}
 use Rattle.msi_query_rows.proofs.JoinLemmas.{join_same}
+use Rattle.msi_query_rows.proofs.RefusedLemmas.{memory_passed, no_value}
 use Rattle.msi_query_rows.proofs.joining.joined_rows.Goals as goal
 
 pub rows_by_index-requires : goal.rows_by_index-requires
@@ -24,3 +25,15 @@ returns-clause-ok c =
     c.rows-in-None.result.now c.args.left.now.rows c.as_slice-in-None.result.now c.args.right.rows
     c.in_ok-filter.ensures.ok (search rules) c.rows-in-None.ensures (search rules))
     c.rows_by_scan.ensures.ok
+
+pub returns-in_err-filter-clause-ok : goal.returns-in_err-filter-clause-ok
+returns-in_err-filter-clause-ok c = no_value _ c.from_residual.result c.in_err-filter.field-0.0 c.from_residual.ensures.1
+
+pub returns-in_err-filter-clause-kind : goal.returns-in_err-filter-clause-kind
+returns-in_err-filter-clause-kind c = memory_passed c.from_residual.result c.in_err-filter.field-0.0 c.from_residual.ensures.1 c.in_err-filter.ensures.kind
+
+pub returns-in-Some-clause-kind : goal.returns-in-Some-clause-kind
+returns-in-Some-clause-kind c = c.rows_by_index.ensures.kind
+
+pub returns-clause-kind : goal.returns-clause-kind
+returns-clause-kind c = c.rows_by_scan.ensures.kind

@@ -2,6 +2,7 @@ use Rattle.std.proofs.Common.{rules, ◌∙◌}
 use Rattle.msi_query_expressions.specs.Conditions.{meets}
 use Rattle.msi_query_joins.specs.Rows.{rows_values}
 use Rattle.msi_query_rows.proofs.IndexLemmas.{row_joined}
+use Rattle.msi_query_rows.proofs.RefusedLemmas.{memory_passed, no_value}
 use Rattle.msi_query_rows.proofs.joining.rows_by_index.Goals as goal
 
 pub loop-row-preserved : goal.loop-row-preserved
@@ -14,3 +15,15 @@ loop-row-preserved c =
           c.loop-row.row-index c.as_slice-row.result.now c.cell_of.result c.requires c.loop-row-test.true (search rules) c.cell_of.ensures
           (c.rows_with-found.ensures right (c.as_slice.ensures.value ∙ e)) c.in_ok-add_row.ensures.ok (c.loop-row.invariant.rows right e);
     }
+
+pub returns-in_err-sort_by_place-clause-ok : goal.returns-in_err-sort_by_place-clause-ok
+returns-in_err-sort_by_place-clause-ok c = no_value _ c.from_residual.result c.in_err-sort_by_place.field-0.0 c.from_residual.ensures.1
+
+pub returns-in_err-sort_by_place-clause-kind : goal.returns-in_err-sort_by_place-clause-kind
+returns-in_err-sort_by_place-clause-kind c = memory_passed c.from_residual.result c.in_err-sort_by_place.field-0.0 c.from_residual.ensures.1 c.in_err-sort_by_place.ensures.kind
+
+pub returns-in_err-add_row-clause-ok : goal.returns-in_err-add_row-clause-ok
+returns-in_err-add_row-clause-ok c = no_value _ c.from_residual-in_err-add_row.result c.in_err-add_row.field-0.0 c.from_residual-in_err-add_row.ensures.1
+
+pub returns-in_err-add_row-clause-kind : goal.returns-in_err-add_row-clause-kind
+returns-in_err-add_row-clause-kind c = memory_passed c.from_residual-in_err-add_row.result c.in_err-add_row.field-0.0 c.from_residual-in_err-add_row.ensures.1 c.in_err-add_row.ensures.kind

@@ -2,6 +2,8 @@ use Rattle.std.proofs.Common.{refl}
 use Rattle.msi_query.specs.QueryTrees.{query_of}
 use Rattle.msi_query_joins.specs.Rows.{tables_values}
 use Rattle.msi_query_rows.proofs.JoinLemmas.{join_answer, table_answer}
+use Rattle.msi_query_rows.proofs.RefusedLemmas.{join_fails, left_refused, no_value, right_refused, table_fails, table_refused}
+use Rattle.msi_text.proofs.RefusalLemmas.{err_passed}
 use Rattle.msi_query_rows.proofs.selection.+relation_of_tree.Goals as goal
 
 pub returns-in_ok-relation-in-Table-clause-ok : goal.returns-in_ok-relation-in-Table-clause-ok
@@ -15,3 +17,34 @@ returns-in_ok-right-in-Join-clause-ok g t c =
     (query_of c.deref.result.now) (query_of c.deref-in-Join.result.now) c.in-Join.on c.in-Join.clauses
     c.in_ok-left-in-Join.left c.in_ok-right-in-Join.right c.joined.result (rw (c.in-Join.is, c.deref.ensures, c.deref-in-Join.ensures) refl)
     c.in_ok-left-in-Join.ensures.ok c.in_ok-right-in-Join.ensures.ok c.joined.ensures.ok
+
+pub returns-in_err-relation-in-Table-clause-ok : goal.returns-in_err-relation-in-Table-clause-ok
+returns-in_err-relation-in-Table-clause-ok g t c = no_value _ c.from_residual.result c.in_err-relation-in-Table.field-0.0 c.from_residual.ensures.1
+
+pub returns-in_err-relation-in-Table-clause-kind : goal.returns-in_err-relation-in-Table-clause-kind
+returns-in_err-relation-in-Table-clause-kind g t c = err_passed c.from_residual.result c.in_err-relation-in-Table.field-0.0 _ c.from_residual.ensures.1
+    (table_refused c.args.pool.now.places (g.T.Tables.table c.args.tables.now) (query_of c.args.tree.now) c.as_str.result.now c.in-Table.clauses c.in_err-relation-in-Table.field-0.0 (rw (c.in-Table.is, c.as_str.ensures) refl) c.in_err-relation-in-Table.ensures.kind)
+
+pub returns-in_ok-relation-in-Table-clause-kind : goal.returns-in_ok-relation-in-Table-clause-kind
+returns-in_ok-relation-in-Table-clause-kind g t c = table_fails c.args.pool.now.places (g.T.Tables.table c.args.tables.now) (query_of c.args.tree.now) c.as_str.result.now c.in-Table.clauses
+    c.in_ok-relation-in-Table.relation c.narrowed.result (rw (c.in-Table.is, c.as_str.ensures) refl) c.in_ok-relation-in-Table.ensures.ok c.narrowed.ensures.kind
+
+pub returns-in_err-left-in-Join-clause-ok : goal.returns-in_err-left-in-Join-clause-ok
+returns-in_err-left-in-Join-clause-ok g t c = no_value _ c.from_residual-in_err-left-in-Join.result c.in_err-left-in-Join.field-0.0 c.from_residual-in_err-left-in-Join.ensures.1
+
+pub returns-in_err-left-in-Join-clause-kind : goal.returns-in_err-left-in-Join-clause-kind
+returns-in_err-left-in-Join-clause-kind g t c = err_passed c.from_residual-in_err-left-in-Join.result c.in_err-left-in-Join.field-0.0 _ c.from_residual-in_err-left-in-Join.ensures.1
+    (left_refused (tables_values c.args.pool.now.places (g.T.Tables.table c.args.tables.now)) (query_of c.args.tree.now) c.in-Join.kind (query_of c.deref.result.now) (query_of c.in-Join.right.value) c.in-Join.on c.in-Join.clauses c.in_err-left-in-Join.field-0.0
+    (rw (c.in-Join.is, c.deref.ensures) refl) c.in_err-left-in-Join.ensures.kind)
+
+pub returns-in_err-right-in-Join-clause-ok : goal.returns-in_err-right-in-Join-clause-ok
+returns-in_err-right-in-Join-clause-ok g t c = no_value _ c.from_residual-in_err-right-in-Join.result c.in_err-right-in-Join.field-0.0 c.from_residual-in_err-right-in-Join.ensures.1
+
+pub returns-in_err-right-in-Join-clause-kind : goal.returns-in_err-right-in-Join-clause-kind
+returns-in_err-right-in-Join-clause-kind g t c = err_passed c.from_residual-in_err-right-in-Join.result c.in_err-right-in-Join.field-0.0 _ c.from_residual-in_err-right-in-Join.ensures.1
+    (right_refused (tables_values c.args.pool.now.places (g.T.Tables.table c.args.tables.now)) (query_of c.args.tree.now) c.in-Join.kind (query_of c.deref.result.now) (query_of c.deref-in-Join.result.now) c.in-Join.on c.in-Join.clauses _ c.in_err-right-in-Join.field-0.0
+    (rw (c.in-Join.is, c.deref.ensures, c.deref-in-Join.ensures) refl) c.in_ok-left-in-Join.ensures.ok c.in_err-right-in-Join.ensures.kind)
+
+pub returns-in_ok-right-in-Join-clause-kind : goal.returns-in_ok-right-in-Join-clause-kind
+returns-in_ok-right-in-Join-clause-kind g t c = join_fails (tables_values c.args.pool.now.places (g.T.Tables.table c.args.tables.now)) (query_of c.args.tree.now) c.in-Join.kind (query_of c.deref.result.now) (query_of c.deref-in-Join.result.now) c.in-Join.on c.in-Join.clauses _ _ c.joined.result
+    (rw (c.in-Join.is, c.deref.ensures, c.deref-in-Join.ensures) refl) c.in_ok-left-in-Join.ensures.ok c.in_ok-right-in-Join.ensures.ok c.joined.ensures.kind

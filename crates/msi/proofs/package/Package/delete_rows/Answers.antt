@@ -6,6 +6,7 @@ use Rattle.msi.specs.State.{parts_of}
 use Rattle.msi.specs.Steps.{changing}
 use Rattle.msi.specs.Whole.{Leaves}
 use Rattle.msi.proofs.ChangeLemmas.{after_delete, answered_behind, change_left}
+use Rattle.std.proofs.lemmas.Result.{err_from_is_err_and}
 use Rattle.msi.proofs.package.Package.delete_rows.Goals as goal
 
 pub invariant_of-self-2 : goal.invariant_of-self-2
@@ -34,3 +35,9 @@ pub returns-clause-early : goal.returns-clause-early
 returns-clause-early g c = let d = c.settle.new.database in
     answered_behind _ c.args.self.now c.self.view_is (λ (d : Database). early_delete_refusals d c.args.query) c.in_ok-check_storages.ensures d c.settle.ensures.database _
     (accepted_first (early_delete_refusals d.database c.args.query) c.in_ok-is_pool_used.is_pool_used _ c.in_ok-is_pool_used.ensures.early)
+
+pub returns-in_err-check_storages-clause-ok : goal.returns-in_err-check_storages-clause-ok
+returns-in_err-check_storages-clause-ok g c = let p = err_from_is_err_and c.from_residual.result c.from_residual.ensures.1 in rw p.1 tt
+
+pub returns-in_err-is_pool_used-clause-ok : goal.returns-in_err-is_pool_used-clause-ok
+returns-in_err-is_pool_used-clause-ok g c = let p = err_from_is_err_and c.from_residual-in_err-is_pool_used.result c.from_residual-in_err-is_pool_used.ensures.1 in rw p.1 tt

@@ -7,6 +7,7 @@ use Rattle.msi.specs.Steps.{changing}
 use Rattle.msi.specs.Whole.{Leaves}
 use Rattle.msi_database.specs.Creating.{create_refusals}
 use Rattle.msi.proofs.ChangeLemmas.{after_create, answered_behind, change_left, change_refused}
+use Rattle.std.proofs.lemmas.Result.{err_from_is_err_and}
 use Rattle.msi.proofs.package.Package.make_table.Goals as goal
 
 pub invariant_of-self-2 : goal.invariant_of-self-2
@@ -41,3 +42,9 @@ pub returns-clause-early : goal.returns-clause-early
 returns-clause-early g c = let d = c.settle.new.database in
     answered_behind _ c.args.self.now c.self.view_is (λ (d : Database). create_refusals d c.args.name.now c.args.columns) c.in_ok-check_storages.ensures d c.settle.ensures.database _
     (accepted_first (create_refusals d.database c.args.name.now c.args.columns) c.in_ok-is_pool_used.is_pool_used _ c.in_ok-is_pool_used.ensures.early)
+
+pub returns-in_err-check_storages-clause-ok : goal.returns-in_err-check_storages-clause-ok
+returns-in_err-check_storages-clause-ok g c = let p = err_from_is_err_and c.from_residual.result c.from_residual.ensures.1 in rw p.1 tt
+
+pub returns-in_err-is_pool_used-clause-ok : goal.returns-in_err-is_pool_used-clause-ok
+returns-in_err-is_pool_used-clause-ok g c = let p = err_from_is_err_and c.from_residual-in_err-is_pool_used.result c.from_residual-in_err-is_pool_used.ensures.1 in rw p.1 tt

@@ -3,6 +3,7 @@ use Rattle.std.specs.Prelude.{Err, Result}
 use Rattle.msi_text_base.specs.declared.errors.ErrorKind.{ErrorKind}
 use Rattle.msi.proofs.StreamRefusalLemmas.{key_accepted, key_is, removal_missing, removal_passes}
 use Rattle.msi.proofs.StreamWriteLemmas.{stream_is_other}
+use Rattle.std.proofs.lemmas.Result.{err_from_is_err_and}
 use Rattle.msi.proofs.package.Package.remove_stream.Goals as goal
 
 pub returns-then-not-contains-clause-answer : goal.returns-then-not-contains-clause-answer
@@ -20,3 +21,9 @@ remove_stream-requires g c =
 pub returns-clause-answer : goal.returns-clause-answer
 returns-clause-answer g c =
     removal_passes c.args.self.now.state c.args.name.now c.in_ok-key.key c.in_ok-key.ensures c.in_ok-check_storages.ensures _ c.if-not-contains.ensures refl
+
+pub returns-in_err-check_storages-clause-ok : goal.returns-in_err-check_storages-clause-ok
+returns-in_err-check_storages-clause-ok g c = let p = err_from_is_err_and c.from_residual.result c.from_residual.ensures.1 in rw p.1 tt
+
+pub returns-in_err-key-clause-ok : goal.returns-in_err-key-clause-ok
+returns-in_err-key-clause-ok g c = let p = err_from_is_err_and c.from_residual-in_err-key.result c.from_residual-in_err-key.ensures.1 in rw p.1 tt

@@ -1,8 +1,12 @@
-use Rattle.std.proofs.Common.{true, refl}
+use Rattle.std.proofs.Common.{true, refl, sym, subst}
 use Rattle.msi_text.proofs.RefusalLemmas.{accepted_first, first_passed}
 use Rattle.msi_database_changes.specs.Database.{Database}
-use Rattle.msi_database_changes.specs.Update.{early_update_refusals}
-use Rattle.msi.proofs.ChangeLemmas.{after_update, answered_behind}
+use Rattle.msi_database_changes.specs.Update.{early_update_refusals, update_rows}
+use Rattle.msi.proofs.ChangeLemmas.{after_update, answered_behind, change_left}
+use Rattle.msi.specs.State.{parts_of}
+use Rattle.msi.specs.Steps.{changing}
+use Rattle.msi.specs.Whole.{Leaves}
+use Rattle.std.proofs.lemmas.Result.{err_from_is_err_and}
 use Rattle.msi.proofs.package.Package.update_rows.Goals as goal
 
 pub invariant_of-self-2 : goal.invariant_of-self-2
@@ -24,3 +28,16 @@ pub returns-clause-early : goal.returns-clause-early
 returns-clause-early g c = let d = c.settle.new.database in
     answered_behind _ c.args.self.now c.self.view_is (λ (d : Database). early_update_refusals d c.args.query) c.in_ok-check_storages.ensures d c.settle.ensures.database _
     (accepted_first (early_update_refusals d.database c.args.query) c.in_ok-is_pool_used.is_pool_used _ c.in_ok-is_pool_used.ensures.early)
+
+pub returns-clause-ok : goal.returns-clause-ok
+returns-clause-ok g c =
+    subst (Leaves c.args.self.now (changing (parts_of c.args.self.now.state) (λ (d : Database). update_rows d c.args.query))) (sym c.note_change.ensures)
+    (change_left _ c.args.self.now c.self.view_is (λ (d : Database). update_rows d c.args.query) c.in_ok-check_storages.ensures
+    c.settle.new.database c.update_rows.new.self c.settle.new.name c.settle.new.current.bytes c.in_ok-is_pool_used.is_pool_used
+    c.settle.ensures.database c.settle.ensures.taken c.in_ok-is_pool_used.ensures.ok c.in_ok-is_pool_used.ensures.used)
+
+pub returns-in_err-check_storages-clause-ok : goal.returns-in_err-check_storages-clause-ok
+returns-in_err-check_storages-clause-ok g c = let p = err_from_is_err_and c.from_residual.result c.from_residual.ensures.1 in rw p.1 tt
+
+pub returns-in_err-is_pool_used-clause-ok : goal.returns-in_err-is_pool_used-clause-ok
+returns-in_err-is_pool_used-clause-ok g c = let p = err_from_is_err_and c.from_residual-in_err-is_pool_used.result c.from_residual-in_err-is_pool_used.ensures.1 in rw p.1 tt

@@ -1,5 +1,5 @@
 use Rattle.std.proofs.Common.{refl, ap, subst}
-use Rattle.std.proofs.lemmas.Result.{IfOk-weaker}
+use Rattle.std.proofs.lemmas.Result.{IfOk-weaker, err_from_is_err_and}
 use Rattle.msi_text_pool_base.specs.Pool.{unindexed}
 use Rattle.msi_database.specs.Making.{IsAnew, delete_of}
 use Rattle.msi_database_storage.specs.Kept.{Kept}
@@ -28,3 +28,9 @@ returns-clause-used c = let d = c.self.inside in
     c.columns-columns.result.now c.columns-columns.ensures.columns c.in_ok-held.held.items c.in_ok-held.ensures.ok (unindexed c.in_ok-clone.field-0) (ap unindexed c.in_ok-clone.ensures.ok) c.new-pool.result c.new-pool.ensures c.in_ok-all.all.items c.remaining_rows.new.pool c.in_ok-all.ensures.page c.in_ok-all.ensures.long
     (delete_of c.args.delete.now) refl c.requires.free c.requires.fits c.in_ok-all.ensures.ok c.in_ok-all.ensures.released).uses new.wide new.stored (unindexed new.pool) new.is_pool_used is)
     c.rows_anew.ensures.ok
+
+pub returns-in_err-held-clause-ok : goal.returns-in_err-held-clause-ok
+returns-in_err-held-clause-ok c = let p = err_from_is_err_and c.from_residual.result c.from_residual.ensures.1 in rw p.1 tt
+
+pub returns-in_err-held-clause-used : goal.returns-in_err-held-clause-used
+returns-in_err-held-clause-used c = let p = err_from_is_err_and c.from_residual.result c.from_residual.ensures.1 in rw p.1 tt

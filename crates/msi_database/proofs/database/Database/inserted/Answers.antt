@@ -1,5 +1,5 @@
 use Rattle.std.proofs.Common.{◌∙◌, ap, ap₂, refl, sym, List, subst}
-use Rattle.std.proofs.lemmas.Result.{IfOk-weaker}
+use Rattle.std.proofs.lemmas.Result.{IfOk-weaker, err_from_is_err_and}
 use Rattle.msi_text_pool_base.specs.Pool.{unindexed}
 use Rattle.msi_table_values.specs.declared.value.Value.{Value}
 use Rattle.msi_table_values.specs.declared.value.ValueRef.{ValueRef}
@@ -51,3 +51,21 @@ returns-clause-used c = let d = c.self.inside in
     c.columns-columns.result.now c.columns-columns.ensures.columns c.in_ok-held.held.items c.in_ok-held.ensures.ok (unindexed c.in_ok-clone.field-0) (ap unindexed c.in_ok-clone.ensures.ok) c.new-pool.result c.new-pool.ensures c.in_ok-all.all.items c.add_rows.new.pool c.in_ok-all.ensures.page c.in_ok-all.ensures.long
     (insert_of c.args.insert) c.in_ok-values.values.items refl (c.in_ok-values.ensures.ok ∙ c.into_vec.ensures) (is_system_table c.args.insert.table) refl c.requires.free (ap₂ (λ (rows : List (List ValueRef)) (values : List (List Value)). first_refusal (row_refusals d.pool.places (table_with c.columns-columns.result.now rows) values)) (sym c.as_slice-rows.ensures.value) (sym c.as_slice.ensures.value) ∙ c.in_ok-refuse_rows.ensures.ok) c.in_ok-all.ensures.ok).uses new.wide new.stored (unindexed new.pool) new.is_pool_used is)
     c.rows_anew.ensures.ok
+
+pub returns-in_err-held-clause-ok : goal.returns-in_err-held-clause-ok
+returns-in_err-held-clause-ok c = let p = err_from_is_err_and c.from_residual.result c.from_residual.ensures.1 in rw p.1 tt
+
+pub returns-in_err-held-clause-used : goal.returns-in_err-held-clause-used
+returns-in_err-held-clause-used c = let p = err_from_is_err_and c.from_residual.result c.from_residual.ensures.1 in rw p.1 tt
+
+pub returns-in_err-values-clause-ok : goal.returns-in_err-values-clause-ok
+returns-in_err-values-clause-ok c = let p = err_from_is_err_and c.from_residual-in_err-values.result c.from_residual-in_err-values.ensures.1 in rw p.1 tt
+
+pub returns-in_err-values-clause-used : goal.returns-in_err-values-clause-used
+returns-in_err-values-clause-used c = let p = err_from_is_err_and c.from_residual-in_err-values.result c.from_residual-in_err-values.ensures.1 in rw p.1 tt
+
+pub returns-in_err-refuse_rows-clause-ok : goal.returns-in_err-refuse_rows-clause-ok
+returns-in_err-refuse_rows-clause-ok c = let p = err_from_is_err_and c.from_residual-in_err-refuse_rows.result c.from_residual-in_err-refuse_rows.ensures.1 in rw p.1 tt
+
+pub returns-in_err-refuse_rows-clause-used : goal.returns-in_err-refuse_rows-clause-used
+returns-in_err-refuse_rows-clause-used c = let p = err_from_is_err_and c.from_residual-in_err-refuse_rows.result c.from_residual-in_err-refuse_rows.ensures.1 in rw p.1 tt

@@ -1,4 +1,4 @@
-use Rattle.std.proofs.Common.{◌≡◌, ◌∙◌, [], ap, sym, subst, is_some, length, map, List, Some}
+use Rattle.std.proofs.Common.{◌≡◌, ◌∙◌, [], ap, sym, subst, is_some, map, List, Some}
 use Rattle.std.specs.Prelude.{if◌then◌else◌}
 use Rattle.std.specs.FinMap.{entries}
 use Rattle.msi_text_pool_base.specs.Pool.{Pool, unindexed}
@@ -12,6 +12,7 @@ use Rattle.msi_database_storage.specs.Naming.{numbers_named, numbers_of_tables, 
 use Rattle.msi_database.specs.Keeping.{AreKept}
 use Rattle.msi_database.specs.Reading.{IsDatabaseOf}
 use Rattle.msi_database.proofs.ReadWholeLemmas.{Reads, read_census, read_database, read_kept, read_once, reads_by, standard_is, standard_stored, unread_refused}
+use Rattle.msi_database.proofs.PassedLemmas.{memory_refused, no_value}
 use Rattle.msi_database.proofs.database.Database.read.Goals as goal
 
 pub returns-in_err-validation-clause-kind : goal.returns-in_err-validation-clause-kind
@@ -90,3 +91,75 @@ returns-clause-only c = let raw : Pool = unindexed c.args.pool in let streams = 
 
 pub returns-clause-bounded : goal.returns-clause-bounded
 returns-clause-bounded c = c.in_ok-tables.ensures.bounded
+
+pub returns-in_err-columns-clause-ok : goal.returns-in_err-columns-clause-ok
+returns-in_err-columns-clause-ok c = no_value _ c.from_residual.result c.in_err-columns.field-0.0 c.from_residual.ensures.1
+
+pub returns-in_err-columns-clause-only : goal.returns-in_err-columns-clause-only
+returns-in_err-columns-clause-only c = no_value _ c.from_residual.result c.in_err-columns.field-0.0 c.from_residual.ensures.1
+
+pub returns-in_err-columns-clause-bounded : goal.returns-in_err-columns-clause-bounded
+returns-in_err-columns-clause-bounded c = no_value _ c.from_residual.result c.in_err-columns.field-0.0 c.from_residual.ensures.1
+
+pub returns-in_err-columns-clause-kind : goal.returns-in_err-columns-clause-kind
+returns-in_err-columns-clause-kind c = memory_refused c.from_residual.result c.in_err-columns.field-0.0 _ c.from_residual.ensures.1 c.in_err-columns.ensures.kind
+
+pub returns-in_err-standard-clause-ok : goal.returns-in_err-standard-clause-ok
+returns-in_err-standard-clause-ok c = no_value _ c.from_residual-in_err-standard.result c.in_err-standard.field-0.0 c.from_residual-in_err-standard.ensures.1
+
+pub returns-in_err-standard-clause-only : goal.returns-in_err-standard-clause-only
+returns-in_err-standard-clause-only c = no_value _ c.from_residual-in_err-standard.result c.in_err-standard.field-0.0 c.from_residual-in_err-standard.ensures.1
+
+pub returns-in_err-standard-clause-bounded : goal.returns-in_err-standard-clause-bounded
+returns-in_err-standard-clause-bounded c = no_value _ c.from_residual-in_err-standard.result c.in_err-standard.field-0.0 c.from_residual-in_err-standard.ensures.1
+
+pub returns-in_err-standard-clause-kind : goal.returns-in_err-standard-clause-kind
+returns-in_err-standard-clause-kind c = memory_refused c.from_residual-in_err-standard.result c.in_err-standard.field-0.0 _ c.from_residual-in_err-standard.ensures.1 c.in_err-standard.ensures.kind
+
+pub returns-in_err-validation-clause-ok : goal.returns-in_err-validation-clause-ok
+returns-in_err-validation-clause-ok c = no_value _ c.from_residual-in_err-validation.result c.in_err-validation.field-0.0 c.from_residual-in_err-validation.ensures.1
+
+pub returns-in_err-validation-clause-only : goal.returns-in_err-validation-clause-only
+returns-in_err-validation-clause-only c = no_value _ c.from_residual-in_err-validation.result c.in_err-validation.field-0.0 c.from_residual-in_err-validation.ensures.1
+
+pub returns-in_err-validation-clause-bounded : goal.returns-in_err-validation-clause-bounded
+returns-in_err-validation-clause-bounded c = no_value _ c.from_residual-in_err-validation.result c.in_err-validation.field-0.0 c.from_residual-in_err-validation.ensures.1
+
+pub returns-in_err-tables-clause-ok : goal.returns-in_err-tables-clause-ok
+returns-in_err-tables-clause-ok c = no_value _ c.from_residual-in_err-tables.result c.in_err-tables.field-0.0 c.from_residual-in_err-tables.ensures.1
+
+pub returns-in_err-tables-clause-only : goal.returns-in_err-tables-clause-only
+returns-in_err-tables-clause-only c = no_value _ c.from_residual-in_err-tables.result c.in_err-tables.field-0.0 c.from_residual-in_err-tables.ensures.1
+
+pub returns-in_err-tables-clause-bounded : goal.returns-in_err-tables-clause-bounded
+returns-in_err-tables-clause-bounded c = no_value _ c.from_residual-in_err-tables.result c.in_err-tables.field-0.0 c.from_residual-in_err-tables.ensures.1
+
+pub returns-in_err-tables-clause-kind : goal.returns-in_err-tables-clause-kind
+returns-in_err-tables-clause-kind c = err_passed c.from_residual-in_err-tables.result c.in_err-tables.field-0.0 _ c.from_residual-in_err-tables.ensures.1 c.in_err-tables.ensures.kind
+
+pub returns-in_err-census-clause-ok : goal.returns-in_err-census-clause-ok
+returns-in_err-census-clause-ok c = no_value _ c.from_residual-in_err-census.result c.in_err-census.field-0.0 c.from_residual-in_err-census.ensures.1
+
+pub returns-in_err-census-clause-only : goal.returns-in_err-census-clause-only
+returns-in_err-census-clause-only c = no_value _ c.from_residual-in_err-census.result c.in_err-census.field-0.0 c.from_residual-in_err-census.ensures.1
+
+pub returns-in_err-census-clause-bounded : goal.returns-in_err-census-clause-bounded
+returns-in_err-census-clause-bounded c = no_value _ c.from_residual-in_err-census.result c.in_err-census.field-0.0 c.from_residual-in_err-census.ensures.1
+
+pub returns-in_err-census-clause-kind : goal.returns-in_err-census-clause-kind
+returns-in_err-census-clause-kind c = memory_refused c.from_residual-in_err-census.result c.in_err-census.field-0.0 _ c.from_residual-in_err-census.ensures.1 c.in_err-census.ensures.kind
+
+pub returns-in_err-pool-clause-ok : goal.returns-in_err-pool-clause-ok
+returns-in_err-pool-clause-ok c = no_value _ c.from_residual-in_err-pool.result c.in_err-pool.field-0.0 c.from_residual-in_err-pool.ensures.1
+
+pub returns-in_err-pool-clause-only : goal.returns-in_err-pool-clause-only
+returns-in_err-pool-clause-only c = no_value _ c.from_residual-in_err-pool.result c.in_err-pool.field-0.0 c.from_residual-in_err-pool.ensures.1
+
+pub returns-in_err-pool-clause-bounded : goal.returns-in_err-pool-clause-bounded
+returns-in_err-pool-clause-bounded c = no_value _ c.from_residual-in_err-pool.result c.in_err-pool.field-0.0 c.from_residual-in_err-pool.ensures.1
+
+pub returns-in_err-pool-clause-kind : goal.returns-in_err-pool-clause-kind
+returns-in_err-pool-clause-kind c = memory_refused c.from_residual-in_err-pool.result c.in_err-pool.field-0.0 _ c.from_residual-in_err-pool.ensures.1 c.in_err-pool.ensures.kind
+
+pub returns-clause-kind : goal.returns-clause-kind
+returns-clause-kind c = tt

@@ -8,6 +8,7 @@ use Rattle.msi_database_cells.specs.Texts.{in_use}
 use Rattle.msi_database_changes.specs.Insert.{cells_added}
 use Rattle.msi_database.specs.Creating.{rows_with}
 use Rattle.msi_database.proofs.CreatedAnewLemmas.{rows_at_last}
+use Rattle.msi_database.proofs.PassedLemmas.{memory_refused, no_value}
 use Rattle.msi_database.proofs.database.Database.rows_with.Goals as goal
 
 at_last : (c : goal.After-add_rows) → rows_with c.args.self.now.database c.args.name.now c.args.values.items (in_use c.args.pool.now)
@@ -22,3 +23,12 @@ returns-clause-ok c = IfOk-weaker c.add_rows.result (λ all. cells_added true c.
 
 pub returns-clause-kind : goal.returns-clause-kind
 returns-clause-kind c = subst (λ r. IfErr c.add_rows.result (IsRefusal r)) (sym (at_last c)) c.add_rows.ensures.kind
+
+pub returns-in_err-held-clause-ok : goal.returns-in_err-held-clause-ok
+returns-in_err-held-clause-ok c = no_value _ c.from_residual.result c.in_err-held.field-0.0 c.from_residual.ensures.1
+
+pub returns-in_err-held-clause-kind : goal.returns-in_err-held-clause-kind
+returns-in_err-held-clause-kind c = memory_refused c.from_residual.result c.in_err-held.field-0.0 _ c.from_residual.ensures.1 c.in_err-held.ensures.kind
+
+pub returns-in_err-refuse_rows-clause-ok : goal.returns-in_err-refuse_rows-clause-ok
+returns-in_err-refuse_rows-clause-ok c = no_value _ c.from_residual-in_err-refuse_rows.result c.in_err-refuse_rows.field-0.0 c.from_residual-in_err-refuse_rows.ensures.1

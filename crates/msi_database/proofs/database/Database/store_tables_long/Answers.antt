@@ -6,6 +6,7 @@ use Rattle.msi_database_changes.specs.Insert.{table_with}
 use Rattle.msi_database_storage.specs.Widening.{with_long_rows}
 use Rattle.msi_database.specs.Keeping.{IsKeptDatabase}
 use Rattle.msi_database.proofs.WideningCallLemmas.{listed_def, listed_fits, listed_more, listed_named}
+use Rattle.std.proofs.lemmas.Result.{err_from_is_err_and}
 use Rattle.msi_database.proofs.database.Database.store_tables_long.Goals as goal
 
 pub sound_rows-requires-clause-listed : goal.sound_rows-requires-clause-listed
@@ -25,3 +26,9 @@ loop-table-preserved c = record {
       c.in_ok-rows.rows.items c.in_ok-rows.ensures.ok (entries c.args.streams.now) (entries c.loop-table.streams) (entries c.store_long.new.streams) c.loop-table.invariant.so_far
       (c.in_ok-store_long.ensures.ok ∙ ap (λ (rows : List (List ValueRef)). with_long_rows (entries c.loop-table.streams) (c.table-item.result.name, table_with c.table-item.result.columns rows)) c.as_slice.ensures.value);
 }
+
+pub returns-in_err-rows-clause-ok : goal.returns-in_err-rows-clause-ok
+returns-in_err-rows-clause-ok c = let p = err_from_is_err_and c.from_residual.result c.from_residual.ensures.1 in rw p.1 tt
+
+pub returns-in_err-store_long-clause-ok : goal.returns-in_err-store_long-clause-ok
+returns-in_err-store_long-clause-ok c = let p = err_from_is_err_and c.from_residual-in_err-store_long.result c.from_residual-in_err-store_long.ensures.1 in rw p.1 tt

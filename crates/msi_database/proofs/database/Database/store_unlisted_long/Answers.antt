@@ -1,5 +1,5 @@
 use Rattle.std.proofs.Common.{◌≡◌, List, ap, subst, sym, ◌∙◌}
-use Rattle.std.proofs.lemmas.Result.{on_ok_weaker}
+use Rattle.std.proofs.lemmas.Result.{on_ok_weaker, err_from_is_err_and}
 use Rattle.std.specs.FinMap.{entries}
 use Rattle.msi_text_base.specs.declared.errors.ErrorKind.{ErrorKind}
 use Rattle.msi_text_base.specs.declared.errors.ErrorKind.TheVariants.{OutOfMemory}
@@ -40,3 +40,12 @@ returns-clause-ok c = on_ok_weaker {P = entries c.store_long.new.streams ≡ wit
     (c.in_ok-validation.ensures.ok ∙ (λ i. record { name = validation_name; columns = c.in_ok-columns.ensures.ok i; long = (c.long_string_refs-long.ensures ∙ ap (λ (k : Kept). k.database.pool.long) c.self.view_is) i }))
     (entries c.self.inside.streams) (ap (λ (k : Kept). k.streams) c.self.view_is) c.in_ok-rows.rows.items c.in_ok-rows.ensures.ok (entries c.args.streams.now))
     c.store_long.ensures.ok
+
+pub returns-in_err-columns-clause-ok : goal.returns-in_err-columns-clause-ok
+returns-in_err-columns-clause-ok c = let p = err_from_is_err_and c.from_residual.result c.from_residual.ensures.1 in rw p.1 tt
+
+pub returns-in_err-validation-clause-ok : goal.returns-in_err-validation-clause-ok
+returns-in_err-validation-clause-ok c = let p = err_from_is_err_and c.from_residual-in_err-validation.result c.from_residual-in_err-validation.ensures.1 in rw p.1 tt
+
+pub returns-in_err-rows-clause-ok : goal.returns-in_err-rows-clause-ok
+returns-in_err-rows-clause-ok c = let p = err_from_is_err_and c.from_residual-in_err-rows.result c.from_residual-in_err-rows.ensures.1 in rw p.1 tt

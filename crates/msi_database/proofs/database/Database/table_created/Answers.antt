@@ -9,6 +9,7 @@ use Rattle.msi_database.specs.Creating.{IsCreated, create_refusals}
 use Rattle.msi_database.specs.Keeping.{IsKeptDatabase}
 use Rattle.msi_database.proofs.EarlyCallLemmas.{first_where_err, none_where_ok}
 use Rattle.msi_database.proofs.CreatedAnewLemmas.{create_barred_either, create_called, made_with, named_with, rows_refused, told_with}
+use Rattle.msi_database.proofs.PassedLemmas.{memory_refuses, no_value}
 use Rattle.msi_database.proofs.database.Database.table_created.Goals as goal
 
 pub returns-in_err-refuse_create-clause-kind : goal.returns-in_err-refuse_create-clause-kind
@@ -78,3 +79,24 @@ pub returns-clause-early : goal.returns-clause-early
 returns-clause-early c = let d = c.args.self.now.database in let name = c.args.name.now in
     none_answered (create_refusals d name c.args.columns) _
     (ap (λ (cs : List ColumnDef). first_refusal (create_refusals d name cs)) (sym c.as_slice.ensures) ∙ none_where_ok (create_refusals d name c.as_slice.result.now) tt c.in_ok-refuse_create.field-0 c.in_ok-refuse_create.ensures.value)
+
+pub returns-in_err-refuse_create-clause-ok : goal.returns-in_err-refuse_create-clause-ok
+returns-in_err-refuse_create-clause-ok c = no_value _ c.from_residual.result c.in_err-refuse_create.field-0.0 c.from_residual.ensures.1
+
+pub returns-in_err-refuse_create-clause-used : goal.returns-in_err-refuse_create-clause-used
+returns-in_err-refuse_create-clause-used c = no_value _ c.from_residual.result c.in_err-refuse_create.field-0.0 c.from_residual.ensures.1
+
+pub returns-in_err-refuse_create-clause-names : goal.returns-in_err-refuse_create-clause-names
+returns-in_err-refuse_create-clause-names c = no_value _ c.from_residual.result c.in_err-refuse_create.field-0.0 c.from_residual.ensures.1
+
+pub returns-in_err-rows-clause-ok : goal.returns-in_err-rows-clause-ok
+returns-in_err-rows-clause-ok c = no_value _ c.from_residual-in_err-rows.result c.in_err-rows.field-0.0 c.from_residual-in_err-rows.ensures.1
+
+pub returns-in_err-rows-clause-used : goal.returns-in_err-rows-clause-used
+returns-in_err-rows-clause-used c = no_value _ c.from_residual-in_err-rows.result c.in_err-rows.field-0.0 c.from_residual-in_err-rows.ensures.1
+
+pub returns-in_err-rows-clause-names : goal.returns-in_err-rows-clause-names
+returns-in_err-rows-clause-names c = no_value _ c.from_residual-in_err-rows.result c.in_err-rows.field-0.0 c.from_residual-in_err-rows.ensures.1
+
+pub returns-clause-kind : goal.returns-clause-kind
+returns-clause-kind c = memory_refuses c.created_over.result _ c.created_over.ensures.kind

@@ -5,6 +5,7 @@ use Rattle.msi_text.proofs.RefusalLemmas.{err_passed}
 use Rattle.msi_database_storage.specs.Kept.{table_kept_at}
 use Rattle.msi_database.specs.Listed.{rows_at}
 use Rattle.msi_database.proofs.WholeLemmas.{read_errs, read_first, read_refused, relation_at, whole_ok, whole_refused}
+use Rattle.std.proofs.lemmas.Result.{err_from_is_err_and}
 use Rattle.msi_database.proofs.database.Database.whole.Goals as goal
 
 pub returns-in_err-table-clause-kind : goal.returns-in_err-table-clause-kind
@@ -52,3 +53,15 @@ returns-clause-ok c = let d = c.self.inside in let table = c.in_ok-table.table.n
     let columns : c.in_ok-columns.columns ≡ table.columns = c.in_ok-columns.ensures.ok ∙ c.columns.ensures.columns in
     rw (c.new.ensures, c.in_ok-into_text.ensures.ok, columns, ← c.self.view_is)
     (whole_ok (unindexed d.pool) d.tables (entries d.streams) c.args.name.now table c.in_ok-rows.rows.items c.self.invariant.as_long found c.in_ok-rows.ensures.ok)
+
+pub returns-in_err-table-clause-ok : goal.returns-in_err-table-clause-ok
+returns-in_err-table-clause-ok c = let p = err_from_is_err_and c.from_residual.result c.from_residual.ensures.1 in rw p.1 tt
+
+pub returns-in_err-rows-clause-ok : goal.returns-in_err-rows-clause-ok
+returns-in_err-rows-clause-ok c = let p = err_from_is_err_and c.from_residual-in_err-rows.result c.from_residual-in_err-rows.ensures.1 in rw p.1 tt
+
+pub returns-in_err-columns-clause-ok : goal.returns-in_err-columns-clause-ok
+returns-in_err-columns-clause-ok c = let p = err_from_is_err_and c.from_residual-in_err-columns.result c.from_residual-in_err-columns.ensures.1 in rw p.1 tt
+
+pub returns-in_err-into_text-clause-ok : goal.returns-in_err-into_text-clause-ok
+returns-in_err-into_text-clause-ok c = let p = err_from_is_err_and c.from_residual-in_err-into_text.result c.from_residual-in_err-into_text.ensures.1 in rw p.1 tt

@@ -9,6 +9,7 @@ use Rattle.msi_database_storage.specs.Widening.{unlisted_table, with_long_rows}
 use Rattle.msi_database.specs.Keeping.{IsKeptDatabase}
 use Rattle.msi_database.proofs.WideningCallLemmas.{wide_parts}
 use Rattle.msi_database.proofs.WideRefusalLemmas.{long_pool}
+use Rattle.std.proofs.lemmas.Result.{err_from_is_err_and}
 use Rattle.msi_database.proofs.database.Database.widened.Goals as goal
 
 pub invariant_of-result : goal.invariant_of-result
@@ -30,3 +31,18 @@ returns-clause-ok c = let d = c.self.inside in let old = c.args.self.now in
     ∙ ap (λ (s : Streams). with_long_rows s (unlisted_table old.database)) (c.in_ok-store_tables_long.ensures.ok
     ∙ ap (λ (m : maps.Streams). fold with_long_rows (entries m) old.database.tables) c.in_ok-streams.ensures.ok
     ∙ ap (λ (k : Kept). fold with_long_rows k.streams old.database.tables) c.self.view_is))).0
+
+pub returns-in_err-streams-clause-ok : goal.returns-in_err-streams-clause-ok
+returns-in_err-streams-clause-ok c = let p = err_from_is_err_and c.from_residual.result c.from_residual.ensures.1 in rw p.1 tt
+
+pub returns-in_err-store_tables_long-clause-ok : goal.returns-in_err-store_tables_long-clause-ok
+returns-in_err-store_tables_long-clause-ok c = let p = err_from_is_err_and c.from_residual-in_err-store_tables_long.result c.from_residual-in_err-store_tables_long.ensures.1 in rw p.1 tt
+
+pub returns-in_err-store_unlisted_long-clause-ok : goal.returns-in_err-store_unlisted_long-clause-ok
+returns-in_err-store_unlisted_long-clause-ok c = let p = err_from_is_err_and c.from_residual-in_err-store_unlisted_long.result c.from_residual-in_err-store_unlisted_long.ensures.1 in rw p.1 tt
+
+pub returns-in_err-tables-clause-ok : goal.returns-in_err-tables-clause-ok
+returns-in_err-tables-clause-ok c = let p = err_from_is_err_and c.from_residual-in_err-tables.result c.from_residual-in_err-tables.ensures.1 in rw p.1 tt
+
+pub returns-in_err-pool-clause-ok : goal.returns-in_err-pool-clause-ok
+returns-in_err-pool-clause-ok c = let p = err_from_is_err_and c.from_residual-in_err-pool.result c.from_residual-in_err-pool.ensures.1 in rw p.1 tt
