@@ -6,7 +6,7 @@ use Rattle.msi_container_chains.specs.Claims.{IsFree}
 use Rattle.msi_container_format.specs.Container.{successor}
 use Rattle.msi_container_chains.proofs.ClaimLemmas.{claim_lacked_memory}
 use Rattle.msi_container_chains.proofs.ChainLemmas.{chain_push, follower_more, next_is, free_at}
-use Rattle.msi_container_chains.proofs.WholeChainLemmas.{more_left, none_left, front_push, follower_push, some_follows}
+use Rattle.msi_container_chains.proofs.WholeChainLemmas.{more_left, none_left, none_from_end, front_push, follower_push, some_follows}
 use Rattle.msi_container_chains.proofs.StepLemmas.{used_more, used_one_more, used_same, used_most}
 use Rattle.msi_container_chains.proofs.walks.walk_to_end.Goals as goal
 
@@ -114,3 +114,7 @@ pub returns-clause-steps : goal.returns-clause-steps
 returns-clause-steps c =
     let i = c.loop-link.invariant in
     omega (arith, used_more c.args.claims.now.list c.loop-link.claims.list c.loop-link.chain i.claimed, i.counted)
+
+pub returns-then-start-eq-END_OF_CHAIN-clause-only : goal.returns-then-start-eq-END_OF_CHAIN-clause-only
+returns-then-start-eq-END_OF_CHAIN-clause-only c = λ chain whole can.
+    absurd (none_from_end _ c.args.start _ c.args.claims.now.list.items chain whole can c.requires.regular c.if-start-eq-END_OF_CHAIN.true)
