@@ -30,7 +30,7 @@ pub struct Claims {
     pub ghost distinct: { AreDistinct list.items },
 }
 
-/// Written out, so that a function that owns claims calls one drop, and its proof doesn't go through those of the parts.
+/// Written out, so that a function that owns claims calls one drop, and its proof passes over those of the parts.
 impl Drop for Claims {
     fn drop(self) {
         let Claims {
