@@ -1,6 +1,6 @@
 -- What the parts of a file say of its plan, where the code has sectors and entries under other names: behind a slice, or
 -- as they stood before a call. Over plain lists and numbers, since a function that owns all parts has long goals.
-use Rattle.std.proofs.Common.{◌≡◌, ℕ, ◌+◌, ◌-◌, ◌*◌, ◌<◌, ◌≤◌, ◌^◌, Bool, List, ◌++◌, length, sum_by, Result, Err, ◌⊎◌, inl, sym, ◌∙◌, ap, arith, refl}
+use Rattle.std.proofs.Common.{◌≡◌, ℕ, ◌+◌, ◌-◌, ◌<◌, ◌≤◌, ◌^◌, Bool, List, ◌++◌, length, sum_by, Result, Err, ◌⊎◌, inl, sym, ◌∙◌, ap, arith, refl}
 use Rattle.msi_text_base.specs.declared.errors.ErrorKind.{ErrorKind}
 use Rattle.msi_text_base.specs.declared.errors.ErrorKind.TheVariants.{InvalidData, OutOfMemory}
 use Rattle.msi_container_format.specs.Chains.{AreBelow, AreDistinct}
