@@ -1,5 +1,5 @@
 -- Marks, and the numbers in use.
-use Rattle.std.proofs.Common.{◌≡◌, ◌≢◌, ℕ, ◌+◌, ◌<◌, Bool, true, false, cond, List, [], ◌∷◌, ◌++◌, length, get_or, set, Result, Err, ◌⊎◌, inl, inr, sym, ◌∙◌, ap, arith, refl}
+use Rattle.std.proofs.Common.{◌≡◌, ◌≢◌, ℕ, ◌+◌, ◌<◌, Bool, true, false, cond, List, [], ◌∷◌, ◌++◌, length, get_or, set, Result, Err, ◌⊎◌, inl, inr, sym, ◌∙◌, ap, arith, refl, Vec, Global, vec_len}
 use Rattle.std.specs.List.{count_by}
 use Rattle.std.proofs.lemmas.List.{get_or-set_same, get_or-set_other, get_or_push, get_or_append_left, length_push, get_or_past}
 use Rattle.std.proofs.lemmas.List.Sums.{sum_by-set}
@@ -87,6 +87,9 @@ below_marked marks used m i l =
       | inl h ↦ h
       | inr h ↦ let past = get_or_past marks (get_or used i 0) false h in let marked = m i l in cc
     ]
+
+pub below_vector : (marks : Vec Bool Global) (used : List ℕ) → MarkedAre marks.items used → AreBelow (vec_len marks) used
+below_vector marks used m i l = omega (arith, below_marked marks.items used m i l, marks.ok)
 
 -- a claim that failed, although the number was free, failed for want of memory
 pub claim_lacked_memory : (limit number : ℕ) (used : List ℕ) (e : ErrorKind)

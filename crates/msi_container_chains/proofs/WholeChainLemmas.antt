@@ -47,6 +47,15 @@ none_left next start limit used c xs whole can regular f follows =
       | inr l ↦ f.front ∙ take_all (length xs) c l
     ]
 
+-- no chain that can be claimed starts with the end mark
+pub none_from_end : (next : ℕ → Option ℕ) (start limit : ℕ) (used c : List ℕ)
+    → IsWholeChain next start c
+    → CanClaim limit used c
+    → limit ≤ MAX_REGULAR_SECTOR + 1
+    → start ≡ END_OF_CHAIN
+    → ⊥
+none_from_end next start limit used c whole can regular e = omega (arith, whole.chain.first whole.filled, can.below 0 whole.filled)
+
 -- a front that is one member longer
 pub front_push : (next : ℕ → Option ℕ) (start link : ℕ) (c xs : List ℕ)
     → IsWholeChain next start c

@@ -20,7 +20,6 @@ pub enum Claimed {
 }
 
 /// The numbers in use, in the order in which they were claimed: each is below the limit, and none stands twice.
-#[derive(Drop)]
 pub struct Claims {
     pub(crate) claimed: Claimed,
     pub marks: Vec<bool>,
@@ -29,6 +28,17 @@ pub struct Claims {
     pub ghost unmarked: { OthersAreUnmarked marks.items list.items },
     pub ghost counted: { count_by (λ b. b) marks.items ≡ vec_len list },
     pub ghost distinct: { AreDistinct list.items },
+}
+
+/// Written out, so that a function that owns claims calls one drop, and its proof passes over those of the parts.
+impl Drop for Claims {
+    fn drop(self) {
+        let Claims {
+            claimed: _,
+            marks: _,
+            list: _,
+        } = self;
+    }
 }
 
 impl Claims {

@@ -8,6 +8,9 @@ pub mod ListLemmas
 pub mod PlanPartsLemmas
 pub mod ListingLemmas
 pub mod StepLemmas
+pub mod KindLemmas
+pub mod RoomLemmas
+pub mod OutlineLemmas
 pub mod KeptLemmas
 pub mod NamedSizesLemmas
 pub mod StepRows

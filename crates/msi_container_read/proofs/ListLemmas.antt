@@ -2,6 +2,7 @@
 use Rattle.std.proofs.Common.{◌≡◌, ℕ, zero, suc, ◌+◌, ◌-◌, ◌<◌, List, [], ◌∷◌, ◌++◌, length, get_or, map, inl, inr, ◌∙◌, ap, arith}
 use Rattle.std.specs.List.{AllZip, range_with_len}
 use Rattle.std.proofs.lemmas.Bool.{cases_lt}
+use Rattle.msi_container_format.specs.Chains.{AreBelow}
 use Rattle.std.proofs.lemmas.List.{length-append, get_or_append_left, get_or-append_right}
 use Rattle.std.proofs.lemmas.List.FromFn.{length-map-range_with_len, get_or-map-range_with_len, fill_by_all}
 
@@ -14,6 +15,10 @@ paired_at R [] ys i d e h l = absurd (omega arith)
 paired_at R (x ∷ xs) [] i d e h l = absurd h
 paired_at R (x ∷ xs) (y ∷ ys) zero d e h l = h.0
 paired_at R (x ∷ xs) (y ∷ ys) (suc i) d e h l = paired_at R xs ys i d e h.1 (omega arith)
+
+-- what is below a limit with its list is so where it stands under another name
+pub below_at : (n : ℕ) (xs : List ℕ) (i x : ℕ) → AreBelow n xs → i < length xs → x ≡ get_or xs i 0 → x < n
+below_at n xs i x below l at = omega (arith, below i l, at)
 
 -- a list by index in two parts
 pub from_fn_append : {X : Type 0} (f g : ℕ → X) (a b n : ℕ)

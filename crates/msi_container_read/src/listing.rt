@@ -35,12 +35,17 @@ pub fn list(alloc: Global, bytes: &[u8]) -> Result<Listing, Error>
     let outline = read_outline(alloc, bytes, &mut steps)?;
     let directory = Directory {
         bytes,
-        sectors: &outline.directory,
+        sectors: &outline.start.directory,
     };
-    let sizes = sizes_of(alloc, &directory, &outline.storages, &outline.streams)?;
+    let sizes = sizes_of(
+        alloc,
+        &directory,
+        &outline.entries.storages,
+        &outline.entries.streams,
+    )?;
     Ok(Listing {
         sizes,
-        has_storages: outline.has_storages,
+        has_storages: outline.entries.has_storages,
     })
 }
 

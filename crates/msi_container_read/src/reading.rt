@@ -113,37 +113,46 @@ fn read_from(
     let outline = read_outline(alloc, bytes, steps)?;
     let directory = Directory {
         bytes,
-        sectors: &outline.directory,
+        sectors: &outline.start.directory,
     };
     let streams = collect(
         alloc,
         &directory,
         image,
-        &outline.mini_stream,
-        &outline.storages,
-        &outline.streams,
+        &outline.mini.stream,
+        &outline.entries.storages,
+        &outline.entries.streams,
         &outline.chains,
     )?;
     Ok(Contents {
         clsid: outline.clsid,
         streams,
-        has_storages: outline.has_storages,
+        has_storages: outline.entries.has_storages,
     })
 }
 
 /// Where the streams of a container stand, and what else its directory says.
-#[derive(Drop)]
 pub(crate) struct Outline {
     pub(crate) clsid: [u8; 16],
-    pub(crate) has_storages: bool,
-    /// The sectors of the directory, and those of the mini stream.
-    pub(crate) directory: Vec<u32>,
-    pub(crate) mini_stream: Vec<u32>,
-    /// The entries of storages, and those of streams, in the tree's order, and the members of each stream.
-    pub(crate) storages: Vec<u32>,
-    pub(crate) streams: Vec<u32>,
+    pub(crate) start: Start,
+    pub(crate) entries: Entries,
+    pub(crate) mini: Mini,
+    /// The members of each stream.
     pub(crate) chains: Vec<Vec<u32>>,
-    ghost few: { vec_len directory ≤ 2 ^ 32 },
+    ghost few: { vec_len start.directory ≤ 2 ^ 32 },
+}
+
+/// Written out, as those of its parts are, so that a function that owns one calls one drop.
+impl Drop for Outline {
+    fn drop(self) {
+        let Outline {
+            clsid: _,
+            start: _,
+            entries: _,
+            mini: _,
+            chains: _,
+        } = self;
+    }
 }
 
 /// Where the streams of the container stand that the bytes hold. The names of entries aren't looked at yet. Errors
@@ -155,11 +164,12 @@ pub(crate) fn read_outline(alloc: Global, bytes: &[u8], steps: &mut Steps) -> Re
         (storages_among bytes.now plan.directory (members plan.tree)) (container.stream_entries bytes.now plan)
         → container.IsPlan bytes.now plan)
         × (steps.new ≡ steps.old + counted.steps_of plan)
-        × IsOutline bytes.now plan o.clsid o.has_storages
-        o.directory.items o.mini_stream.items o.storages.items o.streams.items (views o.chains.items)) }
+        × IsOutline bytes.now plan o.clsid o.entries.has_storages
+        o.start.directory.items o.mini.stream.items o.entries.storages.items o.entries.streams.items
+        (views o.chains.items)) }
     ensures only { (plan : container.Plan) → container.IsPlan bytes.now plan
         → ViewIsUnlessMemory {Y = List ℕ × List ℕ × List ℕ}
-        (λ o. (o.directory.items, o.storages.items, o.streams.items)) result (
+        (λ o. (o.start.directory.items, o.entries.storages.items, o.entries.streams.items)) result (
           plan.directory,
           storages_among bytes.now plan.directory
               (members plan.tree),
@@ -167,10 +177,11 @@ pub(crate) fn read_outline(alloc: Global, bytes: &[u8], steps: &mut Steps) -> Re
         ) }
     ensures kinds { FailsByData result }
     ensures storages { IfOk result
-        (λ o. AreBelow (container.entry_count bytes.now o.directory.items) o.storages.items) }
-    ensures below { IfOk result (λ o. AreBelow (container.entry_count bytes.now o.directory.items) o.streams.items) }
+        (λ o. AreBelow (container.entry_count bytes.now o.start.directory.items) o.entries.storages.items) }
+    ensures below { IfOk result
+        (λ o. AreBelow (container.entry_count bytes.now o.start.directory.items) o.entries.streams.items) }
     ensures covered { IfOk result
-        (λ o. AllZip (IsCovered bytes.now o.mini_stream.items o.directory.items) o.streams.items
+        (λ o. AllZip (IsCovered bytes.now o.mini.stream.items o.start.directory.items) o.entries.streams.items
         (views o.chains.items)) }
     ensures grows { steps.old ≤ steps.new }
     ensures bounded { counted.IsWithinSectors bytes.now (steps.new - steps.old) }
@@ -182,37 +193,71 @@ pub(crate) fn read_outline(alloc: Global, bytes: &[u8], steps: &mut Steps) -> Re
         bytes,
         sectors: &start.directory,
     };
-    let entries = read_listing(alloc, &directory)?;
+    let entries = read_entries(alloc, &directory)?;
     let mini = read_mini(alloc, &fat, &directory, &mut claims, steps)?;
-    let storages = of_kind(alloc, &directory, &entries, STORAGE)?;
-    let streams = of_kind(alloc, &directory, &entries, STREAM)?;
-    let chains = read_chains(alloc, &fat, &directory, &mini, &streams, claims, steps)?;
+    let chains = read_chains(
+        alloc,
+        &fat,
+        &directory,
+        &mini,
+        &entries.streams,
+        claims,
+        steps,
+    )?;
     let clsid = directory.clsid();
-    let has_storages = has_storage(&directory, &entries);
     Ok(Outline {
         clsid,
-        has_storages,
-        directory: start.directory,
-        mini_stream: mini.stream,
-        storages,
-        streams,
+        start,
+        entries,
+        mini,
         chains,
     })
 }
 
-/// The sectors of the FAT and of the directory.
-#[derive(Drop)]
-struct Start {
+/// The sectors of the DIFAT, the FAT and the directory.
+pub(crate) struct Start {
     difat: Vec<u32>,
     fat: Vec<u32>,
-    directory: Vec<u32>,
+    pub(crate) directory: Vec<u32>,
+}
+
+impl Drop for Start {
+    fn drop(self) {
+        let Start {
+            difat: _,
+            fat: _,
+            directory: _,
+        } = self;
+    }
+}
+
+/// The entries of storages, and those of streams, in the tree's order.
+pub(crate) struct Entries {
+    pub(crate) has_storages: bool,
+    pub(crate) storages: Vec<u32>,
+    pub(crate) streams: Vec<u32>,
+}
+
+impl Drop for Entries {
+    fn drop(self) {
+        let Entries {
+            has_storages: _,
+            storages: _,
+            streams: _,
+        } = self;
+    }
 }
 
 /// The sectors of the mini FAT and of the mini stream.
-#[derive(Drop)]
-struct Mini {
+pub(crate) struct Mini {
     fat: Vec<u32>,
-    stream: Vec<u32>,
+    pub(crate) stream: Vec<u32>,
+}
+
+impl Drop for Mini {
+    fn drop(self) {
+        let Mini { fat: _, stream: _ } = self;
+    }
 }
 
 /// Checks the header, and claims the sectors of the DIFAT, the FAT and the directory.
@@ -249,6 +294,37 @@ fn read_start(
         difat,
         fat,
         directory,
+    })
+}
+
+/// Checks the root, and sorts the entries below it into storages and streams.
+fn read_entries(alloc: Global, directory: &Directory) -> Result<Entries, Error>
+    requires { 0 < container.entry_count directory.now.bytes.now directory.now.sectors.now }
+    ensures found { IfOk result
+        (λ e. (tree : Tree) × IsNamelessListing directory.now.bytes.now directory.now.sectors.now tree
+        × (e.has_storages ≡ container.has_storage directory.now.bytes.now directory.now.sectors.now (members tree))
+        × (e.storages.items ≡ storages_among directory.now.bytes.now directory.now.sectors.now (members tree))
+        × (e.streams.items
+        ≡ container.streams_among directory.now.bytes.now directory.now.sectors.now (members tree))) }
+    ensures only { (tree : Tree) → IsNamelessListing directory.now.bytes.now directory.now.sectors.now tree
+        → ViewIsUnlessMemory {Y = List ℕ × List ℕ} (λ e. (e.storages.items, e.streams.items)) result (
+          storages_among directory.now.bytes.now directory.now.sectors.now (members tree),
+          container.streams_among directory.now.bytes.now directory.now.sectors.now (members tree),
+        ) }
+    ensures storages { IfOk result
+        (λ e. AreBelow (container.entry_count directory.now.bytes.now directory.now.sectors.now) e.storages.items) }
+    ensures below { IfOk result
+        (λ e. AreBelow (container.entry_count directory.now.bytes.now directory.now.sectors.now) e.streams.items) }
+    ensures kinds { FailsByData result }
+{
+    let entries = read_listing(alloc, directory)?;
+    let storages = of_kind(alloc, directory, &entries, STORAGE)?;
+    let streams = of_kind(alloc, directory, &entries, STREAM)?;
+    let has_storages = has_storage(directory, &entries);
+    Ok(Entries {
+        has_storages,
+        storages,
+        streams,
     })
 }
 

@@ -1,7 +1,7 @@
 use Rattle.std.proofs.Common.{arith, ◌≡◌, ◌<◌, ◌-◌, ◌/◌, ◌++◌, take, vec_len, ◌∙◌, sym, Some}
 use Rattle.std.specs.Int.{div_ceil}
 use Rattle.std.proofs.lemmas.Result.{err_from_is_err_and}
-use Rattle.std.proofs.lemmas.List.{append_assoc}
+use Rattle.std.proofs.lemmas.List.{append_assoc, take_all}
 use Rattle.msi_container_format.specs.Bytes.{number32}
 use Rattle.msi_container_chains.specs.Claims.{IsFree}
 use Rattle.msi_container_chains.specs.Walks.{follower}
@@ -49,3 +49,19 @@ loop-preserved c =
       limit = c.in_ok-claim.ensures.limit ∙ i.limit;
       only = λ difat is can. rw pushed (same_push next start count c.loop.counter s xs difat is within (i.only difat is can) follows);
     }
+
+pub returns-clause-found : goal.returns-clause-found
+returns-clause-found c =
+    let bytes = c.args.bytes.now in
+    let count = div_ceil (fat_count bytes - 109) (sector_size bytes / 4 - 1) in
+    let end : c.div_ceil-end.result ≡ count = cc in
+    let all : c.loop.counter ≡ c.div_ceil-end.result = omega arith in
+    (rw (all, end) at c.loop.invariant.so_far, c.loop.invariant.claimed)
+
+pub returns-clause-only : goal.returns-clause-only
+returns-clause-only c = λ difat is can.
+    let bytes = c.args.bytes.now in
+    let count = div_ceil (fat_count bytes - 109) (sector_size bytes / 4 - 1) in
+    let end : c.div_ceil-end.result ≡ count = cc in
+    let all : c.loop.counter ≡ c.div_ceil-end.result = omega arith in
+    c.loop.invariant.only difat is can ∙ take_all c.loop.counter difat (omega (arith, is.long, end, all))

@@ -5,8 +5,9 @@ use Rattle.std.proofs.lemmas.List.{append_assoc}
 use Rattle.msi_container_chains.specs.Claims.{IsFree}
 use Rattle.msi_container_format.specs.Container.{successor}
 use Rattle.msi_container_chains.proofs.ClaimLemmas.{claim_lacked_memory}
-use Rattle.msi_container_chains.proofs.ChainLemmas.{chain_push, next_is, free_at}
-use Rattle.msi_container_chains.proofs.WholeChainLemmas.{more_left, none_left, front_push, follower_push, some_follows}
+use Rattle.msi_container_chains.proofs.ChainLemmas.{chain_push, follower_more, next_is, free_at}
+use Rattle.msi_container_chains.proofs.WholeChainLemmas.{more_left, none_left, none_from_end, front_push, follower_push, some_follows}
+use Rattle.msi_container_chains.proofs.StepLemmas.{used_more, used_one_more, used_same, used_most}
 use Rattle.msi_container_chains.proofs.walks.walk_to_end.Goals as goal
 
 pub returns-in_err-claim-clause-only : goal.returns-in_err-claim-clause-only
@@ -64,3 +65,56 @@ returns-clause-only c = λ chain whole can.
     let i = c.loop-link.invariant in
     let ended = i.follows ∙ ap Some c.loop-link-test.false in
     none_left next c.args.start _ c.args.claims.now.list.items chain c.loop-link.chain.items whole can c.requires.regular (i.only chain whole can) ended
+
+pub returns-in_err-claim-clause-steps : goal.returns-in_err-claim-clause-steps
+returns-in_err-claim-clause-steps c =
+    let i = c.loop-link.invariant in
+    let same = used_same c.loop-link.claims.list c.claim.new.self.list c.in_err-claim.ensures.err in
+    omega (arith, used_more c.args.claims.now.list c.loop-link.claims.list c.loop-link.chain i.claimed, same, i.counted)
+
+pub returns-in_err-push-clause-steps : goal.returns-in_err-push-clause-steps
+returns-in_err-push-clause-steps c =
+    let i = c.loop-link.invariant in
+    let more = used_one_more c.loop-link.claims.list c.claim.new.self.list c.loop-link.link c.in_ok-claim.ensures.ok.1 in
+    omega (arith, used_more c.args.claims.now.list c.loop-link.claims.list c.loop-link.chain i.claimed, more, i.counted)
+
+pub successor-requires : goal.successor-requires
+successor-requires c =
+    let now = c.loop-link.claims in
+    let i = c.loop-link.invariant in
+    omega (arith, used_more c.args.claims.now.list now.list c.loop-link.chain i.claimed, used_most now.marks now.list now.counted, i.limit, i.counted, c.requires.steps)
+
+pub loop-link-smaller : goal.loop-link-smaller
+loop-link-smaller c =
+    let after = c.claim.new.self in
+    let more = used_one_more c.loop-link.claims.list after.list c.loop-link.link c.in_ok-claim.ensures.ok.1 in
+    omega (arith, more, used_most after.marks after.list after.counted, c.in_ok-claim.ensures.limit)
+
+pub returns-in-None-clause-steps : goal.returns-in-None-clause-steps
+returns-in-None-clause-steps c =
+    let i = c.loop-link.invariant in
+    let more = used_one_more c.loop-link.claims.list c.claim.new.self.list c.loop-link.link c.in_ok-claim.ensures.ok.1 in
+    omega (arith, used_more c.args.claims.now.list c.loop-link.claims.list c.loop-link.chain i.claimed, more, i.counted, c.in-None.ensures.step)
+
+pub returns-clause-found : goal.returns-clause-found
+returns-clause-found c =
+    let next = successor c.args.table.now.bytes.now c.args.table.now.sectors.now in
+    let i = c.loop-link.invariant in
+    let long = c.loop-link.chain.ok.0 in
+    let link = c.loop-link-test.false in (
+      record {
+        chain = rw long at i.so_far;
+        filled = omega (arith, long, i.filled link);
+        ended = sym (follower_more next c.args.start c.loop-link.chain.items (omega (arith, long, i.filled link))) ∙ i.follows ∙ ap Some link;
+      },
+      i.claimed,
+    )
+
+pub returns-clause-steps : goal.returns-clause-steps
+returns-clause-steps c =
+    let i = c.loop-link.invariant in
+    omega (arith, used_more c.args.claims.now.list c.loop-link.claims.list c.loop-link.chain i.claimed, i.counted)
+
+pub returns-then-start-eq-END_OF_CHAIN-clause-only : goal.returns-then-start-eq-END_OF_CHAIN-clause-only
+returns-then-start-eq-END_OF_CHAIN-clause-only c = λ chain whole can.
+    absurd (none_from_end _ c.args.start _ c.args.claims.now.list.items chain whole can c.requires.regular c.if-start-eq-END_OF_CHAIN.true)

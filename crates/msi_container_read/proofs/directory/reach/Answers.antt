@@ -1,9 +1,10 @@
-use Rattle.std.proofs.Common.{◌≡◌, [], ◌∷◌, ◌<◌, ◌++◌, ◌∙◌, ap, arith}
+use Rattle.std.proofs.Common.{◌≡◌, [], ◌∷◌, ◌<◌, ◌++◌, ◌∙◌, ap, refl, arith}
 use Rattle.std.proofs.lemmas.Result.{err_from_is_err_and}
 use Rattle.msi_container_format.specs.Container.{left, right, entry_count}
 use Rattle.msi_container_format.specs.Format.{NO_ENTRY}
 use Rattle.msi_container_chains.proofs.ClaimLemmas.{claim_lacked_memory}
 use Rattle.msi_container_read.proofs.TreeLemmas.{completes_start, remains_start, completes_skip, remains_skip, completes_step, remains_step, completes_end, free_link}
+use Rattle.msi_container_read.proofs.RoomLemmas.{fewer_left}
 use Rattle.msi_container_read.proofs.directory.reach.Goals as goal
 
 pub loop-link-init : goal.loop-link-init
@@ -44,7 +45,7 @@ loop-link-preserved c =
     let there : link < entry_count bytes sectors = omega (arith, c.in_ok-claim.ensures.ok.0.below, i.limit) in
     let first = c.in_ok-push-2.ensures.items in
     let second = c.in_ok-push-3.ensures.items in
-    let pushed : c.push-in-Some-2.new.self.items ≡ (rest ++ right bytes sectors link ∷ []) ++ left bytes sectors link ∷ [] = cc in
+    let pushed : c.push-in-Some-2.new.self.items ≡ (rest ++ right bytes sectors link ∷ []) ++ left bytes sectors link ∷ [] = second ∙ rw (first, c.right.ensures, c.left.ensures) refl in
     record {
       limit = c.in_ok-claim.ensures.limit ∙ i.limit;
       whole = rw (c.in_ok-claim.ensures.ok.1, pushed) (completes_step (left bytes sectors) (right bytes sectors) (entry_count bytes sectors) c.args.child link list rest c.if-link.false there (rw popped at i.whole));
@@ -71,3 +72,18 @@ returns-clause-found c =
     let sectors = c.args.directory.now.sectors.now in
     let whole = completes_end (left bytes sectors) (right bytes sectors) (entry_count bytes sectors) c.args.child c.loop-link.claims.list.items c.loop-link.pending.items c.into_list.result.items (omega (arith, c.in_default.ensures.cases.0)) c.into_list.ensures.items c.loop-link.invariant.whole in
     (whole.0, whole.1, whole.2, c.into_list.ensures.distinct)
+
+pub right-requires : goal.right-requires
+right-requires c = rw c.loop-link.invariant.limit at c.in_ok-claim.ensures.ok.0.below
+
+pub left-requires : goal.left-requires
+left-requires c = rw c.loop-link.invariant.limit at c.in_ok-claim.ensures.ok.0.below
+
+pub loop-link-smaller : goal.loop-link-smaller
+loop-link-smaller c =
+    let after = c.claim.new.self in
+    fewer_left _ c.loop-link.claims.list after.list c.loop-link.pending c.pop.new.self c.push-in-Some.new.self c.push-in-Some-2.new.self after.marks _ _ _
+    c.in_ok-claim.ensures.ok.1 after.counted (c.in_ok-claim.ensures.limit ∙ c.loop-link.invariant.limit) c.in-Some.ensures.items c.in_ok-push-2.ensures.items c.in_ok-push-3.ensures.items
+
+pub returns-clause-below : goal.returns-clause-below
+returns-clause-below c = rw c.loop-link.invariant.limit at c.into_list.ensures.below

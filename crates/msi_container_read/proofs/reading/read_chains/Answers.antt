@@ -5,6 +5,7 @@ use Rattle.msi_container_chains.specs.Claims.{CanClaim}
 use Rattle.msi_container_read.specs.Reading.{views, mini_limit}
 use Rattle.msi_container_read.proofs.ListingLemmas.{if_ok_map3, gives_not_invalid}
 use Rattle.msi_container_read.proofs.PlanPartsLemmas.{claimed_room, few_claimed}
+use Rattle.msi_container_read.proofs.RoomLemmas.{unmoved_within}
 use Rattle.msi_container_read.proofs.reading.read_chains.Goals as goal
 
 -- how many mini sectors lie in the mini stream
@@ -61,3 +62,24 @@ returns-clause-bounded c =
       few_claimed sectors.marks sectors.list sectors.counted,
       few_claimed minis.marks minis.list minis.counted,
     )
+
+pub returns-in_err-new-clause-bounded : goal.returns-in_err-new-clause-bounded
+returns-in_err-new-clause-bounded c = unmoved_within _ _ _ _ (few_claimed c.args.claims.marks c.args.claims.list c.args.claims.counted)
+
+pub walk_each-requires-clause-same : goal.walk_each-requires-clause-same
+walk_each-requires-clause-same c = c.requires.same
+
+pub walk_each-requires-clause-same_mini : goal.walk_each-requires-clause-same_mini
+walk_each-requires-clause-same_mini c = c.new.ensures.bytes
+
+pub walk_each-requires-clause-below : goal.walk_each-requires-clause-below
+walk_each-requires-clause-below c = c.requires.below
+
+pub returns-clause-exact : goal.returns-clause-exact
+returns-clause-exact c = c.walk_each.ensures.exact
+
+pub returns-clause-grows : goal.returns-clause-grows
+returns-clause-grows c = c.walk_each.ensures.grows
+
+pub returns-clause-kinds : goal.returns-clause-kinds
+returns-clause-kinds c = c.walk_each.ensures.kinds

@@ -67,3 +67,6 @@ returns-clause-exact c = λ plan h.
 
 pub returns-clause-kept : goal.returns-clause-kept
 returns-clause-kept c = kept c.args.bytes.now _ (returns-clause-found c)
+
+pub returns-in_err-outline-clause-bounded : goal.returns-in_err-outline-clause-bounded
+returns-in_err-outline-clause-bounded c = within_from_none c.args.bytes.now c.new.result c.read_outline.new.steps c.new.ensures c.read_outline.ensures.bounded

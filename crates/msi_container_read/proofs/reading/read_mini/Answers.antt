@@ -1,4 +1,4 @@
-use Rattle.std.proofs.Common.{◌≡◌, ◌++◌, vec_len, ◌∙◌, ap}
+use Rattle.std.proofs.Common.{◌≡◌, ◌+◌, ◌++◌, vec_len, ◌∙◌, ap}
 use Rattle.std.specs.Int.{div_ceil}
 use Rattle.std.proofs.lemmas.List.{append_assoc}
 use Rattle.std.proofs.lemmas.Result.{err_from_is_err_and}
@@ -6,6 +6,9 @@ use Rattle.msi_container_chains.specs.Claims.{CanClaim}
 use Rattle.msi_container_format.specs.Chains.{IsChain}
 use Rattle.msi_container_format.specs.Container.{successor, sector_size, size, IsMiniFat}
 use Rattle.msi_container_read.proofs.PlanPartsLemmas.{claim_front, claim_back, claimed_room}
+use Rattle.msi_container_chains.specs.Counts.{links}
+use Rattle.msi_container_read.proofs.OutlineLemmas.{grown, steps_twice}
+use Rattle.msi_container_read.proofs.RoomLemmas.{few_taken}
 use Rattle.msi_container_read.proofs.reading.read_mini.Goals as goal
 
 pub returns-in_err-mini_fat-clause-only : goal.returns-in_err-mini_fat-clause-only
@@ -52,3 +55,30 @@ returns-clause-only c = λ mini_fat mini_stream m.
     rw (c.in_ok-mini_fat.ensures.limit, c.in_ok-mini_fat.ensures.found.1, same) (claim_back _ _ mini_fat mini_stream m.room) in
     let streamed = c.in_ok-stream.ensures.only mini_stream chain room in
     cc
+
+pub returns-clause-few : goal.returns-clause-few
+returns-clause-few c =
+    let after = c.walk.new.claims in
+    few_taken c.args.claims.now.list c.read_mini_fat.new.claims.list after.list c.in_ok-mini_fat.mini_fat c.in_ok-stream.stream after.marks _
+    c.in_ok-mini_fat.ensures.found.1 c.in_ok-stream.ensures.found.1 after.counted (c.in_ok-stream.ensures.limit ∙ c.in_ok-mini_fat.ensures.limit)
+
+pub returns-clause-exact : goal.returns-clause-exact
+returns-clause-exact c = c.in_ok-stream.ensures.exact ∙ ap (λ n. n + links c.in_ok-stream.stream.items) c.in_ok-mini_fat.ensures.exact
+
+pub returns-clause-bounded : goal.returns-clause-bounded
+returns-clause-bounded c = steps_twice _ _ _ _ _ _ c.in_ok-mini_fat.ensures.bounded c.in_ok-stream.ensures.bounded
+
+pub returns-clause-limit : goal.returns-clause-limit
+returns-clause-limit c = c.in_ok-stream.ensures.limit ∙ c.in_ok-mini_fat.ensures.limit
+
+pub returns-clause-grows : goal.returns-clause-grows
+returns-clause-grows c = grown _ _ _ c.in_ok-mini_fat.ensures.grows c.in_ok-stream.ensures.grows
+
+pub returns-in_err-stream-clause-bounded : goal.returns-in_err-stream-clause-bounded
+returns-in_err-stream-clause-bounded c = steps_twice _ _ _ _ _ _ c.in_ok-mini_fat.ensures.bounded c.in_err-stream.ensures.bounded
+
+pub returns-in_err-stream-clause-limit : goal.returns-in_err-stream-clause-limit
+returns-in_err-stream-clause-limit c = c.in_err-stream.ensures.limit ∙ c.in_ok-mini_fat.ensures.limit
+
+pub returns-in_err-stream-clause-grows : goal.returns-in_err-stream-clause-grows
+returns-in_err-stream-clause-grows c = grown _ _ _ c.in_ok-mini_fat.ensures.grows c.in_err-stream.ensures.grows

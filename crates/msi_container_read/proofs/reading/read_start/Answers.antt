@@ -1,9 +1,10 @@
-use Rattle.std.proofs.Common.{arith, ◌≡◌, ℕ, List, [], ◌++◌, length, vec_len, ◌∙◌, sym, ap, length-append}
+use Rattle.std.proofs.Common.{arith, ◌≡◌, ℕ, List, [], ◌++◌, length, vec_len, ◌∙◌, sym, ap, refl, length-append}
 use Rattle.std.proofs.lemmas.Result.{err_from_is_err_and}
 use Rattle.msi_container_chains.specs.Claims.{CanClaim}
 use Rattle.msi_container_format.specs.Container.{IsWholeChain, successor, fat_of}
 use Rattle.msi_container_read.specs.Reading.{IsStart}
 use Rattle.msi_container_read.proofs.PlanPartsLemmas.{claim_front, claim_back, claimed_room, few_claimed}
+use Rattle.msi_container_read.proofs.RoomLemmas.{bounded_from_none, unmoved_from_none}
 use Rattle.msi_container_read.proofs.reading.read_start.Goals as goal
 
 -- what each part of a start can claim
@@ -86,7 +87,7 @@ returns-clause-only c = λ difat fat directory s.
     let can : CanClaim (vec_len c.read_fat.new.claims.marks) c.read_fat.new.claims.list.items directory =
     rw (c.in_ok-fat.ensures.limit, c.in_ok-difat.ensures.limit, both) (directory_room bytes _ difat fat directory s) in
     let directories : c.in_ok-directory.directory.items ≡ directory = c.in_ok-directory.ensures.only directory chain can in
-    cc
+    rw (same, fats, directories) refl
 
 pub returns-clause-few : goal.returns-clause-few
 returns-clause-few c =
@@ -95,3 +96,36 @@ returns-clause-few c =
     let b = ap (λ (xs : List ℕ). length xs) c.in_ok-fat.ensures.found.1 ∙ length-append c.read_difat.new.claims.list.items c.in_ok-fat.fat.items in
     let d = ap (λ (xs : List ℕ). length xs) c.in_ok-difat.ensures.found.1 ∙ length-append c.args.claims.now.list.items c.in_ok-difat.difat.items in
     omega (arith, a, b, d, few_claimed after.marks after.list after.counted, c.in_ok-directory.ensures.limit, c.in_ok-fat.ensures.limit, c.in_ok-difat.ensures.limit, after.list.ok, c.in_ok-directory.directory.ok, c.in_ok-fat.fat.ok, c.in_ok-difat.difat.ok)
+
+pub read_fat-requires : goal.read_fat-requires
+read_fat-requires c = rw c.deref.ensures.value c.in_ok-difat.ensures.found.0
+
+pub walk_to_end-requires-clause-steps : goal.walk_to_end-requires-clause-steps
+walk_to_end-requires-clause-steps c = rw (c.in_ok-fat.ensures.limit ∙ c.in_ok-difat.ensures.limit) c.requires.steps
+
+pub walk_to_end-requires-clause-regular : goal.walk_to_end-requires-clause-regular
+walk_to_end-requires-clause-regular c = rw (c.in_ok-fat.ensures.limit ∙ c.in_ok-difat.ensures.limit) c.requires.regular
+
+pub returns-in_err-fat-clause-bounded : goal.returns-in_err-fat-clause-bounded
+returns-in_err-fat-clause-bounded c = unmoved_from_none _ c.args.claims.now.list c.read_fat.new.claims.list c.requires.empty
+
+pub returns-in_err-directory-clause-bounded : goal.returns-in_err-directory-clause-bounded
+returns-in_err-directory-clause-bounded c = bounded_from_none _ _ c.args.claims.now.list c.read_fat.new.claims.list c.walk_to_end.new.claims.list c.requires.empty c.in_err-directory.ensures.steps
+
+pub returns-in_err-directory-clause-limit : goal.returns-in_err-directory-clause-limit
+returns-in_err-directory-clause-limit c = c.in_err-directory.ensures.limit ∙ c.in_ok-fat.ensures.limit ∙ c.in_ok-difat.ensures.limit
+
+pub returns-in_err-directory-clause-grows : goal.returns-in_err-directory-clause-grows
+returns-in_err-directory-clause-grows c = c.in_err-directory.ensures.grows
+
+pub returns-clause-bounded : goal.returns-clause-bounded
+returns-clause-bounded c = bounded_from_none _ _ c.args.claims.now.list c.read_fat.new.claims.list c.walk_to_end.new.claims.list c.requires.empty c.in_ok-directory.ensures.steps
+
+pub returns-clause-exact : goal.returns-clause-exact
+returns-clause-exact c = c.in_ok-directory.ensures.exact
+
+pub returns-clause-limit : goal.returns-clause-limit
+returns-clause-limit c = c.in_ok-directory.ensures.limit ∙ c.in_ok-fat.ensures.limit ∙ c.in_ok-difat.ensures.limit
+
+pub returns-clause-grows : goal.returns-clause-grows
+returns-clause-grows c = c.in_ok-directory.ensures.grows

@@ -9,7 +9,7 @@ use Rattle.std.proofs.lemmas.Slice.Zip.{zip_turn, zip_end, AllZip-long}
 use Rattle.msi_container_format.specs.Names.{name_cmp}
 use Rattle.msi_container_format.specs.Container.{name, stream_bytes, HasName}
 use Rattle.msi_container_read.specs.Reading.{views}
-use Rattle.msi_container_read.proofs.ListLemmas.{paired_at}
+use Rattle.msi_container_read.proofs.ListLemmas.{paired_at, below_at}
 use Rattle.msi_container_read.proofs.MapNamesLemmas.{begun_none, begun_more, begun_all, taken_clash, held_clash}
 use Rattle.msi_container_read.proofs.SharedNamesLemmas.{refused}
 use Rattle.msi_container_read.proofs.NamedBytesLemmas.{length-named_bytes, from_named_bytes_more}
@@ -138,3 +138,25 @@ returns-clause-names c =
     let long = AllZip-long _ entries (views chains) c.requires.covered in
     begun_all c.args.directory.now.bytes.now c.args.directory.now.sectors.now c.args.storages.now entries (λ q. contains name_cmp c.in_ok-taken.taken q)
     (λ q. contains_key l.streams q) (length l.yielded) (omega (arith, turns, long, length-map chains held)) c.in_ok-taken.ensures.names c.in_ok-taken.ensures.known l.invariant.names
+
+pub own_name-requires : goal.own_name-requires
+own_name-requires c =
+    let entries = c.args.entries.now in
+    let chains = c.args.chains.now in
+    let l = c.loop-entry in
+    let started = c.into_iter-entry-iterator in
+    let first : iter_rest (zip_first started.result) ≡ entries = rw (started.ensures.into_iter_gives, c.zip-entry-items.ensures.first) c.iter.ensures.rest in
+    let second : iter_rest (zip_second started.result) ≡ chains = rw started.ensures.into_iter_gives c.zip-entry-items.ensures.second.0 in
+    let turn = zip_turn entries chains l.yielded started.result l.entry-iterator c.next.new.self _ first second l.yielded_by (c.in-Some.entry, c.in-Some.chain) c.in-Some.is c.next.ensures.steps in
+    below_at _ entries (length l.yielded) c.in-Some.entry.now c.requires.below turn.0 (turn.2 0)
+
+pub stream_of-requires-clause-below : goal.stream_of-requires-clause-below
+stream_of-requires-clause-below c =
+    let entries = c.args.entries.now in
+    let chains = c.args.chains.now in
+    let l = c.loop-entry in
+    let started = c.into_iter-entry-iterator in
+    let first : iter_rest (zip_first started.result) ≡ entries = rw (started.ensures.into_iter_gives, c.zip-entry-items.ensures.first) c.iter.ensures.rest in
+    let second : iter_rest (zip_second started.result) ≡ chains = rw started.ensures.into_iter_gives c.zip-entry-items.ensures.second.0 in
+    let turn = zip_turn entries chains l.yielded started.result l.entry-iterator c.next.new.self _ first second l.yielded_by (c.in-Some.entry, c.in-Some.chain) c.in-Some.is c.next.ensures.steps in
+    below_at _ entries (length l.yielded) c.in-Some.entry.now c.requires.below turn.0 (turn.2 0)

@@ -86,3 +86,6 @@ loop-entry-preserved c =
 pub returns-clause-only : goal.returns-clause-only
 returns-clause-only c = λ chains are can can_mini.
     c.loop-entry.invariant.only chains are can can_mini ∙ take_all c.loop-entry.entry-index chains (omega (arith, AllZip-long _ _ _ are))
+
+pub returns-clause-members : goal.returns-clause-members
+returns-clause-members c = rw (take_all c.loop-entry.entry-index c.args.entries.now c.loop-entry-test.false) at c.loop-entry.invariant.so_far
