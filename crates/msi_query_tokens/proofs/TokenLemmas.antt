@@ -1,5 +1,5 @@
 -- Tokens: kinds are told apart, each token takes bytes, and a plain name is UTF-8.
-use Rattle.std.proofs.Common.{◌≡◌, ℕ, suc, ◌+◌, ◌<◌, ◌==◌, ◌&&◌, Bool, true, false, cond, if◌then◌else◌, List, [], ◌∷◌, take, drop, slice_index, Option, Some, None, IsAscii, refl, ap, subst, arith}
+use Rattle.std.proofs.Common.{◌≡◌, ◌≢◌, ℕ, zero, suc, ◌+◌, ◌<◌, ◌≤◌, ◌==◌, ◌&&◌, Bool, true, false, cond, if◌then◌else◌, List, [], ◌∷◌, length, take, drop, slice_index, Option, Some, None, IsAscii, refl, sym, ap, subst, ◌∙◌, arith, eq-eqb}
 use Rattle.std.specs.List.{prefix_len}
 use Rattle.std.specs.Str.{is_utf8}
 use Rattle.std.proofs.lemmas.Grind.{common_steps}
@@ -10,7 +10,7 @@ use Rattle.msi_query_tokens.specs.contracts.token.Kind.{the_type}
 use Rattle.msi_query_tokens.specs.declared.lex.Class.TheVariants as class
 use Rattle.msi_query_tokens.specs.declared.token.Kind.{Kind}
 use Rattle.msi_query_tokens.specs.declared.token.Kind.TheVariants as k
-use Rattle.msi_query_tokens.specs.Tokens.{Cut, token, word, closing, closed, quoted, marks, mark, past, is_in, takes_next, same_kind}
+use Rattle.msi_query_tokens.specs.Tokens.{Cut, IsShort, token, token_at, word, closing, closed, quoted, marks, mark, past, is_in, takes_next, same_kind}
 use Rattle.msi_query_tokens.specs.Symbols.{ends}
 
 -- ---- kinds
@@ -145,3 +145,80 @@ fitting (b ∷ text) h =
 
 pub plain_name : (text : List ℕ) → (token text).0 ≡ k.Name → is_utf8 (take (token text).1 text) ≡ true
 plain_name text e = fitting text (ap is_plain e)
+
+-- ---- the token, by the tests of its first byte in turn
+
+chosen : {A : Type 0} (x : Bool) (u v : A) → x ≡ true → (if x then u else v) ≡ u
+chosen true u v e = refl
+chosen false u v e = cc
+
+passed : {A : Type 0} (x : Bool) (u v : A) → x ≡ false → (if x then u else v) ≡ v
+passed true u v e = cc
+passed false u v e = refl
+
+differ : (m n : ℕ) → (m ≡ n → ⊥) → (m == n) ≡ false
+differ m n h = grind arith
+
+pub some_bytes : (text : List ℕ) → (length text == 0) ≡ false → 0 < length text
+some_bytes [] e = absurd (cc)
+some_bytes (b ∷ text) e = omega arith
+
+none_or_some : (n : ℕ) → 0 < n → (n == 0) ≡ true → ⊥
+none_or_some n some e = grind arith
+
+pub end_token : (text : List ℕ) → (length text == 0) ≡ true → token text ≡ (k.End, 0)
+unfolding token
+end_token [] e = refl
+end_token (b ∷ text) e = absurd (none_or_some (length (b ∷ text)) (omega arith) e)
+
+first_byte : (text : List ℕ) → 0 < length text → token text ≡ token_at (slice_index text 0) text
+unfolding token
+first_byte [] some = absurd (omega arith)
+first_byte (b ∷ text) some = refl
+
+module _ (text : List ℕ) (b : ℕ) (is : b ≡ slice_index text 0) (some : 0 < length text) where
+  at_first : token text ≡ token_at b text
+  at_first = first_byte text some ∙ ap (λ x. token_at x text) (sym is)
+
+  pub letter_token : is_in class.Letter b ≡ true → token text ≡ word text
+  letter_token is_letter = at_first ∙ chosen (is_in class.Letter b) (word text) _ is_letter
+
+  pub digit_token : (end : ℕ) → end ≡ past class.Digit text 0 → is_in class.Letter b ≡ false → is_in class.Digit b ≡ true → token text ≡ (k.Number, end)
+  digit_token end e letter digit = subst (λ n. token text ≡ (k.Number, n)) (sym e)
+      (at_first ∙ passed (is_in class.Letter b) (word text) _ letter ∙ chosen (is_in class.Digit b) (k.Number, past class.Digit text 0) _ digit)
+
+  abbrev behind_words : Cut
+  behind_words =
+      if b == 39 then quoted k.SingleQuoted text
+      else (if b == 34 then quoted k.DoubleQuoted text
+      else (if b == 96 then quoted k.QuotedName text else marks b (slice_index text 1)))
+
+  no_word : is_in class.Letter b ≡ false → is_in class.Digit b ≡ false → token text ≡ behind_words
+  no_word letter digit = at_first ∙ passed (is_in class.Letter b) (word text) _ letter ∙ passed (is_in class.Digit b) (k.Number, past class.Digit text 0) _ digit
+
+  pub single_token : is_in class.Letter b ≡ false → is_in class.Digit b ≡ false → b ≡ 39 → token text ≡ quoted k.SingleQuoted text
+  single_token letter digit quote = no_word letter digit ∙ chosen (b == 39) (quoted k.SingleQuoted text) _ (eq-eqb b 39 quote)
+
+  pub double_token : is_in class.Letter b ≡ false → is_in class.Digit b ≡ false → b ≢ 39 → b ≡ 34 → token text ≡ quoted k.DoubleQuoted text
+  double_token letter digit single quote =
+      no_word letter digit ∙ passed (b == 39) (quoted k.SingleQuoted text) _ (differ b 39 single)
+      ∙ chosen (b == 34) (quoted k.DoubleQuoted text) _ (eq-eqb b 34 quote)
+
+  no_text : is_in class.Letter b ≡ false → is_in class.Digit b ≡ false → b ≢ 39 → b ≢ 34
+      → token text ≡ (if b == 96 then quoted k.QuotedName text else marks b (slice_index text 1))
+  no_text letter digit single double =
+      no_word letter digit ∙ passed (b == 39) (quoted k.SingleQuoted text) _ (differ b 39 single)
+      ∙ passed (b == 34) (quoted k.DoubleQuoted text) _ (differ b 34 double)
+
+  pub name_token : is_in class.Letter b ≡ false → is_in class.Digit b ≡ false → b ≢ 39 → b ≢ 34 → b ≡ 96 → token text ≡ quoted k.QuotedName text
+  name_token letter digit single double quote =
+      no_text letter digit single double ∙ chosen (b == 96) (quoted k.QuotedName text) _ (eq-eqb b 96 quote)
+
+  pub mark_token : is_in class.Letter b ≡ false → is_in class.Digit b ≡ false → b ≢ 39 → b ≢ 34 → b ≢ 96 → token text ≡ marks b (slice_index text 1)
+  mark_token letter digit single double back =
+      no_text letter digit single double ∙ passed (b == 96) (quoted k.QuotedName text) _ (differ b 96 back)
+
+-- one byte, or two where there are as many
+pub short_fits : (next len n : ℕ) → IsShort next len → (next ≢ 0 → 1 < n) → 0 < n → len ≤ n
+short_fits zero len n short more some = let one = short.2 refl in omega arith
+short_fits (suc next) len n short more some = let two : 1 < n = more (λ e. absurd (cc)) in let most = short.1 in omega arith

@@ -194,7 +194,6 @@ fn marks(byte: u8, next: u8) -> Token
 }
 
 /// The token at the front of a text that begins with no blank.
-#[tactic(auto, unfolding(crate::specs::Tokens::token))]
 pub(crate) fn token(text: &[u8]) -> Token
     ensures value { result ≡ spec.token text.now }
     ensures within { result.1 ≤ length text.now }

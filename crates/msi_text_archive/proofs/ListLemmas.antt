@@ -1,8 +1,10 @@
 -- Lists that are read element by element.
-use Rattle.std.proofs.Common.{◌≡◌, ◌≢◌, suc, List, [], ◌∷◌, ◌++◌, Option, Some, None, refl, sym, ap, subst, ◌∙◌, length}
+use Rattle.std.proofs.Common.{◌≡◌, ◌≢◌, ◌<◌, ◌≤◌, ◌+◌, ℕ, suc, List, [], ◌∷◌, ◌++◌, drop, get_or, map, Option, Some, None, Result, Ok, Err, refl, sym, ap, subst, ◌∙◌, length, arith}
+use Rattle.std.specs.Prelude.{IsErrAnd}
+use Rattle.std.proofs.lemmas.List.{append-nil, append_assoc, drop_all, drop_more}
 use Rattle.msi_text_base.specs.declared.errors.ErrorKind.{ErrorKind}
 use Rattle.msi_text_base.specs.declared.errors.ErrorKind.TheVariants as kind
-use Rattle.msi_text_base.specs.Results.{◌>>=◌, FailsAs}
+use Rattle.msi_text_base.specs.Results.{◌>>=◌, FailsAs, Gives}
 use Rattle.msi_text_base.proofs.OptionLemmas.{bind_some}
 use Rattle.msi_text_archive.specs.Lists.{each, each_pair}
 
@@ -48,3 +50,76 @@ each_pair_uneven f (x ∷ xs) (y ∷ ys) h = none_behind (f x y) (each_pair f xs
 
 pub refused : {Y : Type 0} (e : ErrorKind) (read : Option Y) → e ≡ kind.InvalidData → read ≡ None → FailsAs e read
 refused e read is none = subst (λ k. FailsAs k read) (sym is) none
+
+-- an error stands for another thing that means nothing then
+pub fails_too : {X Y : Type 0} (e : ErrorKind) (read : Option X) (whole : Option Y) → (read ≡ None → whole ≡ None) → FailsAs e read → FailsAs e whole
+fails_too kind.InvalidData read whole h fails = h fails
+fails_too kind.OutOfMemory read whole h fails = tt
+fails_too e read whole h fails = absurd fails
+
+-- ---- loops: what was read of the elements in front, before those from i on
+
+pub front_none : {Y : Type 0} (read : Option (List Y)) → with_front [] read ≡ read
+front_none None = refl
+front_none (Some ys) = refl
+
+front_more : {Y : Type 0} (front : List Y) (o : Option Y) (y : Y) (read : Option (List Y)) → o ≡ Some y
+    → with_front front (o >>= λ y. read >>= λ ys. Some (y ∷ ys)) ≡ with_front (front ++ y ∷ []) read
+front_more front o y read e = ap (λ o. with_front front (o >>= λ y. read >>= λ ys. Some (y ∷ ys))) e ∙ by read
+  where
+    by : (read : Option (List _)) → with_front front (read >>= λ ys. Some (y ∷ ys)) ≡ with_front (front ++ y ∷ []) read
+    by None = refl
+    by (Some ys) = ap Some (sym (append_assoc front (y ∷ []) ys))
+
+front_stopped : {Y : Type 0} (front : List Y) (o : Option Y) (read : Option (List Y)) → o ≡ None
+    → with_front front (o >>= λ y. read >>= λ ys. Some (y ∷ ys)) ≡ None
+front_stopped front o read e = ap (λ o. with_front front (o >>= λ y. read >>= λ ys. Some (y ∷ ys))) e
+
+-- an error that a call passed on, or that comes of memory
+pub gives_failed : {X Y : Type 0} (view : X → Y) (r : Result X ErrorKind) (e : ErrorKind) (whole : Option Y) → IsErrAnd r (λ k. k ≡ e) → FailsAs e whole → Gives view r whole
+gives_failed view (Ok x) e whole is fails = absurd is
+gives_failed view (Err k) e whole is fails = subst (λ k. FailsAs k whole) (sym is) fails
+
+module _ {F X Y : Type 0} (view : F → X) (f : X → Option Y) (xs : List F) (whole : Option (List Y)) (front : List Y) (i : ℕ)
+    (so_far : with_front front (each f (map view (drop i xs))) ≡ whole) where
+  pub loop_more : (d : F) (y : Y) (more : List Y) → i < length xs → f (view (get_or xs i d)) ≡ Some y → more ≡ front ++ y ∷ []
+      → with_front more (each f (map view (drop (i + 1) xs))) ≡ whole
+  loop_more d y more within e pushed =
+      ap (λ ys. with_front ys (each f (map view (drop (i + 1) xs)))) pushed
+      ∙ sym (front_more front (f (view (get_or xs i d))) y (each f (map view (drop (i + 1) xs))) e)
+      ∙ ap (λ zs. with_front front (each f (map view zs))) (sym (drop_more xs i d within))
+      ∙ so_far
+
+  pub loop_stopped : (d : F) → i < length xs → f (view (get_or xs i d)) ≡ None → whole ≡ None
+  loop_stopped d within e =
+      sym so_far ∙ ap (λ zs. with_front front (each f (map view zs))) (drop_more xs i d within)
+      ∙ front_stopped front (f (view (get_or xs i d))) (each f (map view (drop (i + 1) xs))) e
+
+  pub loop_ended : length xs ≤ i → whole ≡ Some front
+  loop_ended past = sym so_far ∙ ap (λ zs. with_front front (each f (map view zs))) (drop_all i xs past) ∙ ap Some (append-nil front)
+
+module _ {C F X Y : Type 0} (view : F → X) (f : C → X → Option Y) (cs : List C) (xs : List F) (whole : Option (List Y)) (front : List Y) (i : ℕ)
+    (so_far : with_front front (each_pair f (drop i cs) (map view (drop i xs))) ≡ whole) (same : length cs ≡ length xs) where
+  abbrev pairs : List C → List F → Option (List Y)
+  pairs us vs = with_front front (each_pair f us (map view vs))
+
+  cut : (c : C) (d : F) → i < length cs → c ≡ get_or cs i c → pairs (drop i cs) (drop i xs) ≡ pairs (c ∷ drop (i + 1) cs) (get_or xs i d ∷ drop (i + 1) xs)
+  cut c d within is =
+      ap (λ us. pairs us (drop i xs)) (drop_more cs i c within ∙ ap (λ u. u ∷ drop (i + 1) cs) (sym is))
+      ∙ ap (pairs (c ∷ drop (i + 1) cs)) (drop_more xs i d (omega arith))
+
+  pub pairs_more : (c : C) (d : F) (y : Y) (more : List Y) → i < length cs → c ≡ get_or cs i c → f c (view (get_or xs i d)) ≡ Some y → more ≡ front ++ y ∷ []
+      → with_front more (each_pair f (drop (i + 1) cs) (map view (drop (i + 1) xs))) ≡ whole
+  pairs_more c d y more within is e pushed =
+      ap (λ ys. with_front ys (each_pair f (drop (i + 1) cs) (map view (drop (i + 1) xs)))) pushed
+      ∙ sym (front_more front (f c (view (get_or xs i d))) y (each_pair f (drop (i + 1) cs) (map view (drop (i + 1) xs))) e)
+      ∙ sym (cut c d within is) ∙ so_far
+
+  pub pairs_stopped : (c : C) (d : F) → i < length cs → c ≡ get_or cs i c → f c (view (get_or xs i d)) ≡ None → whole ≡ None
+  pairs_stopped c d within is e =
+      sym so_far ∙ cut c d within is
+      ∙ front_stopped front (f c (view (get_or xs i d))) (each_pair f (drop (i + 1) cs) (map view (drop (i + 1) xs))) e
+
+  pub pairs_ended : length cs ≤ i → whole ≡ Some front
+  pairs_ended past =
+      sym so_far ∙ ap (λ us. pairs us (drop i xs)) (drop_all i cs past) ∙ ap (pairs []) (drop_all i xs (omega arith)) ∙ ap Some (append-nil front)

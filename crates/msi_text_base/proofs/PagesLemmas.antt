@@ -1,5 +1,5 @@
 -- What callers need of code pages.
-use Rattle.std.proofs.Common.{◌≡◌, ℕ, zero, suc, ◌+◌, ◌-◌, ◌^◌, ◌<◌, true, cond, ◌&&◌, List, [], ◌∷◌, map, Option, Some, None, is_some, option_map, position, slice_get, chars, encode_utf8_all, eqb, refl, sym, ap, ◌∙◌, arith, rules, nat_lt}
+use Rattle.std.proofs.Common.{◌≡◌, ℕ, zero, suc, ◌+◌, ◌-◌, ◌^◌, ◌<◌, true, false, cond, ◌&&◌, List, [], ◌∷◌, map, Option, Some, None, is_some, option_map, position, slice_get, chars, encode_utf8_all, eqb, refl, sym, ap, ◌∙◌, arith, rules, nat_lt}
 use Rattle.std.specs.Prelude.{unwrap_or, option_and_then, ◌↔◌, IsUtf8}
 use Rattle.std.specs.List.{list_all}
 use Rattle.std.specs.Str.{IsAscii}
@@ -154,3 +154,20 @@ pub empty_reads : (page : CodePage) → text_in page [] ≡ Some []
 unfolding pieces_from
 empty_reads page.Utf8 = refl
 empty_reads page = refl
+
+-- ---- what the calls for one page answer
+
+pub other_text : (self : CodePage) (bytes : List ℕ) → (self ≡ page.Utf8 → ⊥) → single_byte_text (upper_characters self) bytes ≡ text_in self bytes
+other_text page.Utf8 bytes other = absurd (other refl)
+other_text self bytes other = refl
+
+pub other_spelling : (self : CodePage) (text : List ℕ) → (self ≡ page.Utf8 → ⊥) → single_byte_spelling (upper_characters self) text ≡ bytes_in self text
+other_spelling page.Utf8 text other = absurd (other refl)
+other_spelling self text other = refl
+
+-- without a table, bytes past ASCII mean nothing
+pub no_text : (bytes : List ℕ) → is_ascii bytes ≡ false → single_byte_text None bytes ≡ None
+no_text bytes h = ap (λ t. cond t (Some bytes) None) h
+
+pub no_spelling : (text : List ℕ) → is_ascii text ≡ false → single_byte_spelling None text ≡ None
+no_spelling text h = ap (λ t. cond t (Some text) None) h

@@ -184,8 +184,7 @@ impl IndexedPlaces {
         ensures least { self.old.operations ≤ self.new.operations }
     {
         let place = Place::new(text.into_shared()?, 1);
-        let entry = Entry::new(place.shared_text()?, at);
-        self.texts.insert(entry, &mut self.operations)?;
+        insert_text(&mut self.texts, at, &place, &mut self.operations)?;
         self.free.remove(at, &mut self.operations);
         self.places.set(at as usize, place, &mut self.operations);
         Ok(at)
@@ -212,11 +211,9 @@ impl IndexedPlaces {
         let at = self.many as u32;
         let text = text.into_shared()?;
         let place = Place::new(text.clone()?, 1);
-        let entry = Entry::new(place.shared_text()?, at);
-        self.texts.insert(entry, &mut self.operations)?;
+        insert_text(&mut self.texts, at, &place, &mut self.operations)?;
         if let Err(error) = self.places.push(place, &mut self.operations) {
-            let entry = Entry::new(text, at);
-            self.texts.remove(&entry, &mut self.operations);
+            remove_text(&mut self.texts, at, text, &mut self.operations);
             return Err(error);
         }
         self.many += 1;
@@ -270,8 +267,7 @@ impl IndexedPlaces {
     {
         let alloc = self.places.allocator();
         self.free.insert(at, &mut self.operations)?;
-        self.texts
-            .remove(&Entry::new(text, at), &mut self.operations);
+        remove_text(&mut self.texts, at, text, &mut self.operations);
         let place = Place::new(SharedText::empty(alloc), 0);
         self.places.set(at as usize, place, &mut self.operations);
         Ok(())
@@ -347,9 +343,37 @@ fn reopen(
     ensures least { operations.old ≤ operations.new }
 {
     if place.count() == MOST_CELLS - 1 {
-        texts.insert(Entry::new(place.shared_text()?, at), operations)?;
+        return insert_text(texts, at, place, operations);
     }
     Ok(())
+}
+
+/// Enters the text of a place in the index of texts. The only error is `OutOfMemory`.
+fn insert_text(
+    texts: &mut TextIndex,
+    at: u32,
+    place: &Place,
+    operations: &mut Operations,
+) -> Result<(), Error>
+    requires { operations.old + 1 < 2 ^ 32 }
+    ensures ok { OnOk result ((text : List ℕ) (i : ℕ) → is_entered texts.new text i
+        ≡ (is_same text i place.now.text at || is_entered texts.old text i)) }
+    ensures err { OnErr result (texts.new ≡ texts.old) }
+    ensures kind { OnlyMemory result }
+    ensures most { operations.new ≤ operations.old + 1 }
+    ensures least { operations.old ≤ operations.new }
+{
+    texts.insert(Entry::new(place.shared_text()?, at), operations)
+}
+
+/// Takes the text of a place out of the index of texts.
+fn remove_text(texts: &mut TextIndex, at: u32, text: SharedText, operations: &mut Operations)
+    requires { operations.old + 1 < 2 ^ 32 }
+    ensures removed { (other : List ℕ) (i : ℕ) → is_entered texts.new other i
+        ≡ (not (is_same other i text at) && is_entered texts.old other i) }
+    ensures operation { operations.new ≡ operations.old + 1 }
+{
+    texts.remove(&Entry::new(text, at), operations);
 }
 
 /// The indexes of places, made in one pass. Its operations aren't counted.
@@ -388,7 +412,7 @@ fn enter(
         return free.insert(at, operations);
     }
     if place.count() < MOST_CELLS {
-        return texts.insert(Entry::new(place.shared_text()?, at), operations);
+        return insert_text(texts, at, place, operations);
     }
     Ok(())
 }

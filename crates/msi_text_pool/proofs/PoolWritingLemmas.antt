@@ -1,12 +1,14 @@
 -- What is written of the places of a pool.
-use Rattle.std.proofs.Common.{◌≡◌, ℕ, ◌^◌, ◌<◌, cond, true, false, List, [], ◌∷◌, ◌++◌, length, map, Option, Some, None, option_map, refl, sym, ap, ◌∙◌}
+use Rattle.std.proofs.Common.{◌≡◌, ℕ, ◌+◌, ◌^◌, ◌<◌, cond, true, false, List, [], ◌∷◌, ◌++◌, length, get_or, take, map, Option, Some, None, option_map, refl, sym, ap, ◌∙◌}
 use Rattle.std.specs.Prelude.{unwrap_or, option_and_then}
 use Rattle.std.specs.List.{flat_map}
-use Rattle.std.proofs.lemmas.Bool.{not-false, ltb-true, or_parts, eq-eqb}
-use Rattle.std.proofs.lemmas.List.Folds.{flat_map-map}
+use Rattle.std.proofs.lemmas.Bool.{not-false, false_from_ne_true, ltb-true, or_parts, eq-eqb}
+use Rattle.std.proofs.lemmas.List.{flat_map_more, take_more}
+use Rattle.std.proofs.lemmas.List.Folds.{flat_map-map, list_any_at}
 use Rattle.msi_text_base.specs.declared.codepage.CodePage.{CodePage}
 use Rattle.msi_text_base.specs.Lists.{all_present}
 use Rattle.msi_text_base.specs.Pages.{bytes_in, page_id}
+use Rattle.msi_text_base.proofs.BoolLemmas.{yes_is_no}
 use Rattle.msi_text_pool_base.specs.Pool.{Place, Pool, place_bytes, plain_entries, pool_stream, data_stream, header_of}
 use Rattle.msi_text_pool.specs.PoolWriting.{is_refused_spelling, has_refused_text, is_refused, piece_of, entry_in}
 
@@ -88,3 +90,19 @@ data_written pool page places start held page_is places_is told start_is held_is
     ∙ ap (λ bytes. bytes ++ flat_map (piece_of page) places) start_is
     ∙ ap (λ p. flat_map (piece_of p) places) page_is
     ∙ ap (flat_map (piece_of pool.page)) places_is))
+
+-- ---- loops over the places
+
+-- none of the places is refused, so no one of them is
+pub told_at : (page : CodePage) (places : List Place) (i : ℕ) (p : Place) → has_refused_text page places ≡ false → i < length places → p ≡ get_or places i p
+    → is_refused_spelling (place_bytes page p) ≡ false
+told_at page places i p told within is =
+    let refused = λ (q : Place). is_refused_spelling (place_bytes page q) in
+    false_from_ne_true (refused p) (λ t. yes_is_no (has_refused_text page places) (list_any_at refused places i p within (ap refused (sym is) ∙ t)) told)
+
+-- the bytes of one place more
+pub bytes_more : {X : Type 0} (f : X → List ℕ) (start now new : List ℕ) (xs : List X) (i : ℕ) (x : X) → i < length xs → x ≡ get_or xs i x
+    → now ≡ start ++ flat_map f (take i xs) → new ≡ now ++ f x → new ≡ start ++ flat_map f (take (i + 1) xs)
+bytes_more f start now new xs i x within is so_far pushed =
+    pushed ∙ ap (λ (l : List ℕ). l ++ f x) so_far ∙ flat_map_more f start (take i xs) x
+    ∙ ap (λ ys. start ++ flat_map f ys) (ap (λ y. take i xs ++ y ∷ []) is ∙ sym (take_more xs i x within))

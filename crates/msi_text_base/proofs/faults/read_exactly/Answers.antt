@@ -1,6 +1,8 @@
-use Rattle.std.proofs.Common.{◌<◌, [], length, arith, subst, take_all}
+use Rattle.std.proofs.Common.{◌<◌, inr, [], length, arith, subst, take_all}
 use Rattle.std.specs.Io.KnownBytes.{Consumes}
 use Rattle.std.proofs.KnownBytes.{Consumes-nil}
+use Rattle.std.specs.IoError.{error_kind}
+use Rattle.msi_text_base.proofs.WriteLemmas.{fault_kinds, fault_no_data}
 use Rattle.msi_text_base.proofs.ReadLemmas.{given-kept, given-more, given-none, room-more, room-same}
 use Rattle.msi_text_base.proofs.faults.read_exactly.Goals as goal
 use Rattle.msi_text_base.proofs.faults.read_exactly.Goals.{in-Ok, in-Err+in-Interrupted}
@@ -32,3 +34,10 @@ reads-preserved g c = elim c.match-read.branch [
     given = given-kept c.reads.at c.reads.bytes c.reads.invariant.within c.read.new.buf _ _ _ _ c.reads.invariant.given w.in-Err.ensures.bytes;
   })
 ]
+
+pub returns-in_default : goal.returns-in_default
+returns-in_default g c = record {
+  ok = tt;
+  cut = λ cut. fault_no_data (error_kind c.in-Err.error) c.from.result c.from.ensures cut;
+  kind = inr (fault_kinds (error_kind c.in-Err.error) c.from.result c.from.ensures);
+}
