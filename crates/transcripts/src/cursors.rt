@@ -129,7 +129,7 @@ fn make_write(
 ) -> Result<(), Failure> {
     match words.word() {
         "write" => write_pieces(alloc, kept, stream, words, answer)?,
-        "seek" => write!(answer, "{}", stream.seek(target(words)?)?),
+        "seek" => write!(answer, "{}", stream.seek(target(words))?),
         "flush" => {
             stream.flush()?;
             answer.push_str("ok");
@@ -223,7 +223,7 @@ fn make_read(
     match words.word() {
         "read" => print_bytes(answer, read_piece(alloc, stream, words.count())?.as_slice()),
         "read_all" => print_bytes(answer, read_all(alloc, stream, words.count())?.as_slice()),
-        "seek" => write!(answer, "{}", stream.seek(target(words)?)?),
+        "seek" => write!(answer, "{}", stream.seek(target(words))?),
         _ => words.refuse("a reader has no such call"),
     }
     words.end()?;
@@ -251,14 +251,24 @@ fn read_all(alloc: Global, stream: &mut StreamReader, len: usize) -> Result<Vec<
     Ok(all)
 }
 
-/// Reads where a seek goes: `start 4`, `current -1` or `end -2`. Fails if it can't be read.
-fn target(words: &mut Words) -> Result<SeekFrom, Failure> {
+/// Reads where a seek goes: `start 4`, `current -1` or `end -2`.
+fn target(words: &mut Words) -> SeekFrom {
     let from = words.word();
     let offset = words.word();
-    match (from, offset.parse::<u64>(), offset.parse::<i64>()) {
-        ("start", Ok(place), _) => Ok(SeekFrom::Start(place)),
-        ("current", _, Ok(offset)) => Ok(SeekFrom::Current(offset)),
-        ("end", _, Ok(offset)) => Ok(SeekFrom::End(offset)),
-        _ => Err(Failure::Unreadable("a seek goes nowhere")),
-    }
+    let target = match from {
+        "start" => offset
+            .parse::<u64>()
+            .ok()
+            .map(|place| SeekFrom::Start(place)),
+        "current" => offset
+            .parse::<i64>()
+            .ok()
+            .map(|offset| SeekFrom::Current(offset)),
+        "end" => offset
+            .parse::<i64>()
+            .ok()
+            .map(|offset| SeekFrom::End(offset)),
+        _ => None,
+    };
+    words.spelled(target, SeekFrom::Start(0), "a seek goes nowhere")
 }

@@ -38,7 +38,8 @@ pub enum CellCall {
     SelectGiven,
 }
 
-/// Makes a call on values or rows of cells, and prints its answer. Fails if the call is refused, and if memory runs out.
+/// Makes a call on values or rows of cells, and prints its answer. Fails if the call is refused, and if memory runs
+/// out.
 pub fn make(
     alloc: Global,
     kept: &Kept,

@@ -15,8 +15,8 @@ static INFIXES: [&str; 17] = [
     "OR", "AND", "=", "!=", "<", "<=", ">", ">=", "|", "^", "&", "<<", ">>", "+", "-", "*", "/",
 ];
 
-/// What was read of an expression, as the library reads it. Operands and operators take turns, so a word is known by its
-/// place: a column may be named `AND`, and a word that is no operator ends the expression where one could stand.
+/// What was read of an expression, as the library reads it. Operands and operators take turns, so a word is known by
+/// its place: a column may be named `AND`, and a word that is no operator ends the expression where one could stand.
 #[derive(Drop)]
 struct Spelling {
     text: String,

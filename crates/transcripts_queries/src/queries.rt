@@ -124,8 +124,8 @@ pub(crate) fn insert_singly(alloc: Global, words: &mut Words) -> Result<Insert, 
     Ok(query)
 }
 
-/// Reads an update: `Numbers set Word = "One", Number = 1 where Number = 2`, which may set nothing. Fails if memory runs
-/// out.
+/// Reads an update: `Numbers set Word = "One", Number = 1 where Number = 2`, which may set nothing. Fails if memory
+/// runs out.
 pub fn update(alloc: Global, words: &mut Words) -> Result<Update, Error> {
     let mut query = Update::table(alloc, words.name())?;
     let mut goes_on = words.takes("set");

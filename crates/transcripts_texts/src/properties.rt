@@ -46,8 +46,8 @@ static CALLS: [(&str, PropertyCall); 9] = [
     ("set_codepage", PropertyCall::SetCodepage),
 ];
 
-/// Makes a call on the set, and prints its answer. Fails if there is no such call or no set, if the call is refused, and
-/// if memory runs out.
+/// Makes a call on the set, and prints its answer. Fails if there is no such call or no set, if the call is refused,
+/// and if memory runs out.
 pub fn make(
     alloc: Global,
     stock: &mut Stock,

@@ -15,7 +15,8 @@ pub enum FileCall {
     Save,
 }
 
-/// Makes a call on a file, and prints that it was made. Fails if no bytes have the name, and if the file can't be written.
+/// Makes a call on a file, and prints that it was made. Fails if no bytes have the name, and if the file can't be
+/// written.
 pub fn make<R>(
     rt: &R,
     kept: &Kept,

@@ -114,12 +114,15 @@ pub(crate) fn add_range(all: &mut Vec<u8>, bytes: &[u8], range: &str) -> Result<
 
 /// Returns the bytes in a range, such as `0..512` or `512..`.
 pub(crate) fn ranged<'a>(bytes: &'a [u8], range: &str) -> Result<&'a [u8], Failure> {
-    let part = match range.split_once("..") {
-        Some((from, "")) => bytes.get(place(from)..),
-        Some((from, to)) => bytes.get(place(from)..place(to)),
-        None => None,
+    let (from, to) = range.split_once("..").unwrap_or((range, range));
+    let end = if to.is_empty() {
+        bytes.len()
+    } else {
+        place(to)
     };
-    part.ok_or(Failure::Unreadable("the range is past the end"))
+    bytes
+        .get(place(from)..end)
+        .ok_or(Failure::Unreadable("the range is past the end"))
 }
 
 /// Returns the place that a word spells, or one past all ends.

@@ -139,18 +139,18 @@ impl Lexer {
 
     /// Reads a character of `{4E00}`, which stands behind `\u`.
     fn read_digit(&mut self, c: char) -> Result<(), AllocError> {
-        match (c, c.to_digit(16), char::from_u32(self.code)) {
-            ('{', _, _) => Ok(()),
-            ('}', _, Some(c)) => self.push(c, Place::Text),
-            (_, Some(digit), _) => {
-                self.code = self.code.saturating_mul(16).saturating_add(digit);
-                Ok(())
-            }
+        match c {
+            '{' => {}
+            '}' => match char::from_u32(self.code) {
+                Some(c) => return self.push(c, Place::Text),
+                None => self.place = Place::Nowhere,
+            },
             _ => {
-                self.place = Place::Nowhere;
-                Ok(())
+                let digit = c.to_digit(16).unwrap_or(u32::MAX);
+                self.code = self.code.saturating_mul(16).saturating_add(digit);
             }
         }
+        Ok(())
     }
 }
 

@@ -5,8 +5,9 @@ use crate::tokens::{Mark, Token};
 
 /// The tokens of a line that are still to be read.
 ///
-/// Where a word is missing, or doesn't spell what is asked for, something harmless is returned, such as an empty text or
-/// 0, and the line can't be read from then on. So a call reads all its words before it asks once, by `check` or `end`.
+/// Where a word is missing, or doesn't spell what is asked for, something harmless is returned, such as an empty text
+/// or 0, and the line can't be read from then on. So a call reads its words without a check of each, and who makes it
+/// asks once, by `check` or `end`.
 #[derive(Clone, Copy)]
 pub struct Words<'a> {
     tokens: &'a [Token],
