@@ -57,10 +57,11 @@ fn print_encoded(
     is_table: bool,
 ) -> Result<(), Failure> {
     let encoded = streamname::encode(alloc, name, is_table)?;
-    let mut before = "";
-    for unit in encoded.as_str().encode_utf16() {
-        write!(answer, "{before}{unit:04X}");
-        before = " ";
+    for (i, unit) in encoded.as_str().encode_utf16().enumerate() {
+        if i > 0 {
+            answer.push_str(" ");
+        }
+        write!(answer, "{unit:04X}");
     }
     Ok(())
 }
