@@ -8,16 +8,16 @@ use crate::{devices, summaries};
 use std::alloc::Global;
 use std::io::{Read, Seek, Write};
 use std::rt::Files;
-use transcripts_queries::conditions::expression;
+use transcripts_queries::cells::{self, CellCall};
+use transcripts_queries::evaluation::{self, QueryCall};
 use transcripts_queries::parsing::{self, Parsed};
-use transcripts_queries::queries::select;
-use transcripts_queries::{cells, evaluation, tables};
+use transcripts_queries::tables::{self, TableCall};
 use transcripts_texts::pools;
 use transcripts_texts::texts::{self, TextCall};
+use transcripts_words::answers::Answer;
 use transcripts_words::containers::{self, BytesCall};
 use transcripts_words::failure::Failure;
 use transcripts_words::files::{self, FileCall};
-use transcripts_words::kept::Kept;
 use transcripts_words::stream_names;
 use transcripts_words::words::Words;
 
@@ -44,16 +44,15 @@ enum Call {
     Calls,
     /// Prints how many writes it got.
     Writes,
-    /// Prints a query as the library does.
-    PrintQuery,
-    /// Prints an expression as the library does.
-    PrintExpression,
+    Cells(CellCall),
+    Table(TableCall),
+    Query(QueryCall),
     /// Reads texts, and prints what they spell.
     Parse(Parsed),
 }
 
 /// Each call by its name.
-static CALLS: [(&str, Call); 78] = [
+static CALLS: [(&str, Call); 102] = [
     ("device", Call::Package(PackageCall::Device)),
     ("create", Call::Package(PackageCall::Create)),
     ("open", Call::Package(PackageCall::Open)),
@@ -132,59 +131,59 @@ static CALLS: [(&str, Call); 78] = [
     ("properties", Call::Properties),
     ("calls", Call::Calls),
     ("writes", Call::Writes),
-    ("print_query", Call::PrintQuery),
-    ("print_expression", Call::PrintExpression),
+    ("print_value", Call::Cells(CellCall::PrintValue)),
+    ("print_aligned", Call::Cells(CellCall::PrintAligned)),
+    ("print_cut", Call::Cells(CellCall::PrintCut)),
+    ("value_from", Call::Cells(CellCall::ValueFrom)),
+    ("compare", Call::Cells(CellCall::Compare)),
+    ("cell", Call::Cells(CellCall::Cell)),
+    ("write_rows", Call::Cells(CellCall::WriteRows)),
+    ("read_rows", Call::Cells(CellCall::ReadRows)),
+    ("sort_rows", Call::Cells(CellCall::SortRows)),
+    ("select_given", Call::Cells(CellCall::SelectGiven)),
+    ("column", Call::Table(TableCall::Column)),
+    ("type_bits", Call::Table(TableCall::TypeBits)),
+    ("column_of_bits", Call::Table(TableCall::ColumnOfBits)),
+    ("renamed", Call::Table(TableCall::Renamed)),
+    ("nullable", Call::Table(TableCall::Nullable)),
+    ("takes", Call::Table(TableCall::Takes)),
+    ("table", Call::Table(TableCall::Table)),
+    ("find_column", Call::Table(TableCall::FindColumn)),
+    ("print_query", Call::Query(QueryCall::Select)),
+    ("print_expression", Call::Query(QueryCall::Expression)),
+    ("print_insert", Call::Query(QueryCall::Insert)),
+    ("print_row_by_row", Call::Query(QueryCall::RowByRow)),
+    ("print_update", Call::Query(QueryCall::Update)),
+    ("print_delete", Call::Query(QueryCall::Delete)),
+    ("column_names", Call::Query(QueryCall::ColumnNames)),
+    ("meets", Call::Query(QueryCall::Meets)),
     ("parse_query", Call::Parse(Parsed::Query)),
     ("parse_expression", Call::Parse(Parsed::Expression)),
     ("parse_nested", Call::Parse(Parsed::Nested)),
     ("parse_random", Call::Parse(Parsed::Random)),
 ];
 
-/// Returns the call of a name.
-fn call_named(name: &str) -> Option<Call> {
-    for (known, call) in &CALLS {
-        if *known == name {
-            return Some(*call);
-        }
-    }
-    None
-}
-
-/// Makes a call on values, columns, rows or expressions.
-fn make_named(
-    alloc: Global,
-    kept: &Kept,
-    name: &str,
-    words: &mut Words,
-    answer: &mut String,
-) -> Result<(), Failure> {
-    if tables::make(alloc, name, words, answer)? || evaluation::make(alloc, name, words, answer)? {
-        return Ok(());
-    }
-    cells::make(alloc, kept, name, words, answer)
-}
-
-/// Makes a call, and prints its answer as lines.
+/// Makes a call, and prints its answer as lines. Fails if the line can't be read, if the call is refused, and if memory
+/// runs out.
 pub(crate) fn make<R>(
     rt: &R,
     session: &mut Session,
     words: &mut Words,
-    answer: &mut String,
+    answer: &mut Answer,
 ) -> Result<(), Failure>
 where
     R: Files + AllocGlobal,
     R::File: Read + Write + Seek + Drop,
 {
-    let name = words.word()?;
-    match call_named(name) {
-        None => make_named(rt.alloc(), &session.stock.kept, name, words, answer)?,
-        Some(Call::File(call)) => {
-            files::make(rt, &session.stock.kept, call, words)?;
-            answer.push_str("ok")?;
-        }
-        Some(call) => make_other(rt.alloc(), session, call, words, answer)?,
-    }
-    words.end()
+    let outcome = match words.one_of(&CALLS) {
+        Some(Call::File(call)) => files::make(rt, &session.stock.kept, call, words, answer),
+        Some(call) => make_other(rt.alloc(), session, call, words, answer),
+        None => Err(Failure::Unreadable("there is no such call")),
+    };
+    words.check()?;
+    outcome?;
+    words.end()?;
+    answer.check()
 }
 
 /// Makes a call that touches no file.
@@ -193,50 +192,49 @@ fn make_other(
     session: &mut Session,
     call: Call,
     words: &mut Words,
-    answer: &mut String,
+    answer: &mut Answer,
 ) -> Result<(), Failure> {
     match call {
         Call::Package(call) => packages::make(alloc, session, call, words)?,
         Call::Change(change) => changes::make(alloc, session.package_mut()?, change, words)?,
         Call::Recount => {
-            write!(answer, "{}", session.package_mut()?.recount()?)?;
+            write!(answer, "{}", session.package_mut()?.recount()?);
             return Ok(());
         }
         Call::Look(look) => return looks::print(alloc, session.package()?, look, words, answer),
+        Call::Pool => return pools::make(alloc, &mut session.stock, words, answer),
+        Call::Properties => return summaries::make(alloc, session, words, answer),
+        Call::OnDevice => return devices::make(alloc, session, words, answer),
         Call::Bytes(call) => {
             return containers::make(alloc, &mut session.stock.kept, call, words, answer);
         }
-        Call::Text(call) => return texts::print(alloc, &session.stock.kept, call, words, answer),
-        Call::OnDevice => return devices::make(alloc, session, words, answer),
-        Call::Pool => return pools::make(alloc, &mut session.stock, words, answer),
-        Call::Properties => return summaries::make(alloc, session, words, answer),
-        _ => return print_text(alloc, session, call, words, answer),
+        _ => return print_other(alloc, session, call, words, answer),
     }
-    answer.push_str("ok")?;
+    answer.push_str("ok");
     Ok(())
 }
 
 /// Prints what needs no package.
-fn print_text(
+fn print_other(
     alloc: Global,
     session: &Session,
     call: Call,
     words: &mut Words,
-    answer: &mut String,
+    answer: &mut Answer,
 ) -> Result<(), Failure> {
     match call {
-        Call::Calls => write!(answer, "{}", session.calls)?,
-        Call::Writes => write!(answer, "{}", session.writes)?,
-        Call::StreamName => stream_names::make(alloc, words, answer)?,
-        Call::PrintQuery => {
-            let query = select(alloc, words)?;
-            write!(answer, "{query}")?;
-        }
-        Call::Parse(parsed) => parsing::make(alloc, parsed, words, answer)?,
-        _ => {
-            let expression = expression(alloc, words)?;
-            write!(answer, "{expression}")?;
-        }
+        Call::Text(call) => texts::print(alloc, &session.stock.kept, call, words, answer),
+        Call::Cells(call) => cells::make(alloc, &session.stock.kept, call, words, answer),
+        Call::Table(call) => tables::make(alloc, call, words, answer),
+        Call::Query(call) => Ok(evaluation::make(alloc, call, words, answer)?),
+        Call::Parse(parsed) => parsing::make(alloc, parsed, words, answer),
+        Call::StreamName => stream_names::make(alloc, words, answer),
+        Call::Calls => print_count(answer, session.calls),
+        _ => print_count(answer, session.writes),
     }
+}
+
+fn print_count(answer: &mut Answer, count: usize) -> Result<(), Failure> {
+    write!(answer, "{count}");
     Ok(())
 }

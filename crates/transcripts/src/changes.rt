@@ -1,11 +1,12 @@
 //! Calls that change a package.
 
-use msi::Package;
+use msi::{Error, Package};
 use msi_container_tests::counting::Counting;
 use std::alloc::Global;
 use transcripts_queries::columns::columns;
 use transcripts_queries::queries::{delete, insert, update};
 use transcripts_texts::summary;
+use transcripts_texts::texts::codepage;
 use transcripts_words::failure::Failure;
 use transcripts_words::words::Words;
 
@@ -40,7 +41,7 @@ pub(crate) enum Change {
     Flush,
 }
 
-/// Makes a change. Fails if the call can't be read or is refused, and if memory runs out.
+/// Makes a change. Fails if the call is refused, and if memory runs out.
 pub(crate) fn make(
     alloc: Global,
     package: &mut Package<Counting>,
@@ -48,42 +49,52 @@ pub(crate) fn make(
     words: &mut Words,
 ) -> Result<(), Failure> {
     match change {
-        Change::CreateTable => {
-            let name = words.name()?;
-            package.create_table(name, columns(alloc, words)?)?;
+        Change::SetSummary => summary::set(alloc, package.summary_info_mut()?, words),
+        Change::ClearSummary => summary::clear(package.summary_info_mut()?, words),
+        Change::CreateTable | Change::InsertRows | Change::UpdateRows | Change::DeleteRows => {
+            Ok(change_rows(alloc, package, change, words)?)
         }
-        Change::DropTable => package.drop_table(words.name()?)?,
-        Change::InsertRows => package.insert_rows(insert(alloc, words)?)?,
-        Change::UpdateRows => package.update_rows(update(alloc, words)?)?,
-        Change::DeleteRows => package.delete_rows(delete(alloc, words)?)?,
-        Change::SetCodepage => package.set_database_codepage(summary::codepage(words)?)?,
-        Change::Flush => package.flush()?,
-        _ => return make_other(alloc, package, change, words),
+        _ => Ok(make_other(package, change, words)?),
     }
-    Ok(())
 }
 
-/// Makes a change of the streams or the summary.
-fn make_other(
+/// Creates a table, or changes the rows of one.
+fn change_rows(
     alloc: Global,
     package: &mut Package<Counting>,
     change: Change,
     words: &mut Words,
-) -> Result<(), Failure> {
+) -> Result<(), Error> {
     match change {
-        Change::WriteStream => {
-            package.write_stream(words.name()?)?;
-        }
-        Change::RemoveStream => package.remove_stream(words.name()?)?,
-        Change::RemoveSignature => package.remove_digital_signature()?,
-        Change::SetSummary => {
-            let property = words.word()?;
-            summary::set(alloc, package.summary_info_mut()?, property, words)?;
-        }
-        Change::ClearSummary => summary::clear(package.summary_info_mut()?, words.word()?)?,
+        Change::InsertRows => package.insert_rows(insert(alloc, words)?),
+        Change::UpdateRows => package.update_rows(update(alloc, words)?),
+        Change::DeleteRows => package.delete_rows(delete(alloc, words)?),
         _ => {
-            package.summary_info_mut()?;
+            let name = words.name();
+            package.create_table(name, columns(alloc, words)?)
         }
     }
-    Ok(())
+}
+
+/// Makes another change.
+fn make_other(
+    package: &mut Package<Counting>,
+    change: Change,
+    words: &mut Words,
+) -> Result<(), Error> {
+    match change {
+        Change::DropTable => package.drop_table(words.name()),
+        Change::SetCodepage => package.set_database_codepage(codepage(words)),
+        Change::RemoveStream => package.remove_stream(words.name()),
+        Change::RemoveSignature => package.remove_digital_signature(),
+        Change::Flush => package.flush(),
+        Change::WriteStream => {
+            package.write_stream(words.name())?;
+            Ok(())
+        }
+        _ => {
+            package.summary_info_mut()?;
+            Ok(())
+        }
+    }
 }

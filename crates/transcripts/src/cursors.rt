@@ -4,10 +4,11 @@ use crate::session::Session;
 use msi::{StreamReader, StreamWriter};
 use std::alloc::Global;
 use std::io::{Read, Seek, SeekFrom, Write};
+use transcripts_words::answers::Answer;
 use transcripts_words::failure::Failure;
 use transcripts_words::kept::{Kept, pieces, print_bytes};
 use transcripts_words::lines::Line;
-use transcripts_words::reports::{Report, empty_answer};
+use transcripts_words::reports::Report;
 use transcripts_words::tokens::tokens;
 use transcripts_words::words::Words;
 
@@ -27,7 +28,8 @@ where
     let Some(package) = &mut session.package else {
         return Err(Failure::Unreadable("there is no package"));
     };
-    let mut answer = String::from_str(rt.alloc(), "ok")?;
+    let mut answer = Answer::new(rt.alloc())?;
+    answer.push_str("ok");
     match package.write_stream(name) {
         Ok(stream) => {
             report.check(rt, line, rest, Ok(()), &mut answer)?;
@@ -71,7 +73,7 @@ fn write_line<R>(
 where
     R: Print + AllocGlobal,
 {
-    let mut answer = empty_answer(rt.alloc())?;
+    let mut answer = Answer::new(rt.alloc())?;
     let tokens = tokens(rt.alloc(), line.text())?;
     let mut words = Words::new(tokens.as_slice());
     let outcome = if words.takes("try") && report.is_trial() {
@@ -89,7 +91,7 @@ fn try_call<R>(
     kept: &Kept,
     stream: StreamWriter,
     words: Words,
-    answer: &mut String,
+    answer: &mut Answer,
 ) -> Result<(), Failure>
 where
     R: Print + AllocGlobal,
@@ -123,21 +125,32 @@ fn make_write(
     kept: &Kept,
     stream: StreamWriter,
     words: &mut Words,
-    answer: &mut String,
+    answer: &mut Answer,
 ) -> Result<(), Failure> {
-    match words.word()? {
-        "write" => {
-            let piece = pieces(alloc, kept, words)?;
-            write!(answer, "{}", stream.write(piece.as_slice())?)?;
-        }
-        "seek" => write!(answer, "{}", stream.seek(target(words)?)?)?,
+    match words.word() {
+        "write" => write_pieces(alloc, kept, stream, words, answer)?,
+        "seek" => write!(answer, "{}", stream.seek(target(words))?),
         "flush" => {
             stream.flush()?;
-            answer.push_str("ok")?;
+            answer.push_str("ok");
         }
-        _ => return Err(Failure::Unreadable("a writer has no such call")),
+        _ => words.refuse("a writer has no such call"),
     }
-    words.end()
+    words.end()?;
+    answer.check()
+}
+
+/// Writes pieces, and prints how many bytes were taken.
+fn write_pieces(
+    alloc: Global,
+    kept: &Kept,
+    stream: StreamWriter,
+    words: &mut Words,
+    answer: &mut Answer,
+) -> Result<(), Failure> {
+    let piece = pieces(alloc, kept, words)?;
+    write!(answer, "{}", stream.write(piece.as_slice())?);
+    Ok(())
 }
 
 /// Opens a stream for reading, and makes the calls below. Fails if there is no package, if memory runs out, and if
@@ -153,7 +166,8 @@ pub(crate) fn read<R>(
 where
     R: Print + AllocGlobal,
 {
-    let mut answer = String::from_str(rt.alloc(), "ok")?;
+    let mut answer = Answer::new(rt.alloc())?;
+    answer.push_str("ok");
     match session.package()?.read_stream(name) {
         Ok(stream) => {
             report.check(rt, line, rest, Ok(()), &mut answer)?;
@@ -178,7 +192,7 @@ where
             break;
         }
         if rest[i].is_cursor_call() {
-            let mut answer = String::new(rt.alloc());
+            let mut answer = Answer::new(rt.alloc())?;
             let outcome = read_line(rt.alloc(), &mut stream, &rest[i], &mut answer);
             report.check(rt, &rest[i], &rest[i + 1..], outcome, &mut answer)?;
         }
@@ -192,23 +206,28 @@ fn read_line(
     alloc: Global,
     stream: &mut StreamReader,
     line: &Line,
-    answer: &mut String,
+    answer: &mut Answer,
 ) -> Result<(), Failure> {
     let tokens = tokens(alloc, line.text())?;
     let mut words = Words::new(tokens.as_slice());
-    match words.word()? {
-        "read" => {
-            let piece = read_piece(alloc, stream, words.count()?)?;
-            print_bytes(answer, piece.as_slice())?;
-        }
-        "read_all" => {
-            let ahead = read_all(alloc, stream, words.count()?)?;
-            print_bytes(answer, ahead.as_slice())?;
-        }
-        "seek" => write!(answer, "{}", stream.seek(target(&mut words)?)?)?,
-        _ => return Err(Failure::Unreadable("a reader has no such call")),
+    make_read(alloc, stream, &mut words, answer)
+}
+
+/// Makes a call on a reader.
+fn make_read(
+    alloc: Global,
+    stream: &mut StreamReader,
+    words: &mut Words,
+    answer: &mut Answer,
+) -> Result<(), Failure> {
+    match words.word() {
+        "read" => print_bytes(answer, read_piece(alloc, stream, words.count())?.as_slice()),
+        "read_all" => print_bytes(answer, read_all(alloc, stream, words.count())?.as_slice()),
+        "seek" => write!(answer, "{}", stream.seek(target(words))?),
+        _ => words.refuse("a reader has no such call"),
     }
-    words.end()
+    words.end()?;
+    answer.check()
 }
 
 /// Reads once, into so many bytes.
@@ -233,20 +252,23 @@ fn read_all(alloc: Global, stream: &mut StreamReader, len: usize) -> Result<Vec<
 }
 
 /// Reads where a seek goes: `start 4`, `current -1` or `end -2`.
-fn target(words: &mut Words) -> Result<SeekFrom, Failure> {
-    let from = words.word()?;
-    let offset = words.word()?;
-    if from == "start" {
-        let place = offset.parse::<u64>().ok().ok_or(NO_OFFSET)?;
-        return Ok(SeekFrom::Start(place));
-    }
-    let offset = offset.parse::<i64>().ok().ok_or(NO_OFFSET)?;
-    match from {
-        "current" => Ok(SeekFrom::Current(offset)),
-        "end" => Ok(SeekFrom::End(offset)),
-        _ => Err(Failure::Unreadable("a seek begins nowhere")),
-    }
+fn target(words: &mut Words) -> SeekFrom {
+    let from = words.word();
+    let offset = words.word();
+    let target = match from {
+        "start" => offset
+            .parse::<u64>()
+            .ok()
+            .map(|place| SeekFrom::Start(place)),
+        "current" => offset
+            .parse::<i64>()
+            .ok()
+            .map(|offset| SeekFrom::Current(offset)),
+        "end" => offset
+            .parse::<i64>()
+            .ok()
+            .map(|offset| SeekFrom::End(offset)),
+        _ => None,
+    };
+    words.spelled(target, SeekFrom::Start(0), "a seek goes nowhere")
 }
-
-/// The failure of a seek without a number.
-const NO_OFFSET: Failure = Failure::Unreadable("a seek goes nowhere");

@@ -1,14 +1,15 @@
 //! Calls that look at a package.
 
-use msi::{Package, Rows, Streams, Tables};
+use msi::{Error, Package, Rows, Streams, Tables};
 use msi_container_tests::counting::Counting;
-use std::alloc::{AllocError, Global};
+use std::alloc::Global;
 use std::io::Read;
 use transcripts_queries::columns::print_columns;
 use transcripts_queries::conditions::expression;
 use transcripts_queries::evaluation::{print_values, print_worths};
 use transcripts_queries::queries::{print_names, print_rows, select};
 use transcripts_texts::summary;
+use transcripts_words::answers::Answer;
 use transcripts_words::failure::Failure;
 use transcripts_words::kept::print_bytes;
 use transcripts_words::words::Words;
@@ -52,71 +53,52 @@ pub(crate) enum Look {
     Values,
 }
 
-/// Prints the answer of a call that looks at a package. Fails if the call can't be read or is refused, and if memory
-/// runs out.
+/// Prints the answer of a call that looks at a package. Fails if the call is refused, and if memory runs out.
 pub(crate) fn print(
     alloc: Global,
     package: &Package<Counting>,
     look: Look,
     words: &mut Words,
-    answer: &mut String,
+    answer: &mut Answer,
 ) -> Result<(), Failure> {
     match look {
-        Look::Tables => print_tables(answer, package.tables())?,
-        Look::Columns => print_table(answer, package, words.name()?)?,
+        Look::Tables => print_tables(answer, package.tables()),
+        Look::Columns => print_table(answer, package, words.name()),
         Look::Streams => print_streams(answer, package.streams())?,
-        Look::ReadStream => print_stream(alloc, answer, package, words.name()?)?,
-        Look::Summary => summary::print(answer, package.summary_info(), words.word()?)?,
+        Look::ReadStream => return print_stream(alloc, answer, package, words.name()),
+        Look::Summary => return summary::print(answer, package.summary_info(), words),
         Look::Select | Look::Names | Look::Count => {
-            print_query(alloc, answer, package, look, words)?;
+            return print_query(alloc, answer, package, look, words);
         }
         Look::Evaluate => evaluate(alloc, answer, package, words)?,
-        Look::Values => print_column_values(alloc, answer, package, words)?,
-        _ => print_fact(answer, package, look, words)?,
+        Look::Values => return print_column_values(alloc, answer, package, words),
+        Look::PackageType => write!(answer, "{:?}", package.package_type()),
+        Look::Codepage => write!(answer, "{}", package.database_codepage().id()),
+        _ => write!(answer, "{}", is_so(package, look, words)),
     }
     Ok(())
 }
 
-/// Prints an answer of one word.
-fn print_fact(
-    answer: &mut String,
-    package: &Package<Counting>,
-    look: Look,
-    words: &mut Words,
-) -> Result<(), Failure> {
-    let is_so = match look {
-        Look::PackageType => {
-            write!(answer, "{:?}", package.package_type())?;
-            return Ok(());
-        }
-        Look::Codepage => {
-            write!(answer, "{}", package.database_codepage().id())?;
-            return Ok(());
-        }
+/// Returns whether something is so.
+fn is_so(package: &Package<Counting>, look: Look, words: &mut Words) -> bool {
+    match look {
         Look::IsWritable => package.is_writable(),
         Look::DeviceFailed => package.device_failed(),
-        Look::HasTable => package.has_table(words.name()?),
-        Look::HasStream => package.has_stream(words.name()?),
+        Look::HasTable => package.has_table(words.name()),
+        Look::HasStream => package.has_stream(words.name()),
         _ => package.has_digital_signature(),
-    };
-    write!(answer, "{is_so}")?;
-    Ok(())
+    }
 }
 
 /// Prints the names of tables, each as a line.
-fn print_tables(answer: &mut String, tables: Tables) -> Result<(), AllocError> {
+fn print_tables(answer: &mut Answer, tables: Tables) {
     for table in tables {
-        writeln!(answer, "{}", table.name())?;
+        writeln!(answer, "{}", table.name());
     }
-    Ok(())
 }
 
 /// Prints the columns of a table.
-fn print_table(
-    answer: &mut String,
-    package: &Package<Counting>,
-    name: &str,
-) -> Result<(), AllocError> {
+fn print_table(answer: &mut Answer, package: &Package<Counting>, name: &str) {
     match package.get_table(name) {
         Some(table) => print_columns(answer, table.columns()),
         None => answer.push_str("no table"),
@@ -124,13 +106,12 @@ fn print_table(
 }
 
 /// Prints the names of streams, each as a line.
-fn print_streams(answer: &mut String, streams: Streams) -> Result<(), Failure> {
+fn print_streams(answer: &mut Answer, streams: Streams) -> Result<(), Error> {
     for name in streams {
-        let name = name?;
-        writeln!(answer, "{:?}", name.as_str())?;
+        writeln!(answer, "{:?}", name?.as_str());
     }
     if answer.is_empty() {
-        answer.push_str("no streams")?;
+        answer.push_str("no streams");
     }
     Ok(())
 }
@@ -138,13 +119,13 @@ fn print_streams(answer: &mut String, streams: Streams) -> Result<(), Failure> {
 /// Prints the bytes of a stream.
 fn print_stream(
     alloc: Global,
-    answer: &mut String,
+    answer: &mut Answer,
     package: &Package<Counting>,
     name: &str,
 ) -> Result<(), Failure> {
     let mut bytes = Vec::new(alloc);
     package.read_stream(name)?.read_to_end(&mut bytes)?;
-    print_bytes(answer, bytes.as_slice())?;
+    print_bytes(answer, bytes.as_slice());
     Ok(())
 }
 
@@ -153,23 +134,23 @@ fn selected<'a>(
     alloc: Global,
     package: &'a Package<Counting>,
     words: &mut Words,
-) -> Result<Rows<'a>, Failure> {
-    Ok(package.select_rows(select(alloc, words)?)?)
+) -> Result<Rows<'a>, Error> {
+    package.select_rows(select(alloc, words)?)
 }
 
 /// Prints what a query selects.
 fn print_query(
     alloc: Global,
-    answer: &mut String,
+    answer: &mut Answer,
     package: &Package<Counting>,
     look: Look,
     words: &mut Words,
 ) -> Result<(), Failure> {
     let rows = selected(alloc, package, words)?;
     match look {
-        Look::Names => print_names(answer, rows.columns())?,
-        Look::Count => write!(answer, "{}", rows.len())?,
-        _ => print_rows(answer, rows)?,
+        Look::Names => print_names(answer, rows.columns()),
+        Look::Count => write!(answer, "{}", rows.len()),
+        _ => return print_rows(answer, rows),
     }
     Ok(())
 }
@@ -177,24 +158,22 @@ fn print_query(
 /// Prints what an expression is worth on each row of a query: `Number + 1 on Numbers`.
 fn evaluate(
     alloc: Global,
-    answer: &mut String,
+    answer: &mut Answer,
     package: &Package<Counting>,
     words: &mut Words,
-) -> Result<(), Failure> {
+) -> Result<(), Error> {
     let expression = expression(alloc, words)?;
-    if !words.takes("on") {
-        return Err(Failure::Unreadable("an expression has no rows"));
-    }
+    words.expect("on");
     print_worths(alloc, answer, &expression, selected(alloc, package, words)?)
 }
 
 /// Prints the values of a column in the rows of a query: `Number of Numbers`.
 fn print_column_values(
     alloc: Global,
-    answer: &mut String,
+    answer: &mut Answer,
     package: &Package<Counting>,
     words: &mut Words,
 ) -> Result<(), Failure> {
-    let name = words.name()?;
+    let name = words.name();
     print_values(alloc, answer, name, selected(alloc, package, words)?)
 }

@@ -25,8 +25,7 @@ pub(crate) enum PackageCall {
     IntoInner,
 }
 
-/// Makes a call that makes a package or ends one. Fails if the call can't be read or is refused, and if memory runs
-/// out.
+/// Makes a call that makes a package or ends one. Fails if the call is refused, and if memory runs out.
 pub(crate) fn make(
     alloc: Global,
     session: &mut Session,
@@ -34,7 +33,10 @@ pub(crate) fn make(
     words: &mut Words,
 ) -> Result<(), Failure> {
     match call {
-        PackageCall::Device => session.behave(words),
+        PackageCall::Device => {
+            session.behave(words);
+            Ok(())
+        }
         PackageCall::Create => create(alloc, session, words),
         PackageCall::Open => open(alloc, session, words),
         PackageCall::Image => keep_image(alloc, session, words),
@@ -43,18 +45,20 @@ pub(crate) fn make(
     }
 }
 
-/// Reads what a package is for.
-fn kind(words: &mut Words) -> Result<PackageType, Failure> {
-    match words.word()? {
-        "Installer" => Ok(PackageType::Installer),
-        "Patch" => Ok(PackageType::Patch),
-        "Transform" => Ok(PackageType::Transform),
-        _ => Err(Failure::Unreadable("there is no such type of package")),
-    }
-}
+/// What a package is for, each by its name.
+static TYPES: [(&str, PackageType); 3] = [
+    ("Installer", PackageType::Installer),
+    ("Patch", PackageType::Patch),
+    ("Transform", PackageType::Transform),
+];
 
 fn create(alloc: Global, session: &mut Session, words: &mut Words) -> Result<(), Failure> {
-    let kind = kind(words)?;
+    let kind = words.one_of(&TYPES);
+    let kind = words.spelled(
+        kind,
+        PackageType::Installer,
+        "there is no such type of package",
+    );
     let _ = words.takes("over");
     let bytes = pieces(alloc, &session.stock.kept, words)?;
     let device = session.device(bytes);
@@ -63,22 +67,22 @@ fn create(alloc: Global, session: &mut Session, words: &mut Words) -> Result<(),
 }
 
 fn open(alloc: Global, session: &mut Session, words: &mut Words) -> Result<(), Failure> {
-    let bytes = Vec::from_slice(alloc, session.stock.kept.bytes(words.name()?)?)?;
+    let bytes = Vec::from_slice(alloc, session.stock.kept.bytes(words.name())?)?;
     let device = session.device(bytes);
     session.package = Some(Package::open(alloc, device)?);
     Ok(())
 }
 
 fn keep_image(alloc: Global, session: &mut Session, words: &mut Words) -> Result<(), Failure> {
-    let name = words.name()?;
+    let name = words.name();
     session.stock.kept.reserve(alloc, name)?;
-    let bytes = session.package()?.image(words.count()? as u64)?;
+    let bytes = session.package()?.image(words.count() as u64)?;
     session.stock.kept.keep(name, bytes);
     Ok(())
 }
 
 fn into_reader(alloc: Global, session: &mut Session, words: &mut Words) -> Result<(), Failure> {
-    let name = words.name()?;
+    let name = words.name();
     session.stock.kept.reserve(alloc, name)?;
     let device = session.take()?.into_reader();
     session.close(name, device);
@@ -86,7 +90,7 @@ fn into_reader(alloc: Global, session: &mut Session, words: &mut Words) -> Resul
 }
 
 fn into_inner(alloc: Global, session: &mut Session, words: &mut Words) -> Result<(), Failure> {
-    let name = words.name()?;
+    let name = words.name();
     session.stock.kept.reserve(alloc, name)?;
     let package = session.take()?;
     let device = written(session, package)?;

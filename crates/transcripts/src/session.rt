@@ -96,22 +96,20 @@ impl Session {
     }
 
     /// Reads what the next device does: `most 512 most_read 7 failing 12 lasts interrupted`.
-    pub(crate) fn behave(&mut self, words: &mut Words) -> Result<(), Failure> {
-        let mut behaviour = PLAIN;
+    pub(crate) fn behave(&mut self, words: &mut Words) {
+        self.behaviour = PLAIN;
         for _ in 0..words.len() {
             if words.len() == 0 {
                 break;
             }
-            match words.word()? {
-                "most" => behaviour.most = words.count()?,
-                "most_read" => behaviour.most_read = words.count()?,
-                "failing" => behaviour.failing = words.count()?,
-                "lasts" => behaviour.lasts = true,
-                "interrupted" => behaviour.fault = io::ErrorKind::Interrupted,
-                _ => return Err(Failure::Unreadable("a device has no such behaviour")),
+            match words.word() {
+                "most" => self.behaviour.most = words.count(),
+                "most_read" => self.behaviour.most_read = words.count(),
+                "failing" => self.behaviour.failing = words.count(),
+                "lasts" => self.behaviour.lasts = true,
+                "interrupted" => self.behaviour.fault = io::ErrorKind::Interrupted,
+                _ => words.refuse("a device has no such behaviour"),
             }
         }
-        self.behaviour = behaviour;
-        Ok(())
     }
 }

@@ -4,9 +4,10 @@ use crate::session::Session;
 use crate::{calls, cursors, trials};
 use std::io::{Read, Seek, Write};
 use std::rt::Files;
+use transcripts_words::answers::Answer;
 use transcripts_words::failure::Failure;
 use transcripts_words::lines::Line;
-use transcripts_words::reports::{Report, empty_answer};
+use transcripts_words::reports::Report;
 use transcripts_words::tokens::tokens;
 use transcripts_words::words::Words;
 
@@ -38,15 +39,18 @@ where
     R::File: Read + Write + Seek + Drop,
 {
     if !is_stream(rest) {
-        let mut answer = empty_answer(rt.alloc())?;
+        let mut answer = Answer::new(rt.alloc())?;
         let outcome = make(rt, report.is_trial(), session, line, &mut answer);
         return report.check(rt, line, rest, outcome, &mut answer);
     }
     let tokens = tokens(rt.alloc(), line.text())?;
     let mut words = Words::new(tokens.as_slice());
-    match words.word()? {
-        "write_stream" => cursors::write(rt, report, session, words.name()?, line, rest),
-        "read_stream" => cursors::read(rt, report, session, words.name()?, line, rest),
+    let verb = words.word();
+    let name = words.name();
+    words.end()?;
+    match verb {
+        "write_stream" => cursors::write(rt, report, session, name, line, rest),
+        "read_stream" => cursors::read(rt, report, session, name, line, rest),
         _ => Err(Failure::Unreadable("no stream is open for the calls below")),
     }
 }
@@ -68,7 +72,7 @@ fn make<R>(
     is_trial: bool,
     session: &mut Session,
     line: &Line,
-    answer: &mut String,
+    answer: &mut Answer,
 ) -> Result<(), Failure>
 where
     R: Files + Print + AllocGlobal,

@@ -6,6 +6,7 @@ use crate::pictures::picture;
 use crate::session::Session;
 use std::io::{Read, Seek, Write};
 use std::rt::Files;
+use transcripts_words::answers::Answer;
 use transcripts_words::failure::Failure;
 use transcripts_words::words::Words;
 
@@ -14,7 +15,7 @@ pub(crate) fn make<R>(
     rt: &R,
     session: &mut Session,
     words: Words,
-    answer: &mut String,
+    answer: &mut Answer,
 ) -> Result<(), Failure>
 where
     R: Files + Print + AllocGlobal,

@@ -1,85 +1,101 @@
 //! Reads columns, and prints them.
 
 use msi_table::{Column, ColumnBuilder};
-use std::alloc::{AllocError, Global};
+use msi_text::Error;
+use std::alloc::Global;
 use transcripts_texts::texts::category;
-use transcripts_words::failure::Failure;
-use transcripts_words::tokens::Mark;
+use transcripts_words::answers::Answer;
 use transcripts_words::words::Words;
 
-/// The type of a column, which is named last.
+/// A word of a column behind its name.
+#[derive(Clone, Copy)]
+enum Part {
+    Option(ColumnOption),
+    /// The type, which comes last.
+    Type(Kind),
+}
+
+/// What a column is built with beside its type.
+#[derive(Clone, Copy)]
+enum ColumnOption {
+    Key,
+    Nullable,
+    Localizable,
+    Range,
+    ForeignKey,
+    Category,
+    EnumValues,
+}
+
+/// The type of a column.
 #[derive(Clone, Copy)]
 enum Kind {
     Int16,
     Int32,
+    Binary,
     String,
     IdString,
     TextString,
     FormattedString,
-    Binary,
 }
 
-static KINDS: [(&str, Kind); 7] = [
-    ("int16", Kind::Int16),
-    ("int32", Kind::Int32),
-    ("string", Kind::String),
-    ("id_string", Kind::IdString),
-    ("text_string", Kind::TextString),
-    ("formatted_string", Kind::FormattedString),
-    ("binary", Kind::Binary),
+/// Each of these words. They are named after the calls of a builder.
+static PARTS: [(&str, Part); 14] = [
+    ("key", Part::Option(ColumnOption::Key)),
+    ("nullable", Part::Option(ColumnOption::Nullable)),
+    ("localizable", Part::Option(ColumnOption::Localizable)),
+    ("range", Part::Option(ColumnOption::Range)),
+    ("foreign_key", Part::Option(ColumnOption::ForeignKey)),
+    ("category", Part::Option(ColumnOption::Category)),
+    ("enum_values", Part::Option(ColumnOption::EnumValues)),
+    ("int16", Part::Type(Kind::Int16)),
+    ("int32", Part::Type(Kind::Int32)),
+    ("binary", Part::Type(Kind::Binary)),
+    ("string", Part::Type(Kind::String)),
+    ("id_string", Part::Type(Kind::IdString)),
+    ("text_string", Part::Type(Kind::TextString)),
+    ("formatted_string", Part::Type(Kind::FormattedString)),
 ];
 
-/// Returns the type of a name, if there is one.
-fn kind_named(name: &str) -> Option<Kind> {
-    for (known, kind) in &KINDS {
-        if *known == name {
-            return Some(*kind);
-        }
-    }
-    None
-}
-
-/// Reads the columns of a table: `(Number key int16, Word nullable string 50)`. Fails if they can't be read, and if
-/// memory runs out.
-pub fn columns(alloc: Global, words: &mut Words) -> Result<Vec<Column>, Failure> {
+/// Reads the columns of a table: `(Number key int16, Word nullable string 50)`. Fails if memory runs out.
+pub fn columns(alloc: Global, words: &mut Words) -> Result<Vec<Column>, Error> {
     let mut columns = Vec::new(alloc);
-    words.open()?;
-    if words.takes_mark(Mark::Close) {
-        return Ok(columns);
-    }
+    let mut goes_on = words.begins_list();
     for _ in 0..words.len() {
-        columns.push(column(alloc, words)?)?;
-        if !words.goes_on()? {
+        if !goes_on {
             break;
         }
+        columns.push(column(alloc, words)?)?;
+        goes_on = words.goes_on();
     }
     Ok(columns)
 }
 
-/// Reads a column: its name, what the calls of its builder are named after, and last its type.
-pub(crate) fn column(alloc: Global, words: &mut Words) -> Result<Column, Failure> {
-    let mut builder = Column::build(alloc, words.name()?)?;
+/// Reads a column: its name, its options, and last its type.
+pub(crate) fn column(alloc: Global, words: &mut Words) -> Result<Column, Error> {
+    let mut builder = Column::build(alloc, words.name())?;
     for _ in 0..words.len() {
-        let word = words.word()?;
-        if let Some(kind) = kind_named(word) {
-            return of_kind(builder, words, kind);
+        match words.one_of(&PARTS) {
+            Some(Part::Option(option)) => builder = with_option(alloc, builder, words, option)?,
+            Some(Part::Type(kind)) => return Ok(of_kind(builder, words, kind)),
+            None => words.refuse("a column has no such option"),
         }
-        builder = with_option(alloc, builder, words, word)?;
     }
-    Err(Failure::Unreadable("a column has no type"))
+    words.refuse("a column has no type");
+    Ok(builder.int16())
 }
 
 /// Returns the column of a type.
-fn of_kind(builder: ColumnBuilder, words: &mut Words, kind: Kind) -> Result<Column, Failure> {
-    Ok(match kind {
+fn of_kind(builder: ColumnBuilder, words: &mut Words, kind: Kind) -> Column {
+    match kind {
         Kind::Int16 => builder.int16(),
         Kind::Int32 => builder.int32(),
         Kind::Binary => builder.binary(),
-        Kind::String => builder.string(words.count()?),
-        Kind::IdString => builder.id_string(words.count()?),
-        Kind::TextString => builder.text_string(words.count()?),
-        Kind::FormattedString => builder.formatted_string(words.count()?),
-    })
+        Kind::String => builder.string(words.count()),
+        Kind::IdString => builder.id_string(words.count()),
+        Kind::TextString => builder.text_string(words.count()),
+        Kind::FormattedString => builder.formatted_string(words.count()),
+    }
 }
 
 /// Makes a call of a builder.
@@ -87,82 +103,67 @@ fn with_option(
     alloc: Global,
     builder: ColumnBuilder,
     words: &mut Words,
-    option: &str,
-) -> Result<ColumnBuilder, Failure> {
+    option: ColumnOption,
+) -> Result<ColumnBuilder, Error> {
     match option {
-        "key" => Ok(builder.primary_key()),
-        "nullable" => Ok(builder.nullable()),
-        "localizable" => Ok(builder.localizable()),
-        "range" => Ok(builder.range(words.number()?, words.number()?)),
-        "foreign_key" => Ok(builder.foreign_key(words.name()?, words.number()?)?),
-        "category" => Ok(builder.category(category(words.word()?)?)),
-        "enum_values" => Ok(builder.enum_values(names(alloc, words)?.as_slice())?),
-        _ => Err(Failure::Unreadable("a column has no such option")),
+        ColumnOption::Key => Ok(builder.primary_key()),
+        ColumnOption::Nullable => Ok(builder.nullable()),
+        ColumnOption::Localizable => Ok(builder.localizable()),
+        ColumnOption::Range => Ok(builder.range(words.number(), words.number())),
+        ColumnOption::ForeignKey => builder.foreign_key(words.name(), words.number()),
+        ColumnOption::Category => Ok(builder.category(category(words))),
+        ColumnOption::EnumValues => {
+            let texts = names(alloc, words)?;
+            builder.enum_values(texts.as_slice())
+        }
     }
 }
 
 /// Reads names: `("a", "b")`.
-pub(crate) fn names<'a>(alloc: Global, words: &mut Words<'a>) -> Result<Vec<&'a str>, Failure> {
+pub(crate) fn names<'a>(alloc: Global, words: &mut Words<'a>) -> Result<Vec<&'a str>, Error> {
     let mut names = Vec::new(alloc);
-    words.open()?;
-    if words.takes_mark(Mark::Close) {
-        return Ok(names);
-    }
+    let mut goes_on = words.begins_list();
     for _ in 0..words.len() {
-        names.push(words.name()?)?;
-        if !words.goes_on()? {
+        if !goes_on {
             break;
         }
+        names.push(words.name())?;
+        goes_on = words.goes_on();
     }
     Ok(names)
 }
 
-/// Prints columns, each as a line. Fails if memory runs out.
-pub fn print_columns(answer: &mut String, columns: &[Column]) -> Result<(), AllocError> {
+/// Prints columns, each as a line.
+pub fn print_columns(answer: &mut Answer, columns: &[Column]) {
     for column in columns {
-        print_column(answer, column)?;
-        answer.push('\n')?;
+        print_column(answer, column);
+        answer.push_str("\n");
     }
-    Ok(())
 }
 
 /// Prints a column: its name, its type and what else it was built with.
-pub(crate) fn print_column(answer: &mut String, column: &Column) -> Result<(), AllocError> {
-    write!(answer, "{} {}", column.name(), column.coltype())?;
-    print_flags(answer, column)?;
+pub(crate) fn print_column(answer: &mut Answer, column: &Column) {
+    write!(answer, "{} {}", column.name(), column.coltype());
+    print_flag(answer, column.is_primary_key(), " key");
+    print_flag(answer, column.is_nullable(), " nullable");
+    print_flag(answer, column.is_localizable(), " localizable");
     if let Some((least, most)) = column.value_range() {
-        write!(answer, " range {least} {most}")?;
+        write!(answer, " range {least} {most}");
     }
     if let Some((table, number)) = column.foreign_key() {
-        write!(answer, " foreign_key {table} {number}")?;
+        write!(answer, " foreign_key {table} {number}");
     }
     if let Some(category) = column.category() {
-        write!(answer, " category {}", category.name())?;
+        write!(answer, " category {}", category.name());
     }
-    print_texts(answer, column)
+    for text in column.enum_values().unwrap_or(&[]) {
+        write!(answer, " {:?}", text.as_str());
+    }
 }
 
-/// Prints whether a column is a part of the key, takes null and is localizable.
-fn print_flags(answer: &mut String, column: &Column) -> Result<(), AllocError> {
-    if column.is_primary_key() {
-        answer.push_str(" key")?;
+/// Prints the word of a flag that is set.
+fn print_flag(answer: &mut Answer, is_set: bool, word: &str) {
+    if is_set {
+        answer.push_str(word);
     }
-    if column.is_nullable() {
-        answer.push_str(" nullable")?;
-    }
-    if column.is_localizable() {
-        answer.push_str(" localizable")?;
-    }
-    Ok(())
-}
-
-/// Prints the texts that alone a column takes.
-fn print_texts(answer: &mut String, column: &Column) -> Result<(), AllocError> {
-    let Some(texts) = column.enum_values() else {
-        return Ok(());
-    };
-    for text in texts {
-        write!(answer, " {:?}", text.as_str())?;
-    }
-    Ok(())
 }

@@ -1,240 +1,85 @@
 //! Reads expressions, such as `Number > 1 AND Word = "Two"`, in which blanks stand around each operator.
 
 use msi_query::Expr;
-use std::alloc::Global;
-use transcripts_words::failure::Failure;
+use msi_query_parse::{Parse, ParseError};
+use msi_text::Error;
+use std::alloc::{AllocError, Global};
 use transcripts_words::tokens::{Mark, Token};
 use transcripts_words::words::Words;
 
-/// An operator, or a parenthesis that is still open.
-#[derive(Clone, Copy)]
-pub(crate) enum Operator {
-    Group,
-    Or,
-    And,
-    Not,
-    Equal,
-    NotEqual,
-    Less,
-    AtMost,
-    More,
-    AtLeast,
-    BitOr,
-    BitXor,
-    BitAnd,
-    ShiftLeft,
-    ShiftRight,
-    Add,
-    Subtract,
-    Multiply,
-    Divide,
-    Negate,
-    Invert,
-}
-
-/// An operator's word, and how strongly it binds.
-pub(crate) type Spelled = (&'static str, Operator, u8);
-
 /// The operators in front of an operand.
-static PREFIXES: [Spelled; 3] = [
-    ("NOT", Operator::Not, 3),
-    ("-", Operator::Negate, 11),
-    ("~", Operator::Invert, 11),
-];
+static PREFIXES: [&str; 3] = ["NOT", "-", "~"];
 
 /// The operators between two operands.
-pub(crate) static INFIXES: [Spelled; 17] = [
-    ("OR", Operator::Or, 1),
-    ("AND", Operator::And, 2),
-    ("=", Operator::Equal, 4),
-    ("!=", Operator::NotEqual, 4),
-    ("<", Operator::Less, 4),
-    ("<=", Operator::AtMost, 4),
-    (">", Operator::More, 4),
-    (">=", Operator::AtLeast, 4),
-    ("|", Operator::BitOr, 5),
-    ("^", Operator::BitXor, 6),
-    ("&", Operator::BitAnd, 7),
-    ("<<", Operator::ShiftLeft, 8),
-    (">>", Operator::ShiftRight, 8),
-    ("+", Operator::Add, 9),
-    ("-", Operator::Subtract, 9),
-    ("*", Operator::Multiply, 10),
-    ("/", Operator::Divide, 10),
+static INFIXES: [&str; 17] = [
+    "OR", "AND", "=", "!=", "<", "<=", ">", ">=", "|", "^", "&", "<<", ">>", "+", "-", "*", "/",
 ];
 
-/// Returns the operator that a word spells.
-fn spelled(operators: &[Spelled], word: &str) -> Option<(Operator, u8)> {
-    for (known, operator, strength) in operators {
-        if *known == word {
-            return Some((*operator, *strength));
-        }
-    }
-    None
-}
-
-/// What was read of an expression: operands, and the operators that wait for more.
+/// What was read of an expression, as the library reads it. Operands and operators take turns, so a word is known by
+/// its place: a column may be named `AND`, and a word that is no operator ends the expression where one could stand.
 #[derive(Drop)]
-struct Pending {
-    operands: Vec<Expr>,
-    operators: Vec<(Operator, u8)>,
+struct Spelling {
+    text: String,
     /// How many parentheses are open.
     groups: usize,
     /// Whether an operand comes next.
     is_at_operand: bool,
 }
 
-impl Pending {
+impl Spelling {
     /// Reads a token, and returns whether it belongs to the expression.
-    fn read(&mut self, alloc: Global, token: &Token) -> Result<bool, Failure> {
-        if self.is_at_operand {
-            self.read_operand(alloc, token)?;
-            return Ok(true);
-        }
+    fn read(&mut self, token: &Token) -> Result<bool, AllocError> {
         match token {
-            Token::Word(word) => self.read_infix(alloc, word.as_str()),
-            Token::Mark(Mark::Close) if self.groups > 0 => {
-                self.close_group(alloc)?;
+            Token::Mark(Mark::Open) if self.is_at_operand => {
+                self.groups = self.groups.saturating_add(1);
+                self.push("(")
+            }
+            Token::Mark(Mark::Close) if !self.is_at_operand && self.groups > 0 => {
+                self.groups = self.groups.saturating_sub(1);
+                self.push(")")
+            }
+            Token::Word(word) if self.is_at_operand => self.read_operand(word.as_str()),
+            Token::Word(word) if INFIXES.contains(&word.as_str()) => {
+                self.is_at_operand = true;
+                self.push(word.as_str())
+            }
+            Token::Text(text) if self.is_at_operand => {
+                self.is_at_operand = false;
+                write!(self.text, "{:?} ", text.as_str())?;
                 Ok(true)
             }
             _ => Ok(false),
         }
     }
 
-    /// Reads what stands in front of an operand, or an operand.
-    fn read_operand(&mut self, alloc: Global, token: &Token) -> Result<(), Failure> {
-        match token {
-            Token::Mark(Mark::Open) => {
-                self.groups = self.groups.saturating_add(1);
-                self.operators.push((Operator::Group, 0))?;
-            }
-            Token::Text(text) => self.push_operand(Expr::string(alloc, text.as_str())?)?,
-            Token::Word(word) => match spelled(&PREFIXES, word.as_str()) {
-                Some(prefix) => self.operators.push(prefix)?,
-                None => self.push_operand(operand(alloc, word.as_str())?)?,
-            },
-            _ => return Err(Failure::Unreadable("an operand is missing")),
-        }
-        Ok(())
-    }
-
-    fn push_operand(&mut self, operand: Expr) -> Result<(), Failure> {
-        self.is_at_operand = false;
-        self.operands.push(operand)?;
-        Ok(())
-    }
-
-    /// Reads an operator between two operands, and returns whether the word is one.
-    fn read_infix(&mut self, alloc: Global, word: &str) -> Result<bool, Failure> {
-        let Some((operator, strength)) = spelled(&INFIXES, word) else {
-            return Ok(false);
-        };
-        self.apply_all(alloc, strength)?;
-        self.operators.push((operator, strength))?;
-        self.is_at_operand = true;
+    fn push(&mut self, word: &str) -> Result<bool, AllocError> {
+        write!(self.text, "{word} ")?;
         Ok(true)
     }
 
-    /// Applies the operators that bind at least so strongly, the last first.
-    fn apply_all(&mut self, alloc: Global, strength: u8) -> Result<(), Failure> {
-        for _ in 0..self.operators.len() {
-            match self.operators.pop() {
-                Some((operator, bound)) if bound >= strength => self.apply(alloc, operator)?,
-                Some(weaker) => {
-                    self.operators.push(weaker)?;
-                    break;
-                }
-                None => break,
+    /// Reads what stands in front of an operand, or an operand: `NULL`, `TRUE`, `FALSE`, a number or a column.
+    fn read_operand(&mut self, word: &str) -> Result<bool, AllocError> {
+        if PREFIXES.contains(&word) {
+            return self.push(word);
+        }
+        self.is_at_operand = false;
+        match word {
+            "NULL" => self.push(word),
+            "TRUE" => self.push("1"),
+            "FALSE" => self.push("0"),
+            _ if word.parse::<i32>().is_ok() => self.push(word),
+            _ => {
+                write!(self.text, "`{word}` ")?;
+                Ok(true)
             }
         }
-        Ok(())
-    }
-
-    /// Applies the operators behind the last parenthesis that is open, and drops that.
-    fn close_group(&mut self, alloc: Global) -> Result<(), Failure> {
-        self.apply_all(alloc, 1)?;
-        self.groups = self.groups.saturating_sub(1);
-        let _ = self.operators.pop();
-        Ok(())
-    }
-
-    /// Returns the last operand.
-    fn operand(&mut self) -> Result<Expr, Failure> {
-        self.operands
-            .pop()
-            .ok_or(Failure::Unreadable("an operand is missing"))
-    }
-
-    /// Applies an operator to the last operands.
-    fn apply(&mut self, alloc: Global, operator: Operator) -> Result<(), Failure> {
-        let last = self.operand()?;
-        let made = match operator {
-            Operator::Group => last,
-            Operator::Not => last.not(alloc)?,
-            Operator::Negate => last.neg(alloc)?,
-            Operator::Invert => last.bitinv(alloc)?,
-            _ => applied(alloc, operator, self.operand()?, last)?,
-        };
-        self.operands.push(made)?;
-        Ok(())
     }
 }
 
-/// Returns an operator of two operands.
-pub(crate) fn applied(
-    alloc: Global,
-    operator: Operator,
-    left: Expr,
-    right: Expr,
-) -> Result<Expr, Failure> {
-    Ok(match operator {
-        Operator::Or => left.or(alloc, right)?,
-        Operator::And => left.and(alloc, right)?,
-        Operator::Equal => left.eq(alloc, right)?,
-        Operator::NotEqual => left.ne(alloc, right)?,
-        Operator::Less => left.lt(alloc, right)?,
-        Operator::AtMost => left.le(alloc, right)?,
-        Operator::More => left.gt(alloc, right)?,
-        Operator::AtLeast => left.ge(alloc, right)?,
-        _ => calculated(alloc, operator, left, right)?,
-    })
-}
-
-/// Returns an operator of two numbers.
-fn calculated(alloc: Global, operator: Operator, left: Expr, right: Expr) -> Result<Expr, Failure> {
-    Ok(match operator {
-        Operator::BitOr => left.bitor(alloc, right)?,
-        Operator::BitXor => left.bitxor(alloc, right)?,
-        Operator::BitAnd => left.bitand(alloc, right)?,
-        Operator::ShiftLeft => left.shl(alloc, right)?,
-        Operator::ShiftRight => left.shr(alloc, right)?,
-        Operator::Add => left.add(alloc, right)?,
-        Operator::Subtract => left.sub(alloc, right)?,
-        Operator::Multiply => left.mul(alloc, right)?,
-        _ => left.div(alloc, right)?,
-    })
-}
-
-/// Returns the operand that a word spells.
-fn operand(alloc: Global, word: &str) -> Result<Expr, Failure> {
-    match word {
-        "NULL" => return Ok(Expr::null()),
-        "TRUE" => return Ok(Expr::boolean(true)),
-        "FALSE" => return Ok(Expr::boolean(false)),
-        _ => {}
-    }
-    match word.parse::<i32>() {
-        Ok(number) => Ok(Expr::integer(number)),
-        Err(_) => Ok(Expr::col(alloc, word)?),
-    }
-}
-
-/// Reads an expression, up to a token that can't belong to it. Fails where an operand is missing, and if memory runs
-/// out.
-pub fn expression(alloc: Global, words: &mut Words) -> Result<Expr, Failure> {
-    let mut pending = Pending {
-        operands: Vec::new(alloc),
-        operators: Vec::new(alloc),
+/// Reads the text of an expression, up to a token that can't belong to it.
+fn spelled(alloc: Global, words: &mut Words) -> Result<String, AllocError> {
+    let mut spelling = Spelling {
+        text: String::new(alloc),
         groups: 0,
         is_at_operand: true,
     };
@@ -242,11 +87,23 @@ pub fn expression(alloc: Global, words: &mut Words) -> Result<Expr, Failure> {
         let Some(token) = words.peek() else {
             break;
         };
-        if !pending.read(alloc, token)? {
+        if !spelling.read(token)? {
             break;
         }
         let _ = words.next();
     }
-    pending.apply_all(alloc, 0)?;
-    pending.operand()
+    Ok(spelling.text)
+}
+
+/// Reads an expression, up to a token that can't belong to it. Fails if memory runs out.
+pub fn expression(alloc: Global, words: &mut Words) -> Result<Expr, Error> {
+    let text = spelled(alloc, words)?;
+    match Expr::parse(alloc, text.as_str()) {
+        Ok(expression) => Ok(expression),
+        Err(ParseError::OutOfMemory) => Err(Error::from(AllocError)),
+        Err(ParseError::Refused(_)) => {
+            words.refuse("an expression can't be read");
+            Ok(Expr::null())
+        }
+    }
 }

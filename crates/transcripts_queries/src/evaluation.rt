@@ -3,45 +3,67 @@
 use crate::cells::row_cells;
 use crate::columns::columns;
 use crate::conditions::expression;
-use crate::queries::{delete, insert, insert_singly, update};
+use crate::queries::{delete, insert, insert_singly, select, update};
 use crate::values::row;
 use msi_query::Expr;
 use msi_query::parts::{RowFilter, knows_names};
-use msi_table::{Row, Rows, ValueRef};
-use msi_text::{CodePage, Items, StringPool};
+use msi_table::{Column, Row, Rows, ValueRef};
+use msi_text::{CodePage, Error, Items, StringPool};
 use std::alloc::Global;
+use transcripts_words::answers::Answer;
 use transcripts_words::failure::Failure;
 use transcripts_words::words::Words;
 
-/// Makes a call on an expression or a change, and returns whether there is such a call. Fails if it can't be
-/// read, and if memory runs out.
-pub fn make(
-    alloc: Global,
-    call: &str,
-    words: &mut Words,
-    answer: &mut String,
-) -> Result<bool, Failure> {
-    match call {
-        "print_delete" => write!(answer, "{}", delete(alloc, words)?)?,
-        "print_update" => write!(answer, "{}", update(alloc, words)?)?,
-        "print_insert" => write!(answer, "{}", insert(alloc, words)?)?,
-        "print_row_by_row" => write!(answer, "{}", insert_singly(alloc, words)?)?,
-        "column_names" => print_names(alloc, answer, &expression(alloc, words)?)?,
-        "meets" => print_meets(alloc, answer, words)?,
-        _ => return Ok(false),
-    }
-    Ok(true)
+/// A call on an expression or a change.
+#[derive(Clone, Copy)]
+pub enum QueryCall {
+    /// Prints a select as the library does.
+    Select,
+    /// Prints an expression.
+    Expression,
+    /// Prints an insert.
+    Insert,
+    /// Prints an insert to which rows are added one by one.
+    RowByRow,
+    /// Prints an update.
+    Update,
+    /// Prints a delete.
+    Delete,
+    /// Prints the names of the columns in an expression.
+    ColumnNames,
+    /// Prints whether rows meet a condition.
+    Meets,
 }
 
-/// Prints the names of the columns in an expression, in alphabetical order.
-fn print_names(alloc: Global, answer: &mut String, expression: &Expr) -> Result<(), Failure> {
-    let mut names = Vec::new(alloc);
+/// Makes a call on an expression or a change, and prints its answer. Fails if memory runs out.
+pub fn make(
+    alloc: Global,
+    call: QueryCall,
+    words: &mut Words,
+    answer: &mut Answer,
+) -> Result<(), Error> {
+    match call {
+        QueryCall::Select => write!(answer, "{}", select(alloc, words)?),
+        QueryCall::Expression => write!(answer, "{}", expression(alloc, words)?),
+        QueryCall::Insert => write!(answer, "{}", insert(alloc, words)?),
+        QueryCall::RowByRow => write!(answer, "{}", insert_singly(alloc, words)?),
+        QueryCall::Update => write!(answer, "{}", update(alloc, words)?),
+        QueryCall::Delete => write!(answer, "{}", delete(alloc, words)?),
+        QueryCall::ColumnNames => print_column_names(alloc, answer, &expression(alloc, words)?)?,
+        QueryCall::Meets => print_meets(alloc, answer, words)?,
+    }
+    Ok(())
+}
+
+/// Prints the names of the columns in an expression as lines, in alphabetical order.
+fn print_column_names(alloc: Global, answer: &mut Answer, expression: &Expr) -> Result<(), Error> {
+    let mut names: Vec<&str> = Vec::new(alloc);
     for name in &expression.column_names(alloc)? {
         names.push(*name)?;
     }
     names.sort()?;
     for name in &names {
-        writeln!(answer, "{name}")?;
+        writeln!(answer, "{name}");
     }
     Ok(())
 }
@@ -51,37 +73,57 @@ fn cells(
     alloc: Global,
     pool: &mut StringPool,
     words: &mut Words,
-) -> Result<Items<ValueRef>, Failure> {
+) -> Result<Items<ValueRef>, Error> {
     row_cells(alloc, pool, row(alloc, words, 0)?)
 }
 
 /// Reads columns, two rows and a condition, and prints whether the first row meets it alone, and with the other behind.
-fn print_meets(alloc: Global, answer: &mut String, words: &mut Words) -> Result<(), Failure> {
-    let columns = columns(alloc, words)?;
+fn print_meets(alloc: Global, answer: &mut Answer, words: &mut Words) -> Result<(), Error> {
     let mut pool = StringPool::new(alloc, CodePage::Utf8);
+    let columns = columns(alloc, words)?;
     let front = cells(alloc, &mut pool, words)?;
     let back = cells(alloc, &mut pool, words)?;
+    print_meeting(
+        alloc,
+        answer,
+        words,
+        columns.as_slice(),
+        &pool,
+        [&front, &back],
+    )
+}
+
+/// Reads a condition, if there is one, and prints whether the first of two rows meets it alone, and with the other
+/// behind.
+fn print_meeting(
+    alloc: Global,
+    answer: &mut Answer,
+    words: &mut Words,
+    columns: &[Column],
+    pool: &StringPool,
+    rows: [&Items<ValueRef>; 2],
+) -> Result<(), Error> {
     if !words.takes("where") {
-        let filter = RowFilter::new(alloc, columns.as_slice(), None)?;
-        return print_met(alloc, answer, &filter, &pool, [&front, &back]);
+        let filter = RowFilter::new(alloc, columns, None)?;
+        return print_met(alloc, answer, &filter, pool, rows);
     }
     let condition = expression(alloc, words)?;
-    let filter = RowFilter::new(alloc, columns.as_slice(), Some(&condition))?;
-    print_met(alloc, answer, &filter, &pool, [&front, &back])
+    let filter = RowFilter::new(alloc, columns, Some(&condition))?;
+    print_met(alloc, answer, &filter, pool, rows)
 }
 
 /// Prints whether the first of two rows gets through a filter alone, and with the other behind.
 fn print_met(
     alloc: Global,
-    answer: &mut String,
+    answer: &mut Answer,
     filter: &RowFilter,
     pool: &StringPool,
     rows: [&Items<ValueRef>; 2],
-) -> Result<(), Failure> {
+) -> Result<(), Error> {
     let [front, back] = rows;
     let alone = filter.meets(alloc, pool, front.as_slice())?;
     let paired = filter.meets_pair(alloc, pool, front.as_slice(), back.as_slice())?;
-    write!(answer, "{alone} {paired}")?;
+    write!(answer, "{alone} {paired}");
     Ok(())
 }
 
@@ -89,10 +131,10 @@ fn print_met(
 /// don't have, that there is no such column. Fails as a row that can't be made, and if memory runs out.
 pub fn print_worths(
     alloc: Global,
-    answer: &mut String,
+    answer: &mut Answer,
     expression: &Expr,
     rows: Rows,
-) -> Result<(), Failure> {
+) -> Result<(), Error> {
     for row in rows {
         print_worth(alloc, answer, expression, &row?)?;
     }
@@ -102,15 +144,15 @@ pub fn print_worths(
 /// Prints what an expression is worth on a row.
 fn print_worth(
     alloc: Global,
-    answer: &mut String,
+    answer: &mut Answer,
     expression: &Expr,
     row: &Row,
-) -> Result<(), Failure> {
-    if !knows_names(expression, row.columns()) {
-        answer.push_str("no such column\n")?;
-        return Ok(());
+) -> Result<(), Error> {
+    if knows_names(expression, row.columns()) {
+        writeln!(answer, "{}", expression.eval(alloc, row)?);
+    } else {
+        answer.push_str("no such column\n");
     }
-    writeln!(answer, "{}", expression.eval(alloc, row)?)?;
     Ok(())
 }
 
@@ -118,18 +160,18 @@ fn print_worth(
 /// Fails as a row that can't be made, where there are other rows than their number says, and if memory runs out.
 pub fn print_values(
     alloc: Global,
-    answer: &mut String,
+    answer: &mut Answer,
     name: &str,
     mut rows: Rows,
 ) -> Result<(), Failure> {
     for _ in 0..rows.len() {
-        write!(answer, "{} ", rows.len())?;
+        write!(answer, "{} ", rows.len());
         match rows.next() {
-            Some(row) => print_value(answer, &row?.clone(alloc)?, name)?,
+            Some(row) => print_value(answer, &row?.clone(alloc)?, name),
             None => return Err(Failure::Unreadable("there are fewer rows than was said")),
         }
     }
-    write!(answer, "{}", rows.len())?;
+    write!(answer, "{}", rows.len());
     match rows.next() {
         Some(_) => Err(Failure::Unreadable("there are more rows than was said")),
         None => Ok(()),
@@ -137,11 +179,10 @@ pub fn print_values(
 }
 
 /// Prints the value of a column.
-fn print_value(answer: &mut String, row: &Row, name: &str) -> Result<(), Failure> {
+fn print_value(answer: &mut Answer, row: &Row, name: &str) {
     if row.has_column(name) {
-        writeln!(answer, "{}", row[name])?;
+        writeln!(answer, "{}", row[name]);
     } else {
-        answer.push_str("no such column\n")?;
+        answer.push_str("no such column\n");
     }
-    Ok(())
 }

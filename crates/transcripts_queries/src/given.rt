@@ -8,13 +8,12 @@ use crate::cells::{print_cells, row_cells};
 use crate::columns::columns;
 use crate::queries::{print_names, select};
 use crate::values::row;
-use msi_query::Select;
 use msi_query_rows::{Relation, Tables};
 use msi_table::parts::copied_columns;
 use msi_table::{Column, ValueRef};
 use msi_text::{CodePage, Error, IntoText, Items, StringPool};
 use std::alloc::Global;
-use transcripts_words::failure::Failure;
+use transcripts_words::answers::Answer;
 use transcripts_words::tokens::{Mark, Token};
 use transcripts_words::words::Words;
 
@@ -88,9 +87,12 @@ impl Tables for Both {
     }
 }
 
-/// Reads the columns and the rows of a table, whose texts the pool takes.
-fn read_table(alloc: Global, pool: &mut StringPool, words: &mut Words) -> Result<Kept, Failure> {
-    let columns = Items::from_vec(columns(alloc, words)?);
+/// Reads rows of cells, whose texts the pool takes.
+fn read_rows(
+    alloc: Global,
+    pool: &mut StringPool,
+    words: &mut Words,
+) -> Result<Vec<Items<ValueRef>>, Error> {
     let mut rows = Vec::new(alloc);
     for _ in 0..words.len() {
         if !matches!(words.peek(), Some(Token::Mark(Mark::Open))) {
@@ -98,15 +100,20 @@ fn read_table(alloc: Global, pool: &mut StringPool, words: &mut Words) -> Result
         }
         rows.push(row_cells(alloc, pool, row(alloc, words, 0)?)?)?;
     }
+    Ok(rows)
+}
+
+/// Reads the columns and the rows of a table, whose texts the pool takes.
+fn read_table(alloc: Global, pool: &mut StringPool, words: &mut Words) -> Result<Kept, Error> {
+    let columns = Items::from_vec(columns(alloc, words)?);
+    let rows = read_rows(alloc, pool, words)?;
     Ok(Kept { columns, rows })
 }
 
 /// Reads two tables, of which the first is `M`.
-fn read_tables(alloc: Global, pool: &mut StringPool, words: &mut Words) -> Result<Both, Failure> {
+fn read_tables(alloc: Global, pool: &mut StringPool, words: &mut Words) -> Result<Both, Error> {
     let mixed = read_table(alloc, pool, words)?;
-    if !words.takes("and") {
-        return Err(Failure::Unreadable("a second table is missing"));
-    }
+    words.expect("and");
     let other = read_table(alloc, pool, words)?;
     Ok(Both { mixed, other })
 }
@@ -114,27 +121,26 @@ fn read_tables(alloc: Global, pool: &mut StringPool, words: &mut Words) -> Resul
 /// Prints what a query selects from two tables: `(m int32) (1) ("x") and (k int32) (1) select A inner_join M on k = m`.
 pub(crate) fn select_given(
     alloc: Global,
-    answer: &mut String,
+    answer: &mut Answer,
     words: &mut Words,
-) -> Result<(), Failure> {
+) -> Result<(), Error> {
     let mut pool = StringPool::new(alloc, CodePage::Utf8);
     let both = read_tables(alloc, &mut pool, words)?;
-    if !words.takes("select") {
-        return Err(Failure::Unreadable("a query is missing"));
-    }
-    print_selected(alloc, answer, &pool, &both, &select(alloc, words)?)
+    words.expect("select");
+    print_selected(alloc, answer, &pool, &both, words)
 }
 
-/// Prints the columns and the rows that a query selects.
+/// Reads a query, and prints the columns and the rows that it selects.
 fn print_selected(
     alloc: Global,
-    answer: &mut String,
+    answer: &mut Answer,
     pool: &StringPool,
     tables: &Both,
-    query: &Select,
-) -> Result<(), Failure> {
-    let relation = msi_query_rows::select(alloc, pool, tables, query)?;
-    print_names(answer, relation.columns())?;
-    answer.push('\n')?;
+    words: &mut Words,
+) -> Result<(), Error> {
+    let query = select(alloc, words)?;
+    let relation = msi_query_rows::select(alloc, pool, tables, &query)?;
+    print_names(answer, relation.columns());
+    answer.push_str("\n");
     print_cells(alloc, answer, pool, relation.rows())
 }

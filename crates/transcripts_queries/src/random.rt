@@ -1,8 +1,8 @@
 //! Random expressions and queries, which are printed, read and printed again.
 
-use crate::conditions::{INFIXES, applied};
 use msi_query::{Expr, Select};
 use msi_query_parse::{Parse, ParseError};
+use msi_text::Error;
 use std::alloc::Global;
 use transcripts_words::failure::Failure;
 
@@ -42,89 +42,150 @@ impl Numbers {
 }
 
 /// Returns a column or a literal.
-fn leaf(alloc: Global, numbers: &mut Numbers) -> Result<Expr, Failure> {
-    Ok(match numbers.below(8) {
-        0 => Expr::null(),
-        1 => Expr::integer(NUMBERS[numbers.below(NUMBERS.len()) % 6]),
-        2 => Expr::string(alloc, TEXTS[numbers.below(TEXTS.len()) % 6])?,
-        _ => Expr::col(alloc, COLUMNS[numbers.below(COLUMNS.len()) % 7])?,
-    })
+fn leaf(alloc: Global, numbers: &mut Numbers) -> Result<Expr, Error> {
+    match numbers.below(9) {
+        0 => Ok(Expr::null()),
+        1 => Ok(Expr::boolean(numbers.below(2) == 1)),
+        2 => Ok(Expr::integer(NUMBERS[numbers.below(NUMBERS.len()) % 6])),
+        3 => Expr::string(alloc, TEXTS[numbers.below(TEXTS.len()) % 6]),
+        _ => Expr::col(alloc, COLUMNS[numbers.below(COLUMNS.len()) % 7]),
+    }
 }
 
 /// Returns an expression with an operator in front of it.
-fn prefixed(alloc: Global, numbers: &mut Numbers, operand: Expr) -> Result<Expr, Failure> {
-    Ok(match numbers.below(3) {
-        0 => operand.neg(alloc)?,
-        1 => operand.bitinv(alloc)?,
-        _ => operand.not(alloc)?,
-    })
+fn prefixed(alloc: Global, numbers: &mut Numbers, operand: Expr) -> Result<Expr, Error> {
+    match numbers.below(3) {
+        0 => operand.neg(alloc),
+        1 => operand.bitinv(alloc),
+        _ => operand.not(alloc),
+    }
 }
 
-/// Returns an expression with so many operators.
-fn expression(alloc: Global, numbers: &mut Numbers, count: usize) -> Result<Expr, Failure> {
-    let mut whole = leaf(alloc, numbers)?;
-    let mut part = leaf(alloc, numbers)?;
-    for _ in 0..count {
-        let (_, operator, _) = INFIXES[numbers.below(INFIXES.len()) % 17];
-        match numbers.below(4) {
-            0 => part = prefixed(alloc, numbers, part)?,
-            1 => part = applied(alloc, operator, part, leaf(alloc, numbers)?)?,
-            2 => part = applied(alloc, operator, leaf(alloc, numbers)?, part)?,
-            _ => {
-                whole = applied(alloc, operator, whole, part)?;
-                part = leaf(alloc, numbers)?;
-            }
-        }
+/// Returns two expressions with an operator between them that compares or joins them.
+fn compared(alloc: Global, operator: usize, left: Expr, right: Expr) -> Result<Expr, Error> {
+    match operator {
+        0 => left.or(alloc, right),
+        1 => left.and(alloc, right),
+        2 => left.eq(alloc, right),
+        3 => left.ne(alloc, right),
+        4 => left.lt(alloc, right),
+        5 => left.le(alloc, right),
+        6 => left.gt(alloc, right),
+        _ => left.ge(alloc, right),
     }
-    Ok(applied(alloc, INFIXES[0].1, whole, part)?)
+}
+
+/// Returns two expressions with an operator on numbers between them.
+fn calculated(alloc: Global, operator: usize, left: Expr, right: Expr) -> Result<Expr, Error> {
+    match operator {
+        0 => left.bitor(alloc, right),
+        1 => left.bitxor(alloc, right),
+        2 => left.bitand(alloc, right),
+        3 => left.shl(alloc, right),
+        4 => left.shr(alloc, right),
+        5 => left.add(alloc, right),
+        6 => left.sub(alloc, right),
+        7 => left.mul(alloc, right),
+        _ => left.div(alloc, right),
+    }
+}
+
+/// Returns two expressions with an operator between them.
+fn joined(alloc: Global, numbers: &mut Numbers, left: Expr, right: Expr) -> Result<Expr, Error> {
+    let operator = numbers.below(17);
+    match operator.checked_sub(8) {
+        Some(operator) => calculated(alloc, operator, left, right),
+        None => compared(alloc, operator, left, right),
+    }
+}
+
+/// Returns an expression with another operator, over a column or a literal where it has two operands.
+fn grown(alloc: Global, numbers: &mut Numbers, part: Expr) -> Result<Expr, Error> {
+    let side = numbers.below(3);
+    if side == 0 {
+        return prefixed(alloc, numbers, part);
+    }
+    let leaf = leaf(alloc, numbers)?;
+    match side {
+        1 => joined(alloc, numbers, part, leaf),
+        _ => joined(alloc, numbers, leaf, part),
+    }
+}
+
+/// Returns an expression that is a column or a literal under at most so many operators.
+fn chain(alloc: Global, numbers: &mut Numbers, count: usize) -> Result<Expr, Error> {
+    let mut part = leaf(alloc, numbers)?;
+    for _ in 0..numbers.below(count.saturating_add(1)) {
+        part = grown(alloc, numbers, part)?;
+    }
+    Ok(part)
+}
+
+/// Returns an expression of up to so many parts, and so many operators in each.
+fn expression(alloc: Global, numbers: &mut Numbers, count: usize) -> Result<Expr, Error> {
+    let mut whole = chain(alloc, numbers, count)?;
+    for _ in 0..numbers.below(count.saturating_add(1)) {
+        let part = chain(alloc, numbers, count)?;
+        whole = joined(alloc, numbers, whole, part)?;
+    }
+    Ok(whole)
+}
+
+/// Returns a query with another clause.
+fn with_clause(alloc: Global, numbers: &mut Numbers, query: Select) -> Result<Select, Error> {
+    let name = COLUMNS[numbers.below(COLUMNS.len()) % 7];
+    let clause = numbers.below(5);
+    if clause == 0 {
+        return query.columns(&[name, "b"]);
+    }
+    let condition = expression(alloc, numbers, 2)?;
+    if clause == 1 {
+        return query.with(condition);
+    }
+    let side = Select::table(alloc, name)?;
+    match clause {
+        2 => query.inner_join(side, condition),
+        3 => query.left_join(side, condition),
+        _ => side.left_join(query, condition),
+    }
 }
 
 /// Returns a query with random clauses.
-fn query(alloc: Global, numbers: &mut Numbers) -> Result<Select, Failure> {
+fn query(alloc: Global, numbers: &mut Numbers) -> Result<Select, Error> {
     let mut query = Select::table(alloc, COLUMNS[numbers.below(COLUMNS.len()) % 7])?;
     for _ in 0..numbers.below(5) {
-        let name = COLUMNS[numbers.below(COLUMNS.len()) % 7];
-        query = match numbers.below(5) {
-            0 => query.with(expression(alloc, numbers, 3)?)?,
-            1 => query.columns(&[name, "b"])?,
-            2 => query.inner_join(Select::table(alloc, name)?, expression(alloc, numbers, 1)?)?,
-            3 => query.left_join(Select::table(alloc, name)?, expression(alloc, numbers, 1)?)?,
-            _ => Select::table(alloc, name)?.left_join(query, expression(alloc, numbers, 1)?)?,
-        };
+        query = with_clause(alloc, numbers, query)?;
     }
     Ok(query)
 }
 
-/// The failure of a printed text that is read as something else.
-fn differs(refusal: ParseError) -> Failure {
+/// The failure of a printed text that is refused.
+fn refused(refusal: ParseError) -> Failure {
     match refusal {
-        ParseError::OutOfMemory => Failure::Refused(msi_text::ErrorKind::OutOfMemory),
+        ParseError::OutOfMemory => Failure::MEMORY,
         ParseError::Refused(_) => Failure::Unreadable("a printed text is refused"),
     }
 }
 
 /// Prints an expression, reads it, and returns whether that prints alike.
 fn expression_comes_back(alloc: Global, numbers: &mut Numbers) -> Result<bool, Failure> {
-    let count = numbers.below(24);
+    let count = numbers.below(8);
     let printed = format!(in alloc; "{}", expression(alloc, numbers, count)?)?;
-    let read = Expr::parse(alloc, printed.as_str()).map_err(differs)?;
-    Ok(format!(in alloc; "{read}")?.as_str() == printed.as_str())
+    let read = Expr::parse(alloc, printed.as_str()).map_err(refused)?;
+    let again = format!(in alloc; "{read}")?;
+    Ok(again.as_str() == printed.as_str())
 }
 
 /// Prints a query, reads it, and returns whether that prints alike.
 fn query_comes_back(alloc: Global, numbers: &mut Numbers) -> Result<bool, Failure> {
     let printed = format!(in alloc; "{}", query(alloc, numbers)?)?;
-    let read = Select::parse(alloc, printed.as_str()).map_err(differs)?;
-    Ok(format!(in alloc; "{read}")?.as_str() == printed.as_str())
+    let read = Select::parse(alloc, printed.as_str()).map_err(refused)?;
+    let again = format!(in alloc; "{read}")?;
+    Ok(again.as_str() == printed.as_str())
 }
 
-/// Prints how many of so many random expressions, and of as many queries, print alike when they are read back.
-pub(crate) fn print(
-    alloc: Global,
-    count: usize,
-    seed: usize,
-    answer: &mut String,
-) -> Result<(), Failure> {
+/// Returns how many of so many random expressions, and of as many queries, print alike when they are read back.
+pub(crate) fn count_alike(alloc: Global, count: usize, seed: usize) -> Result<usize, Failure> {
     let mut numbers = Numbers {
         state: (seed as u64).saturating_add(1),
     };
@@ -134,6 +195,5 @@ pub(crate) fn print(
             alike = alike.saturating_add(1);
         }
     }
-    write!(answer, "{alike}")?;
-    Ok(())
+    Ok(alike)
 }

@@ -1,10 +1,10 @@
 //! Calls on code pages, categories, languages, times and errors, which need no package.
 
-use crate::summary::codepage;
 use msi_text::reasons::{MEMORY, PAGE_BYTE};
 use msi_text::{Category, CodePage, Error, ErrorKind, LanguageId, Reason, Timestamp};
-use std::alloc::{AllocError, Global};
+use std::alloc::Global;
 use std::fmt;
+use transcripts_words::answers::Answer;
 use transcripts_words::failure::Failure;
 use transcripts_words::kept::{Kept, pieces, print_bytes};
 use transcripts_words::words::Words;
@@ -38,137 +38,136 @@ pub enum TextCall {
     Error,
 }
 
-/// Prints the answer of a call that needs no package. Fails if the call can't be read or is refused, and if memory runs
-/// out.
+/// Prints the answer of a call that needs no package. Fails if the call is refused, and if memory runs out.
 pub fn print(
     alloc: Global,
     kept: &Kept,
     call: TextCall,
     words: &mut Words,
-    answer: &mut String,
+    answer: &mut Answer,
 ) -> Result<(), Failure> {
     match call {
         TextCall::Decode => decode(alloc, kept, words, answer),
         TextCall::Encode => encode(alloc, words, answer),
         TextCall::Language => language(words, answer),
-        TextCall::PrintLanguage => {
-            let id = short(words)?;
-            print_formats(answer, LanguageId::from_id(id))
-        }
         TextCall::ReadMoment => read_moment(alloc, kept, words, answer),
         TextCall::WriteMoment => write_moment(alloc, words, answer),
         TextCall::Error => print_error(words, answer),
-        _ => print_fact(call, words, answer),
+        _ => {
+            print_fact(call, words, answer);
+            Ok(())
+        }
     }
 }
 
 /// Prints an answer of a few words.
-fn print_fact(call: TextCall, words: &mut Words, answer: &mut String) -> Result<(), Failure> {
+fn print_fact(call: TextCall, words: &mut Words, answer: &mut Answer) {
     match call {
-        TextCall::Carries => {
-            let page = codepage(words)?;
-            write!(answer, "{}", page.carries(words.name()?))?;
-        }
-        TextCall::Page => print_page(answer, page(words)?)?,
-        TextCall::Category => {
-            let category = category(words.word()?)?;
-            write!(answer, "{}", category.validate(words.name()?))?;
-        }
+        TextCall::Carries => write!(answer, "{}", codepage(words).carries(words.name())),
+        TextCall::Page => print_page(answer, page(words)),
+        TextCall::Category => write!(answer, "{}", category(words).validate(words.name())),
         TextCall::FromUnix => {
-            let secs = words.word()?.parse::<i64>().ok().ok_or(NO_NUMBER)?;
-            let nanos = long(words)?;
-            write!(answer, "{}", Timestamp::from_unix(secs, nanos).ticks())?;
+            let seconds = seconds(words);
+            write!(
+                answer,
+                "{}",
+                Timestamp::from_unix(seconds, words.long()).ticks()
+            );
         }
-        _ => {
-            let ticks = words.count()? as u64;
-            let (secs, nanos) = Timestamp::from_ticks(ticks).to_unix();
-            write!(answer, "{secs} {nanos}")?;
+        TextCall::ToUnix => {
+            let (seconds, nanoseconds) = Timestamp::from_ticks(words.count() as u64).to_unix();
+            write!(answer, "{seconds} {nanoseconds}");
         }
+        _ => print_formats(answer, LanguageId::from_id(words.short())),
     }
-    Ok(())
 }
 
-/// The failure of a call on a number that isn't there, or is too large.
-const NO_NUMBER: Failure = Failure::Unreadable("a number is missing");
-
-/// Reads a number of 16 bits.
-fn short(words: &mut Words) -> Result<u16, Failure> {
-    u16::try_from(words.count()?).ok().ok_or(NO_NUMBER)
+/// Reads a number of 64 bits and a sign.
+fn seconds(words: &mut Words) -> i64 {
+    let number = words.word().parse::<i64>().ok();
+    words.spelled(number, 0, "a number is missing")
 }
 
-/// Reads a number of 32 bits.
-pub(crate) fn long(words: &mut Words) -> Result<u32, Failure> {
-    u32::try_from(words.count()?).ok().ok_or(NO_NUMBER)
+/// Reads the number of a code page.
+pub fn codepage(words: &mut Words) -> CodePage {
+    let page = CodePage::from_id(words.number());
+    words.spelled(page, CodePage::default(), "there is no such code page")
 }
 
 fn decode(
     alloc: Global,
     kept: &Kept,
     words: &mut Words,
-    answer: &mut String,
+    answer: &mut Answer,
 ) -> Result<(), Failure> {
-    let page = codepage(words)?;
+    let page = codepage(words);
     let bytes = pieces(alloc, kept, words)?;
     let text = page.decode(alloc, bytes.as_slice())?;
-    write!(answer, "{:?}", text.as_str())?;
+    write!(answer, "{:?}", text.as_str());
     Ok(())
 }
 
-fn encode(alloc: Global, words: &mut Words, answer: &mut String) -> Result<(), Failure> {
-    let page = codepage(words)?;
-    let bytes = page.encode(alloc, words.name()?)?;
-    print_bytes(answer, bytes.as_slice())?;
+fn encode(alloc: Global, words: &mut Words, answer: &mut Answer) -> Result<(), Failure> {
+    let page = codepage(words);
+    let bytes = page.encode(alloc, words.name())?;
+    print_bytes(answer, bytes.as_slice());
     Ok(())
 }
 
 /// Reads the id of a page that may be unknown, or `default`.
-fn page(words: &mut Words) -> Result<Option<CodePage>, Failure> {
+fn page(words: &mut Words) -> Option<CodePage> {
     if words.takes("default") {
-        return Ok(Some(CodePage::default()));
+        return Some(CodePage::default());
     }
-    Ok(CodePage::from_id(words.number()?))
+    CodePage::from_id(words.number())
 }
 
-/// Returns the category of a name. Fails if no category has it.
-pub fn category(name: &str) -> Result<Category, Failure> {
-    for category in Category::all() {
+/// Reads the name of a category.
+pub fn category(words: &mut Words) -> Category {
+    let category = category_named(words.word());
+    words.spelled(category, Category::Text, "there is no such category")
+}
+
+/// Returns the category of a name, if there is one.
+fn category_named(name: &str) -> Option<Category> {
+    for category in &Category::all() {
         if category.name() == name {
-            return Ok(category);
+            return Some(*category);
         }
     }
-    Err(Failure::Unreadable("there is no such category"))
+    None
 }
 
-fn print_page(answer: &mut String, page: Option<CodePage>) -> Result<(), AllocError> {
+fn print_page(answer: &mut Answer, page: Option<CodePage>) {
     match page {
         Some(page) => write!(answer, "{} {:?}", page.id(), page.name()),
         None => answer.push_str("none"),
     }
 }
 
-/// Prints a language, told as its parts, an id of 32 bits, a tag, an id or a number.
-fn language(words: &mut Words, answer: &mut String) -> Result<(), Failure> {
-    let language = match words.word()? {
+/// Prints a language, which is given as its parts, an id of 32 bits, a tag, an id or a number.
+fn language(words: &mut Words, answer: &mut Answer) -> Result<(), Failure> {
+    let language = match words.word() {
         "parts" => {
-            let primary = short(words)?;
-            LanguageId::new(primary, short(words)?)
+            let primary = words.short();
+            LanguageId::new(primary, words.short())
         }
-        "lcid" => LanguageId::from_lcid(long(words)?),
-        "tag" => LanguageId::from_tag(words.name()?),
-        "id" => LanguageId::from_id(short(words)?),
-        "number" => LanguageId::from(short(words)?),
+        "lcid" => LanguageId::from_lcid(words.long()),
+        "tag" => LanguageId::from_tag(words.name()),
+        "id" => LanguageId::from_id(words.short()),
+        "number" => LanguageId::from(words.short()),
         "default" => LanguageId::default(),
-        _ => return Err(Failure::Unreadable("a language isn't told so")),
+        _ => return Err(Failure::Unreadable("a language isn't given so")),
     };
-    print_language(answer, language)
+    print_language(answer, language);
+    Ok(())
 }
 
-fn print_language(answer: &mut String, language: LanguageId) -> Result<(), Failure> {
+fn print_language(answer: &mut Answer, language: LanguageId) {
     let id = u16::from(language);
     let primary = language.primary_language_id();
     let sub = language.sub_language_id();
-    write!(answer, "{id} {} {primary} {sub}", language.tag())?;
-    Ok(())
+    write!(answer, "{id} {} {primary} {sub}", language.tag());
 }
 
 /// A value that prints in hexadecimal, with small letters and with capitals.
@@ -183,51 +182,49 @@ impl<T: fmt::LowerHex + fmt::UpperHex> fmt::Display for InHex<T> {
 }
 
 /// Prints an id in decimal digits, in hexadecimal ones, and where a value that holds it hands on its width.
-fn print_formats(answer: &mut String, id: LanguageId) -> Result<(), Failure> {
-    writeln!(answer, "{id}|{id:>6}|{id:<6}|{id:06}")?;
-    writeln!(answer, "{id:x}|{id:X}|{id:04x}|{id:#06X}|{id:>5x}")?;
+fn print_formats(answer: &mut Answer, id: LanguageId) {
     let spelled = InHex(id);
-    write!(answer, "{spelled:5}")?;
-    Ok(())
+    writeln!(answer, "{id}|{id:>6}|{id:<6}|{id:06}");
+    writeln!(answer, "{id:x}|{id:X}|{id:04x}|{id:#06X}|{id:>5x}");
+    write!(answer, "{spelled:5}");
 }
 
 fn read_moment(
     alloc: Global,
     kept: &Kept,
     words: &mut Words,
-    answer: &mut String,
+    answer: &mut Answer,
 ) -> Result<(), Failure> {
     let bytes = pieces(alloc, kept, words)?;
-    let mut reader = bytes.as_slice();
-    let moment = Timestamp::read_from(&mut reader)?;
-    write!(answer, "{}", moment.ticks())?;
+    let moment = Timestamp::read_from(&mut bytes.as_slice())?;
+    write!(answer, "{}", moment.ticks());
     Ok(())
 }
 
-fn write_moment(alloc: Global, words: &mut Words, answer: &mut String) -> Result<(), Failure> {
+fn write_moment(alloc: Global, words: &mut Words, answer: &mut Answer) -> Result<(), Failure> {
+    let ticks = words.count() as u64;
     let mut bytes = Vec::new(alloc);
-    let ticks = words.count()? as u64;
     Timestamp::from_ticks(ticks).write_to(&mut bytes)?;
-    print_bytes(answer, bytes.as_slice())?;
+    print_bytes(answer, bytes.as_slice());
     Ok(())
 }
 
 /// Reasons of errors. The first one is of no library.
 static REASONS: [Reason; 3] = [Reason("a sector is used twice"), PAGE_BYTE, MEMORY];
 
-/// Prints an error of a kind, for the reason that is told by its text, and this reason.
-fn print_error(words: &mut Words, answer: &mut String) -> Result<(), Failure> {
-    let kind = match words.word()? {
+/// Prints an error of a kind, for the reason that is given by its text, and this reason.
+fn print_error(words: &mut Words, answer: &mut Answer) -> Result<(), Failure> {
+    let kind = match words.word() {
         "InvalidData" => ErrorKind::InvalidData,
         "InvalidInput" => ErrorKind::InvalidInput,
         _ => ErrorKind::OutOfMemory,
     };
-    let text = words.name()?;
+    let text = words.name();
     for reason in &REASONS {
         if reason.0 == text {
             let error = Error::new(kind, *reason);
-            writeln!(answer, "{error}")?;
-            write!(answer, "{}", error.reason())?;
+            writeln!(answer, "{error}");
+            write!(answer, "{}", error.reason());
             return Ok(());
         }
     }

@@ -1,13 +1,16 @@
 //! Calls on bytes that are kept, and on the streams of a compound file among them.
 
-use crate::contents::{print_listed, print_read, print_shared, refused_beginnings, written};
+use crate::answers::Answer;
+use crate::contents::{
+    print_listed, print_name, print_read, print_shared, refused_beginnings, written,
+};
 use crate::failure::Failure;
-use crate::kept::{Kept, pieces, print_bytes, ranged};
-use crate::tokens::Token;
+use crate::kept::{Kept, add_range, pieces, print_bytes, ranged};
 use crate::words::Words;
 use msi_container::compound::{self, Bytes, Contents, Name, StreamMap};
 use msi_container::streamname;
 use msi_container_format::parts::put_back;
+use msi_text_base::Error;
 use std::alloc::Global;
 
 /// A call on bytes that are kept. Their name comes first.
@@ -47,16 +50,16 @@ pub enum BytesCall {
     RefusedBeginnings,
 }
 
-/// Makes a call on bytes that are kept, and prints its answer. Fails if the call can't be read, if its bytes are no
-/// compound file where it needs one, and if memory runs out.
+/// Makes a call on bytes that are kept, and prints its answer. Fails if its bytes are no compound file where it needs
+/// one, and if memory runs out.
 pub fn make(
     alloc: Global,
     kept: &mut Kept,
     call: BytesCall,
     words: &mut Words,
-    answer: &mut String,
+    answer: &mut Answer,
 ) -> Result<(), Failure> {
-    let name = words.name()?;
+    let name = words.name();
     let bytes = match call {
         BytesCall::Bytes => pieces(alloc, kept, words)?,
         BytesCall::WriteContainer => written(alloc, words)?,
@@ -67,9 +70,9 @@ pub fn make(
         | BytesCall::PutBackRaw => changed(alloc, kept, call, name, words)?,
         _ => return look(alloc, kept, call, name, words, answer),
     };
+    answer.push_str("ok");
     kept.reserve(alloc, name)?;
     kept.keep(name, bytes);
-    answer.push_str("ok")?;
     Ok(())
 }
 
@@ -80,13 +83,13 @@ fn look(
     call: BytesCall,
     name: &str,
     words: &mut Words,
-    answer: &mut String,
+    answer: &mut Answer,
 ) -> Result<(), Failure> {
     let bytes = kept.bytes(name)?;
     match call {
         BytesCall::Show => print_range(answer, bytes, words),
-        BytesCall::Same => print_same(answer, kept, bytes, words),
-        BytesCall::Number => print_number(answer, bytes, words),
+        BytesCall::Same => print_same(answer, bytes, kept.bytes(words.name())?),
+        BytesCall::Number => print_number(answer, bytes, words.count()),
         BytesCall::RawStreams => print_names(alloc, answer, bytes),
         BytesCall::ReadContainer => print_read(alloc, answer, bytes, words),
         BytesCall::ShareContainer => print_shared(alloc, answer, bytes),
@@ -96,86 +99,75 @@ fn look(
     }
 }
 
-fn print_count(answer: &mut String, count: usize) -> Result<(), Failure> {
-    write!(answer, "{count}")?;
+fn print_count(answer: &mut Answer, count: usize) -> Result<(), Failure> {
+    write!(answer, "{count}");
     Ok(())
 }
 
-/// Prints whether bytes are those of the name that comes next.
-fn print_same(
-    answer: &mut String,
-    kept: &Kept,
-    bytes: &[u8],
-    words: &mut Words,
-) -> Result<(), Failure> {
-    let others = kept.bytes(words.name()?)?;
-    write!(answer, "{}", bytes == others)?;
+/// Prints whether bytes are the same.
+fn print_same(answer: &mut Answer, bytes: &[u8], others: &[u8]) -> Result<(), Failure> {
+    write!(answer, "{}", bytes == others);
     Ok(())
 }
 
-/// Prints the number at the position that comes next.
-fn print_number(answer: &mut String, bytes: &[u8], words: &mut Words) -> Result<(), Failure> {
-    let number = number(bytes, words.count()?)?;
-    write!(answer, "{number}")?;
-    Ok(())
-}
-
-/// Prints the bytes in the range that comes next, or all if there is none.
-fn print_range(answer: &mut String, bytes: &[u8], words: &mut Words) -> Result<(), Failure> {
-    let bytes = range(bytes, words)?;
-    print_bytes(answer, bytes)?;
-    Ok(())
-}
-
-/// Returns the bytes in the range that comes next, or all if there is none.
-fn range<'a>(bytes: &'a [u8], words: &mut Words) -> Result<&'a [u8], Failure> {
-    match words.peek() {
-        Some(_) => ranged(bytes, words.word()?),
-        None => Ok(bytes),
-    }
-}
-
-/// Returns the number of 32 bits at a position.
-fn number(bytes: &[u8], at: usize) -> Result<u32, Failure> {
-    let rest = bytes.get(at..).unwrap_or(&[]);
-    match rest {
-        [a, b, c, d, ..] => Ok(u32::from_le_bytes([*a, *b, *c, *d])),
+/// Prints the number of 32 bits at a position.
+fn print_number(answer: &mut Answer, bytes: &[u8], at: usize) -> Result<(), Failure> {
+    match bytes.get(at..) {
+        Some([a, b, c, d, ..]) => {
+            write!(answer, "{}", u32::from_le_bytes([*a, *b, *c, *d]));
+            Ok(())
+        }
         _ => Err(Failure::Unreadable("the position is past the end")),
     }
 }
 
+/// Prints the bytes in the range that comes next, or all if there is none.
+fn print_range(answer: &mut Answer, bytes: &[u8], words: &mut Words) -> Result<(), Failure> {
+    let range = words.peek_word().unwrap_or("0..");
+    let _ = words.next();
+    print_bytes(answer, ranged(bytes, range)?);
+    Ok(())
+}
+
 /// Prints the names of a container's streams, each as a line.
-fn print_names(alloc: Global, answer: &mut String, bytes: &[u8]) -> Result<(), Failure> {
+fn print_names(alloc: Global, answer: &mut Answer, bytes: &[u8]) -> Result<(), Failure> {
     let contents = compound::read(alloc, bytes)?;
     for (name, _) in contents.streams.iter() {
-        let name = name.to_text(alloc)?;
-        writeln!(answer, "{:?}", name.as_str())?;
+        print_name(alloc, answer, name, "\n")?;
     }
     Ok(())
 }
 
-/// Returns the bytes of the stream of a table in a container.
-pub(crate) fn table_stream(alloc: Global, bytes: &[u8], table: &str) -> Result<Vec<u8>, Failure> {
+/// Adds the bytes in a range of the stream of a table in a container.
+pub(crate) fn add_table(
+    alloc: Global,
+    all: &mut Vec<u8>,
+    bytes: &[u8],
+    table: &str,
+    range: &str,
+) -> Result<(), Failure> {
     let key = table_key(alloc, table)?;
-    let mut contents = compound::read(alloc, bytes)?;
-    match contents.streams.remove(&key) {
-        Some(bytes) => Ok(Vec::from_slice(alloc, bytes.as_slice())?),
+    let contents = compound::read(alloc, bytes)?;
+    match contents.streams.get(&key) {
+        Some(stream) => add_range(all, stream.as_slice(), range),
         None => Err(Failure::Unreadable("the table has no stream")),
     }
 }
 
 /// Returns the name that the stream of a table has in a container.
-fn table_key(alloc: Global, table: &str) -> Result<Name, Failure> {
+fn table_key(alloc: Global, table: &str) -> Result<Name, Error> {
     let name = streamname::encode(alloc, table, true)?;
-    Ok(Name::new(name.as_str())?)
+    Name::new(name.as_str())
 }
 
 /// Reads a stream's name in the container: a text is that name, and a word is the name of a table.
-fn key(alloc: Global, words: &mut Words) -> Result<Name, Failure> {
-    match words.next() {
-        Some(Token::Text(name)) => Ok(Name::new(name.as_str())?),
-        Some(Token::Word(table)) => table_key(alloc, table.as_str()),
-        _ => Err(Failure::Unreadable("a stream has no name")),
+fn key(alloc: Global, words: &mut Words) -> Result<Name, Error> {
+    match words.peek_word() {
+        Some(table) => {
+            let _ = words.next();
+            table_key(alloc, table)
+        }
+        None => Name::new(words.name()),
     }
 }
 
@@ -189,17 +181,27 @@ fn changed(
 ) -> Result<Vec<u8>, Failure> {
     let mut contents = compound::read(alloc, kept.bytes(name)?)?;
     match call {
-        BytesCall::SetClsid => set_clsid(&mut contents, pieces(alloc, kept, words)?.as_slice()),
-        BytesCall::RemoveRaw => {
-            contents.streams.remove(&key(alloc, words)?);
-        }
-        _ => {
-            let key = key(alloc, words)?;
-            let bytes = Bytes::from_vec(pieces(alloc, kept, words)?);
-            put(&mut contents.streams, call, key, bytes)?;
-        }
+        BytesCall::SetClsid => set_clsid(alloc, kept, &mut contents, words)?,
+        _ => change_stream(alloc, kept, &mut contents.streams, call, words)?,
     }
     Ok(compound::write(alloc, &contents, 0)?)
+}
+
+/// Changes a stream of a container.
+fn change_stream(
+    alloc: Global,
+    kept: &Kept,
+    streams: &mut StreamMap,
+    call: BytesCall,
+    words: &mut Words,
+) -> Result<(), Failure> {
+    let key = key(alloc, words)?;
+    if let BytesCall::RemoveRaw = call {
+        streams.remove(&key);
+        return Ok(());
+    }
+    let bytes = Bytes::from_vec(pieces(alloc, kept, words)?);
+    put(streams, call, key, bytes)
 }
 
 /// Puts bytes in a stream's place.
@@ -220,8 +222,15 @@ fn put(streams: &mut StreamMap, call: BytesCall, key: Name, bytes: Bytes) -> Res
 }
 
 /// Sets the root's CLSID.
-fn set_clsid(contents: &mut Contents, clsid: &[u8]) {
-    for (old, new) in contents.clsid.iter_mut().zip(clsid) {
+fn set_clsid(
+    alloc: Global,
+    kept: &Kept,
+    contents: &mut Contents,
+    words: &mut Words,
+) -> Result<(), Failure> {
+    let clsid = pieces(alloc, kept, words)?;
+    for (old, new) in contents.clsid.iter_mut().zip(clsid.as_slice()) {
         *old = *new;
     }
+    Ok(())
 }

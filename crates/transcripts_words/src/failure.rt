@@ -17,6 +17,9 @@ impl Failure {
     /// The failure of a call that was refused memory and left the package other than it was.
     pub const CHANGED: Failure = Failure::Unreadable("a refused call left a change");
 
+    /// The failure of a call that was refused memory.
+    pub const MEMORY: Failure = Failure::Refused(ErrorKind::OutOfMemory);
+
     /// Returns whether memory was refused.
     pub fn is_memory(self) -> bool {
         matches!(self, Failure::Refused(ErrorKind::OutOfMemory))
@@ -41,13 +44,13 @@ impl From<Error> for Failure {
 
 impl From<AllocError> for Failure {
     fn from(_error: AllocError) -> Failure {
-        Failure::Refused(ErrorKind::OutOfMemory)
+        Failure::MEMORY
     }
 }
 
 impl<T: Drop> From<AllocFailed<T>> for Failure {
     fn from(_error: AllocFailed<T>) -> Failure {
-        Failure::Refused(ErrorKind::OutOfMemory)
+        Failure::MEMORY
     }
 }
 

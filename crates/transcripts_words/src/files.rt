@@ -1,5 +1,6 @@
 //! Calls on files.
 
+use crate::answers::Answer;
 use crate::failure::Failure;
 use crate::kept::Kept;
 use crate::words::Words;
@@ -14,17 +15,27 @@ pub enum FileCall {
     Save,
 }
 
-/// Makes a call on a file. Fails if the call can't be read, and if the file can't be written.
-pub fn make<R>(rt: &R, kept: &Kept, call: FileCall, words: &mut Words) -> Result<(), Failure>
+/// Makes a call on a file, and prints that it was made. Fails if no bytes have the name, and if the file can't be
+/// written.
+pub fn make<R>(
+    rt: &R,
+    kept: &Kept,
+    call: FileCall,
+    words: &mut Words,
+    answer: &mut Answer,
+) -> Result<(), Failure>
 where
     R: Files + AllocGlobal,
     R::File: Read + Write + Seek + Drop,
 {
     match call {
         FileCall::Save => {
-            let bytes = kept.bytes(words.name()?)?;
-            fs::write(rt, words.name()?, bytes)?;
+            let bytes = kept.bytes(words.name())?;
+            let path = words.name();
+            words.end()?;
+            fs::write(rt, path, bytes)?;
         }
     }
+    answer.push_str("ok");
     Ok(())
 }

@@ -1,10 +1,11 @@
 //! Bytes that are kept by name, and pieces of bytes.
 
-use crate::containers::table_stream;
+use crate::answers::Answer;
+use crate::containers::add_table;
 use crate::failure::Failure;
 use crate::tokens::Token;
-use crate::words::{Words, count_of};
-use std::alloc::{AllocError, Global};
+use crate::words::Words;
+use std::alloc::Global;
 use std::collections::BTreeMap;
 
 /// Bytes by name, as those of a device that a package was written to.
@@ -52,98 +53,98 @@ impl Kept {
 pub fn pieces(alloc: Global, kept: &Kept, words: &mut Words) -> Result<Vec<u8>, Failure> {
     let mut all = Vec::new(alloc);
     for _ in 0..words.len() {
-        if matches!(words.peek(), Some(Token::Mark(_))) {
-            break;
-        }
-        let Some(token) = words.next() else {
+        let Some(piece) = words.next_unmarked() else {
             break;
         };
-        let piece = piece(alloc, kept, token)?;
-        repeat(&mut all, piece.as_slice(), times(words)?)?;
+        add_times(alloc, &mut all, kept, piece, times(words))?;
     }
     Ok(all)
 }
 
 /// Reads how many times a piece stands there.
-pub(crate) fn times(words: &mut Words) -> Result<usize, Failure> {
-    let Some(count) = words.peek_word().and_then(|word| word.strip_prefix('*')) else {
-        return Ok(1);
-    };
-    let _ = words.next();
-    count_of(count)
+pub(crate) fn times(words: &mut Words) -> usize {
+    match words.peek_word().and_then(|word| word.strip_prefix('*')) {
+        Some(count) => {
+            let _ = words.next();
+            words.spelled(count.parse::<usize>().ok(), 0, "a count is missing")
+        }
+        None => 1,
+    }
 }
 
 /// Adds a piece so many times.
-fn repeat(all: &mut Vec<u8>, piece: &[u8], times: usize) -> Result<(), AllocError> {
+fn add_times(
+    alloc: Global,
+    all: &mut Vec<u8>,
+    kept: &Kept,
+    piece: &Token,
+    times: usize,
+) -> Result<(), Failure> {
     for _ in 0..times {
-        all.extend_from_slice(piece)?;
+        add_piece(alloc, all, kept, piece)?;
     }
     Ok(())
 }
 
-/// Returns the bytes of a piece.
-fn piece(alloc: Global, kept: &Kept, token: &Token) -> Result<Vec<u8>, Failure> {
-    match token {
-        Token::Text(text) => Ok(Vec::from_slice(alloc, text.as_bytes())?),
+/// Adds the bytes of a piece.
+fn add_piece(alloc: Global, all: &mut Vec<u8>, kept: &Kept, piece: &Token) -> Result<(), Failure> {
+    match piece {
+        Token::Text(text) => Ok(all.extend_from_slice(text.as_bytes())?),
         Token::Word(word) => match word.as_str().strip_prefix('@') {
-            Some(name) => part(alloc, kept, name),
-            None => digits(alloc, word.as_str()),
+            Some(name) => add_kept(alloc, all, kept, name),
+            None => add_digits(all, word.as_str()),
         },
-        _ => Err(Failure::Unreadable("bytes are missing")),
+        Token::Mark(_) => Err(NO_BYTES),
     }
 }
 
-/// Returns bytes that are kept, or a part of them.
-fn part(alloc: Global, kept: &Kept, name: &str) -> Result<Vec<u8>, Failure> {
-    let Some((name, range)) = name.split_once(':') else {
-        return whole(alloc, kept, name);
-    };
-    let whole = whole(alloc, kept, name)?;
-    Ok(Vec::from_slice(alloc, ranged(whole.as_slice(), range)?)?)
-}
-
-/// Returns bytes that are kept, or the stream of a table in them.
-fn whole(alloc: Global, kept: &Kept, name: &str) -> Result<Vec<u8>, Failure> {
+/// Adds bytes that are kept, the stream of a table in them, or a part of either.
+fn add_kept(alloc: Global, all: &mut Vec<u8>, kept: &Kept, name: &str) -> Result<(), Failure> {
+    let (name, range) = name.split_once(':').unwrap_or((name, "0.."));
     match name.split_once('/') {
-        Some((name, table)) => table_stream(alloc, kept.bytes(name)?, table),
-        None => Ok(Vec::from_slice(alloc, kept.bytes(name)?)?),
+        Some((name, table)) => add_table(alloc, all, kept.bytes(name)?, table, range),
+        None => add_range(all, kept.bytes(name)?, range),
     }
+}
+
+/// Adds the bytes in a range.
+pub(crate) fn add_range(all: &mut Vec<u8>, bytes: &[u8], range: &str) -> Result<(), Failure> {
+    Ok(all.extend_from_slice(ranged(bytes, range)?)?)
 }
 
 /// Returns the bytes in a range, such as `0..512` or `512..`.
 pub(crate) fn ranged<'a>(bytes: &'a [u8], range: &str) -> Result<&'a [u8], Failure> {
-    let (from, to) = range
-        .split_once("..")
-        .ok_or(Failure::Unreadable("a range is missing"))?;
-    let from = count_of(from)?;
-    let to = if to.is_empty() {
+    let (from, to) = range.split_once("..").unwrap_or((range, range));
+    let end = if to.is_empty() {
         bytes.len()
     } else {
-        count_of(to)?
+        place(to)
     };
     bytes
-        .get(from..to)
+        .get(place(from)..end)
         .ok_or(Failure::Unreadable("the range is past the end"))
 }
 
-/// Returns the bytes that hexadecimal digits spell.
-fn digits(alloc: Global, word: &str) -> Result<Vec<u8>, Failure> {
-    let mut bytes = Vec::new(alloc);
+/// Returns the place that a word spells, or one past all ends.
+fn place(word: &str) -> usize {
+    word.parse::<usize>().unwrap_or(usize::MAX)
+}
+
+/// The failure of a word that spells no bytes.
+const NO_BYTES: Failure = Failure::Unreadable("bytes are missing");
+
+/// Adds the bytes that hexadecimal digits spell.
+fn add_digits(all: &mut Vec<u8>, word: &str) -> Result<(), Failure> {
     let mut first = None;
     for c in word.chars() {
-        let digit = c
-            .to_digit(16)
-            .ok_or(Failure::Unreadable("bytes are missing"))?;
-        first = match first {
-            None => Some(digit as u8),
-            Some(high) => {
-                bytes.push(high.wrapping_mul(16).wrapping_add(digit as u8))?;
-                None
-            }
-        };
+        let digit = c.to_digit(16).ok_or(NO_BYTES)? as u8;
+        match first.take() {
+            None => first = Some(digit),
+            Some(high) => all.push(high << 4 | digit)?,
+        }
     }
     match first {
-        None => Ok(bytes),
+        None => Ok(()),
         Some(_) => Err(Failure::Unreadable("a byte has two digits")),
     }
 }
@@ -151,30 +152,30 @@ fn digits(alloc: Global, word: &str) -> Result<Vec<u8>, Failure> {
 /// The most bytes that an answer spells.
 const MOST: usize = 256;
 
-/// Prints bytes, or their number and their Adler-32 checksum if they are many. Fails if memory runs out.
-pub fn print_bytes(answer: &mut String, bytes: &[u8]) -> Result<(), AllocError> {
-    print_few(answer, bytes, MOST)
+/// Prints bytes, or their number and their Adler-32 checksum if they are many.
+pub fn print_bytes(answer: &mut Answer, bytes: &[u8]) {
+    print_few(answer, bytes, MOST);
 }
 
 /// Prints bytes, or their number and their checksum if they are more than so many.
-pub(crate) fn print_few(answer: &mut String, bytes: &[u8], most: usize) -> Result<(), AllocError> {
-    if bytes.is_empty() {
-        return answer.push_str("no bytes");
+pub(crate) fn print_few(answer: &mut Answer, bytes: &[u8], most: usize) {
+    let count = bytes.len();
+    if count == 0 {
+        answer.push_str("no bytes");
+    } else if count > most {
+        write!(answer, "{count} bytes, adler32 {:08x}", adler32(bytes));
+    } else {
+        spell(answer, bytes);
     }
-    if bytes.len() > most {
-        return write!(
-            answer,
-            "{} bytes, adler32 {:08x}",
-            bytes.len(),
-            adler32(bytes)
-        );
-    }
+}
+
+/// Prints bytes as hexadecimal digits.
+fn spell(answer: &mut Answer, bytes: &[u8]) {
     let mut before = "";
     for byte in bytes {
-        write!(answer, "{before}{byte:02x}")?;
+        write!(answer, "{before}{byte:02x}");
         before = " ";
     }
-    Ok(())
 }
 
 /// Returns the Adler-32 checksum of bytes (RFC 1950).

@@ -1,17 +1,8 @@
 //! Compares answers with those that a transcript expects.
 
+use crate::answers::Answer;
 use crate::failure::Failure;
 use crate::lines::Line;
-use std::alloc::Global;
-
-/// The bytes that an answer has room for at first, so that it takes no memory while a call is made that may be refused
-/// some.
-const ROOM: usize = 4096;
-
-/// Returns an answer to print to. Fails if memory runs out.
-pub fn empty_answer(alloc: Global) -> Result<String, Failure> {
-    Ok(String::with_capacity(alloc, ROOM)?)
-}
 
 /// What was found in a transcript.
 #[derive(Drop)]
@@ -49,13 +40,14 @@ impl<'a> Report<'a> {
         line: &Line,
         rest: &[Line],
         outcome: Result<(), Failure>,
-        answer: &mut String,
+        answer: &mut Answer,
     ) -> Result<(), Failure> {
         if let Err(failure) = outcome {
             answer.clear();
-            write!(answer, "{failure}")?;
+            write!(answer, "{failure}");
         }
         self.answers = self.answers.saturating_add(1);
+        answer.check()?;
         let expected = expected(rest);
         if are_lines(expected, answer.as_str()) {
             return Ok(());

@@ -1,5 +1,6 @@
 //! Calls on the names of streams.
 
+use crate::answers::Answer;
 use crate::failure::Failure;
 use crate::kept::times;
 use crate::words::Words;
@@ -15,30 +16,28 @@ static SPECIAL: [&str; 4] = [
 ];
 
 /// Makes a call on a name: `encode table "_Columns"`, `decode "a"` or `is_valid "a" *62`, or `special`, and prints its
-/// answer. Fails if the call can't be read, and if memory runs out.
-pub fn make(alloc: Global, words: &mut Words, answer: &mut String) -> Result<(), Failure> {
-    let verb = words.word()?;
+/// answer. Fails if memory runs out.
+pub fn make(alloc: Global, words: &mut Words, answer: &mut Answer) -> Result<(), Failure> {
+    let verb = words.word();
     if verb == "special" {
-        return Ok(print_special(answer)?);
+        print_special(answer);
+        return Ok(());
     }
     let is_table = words.takes("table");
-    let name = repeated(alloc, words.name()?, times(words)?)?;
-    let name = name.as_str();
+    let name = repeated(alloc, words.name(), times(words))?;
     match verb {
-        "encode" => print_units(answer, streamname::encode(alloc, name, is_table)?.as_str())?,
-        "decode" => print_decoded(alloc, answer, name)?,
-        "is_valid" => write!(answer, "{}", streamname::is_valid(name, is_table))?,
-        _ => return Err(Failure::Unreadable("a name has no such call")),
+        "encode" => print_encoded(alloc, answer, name.as_str(), is_table),
+        "decode" => print_decoded(alloc, answer, name.as_str()),
+        "is_valid" => print_validity(answer, name.as_str(), is_table),
+        _ => Err(Failure::Unreadable("a name has no such call")),
     }
-    Ok(())
 }
 
 /// Prints the names that aren't encoded, each as a line.
-fn print_special(answer: &mut String) -> Result<(), AllocError> {
+fn print_special(answer: &mut Answer) {
     for name in &SPECIAL {
-        writeln!(answer, "{name:?}")?;
+        writeln!(answer, "{name:?}");
     }
-    Ok(())
 }
 
 /// Returns a text so many times.
@@ -50,21 +49,33 @@ fn repeated(alloc: Global, text: &str, times: usize) -> Result<String, AllocErro
     Ok(all)
 }
 
-/// Prints the units of a name.
-fn print_units(answer: &mut String, name: &str) -> Result<(), AllocError> {
-    for (i, unit) in name.encode_utf16().enumerate() {
+/// Prints the units of a name as it is encoded.
+fn print_encoded(
+    alloc: Global,
+    answer: &mut Answer,
+    name: &str,
+    is_table: bool,
+) -> Result<(), Failure> {
+    let encoded = streamname::encode(alloc, name, is_table)?;
+    for (i, unit) in encoded.as_str().encode_utf16().enumerate() {
         if i > 0 {
-            answer.push(' ')?;
+            answer.push_str(" ");
         }
-        write!(answer, "{unit:04X}")?;
+        write!(answer, "{unit:04X}");
     }
     Ok(())
 }
 
 /// Prints what a name is decoded to, behind `table` if it is that of a table.
-fn print_decoded(alloc: Global, answer: &mut String, name: &str) -> Result<(), Failure> {
+fn print_decoded(alloc: Global, answer: &mut Answer, name: &str) -> Result<(), Failure> {
     let (text, is_table) = streamname::decode(alloc, name)?;
-    answer.push_str(if is_table { "table " } else { "" })?;
-    write!(answer, "{:?}", text.as_str())?;
+    answer.push_str(if is_table { "table " } else { "" });
+    write!(answer, "{:?}", text.as_str());
+    Ok(())
+}
+
+/// Prints whether a stream may have a name, or a table.
+fn print_validity(answer: &mut Answer, name: &str, is_table: bool) -> Result<(), Failure> {
+    write!(answer, "{}", streamname::is_valid(name, is_table));
     Ok(())
 }

@@ -1,7 +1,7 @@
 //! Cuts a line into words, texts and marks.
 
 use crate::failure::Failure;
-use std::alloc::Global;
+use std::alloc::{AllocError, Global};
 use std::mem;
 
 /// A character that stands for itself.
@@ -36,6 +36,8 @@ enum Place {
     Escape,
     /// In the number of a character, behind `\u`.
     Code,
+    /// Behind an escape that names no character, whatever comes next.
+    Nowhere,
 }
 
 /// The tokens that were read, and the one that is being read.
@@ -58,58 +60,63 @@ impl Lexer {
     }
 
     /// Reads a character.
-    fn read(&mut self, alloc: Global, c: char) -> Result<(), Failure> {
+    fn read(&mut self, alloc: Global, c: char) -> Result<(), AllocError> {
         match self.place {
             Place::Blank | Place::Word => self.read_plain(alloc, c),
             Place::Text => self.read_quoted(alloc, c),
             Place::Escape => self.read_escaped(c),
             Place::Code => self.read_digit(c),
+            Place::Nowhere => Ok(()),
         }
+    }
+
+    /// Adds a character to the word or the text that is being read.
+    fn push(&mut self, c: char, place: Place) -> Result<(), AllocError> {
+        self.place = place;
+        self.pending.push(c)
+    }
+
+    /// Returns what was read of a word or a text.
+    fn take(&mut self, alloc: Global) -> String {
+        mem::replace(&mut self.pending, String::new(alloc))
     }
 
     /// Reads a character outside of quotes.
-    fn read_plain(&mut self, alloc: Global, c: char) -> Result<(), Failure> {
+    fn read_plain(&mut self, alloc: Global, c: char) -> Result<(), AllocError> {
         match c {
-            ' ' => self.end_word(alloc)?,
-            '"' => {
-                self.end_word(alloc)?;
-                self.place = Place::Text;
-            }
-            '(' => self.push_mark(alloc, Mark::Open)?,
-            ')' => self.push_mark(alloc, Mark::Close)?,
-            ',' => self.push_mark(alloc, Mark::Comma)?,
-            _ => {
-                self.place = Place::Word;
-                self.pending.push(c)?;
-            }
+            ' ' => self.end_word(alloc, Place::Blank),
+            '"' => self.end_word(alloc, Place::Text),
+            '(' => self.push_mark(alloc, Mark::Open),
+            ')' => self.push_mark(alloc, Mark::Close),
+            ',' => self.push_mark(alloc, Mark::Comma),
+            _ => self.push(c, Place::Word),
         }
-        Ok(())
     }
 
     /// Ends the word that is being read, if there is one.
-    fn end_word(&mut self, alloc: Global) -> Result<(), Failure> {
-        if let Place::Word = self.place {
-            let word = mem::replace(&mut self.pending, String::new(alloc));
+    fn end_word(&mut self, alloc: Global, next: Place) -> Result<(), AllocError> {
+        let place = mem::replace(&mut self.place, next);
+        if let Place::Word = place {
+            let word = self.take(alloc);
             self.tokens.push(Token::Word(word))?;
         }
-        self.place = Place::Blank;
         Ok(())
     }
 
-    fn push_mark(&mut self, alloc: Global, mark: Mark) -> Result<(), Failure> {
-        self.end_word(alloc)?;
+    fn push_mark(&mut self, alloc: Global, mark: Mark) -> Result<(), AllocError> {
+        self.end_word(alloc, Place::Blank)?;
         self.tokens.push(Token::Mark(mark))?;
         Ok(())
     }
 
     /// Reads a character inside of quotes.
-    fn read_quoted(&mut self, alloc: Global, c: char) -> Result<(), Failure> {
+    fn read_quoted(&mut self, alloc: Global, c: char) -> Result<(), AllocError> {
         match c {
             '\\' => self.place = Place::Escape,
             '"' => {
-                let text = mem::replace(&mut self.pending, String::new(alloc));
-                self.tokens.push(Token::Text(text))?;
                 self.place = Place::Blank;
+                let text = self.take(alloc);
+                self.tokens.push(Token::Text(text))?;
             }
             _ => self.pending.push(c)?,
         }
@@ -117,33 +124,29 @@ impl Lexer {
     }
 
     /// Reads the character behind a backslash.
-    fn read_escaped(&mut self, c: char) -> Result<(), Failure> {
-        self.place = Place::Text;
+    fn read_escaped(&mut self, c: char) -> Result<(), AllocError> {
         match c {
             'u' => {
                 self.place = Place::Code;
                 self.code = 0;
+                Ok(())
             }
-            'n' => self.pending.push('\n')?,
-            '0' => self.pending.push('\0')?,
-            _ => self.pending.push(c)?,
+            'n' => self.push('\n', Place::Text),
+            '0' => self.push('\0', Place::Text),
+            _ => self.push(c, Place::Text),
         }
-        Ok(())
     }
 
     /// Reads a character of `{4E00}`, which stands behind `\u`.
-    fn read_digit(&mut self, c: char) -> Result<(), Failure> {
+    fn read_digit(&mut self, c: char) -> Result<(), AllocError> {
         match c {
             '{' => {}
-            '}' => {
-                let Some(c) = char::from_u32(self.code) else {
-                    return Err(Failure::Unreadable("no character has this number"));
-                };
-                self.pending.push(c)?;
-                self.place = Place::Text;
-            }
+            '}' => match char::from_u32(self.code) {
+                Some(c) => return self.push(c, Place::Text),
+                None => self.place = Place::Nowhere,
+            },
             _ => {
-                let digit = c.to_digit(16).ok_or(Failure::Unreadable("no digit"))?;
+                let digit = c.to_digit(16).unwrap_or(u32::MAX);
                 self.code = self.code.saturating_mul(16).saturating_add(digit);
             }
         }
@@ -160,6 +163,7 @@ pub fn tokens(alloc: Global, line: &str) -> Result<Vec<Token>, Failure> {
     lexer.read(alloc, ' ')?;
     match lexer.place {
         Place::Blank => Ok(lexer.tokens),
+        Place::Nowhere => Err(Failure::Unreadable("an escape names no character")),
         _ => Err(Failure::Unreadable("a text has no end")),
     }
 }

@@ -4,15 +4,24 @@ use crate::failure::Failure;
 use crate::tokens::{Mark, Token};
 
 /// The tokens of a line that are still to be read.
+///
+/// Where a word is missing, or doesn't spell what is asked for, something harmless is returned, such as an empty text
+/// or 0, and the line can't be read from then on. So a call reads its words without a check of each, and who makes it
+/// asks once, by `check` or `end`.
 #[derive(Clone, Copy)]
 pub struct Words<'a> {
     tokens: &'a [Token],
+    /// The first reason why the line can't be read, if there is one.
+    refusal: Option<&'static str>,
 }
 
 impl<'a> Words<'a> {
     /// Returns the words of a line, of which none is read yet.
     pub fn new(tokens: &'a [Token]) -> Words<'a> {
-        Words { tokens }
+        Words {
+            tokens,
+            refusal: None,
+        }
     }
 
     /// Returns how many tokens are left.
@@ -32,6 +41,14 @@ impl<'a> Words<'a> {
         self.tokens.first()
     }
 
+    /// Returns the next token and goes past it, if it is a word or a text.
+    pub fn next_unmarked(&mut self) -> Option<&'a Token> {
+        match self.peek()? {
+            Token::Mark(_) => None,
+            _ => self.next(),
+        }
+    }
+
     /// Returns the next word, if that is what comes next.
     pub fn peek_word(&self) -> Option<&'a str> {
         match self.peek()? {
@@ -40,30 +57,78 @@ impl<'a> Words<'a> {
         }
     }
 
-    /// Reads a word. Fails if none comes next.
-    pub fn word(&mut self) -> Result<&'a str, Failure> {
-        match self.next() {
-            Some(Token::Word(word)) => Ok(word.as_str()),
-            _ => Err(Failure::Unreadable("a word is missing")),
+    /// Says why the line can't be read, unless that was said before.
+    pub fn refuse(&mut self, reason: &'static str) {
+        if self.refusal.is_none() {
+            self.refusal = Some(reason);
         }
     }
 
-    /// Reads a name, which is a word or a text. Fails if neither comes next.
-    pub fn name(&mut self) -> Result<&'a str, Failure> {
+    /// Returns what words spell. If they spell nothing, the line can't be read for this reason, and what stands in
+    /// place of it is returned.
+    pub fn spelled<T: Drop>(&mut self, found: Option<T>, in_place: T, reason: &'static str) -> T {
+        if let Some(found) = found {
+            return found;
+        }
+        self.refuse(reason);
+        in_place
+    }
+
+    /// Reads a word, or an empty one if none comes next.
+    pub fn word(&mut self) -> &'a str {
         match self.next() {
-            Some(Token::Word(name) | Token::Text(name)) => Ok(name.as_str()),
-            _ => Err(Failure::Unreadable("a name is missing")),
+            Some(Token::Word(word)) => word.as_str(),
+            _ => {
+                self.refuse("a word is missing");
+                ""
+            }
         }
     }
 
-    /// Reads a number of 32 bits. Fails if none comes next.
-    pub fn number(&mut self) -> Result<i32, Failure> {
-        number_of(self.word()?)
+    /// Reads a name, which is a word or a text, or an empty one if neither comes next.
+    pub fn name(&mut self) -> &'a str {
+        match self.next() {
+            Some(Token::Word(name) | Token::Text(name)) => name.as_str(),
+            _ => {
+                self.refuse("a name is missing");
+                ""
+            }
+        }
     }
 
-    /// Reads a count or a position. Fails if none comes next.
-    pub fn count(&mut self) -> Result<usize, Failure> {
-        count_of(self.word()?)
+    /// Reads a number of 32 bits, or 0 if none comes next.
+    pub fn number(&mut self) -> i32 {
+        let number = self.word().parse::<i32>().ok();
+        self.spelled(number, 0, "a number is missing")
+    }
+
+    /// Reads a count or a position, or 0 if none comes next.
+    pub fn count(&mut self) -> usize {
+        let count = self.word().parse::<usize>().ok();
+        self.spelled(count, 0, "a count is missing")
+    }
+
+    /// Reads a number of 16 bits without a sign, or 0 if none comes next.
+    pub fn short(&mut self) -> u16 {
+        let number = self.word().parse::<u16>().ok();
+        self.spelled(number, 0, "a number is missing")
+    }
+
+    /// Reads a number of 32 bits without a sign, or 0 if none comes next.
+    pub fn long(&mut self) -> u32 {
+        let number = self.word().parse::<u32>().ok();
+        self.spelled(number, 0, "a number is missing")
+    }
+
+    /// Reads a word, and returns what stands beside it in a table, if it is there.
+    pub fn one_of<T: Copy>(&mut self, table: &[(&str, T)]) -> Option<T> {
+        let word = self.word();
+        for (known, value) in table {
+            if *known == word {
+                return Some(*value);
+            }
+        }
+        None
     }
 
     /// Goes past a word if it comes next, and returns whether it does.
@@ -75,13 +140,19 @@ impl<'a> Words<'a> {
         is_next
     }
 
-    /// Reads the count behind a word if that comes next, and returns another one if it doesn't. Fails if no count is
-    /// there.
-    pub fn count_behind(&mut self, word: &str, otherwise: usize) -> Result<usize, Failure> {
+    /// Reads the count behind a word if that comes next, and returns another one if it doesn't.
+    pub fn count_behind(&mut self, word: &str, otherwise: usize) -> usize {
         if self.takes(word) {
             return self.count();
         }
-        Ok(otherwise)
+        otherwise
+    }
+
+    /// Goes past a word that has to come next.
+    pub fn expect(&mut self, word: &str) {
+        if !self.takes(word) {
+            self.refuse("a word is missing");
+        }
     }
 
     /// Goes past a mark if it comes next, and returns whether it does.
@@ -93,45 +164,41 @@ impl<'a> Words<'a> {
         is_next
     }
 
-    /// Goes past an opening parenthesis. Fails if none comes next.
-    pub fn open(&mut self) -> Result<(), Failure> {
-        if self.takes_mark(Mark::Open) {
-            return Ok(());
+    /// Goes past an opening parenthesis, and returns whether a list begins with it that isn't empty. Goes past an empty
+    /// one.
+    pub fn begins_list(&mut self) -> bool {
+        if !self.takes_mark(Mark::Open) {
+            self.refuse("an opening parenthesis is missing");
+            return false;
         }
-        Err(Failure::Unreadable("an opening parenthesis is missing"))
+        !self.takes_mark(Mark::Close)
     }
 
-    /// Goes past what stands behind an item of a list, and returns whether the list goes on. Fails if that is neither a
-    /// comma nor a closing parenthesis.
-    pub fn goes_on(&mut self) -> Result<bool, Failure> {
+    /// Goes past what stands behind an item of a list, and returns whether the list goes on.
+    pub fn goes_on(&mut self) -> bool {
         match self.next() {
-            Some(Token::Mark(Mark::Comma)) => Ok(true),
-            Some(Token::Mark(Mark::Close)) => Ok(false),
-            _ => Err(Failure::Unreadable("a list has no end")),
+            Some(Token::Mark(Mark::Comma)) => true,
+            Some(Token::Mark(Mark::Close)) => false,
+            _ => {
+                self.refuse("a list has no end");
+                false
+            }
         }
     }
 
-    /// Fails if a token is left.
-    pub fn end(&self) -> Result<(), Failure> {
-        if self.tokens.is_empty() {
-            return Ok(());
+    /// Fails if the words that were read so far can't be.
+    pub fn check(&self) -> Result<(), Failure> {
+        match self.refusal {
+            Some(reason) => Err(Failure::Unreadable(reason)),
+            None => Ok(()),
         }
-        Err(Failure::Unreadable("the line goes on behind the call"))
     }
-}
 
-/// Returns the number of 32 bits that a word spells. Fails if it spells none.
-pub fn number_of(word: &str) -> Result<i32, Failure> {
-    match word.parse::<i32>() {
-        Ok(number) => Ok(number),
-        Err(_) => Err(Failure::Unreadable("a number is missing")),
-    }
-}
-
-/// Returns the count that a word spells. Fails if it spells none.
-pub fn count_of(word: &str) -> Result<usize, Failure> {
-    match word.parse::<usize>() {
-        Ok(count) => Ok(count),
-        Err(_) => Err(Failure::Unreadable("a count is missing")),
+    /// Fails if the words that were read can't be, and if a token is left.
+    pub fn end(&mut self) -> Result<(), Failure> {
+        if !self.tokens.is_empty() {
+            self.refuse("the line goes on behind the call");
+        }
+        self.check()
     }
 }
