@@ -9,7 +9,7 @@ use std::io::Write;
 use std::rt::Files;
 
 /// The package that is wanted.
-#[derive(Clone, Copy, Debug)]
+#[derive(Clone, Copy)]
 pub struct New<'a> {
     /// Its kind: `installer`, `patch` or `transform`.
     pub kind: &'a str,

@@ -14,6 +14,6 @@ mod tokens;
 pub use create::{New, create_package};
 pub use held::{load, store, written};
 pub use properties::set_properties;
-pub use recounting::recount_package;
+pub use recounting::{noted, recount_package};
 pub use statements::carry_out_statements;
 pub use streams::{add_streams, remove_streams};

@@ -12,6 +12,51 @@ use uuid::Uuid;
 /// How many nanoseconds a second has.
 const NANOSECONDS: i128 = 1_000_000_000;
 
+/// A property that can be set.
+#[derive(Clone, Copy)]
+enum Property {
+    Codepage,
+    Title,
+    Subject,
+    Author,
+    Keywords,
+    Comments,
+    Arch,
+    Languages,
+    Uuid,
+    LastSavedBy,
+    CreatingApplication,
+    LastPrinted,
+    CreationTime,
+    LastSavedTime,
+    PageCount,
+    WordCount,
+    CharacterCount,
+    DocSecurity,
+}
+
+/// The properties by their names.
+static PROPERTIES: [(&str, Property); 18] = [
+    ("codepage", Property::Codepage),
+    ("title", Property::Title),
+    ("subject", Property::Subject),
+    ("author", Property::Author),
+    ("keywords", Property::Keywords),
+    ("comments", Property::Comments),
+    ("arch", Property::Arch),
+    ("languages", Property::Languages),
+    ("uuid", Property::Uuid),
+    ("last_saved_by", Property::LastSavedBy),
+    ("creating_application", Property::CreatingApplication),
+    ("last_printed", Property::LastPrinted),
+    ("creation_time", Property::CreationTime),
+    ("last_saved_time", Property::LastSavedTime),
+    ("page_count", Property::PageCount),
+    ("word_count", Property::WordCount),
+    ("character_count", Property::CharacterCount),
+    ("doc_security", Property::DocSecurity),
+];
+
 /// Sets properties, each given as `NAME=VALUE`, and then clears others: all, or none of them.
 ///
 /// # Errors
@@ -45,12 +90,7 @@ fn set_all(
     for pair in pairs {
         set_pair(alloc, summary, pair)?;
     }
-    for name in cleared {
-        if let Err(failure) = clear(summary, name) {
-            return Err(failure.at(alloc, "property", name));
-        }
-    }
-    Ok(())
+    clear_all(alloc, summary, cleared)
 }
 
 /// Sets the property of a pair.
@@ -58,40 +98,37 @@ fn set_pair(alloc: Global, summary: &mut SummaryInfo, pair: &str) -> Result<(), 
     let Some((name, value)) = pair.split_once('=') else {
         return Err(Failure::rule("it isn't of the form NAME=VALUE").at(alloc, "word", pair));
     };
-    match set(alloc, summary, name, value) {
-        Ok(()) => Ok(()),
-        Err(failure) => Err(failure.at(alloc, "property", name)),
-    }
-}
-
-/// Sets a property.
-fn set(alloc: Global, summary: &mut SummaryInfo, name: &str, value: &str) -> Result<(), Failure> {
-    match name {
-        "last_printed" | "creation_time" | "last_saved_time" => set_time(summary, name, value),
-        "page_count" | "word_count" | "character_count" | "doc_security" => {
-            set_number(summary, name, value)
-        }
-        "codepage" => set_page(summary, value),
-        "uuid" => set_uuid(summary, value),
-        "keywords" => set_keywords(alloc, summary, value),
-        "languages" => set_languages(alloc, summary, value),
-        _ => set_text(summary, name, value),
-    }
-}
-
-/// Sets a property that is a text.
-fn set_text(summary: &mut SummaryInfo, name: &str, value: &str) -> Result<(), Failure> {
-    let set: Result<(), Error> = match name {
-        "title" => summary.set_title(value),
-        "subject" => summary.set_subject(value),
-        "author" => summary.set_author(value),
-        "comments" => summary.set_comments(value),
-        "arch" => summary.set_arch(value),
-        "last_saved_by" => summary.set_last_saved_by(value),
-        "creating_application" => summary.set_creating_application(value),
-        _ => return Err(no_property()),
+    let set = match property_named(name) {
+        Some(property) => set(alloc, summary, property, value),
+        None => Err(no_property()),
     };
-    Ok(set?)
+    set.map_err(|failure| failure.at(alloc, "property", name))
+}
+
+/// Clears properties.
+fn clear_all(alloc: Global, summary: &mut SummaryInfo, names: &[&str]) -> Result<(), Failure> {
+    for name in names {
+        clear_named(summary, name).map_err(|failure| failure.at(alloc, "property", name))?;
+    }
+    Ok(())
+}
+
+/// Clears a property.
+fn clear_named(summary: &mut SummaryInfo, name: &str) -> Result<(), Failure> {
+    match property_named(name) {
+        Some(property) => clear(summary, property),
+        None => Err(no_property()),
+    }
+}
+
+/// The property of a name.
+fn property_named(name: &str) -> Option<Property> {
+    for (known, property) in &PROPERTIES {
+        if *known == name {
+            return Some(*property);
+        }
+    }
+    None
 }
 
 /// The error of a name that no property has.
@@ -99,28 +136,64 @@ fn no_property() -> Failure {
     Failure::rule("there is no property of this name that can be set")
 }
 
+/// Sets a property.
+fn set(
+    alloc: Global,
+    summary: &mut SummaryInfo,
+    property: Property,
+    value: &str,
+) -> Result<(), Failure> {
+    match property {
+        Property::Codepage => set_page(summary, value),
+        Property::Uuid => set_uuid(summary, value),
+        Property::Keywords => set_keywords(alloc, summary, value),
+        Property::Languages => set_languages(alloc, summary, value),
+        Property::LastPrinted | Property::CreationTime | Property::LastSavedTime => {
+            set_time(summary, property, value)
+        }
+        Property::PageCount
+        | Property::WordCount
+        | Property::CharacterCount
+        | Property::DocSecurity => set_number(summary, property, value),
+        _ => Ok(set_text(summary, property, value)?),
+    }
+}
+
+/// Sets a property that is a text.
+fn set_text(summary: &mut SummaryInfo, property: Property, value: &str) -> Result<(), Error> {
+    match property {
+        Property::Title => summary.set_title(value),
+        Property::Subject => summary.set_subject(value),
+        Property::Author => summary.set_author(value),
+        Property::Comments => summary.set_comments(value),
+        Property::Arch => summary.set_arch(value),
+        Property::LastSavedBy => summary.set_last_saved_by(value),
+        _ => summary.set_creating_application(value),
+    }
+}
+
 /// Sets a property that is a number.
-fn set_number(summary: &mut SummaryInfo, name: &str, value: &str) -> Result<(), Failure> {
+fn set_number(summary: &mut SummaryInfo, property: Property, value: &str) -> Result<(), Failure> {
     let Ok(number) = value.parse::<i32>() else {
         return Err(Failure::rule("its value has to be a number of 32 bits"));
     };
-    let set: Result<(), Error> = match name {
-        "page_count" => summary.set_page_count(number),
-        "word_count" => summary.set_word_count(number),
-        "character_count" => summary.set_character_count(number),
+    let set: Result<(), Error> = match property {
+        Property::PageCount => summary.set_page_count(number),
+        Property::WordCount => summary.set_word_count(number),
+        Property::CharacterCount => summary.set_character_count(number),
         _ => summary.set_doc_security(number),
     };
     Ok(set?)
 }
 
 /// Sets a property that is a time.
-fn set_time(summary: &mut SummaryInfo, name: &str, value: &str) -> Result<(), Failure> {
+fn set_time(summary: &mut SummaryInfo, property: Property, value: &str) -> Result<(), Failure> {
     let Some(time) = time_of(value) else {
         return Err(Failure::rule("its value has to be a time such as 2024-02-29T12:00:00Z"));
     };
-    let set: Result<(), Error> = match name {
-        "last_printed" => summary.set_last_printed(time),
-        "creation_time" => summary.set_creation_time(time),
+    let set: Result<(), Error> = match property {
+        Property::LastPrinted => summary.set_last_printed(time),
+        Property::CreationTime => summary.set_creation_time(time),
         _ => summary.set_last_save_time(time),
     };
     Ok(set?)
@@ -178,35 +251,34 @@ fn set_languages(alloc: Global, summary: &mut SummaryInfo, value: &str) -> Resul
     Ok(summary.set_languages(languages.as_slice())?)
 }
 
-/// Clears a property.
-fn clear(summary: &mut SummaryInfo, name: &str) -> Result<(), Failure> {
-    match name {
-        "keywords" => summary.clear_keywords()?,
-        "arch" => summary.clear_arch()?,
-        "languages" => summary.clear_languages()?,
-        _ => return clear_plain(summary, name),
+/// Clears a property. There is always a code page, so that one isn't cleared.
+fn clear(summary: &mut SummaryInfo, property: Property) -> Result<(), Failure> {
+    match property {
+        Property::Codepage => return Err(no_property()),
+        Property::Keywords => summary.clear_keywords()?,
+        Property::Arch => summary.clear_arch()?,
+        Property::Languages => summary.clear_languages()?,
+        _ => clear_plain(summary, property),
     }
     Ok(())
 }
 
 /// Clears a property that has a value of its own.
-fn clear_plain(summary: &mut SummaryInfo, name: &str) -> Result<(), Failure> {
-    match name {
-        "title" => summary.clear_title(),
-        "subject" => summary.clear_subject(),
-        "author" => summary.clear_author(),
-        "comments" => summary.clear_comments(),
-        "last_saved_by" => summary.clear_last_saved_by(),
-        "creating_application" => summary.clear_creating_application(),
-        "uuid" => summary.clear_uuid(),
-        "last_printed" => summary.clear_last_printed(),
-        "creation_time" => summary.clear_creation_time(),
-        "last_saved_time" => summary.clear_last_save_time(),
-        "page_count" => summary.clear_page_count(),
-        "word_count" => summary.clear_word_count(),
-        "character_count" => summary.clear_character_count(),
-        "doc_security" => summary.clear_doc_security(),
-        _ => return Err(no_property()),
+fn clear_plain(summary: &mut SummaryInfo, property: Property) {
+    match property {
+        Property::Title => summary.clear_title(),
+        Property::Subject => summary.clear_subject(),
+        Property::Author => summary.clear_author(),
+        Property::Comments => summary.clear_comments(),
+        Property::LastSavedBy => summary.clear_last_saved_by(),
+        Property::CreatingApplication => summary.clear_creating_application(),
+        Property::Uuid => summary.clear_uuid(),
+        Property::LastPrinted => summary.clear_last_printed(),
+        Property::CreationTime => summary.clear_creation_time(),
+        Property::LastSavedTime => summary.clear_last_save_time(),
+        Property::PageCount => summary.clear_page_count(),
+        Property::WordCount => summary.clear_word_count(),
+        Property::CharacterCount => summary.clear_character_count(),
+        _ => summary.clear_doc_security(),
     }
-    Ok(())
 }

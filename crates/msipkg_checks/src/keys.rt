@@ -27,15 +27,8 @@ pub(crate) struct KeyColumns {
     texts: BTreeMap<String, usize>,
     /// The number of each column, by its place in its table and the table's name.
     columns: BTreeMap<String, usize>,
-    /// Which column has which text.
-    keys: BTreeSet<Key>,
-}
-
-/// A text of a column, each by its number.
-#[derive(Clone, Copy, Debug, PartialEq, Eq, PartialOrd, Ord, Hash)]
-struct Key {
-    column: usize,
-    text: usize,
+    /// Which column has which text, each by its number.
+    keys: BTreeSet<(usize, usize)>,
 }
 
 impl KeyColumns {
@@ -88,7 +81,7 @@ impl KeyColumns {
     fn add_value(&mut self, column: usize, value: &Value) -> Result<(), AllocError> {
         if let Some(text) = key_text(self.alloc, value)? {
             let text = self.text_number(text)?;
-            self.keys.insert(Key { column, text })?;
+            self.keys.insert((column, text))?;
         }
         Ok(())
     }
@@ -109,11 +102,7 @@ impl KeyColumns {
             return false;
         };
         for column in columns {
-            let key = Key {
-                column: *column,
-                text: *text,
-            };
-            if self.keys.contains(&key) {
+            if self.keys.contains(&(*column, *text)) {
                 return true;
             }
         }

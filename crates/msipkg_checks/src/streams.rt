@@ -2,7 +2,7 @@
 
 use crate::keys::key_text;
 use crate::reading::pass_over;
-use crate::report::Report;
+use crate::report::{Place, Report};
 use msi::{Column, ColumnType, Package, Row, Rows, Select, Source, Table, Value};
 use msipkg_output::Failure;
 use std::alloc::{AllocError, Global};
@@ -16,7 +16,7 @@ use std::collections::BTreeSet;
 pub(crate) fn check_streams<F: Source>(
     alloc: Global,
     package: &Package<F>,
-    report: &mut Report,
+    report: &mut Report<'_>,
 ) -> Result<(), Failure> {
     let mut names = BTreeSet::new(alloc);
     for table in package.tables() {
@@ -31,33 +31,42 @@ pub(crate) fn check_streams<F: Source>(
 fn check_unnamed<F: Source>(
     package: &Package<F>,
     names: &BTreeSet<String>,
-    report: &mut Report,
+    report: &mut Report<'_>,
 ) -> Result<(), Failure> {
-    for stream in package.streams() {
-        let stream = stream?;
-        let name = stream.as_str();
-        if !package.has_stream(name) {
-            let message = "it isn't found under its name, which is stored in another form";
-            report.add_part("stream", name, message)?;
-        } else if !names.contains(name) {
-            report.add_part("stream", name, "no row names it")?;
-        }
+    for name in package.streams() {
+        check_stream(package, names, name?.as_str(), report)?;
     }
     Ok(())
+}
+
+/// Adds an error if a stream isn't found under its name, or if its name isn't among these.
+fn check_stream<F: Source>(
+    package: &Package<F>,
+    names: &BTreeSet<String>,
+    name: &str,
+    report: &mut Report<'_>,
+) -> Result<(), AllocError> {
+    let message = if !package.has_stream(name) {
+        "it isn't found under its name, which is stored in another form"
+    } else if !names.contains(name) {
+        "no row names it"
+    } else {
+        return Ok(());
+    };
+    report.add(Place::Stream(name), &message)
 }
 
 /// Finds the names for which there is no stream.
 fn check_missing<F: Source>(
     package: &Package<F>,
     names: &BTreeSet<String>,
-    report: &mut Report,
+    report: &mut Report<'_>,
 ) -> Result<(), Failure> {
     for name in names {
         if !package.has_stream(name.as_str()) {
-            report.add_part(
-                "stream",
-                name.as_str(),
-                "a row names it, and it isn't there",
+            report.add(
+                Place::Stream(name.as_str()),
+                &"a row names it, and it isn't there",
             )?;
         }
     }

@@ -1,4 +1,4 @@
-//! What `msipkg` tells of packages without changing them.
+//! What `msipkg` prints of packages without changing them.
 #![tactic(auto)]
 
 mod columns;
@@ -7,6 +7,7 @@ mod facts;
 pub mod info;
 pub mod query;
 pub mod schema;
+mod schema_json;
 pub mod streams;
 pub mod summary;
 pub mod tables;

@@ -1,20 +1,25 @@
 //! Times as texts.
 
+use crate::facts::Facts;
 use msi::Timestamp;
-use std::alloc::{AllocError, Global};
+use std::alloc::AllocError;
 
-/// Returns a time in UTC as ISO 8601 has it, as `2024-02-29T12:00:00Z`. One past the year 9999 is the number of its
-/// ticks of 100 ns since 1601.
+/// Adds a time, if there is one: in UTC as ISO 8601 has it, as `2024-02-29T12:00:00Z`. One past the year 9999 is the
+/// number of its ticks of 100 ns since 1601.
 ///
 /// # Errors
 /// Fails if memory is refused.
-pub(crate) fn time_text(alloc: Global, time: Timestamp) -> Result<String, AllocError> {
+pub(crate) fn add_time(
+    name: &str,
+    time: Option<Timestamp>,
+    facts: &mut Facts,
+) -> Result<(), AllocError> {
+    let Some(time) = time else {
+        return Ok(());
+    };
     match instant_of(time) {
-        Some(instant) => instant.to_string(alloc),
-        None => {
-            let ticks = time.ticks();
-            format!(in alloc; "{ticks} ticks")
-        }
+        Some(instant) => facts.shown(name, &instant),
+        None => facts.shown(name, &format_args!("{} ticks", time.ticks())),
     }
 }
 

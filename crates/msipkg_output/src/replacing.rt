@@ -3,7 +3,7 @@
 
 use crate::failure::Failure;
 use std::alloc::{AllocError, Global};
-use std::fs::{self, OpenFile, OpenOptions};
+use std::fs::{self, OpenFile, OpenOptions, Permissions};
 use std::io::{self, Write};
 use std::rt::Files;
 
@@ -22,39 +22,8 @@ where
     R::File: OpenFile + Write + Drop,
 {
     let target = fs::canonicalize(rt, path)?.into_string();
-    let old = fs::metadata(rt, target.as_str())?;
-    if !old.is_file() {
-        return Err(Failure::rule("it is no regular file"));
-    }
-    let permissions = old.permissions();
-    let (beside, mut file) = open_beside(rt, target.as_str())?;
-    let written = match file.set_permissions(permissions) {
-        Ok(()) => write_synced(&mut file, bytes),
-        Err(error) => Err(error),
-    };
-    drop(file);
-    settle(rt, written, beside.as_str(), target.as_str())
-}
-
-/// Makes a file of these bytes, where there is none.
-///
-/// # Errors
-/// Fails if there is a file of this path already, and as the calls of the system do; then no new file is left.
-pub fn create_file<R>(rt: &R, path: &str, bytes: &[u8]) -> Result<(), Failure>
-where
-    R: Files,
-    R::File: OpenFile + Write + Drop,
-{
-    let mut file = OpenOptions::new()
-        .write(true)
-        .create_new(true)
-        .open(rt, path)?;
-    let written = write_synced(&mut file, bytes);
-    drop(file);
-    if written.is_err() {
-        let _ = fs::remove_file(rt, path);
-    }
-    Ok(written?)
+    let permissions = permissions_of(rt, target.as_str())?;
+    put_in_place(rt, target.as_str(), Some(permissions), bytes)
 }
 
 /// Makes a file of these bytes. One that is there already is replaced, and a symbolic link itself: it isn't followed.
@@ -66,25 +35,66 @@ where
     R: Files + AllocGlobal,
     R::File: OpenFile + Write + Drop,
 {
-    let (beside, mut file) = open_beside(rt, path)?;
-    let written = write_synced(&mut file, bytes);
-    drop(file);
-    settle(rt, written, beside.as_str(), path)
+    put_in_place(rt, path, None, bytes)
+}
+
+/// Makes a file of these bytes, where there is none.
+///
+/// # Errors
+/// Fails if there is a file of this path already, and as the calls of the system do; then no new file is left.
+pub fn create_file<R>(rt: &R, path: &str, bytes: &[u8]) -> Result<(), Failure>
+where
+    R: Files,
+    R::File: OpenFile + Write + Drop,
+{
+    let file = new_file(rt, path)?;
+    let written = write_synced(file, None, bytes);
+    if written.is_err() {
+        let _ = fs::remove_file(rt, path);
+    }
+    Ok(written?)
+}
+
+/// The permissions of a file.
+fn permissions_of<R: Files + AllocGlobal>(rt: &R, path: &str) -> Result<Permissions, Failure> {
+    let old = fs::metadata(rt, path)?;
+    if !old.is_file() {
+        return Err(Failure::rule("it is no regular file"));
+    }
+    Ok(old.permissions())
+}
+
+/// Writes a new file beside the target, and gives it the target's name.
+fn put_in_place<R>(
+    rt: &R,
+    target: &str,
+    permissions: Option<Permissions>,
+    bytes: &[u8],
+) -> Result<(), Failure>
+where
+    R: Files + AllocGlobal,
+    R::File: OpenFile + Write + Drop,
+{
+    let (beside, file) = open_beside(rt, target)?;
+    let written = write_synced(file, permissions, bytes);
+    Ok(settle(rt, written, beside.as_str(), target)?)
 }
 
 /// Writes bytes to a file, and waits until the disk has them.
-fn write_synced<F: OpenFile + Write>(file: &mut F, bytes: &[u8]) -> io::Result<()> {
+fn write_synced<F: OpenFile + Write + Drop>(
+    mut file: F,
+    permissions: Option<Permissions>,
+    bytes: &[u8],
+) -> io::Result<()> {
+    if let Some(permissions) = permissions {
+        file.set_permissions(permissions)?;
+    }
     file.write_all(bytes)?;
     file.sync_all()
 }
 
 /// Gives the file beside the target its name, or removes it where it wasn't written.
-fn settle<R: Files>(
-    rt: &R,
-    written: io::Result<()>,
-    beside: &str,
-    target: &str,
-) -> Result<(), Failure> {
+fn settle<R: Files>(rt: &R, written: io::Result<()>, beside: &str, target: &str) -> io::Result<()> {
     let settled = match written {
         Ok(()) => fs::rename(rt, beside, target),
         Err(error) => Err(error),
@@ -92,7 +102,7 @@ fn settle<R: Files>(
     if settled.is_err() {
         let _ = fs::remove_file(rt, beside);
     }
-    Ok(settled?)
+    settled
 }
 
 /// Opens a new file beside another, and returns its path too.
@@ -103,17 +113,21 @@ where
 {
     for number in 0..TRIES {
         let path = beside_path(rt.alloc(), target, number)?;
-        match OpenOptions::new()
-            .write(true)
-            .create_new(true)
-            .open(rt, path.as_str())
-        {
+        match new_file(rt, path.as_str()) {
             Ok(file) => return Ok((path, file)),
             Err(error) if error.kind() == io::ErrorKind::AlreadyExists => {}
             Err(error) => return Err(Failure::from(error)),
         }
     }
     Err(Failure::rule("each name beside it that was tried is taken"))
+}
+
+/// Opens a new file.
+fn new_file<R: Files>(rt: &R, path: &str) -> io::Result<R::File> {
+    OpenOptions::new()
+        .write(true)
+        .create_new(true)
+        .open(rt, path)
 }
 
 /// The path of a new file beside another.
