@@ -5,8 +5,8 @@ use crate::words::Verb;
 use msipkg_changes::{
     New, add_streams, carry_out_statements, create_package, remove_streams, set_properties,
 };
-use msipkg_looks::{Folder, extract_streams};
-use msipkg_output::Failure;
+use msipkg_looks::extract_streams;
+use msipkg_output::{Failure, Folder};
 use std::fs::OpenFile;
 use std::io::{Read, Seek, Write};
 use std::rt::Files;

@@ -16,18 +16,10 @@ pub(crate) fn words_of(alloc: Global, line: &str) -> Result<Vec<String>, AllocEr
         quote: None,
     };
     splitter.take_all(line)?;
-    let Splitter {
-        alloc: _,
-        words,
-        word: _,
-        is_begun: _,
-        quote: _,
-    } = splitter;
-    Ok(words)
+    Ok(splitter.into_words())
 }
 
 /// A word that is being read.
-#[derive(Drop)]
 struct Splitter {
     alloc: Global,
     words: Vec<String>,
@@ -38,7 +30,32 @@ struct Splitter {
     quote: Option<char>,
 }
 
+/// Written out, so that a function that owns one calls one drop, and its proof doesn't go through those of the parts.
+impl Drop for Splitter {
+    fn drop(self) {
+        let Splitter {
+            alloc: _,
+            words: _,
+            word: _,
+            is_begun: _,
+            quote: _,
+        } = self;
+    }
+}
+
 impl Splitter {
+    /// Returns the words.
+    fn into_words(self) -> Vec<String> {
+        let Splitter {
+            alloc: _,
+            words,
+            word: _,
+            is_begun: _,
+            quote: _,
+        } = self;
+        words
+    }
+
     /// Takes a line.
     fn take_all(&mut self, line: &str) -> Result<(), AllocError> {
         for c in line.chars() {

@@ -5,9 +5,8 @@ use crate::words::Verb;
 use msipkg_changes::recount_package;
 use msipkg_checks::print_check;
 use msipkg_looks::print_info;
-use msipkg_output::json::{self, JsonObject};
-use msipkg_output::{Failure, Shown};
-use std::alloc::{AllocError, Global};
+use msipkg_output::{Failure, Shown, failure_json, json};
+use std::alloc::Global;
 use std::fs::OpenFile;
 use std::io::{self, Read, Seek, Write};
 use std::rt::Files;
@@ -132,12 +131,4 @@ fn report_one<O: Write, E: Write>(
     }
     let text = failure_json(alloc, file, failure)?;
     json::write_line(asked.style, text.as_str(), output)
-}
-
-/// The line of a file that failed, as JSON.
-fn failure_json(alloc: Global, file: &str, failure: &Failure) -> Result<String, AllocError> {
-    let mut object = JsonObject::new(alloc)?;
-    object.put_text("file", Some(file))?;
-    object.put_shown("error", failure)?;
-    object.finish()
 }

@@ -48,8 +48,8 @@ enum Form {
     AnyWords,
     /// `--ID`.
     Flag,
-    /// `--ID`, and not beside another one.
-    Instead(&'static str),
+    /// `--ID`, and not beside these.
+    Instead(&'static [&'static str]),
     /// `--ID` with a value of this name.
     Value(&'static str),
     /// `--ID` with a value of this name, as often as it is needed.
@@ -97,7 +97,7 @@ static COMMANDS: [Row; 13] = [
     Row {
         verb: Verb::Info,
         name: "info",
-        about: "Tells what packages are",
+        about: "Prints what packages are",
         arguments: &[FILES, JSON, ESCAPE],
     },
     Row {
@@ -120,7 +120,7 @@ static COMMANDS: [Row; 13] = [
             JSON,
             Argument {
                 id: "sql",
-                form: Form::Instead("json"),
+                form: Form::Instead(&["json"]),
                 help: "Prints statements that create the tables, as exec takes them",
             },
             ESCAPE,
@@ -193,7 +193,7 @@ static COMMANDS: [Row; 13] = [
     Row {
         verb: Verb::Check,
         name: "check",
-        about: "Prints the faults of packages; the status is 1 where there is one",
+        about: "Prints the errors in packages; the status is 1 where there is one",
         arguments: &[
             FILES,
             Argument {
@@ -322,10 +322,7 @@ fn arg_of<'a>(alloc: Global, argument: &Argument) -> Result<Arg<'a>, AllocError>
         Form::Words => several(arg).required(true),
         Form::AnyWords => several(arg),
         Form::Flag => arg.long(id).action(ArgAction::SetTrue),
-        Form::Instead(other) => arg
-            .long(id)
-            .action(ArgAction::SetTrue)
-            .conflicts_with(other)?,
+        Form::Instead(others) => instead(arg.long(id), others)?,
         Form::Value(name) => arg.long(id).value_name(name),
         Form::Values(name) => arg.long(id).value_name(name).action(ArgAction::Append),
         Form::Needed(letter, name) => arg.long(id).short(letter).value_name(name).required(true),
@@ -341,4 +338,13 @@ fn arg_of<'a>(alloc: Global, argument: &Argument) -> Result<Arg<'a>, AllocError>
 /// An argument that takes several words.
 fn several<'a>(arg: Arg<'a>) -> Arg<'a> {
     arg.num_args(1usize..).action(ArgAction::Append)
+}
+
+/// A word that is given or not, and not beside others.
+fn instead<'a>(arg: Arg<'a>, others: &[&'static str]) -> Result<Arg<'a>, AllocError> {
+    let mut flag = arg.action(ArgAction::SetTrue);
+    for other in others {
+        flag = flag.conflicts_with(*other)?;
+    }
+    Ok(flag)
 }

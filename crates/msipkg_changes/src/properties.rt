@@ -1,7 +1,8 @@
 //! `summary FILE --set NAME=VALUE.. --clear NAME..`: properties of a package's summary.
 
+use crate::create::page_of;
 use crate::held::{load, store};
-use msi::{CodePage, Error, LanguageId, Memory, Package, SummaryInfo, Timestamp};
+use msi::{Error, LanguageId, Memory, Package, SummaryInfo, Timestamp};
 use msipkg_output::Failure;
 use std::alloc::Global;
 use std::fs::OpenFile;
@@ -98,23 +99,38 @@ fn set_pair(alloc: Global, summary: &mut SummaryInfo, pair: &str) -> Result<(), 
     let Some((name, value)) = pair.split_once('=') else {
         return Err(Failure::rule("it isn't of the form NAME=VALUE").at(alloc, "word", pair));
     };
-    let set = match property_named(name) {
+    set_property(alloc, summary, name, value).map_err(|failure| failure.at(alloc, "property", name))
+}
+
+/// Sets the property of a name to the value that a text stands for.
+///
+/// # Errors
+/// Fails if there is no such property, if it doesn't take the value, and with `OutOfMemory`.
+pub fn set_property(
+    alloc: Global,
+    summary: &mut SummaryInfo,
+    name: &str,
+    value: &str,
+) -> Result<(), Failure> {
+    match property_named(name) {
         Some(property) => set(alloc, summary, property, value),
         None => Err(no_property()),
-    };
-    set.map_err(|failure| failure.at(alloc, "property", name))
+    }
 }
 
 /// Clears properties.
 fn clear_all(alloc: Global, summary: &mut SummaryInfo, names: &[&str]) -> Result<(), Failure> {
     for name in names {
-        clear_named(summary, name).map_err(|failure| failure.at(alloc, "property", name))?;
+        clear_property(summary, name).map_err(|failure| failure.at(alloc, "property", name))?;
     }
     Ok(())
 }
 
-/// Clears a property.
-fn clear_named(summary: &mut SummaryInfo, name: &str) -> Result<(), Failure> {
+/// Clears the property of a name.
+///
+/// # Errors
+/// Fails if there is no such property that can be cleared, and with `OutOfMemory`.
+pub fn clear_property(summary: &mut SummaryInfo, name: &str) -> Result<(), Failure> {
     match property_named(name) {
         Some(property) => clear(summary, property),
         None => Err(no_property()),
@@ -199,8 +215,12 @@ fn set_time(summary: &mut SummaryInfo, property: Property, value: &str) -> Resul
     Ok(set?)
 }
 
-/// The time of a text, if it is one as ISO 8601 has it, as `2024-02-29T12:00:00Z`.
+/// The time of a text, if it is one as `summary` prints it: as ISO 8601 has it, as `2024-02-29T12:00:00Z`, or a number
+/// of ticks.
 fn time_of(text: &str) -> Option<Timestamp> {
+    if let Some(number) = text.strip_suffix(" ticks") {
+        return Some(Timestamp::from_ticks(number.parse::<u64>().ok()?));
+    }
     let instant = text.parse::<jiff::Timestamp>().ok()?;
     let nanoseconds = instant.as_nanosecond();
     let seconds = i64::try_from(nanoseconds.div_euclid(NANOSECONDS)).ok()?;
@@ -210,14 +230,7 @@ fn time_of(text: &str) -> Option<Timestamp> {
 
 /// Sets the code page of the summary.
 fn set_page(summary: &mut SummaryInfo, value: &str) -> Result<(), Failure> {
-    let known = match value.parse::<i32>() {
-        Ok(number) => CodePage::from_id(number),
-        Err(_) => None,
-    };
-    match known {
-        Some(page) => Ok(summary.set_codepage(page)?),
-        None => Err(Failure::rule("there is no code page of this number")),
-    }
+    Ok(summary.set_codepage(page_of(value)?)?)
 }
 
 /// Sets the UUID of the package.

@@ -9,11 +9,20 @@ use std::alloc::{AllocError, Global};
 use std::collections::BTreeSet;
 
 /// A column with a foreign key, and the numbers of the columns to which it refers.
-#[derive(Drop)]
 struct Reference {
     /// The column's place in its table, from 0.
     place: usize,
     targets: BTreeSet<usize>,
+}
+
+/// Written out, so that a function that owns one calls one drop, and its proof doesn't go through those of the parts.
+impl Drop for Reference {
+    fn drop(self) {
+        let Reference {
+            place: _,
+            targets: _,
+        } = self;
+    }
 }
 
 /// Finds the values of columns with a foreign key that no row has of the tables to which it refers. Tables that can't

@@ -1,10 +1,9 @@
 //! Streams that no row names, and rows whose stream isn't there.
 
-use crate::keys::key_text;
 use crate::reading::pass_over;
 use crate::report::{Place, Report};
-use msi::{Column, ColumnType, Package, Row, Rows, Select, Source, Table, Value};
-use msipkg_output::Failure;
+use msi::{ColumnType, Package, Row, Rows, Select, Source, Table, Value};
+use msipkg_output::{Failure, stream_name};
 use std::alloc::{AllocError, Global};
 use std::collections::BTreeSet;
 
@@ -109,7 +108,7 @@ fn add_row_names(
     for row in rows {
         let row = row?;
         if has_stream(&row) {
-            names.insert(stream_name(alloc, table, &row)?)?;
+            names.insert(stream_name(alloc, table.name(), &row)?)?;
         }
     }
     Ok(())
@@ -123,27 +122,6 @@ fn has_stream(row: &Row) -> bool {
         }
     }
     false
-}
-
-/// Returns the name of a row's stream: its table and the values of its key, parted by dots.
-fn stream_name(alloc: Global, table: &Table, row: &Row) -> Result<String, AllocError> {
-    let columns: &[Column] = table.columns();
-    let mut name = String::from_str(alloc, table.name())?;
-    for i in 0..row.len().min(columns.len()) {
-        if columns[i].is_primary_key() {
-            push_key(alloc, &row[i], &mut name)?;
-        }
-    }
-    Ok(name)
-}
-
-/// Puts a dot and a value of a key behind a name.
-fn push_key(alloc: Global, value: &Value, name: &mut String) -> Result<(), AllocError> {
-    name.push('.')?;
-    match key_text(alloc, value)? {
-        Some(text) => name.push_str(text.as_str()),
-        None => Ok(()),
-    }
 }
 
 /// Adds the names of the cabinets that are streams.

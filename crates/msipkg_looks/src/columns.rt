@@ -1,7 +1,7 @@
 //! What the columns of a table take, as texts.
 
 use msi::{Column, ColumnType};
-use msipkg_output::Style;
+use msipkg_output::{ColumnTypeText, Style};
 use std::fmt;
 
 /// What is printed of a column.
@@ -45,34 +45,6 @@ impl fmt::Display for ColumnPart<'_> {
             Part::Reference => write_reference(style, column, f),
             Part::Definition => write_definition(style, column, f),
         }
-    }
-}
-
-/// A column's type as the installer writes it: a letter and a length, as `s72`, `i2` or `v0`. A small letter stands for
-/// a column that isn't nullable, and `l` for texts that can be localized.
-#[derive(Clone, Copy)]
-pub(crate) struct ColumnTypeText<'a>(pub(crate) &'a Column);
-
-impl fmt::Display for ColumnTypeText<'_> {
-    fn fmt<W: fmt::Write>(&self, f: &mut fmt::Formatter<W>) -> fmt::Result {
-        let (small, length) = letter_and_length(self.0);
-        let letter = if self.0.is_nullable() {
-            small.to_ascii_uppercase()
-        } else {
-            small
-        };
-        write!(f, "{letter}{length}")
-    }
-}
-
-/// The small letter of a column's type, and its length.
-fn letter_and_length(column: &Column) -> (char, usize) {
-    match column.coltype() {
-        ColumnType::Int16 => ('i', 2),
-        ColumnType::Int32 => ('i', 4),
-        ColumnType::Str(length) if column.is_localizable() => ('l', length),
-        ColumnType::Str(length) => ('s', length),
-        ColumnType::Binary => ('v', 0),
     }
 }
 

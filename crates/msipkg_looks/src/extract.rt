@@ -3,23 +3,13 @@
 
 use msi::{Error, Package, Source};
 use msipkg_output::{
-    Failure, SafeNames, Shown, StoredStreams, create_file, open_package, overwrite_file,
-    stored_streams, stream_bytes,
+    Failure, Folder, SafeNames, Shown, StoredStreams, open_package, stored_streams, stream_bytes,
 };
 use std::alloc::Global;
 use std::convert::AsStr;
 use std::fs::{self, OpenFile};
-use std::io::{Read, Seek, Write};
+use std::io::{self, Read, Seek, Write};
 use std::rt::Files;
-
-/// Where the files go.
-#[derive(Clone, Copy)]
-pub struct Folder<'a> {
-    /// The path of the folder, which is made where it isn't there.
-    pub path: &'a str,
-    /// Whether files that are there already are replaced.
-    pub is_forced: bool,
-}
 
 /// What streams are taken from, and where their files go.
 #[derive(Drop)]
@@ -124,11 +114,9 @@ where
     N: Write,
 {
     let bytes = bytes_of(rt.alloc(), extraction, name)?;
-    let path = path_of(rt.alloc(), extraction.folder.path, name, given, notes)?;
-    match write_path(rt, path.as_str(), bytes, extraction.folder.is_forced) {
-        Ok(()) => Ok(()),
-        Err(failure) => Err(failure.at(rt.alloc(), "file", path.as_str())),
-    }
+    let safe = given.give(name)?;
+    note_file(name, safe.as_str(), notes)?;
+    extraction.folder.write(rt, safe.as_str(), bytes)
 }
 
 /// The bytes of a stream.
@@ -143,35 +131,11 @@ fn bytes_of<'a, F: Source>(
     }
 }
 
-/// The path of a stream's file, which is noted if its name is another one.
-fn path_of<N: Write>(
-    alloc: Global,
-    folder: &str,
-    name: &str,
-    given: &mut SafeNames,
-    notes: &mut N,
-) -> Result<String, Failure> {
-    let safe = given.give(name)?;
-    if safe.as_str() != name {
-        writeln!(
-            notes,
-            "msipkg: stream {}: its file is {safe}",
-            Shown::escaped(name)
-        )?;
+/// Writes the name of a stream's file, if it is another one than the stream's.
+fn note_file<N: Write>(name: &str, safe: &str, notes: &mut N) -> io::Result<()> {
+    if safe == name {
+        return Ok(());
     }
-    let folder = folder.strip_suffix('/').unwrap_or(folder);
-    Ok(format!(in alloc; "{folder}/{safe}")?)
-}
-
-/// Makes a file, or replaces it where that is asked for.
-fn write_path<R>(rt: &R, path: &str, bytes: &[u8], is_forced: bool) -> Result<(), Failure>
-where
-    R: Files + AllocGlobal,
-    R::File: OpenFile + Write + Drop,
-{
-    if is_forced {
-        overwrite_file(rt, path, bytes)
-    } else {
-        create_file(rt, path, bytes)
-    }
+    let name = Shown::escaped(name);
+    writeln!(notes, "msipkg: stream {name}: its file is {safe}")
 }

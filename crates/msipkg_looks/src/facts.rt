@@ -11,10 +11,16 @@ use std::io::{self, Write};
 ///
 /// # Errors
 /// Each call that adds something fails if memory is refused.
-#[derive(Drop)]
 pub(crate) struct Facts {
     style: Style,
     text: FactsText,
+}
+
+/// Written out, so that a function that owns one calls one drop, and its proof doesn't go through those of the parts.
+impl Drop for Facts {
+    fn drop(self) {
+        let Facts { style: _, text: _ } = self;
+    }
 }
 
 /// The facts as they are printed.

@@ -3,8 +3,10 @@
 use crate::facts::Facts;
 use crate::summary::add_summary;
 use crate::tables::count_rows;
-use msi::{Error, Package, PackageType, Source};
-use msipkg_output::{Failure, StoredStreams, Style, open_package, stored_streams, stream_bytes};
+use msi::{Error, Package, Source};
+use msipkg_output::{
+    Failure, StoredStreams, Style, kind_name, open_package, stored_streams, stream_bytes,
+};
 use std::alloc::{AllocError, Global};
 use std::io::{Read, Seek, Write};
 use std::rt::Files;
@@ -64,15 +66,6 @@ fn add_head<F: Source>(package: &Package<F>, facts: &mut Facts) -> Result<(), Al
     let page = package.database_codepage().id();
     facts.text("kind", Some(kind_name(package.package_type())))?;
     facts.number("database_codepage", Some(i64::from(page)))
-}
-
-/// The name of a package's kind, as `new` takes it.
-fn kind_name(kind: PackageType) -> &'static str {
-    match kind {
-        PackageType::Installer => "installer",
-        PackageType::Patch => "patch",
-        PackageType::Transform => "transform",
-    }
 }
 
 /// Adds the numbers of tables, of those that can't be read, and of rows.

@@ -11,9 +11,8 @@ mod schema_json;
 pub mod streams;
 pub mod summary;
 pub mod tables;
-mod times;
 
-pub use extract::{Folder, extract_streams};
+pub use extract::extract_streams;
 pub use info::print_info;
 pub use query::print_query;
 pub use schema::print_schema;

@@ -3,7 +3,7 @@
 use crate::columns::{ColumnPart, Part};
 use crate::schema_json::schema_json;
 use msi::{Column, Package, Source, Table};
-use msipkg_output::{Failure, Grid, Style, json, open_package};
+use msipkg_output::{Failure, Grid, Style, chosen_tables, json, open_package};
 use std::alloc::{AllocError, Global};
 use std::io::{self, Read, Seek, Write};
 use std::rt::Files;
@@ -62,7 +62,7 @@ fn write_schema<F: Source, W: Write>(
     form: Form,
     output: &mut W,
 ) -> Result<(), Failure> {
-    let tables = chosen_tables(alloc, package, names)?;
+    let tables = chosen_tables(alloc, package, names, true)?;
     match form {
         Form::Rows => write_rows(alloc, style, tables.as_slice(), output)?,
         Form::Json => write_json(alloc, style, file, tables.as_slice(), output)?,
@@ -168,45 +168,6 @@ fn write_keys<W: Write>(style: Style, table: &Table, output: &mut W) -> io::Resu
             write!(output, "{before}`{}`", style.show(column.name()))?;
             before = ", ";
         }
-    }
-    Ok(())
-}
-
-/// The tables of these names, or all tables where there is none.
-fn chosen_tables<'a, F: Source>(
-    alloc: Global,
-    package: &'a Package<F>,
-    names: &[&str],
-) -> Result<Vec<&'a Table>, Failure> {
-    let mut tables = Vec::new(alloc);
-    for name in names {
-        tables.push(table_named(alloc, package, name)?)?;
-    }
-    if names.is_empty() {
-        add_tables(package, &mut tables)?;
-    }
-    Ok(tables)
-}
-
-/// The table of a name.
-fn table_named<'a, F: Source>(
-    alloc: Global,
-    package: &'a Package<F>,
-    name: &str,
-) -> Result<&'a Table, Failure> {
-    match package.get_table(name) {
-        Some(table) => Ok(table),
-        None => Err(Failure::rule("there is no table of this name").at(alloc, "table", name)),
-    }
-}
-
-/// Adds all tables.
-fn add_tables<'a, F: Source>(
-    package: &'a Package<F>,
-    tables: &mut Vec<&'a Table>,
-) -> Result<(), AllocError> {
-    for table in package.tables() {
-        tables.push(table)?;
     }
     Ok(())
 }

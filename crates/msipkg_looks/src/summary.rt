@@ -1,13 +1,11 @@
 //! `summary FILE`: the properties of a package's summary.
 
 use crate::facts::Facts;
-use crate::times::add_time;
-use msi::{Error, LanguageId, SummaryInfo};
-use msipkg_output::{Failure, Style, open_package};
+use msi::{Error, LanguageId, SummaryInfo, Timestamp};
+use msipkg_output::{Failure, Style, TimeText, UuidText, open_package};
 use std::alloc::{AllocError, Global};
 use std::io::{Read, Seek, Write};
 use std::rt::Files;
-use uuid::Uuid;
 
 /// Prints a line for each property that is there, or all of them as JSON on one line.
 ///
@@ -94,13 +92,12 @@ fn add_languages(
     facts.texts("language_tags", tags.as_slice())
 }
 
-/// Adds the UUID as the installer writes it, in braces and capital letters, if there is one.
+/// Adds the UUID, if there is one.
 fn add_uuid(summary: &SummaryInfo, facts: &mut Facts) -> Result<(), AllocError> {
-    let Some(uuid) = summary.uuid() else {
-        return Ok(());
-    };
-    let mut room = Uuid::encode_buffer();
-    facts.text("uuid", Some(uuid.braced().encode_upper(&mut room)))
+    match summary.uuid() {
+        Some(uuid) => facts.shown("uuid", &UuidText(uuid)),
+        None => Ok(()),
+    }
 }
 
 /// Adds when things were done to the package.
@@ -108,6 +105,14 @@ fn add_times(summary: &SummaryInfo, facts: &mut Facts) -> Result<(), AllocError>
     add_time("last_printed", summary.last_printed(), facts)?;
     add_time("creation_time", summary.creation_time(), facts)?;
     add_time("last_saved_time", summary.last_saved_time(), facts)
+}
+
+/// Adds a time, if there is one.
+fn add_time(name: &str, time: Option<Timestamp>, facts: &mut Facts) -> Result<(), AllocError> {
+    match time {
+        Some(time) => facts.shown(name, &TimeText(time)),
+        None => Ok(()),
+    }
 }
 
 /// Adds the numbers of the package.

@@ -1,6 +1,7 @@
 //! Why a command failed, and where, for people to read.
 
 use crate::escape::Shown;
+use crate::json::JsonObject;
 use msi::{Error, ErrorKind, ParseError};
 use std::alloc::{AllocError, AllocFailed, Global};
 use std::{fmt, io};
@@ -33,11 +34,21 @@ impl fmt::Display for Cause {
 }
 
 /// Why a command failed. It prints as its place, such as `table Property`, and what went wrong there.
-#[derive(Drop)]
 pub struct Failure {
     place: Option<String>,
     cause: Cause,
     is_mended_by_counting: bool,
+}
+
+/// Written out, so that a function that owns one calls one drop, and its proof doesn't go through those of the parts.
+impl Drop for Failure {
+    fn drop(self) {
+        let Failure {
+            place: _,
+            cause: _,
+            is_mended_by_counting: _,
+        } = self;
+    }
 }
 
 impl Failure {
@@ -142,4 +153,15 @@ impl From<csv::Error> for Failure {
     fn from(error: csv::Error) -> Failure {
         Failure::new(Cause::Csv(error))
     }
+}
+
+/// Returns the line of a file that failed, as JSON.
+///
+/// # Errors
+/// Fails if memory is refused.
+pub fn failure_json(alloc: Global, file: &str, failure: &Failure) -> Result<String, AllocError> {
+    let mut object = JsonObject::new(alloc)?;
+    object.put_text("file", Some(file))?;
+    object.put_shown("error", failure)?;
+    object.finish()
 }

@@ -6,13 +6,23 @@ use std::fmt::Display;
 use std::io::{self, Write};
 
 /// Rows of texts under a head.
-#[derive(Drop)]
 pub struct Grid {
     alloc: Global,
     /// How many texts a row has: at least one.
     width: usize,
     /// The texts, row by row, those of the head first.
     cells: Vec<String>,
+}
+
+/// Written out, so that a function that owns one calls one drop, and its proof doesn't go through those of the parts.
+impl Drop for Grid {
+    fn drop(self) {
+        let Grid {
+            alloc: _,
+            width: _,
+            cells: _,
+        } = self;
+    }
 }
 
 impl Grid {

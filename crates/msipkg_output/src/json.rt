@@ -7,16 +7,26 @@ use std::alloc::{AllocError, Global};
 use std::fmt::Display;
 use std::io::{self, Write};
 
-/// An object that is being written. A list in it, and the objects in that list, are opened and closed in turn.
+/// An object that is being written. Lists and objects in it are opened and closed in turn.
 ///
 /// # Errors
 /// Each call fails if memory is refused.
-#[derive(Drop)]
 pub struct JsonObject {
     alloc: Global,
     text: String,
     /// Whether nothing stands in front of the next member or item.
     is_first: bool,
+}
+
+/// Written out, so that a function that owns one calls one drop, and its proof doesn't go through those of the parts.
+impl Drop for JsonObject {
+    fn drop(self) {
+        let JsonObject {
+            alloc: _,
+            text: _,
+            is_first: _,
+        } = self;
+    }
 }
 
 impl JsonObject {
@@ -72,6 +82,12 @@ impl JsonObject {
         self.open('[')
     }
 
+    /// Puts an object, whose members follow until it is closed.
+    pub fn open_object(&mut self, name: &str) -> Result<(), AllocError> {
+        self.put_name(name)?;
+        self.open('{')
+    }
+
     /// Puts a text into the list.
     pub fn put_text_item(&mut self, text: &str) -> Result<(), AllocError> {
         self.separate()?;
@@ -90,7 +106,7 @@ impl JsonObject {
         self.open('{')
     }
 
-    /// Closes the object in the list.
+    /// Closes the object, or the one in the list.
     pub fn close_item(&mut self) -> Result<(), AllocError> {
         self.close('}')
     }
@@ -98,6 +114,11 @@ impl JsonObject {
     /// Closes the list.
     pub fn close_list(&mut self) -> Result<(), AllocError> {
         self.close(']')
+    }
+
+    /// Returns the text so far, behind which more members and the end of the object are still to stand.
+    pub fn begun(&self) -> &str {
+        self.text.as_str()
     }
 
     /// Returns the text of the whole object.
@@ -150,21 +171,25 @@ pub fn quoted(alloc: Global, text: &str) -> Result<String, AllocError> {
     Value::try_from_str(alloc, text)?.to_string(alloc)
 }
 
-/// Returns a list of items that are written as JSON already.
+/// Writes a text as a JSON string, as the style has it.
 ///
 /// # Errors
-/// Fails if memory is refused.
-pub fn list(alloc: Global, items: &[String]) -> Result<String, AllocError> {
-    let mut text = String::new(alloc);
-    text.push('[')?;
-    for item in items {
-        if text.len() > 1 {
-            text.push(',')?;
-        }
-        text.push_str(item.as_str())?;
+/// Fails if memory is refused, and as the writer does.
+pub fn write_quoted<W: Write>(
+    alloc: Global,
+    style: Style,
+    text: &str,
+    output: &mut W,
+) -> io::Result<()> {
+    if text.bytes().all(|byte| is_plain(style, byte)) {
+        return write!(output, "\"{text}\"");
     }
-    text.push(']')?;
-    Ok(text)
+    write_text(style, quoted(alloc, text)?.as_str(), output)
+}
+
+/// Whether a byte stands for itself in a JSON string, wherever it is printed.
+fn is_plain(style: Style, byte: u8) -> bool {
+    byte >= 0x20 && byte != b'"' && byte != b'\\' && (byte < 0x7F || !style.is_escaped)
 }
 
 /// Writes JSON on a line. If the style escapes, characters that a terminal would obey or not show are written as

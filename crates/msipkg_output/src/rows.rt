@@ -45,11 +45,11 @@ impl Format {
     }
 }
 
-/// What stands for values and around them, in the formats that print row by row.
+/// What stands for a value of a stream: its bytes stand in a stream of the package.
+const STREAM: &str = "[stream]";
+
+/// What stands around values, in the formats that print row by row.
 struct Layout {
-    null: &'static str,
-    /// What stands for a value of a stream: its bytes stand in a stream of the package.
-    stream: &'static str,
     /// In front of all rows.
     open: &'static str,
     /// In front of the first row.
@@ -65,8 +65,6 @@ struct Layout {
 }
 
 static TABS: Layout = Layout {
-    null: "",
-    stream: "[stream]",
     open: "",
     first: "",
     next: "",
@@ -76,8 +74,6 @@ static TABS: Layout = Layout {
 };
 
 static LINES: Layout = Layout {
-    null: "",
-    stream: "[stream]",
     open: "",
     first: "",
     next: "\n",
@@ -87,8 +83,6 @@ static LINES: Layout = Layout {
 };
 
 static JSON: Layout = Layout {
-    null: "null",
-    stream: "true",
     open: "[",
     first: "\n{",
     next: ",\n{",
@@ -138,13 +132,13 @@ fn layout_of(format: Format) -> &'static Layout {
     }
 }
 
-/// The text of a value.
+/// The text of a value, which isn't JSON.
 fn value_text(printer: &Printer, value: &Value) -> Result<String, AllocError> {
     match value {
-        Value::Null => printer.layout.null.to_string(printer.alloc),
+        Value::Null => Ok(String::new(printer.alloc)),
         Value::Int(number) => number.to_string(printer.alloc),
-        Value::Str(text) => text_of(printer, text.as_str()),
-        Value::Binary => printer.layout.stream.to_string(printer.alloc),
+        Value::Str(text) => printer.style.show(text.as_str()).to_string(printer.alloc),
+        Value::Binary => STREAM.to_string(printer.alloc),
     }
 }
 
@@ -309,10 +303,28 @@ fn write_value<W: Write>(
     value: &Value,
     output: &mut W,
 ) -> io::Result<()> {
-    let text = value_text(printer, value)?;
     if matches!(printer.format, Format::Json) {
         json::write_text(printer.style, name, output)?;
-        return json::write_text(printer.style, text.as_str(), output);
+        return write_json_value(printer.alloc, printer.style, value, output);
     }
+    let text = value_text(printer, value)?;
     write!(output, "{name}{text}")
+}
+
+/// Writes a value as JSON, where a stream is `true`.
+///
+/// # Errors
+/// Fails if memory is refused, and as the writer does.
+pub fn write_json_value<W: Write>(
+    alloc: Global,
+    style: Style,
+    value: &Value,
+    output: &mut W,
+) -> io::Result<()> {
+    match value {
+        Value::Null => output.write_all(b"null"),
+        Value::Int(number) => write!(output, "{number}"),
+        Value::Str(text) => json::write_quoted(alloc, style, text.as_str(), output),
+        Value::Binary => output.write_all(b"true"),
+    }
 }

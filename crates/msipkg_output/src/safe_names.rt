@@ -14,11 +14,17 @@ static DEVICES: [&str; 22] = [
 const SIGNS: &str = "._-#+(){}@, ";
 
 /// The names that are given out already.
-#[derive(Drop)]
 pub struct SafeNames {
     alloc: Global,
     /// The names, with small letters.
     taken: BTreeSet<String>,
+}
+
+/// Written out, so that a function that owns one calls one drop, and its proof doesn't go through those of the parts.
+impl Drop for SafeNames {
+    fn drop(self) {
+        let SafeNames { alloc: _, taken: _ } = self;
+    }
 }
 
 impl SafeNames {
