@@ -1,20 +1,21 @@
 //! The commands that write files.
 
 use crate::commands::Asked;
+use crate::words::Verb;
 use msipkg_changes::{
     New, add_streams, carry_out_statements, create_package, remove_streams, set_properties,
 };
-use msipkg_looks::{Folder, extract_streams};
-use msipkg_output::Failure;
+use msipkg_looks::extract_streams;
+use msipkg_output::{Failure, Folder};
 use std::fs::OpenFile;
 use std::io::{Read, Seek, Write};
 use std::rt::Files;
 
-/// Whether a command writes a file.
+/// Whether a command writes a file, and prints nothing.
 pub(crate) fn is_change(asked: &Asked<'_, '_>) -> bool {
-    match asked.name {
-        "new" | "add" | "remove" | "exec" | "extract" => true,
-        "summary" => !asked.texts("set").is_empty() || !asked.texts("clear").is_empty(),
+    match asked.verb {
+        Verb::New | Verb::Add | Verb::Remove | Verb::Exec | Verb::Extract | Verb::Batch => true,
+        Verb::Summary => !asked.texts("set").is_empty() || !asked.texts("clear").is_empty(),
         _ => false,
     }
 }
@@ -30,12 +31,13 @@ where
     E: Write,
 {
     let file = asked.file();
-    match asked.name {
-        "new" => create_package(rt, file, wanted(asked)),
-        "add" => add_streams(rt, file, asked.texts("NAME=PATH"), errors),
-        "remove" => remove_streams(rt, file, asked.texts("NAME"), errors),
-        "exec" => carry_out_statements(rt, file, asked.texts("TEXT"), errors),
-        "extract" => extract_streams(rt, file, asked.texts("NAME"), target_of(asked), errors),
+    match asked.verb {
+        Verb::New => create_package(rt, file, wanted(asked)),
+        Verb::Add => add_streams(rt, file, asked.texts("NAME=PATH"), errors),
+        Verb::Remove => remove_streams(rt, file, asked.texts("NAME"), errors),
+        Verb::Exec => carry_out_statements(rt, file, asked.texts("TEXT"), errors),
+        Verb::Extract => extract_streams(rt, file, asked.texts("NAME"), target_of(asked), errors),
+        Verb::Batch => Err(Failure::rule("batch is no command of a batch")),
         _ => set_properties(rt, file, asked.texts("set"), asked.texts("clear"), errors),
     }
 }

@@ -1,6 +1,9 @@
 //! A command over any files and writers: from arguments to what they ask for, from a failure to its line and status.
 
-use crate::{changing, looking, words};
+use crate::changing::{self, is_change};
+use crate::looking::look;
+use crate::several::print_each;
+use crate::words::{self, Verb};
 use clap::ArgMatches;
 use clap::error::ErrorKind;
 use msipkg_output::{Failure, Shown, Style};
@@ -66,27 +69,33 @@ where
     O: Write + Drop,
     E: Write,
 {
-    let Some((name, given)) = matches.subcommand() else {
+    let Some(asked) = asked_of(matches, is_terminal) else {
         return 2;
     };
-    let style = Style {
-        is_terminal,
-        is_escaped: is_terminal || given.get_flag("escape"),
-    };
-    let asked = Asked { name, given, style };
     match carry_out(rt, &asked, output, errors) {
         Ok(is_well) => u8::from(!is_well),
         Err(failure) => {
-            tell(asked.file(), &failure, errors);
+            report(asked.file(), &failure, errors);
             1
         }
     }
 }
 
+/// The command that the words ask for.
+fn asked_of<'a, 'b>(matches: &'b ArgMatches<'a>, is_terminal: bool) -> Option<Asked<'a, 'b>> {
+    let (name, given) = matches.subcommand()?;
+    let verb = words::verb_named(name)?;
+    let style = Style {
+        is_terminal,
+        is_escaped: is_terminal || given.get_flag("escape"),
+    };
+    Some(Asked { verb, given, style })
+}
+
 /// A command with what was given to it.
 #[derive(Clone, Copy)]
 pub(crate) struct Asked<'a, 'b> {
-    pub(crate) name: &'a str,
+    pub(crate) verb: Verb,
     pub(crate) given: &'b ArgMatches<'a>,
     pub(crate) style: Style,
 }
@@ -114,9 +123,16 @@ impl<'a, 'b> Asked<'a, 'b> {
 }
 
 /// Writes on a line why a command failed on a file.
-pub(crate) fn tell<E: Write>(file: &str, failure: &Failure, errors: &mut E) {
+pub(crate) fn report<E: Write>(file: &str, failure: &Failure, errors: &mut E) {
     let file = Shown::escaped(file);
-    let _ = writeln!(errors, "msipkg: {file}: {failure}");
+    let _ = if failure.is_mended_by_counting() {
+        writeln!(
+            errors,
+            "msipkg: {file}: {failure}; msipkg check {file} --fix mends counts"
+        )
+    } else {
+        writeln!(errors, "msipkg: {file}: {failure}")
+    };
 }
 
 /// Carries out a command, and returns whether all is well: nothing was found to be wrong.
@@ -132,15 +148,34 @@ where
     O: Write + Drop,
     E: Write,
 {
-    if asked.name == "batch" {
-        return Err(Failure::rule("batch is no command of a batch"));
-    }
-    if changing::is_change(asked) {
+    if is_change(asked) {
         changing::change(rt, asked, errors)?;
         return Ok(true);
     }
     let mut lines = BufWriter::with_capacity(rt.alloc(), CAPACITY, output)?;
-    let is_well = looking::look(rt, asked, &mut lines, errors)?;
+    let is_well = print(rt, asked, &mut lines, errors)?;
     lines.flush()?;
     Ok(is_well)
+}
+
+/// Carries out a command that prints, and returns whether all is well.
+fn print<R, O, E>(
+    rt: &R,
+    asked: &Asked<'_, '_>,
+    output: &mut O,
+    errors: &mut E,
+) -> Result<bool, Failure>
+where
+    R: Files + AllocGlobal,
+    R::File: OpenFile + Read + Write + Seek + Drop,
+    O: Write + Drop,
+    E: Write,
+{
+    match asked.verb {
+        Verb::Info | Verb::Check => print_each(rt, asked, output, errors),
+        _ => {
+            look(rt, asked, output)?;
+            Ok(true)
+        }
+    }
 }

@@ -1,49 +1,29 @@
-//! The commands that print.
+//! The commands that print what a package has.
 
 use crate::commands::Asked;
-use crate::several::print_each;
+use crate::words::Verb;
 use msipkg_looks::schema::Form;
 use msipkg_looks::{print_query, print_schema, print_streams, print_summary, print_tables};
 use msipkg_output::{Failure, Format};
-use std::fs::OpenFile;
 use std::io::{Read, Seek, Write};
 use std::rt::Files;
 
-/// Carries out a command that prints, and returns whether all is well.
+/// Carries out a command that prints what a package has.
 ///
 /// # Errors
 /// Fails as the command does, and as the writer does.
-pub(crate) fn look<R, O, E>(
-    rt: &R,
-    asked: &Asked<'_, '_>,
-    output: &mut O,
-    errors: &mut E,
-) -> Result<bool, Failure>
-where
-    R: Files + AllocGlobal,
-    R::File: OpenFile + Read + Write + Seek + Drop,
-    O: Write + Drop,
-    E: Write,
-{
-    match asked.name {
-        "info" | "check" => return print_each(rt, asked, output, errors),
-        "tables" => print_tables(rt, asked.style, asked.file(), output)?,
-        "streams" => print_streams(rt, asked.style, asked.file(), output)?,
-        _ => look_closer(rt, asked, output)?,
-    }
-    Ok(true)
-}
-
-/// Carries out a command that prints and takes more than a file.
-fn look_closer<R, O>(rt: &R, asked: &Asked<'_, '_>, output: &mut O) -> Result<(), Failure>
+pub(crate) fn look<R, O>(rt: &R, asked: &Asked<'_, '_>, output: &mut O) -> Result<(), Failure>
 where
     R: Files + AllocGlobal,
     R::File: Read + Seek + Drop,
     O: Write + Drop,
 {
     let (style, file) = (asked.style, asked.file());
-    match asked.name {
-        "schema" => print_schema(
+    match asked.verb {
+        Verb::Tables => print_tables(rt, style, file, output),
+        Verb::Streams => print_streams(rt, style, file, output),
+        Verb::Summary => print_summary(rt, style, file, asked.is_json(), output),
+        Verb::Schema => print_schema(
             rt,
             style,
             file,
@@ -51,7 +31,6 @@ where
             form_of(asked),
             output,
         ),
-        "summary" => print_summary(rt, style, file, asked.is_json(), output),
         _ => print_query(
             rt,
             style,

@@ -1,17 +1,17 @@
-//! Commands that take several files: a fault in one is told, and the others go on.
+//! Commands that take several files: an error in one is printed, and the others go on.
 
-use crate::commands::{Asked, tell};
+use crate::commands::{Asked, report};
+use crate::words::Verb;
 use msipkg_changes::recount_package;
 use msipkg_checks::print_check;
 use msipkg_looks::print_info;
-use msipkg_output::json::{self, JsonObject};
-use msipkg_output::{Failure, Shown};
-use std::alloc::{AllocError, Global};
+use msipkg_output::{Failure, Shown, failure_json, json};
+use std::alloc::Global;
 use std::fs::OpenFile;
 use std::io::{self, Read, Seek, Write};
 use std::rt::Files;
 
-/// Prints each file, and returns whether all is well. As JSON each file gives one line, with its fault as `error`.
+/// Prints each file, and returns whether all is well. As JSON each file gives one line, with its error as `error`.
 ///
 /// # Errors
 /// Fails as the writer does.
@@ -29,14 +29,13 @@ where
 {
     let mut is_well = true;
     for file in asked.texts("FILE") {
-        let is_one_well = print_told(rt, asked, file, output, errors)?;
-        is_well = is_well && is_one_well;
+        is_well &= print_or_report(rt, asked, file, output, errors)?;
     }
     Ok(is_well)
 }
 
-/// Prints a file, or tells why that failed, and returns whether all is well.
-fn print_told<R, O, E>(
+/// Prints a file, or why that failed, and returns whether all is well.
+fn print_or_report<R, O, E>(
     rt: &R,
     asked: &Asked<'_, '_>,
     file: &str,
@@ -53,7 +52,7 @@ where
     match print_one(rt, asked, file, output, errors) {
         Ok(is_well) => Ok(is_well),
         Err(failure) => {
-            tell_one(rt.alloc(), asked, file, &failure, output, errors)?;
+            report_one(rt.alloc(), asked, file, &failure, output, errors)?;
             Ok(false)
         }
     }
@@ -61,10 +60,13 @@ where
 
 /// Writes the path of a file above what `info` prints of it, where there are several.
 fn write_head<O: Write>(asked: &Asked<'_, '_>, file: &str, output: &mut O) -> io::Result<()> {
-    if asked.name != "info" || asked.is_json() || asked.texts("FILE").len() < 2 {
-        return Ok(());
+    let is_alone = asked.texts("FILE").len() < 2;
+    match asked.verb {
+        Verb::Info if !is_alone && !asked.is_json() => {
+            writeln!(output, "file: {}", asked.style.show(file))
+        }
+        _ => Ok(()),
     }
-    writeln!(output, "file: {}", asked.style.show(file))
 }
 
 /// Prints a file, and returns whether all is well.
@@ -81,36 +83,41 @@ where
     O: Write,
     E: Write,
 {
-    if asked.name == "check" {
-        if asked.given.get_flag("fix") {
-            fix(rt, file, errors)?;
-        }
-        return print_check(rt, asked.style, file, asked.is_json(), output);
+    let (style, is_json) = (asked.style, asked.is_json());
+    if matches!(asked.verb, Verb::Info) {
+        print_info(rt, style, file, is_json, output)?;
+        return Ok(true);
     }
-    print_info(rt, asked.style, file, asked.is_json(), output)?;
-    Ok(true)
+    if asked.given.get_flag("fix") {
+        fix(rt, file, errors)?;
+    }
+    print_check(rt, style, file, is_json, output)
 }
 
-/// Mends the counts of a file, and tells how many were wrong.
+/// Mends the counts of a file, and prints how many were wrong.
 fn fix<R, E>(rt: &R, file: &str, errors: &mut E) -> Result<(), Failure>
 where
     R: Files + AllocGlobal,
     R::File: OpenFile + Read + Write + Seek + Drop,
     E: Write,
 {
-    let changed = recount_package(rt, file, errors)?;
-    if changed > 0 {
-        let file = Shown::escaped(file);
-        writeln!(
-            errors,
-            "msipkg: {file}: {changed} reference counts are mended"
-        )?;
+    match recount_package(rt, file, errors)? {
+        0 => Ok(()),
+        changed => Ok(report_mended(file, changed, errors)?),
     }
-    Ok(())
 }
 
-/// Tells why a file failed.
-fn tell_one<O: Write, E: Write>(
+/// Writes how many counts of a file were wrong.
+fn report_mended<E: Write>(file: &str, changed: u32, errors: &mut E) -> io::Result<()> {
+    let file = Shown::escaped(file);
+    writeln!(
+        errors,
+        "msipkg: {file}: {changed} reference counts are mended"
+    )
+}
+
+/// Writes why a file failed: on `errors`, or as JSON on the output.
+fn report_one<O: Write, E: Write>(
     alloc: Global,
     asked: &Asked<'_, '_>,
     file: &str,
@@ -119,17 +126,9 @@ fn tell_one<O: Write, E: Write>(
     errors: &mut E,
 ) -> io::Result<()> {
     if !asked.is_json() {
-        tell(file, failure, errors);
+        report(file, failure, errors);
         return Ok(());
     }
     let text = failure_json(alloc, file, failure)?;
     json::write_line(asked.style, text.as_str(), output)
-}
-
-/// The line of a file that failed, as JSON.
-fn failure_json(alloc: Global, file: &str, failure: &Failure) -> Result<String, AllocError> {
-    let mut object = JsonObject::new(alloc)?;
-    object.put_text("file", Some(file))?;
-    object.put_text("error", Some(failure.to_string(alloc)?.as_str()))?;
-    object.finish()
 }

@@ -3,11 +3,273 @@
 use clap::{Arg, ArgAction, ArgMatches, Command, Error};
 use std::alloc::{AllocError, Global};
 
-/// The formats of `query`.
-static FORMATS: [&str; 5] = ["table", "tabs", "csv", "json", "lines"];
+/// A command of the program.
+#[derive(Clone, Copy)]
+pub(crate) enum Verb {
+    Info,
+    Tables,
+    Schema,
+    Query,
+    Streams,
+    Extract,
+    Summary,
+    Check,
+    New,
+    Add,
+    Remove,
+    Exec,
+    Batch,
+}
 
-/// The kinds of packages that `new` makes.
-static KINDS: [&str; 3] = ["installer", "patch", "transform"];
+/// How a command is called: its name, what it does, and its arguments.
+struct Row {
+    verb: Verb,
+    name: &'static str,
+    about: &'static str,
+    arguments: &'static [Argument],
+}
+
+/// An argument: what it is asked for by, how it is given, and what help says of it.
+#[derive(Clone, Copy)]
+struct Argument {
+    id: &'static str,
+    form: Form,
+    help: &'static str,
+}
+
+/// How an argument is given.
+#[derive(Clone, Copy)]
+enum Form {
+    /// A word, which has to be there.
+    Word,
+    /// One word or more.
+    Words,
+    /// Any number of words.
+    AnyWords,
+    /// `--ID`.
+    Flag,
+    /// `--ID`, and not beside these.
+    Instead(&'static [&'static str]),
+    /// `--ID` with a value of this name.
+    Value(&'static str),
+    /// `--ID` with a value of this name, as often as it is needed.
+    Values(&'static str),
+    /// `--ID`, or a letter, with a value of this name, which has to be there.
+    Needed(char, &'static str),
+    /// `--ID` with one of these values.
+    Choice(&'static str, &'static [&'static str]),
+    /// `--ID` with one of these values, or this one by default.
+    Default(&'static str, &'static str, &'static [&'static str]),
+}
+
+const FILE: Argument = Argument {
+    id: "FILE",
+    form: Form::Word,
+    help: "The package",
+};
+
+const FILES: Argument = Argument {
+    id: "FILE",
+    form: Form::Words,
+    help: "The packages",
+};
+
+const JSON: Argument = Argument {
+    id: "json",
+    form: Form::Flag,
+    help: "Prints JSON, a line for each package",
+};
+
+const ESCAPE: Argument = Argument {
+    id: "escape",
+    form: Form::Flag,
+    help: "Prints characters that a terminal would obey or not show as escapes",
+};
+
+const FORCE: Argument = Argument {
+    id: "force",
+    form: Form::Flag,
+    help: "Replaces files that are there already",
+};
+
+/// The commands, in the order in which help lists them.
+static COMMANDS: [Row; 13] = [
+    Row {
+        verb: Verb::Info,
+        name: "info",
+        about: "Prints what packages are",
+        arguments: &[FILES, JSON, ESCAPE],
+    },
+    Row {
+        verb: Verb::Tables,
+        name: "tables",
+        about: "Prints the tables, and how many rows they have",
+        arguments: &[FILE, ESCAPE],
+    },
+    Row {
+        verb: Verb::Schema,
+        name: "schema",
+        about: "Prints the columns of tables, and what they take",
+        arguments: &[
+            FILE,
+            Argument {
+                id: "TABLE",
+                form: Form::AnyWords,
+                help: "The tables; all of them where none is named",
+            },
+            JSON,
+            Argument {
+                id: "sql",
+                form: Form::Instead(&["json"]),
+                help: "Prints statements that create the tables, as exec takes them",
+            },
+            ESCAPE,
+        ],
+    },
+    Row {
+        verb: Verb::Query,
+        name: "query",
+        about: "Prints the rows that a query selects",
+        arguments: &[
+            FILE,
+            Argument {
+                id: "TEXT",
+                form: Form::Word,
+                help: "The query, as SELECT Value FROM Property WHERE Property = 'ProductName'",
+            },
+            Argument {
+                id: "format",
+                form: Form::Choice("FORMAT", &["table", "tabs", "csv", "json", "lines"]),
+                help: "How rows are printed: by default as a table on a terminal, and elsewhere parted by tabs",
+            },
+            ESCAPE,
+        ],
+    },
+    Row {
+        verb: Verb::Streams,
+        name: "streams",
+        about: "Prints the streams, and how many bytes they have",
+        arguments: &[FILE, ESCAPE],
+    },
+    Row {
+        verb: Verb::Extract,
+        name: "extract",
+        about: "Writes streams to files of a folder, and nothing outside it",
+        arguments: &[
+            FILE,
+            Argument {
+                id: "NAME",
+                form: Form::AnyWords,
+                help: "The streams; all of them where none is named",
+            },
+            Argument {
+                id: "output",
+                form: Form::Needed('o', "DIR"),
+                help: "The folder for the files; it is made where it isn't there",
+            },
+            FORCE,
+        ],
+    },
+    Row {
+        verb: Verb::Summary,
+        name: "summary",
+        about: "Prints the properties of the summary, or sets some",
+        arguments: &[
+            FILE,
+            Argument {
+                id: "set",
+                form: Form::Values("NAME=VALUE"),
+                help: "Sets a property, instead of printing them; may be repeated",
+            },
+            Argument {
+                id: "clear",
+                form: Form::Values("NAME"),
+                help: "Clears a property, instead of printing them; may be repeated",
+            },
+            JSON,
+            ESCAPE,
+        ],
+    },
+    Row {
+        verb: Verb::Check,
+        name: "check",
+        about: "Prints the errors in packages; the status is 1 where there is one",
+        arguments: &[
+            FILES,
+            Argument {
+                id: "fix",
+                form: Form::Flag,
+                help: "Counts the texts anew first, and replaces a file whose counts were wrong",
+            },
+            JSON,
+            ESCAPE,
+        ],
+    },
+    Row {
+        verb: Verb::New,
+        name: "new",
+        about: "Makes a package",
+        arguments: &[
+            FILE,
+            Argument {
+                id: "kind",
+                form: Form::Default("KIND", "installer", &["installer", "patch", "transform"]),
+                help: "What the package is",
+            },
+            Argument {
+                id: "page",
+                form: Form::Value("ID"),
+                help: "The code page of its texts, as 1252; by default 65001, UTF-8",
+            },
+            FORCE,
+        ],
+    },
+    Row {
+        verb: Verb::Add,
+        name: "add",
+        about: "Stores files as streams",
+        arguments: &[
+            FILE,
+            Argument {
+                id: "NAME=PATH",
+                form: Form::Words,
+                help: "The name of a stream, and the path of its file",
+            },
+        ],
+    },
+    Row {
+        verb: Verb::Remove,
+        name: "remove",
+        about: "Removes streams",
+        arguments: &[
+            FILE,
+            Argument {
+                id: "NAME",
+                form: Form::Words,
+                help: "The streams",
+            },
+        ],
+    },
+    Row {
+        verb: Verb::Exec,
+        name: "exec",
+        about: "Changes rows and tables: all that is asked for, or nothing",
+        arguments: &[
+            FILE,
+            Argument {
+                id: "TEXT",
+                form: Form::Words,
+                help: "A statement, as DELETE FROM Property WHERE Property = 'Old'",
+            },
+        ],
+    },
+    Row {
+        verb: Verb::Batch,
+        name: "batch",
+        about: "Runs the commands of standard input, a line each",
+        arguments: &[],
+    },
+];
 
 /// Parses the words behind the program's name.
 ///
@@ -17,241 +279,72 @@ pub(crate) fn matches_of<'a>(alloc: Global, words: &'a [String]) -> Result<ArgMa
     program(alloc)?.try_get_matches_from(words)
 }
 
+/// Returns the command of a name.
+pub(crate) fn verb_named(name: &str) -> Option<Verb> {
+    for row in &COMMANDS {
+        if row.name == name {
+            return Some(row.verb);
+        }
+    }
+    None
+}
+
 /// The program with its commands.
 fn program<'a>(alloc: Global) -> Result<Command<'a>, AllocError> {
-    let program = Command::new(alloc, "msipkg")
+    let mut program = Command::new(alloc, "msipkg")
         .bin_name("msipkg")?
         .version("0.1.0")
         .about("Looks into Windows Installer packages, and changes them")
         .no_binary_name(true)
         .propagate_version(true)
         .subcommand_required(true);
-    changing_commands(alloc, looking_commands(alloc, program)?)
+    for row in &COMMANDS {
+        program = program.subcommand(command_of(alloc, row)?)?;
+    }
+    Ok(program)
 }
 
-/// Adds the commands that look.
-fn looking_commands<'a>(alloc: Global, program: Command<'a>) -> Result<Command<'a>, AllocError> {
-    program
-        .subcommand(info(alloc)?)?
-        .subcommand(tables(alloc)?)?
-        .subcommand(schema(alloc)?)?
-        .subcommand(query(alloc)?)?
-        .subcommand(streams(alloc)?)?
-        .subcommand(extract(alloc)?)?
-        .subcommand(summary(alloc)?)?
-        .subcommand(check(alloc)?)
+/// The command of a row.
+fn command_of<'a>(alloc: Global, row: &Row) -> Result<Command<'a>, AllocError> {
+    let mut command = Command::new(alloc, row.name).about(row.about);
+    for argument in row.arguments {
+        command = command.arg(arg_of(alloc, argument)?)?;
+    }
+    Ok(command)
 }
 
-/// Adds the commands that change.
-fn changing_commands<'a>(alloc: Global, program: Command<'a>) -> Result<Command<'a>, AllocError> {
-    program
-        .subcommand(new(alloc)?)?
-        .subcommand(add(alloc)?)?
-        .subcommand(remove(alloc)?)?
-        .subcommand(exec(alloc)?)?
-        .subcommand(batch(alloc))
-}
-
-fn info<'a>(alloc: Global) -> Result<Command<'a>, AllocError> {
-    Command::new(alloc, "info")
-        .about("Tells what packages are")
-        .arg(files(alloc))?
-        .arg(json(alloc))?
-        .arg(escape(alloc))
-}
-
-fn tables<'a>(alloc: Global) -> Result<Command<'a>, AllocError> {
-    Command::new(alloc, "tables")
-        .about("Prints the tables, and how many rows they have")
-        .arg(file(alloc))?
-        .arg(escape(alloc))
-}
-
-fn schema<'a>(alloc: Global) -> Result<Command<'a>, AllocError> {
-    let sql = Arg::new(alloc, "sql")
-        .long("sql")
-        .action(ArgAction::SetTrue)
-        .conflicts_with("json")?
-        .help("Prints statements that create the tables, as exec takes them");
-    Command::new(alloc, "schema")
-        .about("Prints the columns of tables, and what they take")
-        .arg(file(alloc))?
-        .arg(many(
-            alloc,
-            "TABLE",
-            "The tables; all of them where none is named",
-        ))?
-        .arg(json(alloc))?
-        .arg(sql)?
-        .arg(escape(alloc))
-}
-
-fn query<'a>(alloc: Global) -> Result<Command<'a>, AllocError> {
-    let text = Arg::new(alloc, "TEXT").required(true).help(
-        "The query, as SELECT Value FROM Property WHERE Property = 'ProductName'",
-    );
-    let format = Arg::new(alloc, "format")
-        .long("format")
-        .value_name("FORMAT")
-        .value_parser(FORMATS.as_slice())
-        .help(
-            "How rows are printed: by default as a table on a terminal, and elsewhere parted by tabs",
-        );
-    Command::new(alloc, "query")
-        .about("Prints the rows that a query selects")
-        .arg(file(alloc))?
-        .arg(text)?
-        .arg(format)?
-        .arg(escape(alloc))
-}
-
-fn streams<'a>(alloc: Global) -> Result<Command<'a>, AllocError> {
-    Command::new(alloc, "streams")
-        .about("Prints the streams, and how many bytes they have")
-        .arg(file(alloc))?
-        .arg(escape(alloc))
-}
-
-fn extract<'a>(alloc: Global) -> Result<Command<'a>, AllocError> {
-    let output = Arg::new(alloc, "output")
-        .short('o')
-        .long("output")
-        .value_name("DIR")
-        .required(true)
-        .help("The folder for the files; it is made where it isn't there");
-    Command::new(alloc, "extract")
-        .about("Writes streams to files of a folder, and nothing outside it")
-        .arg(file(alloc))?
-        .arg(many(
-            alloc,
-            "NAME",
-            "The streams; all of them where none is named",
-        ))?
-        .arg(output)?
-        .arg(force(alloc))
-}
-
-fn summary<'a>(alloc: Global) -> Result<Command<'a>, AllocError> {
-    let set = Arg::new(alloc, "set")
-        .long("set")
-        .value_name("NAME=VALUE")
-        .action(ArgAction::Append)
-        .help("Sets a property, instead of printing them; may be repeated");
-    let clear = Arg::new(alloc, "clear")
-        .long("clear")
-        .value_name("NAME")
-        .action(ArgAction::Append)
-        .help("Clears a property, instead of printing them; may be repeated");
-    Command::new(alloc, "summary")
-        .about("Prints the properties of the summary, or sets some")
-        .arg(file(alloc))?
-        .arg(set)?
-        .arg(clear)?
-        .arg(json(alloc))?
-        .arg(escape(alloc))
-}
-
-fn check<'a>(alloc: Global) -> Result<Command<'a>, AllocError> {
-    let fix = Arg::new(alloc, "fix")
-        .long("fix")
-        .action(ArgAction::SetTrue)
-        .help("Counts the texts anew first, and replaces a file whose counts were wrong");
-    Command::new(alloc, "check")
-        .about("Prints the faults of packages; the status is 1 where there is one")
-        .arg(files(alloc))?
-        .arg(fix)?
-        .arg(json(alloc))?
-        .arg(escape(alloc))
-}
-
-fn new<'a>(alloc: Global) -> Result<Command<'a>, AllocError> {
-    let kind = Arg::new(alloc, "kind")
-        .long("kind")
-        .value_name("KIND")
-        .value_parser(KINDS.as_slice())
-        .default_value("installer")
-        .help("What the package is");
-    let page = Arg::new(alloc, "page").long("page").value_name("ID").help(
-        "The code page of its texts, as 1252; by default 65001, UTF-8",
-    );
-    Command::new(alloc, "new")
-        .about("Makes a package")
-        .arg(file(alloc))?
-        .arg(kind)?
-        .arg(page)?
-        .arg(force(alloc))
-}
-
-fn add<'a>(alloc: Global) -> Result<Command<'a>, AllocError> {
-    Command::new(alloc, "add")
-        .about("Stores files as streams")
-        .arg(file(alloc))?
-        .arg(many(
-            alloc,
-            "NAME=PATH",
-            "The name of a stream, and the path of its file",
-        )
-        .required(true))
-}
-
-fn remove<'a>(alloc: Global) -> Result<Command<'a>, AllocError> {
-    Command::new(alloc, "remove")
-        .about("Removes streams")
-        .arg(file(alloc))?
-        .arg(many(alloc, "NAME", "The streams").required(true))
-}
-
-fn exec<'a>(alloc: Global) -> Result<Command<'a>, AllocError> {
-    Command::new(alloc, "exec")
-        .about("Changes rows and tables: all that is asked for, or nothing")
-        .arg(file(alloc))?
-        .arg(many(
-            alloc,
-            "TEXT",
-            "A statement, as DELETE FROM Property WHERE Property = 'Old'",
-        )
-        .required(true))
-}
-
-fn batch<'a>(alloc: Global) -> Command<'a> {
-    Command::new(alloc, "batch").about("Runs the commands of standard input, a line each")
-}
-
-/// The package.
-fn file<'a>(alloc: Global) -> Arg<'a> {
-    Arg::new(alloc, "FILE").required(true).help("The package")
-}
-
-/// One package or more.
-fn files<'a>(alloc: Global) -> Arg<'a> {
-    many(alloc, "FILE", "The packages").required(true)
+/// The argument of a row.
+fn arg_of<'a>(alloc: Global, argument: &Argument) -> Result<Arg<'a>, AllocError> {
+    let id = argument.id;
+    let arg = Arg::new(alloc, id).help(argument.help);
+    Ok(match argument.form {
+        Form::Word => arg.required(true),
+        Form::Words => several(arg).required(true),
+        Form::AnyWords => several(arg),
+        Form::Flag => arg.long(id).action(ArgAction::SetTrue),
+        Form::Instead(others) => instead(arg.long(id), others)?,
+        Form::Value(name) => arg.long(id).value_name(name),
+        Form::Values(name) => arg.long(id).value_name(name).action(ArgAction::Append),
+        Form::Needed(letter, name) => arg.long(id).short(letter).value_name(name).required(true),
+        Form::Choice(name, values) => arg.long(id).value_name(name).value_parser(values),
+        Form::Default(name, value, values) => arg
+            .long(id)
+            .value_name(name)
+            .value_parser(values)
+            .default_value(value),
+    })
 }
 
 /// An argument that takes several words.
-fn many<'a>(alloc: Global, id: &'a str, help: &'a str) -> Arg<'a> {
-    Arg::new(alloc, id)
-        .num_args(1usize..)
-        .action(ArgAction::Append)
-        .help(help)
+fn several<'a>(arg: Arg<'a>) -> Arg<'a> {
+    arg.num_args(1usize..).action(ArgAction::Append)
 }
 
-fn json<'a>(alloc: Global) -> Arg<'a> {
-    Arg::new(alloc, "json")
-        .long("json")
-        .action(ArgAction::SetTrue)
-        .help("Prints JSON, a line for each package")
-}
-
-fn force<'a>(alloc: Global) -> Arg<'a> {
-    Arg::new(alloc, "force")
-        .long("force")
-        .action(ArgAction::SetTrue)
-        .help("Replaces files that are there already")
-}
-
-fn escape<'a>(alloc: Global) -> Arg<'a> {
-    Arg::new(alloc, "escape")
-        .long("escape")
-        .action(ArgAction::SetTrue)
-        .help("Prints characters that a terminal would obey or not show as escapes")
+/// A word that is given or not, and not beside others.
+fn instead<'a>(arg: Arg<'a>, others: &[&'static str]) -> Result<Arg<'a>, AllocError> {
+    let mut flag = arg.action(ArgAction::SetTrue);
+    for other in others {
+        flag = flag.conflicts_with(*other)?;
+    }
+    Ok(flag)
 }

@@ -26,10 +26,10 @@ pub(crate) fn apply_statement(
 /// Fails as the change does. Then nothing has changed.
 pub(crate) fn apply_definition(
     package: &mut Package<Memory>,
-    definition: Definition,
+    definition: Definition<'_>,
 ) -> Result<(), Failure> {
     match definition {
-        Definition::Create { table, columns } => Ok(package.create_table(table.as_str(), columns)?),
-        Definition::Remove { table } => Ok(package.drop_table(table.as_str())?),
+        Definition::Create { table, columns } => Ok(package.create_table(table, columns)?),
+        Definition::Remove { table } => Ok(package.drop_table(table)?),
     }
 }

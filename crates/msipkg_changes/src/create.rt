@@ -2,14 +2,14 @@
 
 use crate::held::written;
 use msi::{CodePage, Memory, Package, PackageType};
-use msipkg_output::{Failure, create_file, overwrite_file};
+use msipkg_output::{Failure, write_file};
 use std::alloc::Global;
 use std::fs::OpenFile;
 use std::io::Write;
 use std::rt::Files;
 
 /// The package that is wanted.
-#[derive(Clone, Copy, Debug)]
+#[derive(Clone, Copy)]
 pub struct New<'a> {
     /// Its kind: `installer`, `patch` or `transform`.
     pub kind: &'a str,
@@ -30,11 +30,7 @@ where
     R::File: OpenFile + Write + Drop,
 {
     let bytes = package_bytes(rt.alloc(), new)?;
-    if new.is_forced {
-        overwrite_file(rt, file, bytes.as_slice())
-    } else {
-        create_file(rt, file, bytes.as_slice())
-    }
+    write_file(rt, file, new.is_forced, bytes.as_slice())
 }
 
 /// The bytes of a new package's file.
@@ -42,7 +38,10 @@ fn package_bytes(alloc: Global, new: New<'_>) -> Result<Vec<u8>, Failure> {
     let Some(kind) = kind_of(new.kind) else {
         return Err(Failure::rule("a package is an installer, a patch or a transform"));
     };
-    let page = page_of(new.page)?;
+    let page = match new.page {
+        Some(number) => page_of(number)?,
+        None => CodePage::Utf8,
+    };
     let mut package = Package::create(alloc, kind, Memory::from_vec(Vec::new(alloc)))?;
     set_pages(&mut package, page)?;
     written(package)
@@ -58,11 +57,11 @@ fn kind_of(name: &str) -> Option<PackageType> {
     }
 }
 
-/// The page of this number, or UTF-8 where none is given.
-fn page_of(number: Option<&str>) -> Result<CodePage, Failure> {
-    let Some(number) = number else {
-        return Ok(CodePage::Utf8);
-    };
+/// Returns the code page of a number.
+///
+/// # Errors
+/// Fails if there is none.
+pub fn page_of(number: &str) -> Result<CodePage, Failure> {
     let known = match number.parse::<i32>() {
         Ok(number) => CodePage::from_id(number),
         Err(_) => None,

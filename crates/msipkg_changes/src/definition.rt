@@ -26,15 +26,20 @@ const TYPES: [(&str, Kind); 6] = [
 
 /// A change of a package's tables.
 #[derive(Drop)]
-pub(crate) enum Definition {
-    Create { table: String, columns: Vec<Column> },
-    Remove { table: String },
+pub(crate) enum Definition<'a> {
+    Create {
+        table: &'a str,
+        columns: Vec<Column>,
+    },
+    Remove {
+        table: &'a str,
+    },
 }
 
 /// A column as a definition describes it.
-#[derive(Drop)]
-struct Described {
-    name: String,
+#[derive(Clone, Copy)]
+struct Described<'a> {
+    name: &'a str,
     kind: Kind,
     is_nullable: bool,
     is_localizable: bool,
@@ -52,10 +57,7 @@ enum Kind {
 /// Returns whether a text is to be read as a definition: its first word is `CREATE` or `DROP`.
 pub(crate) fn is_definition(text: &str) -> bool {
     let mut tokens = Tokens::new(text);
-    match tokens.take() {
-        Some(token) => token.is_word("CREATE") || token.is_word("DROP"),
-        None => false,
-    }
+    tokens.takes_word("CREATE") || tokens.takes_word("DROP")
 }
 
 /// Reads a definition, as ``CREATE TABLE `T` (`A` CHAR(72) NOT NULL, `B` LONG PRIMARY KEY `A`)`` or
@@ -63,40 +65,47 @@ pub(crate) fn is_definition(text: &str) -> bool {
 ///
 /// # Errors
 /// Fails with `OutOfMemory`, and if the text is no definition.
-pub(crate) fn definition_of(alloc: Global, text: &str) -> Result<Definition, Failure> {
+pub(crate) fn definition_of<'a>(alloc: Global, text: &'a str) -> Result<Definition<'a>, Failure> {
     let mut tokens = Tokens::new(text);
-    let definition = if tokens.takes_word("CREATE") {
-        creation(alloc, &mut tokens)?
-    } else {
-        tokens.expect_word("DROP", "expected CREATE TABLE or DROP TABLE")?;
-        tokens.expect_word("TABLE", "expected TABLE")?;
-        let table = tokens.name()?.to_string(alloc)?;
-        Definition::Remove { table }
-    };
+    if tokens.takes_word("CREATE") {
+        return creation(alloc, &mut tokens);
+    }
+    tokens.expect_word("DROP", "expected CREATE TABLE or DROP TABLE")?;
+    let table = named_table(&mut tokens)?;
     tokens.expect_end()?;
-    Ok(definition)
+    Ok(Definition::Remove { table })
+}
+
+/// Reads `TABLE` and the name of a table.
+fn named_table<'a>(tokens: &mut Tokens<'a>) -> Result<&'a str, Failure> {
+    tokens.expect_word("TABLE", "expected TABLE")?;
+    tokens.name()
 }
 
 /// Reads what stands behind `CREATE`.
-fn creation(alloc: Global, tokens: &mut Tokens<'_>) -> Result<Definition, Failure> {
-    tokens.expect_word("TABLE", "expected TABLE")?;
-    let table = tokens.name()?.to_string(alloc)?;
-    tokens.expect('(', "expected an opening bracket")?;
-    let described = described_columns(alloc, tokens)?;
-    tokens.expect_word("PRIMARY", "expected a comma or PRIMARY KEY")?;
-    tokens.expect_word("KEY", "expected KEY")?;
-    let keys = names(alloc, tokens)?;
-    tokens.expect(')', "expected a closing bracket")?;
-    check_keys(described.as_slice(), keys.as_slice())?;
-    let columns = built_columns(alloc, described.as_slice(), keys.as_slice())?;
+fn creation<'a>(alloc: Global, tokens: &mut Tokens<'a>) -> Result<Definition<'a>, Failure> {
+    let table = named_table(tokens)?;
+    let columns = columns(alloc, tokens)?;
+    tokens.expect_end()?;
     Ok(Definition::Create { table, columns })
 }
 
-/// Reads columns, parted by commas.
-fn described_columns(alloc: Global, tokens: &mut Tokens<'_>) -> Result<Vec<Described>, Failure> {
+/// Reads the columns of a table, and which of them are its key.
+fn columns(alloc: Global, tokens: &mut Tokens<'_>) -> Result<Vec<Column>, Failure> {
+    let described = described_columns(alloc, tokens)?;
+    let keys = keys(alloc, tokens)?;
+    built_columns(alloc, described.as_slice(), keys.as_slice())
+}
+
+/// Reads columns, parted by commas, behind a bracket.
+fn described_columns<'a>(
+    alloc: Global,
+    tokens: &mut Tokens<'a>,
+) -> Result<Vec<Described<'a>>, Failure> {
+    tokens.expect('(', "expected an opening bracket")?;
     let mut columns = Vec::new(alloc);
     for _ in 0..MOST_COLUMNS {
-        columns.push(described_column(alloc, tokens)?)?;
+        columns.push(described_column(tokens)?)?;
         if !tokens.takes(',') {
             return Ok(columns);
         }
@@ -105,8 +114,8 @@ fn described_columns(alloc: Global, tokens: &mut Tokens<'_>) -> Result<Vec<Descr
 }
 
 /// Reads a column: its name, its type, and whether it takes null and can be localized.
-fn described_column(alloc: Global, tokens: &mut Tokens<'_>) -> Result<Described, Failure> {
-    let name = tokens.name()?.to_string(alloc)?;
+fn described_column<'a>(tokens: &mut Tokens<'a>) -> Result<Described<'a>, Failure> {
+    let name = tokens.name()?;
     let kind = column_type(tokens)?;
     let is_nullable = !tokens.takes_word("NOT");
     if !is_nullable {
@@ -152,11 +161,20 @@ fn length(tokens: &mut Tokens<'_>) -> Result<usize, Failure> {
     Ok(length)
 }
 
+/// Reads the key, and the bracket behind it.
+fn keys<'a>(alloc: Global, tokens: &mut Tokens<'a>) -> Result<Vec<&'a str>, Failure> {
+    tokens.expect_word("PRIMARY", "expected a comma or PRIMARY KEY")?;
+    tokens.expect_word("KEY", "expected KEY")?;
+    let names = names(alloc, tokens)?;
+    tokens.expect(')', "expected a closing bracket")?;
+    Ok(names)
+}
+
 /// Reads names, parted by commas.
-fn names(alloc: Global, tokens: &mut Tokens<'_>) -> Result<Vec<String>, Failure> {
+fn names<'a>(alloc: Global, tokens: &mut Tokens<'a>) -> Result<Vec<&'a str>, Failure> {
     let mut names = Vec::new(alloc);
     for _ in 0..MOST_COLUMNS {
-        names.push(tokens.name()?.to_string(alloc)?)?;
+        names.push(tokens.name()?)?;
         if !tokens.takes(',') {
             return Ok(names);
         }
@@ -164,36 +182,34 @@ fn names(alloc: Global, tokens: &mut Tokens<'_>) -> Result<Vec<String>, Failure>
     Err(Failure::rule(TOO_MANY))
 }
 
+/// Builds the columns.
+fn built_columns(
+    alloc: Global,
+    described: &[Described<'_>],
+    keys: &[&str],
+) -> Result<Vec<Column>, Failure> {
+    check_keys(described, keys)?;
+    let mut columns = Vec::new(alloc);
+    for column in described {
+        let is_key = keys.iter().any(|key| *key == column.name);
+        columns.push(built_column(alloc, column, is_key)?)?;
+    }
+    Ok(columns)
+}
+
 /// Fails if a name of the key is that of no column.
-fn check_keys(described: &[Described], keys: &[String]) -> Result<(), Failure> {
+fn check_keys(described: &[Described<'_>], keys: &[&str]) -> Result<(), Failure> {
     for key in keys {
-        if !described
-            .iter()
-            .any(|column| column.name.as_str() == key.as_str())
-        {
+        if !described.iter().any(|column| column.name == *key) {
             return Err(Failure::rule("a column of the key isn't there"));
         }
     }
     Ok(())
 }
 
-/// Builds the columns.
-fn built_columns(
-    alloc: Global,
-    described: &[Described],
-    keys: &[String],
-) -> Result<Vec<Column>, Error> {
-    let mut columns = Vec::new(alloc);
-    for column in described {
-        let is_key = keys.iter().any(|key| key.as_str() == column.name.as_str());
-        columns.push(built_column(alloc, column, is_key)?)?;
-    }
-    Ok(columns)
-}
-
 /// Builds a column.
-fn built_column(alloc: Global, described: &Described, is_key: bool) -> Result<Column, Error> {
-    let mut builder = Column::build(alloc, described.name.as_str())?;
+fn built_column(alloc: Global, described: &Described<'_>, is_key: bool) -> Result<Column, Error> {
+    let mut builder = Column::build(alloc, described.name)?;
     if is_key {
         builder = builder.primary_key();
     }

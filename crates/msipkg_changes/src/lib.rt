@@ -11,9 +11,9 @@ pub mod statements;
 pub mod streams;
 mod tokens;
 
-pub use create::{New, create_package};
+pub use create::{New, create_package, page_of};
 pub use held::{load, store, written};
-pub use properties::set_properties;
-pub use recounting::recount_package;
+pub use properties::{clear_property, set_properties, set_property};
+pub use recounting::{noted, recount_package};
 pub use statements::carry_out_statements;
-pub use streams::{add_streams, remove_streams};
+pub use streams::{add_streams, fill_stream, remove_streams};

@@ -1,7 +1,8 @@
 //! `summary FILE --set NAME=VALUE.. --clear NAME..`: properties of a package's summary.
 
+use crate::create::page_of;
 use crate::held::{load, store};
-use msi::{CodePage, Error, LanguageId, Memory, Package, SummaryInfo, Timestamp};
+use msi::{Error, LanguageId, Memory, Package, SummaryInfo, Timestamp};
 use msipkg_output::Failure;
 use std::alloc::Global;
 use std::fs::OpenFile;
@@ -11,6 +12,51 @@ use uuid::Uuid;
 
 /// How many nanoseconds a second has.
 const NANOSECONDS: i128 = 1_000_000_000;
+
+/// A property that can be set.
+#[derive(Clone, Copy)]
+enum Property {
+    Codepage,
+    Title,
+    Subject,
+    Author,
+    Keywords,
+    Comments,
+    Arch,
+    Languages,
+    Uuid,
+    LastSavedBy,
+    CreatingApplication,
+    LastPrinted,
+    CreationTime,
+    LastSavedTime,
+    PageCount,
+    WordCount,
+    CharacterCount,
+    DocSecurity,
+}
+
+/// The properties by their names.
+static PROPERTIES: [(&str, Property); 18] = [
+    ("codepage", Property::Codepage),
+    ("title", Property::Title),
+    ("subject", Property::Subject),
+    ("author", Property::Author),
+    ("keywords", Property::Keywords),
+    ("comments", Property::Comments),
+    ("arch", Property::Arch),
+    ("languages", Property::Languages),
+    ("uuid", Property::Uuid),
+    ("last_saved_by", Property::LastSavedBy),
+    ("creating_application", Property::CreatingApplication),
+    ("last_printed", Property::LastPrinted),
+    ("creation_time", Property::CreationTime),
+    ("last_saved_time", Property::LastSavedTime),
+    ("page_count", Property::PageCount),
+    ("word_count", Property::WordCount),
+    ("character_count", Property::CharacterCount),
+    ("doc_security", Property::DocSecurity),
+];
 
 /// Sets properties, each given as `NAME=VALUE`, and then clears others: all, or none of them.
 ///
@@ -45,12 +91,7 @@ fn set_all(
     for pair in pairs {
         set_pair(alloc, summary, pair)?;
     }
-    for name in cleared {
-        if let Err(failure) = clear(summary, name) {
-            return Err(failure.at(alloc, "property", name));
-        }
-    }
-    Ok(())
+    clear_all(alloc, summary, cleared)
 }
 
 /// Sets the property of a pair.
@@ -58,40 +99,52 @@ fn set_pair(alloc: Global, summary: &mut SummaryInfo, pair: &str) -> Result<(), 
     let Some((name, value)) = pair.split_once('=') else {
         return Err(Failure::rule("it isn't of the form NAME=VALUE").at(alloc, "word", pair));
     };
-    match set(alloc, summary, name, value) {
-        Ok(()) => Ok(()),
-        Err(failure) => Err(failure.at(alloc, "property", name)),
+    set_property(alloc, summary, name, value).map_err(|failure| failure.at(alloc, "property", name))
+}
+
+/// Sets the property of a name to the value that a text stands for.
+///
+/// # Errors
+/// Fails if there is no such property, if it doesn't take the value, and with `OutOfMemory`.
+pub fn set_property(
+    alloc: Global,
+    summary: &mut SummaryInfo,
+    name: &str,
+    value: &str,
+) -> Result<(), Failure> {
+    match property_named(name) {
+        Some(property) => set(alloc, summary, property, value),
+        None => Err(no_property()),
     }
 }
 
-/// Sets a property.
-fn set(alloc: Global, summary: &mut SummaryInfo, name: &str, value: &str) -> Result<(), Failure> {
-    match name {
-        "last_printed" | "creation_time" | "last_saved_time" => set_time(summary, name, value),
-        "page_count" | "word_count" | "character_count" | "doc_security" => {
-            set_number(summary, name, value)
+/// Clears properties.
+fn clear_all(alloc: Global, summary: &mut SummaryInfo, names: &[&str]) -> Result<(), Failure> {
+    for name in names {
+        clear_property(summary, name).map_err(|failure| failure.at(alloc, "property", name))?;
+    }
+    Ok(())
+}
+
+/// Clears the property of a name.
+///
+/// # Errors
+/// Fails if there is no such property that can be cleared, and with `OutOfMemory`.
+pub fn clear_property(summary: &mut SummaryInfo, name: &str) -> Result<(), Failure> {
+    match property_named(name) {
+        Some(property) => clear(summary, property),
+        None => Err(no_property()),
+    }
+}
+
+/// The property of a name.
+fn property_named(name: &str) -> Option<Property> {
+    for (known, property) in &PROPERTIES {
+        if *known == name {
+            return Some(*property);
         }
-        "codepage" => set_page(summary, value),
-        "uuid" => set_uuid(summary, value),
-        "keywords" => set_keywords(alloc, summary, value),
-        "languages" => set_languages(alloc, summary, value),
-        _ => set_text(summary, name, value),
     }
-}
-
-/// Sets a property that is a text.
-fn set_text(summary: &mut SummaryInfo, name: &str, value: &str) -> Result<(), Failure> {
-    let set: Result<(), Error> = match name {
-        "title" => summary.set_title(value),
-        "subject" => summary.set_subject(value),
-        "author" => summary.set_author(value),
-        "comments" => summary.set_comments(value),
-        "arch" => summary.set_arch(value),
-        "last_saved_by" => summary.set_last_saved_by(value),
-        "creating_application" => summary.set_creating_application(value),
-        _ => return Err(no_property()),
-    };
-    Ok(set?)
+    None
 }
 
 /// The error of a name that no property has.
@@ -99,35 +152,75 @@ fn no_property() -> Failure {
     Failure::rule("there is no property of this name that can be set")
 }
 
+/// Sets a property.
+fn set(
+    alloc: Global,
+    summary: &mut SummaryInfo,
+    property: Property,
+    value: &str,
+) -> Result<(), Failure> {
+    match property {
+        Property::Codepage => set_page(summary, value),
+        Property::Uuid => set_uuid(summary, value),
+        Property::Keywords => set_keywords(alloc, summary, value),
+        Property::Languages => set_languages(alloc, summary, value),
+        Property::LastPrinted | Property::CreationTime | Property::LastSavedTime => {
+            set_time(summary, property, value)
+        }
+        Property::PageCount
+        | Property::WordCount
+        | Property::CharacterCount
+        | Property::DocSecurity => set_number(summary, property, value),
+        _ => Ok(set_text(summary, property, value)?),
+    }
+}
+
+/// Sets a property that is a text.
+fn set_text(summary: &mut SummaryInfo, property: Property, value: &str) -> Result<(), Error> {
+    match property {
+        Property::Title => summary.set_title(value),
+        Property::Subject => summary.set_subject(value),
+        Property::Author => summary.set_author(value),
+        Property::Comments => summary.set_comments(value),
+        Property::Arch => summary.set_arch(value),
+        Property::LastSavedBy => summary.set_last_saved_by(value),
+        _ => summary.set_creating_application(value),
+    }
+}
+
 /// Sets a property that is a number.
-fn set_number(summary: &mut SummaryInfo, name: &str, value: &str) -> Result<(), Failure> {
+fn set_number(summary: &mut SummaryInfo, property: Property, value: &str) -> Result<(), Failure> {
     let Ok(number) = value.parse::<i32>() else {
         return Err(Failure::rule("its value has to be a number of 32 bits"));
     };
-    let set: Result<(), Error> = match name {
-        "page_count" => summary.set_page_count(number),
-        "word_count" => summary.set_word_count(number),
-        "character_count" => summary.set_character_count(number),
+    let set: Result<(), Error> = match property {
+        Property::PageCount => summary.set_page_count(number),
+        Property::WordCount => summary.set_word_count(number),
+        Property::CharacterCount => summary.set_character_count(number),
         _ => summary.set_doc_security(number),
     };
     Ok(set?)
 }
 
 /// Sets a property that is a time.
-fn set_time(summary: &mut SummaryInfo, name: &str, value: &str) -> Result<(), Failure> {
+fn set_time(summary: &mut SummaryInfo, property: Property, value: &str) -> Result<(), Failure> {
     let Some(time) = time_of(value) else {
         return Err(Failure::rule("its value has to be a time such as 2024-02-29T12:00:00Z"));
     };
-    let set: Result<(), Error> = match name {
-        "last_printed" => summary.set_last_printed(time),
-        "creation_time" => summary.set_creation_time(time),
+    let set: Result<(), Error> = match property {
+        Property::LastPrinted => summary.set_last_printed(time),
+        Property::CreationTime => summary.set_creation_time(time),
         _ => summary.set_last_save_time(time),
     };
     Ok(set?)
 }
 
-/// The time of a text, if it is one as ISO 8601 has it, as `2024-02-29T12:00:00Z`.
+/// The time of a text, if it is one as `summary` prints it: as ISO 8601 has it, as `2024-02-29T12:00:00Z`, or a number
+/// of ticks.
 fn time_of(text: &str) -> Option<Timestamp> {
+    if let Some(number) = text.strip_suffix(" ticks") {
+        return Some(Timestamp::from_ticks(number.parse::<u64>().ok()?));
+    }
     let instant = text.parse::<jiff::Timestamp>().ok()?;
     let nanoseconds = instant.as_nanosecond();
     let seconds = i64::try_from(nanoseconds.div_euclid(NANOSECONDS)).ok()?;
@@ -137,14 +230,7 @@ fn time_of(text: &str) -> Option<Timestamp> {
 
 /// Sets the code page of the summary.
 fn set_page(summary: &mut SummaryInfo, value: &str) -> Result<(), Failure> {
-    let known = match value.parse::<i32>() {
-        Ok(number) => CodePage::from_id(number),
-        Err(_) => None,
-    };
-    match known {
-        Some(page) => Ok(summary.set_codepage(page)?),
-        None => Err(Failure::rule("there is no code page of this number")),
-    }
+    Ok(summary.set_codepage(page_of(value)?)?)
 }
 
 /// Sets the UUID of the package.
@@ -178,35 +264,34 @@ fn set_languages(alloc: Global, summary: &mut SummaryInfo, value: &str) -> Resul
     Ok(summary.set_languages(languages.as_slice())?)
 }
 
-/// Clears a property.
-fn clear(summary: &mut SummaryInfo, name: &str) -> Result<(), Failure> {
-    match name {
-        "keywords" => summary.clear_keywords()?,
-        "arch" => summary.clear_arch()?,
-        "languages" => summary.clear_languages()?,
-        _ => return clear_plain(summary, name),
+/// Clears a property. There is always a code page, so that one isn't cleared.
+fn clear(summary: &mut SummaryInfo, property: Property) -> Result<(), Failure> {
+    match property {
+        Property::Codepage => return Err(no_property()),
+        Property::Keywords => summary.clear_keywords()?,
+        Property::Arch => summary.clear_arch()?,
+        Property::Languages => summary.clear_languages()?,
+        _ => clear_plain(summary, property),
     }
     Ok(())
 }
 
 /// Clears a property that has a value of its own.
-fn clear_plain(summary: &mut SummaryInfo, name: &str) -> Result<(), Failure> {
-    match name {
-        "title" => summary.clear_title(),
-        "subject" => summary.clear_subject(),
-        "author" => summary.clear_author(),
-        "comments" => summary.clear_comments(),
-        "last_saved_by" => summary.clear_last_saved_by(),
-        "creating_application" => summary.clear_creating_application(),
-        "uuid" => summary.clear_uuid(),
-        "last_printed" => summary.clear_last_printed(),
-        "creation_time" => summary.clear_creation_time(),
-        "last_saved_time" => summary.clear_last_save_time(),
-        "page_count" => summary.clear_page_count(),
-        "word_count" => summary.clear_word_count(),
-        "character_count" => summary.clear_character_count(),
-        "doc_security" => summary.clear_doc_security(),
-        _ => return Err(no_property()),
+fn clear_plain(summary: &mut SummaryInfo, property: Property) {
+    match property {
+        Property::Title => summary.clear_title(),
+        Property::Subject => summary.clear_subject(),
+        Property::Author => summary.clear_author(),
+        Property::Comments => summary.clear_comments(),
+        Property::LastSavedBy => summary.clear_last_saved_by(),
+        Property::CreatingApplication => summary.clear_creating_application(),
+        Property::Uuid => summary.clear_uuid(),
+        Property::LastPrinted => summary.clear_last_printed(),
+        Property::CreationTime => summary.clear_creation_time(),
+        Property::LastSavedTime => summary.clear_last_save_time(),
+        Property::PageCount => summary.clear_page_count(),
+        Property::WordCount => summary.clear_word_count(),
+        Property::CharacterCount => summary.clear_character_count(),
+        _ => summary.clear_doc_security(),
     }
-    Ok(())
 }

@@ -1,7 +1,7 @@
 //! `check FILE.. --fix`: the counts of a package's texts.
 
 use crate::held::{load, store};
-use msi::{Memory, Package};
+use msi::{ErrorKind, Memory, Package};
 use msipkg_output::Failure;
 use std::fs::OpenFile;
 use std::io::{Read, Seek, Write};
@@ -24,4 +24,24 @@ where
         store(rt, file, package, notes)?;
     }
     Ok(changed)
+}
+
+/// Returns the failure of a change, with the note that counting the package anew mends it, if that is so. The package
+/// is counted anew then.
+pub fn noted(package: &mut Package<Memory>, failure: Failure) -> Failure {
+    if failure.is_invalid_data() && is_mended_by_counting(package) {
+        failure.mended_by_counting()
+    } else {
+        failure
+    }
+}
+
+/// Whether the counts of a package are too low for a change, and can be mended. The page is set to itself, which is a
+/// change like any other.
+fn is_mended_by_counting(package: &mut Package<Memory>) -> bool {
+    let page = package.database_codepage();
+    match package.set_database_codepage(page) {
+        Err(error) if matches!(error.kind(), ErrorKind::InvalidData) => package.recount().is_ok(),
+        _ => false,
+    }
 }

@@ -3,6 +3,7 @@
 use crate::applied::{apply_definition, apply_statement};
 use crate::definition::{definition_of, is_definition};
 use crate::held::{load, store};
+use crate::recounting::noted;
 use msi::{Memory, Package, Parse, Statement};
 use msipkg_output::Failure;
 use std::alloc::Global;
@@ -51,7 +52,7 @@ fn apply_texts(
 ) -> Result<(), Failure> {
     for text in texts {
         if let Err(failure) = apply_text(alloc, package, text) {
-            return Err(failure.at(alloc, "statement", text));
+            return Err(noted(package, failure.at(alloc, "statement", text)));
         }
     }
     Ok(())

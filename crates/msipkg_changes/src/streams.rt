@@ -56,7 +56,10 @@ where
 }
 
 /// Makes the stream of a name, or empties it, and fills it.
-fn fill_stream(package: &mut Package<Memory>, name: &str, bytes: &[u8]) -> Result<(), Failure> {
+///
+/// # Errors
+/// Fails if no stream may have the name, and with `OutOfMemory`.
+pub fn fill_stream(package: &mut Package<Memory>, name: &str, bytes: &[u8]) -> Result<(), Failure> {
     package.write_stream(name)?.write_all(bytes)?;
     Ok(())
 }

@@ -3,7 +3,7 @@
 use msipkg_output::Failure;
 
 /// A piece of a text.
-#[derive(Clone, Copy, Debug)]
+#[derive(Clone, Copy)]
 pub(crate) enum Token<'a> {
     /// Letters, digits, dots and underscores: a key word, a number or a bare name.
     Word(&'a str),

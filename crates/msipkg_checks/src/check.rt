@@ -29,29 +29,26 @@ where
     O: Write,
 {
     let mut package = open_package(rt, file)?;
-    write_report(rt.alloc(), style, file, is_json, &mut package, output)
+    let report = Report::new(rt.alloc(), style, file, is_json)?;
+    write_report(rt.alloc(), &mut package, report, output)
 }
 
 /// Writes the errors in a package, and returns whether there is none.
 fn write_report<F: Source, W: Write>(
     alloc: Global,
-    style: Style,
-    file: &str,
-    is_json: bool,
     package: &mut Package<F>,
+    mut report: Report<'_>,
     output: &mut W,
 ) -> Result<bool, Failure> {
-    let mut report = Report::new(alloc);
     find_errors(alloc, package, &mut report)?;
-    report.print(style, file, is_json, output)?;
-    Ok(report.is_empty())
+    Ok(report.print(output)?)
 }
 
 /// Finds the errors in a package. The counts come last, since counting anew changes the package in memory.
 fn find_errors<F: Source>(
     alloc: Global,
     package: &mut Package<F>,
-    report: &mut Report,
+    report: &mut Report<'_>,
 ) -> Result<(), Failure> {
     check_values(alloc, package, report)?;
     check_references(alloc, package, report)?;

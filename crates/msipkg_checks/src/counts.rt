@@ -1,8 +1,9 @@
 //! Reference counts of the string pool that are wrong.
 
-use crate::report::Report;
+use crate::report::{Place, Report};
 use msi::{Error, ErrorKind, Package, Source};
 use msipkg_output::Failure;
+use std::fmt;
 
 /// Finds out whether the counts of the texts are too low, so that each change of the tables is refused, and how many
 /// of them are wrong. The package is counted anew in memory. One with storages below its root isn't looked at: it is
@@ -12,7 +13,7 @@ use msipkg_output::Failure;
 /// Fails with `OutOfMemory`.
 pub(crate) fn check_counts<F: Source>(
     package: &mut Package<F>,
-    report: &mut Report,
+    report: &mut Report<'_>,
 ) -> Result<(), Failure> {
     let page = package.database_codepage();
     if let Err(error) = package.set_database_codepage(page) {
@@ -23,8 +24,18 @@ pub(crate) fn check_counts<F: Source>(
     }
     match package.recount() {
         Ok(0) => Ok(()),
-        Ok(changed) => Ok(report.add_counts(changed)?),
+        Ok(changed) => Ok(report.add(Place::Pool, &WrongCounts(changed))?),
         Err(error) => add_error(error, report),
+    }
+}
+
+/// How many texts have a wrong count.
+#[derive(Clone, Copy)]
+struct WrongCounts(u32);
+
+impl fmt::Display for WrongCounts {
+    fn fmt<W: fmt::Write>(&self, f: &mut fmt::Formatter<W>) -> fmt::Result {
+        write!(f, "{} texts have a wrong reference count", self.0)
     }
 }
 
@@ -32,9 +43,9 @@ pub(crate) fn check_counts<F: Source>(
 ///
 /// # Errors
 /// Fails with `OutOfMemory`, also where that is the error.
-fn add_error(error: Error, report: &mut Report) -> Result<(), Failure> {
+fn add_error(error: Error, report: &mut Report<'_>) -> Result<(), Failure> {
     if error.kind() == ErrorKind::OutOfMemory {
         return Err(Failure::from(error));
     }
-    Ok(report.add_pool(&error)?)
+    Ok(report.add(Place::Pool, &error)?)
 }

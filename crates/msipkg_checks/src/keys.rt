@@ -20,22 +20,26 @@ pub(crate) fn key_text(alloc: Global, value: &Value) -> Result<Option<String>, A
 
 /// Columns with the texts of their values. A column is read once, however many foreign keys refer to it, and a text is
 /// held once, however many columns have it.
-#[derive(Drop)]
 pub(crate) struct KeyColumns {
     alloc: Global,
     /// The number of each text.
     texts: BTreeMap<String, usize>,
     /// The number of each column, by its place in its table and the table's name.
     columns: BTreeMap<String, usize>,
-    /// Which column has which text.
-    keys: BTreeSet<Key>,
+    /// Which column has which text, each by its number.
+    keys: BTreeSet<(usize, usize)>,
 }
 
-/// A text of a column, each by its number.
-#[derive(Clone, Copy, Debug, PartialEq, Eq, PartialOrd, Ord, Hash)]
-struct Key {
-    column: usize,
-    text: usize,
+/// Written out, so that a function that owns one calls one drop, and its proof doesn't go through those of the parts.
+impl Drop for KeyColumns {
+    fn drop(self) {
+        let KeyColumns {
+            alloc: _,
+            texts: _,
+            columns: _,
+            keys: _,
+        } = self;
+    }
 }
 
 impl KeyColumns {
@@ -88,7 +92,7 @@ impl KeyColumns {
     fn add_value(&mut self, column: usize, value: &Value) -> Result<(), AllocError> {
         if let Some(text) = key_text(self.alloc, value)? {
             let text = self.text_number(text)?;
-            self.keys.insert(Key { column, text })?;
+            self.keys.insert((column, text))?;
         }
         Ok(())
     }
@@ -109,11 +113,7 @@ impl KeyColumns {
             return false;
         };
         for column in columns {
-            let key = Key {
-                column: *column,
-                text: *text,
-            };
-            if self.keys.contains(&key) {
+            if self.keys.contains(&(*column, *text)) {
                 return true;
             }
         }

@@ -2,18 +2,27 @@
 
 use crate::keys::{KeyColumns, key_text};
 use crate::reading::pass_over;
-use crate::report::{Cell, Report};
+use crate::report::{Place, Report};
 use msi::{Package, Row, Rows, Select, Source, Table};
 use msipkg_output::Failure;
-use std::alloc::Global;
+use std::alloc::{AllocError, Global};
 use std::collections::BTreeSet;
 
 /// A column with a foreign key, and the numbers of the columns to which it refers.
-#[derive(Drop)]
 struct Reference {
     /// The column's place in its table, from 0.
     place: usize,
     targets: BTreeSet<usize>,
+}
+
+/// Written out, so that a function that owns one calls one drop, and its proof doesn't go through those of the parts.
+impl Drop for Reference {
+    fn drop(self) {
+        let Reference {
+            place: _,
+            targets: _,
+        } = self;
+    }
 }
 
 /// Finds the values of columns with a foreign key that no row has of the tables to which it refers. Tables that can't
@@ -24,7 +33,7 @@ struct Reference {
 pub(crate) fn check_references<F: Source>(
     alloc: Global,
     package: &Package<F>,
-    report: &mut Report,
+    report: &mut Report<'_>,
 ) -> Result<(), Failure> {
     let mut keys = KeyColumns::new(alloc);
     for table in package.tables() {
@@ -39,7 +48,7 @@ fn check_table<F: Source>(
     package: &Package<F>,
     table: &Table,
     keys: &mut KeyColumns,
-    report: &mut Report,
+    report: &mut Report<'_>,
 ) -> Result<(), Failure> {
     let references = references_of(alloc, package, table, keys)?;
     if references.is_empty() {
@@ -93,16 +102,29 @@ fn check_rows(
     rows: Rows<'_>,
     references: &[Reference],
     keys: &KeyColumns,
-    report: &mut Report,
+    report: &mut Report<'_>,
 ) -> Result<(), Failure> {
     let mut number = 0usize;
     for row in rows {
         number = number.saturating_add(1);
-        let row = row?;
-        for reference in references {
-            if !is_met(alloc, &row, reference, keys)? {
-                add_missing(table, number, reference.place, report)?;
-            }
+        check_row(alloc, table, number, &row?, references, keys, report)?;
+    }
+    Ok(())
+}
+
+/// Finds the values of a row whose foreign keys no row has.
+fn check_row(
+    alloc: Global,
+    table: &Table,
+    number: usize,
+    row: &Row,
+    references: &[Reference],
+    keys: &KeyColumns,
+    report: &mut Report<'_>,
+) -> Result<(), AllocError> {
+    for reference in references {
+        if !is_met(alloc, row, reference, keys)? {
+            add_missing(table, number, reference.place, report)?;
         }
     }
     Ok(())
@@ -114,7 +136,7 @@ fn is_met(
     row: &Row,
     reference: &Reference,
     keys: &KeyColumns,
-) -> Result<bool, Failure> {
+) -> Result<bool, AllocError> {
     if reference.place >= row.len() {
         return Ok(true);
     }
@@ -129,15 +151,15 @@ fn add_missing(
     table: &Table,
     row: usize,
     place: usize,
-    report: &mut Report,
-) -> Result<(), Failure> {
-    if let Some(column) = table.columns().get(place) {
-        let cell = Cell {
-            table: table.name(),
-            row,
-            column: column.name(),
-        };
-        report.add_cell(cell, "no row has this key")?;
-    }
-    Ok(())
+    report: &mut Report<'_>,
+) -> Result<(), AllocError> {
+    let Some(column) = table.columns().get(place) else {
+        return Ok(());
+    };
+    let cell = Place::Cell {
+        table: table.name(),
+        row,
+        column: column.name(),
+    };
+    report.add(cell, &"no row has this key")
 }

@@ -1,147 +1,159 @@
 //! The errors that a check finds in a package, each with its place.
 
-use msi::Error;
 use msipkg_output::json::{self, JsonObject};
 use msipkg_output::{Shown, Style};
 use std::alloc::{AllocError, Global};
+use std::fmt;
 use std::io::{self, Write};
 
-/// The place of an error of the string pool.
-const POOL: &str = "string pool";
+/// Where an error is. Rows are counted from 1.
+#[derive(Clone, Copy)]
+pub(crate) enum Place<'a> {
+    Pool,
+    Stream(&'a str),
+    Table(&'a str),
+    Column {
+        table: &'a str,
+        column: &'a str,
+    },
+    Cell {
+        table: &'a str,
+        row: usize,
+        column: &'a str,
+    },
+}
 
-/// An error in a package: where it is, and what is wrong there.
-#[derive(Drop)]
-struct Finding {
-    place: String,
-    message: String,
+impl fmt::Display for Place<'_> {
+    fn fmt<W: fmt::Write>(&self, f: &mut fmt::Formatter<W>) -> fmt::Result {
+        match *self {
+            Place::Pool => f.write_str("string pool"),
+            Place::Stream(name) => write!(f, "stream {}", Shown::escaped(name)),
+            Place::Table(name) => write!(f, "table {}", Shown::escaped(name)),
+            Place::Column { table, column } => write!(
+                f,
+                "table {}: column {}",
+                Shown::escaped(table),
+                Shown::escaped(column)
+            ),
+            Place::Cell { table, row, column } => write!(
+                f,
+                "table {}: row {row}, column {}",
+                Shown::escaped(table),
+                Shown::escaped(column)
+            ),
+        }
+    }
 }
 
 /// The errors of a package, in the order in which they are found.
-#[derive(Drop)]
-pub(crate) struct Report {
-    alloc: Global,
-    findings: Vec<Finding>,
+pub(crate) struct Report<'a> {
+    style: Style,
+    file: &'a str,
+    text: ReportText,
+    is_empty: bool,
 }
 
-impl Report {
-    /// Returns a report without errors.
-    pub(crate) fn new(alloc: Global) -> Report {
-        Report {
-            alloc,
-            findings: Vec::new(alloc),
-        }
+/// Written out, so that a function that owns one calls one drop, and its proof doesn't go through those of the parts.
+impl Drop for Report<'_> {
+    fn drop(self) {
+        let Report {
+            style: _,
+            file: _,
+            text: _,
+            is_empty: _,
+        } = self;
     }
+}
 
-    /// Returns whether no error was found.
-    pub(crate) fn is_empty(&self) -> bool {
-        self.findings.is_empty()
+/// The errors as they are printed.
+#[derive(Drop)]
+enum ReportText {
+    /// An object with the list of the errors, which is open.
+    Json(JsonObject),
+    Lines(String),
+}
+
+impl<'a> Report<'a> {
+    /// Returns the report of a file, without errors.
+    ///
+    /// # Errors
+    /// Fails if memory is refused, and so do the other calls.
+    pub(crate) fn new(
+        alloc: Global,
+        style: Style,
+        file: &'a str,
+        is_json: bool,
+    ) -> Result<Report<'a>, AllocError> {
+        let text = if is_json {
+            ReportText::Json(object_of(alloc, file)?)
+        } else {
+            ReportText::Lines(String::new(alloc))
+        };
+        Ok(Report {
+            style,
+            file,
+            text,
+            is_empty: true,
+        })
     }
 
     /// Adds an error.
-    ///
-    /// # Errors
-    /// Fails if memory is refused, and so do the other calls that add one.
-    fn add(&mut self, place: String, message: String) -> Result<(), AllocError> {
-        Ok(self.findings.push(Finding { place, message })?)
-    }
-
-    /// Adds an error of a part of the package, as `table` and `Property`.
-    pub(crate) fn add_part(
+    pub(crate) fn add<M: fmt::Display>(
         &mut self,
-        kind: &str,
-        name: &str,
-        message: &str,
+        place: Place<'_>,
+        message: &M,
     ) -> Result<(), AllocError> {
-        let name = Shown::escaped(name);
-        let place = format!(in self.alloc; "{kind} {name}")?;
-        self.add(place, String::from_str(self.alloc, message)?)
+        self.is_empty = false;
+        match &mut self.text {
+            ReportText::Json(object) => put_error(place, message, object),
+            ReportText::Lines(lines) => {
+                writeln!(lines, "{}: {place}: {message}", self.style.show(self.file))
+            }
+        }
     }
 
-    /// Adds an error with which a table can't be read.
-    pub(crate) fn add_table(&mut self, table: &str, error: &Error) -> Result<(), AllocError> {
-        let message = error.to_string(self.alloc)?;
-        self.add_part("table", table, message.as_str())
-    }
-
-    /// Adds an error of a cell.
-    pub(crate) fn add_cell(&mut self, cell: Cell<'_>, message: &str) -> Result<(), AllocError> {
-        let (table, column) = (Shown::escaped(cell.table), Shown::escaped(cell.column));
-        let row = cell.row;
-        let place = format!(in self.alloc; "table {table}: row {row}, column {column}")?;
-        self.add(place, String::from_str(self.alloc, message)?)
-    }
-
-    /// Adds an error of a column.
-    pub(crate) fn add_column(
-        &mut self,
-        table: &str,
-        column: &str,
-        message: &str,
-    ) -> Result<(), AllocError> {
-        let (table, column) = (Shown::escaped(table), Shown::escaped(column));
-        let place = format!(in self.alloc; "table {table}: column {column}")?;
-        self.add(place, String::from_str(self.alloc, message)?)
-    }
-
-    /// Adds that so many texts of the string pool have a wrong count.
-    pub(crate) fn add_counts(&mut self, count: u32) -> Result<(), AllocError> {
-        let place = String::from_str(self.alloc, POOL)?;
-        let message = format!(in self.alloc; "{count} texts have a wrong reference count")?;
-        self.add(place, message)
-    }
-
-    /// Adds an error of the string pool.
-    pub(crate) fn add_pool(&mut self, error: &Error) -> Result<(), AllocError> {
-        let place = String::from_str(self.alloc, POOL)?;
-        self.add(place, error.to_string(self.alloc)?)
-    }
-
-    /// Prints each error on a line behind the file's path, or all of them as JSON on one line.
+    /// Writes each error on a line behind the file's path, or all of them as JSON on one line. Returns whether there is
+    /// none.
     ///
     /// # Errors
     /// Fails as the writer does, and if memory is refused.
-    pub(crate) fn print<W: Write>(
-        &self,
-        style: Style,
-        file: &str,
-        is_json: bool,
-        output: &mut W,
-    ) -> io::Result<()> {
-        if is_json {
-            return json::write_line(style, self.to_json(file)?.as_str(), output);
+    pub(crate) fn print<W: Write>(self, output: &mut W) -> io::Result<bool> {
+        let Report {
+            style,
+            file: _,
+            text,
+            is_empty,
+        } = self;
+        match text {
+            ReportText::Json(object) => write_object(style, object, output)?,
+            ReportText::Lines(lines) => output.write_all(lines.as_bytes())?,
         }
-        for finding in &self.findings {
-            let (place, message) = (finding.place.as_str(), finding.message.as_str());
-            writeln!(output, "{}: {place}: {message}", style.show(file))?;
-        }
-        Ok(())
-    }
-
-    /// Returns the errors of a file as JSON.
-    fn to_json(&self, file: &str) -> Result<String, AllocError> {
-        let mut items = Vec::new(self.alloc);
-        for finding in &self.findings {
-            items.push(finding_json(self.alloc, finding)?)?;
-        }
-        let mut object = JsonObject::new(self.alloc)?;
-        object.put_text("file", Some(file))?;
-        object.put_json("errors", json::list(self.alloc, items.as_slice())?.as_str())?;
-        object.finish()
+        Ok(is_empty)
     }
 }
 
-/// The place of a cell. Rows are counted from 1.
-#[derive(Clone, Copy)]
-pub(crate) struct Cell<'a> {
-    pub(crate) table: &'a str,
-    pub(crate) row: usize,
-    pub(crate) column: &'a str,
-}
-
-/// Returns an error as JSON.
-fn finding_json(alloc: Global, finding: &Finding) -> Result<String, AllocError> {
+/// An object with the path of a file, and an open list of errors.
+fn object_of(alloc: Global, file: &str) -> Result<JsonObject, AllocError> {
     let mut object = JsonObject::new(alloc)?;
-    object.put_text("place", Some(finding.place.as_str()))?;
-    object.put_text("message", Some(finding.message.as_str()))?;
-    object.finish()
+    object.put_text("file", Some(file))?;
+    object.open_list("errors")?;
+    Ok(object)
+}
+
+/// Puts an error into the list.
+fn put_error<M: fmt::Display>(
+    place: Place<'_>,
+    message: &M,
+    object: &mut JsonObject,
+) -> Result<(), AllocError> {
+    object.open_item()?;
+    object.put_shown("place", &place)?;
+    object.put_shown("message", message)?;
+    object.close_item()
+}
+
+/// Closes the list of errors, and writes the object.
+fn write_object<W: Write>(style: Style, mut object: JsonObject, output: &mut W) -> io::Result<()> {
+    object.close_list()?;
+    json::write_line(style, object.finish()?.as_str(), output)
 }

@@ -1,10 +1,9 @@
 //! Streams that no row names, and rows whose stream isn't there.
 
-use crate::keys::key_text;
 use crate::reading::pass_over;
-use crate::report::Report;
-use msi::{Column, ColumnType, Package, Row, Rows, Select, Source, Table, Value};
-use msipkg_output::Failure;
+use crate::report::{Place, Report};
+use msi::{ColumnType, Package, Row, Rows, Select, Source, Table, Value};
+use msipkg_output::{Failure, stream_name};
 use std::alloc::{AllocError, Global};
 use std::collections::BTreeSet;
 
@@ -16,7 +15,7 @@ use std::collections::BTreeSet;
 pub(crate) fn check_streams<F: Source>(
     alloc: Global,
     package: &Package<F>,
-    report: &mut Report,
+    report: &mut Report<'_>,
 ) -> Result<(), Failure> {
     let mut names = BTreeSet::new(alloc);
     for table in package.tables() {
@@ -31,33 +30,42 @@ pub(crate) fn check_streams<F: Source>(
 fn check_unnamed<F: Source>(
     package: &Package<F>,
     names: &BTreeSet<String>,
-    report: &mut Report,
+    report: &mut Report<'_>,
 ) -> Result<(), Failure> {
-    for stream in package.streams() {
-        let stream = stream?;
-        let name = stream.as_str();
-        if !package.has_stream(name) {
-            let message = "it isn't found under its name, which is stored in another form";
-            report.add_part("stream", name, message)?;
-        } else if !names.contains(name) {
-            report.add_part("stream", name, "no row names it")?;
-        }
+    for name in package.streams() {
+        check_stream(package, names, name?.as_str(), report)?;
     }
     Ok(())
+}
+
+/// Adds an error if a stream isn't found under its name, or if its name isn't among these.
+fn check_stream<F: Source>(
+    package: &Package<F>,
+    names: &BTreeSet<String>,
+    name: &str,
+    report: &mut Report<'_>,
+) -> Result<(), AllocError> {
+    let message = if !package.has_stream(name) {
+        "it isn't found under its name, which is stored in another form"
+    } else if !names.contains(name) {
+        "no row names it"
+    } else {
+        return Ok(());
+    };
+    report.add(Place::Stream(name), &message)
 }
 
 /// Finds the names for which there is no stream.
 fn check_missing<F: Source>(
     package: &Package<F>,
     names: &BTreeSet<String>,
-    report: &mut Report,
+    report: &mut Report<'_>,
 ) -> Result<(), Failure> {
     for name in names {
         if !package.has_stream(name.as_str()) {
-            report.add_part(
-                "stream",
-                name.as_str(),
-                "a row names it, and it isn't there",
+            report.add(
+                Place::Stream(name.as_str()),
+                &"a row names it, and it isn't there",
             )?;
         }
     }
@@ -100,7 +108,7 @@ fn add_row_names(
     for row in rows {
         let row = row?;
         if has_stream(&row) {
-            names.insert(stream_name(alloc, table, &row)?)?;
+            names.insert(stream_name(alloc, table.name(), &row)?)?;
         }
     }
     Ok(())
@@ -114,27 +122,6 @@ fn has_stream(row: &Row) -> bool {
         }
     }
     false
-}
-
-/// Returns the name of a row's stream: its table and the values of its key, parted by dots.
-fn stream_name(alloc: Global, table: &Table, row: &Row) -> Result<String, AllocError> {
-    let columns: &[Column] = table.columns();
-    let mut name = String::from_str(alloc, table.name())?;
-    for i in 0..row.len().min(columns.len()) {
-        if columns[i].is_primary_key() {
-            push_key(alloc, &row[i], &mut name)?;
-        }
-    }
-    Ok(name)
-}
-
-/// Puts a dot and a value of a key behind a name.
-fn push_key(alloc: Global, value: &Value, name: &mut String) -> Result<(), AllocError> {
-    name.push('.')?;
-    match key_text(alloc, value)? {
-        Some(text) => name.push_str(text.as_str()),
-        None => Ok(()),
-    }
 }
 
 /// Adds the names of the cabinets that are streams.

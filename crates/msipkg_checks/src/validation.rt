@@ -1,7 +1,7 @@
 //! Rows of `_Validation` for columns that aren't there.
 
 use crate::reading::pass_over;
-use crate::report::Report;
+use crate::report::{Place, Report};
 use msi::{Package, Row, Rows, Select, Source, Value};
 use msipkg_output::Failure;
 use std::alloc::Global;
@@ -14,7 +14,7 @@ use std::alloc::Global;
 pub(crate) fn check_validation<F: Source>(
     alloc: Global,
     package: &Package<F>,
-    report: &mut Report,
+    report: &mut Report<'_>,
 ) -> Result<(), Failure> {
     let query = Select::table(alloc, "_Validation")?.columns(&["Table", "Column"])?;
     match package.select_rows(query) {
@@ -27,7 +27,7 @@ pub(crate) fn check_validation<F: Source>(
 fn check_rows<F: Source>(
     package: &Package<F>,
     rows: Rows<'_>,
-    report: &mut Report,
+    report: &mut Report<'_>,
 ) -> Result<(), Failure> {
     for row in rows {
         check_row(package, &row?, report)?;
@@ -39,7 +39,7 @@ fn check_rows<F: Source>(
 fn check_row<F: Source>(
     package: &Package<F>,
     row: &Row,
-    report: &mut Report,
+    report: &mut Report<'_>,
 ) -> Result<(), Failure> {
     if row.len() < 2 {
         return Ok(());
@@ -49,10 +49,12 @@ fn check_row<F: Source>(
     };
     match package.get_table(table.as_str()) {
         Some(found) if !found.has_column(column.as_str()) => {
-            let what = "_Validation describes it, and the table hasn't got it";
-            let name = column.as_str();
-            report.add_column(table.as_str(), name, what)?;
-            Ok(())
+            let place = Place::Column {
+                table: table.as_str(),
+                column: column.as_str(),
+            };
+            let message = "_Validation describes it, and the table hasn't got it";
+            Ok(report.add(place, &message)?)
         }
         _ => Ok(()),
     }

@@ -1,6 +1,6 @@
 //! Values that their columns don't take, and tables that can't be read.
 
-use crate::report::{Cell, Report};
+use crate::report::{Place, Report};
 use msi::{ErrorKind, Package, Row, Rows, Select, Source, Table};
 use msipkg_output::Failure;
 use std::alloc::Global;
@@ -12,7 +12,7 @@ use std::alloc::Global;
 pub(crate) fn check_values<F: Source>(
     alloc: Global,
     package: &Package<F>,
-    report: &mut Report,
+    report: &mut Report<'_>,
 ) -> Result<(), Failure> {
     for table in package.tables() {
         check_table(alloc, package, table, report)?;
@@ -25,17 +25,17 @@ fn check_table<F: Source>(
     alloc: Global,
     package: &Package<F>,
     table: &Table,
-    report: &mut Report,
+    report: &mut Report<'_>,
 ) -> Result<(), Failure> {
     match package.select_rows(Select::table(alloc, table.name())?) {
         Ok(rows) => check_rows(table.name(), rows, report),
         Err(error) if error.kind() == ErrorKind::OutOfMemory => Err(Failure::from(error)),
-        Err(error) => Ok(report.add_table(table.name(), &error)?),
+        Err(error) => Ok(report.add(Place::Table(table.name()), &error)?),
     }
 }
 
 /// Finds the values of rows that their columns don't take.
-fn check_rows(table: &str, rows: Rows<'_>, report: &mut Report) -> Result<(), Failure> {
+fn check_rows(table: &str, rows: Rows<'_>, report: &mut Report<'_>) -> Result<(), Failure> {
     let mut number = 0usize;
     for row in rows {
         number = number.saturating_add(1);
@@ -45,16 +45,21 @@ fn check_rows(table: &str, rows: Rows<'_>, report: &mut Report) -> Result<(), Fa
 }
 
 /// Finds the values of a row that their columns don't take.
-fn check_row(table: &str, number: usize, row: &Row, report: &mut Report) -> Result<(), Failure> {
+fn check_row(
+    table: &str,
+    number: usize,
+    row: &Row,
+    report: &mut Report<'_>,
+) -> Result<(), Failure> {
     let columns = row.columns();
     for i in 0..row.len().min(columns.len()) {
         if !columns[i].is_valid_value(&row[i]) {
-            let cell = Cell {
+            let cell = Place::Cell {
                 table,
                 row: number,
                 column: columns[i].name(),
             };
-            report.add_cell(cell, "the column doesn't take this value")?;
+            report.add(cell, &"the column doesn't take this value")?;
         }
     }
     Ok(())

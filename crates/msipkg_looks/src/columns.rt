@@ -1,139 +1,127 @@
 //! What the columns of a table take, as texts.
 
 use msi::{Column, ColumnType};
-use msipkg_output::Style;
-use std::alloc::{AllocError, Global};
+use msipkg_output::{ColumnTypeText, Style};
+use std::fmt;
 
-/// Returns a column's type as the installer writes it: a letter and a length, as `s72`, `i2` or `v0`. A small letter
-/// stands for a column that isn't nullable, and `l` for texts that can be localized.
-///
-/// # Errors
-/// Fails if memory is refused.
-pub(crate) fn type_text(alloc: Global, column: &Column) -> Result<String, AllocError> {
-    let (letter, length) = match column.coltype() {
-        ColumnType::Int16 => ('i', 2),
-        ColumnType::Int32 => ('i', 4),
-        ColumnType::Str(length) => (text_letter(column), length),
-        ColumnType::Binary => ('v', 0),
-    };
-    let letter = if column.is_nullable() {
-        letter.to_ascii_uppercase()
-    } else {
-        letter
-    };
-    format!(in alloc; "{letter}{length}")
+/// What is printed of a column.
+#[derive(Clone, Copy)]
+pub(crate) enum Part {
+    /// The name of its table.
+    Table,
+    Name,
+    Type,
+    /// What it is, in words: `key`, `nullable`, `localizable`.
+    Flags,
+    /// The name of its category, or nothing.
+    Category,
+    /// The values that it is limited to: a range as `0..32767`, or texts parted by `;`; or nothing.
+    Values,
+    /// The column that its values stand in, as `Component 1`: its table, and its number there; or nothing.
+    Reference,
+    /// The column as `CREATE TABLE` has it: its name in backquotes, its type, and what else is said of it.
+    Definition,
 }
 
-/// The letter of a column of texts.
-fn text_letter(column: &Column) -> char {
-    if column.is_localizable() { 'l' } else { 's' }
+/// A part of a column, which prints as the style has it.
+#[derive(Clone, Copy)]
+pub(crate) struct ColumnPart<'a> {
+    pub(crate) style: Style,
+    pub(crate) table: &'a str,
+    pub(crate) column: &'a Column,
+    pub(crate) part: Part,
 }
 
-/// Returns what a column is, in words: `key`, `nullable`, `localizable`.
-///
-/// # Errors
-/// Fails if memory is refused.
-pub(crate) fn flags_text(alloc: Global, column: &Column) -> Result<String, AllocError> {
-    let mut flags = String::new(alloc);
-    push_flag(&mut flags, "key", column.is_primary_key())?;
-    push_flag(&mut flags, "nullable", column.is_nullable())?;
-    push_flag(&mut flags, "localizable", column.is_localizable())?;
-    Ok(flags)
-}
-
-/// Puts a word, if it holds, behind a space if there is one in front.
-fn push_flag(flags: &mut String, word: &str, holds: bool) -> Result<(), AllocError> {
-    if !holds {
-        return Ok(());
+impl fmt::Display for ColumnPart<'_> {
+    fn fmt<W: fmt::Write>(&self, f: &mut fmt::Formatter<W>) -> fmt::Result {
+        let (style, column) = (self.style, self.column);
+        match self.part {
+            Part::Table => style.show(self.table).fmt(f),
+            Part::Name => style.show(column.name()).fmt(f),
+            Part::Type => ColumnTypeText(column).fmt(f),
+            Part::Flags => write_flags(column, f),
+            Part::Category => f.write_str(category_name(column)),
+            Part::Values => write_values(style, column, f),
+            Part::Reference => write_reference(style, column, f),
+            Part::Definition => write_definition(style, column, f),
+        }
     }
-    if !flags.is_empty() {
-        flags.push(' ')?;
-    }
-    flags.push_str(word)
 }
 
-/// Returns the name of a column's category, or nothing.
-pub(crate) fn category_text(column: &Column) -> &'static str {
+fn write_flags<W: fmt::Write>(column: &Column, f: &mut fmt::Formatter<W>) -> fmt::Result {
+    let flags = [
+        ("key", column.is_primary_key()),
+        ("nullable", column.is_nullable()),
+        ("localizable", column.is_localizable()),
+    ];
+    let mut before = "";
+    for (word, holds) in &flags {
+        if *holds {
+            write!(f, "{before}{word}")?;
+            before = " ";
+        }
+    }
+    Ok(())
+}
+
+/// The name of a column's category, or nothing.
+fn category_name(column: &Column) -> &'static str {
     match column.category() {
         Some(category) => category.name(),
         None => "",
     }
 }
 
-/// Returns the values that a column is limited to: a range as `0..32767`, or texts parted by `;`; or nothing.
-///
-/// # Errors
-/// Fails if memory is refused.
-pub(crate) fn values_text(
-    alloc: Global,
+fn write_values<W: fmt::Write>(
     style: Style,
     column: &Column,
-) -> Result<String, AllocError> {
+    f: &mut fmt::Formatter<W>,
+) -> fmt::Result {
     if let Some((min, max)) = column.value_range() {
-        return format!(in alloc; "{min}..{max}");
+        return write!(f, "{min}..{max}");
     }
-    let mut values = String::new(alloc);
-    let Some(texts) = column.enum_values() else {
-        return Ok(values);
-    };
-    for text in texts {
-        if !values.is_empty() {
-            values.push(';')?;
-        }
-        values.push_str(style.show(text.as_str()).to_string(alloc)?.as_str())?;
+    let mut before = "";
+    for text in column.enum_values().unwrap_or(&[]) {
+        write!(f, "{before}{}", style.show(text.as_str()))?;
+        before = ";";
     }
-    Ok(values)
+    Ok(())
 }
 
-/// Returns the column that a column's values stand in, as `Component 1`: its table, and its number there; or nothing.
-///
-/// # Errors
-/// Fails if memory is refused.
-pub(crate) fn reference_text(
-    alloc: Global,
+fn write_reference<W: fmt::Write>(
     style: Style,
     column: &Column,
-) -> Result<String, AllocError> {
+    f: &mut fmt::Formatter<W>,
+) -> fmt::Result {
     match column.foreign_key() {
-        Some((table, number)) => {
-            let table = style.show(table);
-            format!(in alloc; "{table} {number}")
-        }
-        None => Ok(String::new(alloc)),
+        Some((table, number)) => write!(f, "{} {number}", style.show(table)),
+        None => Ok(()),
     }
 }
 
-/// Returns a column as `CREATE TABLE` has it: its name in backquotes, its type, and what else is said of it.
-///
-/// # Errors
-/// Fails if memory is refused.
-pub(crate) fn definition_text(
-    alloc: Global,
+fn write_definition<W: fmt::Write>(
     style: Style,
     column: &Column,
-) -> Result<String, AllocError> {
-    let name = style.show(column.name());
-    let null = if column.is_nullable() {
-        ""
-    } else {
-        " NOT NULL"
-    };
-    let localizable = if column.is_localizable() {
-        " LOCALIZABLE"
-    } else {
-        ""
-    };
-    let kind = kind_text(alloc, column)?;
-    format!(in alloc; "`{name}` {kind}{null}{localizable}")
+    f: &mut fmt::Formatter<W>,
+) -> fmt::Result {
+    write!(f, "`{}` ", style.show(column.name()))?;
+    write_kind(column.coltype(), f)?;
+    if !column.is_nullable() {
+        f.write_str(" NOT NULL")?;
+    }
+    if column.is_localizable() {
+        f.write_str(" LOCALIZABLE")?;
+    }
+    Ok(())
 }
 
-/// The type of a column as `CREATE TABLE` has it.
-fn kind_text(alloc: Global, column: &Column) -> Result<String, AllocError> {
-    match column.coltype() {
-        ColumnType::Int16 => "SHORT".to_string(alloc),
-        ColumnType::Int32 => "LONG".to_string(alloc),
-        ColumnType::Str(0) => "LONGCHAR".to_string(alloc),
-        ColumnType::Str(length) => format!(in alloc; "CHAR({length})"),
-        ColumnType::Binary => "OBJECT".to_string(alloc),
+/// Writes the type of a column as `CREATE TABLE` has it.
+fn write_kind<W: fmt::Write>(kind: ColumnType, f: &mut fmt::Formatter<W>) -> fmt::Result {
+    match kind {
+        ColumnType::Int16 => f.write_str("SHORT"),
+        ColumnType::Int32 => f.write_str("LONG"),
+        ColumnType::Str(0) => f.write_str("LONGCHAR"),
+        ColumnType::Str(length) => write!(f, "CHAR({length})"),
+        ColumnType::Binary => f.write_str("OBJECT"),
     }
 }

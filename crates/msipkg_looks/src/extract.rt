@@ -1,23 +1,22 @@
 //! `extract FILE [NAME..] -o DIR`: the streams of a package as files of a folder. Whatever a stream's name is, nothing
 //! is written outside the folder.
 
-use msi::{Package, Source};
+use msi::{Error, Package, Source};
 use msipkg_output::{
-    Failure, SafeNames, Shown, StoredStreams, create_file, open_package, overwrite_file,
-    stored_streams, stream_bytes,
+    Failure, Folder, SafeNames, Shown, StoredStreams, open_package, stored_streams, stream_bytes,
 };
-use std::alloc::{AllocError, Global};
+use std::alloc::Global;
+use std::convert::AsStr;
 use std::fs::{self, OpenFile};
-use std::io::{Read, Seek, Write};
+use std::io::{self, Read, Seek, Write};
 use std::rt::Files;
 
-/// Where the files go.
-#[derive(Clone, Copy, Debug)]
-pub struct Folder<'a> {
-    /// The path of the folder, which is made where it isn't there.
-    pub path: &'a str,
-    /// Whether files that are there already are replaced.
-    pub is_forced: bool,
+/// What streams are taken from, and where their files go.
+#[derive(Drop)]
+struct Extraction<'a, 'b, F: Source> {
+    package: &'a Package<F>,
+    stored: Option<&'a StoredStreams>,
+    folder: Folder<'b>,
 }
 
 /// Writes streams to files of a folder, or all streams where none is named. Where a stream's name isn't a safe name of
@@ -39,133 +38,104 @@ where
     N: Write,
 {
     let package = open_package(rt, file)?;
-    let stored = stored_streams(rt, file, &package)?;
-    extract_from(rt, &package, stored.as_ref(), names, folder, notes)
+    let streams = stored_streams(rt, file, &package)?;
+    let stored = streams.as_ref();
+    let extraction = Extraction {
+        package: &package,
+        stored,
+        folder,
+    };
+    extract(rt, &extraction, names, notes)
 }
 
 /// Makes the folder, and writes streams to it.
-fn extract_from<R, F, N>(
+fn extract<R, F, N>(
     rt: &R,
-    package: &Package<F>,
-    stored: Option<&StoredStreams>,
+    extraction: &Extraction<'_, '_, F>,
     names: &[&str],
-    folder: Folder<'_>,
     notes: &mut N,
 ) -> Result<(), Failure>
 where
     R: Files + AllocGlobal,
-    R::File: OpenFile + Read + Write + Seek + Drop,
+    R::File: OpenFile + Write + Drop,
     F: Source,
     N: Write,
 {
-    fs::create_dir_all(rt, folder.path)?;
-    if names.is_empty() {
-        extract_all(rt, package, stored, folder, notes)
-    } else {
-        extract_named(rt, package, stored, names, folder, notes)
+    fs::create_dir_all(rt, extraction.folder.path)?;
+    if !names.is_empty() {
+        return extract_each(rt, extraction, names, notes);
     }
+    let all = all_names(rt.alloc(), extraction.package)?;
+    extract_each(rt, extraction, all.as_slice(), notes)
 }
 
-/// Writes all streams.
-fn extract_all<R, F, N>(
-    rt: &R,
-    package: &Package<F>,
-    stored: Option<&StoredStreams>,
-    folder: Folder<'_>,
-    notes: &mut N,
-) -> Result<(), Failure>
-where
-    R: Files + AllocGlobal,
-    R::File: OpenFile + Read + Write + Seek + Drop,
-    F: Source,
-    N: Write,
-{
-    let mut given = SafeNames::new(rt.alloc());
+/// The names of all streams.
+fn all_names<F: Source>(alloc: Global, package: &Package<F>) -> Result<Vec<String>, Error> {
+    let mut names = Vec::new(alloc);
     for name in package.streams() {
-        let name = name?;
-        let bytes = bytes_of(rt.alloc(), package, stored, name.as_str())?;
-        write_file(rt, name.as_str(), bytes, folder, &mut given, notes)?;
+        names.push(name?)?;
     }
-    Ok(())
+    Ok(names)
 }
 
 /// Writes the streams of these names.
-fn extract_named<R, F, N>(
+fn extract_each<R, F, S, N>(
     rt: &R,
-    package: &Package<F>,
-    stored: Option<&StoredStreams>,
-    names: &[&str],
-    folder: Folder<'_>,
+    extraction: &Extraction<'_, '_, F>,
+    names: &[S],
     notes: &mut N,
 ) -> Result<(), Failure>
 where
     R: Files + AllocGlobal,
-    R::File: OpenFile + Read + Write + Seek + Drop,
+    R::File: OpenFile + Write + Drop,
     F: Source,
+    S: AsStr,
     N: Write,
 {
     let mut given = SafeNames::new(rt.alloc());
     for name in names {
-        let bytes = bytes_of(rt.alloc(), package, stored, name)?;
-        write_file(rt, name, bytes, folder, &mut given, notes)?;
+        extract_one(rt, extraction, name.as_str(), &mut given, notes)?;
     }
     Ok(())
 }
 
-/// The bytes of a stream.
-fn bytes_of<'a, F: Source>(
-    alloc: Global,
-    package: &'a Package<F>,
-    stored: Option<&'a StoredStreams>,
-    name: &str,
-) -> Result<&'a [u8], Failure> {
-    match stream_bytes(package, stored, name) {
-        Ok(bytes) => Ok(bytes),
-        Err(error) => Err(Failure::from(error).at(alloc, "stream", name)),
-    }
-}
-
-/// Writes the file of a stream, and tells its name if it is another one.
-fn write_file<R, N>(
+/// Writes a stream.
+fn extract_one<R, F, N>(
     rt: &R,
+    extraction: &Extraction<'_, '_, F>,
     name: &str,
-    bytes: &[u8],
-    folder: Folder<'_>,
     given: &mut SafeNames,
     notes: &mut N,
 ) -> Result<(), Failure>
 where
     R: Files + AllocGlobal,
     R::File: OpenFile + Write + Drop,
+    F: Source,
     N: Write,
 {
+    let bytes = bytes_of(rt.alloc(), extraction, name)?;
     let safe = given.give(name)?;
-    if safe.as_str() != name {
-        let (name, safe) = (Shown::escaped(name), safe.as_str());
-        writeln!(notes, "msipkg: stream {name}: its file is {safe}")?;
-    }
-    let path = path_in(rt.alloc(), folder.path, safe.as_str())?;
-    match write_path(rt, path.as_str(), bytes, folder.is_forced) {
-        Ok(()) => Ok(()),
-        Err(failure) => Err(failure.at(rt.alloc(), "file", path.as_str())),
+    note_file(name, safe.as_str(), notes)?;
+    extraction.folder.write(rt, safe.as_str(), bytes)
+}
+
+/// The bytes of a stream.
+fn bytes_of<'a, F: Source>(
+    alloc: Global,
+    extraction: &Extraction<'a, '_, F>,
+    name: &str,
+) -> Result<&'a [u8], Failure> {
+    match stream_bytes(extraction.package, extraction.stored, name) {
+        Ok(bytes) => Ok(bytes),
+        Err(error) => Err(Failure::from(error).at(alloc, "stream", name)),
     }
 }
 
-/// Makes a file, or replaces it where that is asked for.
-fn write_path<R>(rt: &R, path: &str, bytes: &[u8], is_forced: bool) -> Result<(), Failure>
-where
-    R: Files + AllocGlobal,
-    R::File: OpenFile + Write + Drop,
-{
-    if is_forced {
-        overwrite_file(rt, path, bytes)
-    } else {
-        create_file(rt, path, bytes)
+/// Writes the name of a stream's file, if it is another one than the stream's.
+fn note_file<N: Write>(name: &str, safe: &str, notes: &mut N) -> io::Result<()> {
+    if safe == name {
+        return Ok(());
     }
-}
-
-/// The path of a name in a folder.
-fn path_in(alloc: Global, folder: &str, name: &str) -> Result<String, AllocError> {
-    let folder = folder.strip_suffix('/').unwrap_or(folder);
-    format!(in alloc; "{folder}/{name}")
+    let name = Shown::escaped(name);
+    writeln!(notes, "msipkg: stream {name}: its file is {safe}")
 }

@@ -1,187 +1,174 @@
 //! Facts of a package under their names, which print as lines or as JSON.
 
 use msipkg_output::Style;
-use msipkg_output::json::{JsonObject, list, quoted};
-use serde_json::Value;
+use msipkg_output::json::{self, JsonObject};
 use std::alloc::{AllocError, Global};
+use std::convert::AsStr;
+use std::fmt::Display;
 use std::io::{self, Write};
 
-/// What a fact says.
-#[derive(Drop)]
-enum Content {
-    Text(String),
-    Number(i64),
-    Truth(bool),
-    Texts(Vec<String>),
-    Numbers(Vec<i64>),
-}
-
-/// A fact.
-#[derive(Drop)]
-struct Fact {
-    name: &'static str,
-    content: Content,
-}
-
-/// Facts in the order in which they are added.
-#[derive(Drop)]
+/// Facts in the order in which they are added. As a line each is its name, a colon and what it says.
+///
+/// # Errors
+/// Each call that adds something fails if memory is refused.
 pub(crate) struct Facts {
-    alloc: Global,
-    facts: Vec<Fact>,
+    style: Style,
+    text: FactsText,
+}
+
+/// Written out, so that a function that owns one calls one drop, and its proof doesn't go through those of the parts.
+impl Drop for Facts {
+    fn drop(self) {
+        let Facts { style: _, text: _ } = self;
+    }
+}
+
+/// The facts as they are printed.
+#[derive(Drop)]
+enum FactsText {
+    Json(JsonObject),
+    Lines(String),
 }
 
 impl Facts {
-    /// Returns no facts.
-    pub(crate) fn new(alloc: Global) -> Facts {
-        Facts {
-            alloc,
-            facts: Vec::new(alloc),
-        }
-    }
-
-    /// Adds a fact.
-    fn add(&mut self, name: &'static str, content: Content) -> Result<(), AllocError> {
-        Ok(self.facts.push(Fact { name, content })?)
+    /// Returns no facts. As JSON they have the path of the file in front.
+    pub(crate) fn new(
+        alloc: Global,
+        style: Style,
+        file: &str,
+        is_json: bool,
+    ) -> Result<Facts, AllocError> {
+        let text = if is_json {
+            FactsText::Json(object_of(alloc, file)?)
+        } else {
+            FactsText::Lines(String::new(alloc))
+        };
+        Ok(Facts { style, text })
     }
 
     /// Adds a text, if there is one.
-    ///
-    /// # Errors
-    /// Fails if memory is refused, and so do the other calls.
-    pub(crate) fn text(
-        &mut self,
-        name: &'static str,
-        text: Option<&str>,
-    ) -> Result<(), AllocError> {
-        match text {
-            Some(text) => self.add(name, Content::Text(String::from_str(self.alloc, text)?)),
-            None => Ok(()),
+    pub(crate) fn text(&mut self, name: &str, text: Option<&str>) -> Result<(), AllocError> {
+        let Some(text) = text else {
+            return Ok(());
+        };
+        match &mut self.text {
+            FactsText::Json(object) => object.put_text(name, Some(text)),
+            FactsText::Lines(lines) => writeln!(lines, "{name}: {}", self.style.show(text)),
+        }
+    }
+
+    /// Adds what a value prints, which has to be safe on a terminal.
+    pub(crate) fn shown<D: Display>(&mut self, name: &str, value: &D) -> Result<(), AllocError> {
+        match &mut self.text {
+            FactsText::Json(object) => object.put_shown(name, value),
+            FactsText::Lines(lines) => writeln!(lines, "{name}: {value}"),
         }
     }
 
     /// Adds a number, if there is one.
-    pub(crate) fn number(
-        &mut self,
-        name: &'static str,
-        number: Option<i64>,
-    ) -> Result<(), AllocError> {
-        match number {
-            Some(number) => self.add(name, Content::Number(number)),
-            None => Ok(()),
+    pub(crate) fn number(&mut self, name: &str, number: Option<i64>) -> Result<(), AllocError> {
+        let Some(number) = number else {
+            return Ok(());
+        };
+        match &mut self.text {
+            FactsText::Json(object) => object.put_number(name, Some(number)),
+            FactsText::Lines(lines) => writeln!(lines, "{name}: {number}"),
         }
     }
 
     /// Adds whether something holds.
-    pub(crate) fn truth(&mut self, name: &'static str, holds: bool) -> Result<(), AllocError> {
-        self.add(name, Content::Truth(holds))
+    pub(crate) fn truth(&mut self, name: &str, holds: bool) -> Result<(), AllocError> {
+        match &mut self.text {
+            FactsText::Json(object) => object.put_truth(name, holds),
+            FactsText::Lines(lines) => {
+                writeln!(lines, "{name}: {}", if holds { "yes" } else { "no" })
+            }
+        }
     }
 
-    /// Adds texts, unless there are none.
-    pub(crate) fn texts(
-        &mut self,
-        name: &'static str,
-        texts: Vec<String>,
-    ) -> Result<(), AllocError> {
+    /// Adds texts, which are parted by `; ` in a line, unless there are none.
+    pub(crate) fn texts<S: AsStr>(&mut self, name: &str, texts: &[S]) -> Result<(), AllocError> {
         if texts.is_empty() {
             return Ok(());
         }
-        self.add(name, Content::Texts(texts))
+        match &mut self.text {
+            FactsText::Json(object) => put_texts(name, texts, object),
+            FactsText::Lines(lines) => push_texts(self.style, name, texts, lines),
+        }
     }
 
-    /// Adds numbers, unless there are none.
-    pub(crate) fn numbers(
-        &mut self,
-        name: &'static str,
-        numbers: Vec<i64>,
-    ) -> Result<(), AllocError> {
+    /// Adds numbers, which are parted by commas in a line, unless there are none.
+    pub(crate) fn numbers(&mut self, name: &str, numbers: &[u16]) -> Result<(), AllocError> {
         if numbers.is_empty() {
             return Ok(());
         }
-        self.add(name, Content::Numbers(numbers))
+        match &mut self.text {
+            FactsText::Json(object) => put_numbers(name, numbers, object),
+            FactsText::Lines(lines) => push_numbers(name, numbers, lines),
+        }
     }
 
-    /// Writes a line for each fact: its name, a colon and what it says.
+    /// Writes the facts.
     ///
     /// # Errors
-    /// Fails as the writer does.
-    pub(crate) fn write_lines<W: Write>(&self, style: Style, output: &mut W) -> io::Result<()> {
-        for fact in &self.facts {
-            let name = fact.name;
-            write!(output, "{name}: ")?;
-            write_content(style, &fact.content, output)?;
-            writeln!(output)?;
+    /// Fails as the writer does, and if memory is refused.
+    pub(crate) fn print<W: Write>(self, output: &mut W) -> io::Result<()> {
+        let Facts { style, text } = self;
+        match text {
+            FactsText::Json(object) => json::write_line(style, object.finish()?.as_str(), output),
+            FactsText::Lines(lines) => output.write_all(lines.as_bytes()),
         }
-        Ok(())
-    }
-
-    /// Puts each fact into an object.
-    ///
-    /// # Errors
-    /// Fails if memory is refused.
-    pub(crate) fn put_into(&self, object: &mut JsonObject) -> Result<(), AllocError> {
-        for fact in &self.facts {
-            object.put_json(fact.name, content_json(self.alloc, &fact.content)?.as_str())?;
-        }
-        Ok(())
     }
 }
 
-/// Writes what a fact says.
-fn write_content<W: Write>(style: Style, content: &Content, line: &mut W) -> io::Result<()> {
-    match content {
-        Content::Text(text) => write!(line, "{}", style.show(text.as_str())),
-        Content::Number(number) => write!(line, "{number}"),
-        Content::Truth(holds) => write!(line, "{}", if *holds { "yes" } else { "no" }),
-        Content::Texts(texts) => write_texts(style, texts.as_slice(), line),
-        Content::Numbers(numbers) => write_numbers(numbers.as_slice(), line),
-    }
+/// An object with the path of a file.
+fn object_of(alloc: Global, file: &str) -> Result<JsonObject, AllocError> {
+    let mut object = JsonObject::new(alloc)?;
+    object.put_text("file", Some(file))?;
+    Ok(object)
 }
 
-/// Writes texts, parted by `; `.
-fn write_texts<W: Write>(style: Style, texts: &[String], line: &mut W) -> io::Result<()> {
-    let mut before = "";
+/// Puts texts as a list.
+fn put_texts<S: AsStr>(name: &str, texts: &[S], object: &mut JsonObject) -> Result<(), AllocError> {
+    object.open_list(name)?;
     for text in texts {
-        write!(line, "{before}{}", style.show(text.as_str()))?;
+        object.put_text_item(text.as_str())?;
+    }
+    object.close_list()
+}
+
+/// Puts texts on a line.
+fn push_texts<S: AsStr>(
+    style: Style,
+    name: &str,
+    texts: &[S],
+    lines: &mut String,
+) -> Result<(), AllocError> {
+    lines.push_str(name)?;
+    let mut before = ": ";
+    for text in texts {
+        write!(lines, "{before}{}", style.show(text.as_str()))?;
         before = "; ";
     }
-    Ok(())
+    lines.push('\n')
 }
 
-/// Writes numbers, parted by commas.
-fn write_numbers<W: Write>(numbers: &[i64], line: &mut W) -> io::Result<()> {
-    let mut before = "";
+/// Puts numbers as a list.
+fn put_numbers(name: &str, numbers: &[u16], object: &mut JsonObject) -> Result<(), AllocError> {
+    object.open_list(name)?;
     for number in numbers {
-        write!(line, "{before}{number}")?;
+        object.put_number_item(i64::from(*number))?;
+    }
+    object.close_list()
+}
+
+/// Puts numbers on a line.
+fn push_numbers(name: &str, numbers: &[u16], lines: &mut String) -> Result<(), AllocError> {
+    lines.push_str(name)?;
+    let mut before = ": ";
+    for number in numbers {
+        write!(lines, "{before}{number}")?;
         before = ",";
     }
-    Ok(())
-}
-
-/// What a fact says as JSON.
-fn content_json(alloc: Global, content: &Content) -> Result<String, AllocError> {
-    match content {
-        Content::Text(text) => quoted(alloc, text.as_str()),
-        Content::Number(number) => number.to_string(alloc),
-        Content::Truth(holds) => Value::from(*holds).to_string(alloc),
-        Content::Texts(texts) => texts_json(alloc, texts.as_slice()),
-        Content::Numbers(numbers) => numbers_json(alloc, numbers.as_slice()),
-    }
-}
-
-/// Texts as a JSON list.
-fn texts_json(alloc: Global, texts: &[String]) -> Result<String, AllocError> {
-    let mut items = Vec::new(alloc);
-    for text in texts {
-        items.push(quoted(alloc, text.as_str())?)?;
-    }
-    list(alloc, items.as_slice())
-}
-
-/// Numbers as a JSON list.
-fn numbers_json(alloc: Global, numbers: &[i64]) -> Result<String, AllocError> {
-    let mut items = Vec::new(alloc);
-    for number in numbers {
-        items.push(number.to_string(alloc)?)?;
-    }
-    list(alloc, items.as_slice())
+    lines.push('\n')
 }

@@ -1,10 +1,12 @@
 //! `info FILE..`: what a package is, in a few lines.
 
 use crate::facts::Facts;
-use crate::summary::{add_summary, print_facts};
+use crate::summary::add_summary;
 use crate::tables::count_rows;
-use msi::{Error, Package, PackageType, Source};
-use msipkg_output::{Failure, StoredStreams, Style, open_package, stored_streams, stream_bytes};
+use msi::{Error, Package, Source};
+use msipkg_output::{
+    Failure, StoredStreams, Style, kind_name, open_package, stored_streams, stream_bytes,
+};
 use std::alloc::{AllocError, Global};
 use std::io::{Read, Seek, Write};
 use std::rt::Files;
@@ -27,46 +29,43 @@ where
 {
     let mut package = open_package(rt, file)?;
     let stored = stored_streams(rt, file, &package)?;
-    let facts = facts_of(rt.alloc(), &mut package, stored.as_ref())?;
-    print_facts(rt.alloc(), style, file, is_json, &facts, output)
+    let facts = Facts::new(rt.alloc(), style, file, is_json)?;
+    write_facts(rt.alloc(), &mut package, stored.as_ref(), facts, output)
 }
 
-/// Returns all that is told of a package.
-fn facts_of<F: Source>(
+/// Writes what a package is.
+fn write_facts<F: Source, W: Write>(
     alloc: Global,
     package: &mut Package<F>,
     stored: Option<&StoredStreams>,
-) -> Result<Facts, Failure> {
-    let mut facts = Facts::new(alloc);
+    mut facts: Facts,
+    output: &mut W,
+) -> Result<(), Failure> {
     add_package(alloc, package, stored, &mut facts)?;
-    Ok(facts)
+    add_changeable(package, &mut facts)?;
+    Ok(facts.print(output)?)
 }
 
-/// Adds all that is told of a package.
+/// Adds what a package is and has.
 fn add_package<F: Source>(
     alloc: Global,
-    package: &mut Package<F>,
+    package: &Package<F>,
     stored: Option<&StoredStreams>,
     facts: &mut Facts,
 ) -> Result<(), Failure> {
-    facts.text("kind", Some(kind_name(package.package_type())))?;
-    let page = package.database_codepage().id();
-    facts.number("database_codepage", Some(i64::from(page)))?;
+    add_head(package, facts)?;
     add_summary(alloc, package.summary_info(), facts)?;
     add_tables(alloc, package, facts)?;
     add_streams(package, stored, facts)?;
     facts.truth("signed", package.has_digital_signature())?;
-    add_changeable(alloc, package, facts)?;
     Ok(())
 }
 
-/// The name of a package's kind, as `new` takes it.
-fn kind_name(kind: PackageType) -> &'static str {
-    match kind {
-        PackageType::Installer => "installer",
-        PackageType::Patch => "patch",
-        PackageType::Transform => "transform",
-    }
+/// Adds the kind of a package, and the page of its database.
+fn add_head<F: Source>(package: &Package<F>, facts: &mut Facts) -> Result<(), AllocError> {
+    let page = package.database_codepage().id();
+    facts.text("kind", Some(kind_name(package.package_type())))?;
+    facts.number("database_codepage", Some(i64::from(page)))
 }
 
 /// Adds the numbers of tables, of those that can't be read, and of rows.
@@ -114,19 +113,18 @@ fn signed(count: usize) -> Option<i64> {
 /// Adds whether the package's tables can be changed, and if not, why: its counts may be too low, or storages lie below
 /// its root. The page is set to itself, which is a change like any other, and nothing is written.
 fn add_changeable<F: Source>(
-    alloc: Global,
     package: &mut Package<F>,
     facts: &mut Facts,
 ) -> Result<(), AllocError> {
     let page = package.database_codepage();
     match package.set_database_codepage(page) {
         Ok(()) => facts.truth("changeable", true),
-        Err(error) => add_refusal(alloc, &error, facts),
+        Err(error) => add_refusal(&error, facts),
     }
 }
 
 /// Adds why a package's tables can't be changed.
-fn add_refusal(alloc: Global, error: &Error, facts: &mut Facts) -> Result<(), AllocError> {
+fn add_refusal(error: &Error, facts: &mut Facts) -> Result<(), AllocError> {
     facts.truth("changeable", false)?;
-    facts.text("why_not", Some(error.to_string(alloc)?.as_str()))
+    facts.shown("why_not", error)
 }

@@ -1,4 +1,4 @@
-//! What `msipkg` tells of packages without changing them.
+//! What `msipkg` prints of packages without changing them.
 #![tactic(auto)]
 
 mod columns;
@@ -7,12 +7,12 @@ mod facts;
 pub mod info;
 pub mod query;
 pub mod schema;
+mod schema_json;
 pub mod streams;
 pub mod summary;
 pub mod tables;
-mod times;
 
-pub use extract::{Folder, extract_streams};
+pub use extract::extract_streams;
 pub use info::print_info;
 pub use query::print_query;
 pub use schema::print_schema;

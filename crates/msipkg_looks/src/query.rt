@@ -33,10 +33,7 @@ where
 
 /// The query that a text spells.
 fn parsed(alloc: Global, text: &str) -> Result<Select, Failure> {
-    match Select::parse(alloc, text) {
-        Ok(query) => Ok(query),
-        Err(error) => Err(Failure::from(error).at(alloc, "query", text)),
-    }
+    Select::parse(alloc, text).map_err(|error| Failure::from(error).at(alloc, "query", text))
 }
 
 /// Writes the rows that a query selects.

@@ -1,29 +1,26 @@
 //! `schema FILE [TABLE..]`: the columns of tables, and what they take.
 
-use crate::columns::{
-    category_text, definition_text, flags_text, reference_text, type_text, values_text,
-};
-use msi::{Column, Package, Source, Table, Text};
-use msipkg_output::json::{self, JsonObject};
-use msipkg_output::{Failure, Grid, Style, open_package};
-use serde_json::Value;
+use crate::columns::{ColumnPart, Part};
+use crate::schema_json::schema_json;
+use msi::{Column, Package, Source, Table};
+use msipkg_output::{Failure, Grid, Style, chosen_tables, json, open_package};
 use std::alloc::{AllocError, Global};
 use std::io::{self, Read, Seek, Write};
 use std::rt::Files;
 
-/// The heads of the columns that are printed.
-const HEADS: [&str; 7] = [
-    "Table",
-    "Column",
-    "Type",
-    "Is",
-    "Category",
-    "Values",
-    "Refers to",
+/// What is printed of each column, under its head.
+static PARTS: [(&str, Part); 7] = [
+    ("Table", Part::Table),
+    ("Column", Part::Name),
+    ("Type", Part::Type),
+    ("Is", Part::Flags),
+    ("Category", Part::Category),
+    ("Values", Part::Values),
+    ("Refers to", Part::Reference),
 ];
 
 /// How columns are printed.
-#[derive(Clone, Copy, Debug, PartialEq, Eq, Hash)]
+#[derive(Clone, Copy)]
 pub enum Form {
     /// A row for each column.
     Rows,
@@ -65,11 +62,11 @@ fn write_schema<F: Source, W: Write>(
     form: Form,
     output: &mut W,
 ) -> Result<(), Failure> {
-    let tables = chosen_tables(alloc, package, names)?;
+    let tables = chosen_tables(alloc, package, names, true)?;
     match form {
         Form::Rows => write_rows(alloc, style, tables.as_slice(), output)?,
         Form::Json => write_json(alloc, style, file, tables.as_slice(), output)?,
-        Form::Sql => write_definitions(alloc, style, tables.as_slice(), output)?,
+        Form::Sql => write_definitions(style, tables.as_slice(), output)?,
     }
     Ok(())
 }
@@ -81,8 +78,46 @@ fn write_rows<W: Write>(
     tables: &[&Table],
     output: &mut W,
 ) -> io::Result<()> {
-    let grid = schema_grid(alloc, style, tables)?;
-    grid.print(alloc, style, output)
+    let mut grid = Grid::new(alloc, PARTS.len());
+    put_heads(&mut grid)?;
+    for table in tables {
+        put_columns(style, table, &mut grid)?;
+    }
+    grid.print(style, output)
+}
+
+/// Puts the heads.
+fn put_heads(grid: &mut Grid) -> Result<(), AllocError> {
+    for (head, _) in &PARTS {
+        grid.put(head)?;
+    }
+    Ok(())
+}
+
+/// Puts a row for each column of a table.
+fn put_columns(style: Style, table: &Table, grid: &mut Grid) -> Result<(), AllocError> {
+    for column in table.columns() {
+        put_column(style, table.name(), column, grid)?;
+    }
+    Ok(())
+}
+
+/// Puts the row of a column.
+fn put_column(
+    style: Style,
+    table: &str,
+    column: &Column,
+    grid: &mut Grid,
+) -> Result<(), AllocError> {
+    for (_, part) in &PARTS {
+        grid.put(&ColumnPart {
+            style,
+            table,
+            column,
+            part: *part,
+        })?;
+    }
+    Ok(())
 }
 
 /// Writes the columns as JSON on one line.
@@ -99,32 +134,27 @@ fn write_json<W: Write>(
 
 /// Writes a statement for each table that creates it, as `exec` takes it. What `_Validation` says of the columns isn't
 /// in it.
-fn write_definitions<W: Write>(
-    alloc: Global,
-    style: Style,
-    tables: &[&Table],
-    output: &mut W,
-) -> io::Result<()> {
+fn write_definitions<W: Write>(style: Style, tables: &[&Table], output: &mut W) -> io::Result<()> {
     for table in tables {
-        write!(output, "CREATE TABLE `{}` (", style.show(table.name()))?;
-        write_columns(alloc, style, table, output)?;
+        write!(output, "CREATE TABLE `{}`", style.show(table.name()))?;
+        write_columns(style, table, output)?;
         write_keys(style, table, output)?;
-        writeln!(output, ")")?;
+        output.write_all(b")\n")?;
     }
     Ok(())
 }
 
-/// Writes the columns of a table, parted by commas.
-fn write_columns<W: Write>(
-    alloc: Global,
-    style: Style,
-    table: &Table,
-    output: &mut W,
-) -> io::Result<()> {
-    let mut before = "";
+/// Writes the columns of a table, parted by commas, behind a bracket.
+fn write_columns<W: Write>(style: Style, table: &Table, output: &mut W) -> io::Result<()> {
+    let mut before = " (";
     for column in table.columns() {
-        let text = definition_text(alloc, style, column)?;
-        write!(output, "{before}{text}")?;
+        let definition = ColumnPart {
+            style,
+            table: table.name(),
+            column,
+            part: Part::Definition,
+        };
+        write!(output, "{before}{definition}")?;
         before = ", ";
     }
     Ok(())
@@ -140,168 +170,4 @@ fn write_keys<W: Write>(style: Style, table: &Table, output: &mut W) -> io::Resu
         }
     }
     Ok(())
-}
-
-/// The tables of these names, or all tables where there is none.
-fn chosen_tables<'a, F: Source>(
-    alloc: Global,
-    package: &'a Package<F>,
-    names: &[&str],
-) -> Result<Vec<&'a Table>, Failure> {
-    let mut tables = Vec::new(alloc);
-    if names.is_empty() {
-        for table in package.tables() {
-            tables.push(table)?;
-        }
-    }
-    for name in names {
-        match package.get_table(name) {
-            Some(table) => tables.push(table)?,
-            None => return Err(missing(alloc, name)),
-        }
-    }
-    Ok(tables)
-}
-
-/// The failure of a table that isn't there.
-fn missing(alloc: Global, name: &str) -> Failure {
-    Failure::rule("there is no table of this name").at(alloc, "table", name)
-}
-
-/// A row for each column.
-fn schema_grid(alloc: Global, style: Style, tables: &[&Table]) -> Result<Grid, AllocError> {
-    let mut grid = Grid::headed(alloc, HEADS.as_slice())?;
-    for table in tables {
-        push_columns(alloc, style, table, &mut grid)?;
-    }
-    Ok(grid)
-}
-
-/// Puts a row for each column of a table.
-fn push_columns(
-    alloc: Global,
-    style: Style,
-    table: &Table,
-    grid: &mut Grid,
-) -> Result<(), AllocError> {
-    for column in table.columns() {
-        grid.push(column_row(alloc, style, table.name(), column)?)?;
-    }
-    Ok(())
-}
-
-/// The texts of a column's row.
-fn column_row(
-    alloc: Global,
-    style: Style,
-    table: &str,
-    column: &Column,
-) -> Result<Vec<String>, AllocError> {
-    let mut row = Vec::with_capacity(alloc, HEADS.len())?;
-    row.push(style.show(table).to_string(alloc)?)?;
-    row.push(style.show(column.name()).to_string(alloc)?)?;
-    push_kind(alloc, column, &mut row)?;
-    push_limits(alloc, style, column, &mut row)?;
-    Ok(row)
-}
-
-/// Puts what a column is.
-fn push_kind(alloc: Global, column: &Column, row: &mut Vec<String>) -> Result<(), AllocError> {
-    row.push(type_text(alloc, column)?)?;
-    row.push(flags_text(alloc, column)?)?;
-    row.push(category_text(column).to_string(alloc)?)?;
-    Ok(())
-}
-
-/// Puts what a column's values are limited to.
-fn push_limits(
-    alloc: Global,
-    style: Style,
-    column: &Column,
-    row: &mut Vec<String>,
-) -> Result<(), AllocError> {
-    row.push(values_text(alloc, style, column)?)?;
-    row.push(reference_text(alloc, style, column)?)?;
-    Ok(())
-}
-
-/// The tables of a file as JSON.
-fn schema_json(alloc: Global, file: &str, tables: &[&Table]) -> Result<String, AllocError> {
-    let mut items = Vec::new(alloc);
-    for table in tables {
-        items.push(table_json(alloc, table)?)?;
-    }
-    let mut object = JsonObject::new(alloc)?;
-    object.put_text("file", Some(file))?;
-    object.put_json("tables", json::list(alloc, items.as_slice())?.as_str())?;
-    object.finish()
-}
-
-/// A table as JSON.
-fn table_json(alloc: Global, table: &Table) -> Result<String, AllocError> {
-    let mut items = Vec::new(alloc);
-    for column in table.columns() {
-        items.push(column_json(alloc, column)?)?;
-    }
-    let mut object = JsonObject::new(alloc)?;
-    object.put_text("table", Some(table.name()))?;
-    object.put_json("columns", json::list(alloc, items.as_slice())?.as_str())?;
-    object.finish()
-}
-
-/// A column as JSON. What the column doesn't have isn't there.
-fn column_json(alloc: Global, column: &Column) -> Result<String, AllocError> {
-    let mut object = JsonObject::new(alloc)?;
-    object.put_text("column", Some(column.name()))?;
-    object.put_text("type", Some(type_text(alloc, column)?.as_str()))?;
-    object.put("key", Value::from(column.is_primary_key()))?;
-    object.put("nullable", Value::from(column.is_nullable()))?;
-    object.put("localizable", Value::from(column.is_localizable()))?;
-    put_limits(alloc, column, &mut object)?;
-    object.finish()
-}
-
-/// Puts what a column's values are limited to.
-fn put_limits(alloc: Global, column: &Column, object: &mut JsonObject) -> Result<(), AllocError> {
-    if let Some(category) = column.category() {
-        object.put_text("category", Some(category.name()))?;
-    }
-    put_range(column, object)?;
-    put_values(alloc, column, object)?;
-    put_reference(column, object)
-}
-
-/// Puts the range of a column's numbers.
-fn put_range(column: &Column, object: &mut JsonObject) -> Result<(), AllocError> {
-    let Some((min, max)) = column.value_range() else {
-        return Ok(());
-    };
-    object.put("min", Value::from(min))?;
-    object.put("max", Value::from(max))
-}
-
-/// Puts the texts that a column takes.
-fn put_values(alloc: Global, column: &Column, object: &mut JsonObject) -> Result<(), AllocError> {
-    match column.enum_values() {
-        Some(texts) => object.put_json("values", texts_json(alloc, texts)?.as_str()),
-        None => Ok(()),
-    }
-}
-
-/// Texts as a JSON list.
-fn texts_json(alloc: Global, texts: &[Text]) -> Result<String, AllocError> {
-    let mut items = Vec::new(alloc);
-    for text in texts {
-        items.push(json::quoted(alloc, text.as_str())?)?;
-    }
-    json::list(alloc, items.as_slice())
-}
-
-/// Puts the column that a column's values stand in.
-fn put_reference(column: &Column, object: &mut JsonObject) -> Result<(), AllocError> {
-    let Some((table, number)) = column.foreign_key() else {
-        return Ok(());
-    };
-    object.put_text("key_table", Some(table))?;
-    object.put("key_column", Value::from(number))
 }

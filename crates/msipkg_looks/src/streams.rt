@@ -4,9 +4,12 @@ use msi::{Package, Source};
 use msipkg_output::{
     Failure, Grid, StoredStreams, Style, open_package, stored_streams, stream_bytes,
 };
-use std::alloc::{AllocError, Global};
+use std::alloc::Global;
 use std::io::{Read, Seek, Write};
 use std::rt::Files;
+
+/// The heads of the columns that are printed.
+static HEADS: [&str; 2] = ["Stream", "Bytes"];
 
 /// Prints the name of each stream and how many bytes it has.
 ///
@@ -31,24 +34,34 @@ fn write_streams<F: Source, W: Write>(
     stored: Option<&StoredStreams>,
     output: &mut W,
 ) -> Result<(), Failure> {
-    let mut grid = Grid::headed(alloc, &["Stream", "Bytes"])?;
+    let mut grid = Grid::headed(alloc, HEADS.as_slice())?;
+    put_streams(style, package, stored, &mut grid)?;
+    Ok(grid.print(style, output)?)
+}
+
+/// Puts the row of each stream.
+fn put_streams<F: Source>(
+    style: Style,
+    package: &Package<F>,
+    stored: Option<&StoredStreams>,
+    grid: &mut Grid,
+) -> Result<(), Failure> {
     for name in package.streams() {
-        let name = name?;
-        let len = stream_bytes(package, stored, name.as_str())?.len();
-        grid.push(stream_row(alloc, style, name.as_str(), len)?)?;
+        put_stream(style, package, stored, name?.as_str(), grid)?;
     }
-    grid.print(alloc, style, output)?;
     Ok(())
 }
 
-/// The texts of a stream's row.
-fn stream_row(
-    alloc: Global,
+/// Puts the row of a stream.
+fn put_stream<F: Source>(
     style: Style,
+    package: &Package<F>,
+    stored: Option<&StoredStreams>,
     name: &str,
-    len: usize,
-) -> Result<Vec<String>, AllocError> {
-    let shown = style.show(name).to_string(alloc)?;
-    let len = len.to_string(alloc)?;
-    Ok(vec![in alloc; shown, len]?)
+    grid: &mut Grid,
+) -> Result<(), Failure> {
+    let bytes = stream_bytes(package, stored, name)?;
+    grid.put(&style.show(name))?;
+    grid.put(&bytes.len())?;
+    Ok(())
 }

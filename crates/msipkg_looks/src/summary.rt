@@ -1,14 +1,11 @@
 //! `summary FILE`: the properties of a package's summary.
 
 use crate::facts::Facts;
-use crate::times::time_text;
-use msi::{Error, SummaryInfo, Timestamp};
-use msipkg_output::json::{self, JsonObject};
-use msipkg_output::{Failure, Style, open_package};
+use msi::{Error, LanguageId, SummaryInfo, Timestamp};
+use msipkg_output::{Failure, Style, TimeText, UuidText, open_package};
 use std::alloc::{AllocError, Global};
 use std::io::{Read, Seek, Write};
 use std::rt::Files;
-use uuid::Uuid;
 
 /// Prints a line for each property that is there, or all of them as JSON on one line.
 ///
@@ -27,51 +24,19 @@ where
     O: Write,
 {
     let package = open_package(rt, file)?;
-    write_summary(
-        rt.alloc(),
-        style,
-        file,
-        is_json,
-        package.summary_info(),
-        output,
-    )
+    let facts = Facts::new(rt.alloc(), style, file, is_json)?;
+    write_summary(rt.alloc(), package.summary_info(), facts, output)
 }
 
 /// Writes the properties that are there.
 fn write_summary<W: Write>(
     alloc: Global,
-    style: Style,
-    file: &str,
-    is_json: bool,
     summary: &SummaryInfo,
+    mut facts: Facts,
     output: &mut W,
 ) -> Result<(), Failure> {
-    let mut facts = Facts::new(alloc);
     add_summary(alloc, summary, &mut facts)?;
-    print_facts(alloc, style, file, is_json, &facts, output)
-}
-
-/// Prints facts of a file as lines, or as JSON on one line with the file's path in front.
-///
-/// # Errors
-/// Fails if memory is refused, and as the writer does.
-pub(crate) fn print_facts<O: Write>(
-    alloc: Global,
-    style: Style,
-    file: &str,
-    is_json: bool,
-    facts: &Facts,
-    output: &mut O,
-) -> Result<(), Failure> {
-    if !is_json {
-        facts.write_lines(style, output)?;
-        return Ok(());
-    }
-    let mut object = JsonObject::new(alloc)?;
-    object.put_text("file", Some(file))?;
-    facts.put_into(&mut object)?;
-    json::write_line(style, object.finish()?.as_str(), output)?;
-    Ok(())
+    Ok(facts.print(output)?)
 }
 
 /// Adds the properties that are there, under the names that `--set` takes.
@@ -83,20 +48,20 @@ pub(crate) fn add_summary(
     summary: &SummaryInfo,
     facts: &mut Facts,
 ) -> Result<(), Error> {
-    facts.number("codepage", Some(i64::from(summary.codepage().id())))?;
     add_description(summary, facts)?;
     add_target(alloc, summary, facts)?;
-    add_times(alloc, summary, facts)?;
+    add_times(summary, facts)?;
     add_numbers(summary, facts)?;
     Ok(())
 }
 
 /// Adds what the package is, and whose.
 fn add_description(summary: &SummaryInfo, facts: &mut Facts) -> Result<(), Error> {
+    facts.number("codepage", Some(i64::from(summary.codepage().id())))?;
     facts.text("title", summary.title())?;
     facts.text("subject", summary.subject())?;
     facts.text("author", summary.author())?;
-    facts.texts("keywords", summary.keywords()?)?;
+    facts.texts("keywords", summary.keywords()?.as_slice())?;
     facts.text("comments", summary.comments())?;
     Ok(())
 }
@@ -104,72 +69,56 @@ fn add_description(summary: &SummaryInfo, facts: &mut Facts) -> Result<(), Error
 /// Adds what the package is for, and which one it is.
 fn add_target(alloc: Global, summary: &SummaryInfo, facts: &mut Facts) -> Result<(), Error> {
     facts.text("arch", summary.arch())?;
-    add_languages(alloc, summary, facts)?;
-    if let Some(uuid) = summary.uuid() {
-        facts.text("uuid", Some(uuid_text(alloc, uuid)?.as_str()))?;
-    }
+    add_languages(alloc, summary.languages()?.as_slice(), facts)?;
+    add_uuid(summary, facts)?;
     facts.text("last_saved_by", summary.last_saved_by())?;
     facts.text("creating_application", summary.creating_application())?;
     Ok(())
 }
 
 /// Adds the numbers of the languages, and their tags.
-fn add_languages(alloc: Global, summary: &SummaryInfo, facts: &mut Facts) -> Result<(), Error> {
+fn add_languages(
+    alloc: Global,
+    languages: &[LanguageId],
+    facts: &mut Facts,
+) -> Result<(), AllocError> {
     let mut numbers = Vec::new(alloc);
     let mut tags = Vec::new(alloc);
-    let languages = summary.languages()?;
-    for language in &languages {
-        numbers.push(i64::from(language.id()))?;
-        tags.push(String::from_str(alloc, language.tag())?)?;
+    for language in languages {
+        numbers.push(language.id())?;
+        tags.push(language.tag())?;
     }
-    facts.numbers("languages", numbers)?;
-    facts.texts("language_tags", tags)?;
-    Ok(())
+    facts.numbers("languages", numbers.as_slice())?;
+    facts.texts("language_tags", tags.as_slice())
 }
 
-/// A UUID as the installer writes it: in braces and capital letters.
-fn uuid_text(alloc: Global, uuid: Uuid) -> Result<String, AllocError> {
-    let mut room = Uuid::encode_buffer();
-    let text = uuid.braced().encode_upper(&mut room);
-    String::from_str(alloc, text)
+/// Adds the UUID, if there is one.
+fn add_uuid(summary: &SummaryInfo, facts: &mut Facts) -> Result<(), AllocError> {
+    match summary.uuid() {
+        Some(uuid) => facts.shown("uuid", &UuidText(uuid)),
+        None => Ok(()),
+    }
 }
 
 /// Adds when things were done to the package.
-fn add_times(alloc: Global, summary: &SummaryInfo, facts: &mut Facts) -> Result<(), AllocError> {
-    add_time(alloc, "last_printed", summary.last_printed(), facts)?;
-    add_time(alloc, "creation_time", summary.creation_time(), facts)?;
-    add_time(alloc, "last_saved_time", summary.last_saved_time(), facts)
+fn add_times(summary: &SummaryInfo, facts: &mut Facts) -> Result<(), AllocError> {
+    add_time("last_printed", summary.last_printed(), facts)?;
+    add_time("creation_time", summary.creation_time(), facts)?;
+    add_time("last_saved_time", summary.last_saved_time(), facts)
 }
 
 /// Adds a time, if there is one.
-fn add_time(
-    alloc: Global,
-    name: &'static str,
-    time: Option<Timestamp>,
-    facts: &mut Facts,
-) -> Result<(), AllocError> {
+fn add_time(name: &str, time: Option<Timestamp>, facts: &mut Facts) -> Result<(), AllocError> {
     match time {
-        Some(time) => facts.text(name, Some(time_text(alloc, time)?.as_str())),
+        Some(time) => facts.shown(name, &TimeText(time)),
         None => Ok(()),
     }
 }
 
 /// Adds the numbers of the package.
 fn add_numbers(summary: &SummaryInfo, facts: &mut Facts) -> Result<(), AllocError> {
-    add_number("page_count", summary.page_count(), facts)?;
-    add_number("word_count", summary.word_count(), facts)?;
-    add_number("character_count", summary.character_count(), facts)?;
-    add_number("doc_security", summary.doc_security(), facts)
-}
-
-/// Adds a number, if there is one.
-fn add_number(
-    name: &'static str,
-    number: Option<i32>,
-    facts: &mut Facts,
-) -> Result<(), AllocError> {
-    match number {
-        Some(number) => facts.number(name, Some(i64::from(number))),
-        None => Ok(()),
-    }
+    facts.number("page_count", summary.page_count().map(i64::from))?;
+    facts.number("word_count", summary.word_count().map(i64::from))?;
+    facts.number("character_count", summary.character_count().map(i64::from))?;
+    facts.number("doc_security", summary.doc_security().map(i64::from))
 }

@@ -3,8 +3,11 @@
 use msi::{Error, Package, Select, Source, Table};
 use msipkg_output::{Failure, Grid, Style, open_package};
 use std::alloc::{AllocError, Global};
-use std::io::{Read, Seek, Write};
+use std::io::{self, Read, Seek, Write};
 use std::rt::Files;
+
+/// The heads of the columns that are printed.
+static HEADS: [&str; 2] = ["Table", "Rows"];
 
 /// Prints the name of each table and the number of its rows, which is `?` where the table can't be read.
 ///
@@ -17,7 +20,7 @@ where
     O: Write,
 {
     let package = open_package(rt, file)?;
-    write_tables(rt.alloc(), style, &package, output)
+    Ok(write_tables(rt.alloc(), style, &package, output)?)
 }
 
 /// Returns how many rows a table has.
@@ -33,31 +36,31 @@ pub(crate) fn count_rows<F: Source>(
     Ok(rows.len())
 }
 
-/// The text of the number of a table's rows.
-fn count_text<F: Source>(
-    alloc: Global,
-    package: &Package<F>,
-    table: &Table,
-) -> Result<String, AllocError> {
-    match count_rows(alloc, package, table.name()) {
-        Ok(count) => count.to_string(alloc),
-        Err(_) => "?".to_string(alloc),
-    }
-}
-
 /// Writes a row for each table.
 fn write_tables<F: Source, W: Write>(
     alloc: Global,
     style: Style,
     package: &Package<F>,
     output: &mut W,
-) -> Result<(), Failure> {
-    let mut grid = Grid::headed(alloc, &["Table", "Rows"])?;
+) -> io::Result<()> {
+    let mut grid = Grid::headed(alloc, HEADS.as_slice())?;
     for table in package.tables() {
-        let name = style.show(table.name()).to_string(alloc)?;
-        let count = count_text(alloc, package, table)?;
-        grid.push(vec![in alloc; name, count]?)?;
+        put_table(alloc, style, package, table, &mut grid)?;
     }
-    grid.print(alloc, style, output)?;
-    Ok(())
+    grid.print(style, output)
+}
+
+/// Puts the row of a table.
+fn put_table<F: Source>(
+    alloc: Global,
+    style: Style,
+    package: &Package<F>,
+    table: &Table,
+    grid: &mut Grid,
+) -> Result<(), AllocError> {
+    grid.put(&style.show(table.name()))?;
+    match count_rows(alloc, package, table.name()) {
+        Ok(count) => grid.put(&count),
+        Err(_) => grid.put(&"?"),
+    }
 }

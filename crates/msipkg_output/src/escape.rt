@@ -3,7 +3,7 @@
 use std::fmt;
 
 /// A text that prints as it is, or with escapes.
-#[derive(Clone, Copy, Debug)]
+#[derive(Clone, Copy)]
 pub struct Shown<'a> {
     text: &'a str,
     is_escaped: bool,

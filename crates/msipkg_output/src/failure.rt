@@ -1,12 +1,13 @@
 //! Why a command failed, and where, for people to read.
 
 use crate::escape::Shown;
-use msi::{Error, ParseError};
+use crate::json::JsonObject;
+use msi::{Error, ErrorKind, ParseError};
 use std::alloc::{AllocError, AllocFailed, Global};
 use std::{fmt, io};
 
 /// What went wrong.
-#[derive(Debug, Drop)]
+#[derive(Drop)]
 pub enum Cause {
     /// A call of the library.
     Package(Error),
@@ -23,26 +24,41 @@ pub enum Cause {
 impl fmt::Display for Cause {
     fn fmt<W: fmt::Write>(&self, f: &mut fmt::Formatter<W>) -> fmt::Result {
         match self {
-            Cause::Package(error) => write!(f, "{error}"),
-            Cause::File(error) => write!(f, "{error}"),
-            Cause::Query(error) => write!(f, "{error}"),
-            Cause::Csv(error) => write!(f, "{error}"),
+            Cause::Package(error) => error.fmt(f),
+            Cause::File(error) => error.fmt(f),
+            Cause::Query(error) => error.fmt(f),
+            Cause::Csv(error) => error.fmt(f),
             Cause::Rule(rule) => f.write_str(rule),
         }
     }
 }
 
 /// Why a command failed. It prints as its place, such as `table Property`, and what went wrong there.
-#[derive(Debug, Drop)]
 pub struct Failure {
     place: Option<String>,
     cause: Cause,
+    is_mended_by_counting: bool,
+}
+
+/// Written out, so that a function that owns one calls one drop, and its proof doesn't go through those of the parts.
+impl Drop for Failure {
+    fn drop(self) {
+        let Failure {
+            place: _,
+            cause: _,
+            is_mended_by_counting: _,
+        } = self;
+    }
 }
 
 impl Failure {
     /// Returns a failure of no special place.
     pub fn new(cause: Cause) -> Failure {
-        Failure { place: None, cause }
+        Failure {
+            place: None,
+            cause,
+            is_mended_by_counting: false,
+        }
     }
 
     /// Returns the failure of a rule of the program.
@@ -53,16 +69,37 @@ impl Failure {
     /// Returns this failure, in the place of this kind and name, as `table` and `Property`. Where it has a place
     /// already, or there is no memory for one, it stays as it is.
     pub fn at(self, alloc: Global, kind: &str, name: &str) -> Failure {
-        let Failure { place, cause } = self;
-        match place {
-            Some(place) => Failure {
-                place: Some(place),
-                cause,
-            },
-            None => Failure {
-                place: place_of(alloc, kind, name).ok(),
-                cause,
-            },
+        if self.place.is_some() {
+            return self;
+        }
+        let Failure {
+            place: _,
+            cause,
+            is_mended_by_counting,
+        } = self;
+        Failure {
+            place: place_of(alloc, kind, name).ok(),
+            cause,
+            is_mended_by_counting,
+        }
+    }
+
+    /// Returns this failure, as one that won't come any more once the texts of the package are counted anew.
+    pub fn mended_by_counting(mut self) -> Failure {
+        self.is_mended_by_counting = true;
+        self
+    }
+
+    /// Returns whether the failure won't come any more once the texts of the package are counted anew.
+    pub fn is_mended_by_counting(&self) -> bool {
+        self.is_mended_by_counting
+    }
+
+    /// Returns whether a call of the library found invalid data.
+    pub fn is_invalid_data(&self) -> bool {
+        match &self.cause {
+            Cause::Package(error) => matches!(error.kind(), ErrorKind::InvalidData),
+            _ => false,
         }
     }
 }
@@ -78,7 +115,7 @@ impl fmt::Display for Failure {
         if let Some(place) = &self.place {
             write!(f, "{place}: ")?;
         }
-        write!(f, "{}", self.cause)
+        self.cause.fmt(f)
     }
 }
 
@@ -116,4 +153,15 @@ impl From<csv::Error> for Failure {
     fn from(error: csv::Error) -> Failure {
         Failure::new(Cause::Csv(error))
     }
+}
+
+/// Returns the line of a file that failed, as JSON.
+///
+/// # Errors
+/// Fails if memory is refused.
+pub fn failure_json(alloc: Global, file: &str, failure: &Failure) -> Result<String, AllocError> {
+    let mut object = JsonObject::new(alloc)?;
+    object.put_text("file", Some(file))?;
+    object.put_shown("error", failure)?;
+    object.finish()
 }

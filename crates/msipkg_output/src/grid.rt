@@ -2,21 +2,36 @@
 
 use crate::style::Style;
 use std::alloc::{AllocError, Global};
+use std::fmt::Display;
 use std::io::{self, Write};
 
 /// Rows of texts under a head.
-#[derive(Drop)]
 pub struct Grid {
-    head: Vec<String>,
-    rows: Vec<Vec<String>>,
+    alloc: Global,
+    /// How many texts a row has: at least one.
+    width: usize,
+    /// The texts, row by row, those of the head first.
+    cells: Vec<String>,
+}
+
+/// Written out, so that a function that owns one calls one drop, and its proof doesn't go through those of the parts.
+impl Drop for Grid {
+    fn drop(self) {
+        let Grid {
+            alloc: _,
+            width: _,
+            cells: _,
+        } = self;
+    }
 }
 
 impl Grid {
-    /// Returns a grid with this head and no rows.
-    pub fn new(alloc: Global, head: Vec<String>) -> Grid {
+    /// Returns a grid whose rows have so many texts, or one. The first row that is put is its head.
+    pub fn new(alloc: Global, width: usize) -> Grid {
         Grid {
-            head,
-            rows: Vec::new(alloc),
+            alloc,
+            width: width.max(1),
+            cells: Vec::new(alloc),
         }
     }
 
@@ -25,32 +40,41 @@ impl Grid {
     /// # Errors
     /// Fails if memory is refused.
     pub fn headed(alloc: Global, names: &[&str]) -> Result<Grid, AllocError> {
-        let mut head = Vec::new(alloc);
+        let mut grid = Grid::new(alloc, names.len());
         for name in names {
-            head.push(String::from_str(alloc, name)?)?;
+            grid.put(name)?;
         }
-        Ok(Grid::new(alloc, head))
+        Ok(grid)
     }
 
-    /// Puts a row behind the others.
+    /// Puts what a value prints as the next text of a row.
     ///
     /// # Errors
     /// Fails if memory is refused.
-    pub fn push(&mut self, row: Vec<String>) -> Result<(), AllocError> {
-        Ok(self.rows.push(row)?)
+    pub fn put<D: Display>(&mut self, value: &D) -> Result<(), AllocError> {
+        let text = value.to_string(self.alloc)?;
+        self.push(text)
+    }
+
+    /// Puts the next text of a row.
+    ///
+    /// # Errors
+    /// Fails if memory is refused.
+    pub fn push(&mut self, text: String) -> Result<(), AllocError> {
+        Ok(self.cells.push(text)?)
     }
 
     /// Writes the grid as the style has it: aligned on a terminal, and else a line for each row, its texts parted by
-    /// tabs.
+    /// tabs, without the head.
     ///
     /// # Errors
     /// Fails if memory is refused, and as the writer does.
-    pub fn print<W: Write>(&self, alloc: Global, style: Style, output: &mut W) -> io::Result<()> {
+    pub fn print<W: Write>(&self, style: Style, output: &mut W) -> io::Result<()> {
         if style.is_terminal {
-            return self.write(alloc, output);
+            return self.write(output);
         }
-        for row in &self.rows {
-            write_parted(row.as_slice(), output)?;
+        for row in self.cells.as_slice().chunks(self.width.max(1)).skip(1) {
+            write_parted(row, output)?;
         }
         Ok(())
     }
@@ -60,24 +84,24 @@ impl Grid {
     ///
     /// # Errors
     /// Fails if memory is refused, and as the writer does.
-    pub fn write<W: Write>(&self, alloc: Global, output: &mut W) -> io::Result<()> {
-        let widths = self.widths(alloc)?;
-        write_row(self.head.as_slice(), widths.as_slice(), output)?;
-        write_dashes(widths.as_slice(), output)?;
-        for row in &self.rows {
-            write_row(row.as_slice(), widths.as_slice(), output)?;
+    pub fn write<W: Write>(&self, output: &mut W) -> io::Result<()> {
+        let widths = self.widths()?;
+        let mut is_head = true;
+        for row in self.cells.as_slice().chunks(self.width.max(1)) {
+            write_row(row, widths.as_slice(), output)?;
+            if is_head {
+                write_dashes(widths.as_slice(), output)?;
+            }
+            is_head = false;
         }
         Ok(())
     }
 
     /// The width of each column.
-    fn widths(&self, alloc: Global) -> Result<Vec<usize>, AllocError> {
-        let mut widths = Vec::new(alloc);
-        for name in &self.head {
-            widths.push(width_of(name.as_str()))?;
-        }
-        for row in &self.rows {
-            widen(widths.as_mut_slice(), row.as_slice());
+    fn widths(&self) -> Result<Vec<usize>, AllocError> {
+        let mut widths = vec![in self.alloc; 0usize; self.width]?;
+        for row in self.cells.as_slice().chunks(self.width.max(1)) {
+            widen(widths.as_mut_slice(), row);
         }
         Ok(widths)
     }
@@ -97,43 +121,43 @@ fn widen(widths: &mut [usize], row: &[String]) {
 
 /// Writes a row, its texts filled up but for the last.
 fn write_row<W: Write>(row: &[String], widths: &[usize], output: &mut W) -> io::Result<()> {
-    for i in 0..row.len() {
+    for i in 0..row.len().min(widths.len()) {
         let text = row[i].as_str();
-        write!(output, "{text}")?;
-        if i + 1 < row.len() && i < widths.len() {
-            let missing = widths[i].saturating_sub(width_of(text));
-            write_filled(' ', missing, output)?;
-            write!(output, "  ")?;
+        output.write_all(text.as_bytes())?;
+        if i + 1 < row.len() {
+            write_filled(b" ", widths[i].saturating_sub(width_of(text)), output)?;
+            output.write_all(b"  ")?;
         }
     }
-    writeln!(output)
+    output.write_all(b"\n")
 }
 
 /// Writes texts on a line, parted by tabs.
 fn write_parted<W: Write>(texts: &[String], output: &mut W) -> io::Result<()> {
     let mut before = "";
     for text in texts {
-        write!(output, "{before}{text}")?;
+        output.write_all(before.as_bytes())?;
+        output.write_all(text.as_bytes())?;
         before = "\t";
     }
-    writeln!(output)
+    output.write_all(b"\n")
 }
 
 /// Writes the line under the head.
 fn write_dashes<W: Write>(widths: &[usize], output: &mut W) -> io::Result<()> {
     let mut before = "";
     for width in widths {
-        write!(output, "{before}")?;
-        write_filled('-', *width, output)?;
+        output.write_all(before.as_bytes())?;
+        write_filled(b"-", *width, output)?;
         before = "  ";
     }
-    writeln!(output)
+    output.write_all(b"\n")
 }
 
 /// Writes a character so many times.
-fn write_filled<W: Write>(c: char, count: usize, output: &mut W) -> io::Result<()> {
+fn write_filled<W: Write>(character: &[u8], count: usize, output: &mut W) -> io::Result<()> {
     for _ in 0..count {
-        write!(output, "{c}")?;
+        output.write_all(character)?;
     }
     Ok(())
 }

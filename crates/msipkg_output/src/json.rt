@@ -4,84 +4,162 @@ use crate::escape::is_hidden;
 use crate::style::Style;
 use serde_json::Value;
 use std::alloc::{AllocError, Global};
+use std::fmt::Display;
 use std::io::{self, Write};
 
-/// An object that is being written.
-#[derive(Drop)]
+/// An object that is being written. Lists and objects in it are opened and closed in turn.
+///
+/// # Errors
+/// Each call fails if memory is refused.
 pub struct JsonObject {
     alloc: Global,
     text: String,
+    /// Whether nothing stands in front of the next member or item.
+    is_first: bool,
+}
+
+/// Written out, so that a function that owns one calls one drop, and its proof doesn't go through those of the parts.
+impl Drop for JsonObject {
+    fn drop(self) {
+        let JsonObject {
+            alloc: _,
+            text: _,
+            is_first: _,
+        } = self;
+    }
 }
 
 impl JsonObject {
     /// Returns an object without members.
-    ///
-    /// # Errors
-    /// Fails if memory is refused.
     pub fn new(alloc: Global) -> Result<JsonObject, AllocError> {
         let mut text = String::new(alloc);
         text.push('{')?;
-        Ok(JsonObject { alloc, text })
-    }
-
-    /// Puts a member behind the others.
-    ///
-    /// # Errors
-    /// Fails if memory is refused.
-    pub fn put(&mut self, name: &str, value: Value) -> Result<(), AllocError> {
-        let value = value.to_string(self.alloc)?;
-        self.put_json(name, value.as_str())
+        Ok(JsonObject {
+            alloc,
+            text,
+            is_first: true,
+        })
     }
 
     /// Puts a member whose value is written as JSON already.
-    ///
-    /// # Errors
-    /// Fails if memory is refused.
     pub fn put_json(&mut self, name: &str, value: &str) -> Result<(), AllocError> {
-        if self.text.len() > 1 {
-            self.text.push(',')?;
-        }
-        self.text.push_str(quoted(self.alloc, name)?.as_str())?;
-        self.text.push(':')?;
+        self.put_name(name)?;
         self.text.push_str(value)
     }
 
     /// Puts a text, or null where there is none.
-    ///
-    /// # Errors
-    /// Fails if memory is refused.
     pub fn put_text(&mut self, name: &str, text: Option<&str>) -> Result<(), AllocError> {
-        let value = text_value(self.alloc, text)?;
-        self.put(name, value)
-    }
-
-    /// Puts a number, or null where there is none.
-    ///
-    /// # Errors
-    /// Fails if memory is refused.
-    pub fn put_number(&mut self, name: &str, number: Option<i64>) -> Result<(), AllocError> {
-        match number {
-            Some(number) => self.put(name, Value::from(number)),
-            None => self.put(name, Value::Null),
+        self.put_name(name)?;
+        match text {
+            Some(text) => self.push_quoted(text),
+            None => self.text.push_str("null"),
         }
     }
 
+    /// Puts what a value prints, as a text.
+    pub fn put_shown<D: Display>(&mut self, name: &str, value: &D) -> Result<(), AllocError> {
+        let text = value.to_string(self.alloc)?;
+        self.put_text(name, Some(text.as_str()))
+    }
+
+    /// Puts a number, or null where there is none.
+    pub fn put_number(&mut self, name: &str, number: Option<i64>) -> Result<(), AllocError> {
+        self.put_name(name)?;
+        match number {
+            Some(number) => self.text.write(number),
+            None => self.text.push_str("null"),
+        }
+    }
+
+    /// Puts whether something holds.
+    pub fn put_truth(&mut self, name: &str, holds: bool) -> Result<(), AllocError> {
+        self.put_json(name, if holds { "true" } else { "false" })
+    }
+
+    /// Puts a list, whose items follow until it is closed.
+    pub fn open_list(&mut self, name: &str) -> Result<(), AllocError> {
+        self.put_name(name)?;
+        self.open('[')
+    }
+
+    /// Puts an object, whose members follow until it is closed.
+    pub fn open_object(&mut self, name: &str) -> Result<(), AllocError> {
+        self.put_name(name)?;
+        self.open('{')
+    }
+
+    /// Puts a text into the list.
+    pub fn put_text_item(&mut self, text: &str) -> Result<(), AllocError> {
+        self.separate()?;
+        self.push_quoted(text)
+    }
+
+    /// Puts a number into the list.
+    pub fn put_number_item(&mut self, number: i64) -> Result<(), AllocError> {
+        self.separate()?;
+        self.text.write(number)
+    }
+
+    /// Puts an object into the list, whose members follow until it is closed.
+    pub fn open_item(&mut self) -> Result<(), AllocError> {
+        self.separate()?;
+        self.open('{')
+    }
+
+    /// Closes the object, or the one in the list.
+    pub fn close_item(&mut self) -> Result<(), AllocError> {
+        self.close('}')
+    }
+
+    /// Closes the list.
+    pub fn close_list(&mut self) -> Result<(), AllocError> {
+        self.close(']')
+    }
+
+    /// Returns the text so far, behind which more members and the end of the object are still to stand.
+    pub fn begun(&self) -> &str {
+        self.text.as_str()
+    }
+
     /// Returns the text of the whole object.
-    ///
-    /// # Errors
-    /// Fails if memory is refused.
     pub fn finish(self) -> Result<String, AllocError> {
-        let JsonObject { alloc: _, mut text } = self;
+        let JsonObject {
+            alloc: _,
+            mut text,
+            is_first: _,
+        } = self;
         text.push('}')?;
         Ok(text)
     }
-}
 
-/// The JSON value of a text, or null where there is none.
-fn text_value(alloc: Global, text: Option<&str>) -> Result<Value, AllocError> {
-    match text {
-        Some(text) => Value::try_from_str(alloc, text),
-        None => Ok(Value::Null),
+    /// Puts the name of a member.
+    fn put_name(&mut self, name: &str) -> Result<(), AllocError> {
+        self.separate()?;
+        self.push_quoted(name)?;
+        self.text.push(':')
+    }
+
+    /// Puts a comma behind what stands in front.
+    fn separate(&mut self) -> Result<(), AllocError> {
+        if !self.is_first {
+            self.text.push(',')?;
+        }
+        self.is_first = false;
+        Ok(())
+    }
+
+    fn push_quoted(&mut self, text: &str) -> Result<(), AllocError> {
+        self.text.push_str(quoted(self.alloc, text)?.as_str())
+    }
+
+    fn open(&mut self, bracket: char) -> Result<(), AllocError> {
+        self.is_first = true;
+        self.text.push(bracket)
+    }
+
+    fn close(&mut self, bracket: char) -> Result<(), AllocError> {
+        self.is_first = false;
+        self.text.push(bracket)
     }
 }
 
@@ -93,21 +171,25 @@ pub fn quoted(alloc: Global, text: &str) -> Result<String, AllocError> {
     Value::try_from_str(alloc, text)?.to_string(alloc)
 }
 
-/// Returns a list of texts that are written as JSON already.
+/// Writes a text as a JSON string, as the style has it.
 ///
 /// # Errors
-/// Fails if memory is refused.
-pub fn list(alloc: Global, items: &[String]) -> Result<String, AllocError> {
-    let mut text = String::new(alloc);
-    text.push('[')?;
-    for item in items {
-        if text.len() > 1 {
-            text.push(',')?;
-        }
-        text.push_str(item.as_str())?;
+/// Fails if memory is refused, and as the writer does.
+pub fn write_quoted<W: Write>(
+    alloc: Global,
+    style: Style,
+    text: &str,
+    output: &mut W,
+) -> io::Result<()> {
+    if text.bytes().all(|byte| is_plain(style, byte)) {
+        return write!(output, "\"{text}\"");
     }
-    text.push(']')?;
-    Ok(text)
+    write_text(style, quoted(alloc, text)?.as_str(), output)
+}
+
+/// Whether a byte stands for itself in a JSON string, wherever it is printed.
+fn is_plain(style: Style, byte: u8) -> bool {
+    byte >= 0x20 && byte != b'"' && byte != b'\\' && (byte < 0x7F || !style.is_escaped)
 }
 
 /// Writes JSON on a line. If the style escapes, characters that a terminal would obey or not show are written as
@@ -117,7 +199,7 @@ pub fn list(alloc: Global, items: &[String]) -> Result<String, AllocError> {
 /// Fails as the writer does.
 pub fn write_line<W: Write>(style: Style, json: &str, line: &mut W) -> io::Result<()> {
     write_text(style, json, line)?;
-    writeln!(line)
+    line.write_all(b"\n")
 }
 
 /// Writes JSON as `write_line` does, without the end of the line.
@@ -128,20 +210,25 @@ pub fn write_text<W: Write>(style: Style, json: &str, line: &mut W) -> io::Resul
     if style.is_escaped {
         write_escaped(json, line)
     } else {
-        write!(line, "{json}")
+        line.write_all(json.as_bytes())
     }
 }
 
 /// Writes JSON with escapes in place of hidden characters.
 fn write_escaped<W: Write>(json: &str, line: &mut W) -> io::Result<()> {
     for c in json.chars() {
-        if is_hidden(c) {
-            write_units(c, line)?;
-        } else {
-            write!(line, "{c}")?;
-        }
+        write_character(c, line)?;
     }
     Ok(())
+}
+
+/// Writes a character, or its escape if it is hidden.
+fn write_character<W: Write>(c: char, line: &mut W) -> io::Result<()> {
+    if is_hidden(c) {
+        write_units(c, line)
+    } else {
+        write!(line, "{c}")
+    }
 }
 
 /// Writes a character as one or two escapes, each of a unit of UTF-16.

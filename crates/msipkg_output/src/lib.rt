@@ -3,8 +3,10 @@
 //! folder.
 #![tactic(auto)]
 
+pub mod columns;
 pub mod escape;
 pub mod failure;
+pub mod folder;
 pub mod grid;
 pub mod json;
 pub mod opening;
@@ -13,14 +15,20 @@ pub mod rows;
 pub mod safe_names;
 pub mod stored;
 pub mod style;
+pub mod tables;
+pub mod texts;
 
+pub use columns::{ColumnTypeText, column_json, put_columns};
 pub use escape::Shown;
-pub use failure::{Cause, Failure};
+pub use failure::{Cause, Failure, failure_json};
+pub use folder::{Folder, at_file, path_in};
 pub use grid::Grid;
 pub use json::JsonObject;
 pub use opening::open_package;
-pub use replacing::{create_file, overwrite_file, replace_file};
-pub use rows::{Format, write_rows};
+pub use replacing::{open_new, replace_file, settle, write_file};
+pub use rows::{Format, write_json_value, write_rows};
 pub use safe_names::{SafeNames, safe_name};
 pub use stored::{StoredStreams, stored_streams, stream_bytes};
 pub use style::Style;
+pub use tables::{chosen_tables, is_list, table_named};
+pub use texts::{TimeText, UuidText, kind_name, push_key, stream_name};

@@ -3,7 +3,7 @@
 
 use crate::failure::Failure;
 use std::alloc::{AllocError, Global};
-use std::fs::{self, OpenFile, OpenOptions};
+use std::fs::{self, OpenFile, OpenOptions, Permissions};
 use std::io::{self, Write};
 use std::rt::Files;
 
@@ -22,77 +22,92 @@ where
     R::File: OpenFile + Write + Drop,
 {
     let target = fs::canonicalize(rt, path)?.into_string();
-    let old = fs::metadata(rt, target.as_str())?;
-    if !old.is_file() {
-        return Err(Failure::rule("it is no regular file"));
-    }
-    let permissions = old.permissions();
-    let (beside, mut file) = open_beside(rt, target.as_str())?;
-    let written = match file.set_permissions(permissions) {
-        Ok(()) => write_synced(&mut file, bytes),
-        Err(error) => Err(error),
-    };
-    drop(file);
-    settle(rt, written, beside.as_str(), target.as_str())
+    let permissions = permissions_of(rt, target.as_str())?;
+    let (made, file) = open_beside(rt, target.as_str())?;
+    let written = write_synced(file, Some(permissions), bytes);
+    settle(rt, written, made.as_str(), target.as_str())
 }
 
-/// Makes a file of these bytes, where there is none.
+/// Makes a file of these bytes. If one is there already, it is replaced where `is_forced` says so, and a symbolic link
+/// itself: it isn't followed.
 ///
 /// # Errors
-/// Fails if there is a file of this path already, and as the calls of the system do; then no new file is left.
-pub fn create_file<R>(rt: &R, path: &str, bytes: &[u8]) -> Result<(), Failure>
-where
-    R: Files,
-    R::File: OpenFile + Write + Drop,
-{
-    let mut file = OpenOptions::new()
-        .write(true)
-        .create_new(true)
-        .open(rt, path)?;
-    let written = write_synced(&mut file, bytes);
-    drop(file);
-    if written.is_err() {
-        let _ = fs::remove_file(rt, path);
-    }
-    Ok(written?)
-}
-
-/// Makes a file of these bytes. One that is there already is replaced, and a symbolic link itself: it isn't followed.
-///
-/// # Errors
-/// Fails as the calls of the system do. Then an old file is as it was, and no other is left beside it.
-pub fn overwrite_file<R>(rt: &R, path: &str, bytes: &[u8]) -> Result<(), Failure>
+/// Fails if a file is there that isn't to be replaced, and as the calls of the system do. Then an old file is as it
+/// was, and no other is left.
+pub fn write_file<R>(rt: &R, path: &str, is_forced: bool, bytes: &[u8]) -> Result<(), Failure>
 where
     R: Files + AllocGlobal,
     R::File: OpenFile + Write + Drop,
 {
-    let (beside, mut file) = open_beside(rt, path)?;
-    let written = write_synced(&mut file, bytes);
-    drop(file);
-    settle(rt, written, beside.as_str(), path)
+    let (made, file) = open_new(rt, path, is_forced)?;
+    let written = write_synced(file, None, bytes);
+    settle(rt, written, made.as_str(), path)
+}
+
+/// Opens a new file that is to have a path, and returns the path that it has until then too: the same, or one beside it
+/// if a file that is there already is to be replaced. Whoever has written it ends by `settle`.
+///
+/// # Errors
+/// Fails if a file is there that isn't to be replaced, and as the calls of the system do. Then no new file is left.
+pub fn open_new<R>(rt: &R, path: &str, is_forced: bool) -> Result<(String, R::File), Failure>
+where
+    R: Files + AllocGlobal,
+    R::File: Drop,
+{
+    if is_forced {
+        return open_beside(rt, path);
+    }
+    let made = String::from_str(rt.alloc(), path)?;
+    let file = new_file(rt, path)?;
+    Ok((made, file))
+}
+
+/// The permissions of a file.
+fn permissions_of<R: Files + AllocGlobal>(rt: &R, path: &str) -> Result<Permissions, Failure> {
+    let old = fs::metadata(rt, path)?;
+    if !old.is_file() {
+        return Err(Failure::rule("it is no regular file"));
+    }
+    Ok(old.permissions())
 }
 
 /// Writes bytes to a file, and waits until the disk has them.
-fn write_synced<F: OpenFile + Write>(file: &mut F, bytes: &[u8]) -> io::Result<()> {
+fn write_synced<F: OpenFile + Write + Drop>(
+    mut file: F,
+    permissions: Option<Permissions>,
+    bytes: &[u8],
+) -> Result<(), Failure> {
+    if let Some(permissions) = permissions {
+        file.set_permissions(permissions)?;
+    }
     file.write_all(bytes)?;
-    file.sync_all()
+    Ok(file.sync_all()?)
 }
 
-/// Gives the file beside the target its name, or removes it where it wasn't written.
-fn settle<R: Files>(
+/// Gives a file that was made the path that it is to have, or removes it where it wasn't written.
+///
+/// # Errors
+/// Fails as writing it did, and as the calls of the system do. Then an old file of the path is as it was, and the new
+/// one isn't left.
+pub fn settle<R: Files>(
     rt: &R,
-    written: io::Result<()>,
-    beside: &str,
-    target: &str,
+    written: Result<(), Failure>,
+    made: &str,
+    path: &str,
 ) -> Result<(), Failure> {
     let settled = match written {
-        Ok(()) => fs::rename(rt, beside, target),
-        Err(error) => Err(error),
+        Ok(()) => rename(rt, made, path),
+        Err(failure) => Err(failure),
     };
     if settled.is_err() {
-        let _ = fs::remove_file(rt, beside);
+        let _ = fs::remove_file(rt, made);
     }
-    Ok(settled?)
+    settled
+}
+
+/// Gives a file another path.
+fn rename<R: Files>(rt: &R, made: &str, path: &str) -> Result<(), Failure> {
+    Ok(fs::rename(rt, made, path)?)
 }
 
 /// Opens a new file beside another, and returns its path too.
@@ -103,17 +118,21 @@ where
 {
     for number in 0..TRIES {
         let path = beside_path(rt.alloc(), target, number)?;
-        match OpenOptions::new()
-            .write(true)
-            .create_new(true)
-            .open(rt, path.as_str())
-        {
+        match new_file(rt, path.as_str()) {
             Ok(file) => return Ok((path, file)),
             Err(error) if error.kind() == io::ErrorKind::AlreadyExists => {}
             Err(error) => return Err(Failure::from(error)),
         }
     }
     Err(Failure::rule("each name beside it that was tried is taken"))
+}
+
+/// Opens a new file.
+fn new_file<R: Files>(rt: &R, path: &str) -> io::Result<R::File> {
+    OpenOptions::new()
+        .write(true)
+        .create_new(true)
+        .open(rt, path)
 }
 
 /// The path of a new file beside another.

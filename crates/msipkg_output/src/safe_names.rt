@@ -5,7 +5,7 @@ use std::alloc::{AllocError, Global};
 use std::collections::BTreeSet;
 
 /// The names of devices in Windows, which no file may have there.
-const DEVICES: [&str; 22] = [
+static DEVICES: [&str; 22] = [
     "CON", "PRN", "AUX", "NUL", "COM1", "COM2", "COM3", "COM4", "COM5", "COM6", "COM7", "COM8",
     "COM9", "LPT1", "LPT2", "LPT3", "LPT4", "LPT5", "LPT6", "LPT7", "LPT8", "LPT9",
 ];
@@ -14,11 +14,17 @@ const DEVICES: [&str; 22] = [
 const SIGNS: &str = "._-#+(){}@, ";
 
 /// The names that are given out already.
-#[derive(Drop)]
 pub struct SafeNames {
     alloc: Global,
     /// The names, with small letters.
     taken: BTreeSet<String>,
+}
+
+/// Written out, so that a function that owns one calls one drop, and its proof doesn't go through those of the parts.
+impl Drop for SafeNames {
+    fn drop(self) {
+        let SafeNames { alloc: _, taken: _ } = self;
+    }
 }
 
 impl SafeNames {
@@ -69,12 +75,8 @@ pub fn safe_name(alloc: Global, name: &str) -> Result<String, AllocError> {
     let is_device = names_device(name);
     for (i, c) in name.char_indices() {
         let is_edge = i == 0 || i == last;
-        let is_bare_edge = is_edge && matches!(c, '.' | ' ');
-        if is_plain(c) && !is_bare_edge && !(i == 0 && is_device) {
-            safe.push(c)?;
-        } else {
-            push_escaped(alloc, &mut safe, c)?;
-        }
+        let is_kept = is_plain(c) && !(is_edge && is_blank(c)) && !(i == 0 && is_device);
+        push(&mut safe, c, is_kept)?;
     }
     Ok(safe)
 }
@@ -83,11 +85,8 @@ pub fn safe_name(alloc: Global, name: &str) -> Result<String, AllocError> {
 fn spelled_name(alloc: Global, name: &str) -> Result<String, AllocError> {
     let mut spelled = String::new(alloc);
     for c in name.chars() {
-        if is_plain(c) && !c.is_ascii_alphabetic() && !matches!(c, '.' | ' ') {
-            spelled.push(c)?;
-        } else {
-            push_escaped(alloc, &mut spelled, c)?;
-        }
+        let is_kept = is_plain(c) && !c.is_ascii_alphabetic() && !is_blank(c);
+        push(&mut spelled, c, is_kept)?;
     }
     Ok(spelled)
 }
@@ -97,24 +96,37 @@ fn is_plain(c: char) -> bool {
     c.is_ascii_alphanumeric() || SIGNS.contains(c)
 }
 
-/// Puts the escape of a character.
-fn push_escaped(alloc: Global, safe: &mut String, c: char) -> Result<(), AllocError> {
+/// Whether a character may not stand for itself at the ends of a name.
+fn is_blank(c: char) -> bool {
+    matches!(c, '.' | ' ')
+}
+
+/// Puts a character, or its escape.
+fn push(safe: &mut String, c: char, is_kept: bool) -> Result<(), AllocError> {
     let code = u32::from(c);
-    let escape = if code < 0x80 {
-        format!(in alloc; "%{code:02x}")?
+    if is_kept {
+        safe.push(c)
+    } else if code < 0x80 {
+        write!(safe, "%{code:02x}")
     } else {
-        format!(in alloc; "%{{{code:x}}}")?
-    };
-    safe.push_str(escape.as_str())
+        write!(safe, "%{{{code:x}}}")
+    }
 }
 
 /// Whether the name up to its first dot is that of a device.
 fn names_device(name: &str) -> bool {
-    let stem = match name.split_once('.') {
-        Some((stem, _)) => stem,
-        None => name,
-    };
-    DEVICES
-        .iter()
-        .any(|device| device.eq_ignore_ascii_case(stem.trim()))
+    match name.split_once('.') {
+        Some((stem, _)) => is_device(stem.trim()),
+        None => is_device(name.trim()),
+    }
+}
+
+/// Whether a name is that of a device.
+fn is_device(name: &str) -> bool {
+    for device in &DEVICES {
+        if device.eq_ignore_ascii_case(name) {
+            return true;
+        }
+    }
+    false
 }

@@ -11,10 +11,19 @@ use std::io::Read;
 use std::rt::Files;
 
 /// The streams of a file by the texts of their names, however these are stored.
-#[derive(Drop)]
 pub struct StoredStreams {
     names: BTreeMap<String, Name>,
     contents: Contents,
+}
+
+/// Written out, so that a function that owns one calls one drop, and its proof doesn't go through those of the parts.
+impl Drop for StoredStreams {
+    fn drop(self) {
+        let StoredStreams {
+            names: _,
+            contents: _,
+        } = self;
+    }
 }
 
 impl StoredStreams {

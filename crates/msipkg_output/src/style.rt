@@ -3,7 +3,7 @@
 use crate::escape::Shown;
 
 /// How texts are printed.
-#[derive(Clone, Copy, Debug)]
+#[derive(Clone, Copy)]
 pub struct Style {
     /// Whether people read the output on a terminal.
     pub is_terminal: bool,

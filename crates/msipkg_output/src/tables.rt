@@ -1,0 +1,60 @@
+//! The tables that a command is about.
+
+use crate::failure::Failure;
+use msi::{Package, Source, Table};
+use std::alloc::{AllocError, Global};
+
+/// Returns whether a table only lists what the others are.
+pub fn is_list(table: &Table) -> bool {
+    matches!(table.name(), "_Columns" | "_Tables")
+}
+
+/// Returns the table of a name.
+///
+/// # Errors
+/// Fails if it isn't there, at its name.
+pub fn table_named<'a, F: Source>(
+    alloc: Global,
+    package: &'a Package<F>,
+    name: &str,
+) -> Result<&'a Table, Failure> {
+    match package.get_table(name) {
+        Some(table) => Ok(table),
+        None => Err(Failure::rule("there is no table of this name").at(alloc, "table", name)),
+    }
+}
+
+/// Returns the tables of these names, or all tables where there is none. Those that only list what the others are
+/// aren't among all, unless `has_lists` says so.
+///
+/// # Errors
+/// Fails if a table isn't there, at its name, and if memory is refused.
+pub fn chosen_tables<'a, F: Source>(
+    alloc: Global,
+    package: &'a Package<F>,
+    names: &[&str],
+    has_lists: bool,
+) -> Result<Vec<&'a Table>, Failure> {
+    let mut tables = Vec::new(alloc);
+    for name in names {
+        tables.push(table_named(alloc, package, name)?)?;
+    }
+    if names.is_empty() {
+        add_tables(package, has_lists, &mut tables)?;
+    }
+    Ok(tables)
+}
+
+/// Adds all tables, with those that only list what the others are, or without.
+fn add_tables<'a, F: Source>(
+    package: &'a Package<F>,
+    has_lists: bool,
+    tables: &mut Vec<&'a Table>,
+) -> Result<(), AllocError> {
+    for table in package.tables() {
+        if has_lists || !is_list(table) {
+            tables.push(table)?;
+        }
+    }
+    Ok(())
+}
