@@ -3,11 +3,11 @@
 use crate::calls::Call::{Flush, Length, Read, ReadAll, Rewind, Write, WriteAll};
 use crate::calls::End::{Flagged, Refused, Well};
 use crate::calls::{DIGITS, Step, digits, gone};
+use crate::shown::is_shown;
 use msi_container_device::{Buffered, Metered};
 use msi_text::Error;
 use std::alloc::Global;
 use std::io::{self, Cursor, Seek, SeekFrom};
-use std::process::Abort;
 
 /// Reads of memory end at its end.
 const READS: [Step; 8] = [
@@ -46,10 +46,12 @@ fn memory_goes(alloc: Global, row: &InMemory) -> Result<bool, Error> {
 }
 
 /// Checks that memory is read to its end, and written past it.
-pub(crate) fn memory_is_read_to_its_end_and_written_past_it(rt: &HostRuntime, abort: &impl Abort) {
+pub(crate) fn memory_is_read_to_its_end_and_written_past_it(rt: &HostRuntime) -> bool {
+    let mut are_shown = true;
     for row in &IN_MEMORY {
-        assert!(abort; memory_goes(rt.alloc(), row).expect(abort, "a device"));
+        are_shown &= is_shown(rt, &"memory", memory_goes(rt.alloc(), row));
     }
+    are_shown
 }
 
 /// The ten digits in a file that counts its writes and flushes. A stubborn one fails to read, takes no byte, and says
@@ -144,14 +146,12 @@ fn metered_goes(alloc: Global, row: &OverFile) -> Result<bool, Error> {
 }
 
 /// Checks that files are written and read, and that errors raise the flag.
-pub(crate) fn files_are_written_and_read_and_faults_raise_the_flag(
-    rt: &HostRuntime,
-    abort: &impl Abort,
-) {
+pub(crate) fn files_are_written_and_read_and_faults_raise_the_flag(rt: &HostRuntime) -> bool {
+    let mut are_shown = true;
     for row in &METERED {
-        let is_so = metered_goes(rt.alloc(), row).expect(abort, "a device");
-        assert!(abort; is_so, "stubborn: {}", row.0);
+        are_shown &= is_shown(rt, &row.0, metered_goes(rt.alloc(), row));
     }
+    are_shown
 }
 
 /// Two pieces over the digits, and two behind them.
@@ -181,6 +181,6 @@ fn are_collected(alloc: Global) -> Result<bool, Error> {
 }
 
 /// Checks that pieces are collected, and read back.
-pub(crate) fn pieces_are_collected_and_read_back(rt: &HostRuntime, abort: &impl Abort) {
-    assert!(abort; are_collected(rt.alloc()).expect(abort, "a device"));
+pub(crate) fn pieces_are_collected_and_read_back(rt: &HostRuntime) -> bool {
+    is_shown(rt, &"pieces", are_collected(rt.alloc()))
 }

@@ -1,7 +1,6 @@
 //! `wrap` and `raw`.
 
 use crate::runs::{check, path, prints, shows};
-use std::process::Abort;
 use std::{fs, io};
 
 /// Whether a file of so many bytes is made of a stream of this size.
@@ -20,13 +19,15 @@ static WRAPPED: [(&'static str, usize, u64, &'static str); 4] = [
 ];
 
 /// Checks that `wrap` makes files of the right size, and that `raw` lists their stream.
-pub(crate) fn streams_are_wrapped_and_listed(rt: &HostRuntime, abort: &impl Abort) {
-    let path = path(rt, "wrapped").expect(abort, "a path");
+pub(crate) fn streams_are_wrapped_and_listed(rt: &HostRuntime) -> io::Result<bool> {
+    let mut are_so = true;
+    let path = path(rt, "wrapped")?;
     for row in &WRAPPED {
         let all = ["wrap", "FILE", row.0];
-        check(abort, &all, wraps(rt, &all, path.as_str(), row.1, row.2));
+        are_so &= check(rt, &all, wraps(rt, &all, path.as_str(), row.1, row.2));
         let raw = ["raw", "FILE"];
-        check(abort, &raw, shows(rt, &raw, path.as_str(), row.3));
+        are_so &= check(rt, &raw, shows(rt, &raw, path.as_str(), row.3));
     }
-    fs::remove_file(rt, path.as_str()).expect(abort, "a file");
+    fs::remove_file(rt, path.as_str())?;
+    Ok(are_so)
 }

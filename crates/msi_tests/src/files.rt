@@ -2,8 +2,7 @@
 
 use crate::readme::file;
 use msi::{Error, ErrorKind};
-use std::process::{self, Abort};
-use std::{env, fs, io};
+use std::{env, fs, io, process};
 
 /// What stands at a path before it is opened.
 #[derive(Clone, Copy, Debug)]
@@ -28,15 +27,12 @@ fn path(rt: &HostRuntime) -> io::Result<String> {
     Ok(format!(in rt.alloc(); "{}/msi-{id}-files", folder.as_path().display())?)
 }
 
-/// Puts what is given at a path.
-fn put(rt: &HostRuntime, abort: &impl Abort, path: &str, given: Given) {
+/// Puts what is given at a path, where `package` is the file of a package.
+fn put(rt: &HostRuntime, path: &str, given: Given, package: &[u8]) -> io::Result<()> {
     match given {
-        Given::Nothing => {}
-        Given::Text(text) => fs::write(rt, path, text).expect(abort, "a file"),
-        Given::Package => {
-            let package = file(rt.alloc()).expect(abort, "a package");
-            fs::write(rt, path, package).expect(abort, "a file");
-        }
+        Given::Nothing => Ok(()),
+        Given::Text(text) => fs::write(rt, path, text),
+        Given::Package => fs::write(rt, path, package),
     }
 }
 
@@ -59,12 +55,16 @@ fn is_left_alone(rt: &HostRuntime, path: &str, kind: Option<ErrorKind>) -> bool 
 }
 
 /// Checks what opening takes and refuses, and that it leaves the file as it was.
-pub(crate) fn opening_leaves_the_file_as_it_was(rt: &HostRuntime, abort: &impl Abort) {
-    let path = path(rt).expect(abort, "a path");
+pub(crate) fn opening_leaves_the_file_as_it_was(rt: &HostRuntime) -> io::Result<bool> {
+    let path = path(rt)?;
+    let Ok(package) = file(rt.alloc()) else {
+        return Ok(false);
+    };
+    let mut are_left = true;
     for (given, kind) in &OPENED {
-        put(rt, abort, path.as_str(), *given);
-        let left = is_left_alone(rt, path.as_str(), *kind);
-        assert!(abort; left, "{given:?}");
+        put(rt, path.as_str(), *given, package.as_slice())?;
+        are_left &= is_left_alone(rt, path.as_str(), *kind);
         let _ = fs::remove_file(rt, path.as_str());
     }
+    Ok(are_left)
 }

@@ -1,7 +1,6 @@
 //! `new`, `tables`, `rows`, `streams`, `cat`, `put` and `recount`.
 
 use crate::runs::{check, ends_moving, path, prints, shows};
-use std::process::Abort;
 use std::{fs, io};
 
 /// Words, and what is printed.
@@ -37,13 +36,14 @@ const COLUMNS: &str = "Table\tNumber\tName\tType
 /// Checks that a new package has its system tables and a title.
 pub(crate) fn a_new_package_has_its_system_tables_and_a_title(
     rt: &HostRuntime,
-    abort: &impl Abort,
-) {
-    let path = path(rt, "new").expect(abort, "a path");
+) -> io::Result<bool> {
+    let mut are_so = true;
+    let path = path(rt, "new")?;
     for row in &NEW {
-        check(abort, row.0, shows(rt, row.0, path.as_str(), row.1));
+        are_so &= check(rt, row.0, shows(rt, row.0, path.as_str(), row.1));
     }
-    fs::remove_file(rt, path.as_str()).expect(abort, "a file");
+    fs::remove_file(rt, path.as_str())?;
+    Ok(are_so)
 }
 
 /// Whether this input, put as a stream, is the only one listed and comes back.
@@ -57,16 +57,18 @@ fn stores(rt: &HostRuntime, path: &str, input: &str) -> io::Result<bool> {
 }
 
 /// Checks that what is put is listed, and comes back.
-pub(crate) fn what_is_put_is_listed_and_comes_back(rt: &HostRuntime, abort: &impl Abort) {
-    let path = path(rt, "put").expect(abort, "a path");
+pub(crate) fn what_is_put_is_listed_and_comes_back(rt: &HostRuntime) -> io::Result<bool> {
+    let mut are_so = true;
+    let path = path(rt, "put")?;
     let new = ["new", "FILE"];
-    check(abort, &new, shows(rt, &new, path.as_str(), ""));
-    let input = "\n\"\tZ".repeat(rt.alloc(), 25_000).expect(abort, "memory");
+    are_so &= check(rt, &new, shows(rt, &new, path.as_str(), ""));
+    let input = "\n\"\tZ".repeat(rt.alloc(), 25_000)?;
     for input in [input.as_str(), "less", "", "more than before"] {
         let found = stores(rt, path.as_str(), input);
-        check(abort, &[input.get(..16).unwrap_or(input)], found);
+        are_so &= check(rt, &[input.get(..16).unwrap_or(input)], found);
     }
-    fs::remove_file(rt, path.as_str()).expect(abort, "a file");
+    fs::remove_file(rt, path.as_str())?;
+    Ok(are_so)
 }
 
 /// Whether a stream is put where another file takes the place of the package while standard input is read.
@@ -82,12 +84,13 @@ fn puts_moved(rt: &HostRuntime, path: &str, moved: &str) -> io::Result<bool> {
 /// Checks that the file is closed while standard input is read.
 pub(crate) fn the_file_is_closed_while_standard_input_is_read(
     rt: &HostRuntime,
-    abort: &impl Abort,
-) {
-    let closed = path(rt, "closed").expect(abort, "a path");
-    let moved = path(rt, "moved").expect(abort, "a path");
-    check(abort, &[], puts_moved(rt, closed.as_str(), moved.as_str()));
-    fs::remove_file(rt, closed.as_str()).expect(abort, "a file");
+) -> io::Result<bool> {
+    let mut are_so = true;
+    let closed = path(rt, "closed")?;
+    let moved = path(rt, "moved")?;
+    are_so &= check(rt, &[], puts_moved(rt, closed.as_str(), moved.as_str()));
+    fs::remove_file(rt, closed.as_str())?;
+    Ok(are_so)
 }
 
 /// How the pool's stream begins in a new package: the texts are UTF-8, and 21 cells refer to the first, of 11 bytes.
@@ -117,11 +120,13 @@ fn recounts(rt: &HostRuntime, path: &str) -> io::Result<bool> {
 }
 
 /// Checks that a recount prints how many counts were wrong.
-pub(crate) fn a_recount_prints_how_many_counts_were_wrong(rt: &HostRuntime, abort: &impl Abort) {
-    let path = path(rt, "recount").expect(abort, "a path");
+pub(crate) fn a_recount_prints_how_many_counts_were_wrong(rt: &HostRuntime) -> io::Result<bool> {
+    let mut are_so = true;
+    let path = path(rt, "recount")?;
     let new = ["new", "FILE"];
-    check(abort, &new, shows(rt, &new, path.as_str(), ""));
-    check(abort, &["recount"], recounts(rt, path.as_str()));
-    check(abort, &["put"], stores(rt, path.as_str(), "bytes"));
-    fs::remove_file(rt, path.as_str()).expect(abort, "a file");
+    are_so &= check(rt, &new, shows(rt, &new, path.as_str(), ""));
+    are_so &= check(rt, &["recount"], recounts(rt, path.as_str()));
+    are_so &= check(rt, &["put"], stores(rt, path.as_str(), "bytes"));
+    fs::remove_file(rt, path.as_str())?;
+    Ok(are_so)
 }

@@ -1,8 +1,8 @@
 //! The library example of the README, to the letter, and a test that it works.
 
 use msi::{Column, Error, Insert, Memory, Package, PackageType, Select, Value};
+use msi_container_tests::shown::is_shown;
 use std::alloc::Global;
-use std::process::Abort;
 
 /// The file of a package with a table of one row.
 fn numbers(alloc: Global) -> Result<Vec<u8>, Error> {
@@ -21,17 +21,14 @@ pub(crate) fn file(alloc: Global) -> Result<Vec<u8>, Error> {
     numbers(alloc)
 }
 
+/// Whether the package has one row.
+fn has_a_row(alloc: Global) -> Result<bool, Error> {
+    let package = Package::open(alloc, Memory::from_vec(numbers(alloc)?))?;
+    let rows = package.select_rows(Select::table(alloc, "Numbers")?)?;
+    Ok(rows.len() == 1)
+}
+
 /// Checks that the example makes a package with a row.
-pub(crate) fn the_example_makes_a_package_with_a_row(rt: &HostRuntime, abort: &impl Abort) {
-    let alloc = rt.alloc();
-    let package = Package::open(
-        alloc,
-        Memory::from_vec(numbers(alloc).expect(abort, "no error")),
-    )
-    .expect(abort, "no error");
-    let count = package
-        .select_rows(Select::table(alloc, "Numbers").expect(abort, "no error"))
-        .expect(abort, "no error")
-        .count();
-    assert_eq!(abort; count, 1);
+pub(crate) fn the_example_makes_a_package_with_a_row(rt: &HostRuntime) -> bool {
+    is_shown(rt, &"the example", has_a_row(rt.alloc()))
 }

@@ -1,7 +1,6 @@
 //! What is refused, and what is told of it.
 
 use crate::runs::{USAGE, check, ends_moving, ends_unflushed, path, prints, shows};
-use std::process::Abort;
 use std::{fs, io};
 
 /// Whether a run is refused with this line of errors, and leaves the file as it was.
@@ -51,13 +50,15 @@ static FAULTS: [(&'static [&'static str], &'static str); 33] = [
 ];
 
 /// Checks that errors are reported and leave the file as it was.
-pub(crate) fn faults_are_told_and_leave_the_file_as_it_was(rt: &HostRuntime, abort: &impl Abort) {
-    let path = path(rt, "faults").expect(abort, "a path");
-    fs::write(rt, path.as_str(), "as it was").expect(abort, "a file");
+pub(crate) fn faults_are_told_and_leave_the_file_as_it_was(rt: &HostRuntime) -> io::Result<bool> {
+    let mut are_so = true;
+    let path = path(rt, "faults")?;
+    fs::write(rt, path.as_str(), "as it was")?;
     for row in &FAULTS {
-        check(abort, row.0, refuses(rt, row.0, path.as_str(), row.1));
+        are_so &= check(rt, row.0, refuses(rt, row.0, path.as_str(), row.1));
     }
-    fs::remove_file(rt, path.as_str()).expect(abort, "a file");
+    fs::remove_file(rt, path.as_str())?;
+    Ok(are_so)
 }
 
 /// The words that make the file, those of a run, and its line of errors.
@@ -79,14 +80,15 @@ static REFUSED: [Refusal<'static>; 8] = [
 /// Checks that what a package refuses leaves the file as it was.
 pub(crate) fn what_a_package_refuses_leaves_the_file_as_it_was(
     rt: &HostRuntime,
-    abort: &impl Abort,
-) {
-    let path = path(rt, "refused").expect(abort, "a path");
+) -> io::Result<bool> {
+    let mut are_so = true;
+    let path = path(rt, "refused")?;
     for row in &REFUSED {
-        check(abort, row.0, shows(rt, row.0, path.as_str(), ""));
-        check(abort, row.1, refuses(rt, row.1, path.as_str(), row.2));
+        are_so &= check(rt, row.0, shows(rt, row.0, path.as_str(), ""));
+        are_so &= check(rt, row.1, refuses(rt, row.1, path.as_str(), row.2));
     }
-    fs::remove_file(rt, path.as_str()).expect(abort, "a file");
+    fs::remove_file(rt, path.as_str())?;
+    Ok(are_so)
 }
 
 /// The fault that is told first where standard input and output fail.
@@ -114,17 +116,15 @@ static FIRST: [Refusal<'static>; 10] = [
 ];
 
 /// Checks that the first of several errors is reported.
-pub(crate) fn the_first_fault_is_told(rt: &HostRuntime, abort: &impl Abort) {
-    let path = path(rt, "broken").expect(abort, "a path");
+pub(crate) fn the_first_fault_is_told(rt: &HostRuntime) -> io::Result<bool> {
+    let mut are_so = true;
+    let path = path(rt, "broken")?;
     for row in &FIRST {
-        check(abort, row.0, shows(rt, row.0, path.as_str(), ""));
-        check(
-            abort,
-            row.1,
-            ends_moving(rt, row.1, path.as_str(), "", row.2),
-        );
+        are_so &= check(rt, row.0, shows(rt, row.0, path.as_str(), ""));
+        are_so &= check(rt, row.1, ends_moving(rt, row.1, path.as_str(), "", row.2));
     }
-    fs::remove_file(rt, path.as_str()).expect(abort, "a file");
+    fs::remove_file(rt, path.as_str())?;
+    Ok(are_so)
 }
 
 /// Commands that print.
@@ -137,15 +137,13 @@ static PRINTING: [&'static [&'static str]; 5] = [
 ];
 
 /// Checks that output which can't be flushed is an error.
-pub(crate) fn output_that_cannot_be_flushed_is_an_error(rt: &HostRuntime, abort: &impl Abort) {
-    let path = path(rt, "unflushed").expect(abort, "a path");
-    check(
-        abort,
-        &["new"],
-        shows(rt, &["new", "FILE"], path.as_str(), ""),
-    );
+pub(crate) fn output_that_cannot_be_flushed_is_an_error(rt: &HostRuntime) -> io::Result<bool> {
+    let mut are_so = true;
+    let path = path(rt, "unflushed")?;
+    are_so &= check(rt, &["new"], shows(rt, &["new", "FILE"], path.as_str(), ""));
     for words in &PRINTING {
-        check(abort, words, ends_unflushed(rt, words, path.as_str(), "Io"));
+        are_so &= check(rt, words, ends_unflushed(rt, words, path.as_str(), "Io"));
     }
-    fs::remove_file(rt, path.as_str()).expect(abort, "a file");
+    fs::remove_file(rt, path.as_str())?;
+    Ok(are_so)
 }

@@ -1,12 +1,12 @@
 //! A list of calls, one of each kind, on a new package, and again on what they leave.
 
 use msi::{Error, ErrorKind, IntoText, Items, PackageType, Select};
+use msi_container_tests::shown::is_shown;
 use msi_replay::{
     Answer, Call, Change, LookUp, ReaderCall, Replayed, SummaryCall, SummaryQuestion, WriterCall,
     replay, replay_over,
 };
 use std::alloc::Global;
-use std::process::Abort;
 
 /// Calls on a stream.
 fn stream_calls(alloc: Global, calls: &mut Vec<Call>) -> Result<(), Error> {
@@ -92,12 +92,15 @@ fn on_opened(alloc: Global, bytes: Vec<u8>) -> Result<(bool, Vec<u8>), Error> {
     Ok(answered(replay_over(alloc, bytes, calls(alloc)?)?))
 }
 
-/// Checks the results of a list of calls.
-pub(crate) fn a_list_of_calls_is_answered(rt: &HostRuntime, abort: &impl Abort) {
-    let (is_new, bytes) = on_new(rt.alloc()).expect(abort, "no error");
-    assert!(abort; is_new);
+/// Whether calls have the results that they should, on a new package and on the one that they leave.
+fn are_answered(alloc: Global) -> Result<bool, Error> {
+    let (is_new, bytes) = on_new(alloc)?;
     let len = bytes.len();
-    let (is_opened, again) = on_opened(rt.alloc(), bytes).expect(abort, "no error");
-    assert!(abort; is_opened);
-    assert_eq!(abort; again.len(), len);
+    let (is_opened, again) = on_opened(alloc, bytes)?;
+    Ok(is_new && is_opened && again.len() == len)
+}
+
+/// Checks the results of a list of calls.
+pub(crate) fn a_list_of_calls_is_answered(rt: &HostRuntime) -> bool {
+    is_shown(rt, &"a list of calls", are_answered(rt.alloc()))
 }

@@ -1,10 +1,10 @@
 //! Runs of commands, on a file in the folder for temporary ones.
 
+use msi_container_tests::shown::is_shown;
 use msidb_commands::run;
 use std::alloc::{AllocError, Global};
 use std::io::{self, Read, Write};
-use std::process::{self, Abort};
-use std::{env, fs};
+use std::{env, fs, process};
 
 /// The message for arguments that match no command.
 pub(crate) const USAGE: &str =
@@ -157,8 +157,8 @@ pub(crate) fn ends_unflushed(
     ends(rt, all, path, &mut input, &mut Unflushed, line)
 }
 
-/// Checks what was found of a run over these words.
-pub(crate) fn check(abort: &impl Abort, all: &[&str], found: io::Result<bool>) {
-    let is_so = found.expect(abort, "memory and files");
-    assert!(abort; is_so, "{all:?}");
+/// Returns whether a run over these words did what it should. If it didn't, they are printed to standard error.
+pub(crate) fn check(rt: &HostRuntime, all: &[&str], found: io::Result<bool>) -> bool {
+    let words = all.first().copied().unwrap_or("a run");
+    is_shown(rt, &words, found)
 }

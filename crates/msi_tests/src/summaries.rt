@@ -5,8 +5,7 @@ use msi::{Error, Memory, Package, PackageType};
 use msi_summary::SummaryInfo;
 use msi_text::{CodePage, LanguageId, Timestamp};
 use std::alloc::Global;
-use std::fs;
-use std::process::Abort;
+use std::{fs, io};
 use uuid::Uuid;
 
 /// All that a summary may tell.
@@ -81,11 +80,14 @@ fn file(alloc: Global) -> Result<Vec<u8>, Error> {
 }
 
 /// Checks that all that a summary has is printed in order.
-pub(crate) fn all_that_a_summary_tells_is_printed_in_order(rt: &HostRuntime, abort: &impl Abort) {
-    let path = path(rt, "summary").expect(abort, "a path");
-    let file = file(rt.alloc()).expect(abort, "a package");
-    fs::write(rt, path.as_str(), file.as_slice()).expect(abort, "a file");
+pub(crate) fn all_that_a_summary_tells_is_printed_in_order(rt: &HostRuntime) -> io::Result<bool> {
+    let path = path(rt, "summary")?;
+    let Ok(file) = file(rt.alloc()) else {
+        return Ok(false);
+    };
+    fs::write(rt, path.as_str(), file)?;
     let summary = ["summary", "FILE"];
-    check(abort, &summary, shows(rt, &summary, path.as_str(), SUMMARY));
-    fs::remove_file(rt, path.as_str()).expect(abort, "a file");
+    let is_so = check(rt, &summary, shows(rt, &summary, path.as_str(), SUMMARY));
+    fs::remove_file(rt, path.as_str())?;
+    Ok(is_so)
 }

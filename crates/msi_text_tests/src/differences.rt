@@ -1,11 +1,11 @@
 //! Two tables that differ by a removed, two changed and an added row.
 
 use msi_compare::{Difference, differences};
+use msi_container_tests::shown::is_shown;
 use msi_table_values::{Column, Value};
 use msi_text_base::errors::Error;
 use msi_text_base::text::Items;
 use std::alloc::Global;
-use std::process::Abort;
 
 /// The rows of keys and values.
 fn rows(alloc: Global, all: &[(i32, i32)]) -> Result<Vec<Items<Value>>, Error> {
@@ -27,16 +27,21 @@ fn found(alloc: Global, old: &[(i32, i32)], new: &[(i32, i32)]) -> Result<Vec<Di
     differences(alloc, columns.as_slice(), old.as_slice(), new.as_slice())
 }
 
-/// Checks that rows are paired by their keys.
-pub(crate) fn rows_are_paired_by_their_keys(rt: &HostRuntime, abort: &impl Abort) {
+/// Whether rows are paired by their keys.
+fn are_paired(alloc: Global) -> Result<bool, Error> {
     let old = [(1, 10), (2, 20), (3, 30), (4, 40)];
     let new = [(4, 41), (1, 10), (5, 50), (3, 33)];
-    let found = found(rt.alloc(), &old, &new).expect(abort, "no error");
+    let found = found(alloc, &old, &new)?;
     let wanted = [
         Difference::Removed(1),
         Difference::Changed(2, 3),
         Difference::Changed(3, 0),
         Difference::Added(2),
     ];
-    assert!(abort; found.as_slice() == wanted.as_slice());
+    Ok(found.as_slice() == wanted.as_slice())
+}
+
+/// Checks that rows are paired by their keys.
+pub(crate) fn rows_are_paired_by_their_keys(rt: &HostRuntime) -> bool {
+    is_shown(rt, &"differences", are_paired(rt.alloc()))
 }

@@ -1,9 +1,9 @@
 //! Text archives as `msiinfo export` of msitools 0.101 wrote them.
 
+use msi_container_tests::shown::is_shown;
 use msi_table_values::{ColumnType, Value};
 use msi_text_archive::{ArchiveError, read, write};
 use std::alloc::Global;
-use std::process::Abort;
 
 /// A column of each type that `CREATE TABLE` names.
 const TYPES: &'static str = "K\tN\tM\tS\tL\tO\tP\tE\tF\tG\tH\tLoc\r\n\
@@ -54,14 +54,12 @@ fn is_kept(
 }
 
 /// Checks that exports are read, and written as they were.
-pub(crate) fn exports_are_read_and_written_as_they_were(rt: &HostRuntime, abort: &impl Abort) {
+pub(crate) fn exports_are_read_and_written_as_they_were(rt: &HostRuntime) -> bool {
+    let mut are_shown = true;
     for row in &EXPORTED {
-        assert!(abort;
-            is_kept(rt.alloc(), row).expect(abort, "an archive"),
-            "{}",
-            row.2
-        );
+        are_shown &= is_shown(rt, &row.2, is_kept(rt.alloc(), row));
     }
+    are_shown
 }
 
 /// The columns of `TYPES`: the name, the type, whether it is localizable, and whether it takes null.
@@ -94,8 +92,8 @@ fn has_columns(alloc: Global, text: &str) -> Result<bool, ArchiveError> {
 }
 
 /// Checks that types are those of the columns.
-pub(crate) fn types_are_those_of_the_columns(rt: &HostRuntime, abort: &impl Abort) {
-    assert!(abort; has_columns(rt.alloc(), TYPES).expect(abort, "an archive"));
+pub(crate) fn types_are_those_of_the_columns(rt: &HostRuntime) -> bool {
+    is_shown(rt, &"types", has_columns(rt.alloc(), TYPES))
 }
 
 /// Texts; and the row, the column, and what stands there: a number, a text, or null where there is neither.
@@ -137,13 +135,10 @@ fn has_cell(
 }
 
 /// Checks that values are those that were stored.
-pub(crate) fn values_are_those_that_were_stored(rt: &HostRuntime, abort: &impl Abort) {
+pub(crate) fn values_are_those_that_were_stored(rt: &HostRuntime) -> bool {
+    let mut are_shown = true;
     for row in &CELLS {
-        assert!(abort;
-            has_cell(rt.alloc(), row).expect(abort, "an archive"),
-            "{} {}",
-            row.1,
-            row.2
-        );
+        are_shown &= is_shown(rt, &row.0, has_cell(rt.alloc(), row));
     }
+    are_shown
 }

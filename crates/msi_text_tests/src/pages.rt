@@ -1,9 +1,9 @@
 //! Bytes and texts of each page, worked by Python's codecs.
 
+use msi_container_tests::shown::is_shown;
 use msi_text_base::Error;
 use msi_text_pages::Page;
 use std::alloc::Global;
-use std::process::Abort;
 
 /// The id of a page, bytes, and the text that they stand for and that is written as them.
 static WORKED: [(i32, &[u8], &str); 25] = [
@@ -58,11 +58,12 @@ fn is_worked(alloc: Global, row: &(i32, &[u8], &str)) -> Result<bool, Error> {
 }
 
 /// Checks that texts are those of other programs.
-pub(crate) fn texts_are_those_of_other_programs(rt: &HostRuntime, abort: &impl Abort) {
+pub(crate) fn texts_are_those_of_other_programs(rt: &HostRuntime) -> bool {
+    let mut are_shown = true;
     for row in &WORKED {
-        let is_so = is_worked(rt.alloc(), row).expect(abort, "a text");
-        assert!(abort; is_so, "{}: {}", row.0, row.2);
+        are_shown &= is_shown(rt, &row.2, is_worked(rt.alloc(), row));
     }
+    are_shown
 }
 
 /// The id of a page, bytes, and how many of them stand before a sequence that stands for no character.
@@ -93,11 +94,12 @@ fn is_unmapped(alloc: Global, row: &(i32, &[u8], usize)) -> Result<bool, Error> 
 }
 
 /// Checks that sequences without a character are refused.
-pub(crate) fn sequences_without_a_character_are_refused(rt: &HostRuntime, abort: &impl Abort) {
+pub(crate) fn sequences_without_a_character_are_refused(rt: &HostRuntime) -> bool {
+    let mut are_shown = true;
     for row in &UNMAPPED {
-        let is_so = is_unmapped(rt.alloc(), row).expect(abort, "a decoder");
-        assert!(abort; is_so, "{}: {}", row.0, row.2);
+        are_shown &= is_shown(rt, &row.0, is_unmapped(rt.alloc(), row));
     }
+    are_shown
 }
 
 /// The id of a page, a text, and how many characters stand before one that the page lacks.
@@ -121,12 +123,10 @@ fn is_lacked(alloc: Global, row: &(i32, &str, usize)) -> Result<bool, Error> {
 }
 
 /// Checks that texts with characters that a page lacks are refused.
-pub(crate) fn texts_with_characters_that_a_page_lacks_are_refused(
-    rt: &HostRuntime,
-    abort: &impl Abort,
-) {
+pub(crate) fn texts_with_characters_that_a_page_lacks_are_refused(rt: &HostRuntime) -> bool {
+    let mut are_shown = true;
     for row in &LACKED {
-        let is_so = is_lacked(rt.alloc(), row).expect(abort, "an encoder");
-        assert!(abort; is_so, "{}: {}", row.0, row.1);
+        are_shown &= is_shown(rt, &row.1, is_lacked(rt.alloc(), row));
     }
+    are_shown
 }

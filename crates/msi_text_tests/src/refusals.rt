@@ -1,10 +1,10 @@
 //! Texts and archives that are refused, and what is told of them.
 
+use msi_container_tests::shown::is_shown;
 use msi_table_values::{ColumnType, Value};
 use msi_text::{Items, Text};
 use msi_text_archive::{Archive, ArchiveColumn, ArchiveError, read, write};
 use std::alloc::{AllocError, Global};
-use std::process::Abort;
 
 /// Texts that mean nothing, and what is told.
 static REFUSED: [(&str, &str); 14] = [
@@ -45,14 +45,12 @@ fn is_refused(alloc: Global, text: &str, told: &str) -> Result<bool, AllocError>
 }
 
 /// Checks that texts are refused where they mean nothing.
-pub(crate) fn texts_are_refused_where_they_mean_nothing(rt: &HostRuntime, abort: &impl Abort) {
+pub(crate) fn texts_are_refused_where_they_mean_nothing(rt: &HostRuntime) -> bool {
+    let mut are_shown = true;
     for row in &REFUSED {
-        assert!(abort;
-            is_refused(rt.alloc(), row.0, row.1).expect(abort, "memory"),
-            "{}",
-            row.0
-        );
+        are_shown &= is_shown(rt, &row.0, is_refused(rt.alloc(), row.0, row.1));
     }
+    are_shown
 }
 
 /// A value, as a table of rows can have it.
@@ -237,12 +235,10 @@ fn is_told(alloc: Global, row: &(Keyed, Named, Cell, &'static str)) -> Result<bo
 }
 
 /// Checks that archives are refused where no text means them.
-pub(crate) fn archives_are_refused_where_no_text_means_them(rt: &HostRuntime, abort: &impl Abort) {
+pub(crate) fn archives_are_refused_where_no_text_means_them(rt: &HostRuntime) -> bool {
+    let mut are_shown = true;
     for row in &UNWRITABLE {
-        assert!(abort;
-            is_told(rt.alloc(), row).expect(abort, "memory"),
-            "{}",
-            row.3
-        );
+        are_shown &= is_shown(rt, &row.3, is_told(rt.alloc(), row));
     }
+    are_shown
 }

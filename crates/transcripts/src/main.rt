@@ -17,17 +17,17 @@ mod summaries;
 mod transcript;
 mod trials;
 
-use std::process::{Abort, ExitCode};
+use std::process::ExitCode;
 use std::{env, fs};
 use transcripts_words::failure::Failure;
 use transcripts_words::lines::lines;
 use transcripts_words::reports::Report;
 
-/// Runs the tests that are functions. One that fails ends the program.
-fn run_functions(rt: &HostRuntime, abort: &impl Abort) {
-    msi_text_tests::run(rt, abort);
-    msi_container_tests::run(rt, abort);
-    msi_tests::run(rt, abort);
+/// Runs the tests that are functions, and returns whether all found what they look for.
+fn run_functions(rt: &HostRuntime) -> bool {
+    let mut are_shown = msi_text_tests::run(rt);
+    are_shown &= msi_container_tests::run(rt);
+    are_shown & msi_tests::run(rt)
 }
 
 /// Runs the transcript in a file, and returns whether each answer is as expected. A transcript without answers isn't.
@@ -57,15 +57,15 @@ fn run_files(rt: &HostRuntime, files: &[String], is_trial: bool) -> Result<bool,
 }
 
 /// Does what the arguments ask for, and returns the exit status.
-fn run(rt: &HostRuntime, abort: &impl Abort) -> Result<u8, Failure> {
+fn run(rt: &HostRuntime) -> Result<u8, Failure> {
     let words: Vec<String> = env::args(rt)?.skip(1).collect(rt.alloc())?;
     let Some((verb, files)) = words.as_slice().split_first() else {
         return Ok(2);
     };
     let are_expected = match verb.as_str() {
         "check" => {
-            run_functions(rt, abort);
-            run_files(rt, files, false)?
+            let are_shown = run_functions(rt);
+            run_files(rt, files, false)? && are_shown
         }
         "trials" => run_files(rt, files, true)?,
         _ => return Ok(2),
@@ -74,7 +74,7 @@ fn run(rt: &HostRuntime, abort: &impl Abort) -> Result<u8, Failure> {
 }
 
 fn main(rt: HostRuntime) -> ExitCode {
-    match run(&rt, &rt) {
+    match run(&rt) {
         Ok(2) => {
             let _ = eprintln!(rt; "usage: transcripts check|trials FILE..");
             ExitCode::from(2)
