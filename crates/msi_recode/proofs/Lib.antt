@@ -1,0 +1,5 @@
+-- The lemmas of this crate.
+pub mod TextsLemmas
+pub mod HeadLemmas
+pub mod WrittenLemmas
+pub mod RecodedLemmas

@@ -1,0 +1,6 @@
+-- The words of this crate.
+pub mod TextPages
+pub mod Readers
+pub mod Errors
+pub mod PoolRecoding
+pub mod PoolReading

@@ -1,0 +1,14 @@
+//! The string pool of a package whose texts are in any page, written with its texts in UTF-8.
+#![tactic(auto)]
+
+mod errors;
+mod head;
+mod page;
+mod pool;
+mod reader;
+mod reasons;
+
+pub use errors::RecodeError;
+pub use page::TextPage;
+pub use pool::{RecodedPool, recode_pool};
+pub use reader::TextReader;
