@@ -9,8 +9,8 @@ use Rattle.msi_recode.specs.declared.page.TextPage.{TextPage}
 use Rattle.msi_recode.specs.declared.errors.RecodeError.{RecodeError}
 use Rattle.msi_recode.specs.declared.errors.RecodeError.TheVariants as error
 use Rattle.msi_recode.specs.TextPages.{Reads, page_for}
-use Rattle.msi_recode.specs.PoolRecoding.{SpellsTexts, FailsAt, FailsInFront, entry_of, is_long, has_long, entries_written}
-use Rattle.msi_recode.specs.PoolRecoding.{texts_written}
+use Rattle.msi_recode.specs.PoolRecoding.{SpellsTexts, FailsAt, FailsInFront, entry_of, is_long, has_long}
+use Rattle.msi_recode.specs.PoolRecoding.{entries_written, texts_written}
 
 -- the page of a header, and whether references are long
 abbrev pub header_in : Option TextPage → ℕ → Option (TextPage × Bool)
@@ -26,8 +26,8 @@ pub record IsFront (page : TextPage) (e : Entry) (bytes : List ℕ) (p : Place) 
   pub count : p.count ≡ e.count
 
 -- the place in front is written behind the others, and these bytes are left
-pub record IsPut (page : TextPage) (e : Entry) (bytes entries_before texts_before entries_after texts_after rest : List ℕ)
-    : Type 0 where
+pub record IsPut (page : TextPage) (e : Entry)
+    (bytes entries_before texts_before entries_after texts_after rest : List ℕ) : Type 0 where
   pub place : Place
   pub front : IsFront page e bytes place rest
   pub short : is_long (entry_of place) ≡ false
@@ -37,7 +37,8 @@ pub record IsPut (page : TextPage) (e : Entry) (bytes entries_before texts_befor
   pub texts : texts_after ≡ texts_before ++ place.text
 
 -- these places are written behind the others
-pub record AreWritten (places : List Place) (entries_before texts_before entries_after texts_after : List ℕ) : Type 0 where
+pub record AreWritten (places : List Place) (entries_before texts_before entries_after texts_after : List ℕ)
+    : Type 0 where
   pub short : has_long places ≡ false
   pub counts : CountsFit places
   pub utf8 : HaveUtf8Texts places

@@ -1,5 +1,5 @@
 -- The pages that bytes of texts are read in: those with tables of their own, and those that packages are read in.
-use Rattle.std.specs.Prelude.{◌≡◌, ℕ, ◌==◌, if◌then◌else◌, List, Option, Some, None, option_map}
+use Rattle.std.specs.Prelude.{◌≡◌, ℕ, ℤ, pos, ◌==◌, if◌then◌else◌, List, Option, Some, None, option_map}
 use Rattle.msi_text_base.specs.declared.codepage.CodePage.{CodePage}
 use Rattle.msi_text_base.specs.Pages as plain
 use Rattle.msi_text_pages.specs.Page as tabled
@@ -13,8 +13,12 @@ or_else (Some x) other = Some x
 or_else None other = other
 
 -- the page of an id: one with a table, where there is one. 0 is UTF-8
+abbrev pub text_page_with_signed_id : ℤ → Option TextPage
+text_page_with_signed_id id =
+    or_else (option_map Tabled (tabled.page_with_signed_id id)) (option_map Plain (plain.page_with_signed_id id))
+
 abbrev pub text_page_with_id : ℕ → Option TextPage
-text_page_with_id id = or_else (option_map Tabled (tabled.page_with_id id)) (option_map Plain (plain.page_with_id id))
+text_page_with_id id = text_page_with_signed_id (pos id)
 
 -- what bytes read as in the page; where a package's own page reads them, as in a package
 abbrev pub text_in : TextPage → List ℕ → Option (List ℕ)
