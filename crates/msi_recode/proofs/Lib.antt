@@ -1,4 +1,5 @@
 -- The lemmas of this crate.
+pub mod PageLemmas
 pub mod TextsLemmas
 pub mod HeadLemmas
 pub mod WrittenLemmas

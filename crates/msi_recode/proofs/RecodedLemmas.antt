@@ -1,13 +1,11 @@
 -- The places of a pool as they are read and written, and why they aren't.
 use Rattle.std.proofs.Common.{◌≡◌, ℕ, suc, ◌+◌, ◌^◌, ◌<◌, ◌≤◌, ◌++◌, Bool, true, false, true≢false, List, [], ◌∷◌, length, get_or, take, drop, Option, Some, None, inl, inr, refl, sym, ap, ◌∙◌, subst, append_assoc, arith}
-use Rattle.std.specs.Prelude.{is_some, if◌then◌else◌, IsUtf8}
-use Rattle.std.specs.Result.{Result, Ok, Err}
+use Rattle.std.specs.Prelude.{◌⊎◌, is_some, if◌then◌else◌, IsUtf8}
 use Rattle.std.proofs.lemmas.List.{append-nil, take_at, drop_at, take-append-drop, length-append, length-take}
 use Rattle.std.proofs.lemmas.Bool.{or_from}
 use Rattle.std.proofs.lemmas.Grind.{flat_map-append}
 use Rattle.msi_text_base.specs.declared.errors.ErrorKind.{ErrorKind}
 use Rattle.msi_text_base.specs.declared.errors.ErrorKind.TheVariants as kind
-use Rattle.msi_text_base.specs.Results.{IsUnlessMemory}
 use Rattle.msi_text_base.proofs.ListLemmas.{any_joined, all_joined}
 use Rattle.msi_text_base.proofs.OptionLemmas.{some_is, none_there, not_given}
 use Rattle.msi_text_pool_base.specs.Pool.{Entry, Place, header_of, plain_entry, HaveUtf8Texts, CountsFit}
@@ -58,6 +56,20 @@ front_read page e bytes text fits reads = record {
   count = refl;
 }
 
+-- the place in front, written behind the others
+pub put_made : (page : TextPage) (e : Entry) (bytes text front rest entries_before texts_before entries_after texts_after : List ℕ) → e.len ≤ length bytes → front ≡ take e.len bytes → rest ≡ drop e.len bytes → Reads page front text
+    → is_long (record { len = length text; count = e.count }) ≡ false → e.count < 2 ^ 16 → IsUtf8 text → entries_after ≡ entries_before ++ plain_entry (record { len = length text; count = e.count }) → texts_after ≡ texts_before ++ text
+    → IsPut page e bytes entries_before texts_before entries_after texts_after rest
+put_made page e bytes text front rest entries_before texts_before entries_after texts_after fits front_is rest_is reads short count utf8 entries texts = record {
+  place = record { text = text; count = e.count };
+  front = subst (λ (x : List ℕ). IsFront page e bytes (record { text = text; count = e.count }) x) (sym rest_is) (front_read page e bytes text fits (ap (text_in page) (sym front_is) ∙ reads));
+  short = short;
+  count = count;
+  utf8 = utf8;
+  entries = entries;
+  texts = texts;
+}
+
 pub written_start : (entries texts : List ℕ) → AreWritten [] entries texts entries texts
 written_start entries texts = record { short = refl; counts = tt; utf8 = tt; entries = sym (append-nil entries); texts = sym (append-nil texts) }
 
@@ -92,33 +104,51 @@ same_length page bytes (e ∷ es) [] h = absurd h
 same_length page bytes (e ∷ es) (p ∷ ps) (piece, others, parts, len, reads, count, more) = ap suc (same_length page others es ps more)
 
 -- what is read and written is the pool in UTF-8
-pub recoded : (hint : Option TextPage) (pool_stream data_stream : List ℕ) (head : PoolHead) (entries texts : List ℕ) → IsHead hint pool_stream head
-    → ArePut head.page data_stream head.entries (header_of 65001 head.long) [] entries texts → AreRecoded hint pool_stream data_stream entries texts
-recoded hint pool_stream data_stream head entries texts said (places, spelled, w) =
+pub recoded : (hint : Option TextPage) (pool_stream data_stream : List ℕ) (head : PoolHead) (page : TextPage) (list : List Entry) (long : Bool) (entries_before texts_before entries texts : List ℕ) → IsHead hint pool_stream head
+    → page ≡ head.page → list ≡ head.entries → long ≡ head.long → entries_before ≡ header_of 65001 long → texts_before ≡ []
+    → ArePut page data_stream list entries_before texts_before entries texts → AreRecoded hint pool_stream data_stream entries texts
+recoded hint pool_stream data_stream head page list long entries_before texts_before entries texts said page_is list_is long_is entries_are texts_are (places, spelled, w) =
     let few = said.6 in
-    let same = same_length head.page data_stream head.entries places spelled in
-    (head, places, (said, spelled), streams_are_pool head.long places entries texts (omega (arith, few, same)) w.counts w.short w.utf8 w.entries w.texts)
+    let here : SpellsTexts head.page data_stream head.entries places = subst (λ (x : TextPage). SpellsTexts x data_stream head.entries places) page_is (subst (λ (x : List Entry). SpellsTexts page data_stream x places) list_is spelled) in
+    let same = same_length head.page data_stream head.entries places here in
+    let start : entries ≡ header_of 65001 head.long ++ entries_written places = w.entries ∙ ap (λ (x : List ℕ). x ++ entries_written places) (entries_are ∙ ap (header_of 65001) long_is) in
+    let all : texts ≡ texts_written places = w.texts ∙ ap (λ (x : List ℕ). x ++ texts_written places) texts_are in
+    (head, places, (said, here), streams_are_pool head.long places entries texts (omega (arith, few, same)) w.counts w.short w.utf8 start all)
 
 -- where the head isn't read, there is none
 pub no_head : (k : ErrorKind) (hint : Option TextPage) (pool_stream data_stream : List ℕ) → ((head : PoolHead) → IsHead hint pool_stream head → k ≡ kind.OutOfMemory) → k ≡ kind.InvalidData → CannotBeRecoded hint pool_stream data_stream
 no_head k hint pool_stream data_stream only is head places (said, spelled) = let e : kind.InvalidData ≡ kind.OutOfMemory = sym is ∙ only head said in cc
 
 -- where the texts aren't put, no places can be
-pub no_texts : (e : RecodeError) (hint : Option TextPage) (pool_stream data_stream : List ℕ) (found : PoolHead) → ((head : PoolHead) → IsHead hint pool_stream head → found ≡ head) → IsTextsError found.page data_stream found.entries e → kind_of e ≡ kind.InvalidData → CannotBeRecoded hint pool_stream data_stream
-no_texts (error.Package k) hint pool_stream data_stream found only h is = absurd h
-no_texts (error.Place n kind.AlreadyExists) hint pool_stream data_stream found only h is = absurd h
-no_texts (error.Place n kind.InvalidData) hint pool_stream data_stream found only h is head places (said, spelled) =
-    failing_is_long head.page data_stream head.entries n places (subst (λ (x : PoolHead). FailsAt x.page data_stream x.entries n) (only head said) h) spelled
-no_texts (error.Place n kind.InvalidInput) hint pool_stream data_stream found only h is = absurd h
-no_texts (error.Place n kind.NotFound) hint pool_stream data_stream found only h is = absurd h
-no_texts (error.Place n kind.Io) hint pool_stream data_stream found only h is = absurd h
-no_texts (error.Place n kind.OutOfMemory) hint pool_stream data_stream found only h is = cc
+no_texts : (e : RecodeError) (hint : Option TextPage) (pool_stream data_stream : List ℕ) (found head : PoolHead) (places : List Place) → found ≡ head → IsTextsError found.page data_stream found.entries e → kind_of e ≡ kind.InvalidData
+    → SpellsTexts head.page data_stream head.entries places → has_long places ≡ true
+no_texts (error.Package k) hint pool_stream data_stream found head places same h is spelled = absurd h
+no_texts (error.Place n kind.AlreadyExists) hint pool_stream data_stream found head places same h is spelled = absurd h
+no_texts (error.Place n kind.InvalidData) hint pool_stream data_stream found head places same h is spelled =
+    failing_is_long head.page data_stream head.entries n places (subst (λ (x : PoolHead). FailsAt x.page data_stream x.entries n) same h) spelled
+no_texts (error.Place n kind.InvalidInput) hint pool_stream data_stream found head places same h is spelled = absurd h
+no_texts (error.Place n kind.NotFound) hint pool_stream data_stream found head places same h is spelled = absurd h
+no_texts (error.Place n kind.Io) hint pool_stream data_stream found head places same h is spelled = absurd h
+no_texts (error.Place n kind.OutOfMemory) hint pool_stream data_stream found head places same h is spelled = cc
 
-pub place_told : (e : RecodeError) (hint : Option TextPage) (pool_stream data_stream : List ℕ) (head : PoolHead) → IsHead hint pool_stream head → IsTextsError head.page data_stream head.entries e → TellsPlace hint pool_stream data_stream e
-place_told (error.Package k) hint pool_stream data_stream head said h = tt
-place_told (error.Place n kind.AlreadyExists) hint pool_stream data_stream head said h = tt
-place_told (error.Place n kind.InvalidData) hint pool_stream data_stream head said h = (head, said, h)
-place_told (error.Place n kind.InvalidInput) hint pool_stream data_stream head said h = tt
-place_told (error.Place n kind.NotFound) hint pool_stream data_stream head said h = tt
-place_told (error.Place n kind.Io) hint pool_stream data_stream head said h = tt
-place_told (error.Place n kind.OutOfMemory) hint pool_stream data_stream head said h = tt
+error_of : (e : RecodeError) (page : TextPage) (data_stream : List ℕ) (list : List Entry) (head : PoolHead) → page ≡ head.page → list ≡ head.entries → IsTextsError page data_stream list e → IsTextsError head.page data_stream head.entries e
+error_of e page data_stream list head page_is list_is h =
+    subst (λ (x : TextPage). IsTextsError x data_stream head.entries e) page_is (subst (λ (x : List Entry). IsTextsError page data_stream x e) list_is h)
+
+pub texts_refused : (e : RecodeError) (hint : Option TextPage) (pool_stream data_stream : List ℕ) (found : PoolHead) (page : TextPage) (list : List Entry) → page ≡ found.page → list ≡ found.entries
+    → ((head : PoolHead) → IsHead hint pool_stream head → found ≡ head) → IsTextsError page data_stream list e → kind_of e ≡ kind.InvalidData → CannotBeRecoded hint pool_stream data_stream
+texts_refused e hint pool_stream data_stream found page list page_is list_is only h is head places (said, spelled) =
+    no_texts e hint pool_stream data_stream found head places (only head said) (error_of e page data_stream list found page_is list_is h) is spelled
+
+told_of : (e : RecodeError) (hint : Option TextPage) (pool_stream data_stream : List ℕ) (head : PoolHead) → IsHead hint pool_stream head → IsTextsError head.page data_stream head.entries e → TellsPlace hint pool_stream data_stream e
+told_of (error.Package k) hint pool_stream data_stream head said h = tt
+told_of (error.Place n kind.AlreadyExists) hint pool_stream data_stream head said h = tt
+told_of (error.Place n kind.InvalidData) hint pool_stream data_stream head said h = (head, said, h)
+told_of (error.Place n kind.InvalidInput) hint pool_stream data_stream head said h = tt
+told_of (error.Place n kind.NotFound) hint pool_stream data_stream head said h = tt
+told_of (error.Place n kind.Io) hint pool_stream data_stream head said h = tt
+told_of (error.Place n kind.OutOfMemory) hint pool_stream data_stream head said h = tt
+
+pub place_told : (e : RecodeError) (hint : Option TextPage) (pool_stream data_stream : List ℕ) (head : PoolHead) (page : TextPage) (list : List Entry) → page ≡ head.page → list ≡ head.entries
+    → IsHead hint pool_stream head → IsTextsError page data_stream list e → TellsPlace hint pool_stream data_stream e
+place_told e hint pool_stream data_stream head page list page_is list_is said h = told_of e hint pool_stream data_stream head said (error_of e page data_stream list head page_is list_is h)

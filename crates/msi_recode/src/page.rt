@@ -1,6 +1,6 @@
 //! The pages that bytes of texts are read in.
 
-ghost use Rattle.std.specs.Prelude.{◌≡◌, ◌<◌, ◌^◌};
+ghost use Rattle.std.specs.Prelude.{◌≡◌, ◌<◌, ◌^◌, Some};
 ghost use Rattle.msi_recode.specs.TextPages.{text_page_with_signed_id, page_for};
 
 use msi_text_base::CodePage;
@@ -38,7 +38,18 @@ pub(crate) fn page_for(given: Option<TextPage>, id: u32) -> Option<TextPage>
     ensures { result ≡ page_for given id }
 {
     match given {
-        Some(page) if id == 0 => Some(page),
-        _ => TextPage::of(id as i32),
+        Some(page) => page_unless_named(page, id),
+        None => TextPage::of(id as i32),
     }
+}
+
+/// The page of an id, and for 0 this one.
+fn page_unless_named(page: TextPage, id: u32) -> Option<TextPage>
+    requires { id < 2 ^ 31 }
+    ensures { result ≡ page_for (Some page) id }
+{
+    if id == 0 {
+        return Some(page);
+    }
+    TextPage::of(id as i32)
 }
