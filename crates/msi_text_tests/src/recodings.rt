@@ -92,6 +92,6 @@ fn long_pool(alloc: Global) -> Result<RecodedPool, RecodeError> {
 #[test]
 fn a_text_of_65536_bytes_has_a_long_entry(rt: HostRuntime) {
     let pool = long_pool(rt.alloc()).expect(&rt, "a pool");
-    assert!(rt; pool.entries.as_slice() == b"\xE9\xFD\0\0\0\0\x01\0\0\0\x01\0");
+    assert!(rt; pool.entries.as_slice() == b"\xE9\xFD\0\0\0\0\x01\0\0\0\x01\0".as_slice());
     assert!(rt; pool.texts.len() == 65536);
 }
