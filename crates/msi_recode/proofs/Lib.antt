@@ -4,3 +4,5 @@ pub mod TextsLemmas
 pub mod HeadLemmas
 pub mod WrittenLemmas
 pub mod RecodedLemmas
+pub mod SummaryLemmas
+pub mod SummarySetLemmas

@@ -123,6 +123,7 @@ no_head k hint pool_stream data_stream only is head places (said, spelled) = let
 no_texts : (e : RecodeError) (hint : Option TextPage) (pool_stream data_stream : List ℕ) (found head : PoolHead) (places : List Place) → found ≡ head → IsTextsError found.page data_stream found.entries e → kind_of e ≡ kind.InvalidData
     → SpellsTexts head.page data_stream head.entries places → has_long places ≡ true
 no_texts (error.Package k) hint pool_stream data_stream found head places same h is spelled = absurd h
+no_texts (error.Property id k) hint pool_stream data_stream found head places same h is spelled = elim h [ ]
 no_texts (error.Place n kind.AlreadyExists) hint pool_stream data_stream found head places same h is spelled = absurd h
 no_texts (error.Place n kind.InvalidData) hint pool_stream data_stream found head places same h is spelled =
     failing_is_long head.page data_stream head.entries n places (subst (λ (x : PoolHead). FailsAt x.page data_stream x.entries n) same h) spelled
@@ -142,6 +143,7 @@ texts_refused e hint pool_stream data_stream found page list page_is list_is onl
 
 told_of : (e : RecodeError) (hint : Option TextPage) (pool_stream data_stream : List ℕ) (head : PoolHead) → IsHead hint pool_stream head → IsTextsError head.page data_stream head.entries e → TellsPlace hint pool_stream data_stream e
 told_of (error.Package k) hint pool_stream data_stream head said h = tt
+told_of (error.Property id k) hint pool_stream data_stream head said h = tt
 told_of (error.Place n kind.AlreadyExists) hint pool_stream data_stream head said h = tt
 told_of (error.Place n kind.InvalidData) hint pool_stream data_stream head said h = (head, said, h)
 told_of (error.Place n kind.InvalidInput) hint pool_stream data_stream head said h = tt

@@ -4,3 +4,5 @@ pub mod Readers
 pub mod Errors
 pub mod PoolRecoding
 pub mod PoolReading
+pub mod SummaryRecoding
+pub mod SummaryReading

@@ -15,6 +15,8 @@ pub enum RecodeError {
     Package(Error),
     /// It is about the text of a place of the pool. Places are counted from 0 on here.
     Place(usize, Error),
+    /// It is about the value of the summary's property with this id.
+    Property(u32, Error),
 }
 
 impl RecodeError {
@@ -25,6 +27,7 @@ impl RecodeError {
         match self {
             RecodeError::Package(error) => error.kind(),
             RecodeError::Place(_, error) => error.kind(),
+            RecodeError::Property(_, error) => error.kind(),
         }
     }
 }

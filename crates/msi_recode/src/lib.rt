@@ -1,4 +1,4 @@
-//! The string pool of a package whose texts are in any page, written with its texts in UTF-8.
+//! The string pool and the summary of a package whose texts are in any page, written with their texts in UTF-8.
 #![tactic(auto)]
 
 mod errors;
@@ -7,8 +7,10 @@ mod page;
 mod pool;
 mod reader;
 mod reasons;
+mod summary;
 
 pub use errors::RecodeError;
 pub use page::TextPage;
 pub use pool::{RecodedPool, recode_pool};
 pub use reader::TextReader;
+pub use summary::recode_summary;

@@ -13,3 +13,11 @@ pub(crate) const POOL_PLACES: Reason = Reason("the string pool has too many text
 pub(crate) const TEXT_LONG: Reason = Reason(
     "a text has too many bytes in UTF-8 for the string pool",
 );
+
+pub(crate) const PROPERTY_CUT: Reason = Reason("the summary ends in the middle of a property");
+
+pub(crate) const PROPERTY_PAGE: Reason = Reason("the code page of the summary is unknown");
+
+pub(crate) const PROPERTY_TWICE: Reason = Reason("the summary has a property twice");
+
+pub(crate) const SHARED_TEXTS: Reason = Reason("the texts of the summary have too many bytes");
