@@ -6,3 +6,4 @@ pub mod WrittenLemmas
 pub mod RecodedLemmas
 pub mod SummaryLemmas
 pub mod SummarySetLemmas
+pub mod PackageLemmas

@@ -6,3 +6,4 @@ pub mod PoolRecoding
 pub mod PoolReading
 pub mod SummaryRecoding
 pub mod SummaryReading
+pub mod Recoding

@@ -1,8 +1,9 @@
-//! The string pool and the summary of a package whose texts are in any page, written with their texts in UTF-8.
+//! Packages whose texts are in any page, written with their texts in UTF-8: the string pool and the summary.
 #![tactic(auto)]
 
 mod errors;
 mod head;
+mod package;
 mod page;
 mod pool;
 mod reader;
@@ -10,6 +11,7 @@ mod reasons;
 mod summary;
 
 pub use errors::RecodeError;
+pub use package::{recode, recode_contents};
 pub use page::TextPage;
 pub use pool::{RecodedPool, recode_pool};
 pub use reader::TextReader;

@@ -2,6 +2,10 @@
 
 use msi_text_base::Reason;
 
+pub(crate) const NO_POOL: Reason = Reason("a stream of the string pool is missing");
+
+pub(crate) const NO_SUMMARY: Reason = Reason("the summary information is missing");
+
 pub(crate) const POOL_CUT: Reason = Reason("the string pool ends in the middle of an entry");
 
 pub(crate) const POOL_DATA: Reason = Reason("the texts of the string pool end too early");
