@@ -1,6 +1,6 @@
 -- The values of a summary as they are read, one after the other, are spelled in its stream.
 use Rattle.std.proofs.Common.{◌≡◌, ℕ, ◌+◌, ◌-◌, ◌^◌, ◌<◌, ◌≤◌, Bool, true, false, cond, eqb, List, [], ◌∷◌, ◌++◌, length, get_or, take, drop, Option, Some, None, inl, inr, refl, sym, ap, subst, ◌∙◌, append_assoc, arith}
-use Rattle.std.specs.Prelude.{◌⊎◌, option_map, option_and_then}
+use Rattle.std.specs.Prelude.{◌⊎◌, option_map}
 use Rattle.std.specs.List.{AllZip, AllByRecursion, list_any}
 use Rattle.std.specs.Int.{w32, to_le_bytes}
 use Rattle.std.proofs.lemmas.Bool.{or_from, eqb-true, eq-eqb}
@@ -23,8 +23,8 @@ use Rattle.msi_summary_properties.proofs.PropertiesLemmas.{setting_changes_one}
 use Rattle.msi_summary_properties.proofs.SpelledSetLemmas.{stands_here}
 use Rattle.msi_summary_properties.proofs.ValueLemmas.{Begins, value_found}
 use Rattle.msi_recode.specs.declared.page.TextPage.{TextPage}
-use Rattle.msi_recode.specs.TextPages.{Reads, text_in, page_for}
-use Rattle.msi_recode.specs.SummaryRecoding.{SpellsString, SpellsValueIn, EntryStandsAt, id_named, in_utf8}
+use Rattle.msi_recode.specs.TextPages.{Reads, text_in}
+use Rattle.msi_recode.specs.SummaryRecoding.{SpellsString, SpellsValueIn, EntryStandsAt, page_named, in_utf8}
 use Rattle.msi_recode.specs.SummaryReading.{piece_at, in_page, value_in, page_stated, IsEntryRead, ArePut}
 
 -- ---- a text
@@ -106,8 +106,8 @@ entries_stand version text_page bytes section (p ∷ pairs) (e ∷ entries) fits
 
 -- ---- the page
 
-named_by : (hint : Option TextPage) (version : ℕ) (text_page : TextPage) (bytes : List ℕ) (v w : PropertyValue) → value_at version page.Utf8 bytes ≡ Some v → value_in version text_page bytes ≡ Some w → option_and_then (page_for hint) (id_named (Some v)) ≡ Some text_page
-    → option_and_then (page_for hint) (id_named (Some w)) ≡ Some text_page
+named_by : (hint : Option TextPage) (version : ℕ) (text_page : TextPage) (bytes : List ℕ) (v w : PropertyValue) → value_at version page.Utf8 bytes ≡ Some v → value_in version text_page bytes ≡ Some w → page_named hint (Some v) ≡ Some text_page
+    → page_named hint (Some w) ≡ Some text_page
 unfolding value_in
 named_by hint version text_page bytes Empty w at read h = absurd cc
 named_by hint version text_page bytes Null w at read h = absurd cc
@@ -116,26 +116,26 @@ named_by hint version text_page bytes (I2 n) w at read h =
     let b = bind_some (value_at version page.Utf8 bytes) (in_page text_page bytes) w read in
     let first : b.0 ≡ I2 n = some_is b.0 (I2 n) (sym b.1 ∙ at) in
     let same : I2 n ≡ w = some_is (I2 n) w (ap (in_page text_page bytes) (sym first) ∙ b.2) in
-    subst (λ (x : PropertyValue). option_and_then (page_for hint) (id_named (Some x)) ≡ Some text_page) same h
+    subst (λ (x : PropertyValue). page_named hint (Some x) ≡ Some text_page) same h
 named_by hint version text_page bytes (I4 n) w at read h = absurd cc
 named_by hint version text_page bytes (LpStr text) w at read h = absurd cc
 named_by hint version text_page bytes (FileTime n) w at read h = absurd cc
 
-pub page_named : (hint : Option TextPage) (version : ℕ) (text_page : TextPage) (bytes : List ℕ) (section : ℕ) (pairs : List (ℕ × ℕ)) (entries : List (ℕ × PropertyValue))
+pub page_read : (hint : Option TextPage) (version : ℕ) (text_page : TextPage) (bytes : List ℕ) (section : ℕ) (pairs : List (ℕ × ℕ)) (entries : List (ℕ × PropertyValue))
     → page_stated hint version bytes section (entry_where (λ k. eqb k 1) pairs) ≡ Some text_page → AllZip (IsEntryRead version text_page bytes section) pairs entries
-    → option_and_then (page_for hint) (id_named (entry_where (λ k. eqb k 1) entries)) ≡ Some text_page
-page_named hint version text_page bytes section [] [] h read = h
-page_named hint version text_page bytes section [] (e ∷ entries) h read = absurd read
-page_named hint version text_page bytes section (p ∷ pairs) [] h read = absurd read
-page_named hint version text_page bytes section (p ∷ pairs) (e ∷ entries) h ((id, read), more) =
-    subst (λ (n : ℕ). option_and_then (page_for hint) (id_named (cond (eqb n 1) (Some e.1) (entry_where (λ k. eqb k 1) entries))) ≡ Some text_page) (sym id)
-    (by_first (eqb p.0 1) (λ stated. page_named hint version text_page bytes section pairs entries stated more) h)
+    → page_named hint (entry_where (λ k. eqb k 1) entries) ≡ Some text_page
+page_read hint version text_page bytes section [] [] h read = h
+page_read hint version text_page bytes section [] (e ∷ entries) h read = absurd read
+page_read hint version text_page bytes section (p ∷ pairs) [] h read = absurd read
+page_read hint version text_page bytes section (p ∷ pairs) (e ∷ entries) h ((id, read), more) =
+    subst (λ (n : ℕ). page_named hint (cond (eqb n 1) (Some e.1) (entry_where (λ k. eqb k 1) entries)) ≡ Some text_page) (sym id)
+    (by_first (eqb p.0 1) (λ stated. page_read hint version text_page bytes section pairs entries stated more) h)
   where
-    by_first : (t : Bool) → (page_stated hint version bytes section (entry_where (λ k. eqb k 1) pairs) ≡ Some text_page → option_and_then (page_for hint) (id_named (entry_where (λ k. eqb k 1) entries)) ≡ Some text_page)
+    by_first : (t : Bool) → (page_stated hint version bytes section (entry_where (λ k. eqb k 1) pairs) ≡ Some text_page → page_named hint (entry_where (λ k. eqb k 1) entries) ≡ Some text_page)
         → page_stated hint version bytes section (cond t (Some p.1) (entry_where (λ k. eqb k 1) pairs)) ≡ Some text_page
-        → option_and_then (page_for hint) (id_named (cond t (Some e.1) (entry_where (λ k. eqb k 1) entries))) ≡ Some text_page
+        → page_named hint (cond t (Some e.1) (entry_where (λ k. eqb k 1) entries)) ≡ Some text_page
     by_first true later stated =
-        let b = bind_some (value_at version page.Utf8 (drop (section + p.1) bytes)) (λ v. option_and_then (page_for hint) (id_named (Some v))) text_page stated in
+        let b = bind_some (value_at version page.Utf8 (drop (section + p.1) bytes)) (λ v. page_named hint (Some v)) text_page stated in
         named_by hint version text_page (drop (section + p.1) bytes) b.0 e.1 b.1 read b.2
     by_first false later stated = later stated
 

@@ -18,7 +18,7 @@ use Rattle.msi_summary_properties.proofs.SpelledSetLemmas.{stands_here}
 use Rattle.msi_recode.specs.declared.page.TextPage.{TextPage}
 use Rattle.msi_recode.specs.SummaryRecoding.{IsSummary, in_utf8}
 use Rattle.msi_recode.specs.SummaryReading.{ArePut, page_stated}
-use Rattle.msi_recode.proofs.SummaryLemmas.{entries_stand, page_named}
+use Rattle.msi_recode.proofs.SummaryLemmas.{entries_stand, page_read}
 
 pub summary_read : (hint : Option TextPage) (bytes rest : List ℕ) (h : Header) (pairs : List (ℕ × ℕ)) (text_page : TextPage) (set : Properties) → IsBytes bytes → header_at bytes ≡ Some h → rest ≡ drop (h.section + 0) bytes → section_at rest ≡ Some pairs
     → page_stated hint h.version bytes h.section (entry_where (λ k. eqb k 1) pairs) ≡ Some text_page → ArePut h.version text_page bytes h.section pairs (set_with h []) set → IsSummary hint bytes set
@@ -41,7 +41,7 @@ summary_read hint bytes rest h pairs text_page set fits header is section stated
       head = stands_here h.section bytes (section_head low.size pairs) low.others (λ front. front ≡ section_head low.size pairs) (omega arith) low.parts refl;
       once = put.once;
       spelled = entries_stand h.version text_page bytes h.section pairs put.entries fits put.read;
-      named = page_named hint h.version text_page bytes h.section pairs put.entries stated put.read;
+      named = page_read hint h.version text_page bytes h.section pairs put.entries stated put.read;
       values = put.values;
     }
 

@@ -1,7 +1,7 @@
 -- Scaffolding of proofs: how the summary's stream is read, one step after the other. What it holds stands in
 -- `SummaryRecoding`.
 use Rattle.std.specs.Prelude.{◌≡◌, ℕ, ◌+◌, ◌-◌, ◌==◌, false, true, Bool, List, Option, Some, None, option_map}
-use Rattle.std.specs.Prelude.{option_and_then, drop}
+use Rattle.std.specs.Prelude.{drop}
 use Rattle.std.specs.List.{AllZip}
 use Rattle.std.specs.Int.{w32}
 use Rattle.msi_text_base.specs.declared.codepage.CodePage.TheVariants as page
@@ -13,8 +13,8 @@ use Rattle.msi_summary_properties.specs.declared.propset.PropertyValue.TheVarian
 use Rattle.msi_summary_properties.specs.Properties.{Properties, set_of, value_with_id, with_value}
 use Rattle.msi_summary_properties.specs.Reading.{value_at}
 use Rattle.msi_recode.specs.declared.page.TextPage.{TextPage}
-use Rattle.msi_recode.specs.TextPages.{text_in, page_for}
-use Rattle.msi_recode.specs.SummaryRecoding.{id_named, in_utf8}
+use Rattle.msi_recode.specs.TextPages.{text_in}
+use Rattle.msi_recode.specs.SummaryRecoding.{page_named, in_utf8}
 
 -- the bytes of the text that stands here behind the number of its type and its length
 unfoldable pub piece_at : List ℕ → Option (List ℕ)
@@ -38,9 +38,9 @@ value_in version text_page bytes = value_at version page.Utf8 bytes >>= in_page 
 
 -- the page that the value at this place names
 abbrev pub page_stated : Option TextPage → ℕ → List ℕ → ℕ → Option ℕ → Option TextPage
-page_stated given version bytes section None = page_for given 0
+page_stated given version bytes section None = page_named given None
 page_stated given version bytes section (Some place) =
-    value_at version page.Utf8 (drop (section + place) bytes) >>= λ v. option_and_then (page_for given) (id_named (Some v))
+    value_at version page.Utf8 (drop (section + place) bytes) >>= λ v. page_named given (Some v)
 
 -- the value of a pair is read so
 abbrev pub IsEntryRead : ℕ → TextPage → List ℕ → ℕ → ℕ × ℕ → ℕ × PropertyValue → Type 0

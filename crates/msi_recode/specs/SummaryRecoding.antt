@@ -1,6 +1,6 @@
 -- The stream of the summary whose texts are read in a page of any kind, and its set in UTF-8.
 use Rattle.std.specs.Prelude.{◌≡◌, ℕ, ◌+◌, ◌^◌, ◌<◌, ◌⊎◌, false, ◌==◌, if◌then◌else◌, List, ◌++◌, ◌∷◌, []}
-use Rattle.std.specs.Prelude.{length, Option, Some, None, option_map, option_and_then}
+use Rattle.std.specs.Prelude.{length, Option, Some, None, option_map}
 use Rattle.std.specs.List.{AllZip}
 use Rattle.std.specs.Int.{w16, w32, to_le_bytes, cast_unsigned}
 use Rattle.msi_text_base.specs.declared.codepage.CodePage.TheVariants as page
@@ -11,6 +11,7 @@ use Rattle.msi_summary_properties.specs.Properties.{Properties, page_value, valu
 use Rattle.msi_summary_properties.specs.PropertyStream.{FitsHeader, FitsFields, FitsValue, StandsAt, SpellsValue, Spells}
 use Rattle.msi_summary_properties.specs.PropertyStream.{header_bytes, section_head, string_bytes_of}
 use Rattle.msi_recode.specs.declared.page.TextPage.{TextPage}
+use Rattle.msi_recode.specs.declared.page.TextPage.TheVariants.{Plain}
 use Rattle.msi_recode.specs.TextPages.{Reads, page_for}
 
 -- a text, by any bytes that read as it in the page
@@ -29,18 +30,18 @@ abbrev pub EntryStandsAt : ℕ → TextPage → List ℕ → ℕ → ℕ × ℕ 
 EntryStandsAt version page bytes section pair entry = (entry.0 ≡ pair.0) × FitsValue entry.1
     × StandsAt (section + pair.1) bytes (λ front. SpellsValueIn version page front entry.1)
 
--- the id of the page that property 1 names: 0 without it
-abbrev pub id_named : Option PropertyValue → Option ℕ
-id_named None = Some 0
-id_named (Some (I2 n)) = Some (cast_unsigned w16 n)
-id_named _ = None
+-- the page that property 1 names, which is the one that is given for 0; without it UTF-8
+abbrev pub page_named : Option TextPage → Option PropertyValue → Option TextPage
+page_named given None = Some (Plain page.Utf8)
+page_named given (Some (I2 n)) = page_for given (cast_unsigned w16 n)
+page_named given _ = None
 
 -- a value of a set in UTF-8: property 1 names that page
 abbrev pub in_utf8 : ℕ → PropertyValue → PropertyValue
 in_utf8 id value = if id == 1 then page_value page.Utf8 else value
 
 -- the bytes are the stream of a summary, which has these properties in UTF-8. Its texts are read in the page that
--- property 1 names; where that is 0, in the one that is given
+-- property 1 names
 pub record IsSummary (given : Option TextPage) (bytes : List ℕ) (set : Properties) : Type 0 where
   pub version : ℕ
   pub reserved : ℕ
@@ -55,7 +56,7 @@ pub record IsSummary (given : Option TextPage) (bytes : List ℕ) (set : Propert
   pub head : StandsAt section bytes (λ front. front ≡ section_head size pairs)
   pub once : has_pair (λ p q. p.0 == q.0) pairs ≡ false
   pub spelled : AllZip (EntryStandsAt version page bytes section) pairs entries
-  pub named : option_and_then (page_for given) (id_named (entry_where (λ k. k == 1) entries)) ≡ Some page
+  pub named : page_named given (entry_where (λ k. k == 1) entries) ≡ Some page
   pub values : (id : ℕ) → value_with_id id set.values ≡ option_map (in_utf8 id) (entry_where (λ k. k == id) entries)
 
 -- the bytes after encode the set that the bytes before have, in UTF-8

@@ -1,6 +1,6 @@
 //! The summary's stream, with its texts in UTF-8.
 
-ghost use Rattle.std.specs.Prelude.{◌≡◌, ◌+◌, ◌==◌, ◌⊎◌, [], drop, Some, None, option_and_then, IfOk, IfErr, OnOk};
+ghost use Rattle.std.specs.Prelude.{◌≡◌, ◌+◌, ◌==◌, ◌⊎◌, [], drop, Some, None, IfOk, IfErr, OnOk};
 ghost use Rattle.msi_text_base.specs.Lists.{entry_where};
 ghost use Rattle.msi_text_base.specs.Results.{Gives};
 ghost use Rattle.msi_text_base.specs.declared.errors.ErrorKind.TheVariants.{InvalidData, InvalidInput, OutOfMemory};
@@ -8,8 +8,7 @@ ghost use Rattle.msi_summary_properties.specs.Properties.{value_with_id, with_va
 ghost use Rattle.msi_recode.specs.Errors.{kind_of};
 ghost use Rattle.msi_recode.specs.Readers.{page_of};
 ghost use Rattle.msi_recode.specs.SummaryReading.{ArePut, IsPutIn, is_text, page_stated, piece_at, value_in};
-ghost use Rattle.msi_recode.specs.SummaryRecoding.{IsSummaryRecoded, IsSummary, id_named, in_utf8};
-ghost use Rattle.msi_recode.specs.TextPages.{page_for};
+ghost use Rattle.msi_recode.specs.SummaryRecoding.{IsSummary, IsSummaryRecoded, in_utf8, page_named};
 
 use crate::errors::RecodeError;
 use crate::page::{TextPage, page_for};
@@ -27,9 +26,9 @@ use std::alloc::Global;
 /// The id of the property that names the page.
 const PAGE: u32 = 1;
 
-/// Returns the stream of a summary with its texts in UTF-8, which property 1 names where it is there. Texts are read in
-/// the page that it names before; for page 0 and without it, in the one that is given, and as UTF-8 where none is. All
-/// other properties keep their values.
+/// Returns the stream of a summary with its texts in UTF-8, which property 1 names then, where it is there. Texts are
+/// read in the page that it names; for page 0 in the one that is given, and as UTF-8 where none is. Without property 1
+/// they are UTF-8. All other properties keep their values.
 ///
 /// # Errors
 /// Fails with `InvalidData` if the bytes encode no set, if property 1 names no known page, or if the page has no text
@@ -112,7 +111,7 @@ fn page_of_texts(
         (page_stated given version bytes.now section (entry_where (λ k. k == 1) pairs.now)) }
 {
     let named = match place_of_page(pairs) {
-        None => page_for(given, 0),
+        None => Some(TextPage::Plain(CodePage::Utf8)),
         Some(place) => {
             let value = value_at(
                 alloc,
@@ -131,7 +130,7 @@ fn page_of_texts(
 
 /// The page that the value of property 1 names.
 fn page_from(given: Option<TextPage>, value: &PropertyValue) -> Option<TextPage>
-    ensures { result ≡ option_and_then (page_for given) (id_named (Some value.now)) }
+    ensures { result ≡ page_named given (Some value.now) }
 {
     match value {
         PropertyValue::I2(id) => page_for(given, id.cast_unsigned() as u32),
