@@ -1,6 +1,6 @@
-//! String pools as `msibuild` of msitools 0.101 writes them in Windows 932 and 1251, and of the same texts in UTF-8.
+//! String pools as `msibuild` of msitools 0.101 writes them in Windows 932 and 1251 and in UTF-8, and summaries.
 
-use msi_recode::{RecodeError, RecodedPool, TextPage, recode_pool};
+use msi_recode::{RecodeError, RecodedPool, TextPage, recode_pool, recode_summary};
 use msi_text_base::ErrorKind;
 use std::alloc::Global;
 
@@ -73,6 +73,7 @@ fn is_refused(alloc: Global, row: &(&[u8], &[u8], Option<usize>)) -> bool {
         Err(error) if error.kind() != ErrorKind::InvalidData => false,
         Err(RecodeError::Package(_)) => row.2.is_none(),
         Err(RecodeError::Place(place, _)) => row.2 == Some(place),
+        Err(RecodeError::Property(_, _)) => false,
     }
 }
 
@@ -94,4 +95,66 @@ fn a_text_of_65536_bytes_has_a_long_entry(rt: HostRuntime) {
     let pool = long_pool(rt.alloc()).expect(&rt, "a pool");
     assert!(rt; pool.entries.as_slice() == b"\xE9\xFD\0\0\0\0\x01\0\0\0\x01\0".as_slice());
     assert!(rt; pool.texts.len() == 65536);
+}
+
+/// What stands in front of the section of a summary.
+static HEADER: &[u8] =
+    b"\xFE\xFF\0\0\x05\0\x02\0\0\0\0\0\0\0\0\0\0\0\0\0\0\0\0\0\x01\0\0\0\xE0\x85\x9F\xF2\xF9Oh\x10\xAB\x91\x08\0+'\
+        \xB3\xD90\0\0\0";
+
+/// The page that is given for page 0, and the section of a summary with a page, a title and a number. The title is the
+/// same in both, in Windows 1251.
+static SECTIONS: [(Option<i32>, &[u8]); 2] = [
+    (
+        None,
+        b"@\0\0\0\x03\0\0\0\x01\0\0\0\x20\0\0\0\x02\0\0\0(\0\0\0\x0E\0\0\08\0\0\0\x02\0\0\0\xE3\x04\0\0\x1E\0\0\0\
+            \x05\0\0\0\xD2\xE5\xF1\xF2\0\0\0\0\x03\0\0\0\xC8\0\0\0",
+    ),
+    (
+        Some(1251),
+        b"@\0\0\0\x03\0\0\0\x01\0\0\0\x20\0\0\0\x02\0\0\0(\0\0\0\x0E\0\0\08\0\0\0\x02\0\0\0\0\0\0\0\x1E\0\0\0\x05\0\
+            \0\0\xD2\xE5\xF1\xF2\0\0\0\0\x03\0\0\0\xC8\0\0\0",
+    ),
+];
+
+/// The section with the title in UTF-8.
+static SECTION_AFTER: &[u8] =
+    b"D\0\0\0\x03\0\0\0\x01\0\0\0\x20\0\0\0\x02\0\0\0(\0\0\0\x0E\0\0\0<\0\0\0\x02\0\0\0\xE9\xFD\0\0\x1E\0\0\0\x09\0\
+        \0\0\xD0\xA2\xD0\xB5\xD1\x81\xD1\x82\0\0\0\0\x03\0\0\0\xC8\0\0\0";
+
+/// The section of a summary in Windows 932 whose title ends in the first byte of a pair.
+static SECTION_CUT: &[u8] =
+    b".\0\0\0\x02\0\0\0\x01\0\0\0\x18\0\0\0\x02\0\0\0 \0\0\0\x02\0\0\0\xA4\x03\0\0\x1E\0\0\0\x02\0\0\0\x81\0";
+
+/// The stream of a summary with this section, in UTF-8.
+fn recoded_summary(
+    alloc: Global,
+    given: Option<TextPage>,
+    section: &[u8],
+) -> Result<Vec<u8>, RecodeError> {
+    let mut bytes = Vec::from_slice(alloc, HEADER)?;
+    bytes.extend_from_slice(section)?;
+    recode_summary(alloc, given, bytes.as_slice())
+}
+
+#[test]
+fn summaries_are_written_in_utf8(rt: HostRuntime) {
+    for row in &SECTIONS {
+        let given = match row.0 {
+            Some(id) => TextPage::of(id),
+            None => None,
+        };
+        let after = recoded_summary(rt.alloc(), given, row.1).expect(&rt, "a summary");
+        assert!(rt; &after.as_slice()[..48] == HEADER);
+        assert!(rt; &after.as_slice()[48..] == SECTION_AFTER);
+    }
+}
+
+#[test]
+fn the_property_that_is_not_read_is_named(rt: HostRuntime) {
+    let is_named = match recoded_summary(rt.alloc(), None, SECTION_CUT) {
+        Err(RecodeError::Property(id, error)) => id == 2 && error.kind() == ErrorKind::InvalidData,
+        _ => false,
+    };
+    assert!(rt; is_named);
 }
