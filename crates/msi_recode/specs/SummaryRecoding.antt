@@ -8,8 +8,8 @@ use Rattle.msi_text_base.specs.Lists.{has_pair, entry_where}
 use Rattle.msi_summary_properties.specs.declared.propset.PropertyValue.{PropertyValue}
 use Rattle.msi_summary_properties.specs.declared.propset.PropertyValue.TheVariants.{I2, LpStr}
 use Rattle.msi_summary_properties.specs.Properties.{Properties, page_value, value_with_id}
-use Rattle.msi_summary_properties.specs.PropertyStream.{FitsHeader, FitsFields, FitsValue, StandsAt, SpellsValue, Spells}
-use Rattle.msi_summary_properties.specs.PropertyStream.{header_bytes, section_head, string_bytes_of}
+use Rattle.msi_summary_properties.specs.PropertyStream.{FitsHeader, FitsFields, FitsValue, StandsAt, SpellsValue}
+use Rattle.msi_summary_properties.specs.PropertyStream.{Spells, header_bytes, section_head, string_bytes_of}
 use Rattle.msi_recode.specs.declared.page.TextPage.{TextPage}
 use Rattle.msi_recode.specs.declared.page.TextPage.TheVariants.{Plain}
 use Rattle.msi_recode.specs.TextPages.{Reads, page_for}

@@ -1,11 +1,9 @@
-//! Tests of text archives, of the code pages that have tables of their own, and of pools that become UTF-8.
+//! Tests of text archives, and of the code pages that have tables of their own.
 #![tactic(auto)]
 
 #[cfg(test)]
 mod exports;
 #[cfg(test)]
 mod pages;
-#[cfg(test)]
-mod recodings;
 #[cfg(test)]
 mod refusals;

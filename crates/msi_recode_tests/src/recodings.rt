@@ -2,7 +2,7 @@
 
 use msi_recode::{RecodeError, RecodedPool, TextPage, recode_pool, recode_summary};
 use msi_text_base::ErrorKind;
-use std::alloc::Global;
+use std::alloc::{AllocError, Global};
 
 /// The two streams of a pool, and those that it becomes.
 static WRITTEN: [(&[u8], &[u8], &[u8], &str); 2] = [
@@ -66,14 +66,27 @@ static REFUSED: [(&[u8], &[u8], Option<usize>); 6] = [
     (b"\xE3\x04\0\0\x02\0\x01", b"a", None),
 ];
 
+/// The place that an error names.
+fn place_of(error: &RecodeError) -> Option<usize> {
+    match error {
+        RecodeError::Place(place, _) => Some(*place),
+        _ => None,
+    }
+}
+
+/// The property that an error names.
+fn property_of(error: &RecodeError) -> Option<u32> {
+    match error {
+        RecodeError::Property(id, _) => Some(*id),
+        _ => None,
+    }
+}
+
 /// Whether a pool isn't recoded, and this place is named as the one in the way.
 fn is_refused(alloc: Global, row: &(&[u8], &[u8], Option<usize>)) -> bool {
     match recode_pool(alloc, None, row.0, row.1) {
-        Ok(_) => false,
-        Err(error) if error.kind() != ErrorKind::InvalidData => false,
-        Err(RecodeError::Package(_)) => row.2.is_none(),
-        Err(RecodeError::Place(place, _)) => row.2 == Some(place),
-        Err(RecodeError::Property(_, _)) => false,
+        Ok(_pool) => false,
+        Err(error) => error.kind() == ErrorKind::InvalidData && place_of(&error) == row.2,
     }
 }
 
@@ -126,35 +139,45 @@ static SECTION_AFTER: &[u8] =
 static SECTION_CUT: &[u8] =
     b".\0\0\0\x02\0\0\0\x01\0\0\0\x18\0\0\0\x02\0\0\0 \0\0\0\x02\0\0\0\xA4\x03\0\0\x1E\0\0\0\x02\0\0\0\x81\0";
 
-/// The stream of a summary with this section, in UTF-8.
+/// The stream of a summary with this section.
+fn summary_of(alloc: Global, section: &[u8]) -> Result<Vec<u8>, AllocError> {
+    let mut bytes = Vec::from_slice(alloc, HEADER)?;
+    bytes.extend_from_slice(section)?;
+    Ok(bytes)
+}
+
+/// The same in UTF-8.
 fn recoded_summary(
     alloc: Global,
     given: Option<TextPage>,
     section: &[u8],
 ) -> Result<Vec<u8>, RecodeError> {
-    let mut bytes = Vec::from_slice(alloc, HEADER)?;
-    bytes.extend_from_slice(section)?;
+    let bytes = summary_of(alloc, section)?;
     recode_summary(alloc, given, bytes.as_slice())
 }
 
 #[test]
 fn summaries_are_written_in_utf8(rt: HostRuntime) {
+    let wanted = summary_of(rt.alloc(), SECTION_AFTER).expect(&rt, "memory");
     for row in &SECTIONS {
         let given = match row.0 {
             Some(id) => TextPage::of(id),
             None => None,
         };
         let after = recoded_summary(rt.alloc(), given, row.1).expect(&rt, "a summary");
-        assert!(rt; &after.as_slice()[..48] == HEADER);
-        assert!(rt; &after.as_slice()[48..] == SECTION_AFTER);
+        assert!(rt; after.as_slice() == wanted.as_slice());
+    }
+}
+
+/// The property that is named as the one in the way of a summary with this section.
+fn property_refused(alloc: Global, section: &[u8]) -> Option<u32> {
+    match recoded_summary(alloc, None, section) {
+        Ok(_summary) => None,
+        Err(error) => property_of(&error),
     }
 }
 
 #[test]
 fn the_property_that_is_not_read_is_named(rt: HostRuntime) {
-    let is_named = match recoded_summary(rt.alloc(), None, SECTION_CUT) {
-        Err(RecodeError::Property(id, error)) => id == 2 && error.kind() == ErrorKind::InvalidData,
-        _ => false,
-    };
-    assert!(rt; is_named);
+    assert!(rt; property_refused(rt.alloc(), SECTION_CUT) == Some(2));
 }
