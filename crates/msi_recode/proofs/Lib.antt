@@ -6,4 +6,5 @@ pub mod WrittenLemmas
 pub mod RecodedLemmas
 pub mod SummaryLemmas
 pub mod SummarySetLemmas
+pub mod SummaryOnlyLemmas
 pub mod PackageLemmas

@@ -35,7 +35,7 @@ unfolding piece_at
 piece_made bytes kind_rest count_rest front rest kind count a b c = rw (a, b, c) refl
 
 -- the piece of a text whose length with the null is n
-piece_again : (n : ℕ) (bytes piece others : List ℕ) → n < 2 ^ 32 → length piece ≡ n - 1 → bytes ≡ (to_le_bytes w32 30 ++ to_le_bytes w32 n ++ piece ++ 0 ∷ []) ++ others → piece_at bytes ≡ Some piece
+pub piece_again : (n : ℕ) (bytes piece others : List ℕ) → n < 2 ^ 32 → length piece ≡ n - 1 → bytes ≡ (to_le_bytes w32 30 ++ to_le_bytes w32 n ++ piece ++ 0 ∷ []) ++ others → piece_at bytes ≡ Some piece
 piece_again n bytes piece others small len parts =
     let rest : List ℕ = (piece ++ 0 ∷ []) ++ others in
     let split : bytes ≡ to_le_bytes w32 30 ++ (to_le_bytes w32 n ++ rest) = parts in

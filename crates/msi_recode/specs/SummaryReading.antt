@@ -1,7 +1,7 @@
 -- Scaffolding of proofs: how the summary's stream is read, one step after the other. What it holds stands in
 -- `SummaryRecoding`.
 use Rattle.std.specs.Prelude.{◌≡◌, ℕ, ◌+◌, ◌-◌, ◌==◌, false, true, Bool, List, Option, Some, None, option_map}
-use Rattle.std.specs.Prelude.{drop}
+use Rattle.std.specs.Prelude.{◌⊎◌, is_some, drop}
 use Rattle.std.specs.List.{AllZip}
 use Rattle.std.specs.Int.{w32}
 use Rattle.msi_text_base.specs.declared.codepage.CodePage.TheVariants as page
@@ -60,3 +60,13 @@ pub record ArePut (version : ℕ) (page : TextPage) (bytes : List ℕ) (section 
   pub once : has_pair (λ p q. p.0 == q.0) pairs ≡ false
   pub same : after ≡ set_of before.os before.os_version before.clsid before.format_identifier after.values
   pub values : (id : ℕ) → value_with_id id after.values ≡ option_map (in_utf8 id) (entry_where (λ k. k == id) entries)
+
+-- a value that isn't put in: it isn't read, or there is one of this id
+abbrev pub IsNotPut : ℕ → TextPage → List ℕ → ℕ → Properties → Type 0
+IsNotPut version page bytes id before =
+    (value_in version page bytes ≡ None) ⊎ (is_some (value_with_id id before.values) ≡ true)
+
+-- the values of these pairs aren't read, or an id is listed twice
+abbrev pub CannotBePut : ℕ → TextPage → List ℕ → ℕ → List (ℕ × ℕ) → Type 0
+CannotBePut version page bytes section pairs = (entries : List (ℕ × PropertyValue))
+    → AllZip (IsEntryRead version page bytes section) pairs entries → has_pair (λ p q. p.0 == q.0) pairs ≡ true

@@ -59,6 +59,10 @@ pub record IsSummary (given : Option TextPage) (bytes : List ℕ) (set : Propert
   pub named : page_named given (entry_where (λ k. k == 1) entries) ≡ Some page
   pub values : (id : ℕ) → value_with_id id set.values ≡ option_map (in_utf8 id) (entry_where (λ k. k == id) entries)
 
+-- the bytes are no stream of a summary, or its page doesn't read a text
+abbrev pub HasNoSummary : Option TextPage → List ℕ → Type 0
+HasNoSummary given bytes = (set : Properties) → IsSummary given bytes set → ⊥
+
 -- the bytes after encode the set that the bytes before have, in UTF-8
 abbrev pub IsSummaryRecoded : Option TextPage → List ℕ → List ℕ → Type 0
 IsSummaryRecoded given before after = (set : Properties) × IsSummary given before set × Spells after set

@@ -1,14 +1,15 @@
 //! The summary's stream, with its texts in UTF-8.
 
-ghost use Rattle.std.specs.Prelude.{◌≡◌, ◌+◌, ◌==◌, ◌⊎◌, [], drop, Some, None, IfOk, IfErr, OnOk};
+ghost use Rattle.std.specs.Prelude.{◌≡◌, ◌+◌, ◌==◌, ◌⊎◌, [], drop, Some, None, is_some, true, IfOk, IfErr, OnOk};
 ghost use Rattle.msi_text_base.specs.Lists.{entry_where};
 ghost use Rattle.msi_text_base.specs.Results.{Gives};
 ghost use Rattle.msi_text_base.specs.declared.errors.ErrorKind.TheVariants.{InvalidData, InvalidInput, OutOfMemory};
 ghost use Rattle.msi_summary_properties.specs.Properties.{value_with_id, with_value};
 ghost use Rattle.msi_recode.specs.Errors.{kind_of};
 ghost use Rattle.msi_recode.specs.Readers.{page_of};
-ghost use Rattle.msi_recode.specs.SummaryReading.{ArePut, IsPutIn, is_text, page_stated, piece_at, value_in};
-ghost use Rattle.msi_recode.specs.SummaryRecoding.{IsSummary, IsSummaryRecoded, in_utf8, page_named};
+ghost use Rattle.msi_recode.specs.SummaryReading.{ArePut, CannotBePut, IsNotPut, IsPutIn, is_text, page_stated};
+ghost use Rattle.msi_recode.specs.SummaryReading.{piece_at, value_in};
+ghost use Rattle.msi_recode.specs.SummaryRecoding.{HasNoSummary, IsSummary, IsSummaryRecoded, in_utf8, page_named};
 
 use crate::errors::RecodeError;
 use crate::page::{TextPage, page_for};
@@ -42,6 +43,7 @@ pub fn recode_summary(
     ensures ok { IfOk result (λ after. IsSummaryRecoded given bytes.now after.items) }
     ensures kinds { IfErr result (λ error. (kind_of error ≡ InvalidData) ⊎ (kind_of error ≡ InvalidInput)
         ⊎ (kind_of error ≡ OutOfMemory)) }
+    ensures refused { IfErr result (λ error. kind_of error ≡ InvalidData → HasNoSummary given bytes.now) }
 {
     let set = set_in_utf8(alloc, given, bytes)?;
     // UTF-8 writes each text so that it reads back: the call states that the texts are UTF-8.
@@ -57,6 +59,7 @@ fn set_in_utf8(
 ) -> Result<PropertySet, RecodeError>
     ensures ok { IfOk result (λ set. IsSummary given bytes.now set) }
     ensures kinds { IfErr result (λ error. (kind_of error ≡ InvalidData) ⊎ (kind_of error ≡ OutOfMemory)) }
+    ensures refused { IfErr result (λ error. kind_of error ≡ InvalidData → HasNoSummary given bytes.now) }
 {
     let head = header_at(bytes)?;
     let pairs = section_at(alloc, rest_from(bytes, head.section, 0))?;
@@ -151,6 +154,8 @@ fn put_values(
     requires { set.old.values ≡ [] }
     ensures ok { OnOk result (ArePut version (page_of reader.now) bytes.now section pairs.now set.old set.new) }
     ensures kinds { IfErr result (λ error. (kind_of error ≡ InvalidData) ⊎ (kind_of error ≡ OutOfMemory)) }
+    ensures refused { IfErr result (λ error. kind_of error ≡ InvalidData
+        → CannotBePut version (page_of reader.now) bytes.now section pairs.now) }
 {
     let mut left = most_text(bytes);
     for &(id, place) in pairs {
@@ -177,6 +182,8 @@ fn put_value(
     ensures new { OnOk result (value_with_id id set.old.values ≡ None) }
     ensures ok { OnOk result (IsPutIn version (page_of reader.now) bytes.now id set.old set.new) }
     ensures kinds { IfErr result (λ kind. (kind ≡ InvalidData) ⊎ (kind ≡ OutOfMemory)) }
+    ensures refused { IfErr result (λ kind. kind ≡ InvalidData
+        → IsNotPut version (page_of reader.now) bytes.now id set.old) }
 {
     let value = value_in(alloc, version, reader, bytes)?;
     let others = match left.checked_sub(text_len(&value)) {
@@ -205,6 +212,7 @@ fn put_new(set: &mut PropertySet, id: u32, value: PropertyValue) -> Result<(), E
     ensures new { OnOk result (value_with_id id set.old.values ≡ None) }
     ensures ok { OnOk result (set.new ≡ with_value id (in_utf8 id value) set.old) }
     ensures kinds { IfErr result (λ kind. (kind ≡ InvalidData) ⊎ (kind ≡ OutOfMemory)) }
+    ensures there { IfErr result (λ kind. kind ≡ InvalidData → is_some (value_with_id id set.old.values) ≡ true) }
 {
     if set.get(id).is_some() {
         return Err(Error::new(ErrorKind::InvalidData, reasons::PROPERTY_TWICE));
