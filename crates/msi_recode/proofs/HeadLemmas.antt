@@ -91,6 +91,12 @@ head_only hint bytes n rest page long entries head read is spelled said =
     let both : (head.page, head.long) ≡ (page, long) = some_is (head.page, head.long) (page, long) (sym r.header ∙ is) in
     same_head head.page page head.long long head.entries entries (ap (λ (x : TextPage × Bool). x.0) both) (ap (λ (x : TextPage × Bool). x.1) both) (one_list rest head.entries entries r.spelled spelled)
 
+-- bytes say one head
+pub one_head : (hint : Option TextPage) (bytes : List ℕ) (a b : PoolHead) → IsHead hint bytes a → IsHead hint bytes b → a ≡ b
+one_head hint bytes a b p q =
+    let s = head_again hint bytes b q in
+    head_only hint bytes s.n s.rest b.page b.long b.entries a s.read s.header s.spelled p
+
 -- an error of the header is one of the head
 pub no_header : (k : ErrorKind) (hint : Option TextPage) (bytes : List ℕ) (head : PoolHead) → FailsAs k (number_at w32 bytes) → IsHead hint bytes head → k ≡ kind.OutOfMemory
 no_header kind.AlreadyExists hint bytes head h said = absurd h

@@ -8,3 +8,5 @@ pub mod SummaryLemmas
 pub mod SummarySetLemmas
 pub mod SummaryOnlyLemmas
 pub mod PackageLemmas
+pub mod PagesAlikeLemmas
+pub mod LawsLemmas

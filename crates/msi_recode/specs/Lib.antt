@@ -7,3 +7,4 @@ pub mod PoolReading
 pub mod SummaryRecoding
 pub mod SummaryReading
 pub mod Recoding
+pub mod RecodingLaws

@@ -34,6 +34,6 @@ page_for given id = or_else (if id == 0 then given else None) (text_page_with_id
 
 -- what a package's page reads, the page of its id reads alike
 abbrev pub PackagePagesReadAlike : Type 0
-PackagePagesReadAlike = (id : ℕ) (page : CodePage) (bytes text : List ℕ)
-    → plain.page_with_id id ≡ Some page → plain.Reads page bytes text
-    → (found : TextPage) × (text_page_with_id id ≡ Some found) × Reads found bytes text
+PackagePagesReadAlike = (id : ℕ) (page : CodePage) → plain.page_with_id id ≡ Some page
+    → (found : TextPage) × (text_page_with_id id ≡ Some found)
+    × ((bytes text : List ℕ) → plain.Reads page bytes text → Reads found bytes text)

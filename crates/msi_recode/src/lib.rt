@@ -3,6 +3,7 @@
 
 mod errors;
 mod head;
+pub mod laws;
 mod package;
 mod page;
 mod pool;
