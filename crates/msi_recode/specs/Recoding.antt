@@ -1,13 +1,13 @@
 -- A package whose texts are in UTF-8, and the one that it was made of.
-use Rattle.std.specs.Prelude.{◌≡◌, ℕ, List, Option, Some}
+use Rattle.std.specs.Prelude.{◌≡◌, ◌⊎◌, ℕ, List, Option, Some}
 use Rattle.std.specs.FinMap.{get, insert}
 use Rattle.msi_container_format.specs.declared.contents.Contents.{Contents}
 use Rattle.msi_container_format.specs.Container.{Holds}
 use Rattle.msi_container_format.specs.Streams.{Streams}
 use Rattle.msi_database_schema.specs.Keys.{table_key, summary_key, string_pool_name, string_data_name}
 use Rattle.msi_recode.specs.declared.page.TextPage.{TextPage}
-use Rattle.msi_recode.specs.PoolRecoding.{AreRecoded}
-use Rattle.msi_recode.specs.SummaryRecoding.{IsSummaryRecoded}
+use Rattle.msi_recode.specs.PoolRecoding.{AreRecoded, CannotBeRecoded}
+use Rattle.msi_recode.specs.SummaryRecoding.{HasNoSummary, IsSummaryRecoded}
 
 -- the bytes of the three streams that have texts
 pub record TextStreams : Type 0 where
@@ -39,6 +39,11 @@ AreStreamsRecoded given before after = (old : TextStreams) × (new : TextStreams
 abbrev pub IsRecoded : Option TextPage → Contents → Contents → Type 0
 IsRecoded given before after = AreStreamsRecoded given before.streams after.streams
     × (after ≡ record before { streams = after.streams })
+
+-- the three are not there, or can't be recoded
+abbrev pub CannotBeRecodedIn : Option TextPage → Streams → Type 0
+CannotBeRecodedIn given streams = (these : TextStreams) → HaveTextStreams streams these
+    → CannotBeRecoded given these.entries these.texts ⊎ HasNoSummary given these.summary
 
 -- the files hold such contents
 abbrev pub IsFileRecoded : Option TextPage → List ℕ → List ℕ → Type 0

@@ -1,13 +1,15 @@
 //! Packages, with their texts in UTF-8.
 
 ghost use Rattle.std.specs.FinMap as finite;
-ghost use Rattle.std.specs.Prelude.{◌≡◌, ◌⊎◌, Some, IfOk, IfErr};
+ghost use Rattle.std.specs.Prelude.{◌≡◌, ◌⊎◌, None, Some, IfOk, IfErr, OnErr};
 ghost use Rattle.msi_text_base.specs.Results.{OnlyMemory};
 ghost use Rattle.msi_text_base.specs.declared.errors.ErrorKind.TheVariants.{InvalidData, InvalidInput, OutOfMemory};
+ghost use Rattle.msi_container_format.specs.Container.{Holds};
+ghost use Rattle.msi_container_format.specs.declared.contents.Contents as held;
 ghost use Rattle.msi_recode.specs.Errors.{kind_of};
 ghost use Rattle.msi_recode.specs.Recoding as packages;
-ghost use Rattle.msi_recode.specs.Recoding.{AreStreamsRecoded, AreTextsRecoded, HaveTextStreams, IsFileRecoded};
-ghost use Rattle.msi_recode.specs.Recoding.{IsRecoded, with_text_streams};
+ghost use Rattle.msi_recode.specs.Recoding.{AreStreamsRecoded, AreTextsRecoded, CannotBeRecodedIn, HaveTextStreams};
+ghost use Rattle.msi_recode.specs.Recoding.{IsFileRecoded, IsRecoded, with_text_streams};
 
 use crate::errors::RecodeError;
 use crate::page::TextPage;
@@ -35,6 +37,8 @@ pub fn recode(alloc: Global, given: Option<TextPage>, bytes: &[u8]) -> Result<Ve
     ensures ok { IfOk result (λ after. IsFileRecoded given bytes.now after.items) }
     ensures kinds { IfErr result (λ error. (kind_of error ≡ InvalidData) ⊎ (kind_of error ≡ InvalidInput)
         ⊎ (kind_of error ≡ OutOfMemory)) }
+    ensures refused { IfErr result (λ error. kind_of error ≡ InvalidData → (contents : held.Contents)
+        → Holds bytes.now contents → CannotBeRecodedIn given contents.streams) }
 {
     let contents = recode_contents(alloc, given, read(alloc, bytes)?)?;
     Ok(write(alloc, &contents, 0)?)
@@ -54,6 +58,7 @@ pub fn recode_contents(
     ensures ok { IfOk result (λ after. IsRecoded given contents after) }
     ensures kinds { IfErr result (λ error. (kind_of error ≡ InvalidData) ⊎ (kind_of error ≡ InvalidInput)
         ⊎ (kind_of error ≡ OutOfMemory)) }
+    ensures refused { IfErr result (λ error. kind_of error ≡ InvalidData → CannotBeRecodedIn given contents.streams) }
 {
     let Contents {
         clsid,
@@ -77,6 +82,7 @@ fn recode_streams(
     ensures ok { IfOk result (λ after. AreStreamsRecoded given streams after) }
     ensures kinds { IfErr result (λ error. (kind_of error ≡ InvalidData) ⊎ (kind_of error ≡ InvalidInput)
         ⊎ (kind_of error ≡ OutOfMemory)) }
+    ensures refused { IfErr result (λ error. kind_of error ≡ InvalidData → CannotBeRecodedIn given streams) }
 {
     let texts = texts_recoded(alloc, given, &streams)?;
     Ok(with_texts(streams, texts)?)
@@ -108,6 +114,7 @@ fn texts_recoded(
         × HaveTextStreams streams.now old × AreTextsRecoded given old new) }
     ensures kinds { IfErr result (λ error. (kind_of error ≡ InvalidData) ⊎ (kind_of error ≡ InvalidInput)
         ⊎ (kind_of error ≡ OutOfMemory)) }
+    ensures refused { IfErr result (λ error. kind_of error ≡ InvalidData → CannotBeRecodedIn given streams.now) }
 {
     let pool = bytes_at(streams, &string_pool_key(), reasons::NO_POOL)?;
     let data = bytes_at(streams, &string_data_key(), reasons::NO_POOL)?;
@@ -125,6 +132,7 @@ fn texts_recoded(
 /// The bytes of a stream.
 fn bytes_at<'a>(streams: &'a StreamMap, name: &Name, missing: Reason) -> Result<&'a [u8], Error>
     ensures ok { IfOk result (λ bytes. finite.get streams.now name.now ≡ Some bytes.now) }
+    ensures missing { OnErr result (finite.get streams.now name.now ≡ None) }
     ensures kind { IfErr result (λ kind. kind ≡ InvalidData) }
 {
     match streams.get(name) {
