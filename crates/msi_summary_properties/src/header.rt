@@ -15,14 +15,21 @@ pub(crate) const MARK: u16 = 0xFFFE;
 
 /// The header of a stream.
 #[derive(Drop)]
-pub(crate) struct Head {
-    pub(crate) version: u16,
-    pub(crate) os_version: u16,
-    pub(crate) os: OperatingSystem,
-    pub(crate) clsid: [u8; 16],
-    pub(crate) reserved: u32,
-    pub(crate) format_identifier: [u8; 16],
-    pub(crate) section: u32,
+pub struct Head {
+    /// The version of the format: 0 or 1.
+    pub version: u16,
+    /// The version of the system that the set was made on.
+    pub os_version: u16,
+    /// That system.
+    pub os: OperatingSystem,
+    /// The class identifier, which has no meaning here.
+    pub clsid: [u8; 16],
+    /// How many sections there are, of which the first is read.
+    pub reserved: u32,
+    /// Which format says what the properties mean.
+    pub format_identifier: [u8; 16],
+    /// Where the section stands.
+    pub section: u32,
 }
 
 /// The system that a number names.
@@ -39,7 +46,7 @@ fn system_of(number: u16) -> Result<OperatingSystem, Error>
 
 /// The header in front.
 #[tactic(auto, unfolding(crate::specs::Reading::header_at))]
-pub(crate) fn header_at(bytes: &[u8]) -> Result<Head, Error>
+pub fn header_at(bytes: &[u8]) -> Result<Head, Error>
     ensures { Gives view_head result (header_at bytes.now) }
 {
     let (mark, rest) = u16_at(bytes, PROPERTY_CUT)?;
@@ -88,7 +95,7 @@ fn pairs_at(alloc: Global, count: u32, bytes: &[u8]) -> Result<Vec<(u32, u32)>, 
 
 /// The ids of a section, and where their values stand in it. The section's size isn't looked at.
 #[tactic(auto, unfolding(crate::specs::Reading::section_at))]
-pub(crate) fn section_at(alloc: Global, bytes: &[u8]) -> Result<Vec<(u32, u32)>, Error>
+pub fn section_at(alloc: Global, bytes: &[u8]) -> Result<Vec<(u32, u32)>, Error>
     ensures { Gives (λ v. v.items) result (section_at bytes.now) }
 {
     let (_, rest) = u32_at(bytes, PROPERTY_CUT)?;

@@ -1,13 +1,30 @@
 //! What the crates above need beyond the surface.
 
-ghost use Rattle.std.specs.Prelude.{◌≡◌, true, OnOk, OnErr};
+ghost use Rattle.std.specs.Prelude.{◌≡◌, [], true, OnOk, OnErr};
 ghost use Rattle.msi_text_base.specs.Results.{OnlyMemory};
-ghost use Rattle.msi_summary_properties.specs.Properties.{can_set, with_value};
+ghost use Rattle.msi_summary_properties.specs.Properties.{can_set, set_of, with_value};
 
+pub use crate::header::{Head, header_at, section_at};
 use crate::propset::{PropertySet, PropertyValue};
+pub use crate::values::value_at;
 pub use crate::writing::stream_of;
 use msi_text::errors::Error;
 use std::alloc::Global;
+use std::collections::BTreeMap;
+
+/// Returns a set without any property, with what a header says of it. It takes no memory.
+pub fn new_set_of(alloc: Global, head: &Head) -> PropertySet
+    ensures { result ≡ set_of head.now.os head.now.os_version head.now.clsid head.now.format_identifier [] }
+{
+    PropertySet::from_parts(
+        alloc,
+        head.os,
+        head.os_version,
+        head.clsid,
+        head.format_identifier,
+        BTreeMap::new(alloc),
+    )
+}
 
 /// Returns what new values of a set take their memory from.
 pub fn allocator(set: &PropertySet) -> Global {

@@ -65,7 +65,7 @@ fn payload_at(
 
 /// The value whose bytes begin here, in a set of this version and page.
 #[tactic(auto, unfolding(crate::specs::Reading::value_at))]
-pub(crate) fn value_at(
+pub fn value_at(
     alloc: Global,
     version: u16,
     page: CodePage,

@@ -1,0 +1,12 @@
+-- The lemmas of this crate.
+pub mod PageLemmas
+pub mod TextsLemmas
+pub mod HeadLemmas
+pub mod WrittenLemmas
+pub mod RecodedLemmas
+pub mod SummaryLemmas
+pub mod SummarySetLemmas
+pub mod SummaryOnlyLemmas
+pub mod PackageLemmas
+pub mod PagesAlikeLemmas
+pub mod LawsLemmas

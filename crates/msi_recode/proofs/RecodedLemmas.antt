@@ -1,0 +1,156 @@
+-- The places of a pool as they are read and written, and why they aren't.
+use Rattle.std.proofs.Common.{◌≡◌, ℕ, suc, ◌+◌, ◌^◌, ◌<◌, ◌≤◌, ◌++◌, Bool, true, false, true≢false, List, [], ◌∷◌, length, get_or, take, drop, Option, Some, None, inl, inr, refl, sym, ap, ◌∙◌, subst, append_assoc, arith}
+use Rattle.std.specs.Prelude.{◌⊎◌, is_some, if◌then◌else◌, IsUtf8}
+use Rattle.std.proofs.lemmas.List.{append-nil, take_at, drop_at, take-append-drop, length-append, length-take}
+use Rattle.std.proofs.lemmas.Bool.{or_from}
+use Rattle.std.proofs.lemmas.Grind.{flat_map-append}
+use Rattle.msi_text_base.specs.declared.errors.ErrorKind.{ErrorKind}
+use Rattle.msi_text_base.specs.declared.errors.ErrorKind.TheVariants as kind
+use Rattle.msi_text_base.proofs.ListLemmas.{any_joined, all_joined}
+use Rattle.msi_text_base.proofs.OptionLemmas.{some_is, none_there, not_given}
+use Rattle.msi_text_pool_base.specs.Pool.{Entry, Place, header_of, plain_entry, HaveUtf8Texts, CountsFit}
+use Rattle.msi_recode.specs.declared.page.TextPage.{TextPage}
+use Rattle.msi_recode.specs.declared.errors.RecodeError.{RecodeError}
+use Rattle.msi_recode.specs.declared.errors.RecodeError.TheVariants as error
+use Rattle.msi_recode.specs.Errors.{kind_of}
+use Rattle.msi_recode.specs.TextPages.{Reads, text_in}
+use Rattle.msi_recode.specs.PoolRecoding.{PoolHead, IsHead, SpellsTexts, HavePlaces, AreRecoded, CannotBeRecoded, TellsPlace, FailsAt, FailsInFront, entry_of, is_long, has_long, entries_written, texts_written}
+use Rattle.msi_recode.specs.PoolReading.{IsFront, IsPut, AreWritten, ArePut, IsTextError, IsTextsError}
+use Rattle.msi_recode.proofs.TextsLemmas.{AreInFront, texts_fail, failing_is_long}
+use Rattle.msi_recode.proofs.WrittenLemmas.{streams_are_pool}
+
+-- the front of the bytes is what the entry says
+front_is : (e : Entry) (bytes piece others : List ℕ) → bytes ≡ piece ++ others → length piece ≡ e.len → take e.len bytes ≡ piece
+front_is e bytes piece others parts len = ap (take e.len) parts ∙ take_at piece others e.len len
+
+-- too few bytes
+pub cut_fails : (page : TextPage) (e : Entry) (bytes : List ℕ) → length bytes < e.len → FailsInFront page e bytes
+cut_fails page e bytes few piece text others parts len reads =
+    absurd (omega (arith, few, len, length-append piece others, ap length parts))
+
+-- bytes that aren't read
+pub unread_fails : (page : TextPage) (e : Entry) (bytes : List ℕ) (k : ErrorKind) → k ≡ (if is_some (text_in page (take e.len bytes)) then kind.OutOfMemory else kind.InvalidData) → IsTextError page e bytes k
+unread_fails page e bytes k is = elim (cases_some (text_in page (take e.len bytes))) [
+  | inl read ↦ subst (λ (x : ErrorKind). IsTextError page e bytes x) (sym (is ∙ ap (λ (b : Bool). if b then kind.OutOfMemory else kind.InvalidData) read)) tt
+  | inr unread ↦ subst (λ (x : ErrorKind). IsTextError page e bytes x) (sym (is ∙ ap (λ (b : Bool). if b then kind.OutOfMemory else kind.InvalidData) unread))
+      (λ piece text others parts len reads. absurd (not_given text (sym reads ∙ ap (text_in page) (sym (front_is e bytes piece others parts len)) ∙ none_there (text_in page (take e.len bytes)) unread)))
+]
+  where
+    cases_some : (o : Option (List ℕ)) → (is_some o ≡ true) ⊎ (is_some o ≡ false)
+    cases_some (Some x) = inl refl
+    cases_some None = inr refl
+
+-- a text that is too long
+pub long_fails : (page : TextPage) (e : Entry) (bytes text : List ℕ) → Reads page (take e.len bytes) text → is_long (record { len = length text; count = e.count }) ≡ true → FailsInFront page e bytes
+long_fails page e bytes text reads long piece other others parts len read =
+    let same : text ≡ other = some_is text other (sym reads ∙ ap (text_in page) (front_is e bytes piece others parts len) ∙ read) in
+    subst (λ (x : List ℕ). is_long (record { len = length x; count = e.count }) ≡ true) same long
+
+-- the text in front
+pub front_read : (page : TextPage) (e : Entry) (bytes text : List ℕ) → e.len ≤ length bytes → Reads page (take e.len bytes) text → IsFront page e bytes (record { text = text; count = e.count }) (drop e.len bytes)
+front_read page e bytes text fits reads = record {
+  piece = take e.len bytes;
+  parts = sym (take-append-drop e.len bytes);
+  len = omega (arith, length-take e.len bytes, fits);
+  reads = reads;
+  count = refl;
+}
+
+-- the place in front, written behind the others
+pub put_made : (page : TextPage) (e : Entry) (bytes text front rest entries_before texts_before entries_after texts_after : List ℕ) → e.len ≤ length bytes → front ≡ take e.len bytes → rest ≡ drop e.len bytes → Reads page front text
+    → is_long (record { len = length text; count = e.count }) ≡ false → e.count < 2 ^ 16 → IsUtf8 text → entries_after ≡ entries_before ++ plain_entry (record { len = length text; count = e.count }) → texts_after ≡ texts_before ++ text
+    → IsPut page e bytes entries_before texts_before entries_after texts_after rest
+put_made page e bytes text front rest entries_before texts_before entries_after texts_after fits front_is rest_is reads short count utf8 entries texts = record {
+  place = record { text = text; count = e.count };
+  front = subst (λ (x : List ℕ). IsFront page e bytes (record { text = text; count = e.count }) x) (sym rest_is) (front_read page e bytes text fits (ap (text_in page) (sym front_is) ∙ reads));
+  short = short;
+  count = count;
+  utf8 = utf8;
+  entries = entries;
+  texts = texts;
+}
+
+pub written_start : (entries texts : List ℕ) → AreWritten [] entries texts entries texts
+written_start entries texts = record { short = refl; counts = tt; utf8 = tt; entries = sym (append-nil entries); texts = sym (append-nil texts) }
+
+pub written_next : (page : TextPage) (e : Entry) (bytes rest : List ℕ) (front : List Place) (entries texts entries_before texts_before entries_after texts_after : List ℕ)
+    → AreWritten front entries texts entries_before texts_before → (put : IsPut page e bytes entries_before texts_before entries_after texts_after rest)
+    → AreWritten (front ++ put.place ∷ []) entries texts entries_after texts_after
+written_next page e bytes rest front entries texts entries_before texts_before entries_after texts_after w put = record {
+  short = any_joined (λ (p : Place). is_long (entry_of p)) front (put.place ∷ []) w.short (or_from (is_long (entry_of put.place)) false put.short refl);
+  counts = all_joined (λ (p : Place). p.count < 2 ^ 16) front (put.place ∷ []) w.counts (put.count, tt);
+  utf8 = all_joined (λ (p : Place). IsUtf8 p.text) front (put.place ∷ []) w.utf8 (put.utf8, tt);
+  entries = behind entries entries_before entries_after (entries_written front) (plain_entry (entry_of put.place)) (entries_written (front ++ put.place ∷ [])) w.entries put.entries (flat_map-append (λ (p : Place). plain_entry (entry_of p)) front (put.place ∷ []) ∙ ap (λ (x : List ℕ). entries_written front ++ x) (append-nil (plain_entry (entry_of put.place))));
+  texts = behind texts texts_before texts_after (texts_written front) put.place.text (texts_written (front ++ put.place ∷ [])) w.texts put.texts (flat_map-append (λ (p : Place). p.text) front (put.place ∷ []) ∙ ap (λ (x : List ℕ). texts_written front ++ x) (append-nil put.place.text));
+}
+  where
+    behind : (first before after front last all : List ℕ) → before ≡ first ++ front → after ≡ before ++ last → all ≡ front ++ last → after ≡ first ++ all
+    behind first before after front last all p q r = q ∙ ap (λ (x : List ℕ). x ++ last) p ∙ append_assoc first front last ∙ ap (λ (x : List ℕ). first ++ x) (sym r)
+
+-- why a text isn't put is why the texts aren't
+pub texts_error : (k : ErrorKind) (page : TextPage) (entries : List Entry) (bytes : List ℕ) (i : ℕ) (front : List Place) (old : List ℕ) (e : Entry)
+    → AreInFront page entries bytes i front old → i < length entries → e ≡ get_or entries i e → IsTextError page e old k → IsTextsError page bytes entries (error.Place i k)
+texts_error kind.AlreadyExists page entries bytes i front old e so_far lt is h = absurd h
+texts_error kind.InvalidData page entries bytes i front old e so_far lt is h = texts_fail page entries bytes i front old e so_far lt is h
+texts_error kind.InvalidInput page entries bytes i front old e so_far lt is h = absurd h
+texts_error kind.NotFound page entries bytes i front old e so_far lt is h = absurd h
+texts_error kind.Io page entries bytes i front old e so_far lt is h = absurd h
+texts_error kind.OutOfMemory page entries bytes i front old e so_far lt is h = tt
+
+same_length : (page : TextPage) (bytes : List ℕ) (es : List Entry) (ps : List Place) → SpellsTexts page bytes es ps → length ps ≡ length es
+same_length page bytes [] [] h = refl
+same_length page bytes [] (p ∷ ps) h = absurd h
+same_length page bytes (e ∷ es) [] h = absurd h
+same_length page bytes (e ∷ es) (p ∷ ps) (piece, others, parts, len, reads, count, more) = ap suc (same_length page others es ps more)
+
+-- what is read and written is the pool in UTF-8
+pub recoded : (hint : Option TextPage) (pool_stream data_stream : List ℕ) (head : PoolHead) (page : TextPage) (list : List Entry) (long : Bool) (entries_before texts_before entries texts : List ℕ) → IsHead hint pool_stream head
+    → page ≡ head.page → list ≡ head.entries → long ≡ head.long → entries_before ≡ header_of 65001 long → texts_before ≡ []
+    → ArePut page data_stream list entries_before texts_before entries texts → AreRecoded hint pool_stream data_stream entries texts
+recoded hint pool_stream data_stream head page list long entries_before texts_before entries texts said page_is list_is long_is entries_are texts_are (places, spelled, w) =
+    let few = said.6 in
+    let here : SpellsTexts head.page data_stream head.entries places = subst (λ (x : TextPage). SpellsTexts x data_stream head.entries places) page_is (subst (λ (x : List Entry). SpellsTexts page data_stream x places) list_is spelled) in
+    let same = same_length head.page data_stream head.entries places here in
+    let start : entries ≡ header_of 65001 head.long ++ entries_written places = w.entries ∙ ap (λ (x : List ℕ). x ++ entries_written places) (entries_are ∙ ap (header_of 65001) long_is) in
+    let all : texts ≡ texts_written places = w.texts ∙ ap (λ (x : List ℕ). x ++ texts_written places) texts_are in
+    (head, places, (said, here), streams_are_pool head.long places entries texts (omega (arith, few, same)) w.counts w.short w.utf8 start all)
+
+-- where the head isn't read, there is none
+pub no_head : (k : ErrorKind) (hint : Option TextPage) (pool_stream data_stream : List ℕ) → ((head : PoolHead) → IsHead hint pool_stream head → k ≡ kind.OutOfMemory) → k ≡ kind.InvalidData → CannotBeRecoded hint pool_stream data_stream
+no_head k hint pool_stream data_stream only is head places (said, spelled) = let e : kind.InvalidData ≡ kind.OutOfMemory = sym is ∙ only head said in cc
+
+-- where the texts aren't put, no places can be
+no_texts : (e : RecodeError) (hint : Option TextPage) (pool_stream data_stream : List ℕ) (found head : PoolHead) (places : List Place) → found ≡ head → IsTextsError found.page data_stream found.entries e → kind_of e ≡ kind.InvalidData
+    → SpellsTexts head.page data_stream head.entries places → has_long places ≡ true
+no_texts (error.Package k) hint pool_stream data_stream found head places same h is spelled = absurd h
+no_texts (error.Property id k) hint pool_stream data_stream found head places same h is spelled = elim h [ ]
+no_texts (error.Place n kind.AlreadyExists) hint pool_stream data_stream found head places same h is spelled = absurd h
+no_texts (error.Place n kind.InvalidData) hint pool_stream data_stream found head places same h is spelled =
+    failing_is_long head.page data_stream head.entries n places (subst (λ (x : PoolHead). FailsAt x.page data_stream x.entries n) same h) spelled
+no_texts (error.Place n kind.InvalidInput) hint pool_stream data_stream found head places same h is spelled = absurd h
+no_texts (error.Place n kind.NotFound) hint pool_stream data_stream found head places same h is spelled = absurd h
+no_texts (error.Place n kind.Io) hint pool_stream data_stream found head places same h is spelled = absurd h
+no_texts (error.Place n kind.OutOfMemory) hint pool_stream data_stream found head places same h is spelled = cc
+
+error_of : (e : RecodeError) (page : TextPage) (data_stream : List ℕ) (list : List Entry) (head : PoolHead) → page ≡ head.page → list ≡ head.entries → IsTextsError page data_stream list e → IsTextsError head.page data_stream head.entries e
+error_of e page data_stream list head page_is list_is h =
+    subst (λ (x : TextPage). IsTextsError x data_stream head.entries e) page_is (subst (λ (x : List Entry). IsTextsError page data_stream x e) list_is h)
+
+pub texts_refused : (e : RecodeError) (hint : Option TextPage) (pool_stream data_stream : List ℕ) (found : PoolHead) (page : TextPage) (list : List Entry) → page ≡ found.page → list ≡ found.entries
+    → ((head : PoolHead) → IsHead hint pool_stream head → found ≡ head) → IsTextsError page data_stream list e → kind_of e ≡ kind.InvalidData → CannotBeRecoded hint pool_stream data_stream
+texts_refused e hint pool_stream data_stream found page list page_is list_is only h is head places (said, spelled) =
+    no_texts e hint pool_stream data_stream found head places (only head said) (error_of e page data_stream list found page_is list_is h) is spelled
+
+told_of : (e : RecodeError) (hint : Option TextPage) (pool_stream data_stream : List ℕ) (head : PoolHead) → IsHead hint pool_stream head → IsTextsError head.page data_stream head.entries e → TellsPlace hint pool_stream data_stream e
+told_of (error.Package k) hint pool_stream data_stream head said h = tt
+told_of (error.Property id k) hint pool_stream data_stream head said h = tt
+told_of (error.Place n kind.AlreadyExists) hint pool_stream data_stream head said h = tt
+told_of (error.Place n kind.InvalidData) hint pool_stream data_stream head said h = (head, said, h)
+told_of (error.Place n kind.InvalidInput) hint pool_stream data_stream head said h = tt
+told_of (error.Place n kind.NotFound) hint pool_stream data_stream head said h = tt
+told_of (error.Place n kind.Io) hint pool_stream data_stream head said h = tt
+told_of (error.Place n kind.OutOfMemory) hint pool_stream data_stream head said h = tt
+
+pub place_told : (e : RecodeError) (hint : Option TextPage) (pool_stream data_stream : List ℕ) (head : PoolHead) (page : TextPage) (list : List Entry) → page ≡ head.page → list ≡ head.entries
+    → IsHead hint pool_stream head → IsTextsError page data_stream list e → TellsPlace hint pool_stream data_stream e
+place_told e hint pool_stream data_stream head page list page_is list_is said h = told_of e hint pool_stream data_stream head said (error_of e page data_stream list head page_is list_is h)

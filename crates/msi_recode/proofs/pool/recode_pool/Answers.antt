@@ -1,0 +1,28 @@
+use Rattle.std.proofs.Common.{sym, ◌∙◌}
+use Rattle.std.proofs.lemmas.Result.{err_from_is_err_and}
+use Rattle.msi_recode.specs.Readers.{page_of}
+use Rattle.msi_recode.proofs.RecodedLemmas.{recoded, no_head, texts_refused, place_told}
+use Rattle.msi_recode.proofs.pool.recode_pool.Goals as goal
+
+pub returns-in_err-head-clause-refused : goal.returns-in_err-head-clause-refused
+returns-in_err-head-clause-refused c =
+    let p = err_from_is_err_and c.from_residual.result c.from_residual.ensures.1 in
+    rw (p.1, p.2) (no_head c.in_err-head.field-0.0 c.args.given c.args.pool_stream.now c.args.data_stream.now c.in_err-head.ensures.only)
+
+pub returns-in_err-push_places-clause-refused : goal.returns-in_err-push_places-clause-refused
+returns-in_err-push_places-clause-refused c =
+    let p = err_from_is_err_and c.from_residual-in_err-push_places.result c.from_residual-in_err-push_places.ensures.1 in
+    rw (p.1, p.2) (texts_refused c.in_err-push_places.field-0.0 c.args.given c.args.pool_stream.now c.args.data_stream.now c.in_ok-head.head (page_of c.in_ok-reader.reader) c.entries.result.now
+    (c.in_ok-reader.ensures.ok ∙ c.page.ensures) c.entries.ensures c.in_ok-head.ensures.only c.in_err-push_places.ensures.err)
+
+pub returns-in_err-push_places-clause-place : goal.returns-in_err-push_places-clause-place
+returns-in_err-push_places-clause-place c =
+    let p = err_from_is_err_and c.from_residual-in_err-push_places.result c.from_residual-in_err-push_places.ensures.1 in
+    rw (p.1, p.2) (place_told c.in_err-push_places.field-0.0 c.args.given c.args.pool_stream.now c.args.data_stream.now c.in_ok-head.head (page_of c.in_ok-reader.reader) c.entries.result.now
+    (c.in_ok-reader.ensures.ok ∙ c.page.ensures) c.entries.ensures c.in_ok-head.ensures.found c.in_err-push_places.ensures.err)
+
+pub returns-clause-ok : goal.returns-clause-ok
+returns-clause-ok c =
+    recoded c.args.given c.args.pool_stream.now c.args.data_stream.now c.in_ok-head.head (page_of c.in_ok-reader.reader) c.entries.result.now c.is_long.result
+    c.in_ok-pool.pool.entries.items c.in_ok-pool.pool.texts.items c.push_places.new.self.entries.items c.push_places.new.self.texts.items
+    c.in_ok-head.ensures.found (c.in_ok-reader.ensures.ok ∙ c.page.ensures) c.entries.ensures c.is_long.ensures c.in_ok-pool.ensures.entries c.in_ok-pool.ensures.texts c.in_ok-push_places.ensures.ok

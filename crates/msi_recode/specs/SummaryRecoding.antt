@@ -1,0 +1,68 @@
+-- The stream of the summary whose texts are read in a page of any kind, and its set in UTF-8.
+use Rattle.std.specs.Prelude.{◌≡◌, ℕ, ◌+◌, ◌^◌, ◌<◌, ◌⊎◌, false, ◌==◌, if◌then◌else◌, List, ◌++◌, ◌∷◌, []}
+use Rattle.std.specs.Prelude.{length, Option, Some, None, option_map}
+use Rattle.std.specs.List.{AllZip}
+use Rattle.std.specs.Int.{w16, w32, to_le_bytes, cast_unsigned}
+use Rattle.msi_text_base.specs.declared.codepage.CodePage.TheVariants as page
+use Rattle.msi_text_base.specs.Lists.{has_pair, entry_where}
+use Rattle.msi_summary_properties.specs.declared.propset.PropertyValue.{PropertyValue}
+use Rattle.msi_summary_properties.specs.declared.propset.PropertyValue.TheVariants.{I2, LpStr}
+use Rattle.msi_summary_properties.specs.Properties.{Properties, page_value, value_with_id}
+use Rattle.msi_summary_properties.specs.PropertyStream.{FitsHeader, FitsFields, FitsValue, StandsAt, SpellsValue}
+use Rattle.msi_summary_properties.specs.PropertyStream.{Spells, header_bytes, section_head, string_bytes_of}
+use Rattle.msi_recode.specs.declared.page.TextPage.{TextPage}
+use Rattle.msi_recode.specs.declared.page.TextPage.TheVariants.{Plain}
+use Rattle.msi_recode.specs.TextPages.{Reads, page_for}
+
+-- a text, by any bytes that read as it in the page
+abbrev pub SpellsString : TextPage → List ℕ → List ℕ → Type 0
+SpellsString page bytes text =
+    ((encoded : List ℕ) × (length encoded + 1 < 2 ^ 32) × Reads page encoded text × (bytes ≡ string_bytes_of encoded))
+    ⊎ Reads page [] text × (bytes ≡ to_le_bytes w32 30 ++ to_le_bytes w32 0 ++ 0 ∷ [])
+
+-- a value; one that is no text is spelled alike in every page
+abbrev pub SpellsValueIn : ℕ → TextPage → List ℕ → PropertyValue → Type 0
+SpellsValueIn version text_page bytes (LpStr text) = SpellsString text_page bytes text
+SpellsValueIn version text_page bytes value = SpellsValue version page.Utf8 bytes value
+
+-- the value of an id is spelled at its place, counted from the section
+abbrev pub EntryStandsAt : ℕ → TextPage → List ℕ → ℕ → ℕ × ℕ → ℕ × PropertyValue → Type 0
+EntryStandsAt version page bytes section pair entry = (entry.0 ≡ pair.0) × FitsValue entry.1
+    × StandsAt (section + pair.1) bytes (λ front. SpellsValueIn version page front entry.1)
+
+-- the page that property 1 names, which is the one that is given for 0; without it UTF-8
+abbrev pub page_named : Option TextPage → Option PropertyValue → Option TextPage
+page_named given None = Some (Plain page.Utf8)
+page_named given (Some (I2 n)) = page_for given (cast_unsigned w16 n)
+page_named given _ = None
+
+-- a value of a set in UTF-8: property 1 names that page
+abbrev pub in_utf8 : ℕ → PropertyValue → PropertyValue
+in_utf8 id value = if id == 1 then page_value page.Utf8 else value
+
+-- the bytes are the stream of a summary, which has these properties in UTF-8. Its texts are read in the page that
+-- property 1 names
+pub record IsSummary (given : Option TextPage) (bytes : List ℕ) (set : Properties) : Type 0 where
+  pub version : ℕ
+  pub reserved : ℕ
+  pub section : ℕ
+  pub size : ℕ
+  pub pairs : List (ℕ × ℕ)
+  pub entries : List (ℕ × PropertyValue)
+  pub page : TextPage
+  pub held : FitsHeader set
+  pub fits : FitsFields version reserved section size pairs
+  pub header : StandsAt 0 bytes (λ front. front ≡ header_bytes set version reserved section)
+  pub head : StandsAt section bytes (λ front. front ≡ section_head size pairs)
+  pub once : has_pair (λ p q. p.0 == q.0) pairs ≡ false
+  pub spelled : AllZip (EntryStandsAt version page bytes section) pairs entries
+  pub named : page_named given (entry_where (λ k. k == 1) entries) ≡ Some page
+  pub values : (id : ℕ) → value_with_id id set.values ≡ option_map (in_utf8 id) (entry_where (λ k. k == id) entries)
+
+-- the bytes are no stream of a summary, or its page doesn't read a text
+abbrev pub HasNoSummary : Option TextPage → List ℕ → Type 0
+HasNoSummary given bytes = (set : Properties) → IsSummary given bytes set → ⊥
+
+-- the bytes after encode the set that the bytes before have, in UTF-8
+abbrev pub IsSummaryRecoded : Option TextPage → List ℕ → List ℕ → Type 0
+IsSummaryRecoded given before after = (set : Properties) × IsSummary given before set × Spells after set

@@ -1,0 +1,14 @@
+//! What follows from the definitions: each is the contract of a function without a body.
+
+ghost use Rattle.msi_recode.specs.RecodingLaws.{PoolsStayAlike};
+ghost use Rattle.msi_recode.specs.TextPages.{PackagePagesReadAlike};
+
+/// What a package's page reads, the page of its id reads alike, also where that has a table.
+pub fn package_pages_read_alike()
+    ensures { PackagePagesReadAlike }
+{}
+
+/// A pool that a package may have comes back as it is, but for its page: with the same places, counts and texts.
+pub fn pools_stay_alike()
+    ensures { PoolsStayAlike }
+{}

@@ -1,0 +1,267 @@
+//! The summary's stream, with its texts in UTF-8.
+
+ghost use Rattle.std.specs.Prelude.{◌≡◌, ◌+◌, ◌==◌, ◌⊎◌, [], drop, Some, None, is_some, true, IfOk, IfErr, OnOk};
+ghost use Rattle.msi_text_base.specs.Lists.{entry_where};
+ghost use Rattle.msi_text_base.specs.Results.{Gives};
+ghost use Rattle.msi_text_base.specs.declared.errors.ErrorKind.TheVariants.{InvalidData, InvalidInput, OutOfMemory};
+ghost use Rattle.msi_summary_properties.specs.Properties.{value_with_id, with_value};
+ghost use Rattle.msi_recode.specs.Errors.{kind_of};
+ghost use Rattle.msi_recode.specs.Readers.{page_of};
+ghost use Rattle.msi_recode.specs.SummaryReading.{ArePut, CannotBePut, IsNotPut, IsPutIn, is_text, page_stated};
+ghost use Rattle.msi_recode.specs.SummaryReading.{piece_at, value_in};
+ghost use Rattle.msi_recode.specs.SummaryRecoding.{HasNoSummary, IsSummary, IsSummaryRecoded, in_utf8, page_named};
+
+use crate::errors::RecodeError;
+use crate::page::{TextPage, page_for};
+use crate::reader::TextReader;
+use crate::reasons;
+use msi_summary_properties::parts::{
+    Head, header_at, new_set_of, put, section_at, stream_of, value_at,
+};
+use msi_summary_properties::{PropertySet, PropertyValue};
+use msi_text_base::fields::{bytes_at, u32_at};
+use msi_text_base::text::Text;
+use msi_text_base::{CodePage, Error, ErrorKind};
+use std::alloc::Global;
+
+/// The id of the property that names the page.
+const PAGE: u32 = 1;
+
+/// Returns the stream of a summary with its texts in UTF-8, which property 1 names then, where it is there. Texts are
+/// read in the page that it names; for page 0 in the one that is given, and as UTF-8 where none is. Without property 1
+/// they are UTF-8. All other properties keep their values.
+///
+/// # Errors
+/// Fails with `InvalidData` if the bytes encode no set, if property 1 names no known page, or if the page has no text
+/// for the bytes of one, which is named. Fails with `InvalidInput` if the section would have 2^32 bytes or more, and
+/// otherwise with `OutOfMemory`.
+pub fn recode_summary(
+    alloc: Global,
+    given: Option<TextPage>,
+    bytes: &[u8],
+) -> Result<Vec<u8>, RecodeError>
+    ensures ok { IfOk result (λ after. IsSummaryRecoded given bytes.now after.items) }
+    ensures kinds { IfErr result (λ error. (kind_of error ≡ InvalidData) ⊎ (kind_of error ≡ InvalidInput)
+        ⊎ (kind_of error ≡ OutOfMemory)) }
+    ensures refused { IfErr result (λ error. kind_of error ≡ InvalidData → HasNoSummary given bytes.now) }
+{
+    let set = set_in_utf8(alloc, given, bytes)?;
+    // UTF-8 writes each text so that it reads back: the call states that the texts are UTF-8.
+    let _writable = set.is_writable();
+    Ok(stream_of(&set)?)
+}
+
+/// The set that the bytes have, in UTF-8.
+fn set_in_utf8(
+    alloc: Global,
+    given: Option<TextPage>,
+    bytes: &[u8],
+) -> Result<PropertySet, RecodeError>
+    ensures ok { IfOk result (λ set. IsSummary given bytes.now set) }
+    ensures kinds { IfErr result (λ error. (kind_of error ≡ InvalidData) ⊎ (kind_of error ≡ OutOfMemory)) }
+    ensures refused { IfErr result (λ error. kind_of error ≡ InvalidData → HasNoSummary given bytes.now) }
+{
+    let head = header_at(bytes)?;
+    let pairs = section_at(alloc, rest_from(bytes, head.section, 0))?;
+    let page = page_of_texts(alloc, given, head.version, bytes, head.section, &pairs)?;
+    let reader = TextReader::new(alloc, page)?;
+    let mut set = new_set_of(alloc, &head);
+    put_values(
+        alloc,
+        &mut set,
+        head.version,
+        &reader,
+        bytes,
+        head.section,
+        &pairs,
+    )?;
+    Ok(set)
+}
+
+/// The bytes from a place of a section on, and none past the end.
+fn rest_from(bytes: &[u8], section: u32, place: u32) -> &[u8]
+    ensures { result.now ≡ drop (section + place) bytes.now }
+{
+    let start = section as usize + place as usize;
+    if start >= bytes.len() {
+        return &bytes[bytes.len()..];
+    }
+    &bytes[start..]
+}
+
+/// Where the value of property 1 stands in the section, if it is listed.
+fn place_of_page(pairs: &[(u32, u32)]) -> Option<u32>
+    ensures { result ≡ entry_where (λ k. k == 1) pairs.now }
+{
+    for &(id, place) in pairs {
+        if id == PAGE {
+            return Some(place);
+        }
+    }
+    None
+}
+
+/// The page that the texts are read in.
+fn page_of_texts(
+    alloc: Global,
+    given: Option<TextPage>,
+    version: u16,
+    bytes: &[u8],
+    section: u32,
+    pairs: &[(u32, u32)],
+) -> Result<TextPage, Error>
+    ensures { Gives (λ p. p) result
+        (page_stated given version bytes.now section (entry_where (λ k. k == 1) pairs.now)) }
+{
+    let named = match place_of_page(pairs) {
+        None => Some(TextPage::Plain(CodePage::Utf8)),
+        Some(place) => {
+            let value = value_at(
+                alloc,
+                version,
+                CodePage::Utf8,
+                rest_from(bytes, section, place),
+            )?;
+            page_from(given, &value)
+        }
+    };
+    match named {
+        Some(page) => Ok(page),
+        None => Err(Error::new(ErrorKind::InvalidData, reasons::PROPERTY_PAGE)),
+    }
+}
+
+/// The page that the value of property 1 names.
+fn page_from(given: Option<TextPage>, value: &PropertyValue) -> Option<TextPage>
+    ensures { result ≡ page_named given (Some value.now) }
+{
+    match value {
+        PropertyValue::I2(id) => page_for(given, id.cast_unsigned() as u32),
+        _ => None,
+    }
+}
+
+/// Puts the values of these pairs into a set without values.
+fn put_values(
+    alloc: Global,
+    set: &mut PropertySet,
+    version: u16,
+    reader: &TextReader,
+    bytes: &[u8],
+    section: u32,
+    pairs: &[(u32, u32)],
+) -> Result<(), RecodeError>
+    requires { set.old.values ≡ [] }
+    ensures ok { OnOk result (ArePut version (page_of reader.now) bytes.now section pairs.now set.old set.new) }
+    ensures kinds { IfErr result (λ error. (kind_of error ≡ InvalidData) ⊎ (kind_of error ≡ OutOfMemory)) }
+    ensures refused { IfErr result (λ error. kind_of error ≡ InvalidData
+        → CannotBePut version (page_of reader.now) bytes.now section pairs.now) }
+{
+    let mut left = most_text(bytes);
+    for &(id, place) in pairs {
+        let rest = rest_from(bytes, section, place);
+        match put_value(alloc, set, id, version, reader, rest, left) {
+            Ok(others) => left = others,
+            Err(error) => return Err(RecodeError::Property(id, error)),
+        }
+    }
+    Ok(())
+}
+
+/// Puts the value whose bytes begin here into a set that has none of this id. A text may have `left` bytes; returns how
+/// many are left for others.
+fn put_value(
+    alloc: Global,
+    set: &mut PropertySet,
+    id: u32,
+    version: u16,
+    reader: &TextReader,
+    bytes: &[u8],
+    left: usize,
+) -> Result<usize, Error>
+    ensures new { OnOk result (value_with_id id set.old.values ≡ None) }
+    ensures ok { OnOk result (IsPutIn version (page_of reader.now) bytes.now id set.old set.new) }
+    ensures kinds { IfErr result (λ kind. (kind ≡ InvalidData) ⊎ (kind ≡ OutOfMemory)) }
+    ensures refused { IfErr result (λ kind. kind ≡ InvalidData
+        → IsNotPut version (page_of reader.now) bytes.now id set.old) }
+{
+    let value = value_in(alloc, version, reader, bytes)?;
+    let others = match left.checked_sub(text_len(&value)) {
+        Some(others) => others,
+        None => return Err(Error::new(ErrorKind::OutOfMemory, reasons::SHARED_TEXTS)),
+    };
+    put_new(set, id, value)?;
+    Ok(others)
+}
+
+/// How many bytes the texts of a set may have, however many ids share one.
+fn most_text(bytes: &[u8]) -> usize {
+    bytes.len().saturating_mul(4).saturating_add(65536)
+}
+
+/// How many bytes the text of a value has; none where it is no text.
+fn text_len(value: &PropertyValue) -> usize {
+    match value {
+        PropertyValue::LpStr(text) => text.as_str().len(),
+        _ => 0,
+    }
+}
+
+/// Puts a value in UTF-8 into a set that has none of this id.
+fn put_new(set: &mut PropertySet, id: u32, value: PropertyValue) -> Result<(), Error>
+    ensures new { OnOk result (value_with_id id set.old.values ≡ None) }
+    ensures ok { OnOk result (set.new ≡ with_value id (in_utf8 id value) set.old) }
+    ensures kinds { IfErr result (λ kind. (kind ≡ InvalidData) ⊎ (kind ≡ OutOfMemory)) }
+    ensures there { IfErr result (λ kind. kind ≡ InvalidData → is_some (value_with_id id set.old.values) ≡ true) }
+{
+    if set.get(id).is_some() {
+        return Err(Error::new(ErrorKind::InvalidData, reasons::PROPERTY_TWICE));
+    }
+    if id == PAGE {
+        return set.set_codepage(CodePage::Utf8);
+    }
+    put(set, id, value)
+}
+
+/// The value whose bytes begin here, in a set of this version, with a text that is read in the reader's page.
+#[tactic(auto, unfolding(crate::specs::SummaryReading::value_in))]
+fn value_in(
+    alloc: Global,
+    version: u16,
+    reader: &TextReader,
+    bytes: &[u8],
+) -> Result<PropertyValue, Error>
+    ensures { Gives (λ v. v) result (value_in version (page_of reader.now) bytes.now) }
+{
+    let value = value_at(alloc, version, CodePage::Utf8, bytes)?;
+    if !is_text(&value) {
+        return Ok(value);
+    }
+    let text = reader.decode(alloc, piece_at(bytes)?)?;
+    Ok(PropertyValue::LpStr(Text::from_string(text)))
+}
+
+/// Whether a value is a text.
+fn is_text(value: &PropertyValue) -> bool
+    ensures { result ≡ is_text value.now }
+{
+    match value {
+        PropertyValue::LpStr(_) => true,
+        _ => false,
+    }
+}
+
+/// The bytes of the text that stands here behind the number of its type and its length.
+#[tactic(auto, unfolding(crate::specs::SummaryReading::piece_at))]
+fn piece_at(bytes: &[u8]) -> Result<&[u8], Error>
+    ensures { Gives (λ piece. piece.now) result (piece_at bytes.now) }
+{
+    let (_, rest) = u32_at(bytes, reasons::PROPERTY_CUT)?;
+    let (count, rest) = u32_at(rest, reasons::PROPERTY_CUT)?;
+    let (piece, _) = bytes_at(
+        rest,
+        (count as usize).saturating_sub(1),
+        reasons::PROPERTY_CUT,
+    )?;
+    Ok(piece)
+}
