@@ -1,6 +1,7 @@
 //! A command over any files and writers: from arguments to what they ask for, from a failure to its line and status.
 
 use crate::changing::{self, is_change};
+use crate::exchanging::export_asked;
 use crate::looking::look;
 use crate::several::print_each;
 use crate::words::{self, Verb};
@@ -173,6 +174,7 @@ where
 {
     match asked.verb {
         Verb::Info | Verb::Check => print_each(rt, asked, output, errors),
+        Verb::Export => export_asked(rt, asked, output, errors),
         _ => {
             look(rt, asked, output)?;
             Ok(true)
