@@ -30,7 +30,7 @@ pub struct Claims {
     pub ghost distinct: { AreDistinct list.items },
 }
 
-/// Written out, so that a function that owns claims calls one drop, and its proof doesn't go through those of the parts.
+/// Written out, so that a function that owns claims calls one drop, and its proof passes over those of the parts.
 impl Drop for Claims {
     fn drop(self) {
         let Claims {
@@ -74,6 +74,21 @@ impl Claims {
             Some(true) => Err(Error::new(ErrorKind::InvalidData, self.claimed.twice())),
             None => Err(Error::new(ErrorKind::InvalidData, self.claimed.outside())),
         }
+    }
+
+    /// Takes a number into use, and puts it behind a list. If it fails, the number may be in use all the same.
+    pub(crate) fn claim_onto(&mut self, number: u32, list: &mut Vec<u32>) -> Result<(), Error>
+        ensures limit { vec_len self.new.marks ≡ vec_len self.old.marks }
+        ensures free { OnOk result (IsFree (vec_len self.old.marks) self.old.list.items number) }
+        ensures claimed { OnOk result (self.new.list.items ≡ self.old.list.items ++ number ∷ []) }
+        ensures listed { OnOk result (list.new.items ≡ list.old.items ++ number ∷ []) }
+        ensures invalid { IsErrOf result InvalidData → IsFree (vec_len self.old.marks) self.old.list.items number → ⊥ }
+        ensures kinds { FailsByData result }
+        ensures grows { vec_len self.old.list ≤ vec_len self.new.list }
+    {
+        self.claim(number)?;
+        list.push(number)?;
+        Ok(())
     }
 
     /// The numbers in use.

@@ -32,8 +32,7 @@ pub fn read_difat(alloc: Global, bytes: &[u8], claims: &mut Claims) -> Result<Ve
     let mut difat = Vec::new(alloc);
     for _ in 0..listed.div_ceil(size / LINK_SIZE - 1) {
         let sector = next_sector(bytes, &difat);
-        claims.claim(sector)?;
-        difat.push(sector)?;
+        claims.claim_onto(sector, &mut difat)?;
     }
     Ok(difat)
 }
@@ -70,8 +69,7 @@ pub fn read_fat(
     let mut fat = Vec::new(alloc);
     for place in 0..number32(bytes, FAT_COUNT_AT) {
         let sector = listed(bytes, difat, place);
-        claims.claim(sector)?;
-        fat.push(sector)?;
+        claims.claim_onto(sector, &mut fat)?;
     }
     Ok(fat)
 }

@@ -63,8 +63,7 @@ pub fn walk(
     let mut chain = Vec::new(alloc);
     for _ in 0..count {
         let sector = next_member(table, start, &chain, steps)?;
-        claims.claim(sector)?;
-        chain.push(sector)?;
+        claims.claim_onto(sector, &mut chain)?;
     }
     Ok(chain)
 }
@@ -99,8 +98,7 @@ pub fn walk_to_end(
     let mut chain = Vec::new(alloc);
     let mut link = start;
     while link != END_OF_CHAIN {
-        claims.claim(link)?;
-        chain.push(link)?;
+        claims.claim_onto(link, &mut chain)?;
         match table.successor(link, steps) {
             Some(next) => link = next,
             None => {

@@ -13,7 +13,7 @@ ghost use Rattle.msi_container_format.specs.StreamNames.{is_marked, is_valid_nam
 
 use crate::packing::{TABLE_MARK, next_packed, packed_units};
 use msi_text_base::Error;
-use std::alloc::Global;
+use std::alloc::{AllocError, Global};
 
 /// The stream of a package's digital signature. It isn't packed.
 pub const DIGITAL_SIGNATURE_STREAM_NAME: &str = "\u{5}DigitalSignature";
@@ -80,20 +80,18 @@ fn unpack(alloc: Global, name: &str) -> Result<String, Error>
 }
 
 /// Appends the one or two characters that a character of a container's name stands for.
-fn push_unpacked(text: &mut String, c: char) -> Result<(), Error>
-    ensures ok { OnOk result (string_bytes text.new ≡ string_bytes text.old ++ encode_utf8_all (unpacked c)) }
-    ensures memory { IsErr result → IsErrOf result OutOfMemory }
+fn push_unpacked(text: &mut String, c: char) -> Result<(), AllocError>
+    ensures { OnOk result (string_bytes text.new ≡ string_bytes text.old ++ encode_utf8_all (unpacked c)) }
 {
     let code = c as u32;
     match code {
         0x3800..=0x47FF => {
             text.push(character_with((code - 0x3800) % 64))?;
-            text.push(character_with((code - 0x3800) / 64))?;
+            text.push(character_with((code - 0x3800) / 64))
         }
-        0x4800..=0x483F => text.push(character_with(code - 0x4800))?,
-        _ => text.push(c)?,
+        0x4800..=0x483F => text.push(character_with(code - 0x4800)),
+        _ => text.push(c),
     }
-    Ok(())
 }
 
 /// Returns whether a stream may have this name. It takes no memory.

@@ -7,7 +7,7 @@ use Rattle.msi_container_chains.specs.Walks.{follower}
 use Rattle.msi_container_format.specs.Container.{successor}
 use Rattle.msi_container_chains.proofs.ClaimLemmas.{claim_lacked_memory}
 use Rattle.msi_container_chains.proofs.ChainLemmas.{chain_push, same_push, follower_is, next_is, free_at}
-use Rattle.msi_container_chains.proofs.StepLemmas.{used_more, used_one_more, used_same, used_most}
+use Rattle.msi_container_chains.proofs.StepLemmas.{used_more, used_most}
 use Rattle.msi_container_chains.proofs.walks.walk.Goals as goal
 
 pub returns-in_err-sector-clause-only : goal.returns-in_err-sector-clause-only
@@ -18,9 +18,9 @@ returns-in_err-sector-clause-only c = λ chain is can.
     ∙ follower_is next c.args.start c.args.count c.loop.counter chain is c.loop-test.true in
     absurd (none-some _ (sym (rw c.deref.ensures.value at c.in_err-sector.ensures.value.1) ∙ there))
 
-pub returns-in_err-claim-clause-only : goal.returns-in_err-claim-clause-only
-returns-in_err-claim-clause-only c = λ chain is can.
-    let p = err_from_is_err_and c.from_residual-in_err-claim.result c.from_residual-in_err-claim.ensures.1 in
+pub returns-in_err-claim_onto-clause-only : goal.returns-in_err-claim_onto-clause-only
+returns-in_err-claim_onto-clause-only c = λ chain is can.
+    let p = err_from_is_err_and c.from_residual-in_err-claim_onto.result c.from_residual-in_err-claim_onto.ensures.1 in
     let next = successor c.args.table.now.bytes.now c.args.table.now.sectors.now in
     let i = c.loop.invariant in
     let n = c.loop.counter in
@@ -31,7 +31,7 @@ returns-in_err-claim-clause-only c = λ chain is can.
     let claimed : c.loop.claims.list.items ≡ used ++ take n chain = rw (← i.only chain is can) i.claimed in
     let free : IsFree (vec_len c.loop.claims.marks) c.loop.claims.list.items c.in_ok-sector.sector =
     rw (i.limit, claimed, ← same) (free_at _ n used chain can (omega (arith, is.long))) in
-    rw (p.1, p.2) (claim_lacked_memory _ _ _ _ c.in_err-claim.ensures.kinds c.in_err-claim.ensures.invalid free)
+    rw (p.1, p.2) (claim_lacked_memory _ _ _ _ c.in_err-claim_onto.ensures.kinds c.in_err-claim_onto.ensures.invalid free)
 
 pub loop-preserved : goal.loop-preserved
 loop-preserved c =
@@ -39,12 +39,12 @@ loop-preserved c =
     let i = c.loop.invariant in
     let xs = c.loop.chain.items in
     let s = c.in_ok-sector.sector in
-    let pushed = c.in_ok-push.ensures.items in
+    let pushed = c.in_ok-claim_onto.ensures.listed in
     let follows : follower next c.args.start xs ≡ Some s = rw c.deref.ensures.value at c.in_ok-sector.ensures.value in
     record {
       so_far = rw pushed (chain_push next c.args.start c.loop.counter s xs i.so_far follows);
-      claimed = rw pushed (c.in_ok-claim.ensures.ok.1 ∙ rw i.claimed (append_assoc c.args.claims.now.list.items xs _));
-      limit = c.in_ok-claim.ensures.limit ∙ i.limit;
+      claimed = rw pushed (c.in_ok-claim_onto.ensures.claimed ∙ rw i.claimed (append_assoc c.args.claims.now.list.items xs _));
+      limit = c.in_ok-claim_onto.ensures.limit ∙ i.limit;
       only = λ chain is can. rw pushed (same_push next c.args.start c.args.count c.loop.counter s xs chain is c.loop-test.true (i.only chain is can) follows);
       steps = omega (arith, i.so_far.long, c.in_ok-sector.ensures.step, ap (λ (q : List ℕ). length q) c.deref.ensures.value);
     }
@@ -61,19 +61,11 @@ returns-in_err-sector-clause-bounded c =
     let step = ap (λ (q : List ℕ). length q) c.deref.ensures.value in
     omega (arith, used_more c.args.claims.now.list c.loop.claims.list c.loop.chain i.claimed, i.so_far.long, c.loop.chain.ok, i.steps, step, c.in_err-sector.ensures.step)
 
-pub returns-in_err-claim-clause-bounded : goal.returns-in_err-claim-clause-bounded
-returns-in_err-claim-clause-bounded c =
+pub returns-in_err-claim_onto-clause-bounded : goal.returns-in_err-claim_onto-clause-bounded
+returns-in_err-claim_onto-clause-bounded c =
     let i = c.loop.invariant in
     let step = ap (λ (q : List ℕ). length q) c.deref.ensures.value in
-    let same = used_same c.loop.claims.list c.claim.new.self.list c.in_err-claim.ensures.err in
-    omega (arith, used_more c.args.claims.now.list c.loop.claims.list c.loop.chain i.claimed, same, i.so_far.long, c.loop.chain.ok, i.steps, step, c.in_ok-sector.ensures.step)
-
-pub returns-in_err-push-clause-bounded : goal.returns-in_err-push-clause-bounded
-returns-in_err-push-clause-bounded c =
-    let i = c.loop.invariant in
-    let step = ap (λ (q : List ℕ). length q) c.deref.ensures.value in
-    let more = used_one_more c.loop.claims.list c.claim.new.self.list c.in_ok-sector.sector c.in_ok-claim.ensures.ok.1 in
-    omega (arith, used_more c.args.claims.now.list c.loop.claims.list c.loop.chain i.claimed, more, i.so_far.long, c.loop.chain.ok, i.steps, step, c.in_ok-sector.ensures.step)
+    omega (arith, used_more c.args.claims.now.list c.loop.claims.list c.loop.chain i.claimed, c.in_err-claim_onto.ensures.grows, i.so_far.long, c.loop.chain.ok, i.steps, step, c.in_ok-sector.ensures.step)
 
 pub returns-clause-found : goal.returns-clause-found
 returns-clause-found c =

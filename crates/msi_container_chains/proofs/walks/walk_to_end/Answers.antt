@@ -7,11 +7,11 @@ use Rattle.msi_container_format.specs.Container.{successor}
 use Rattle.msi_container_chains.proofs.ClaimLemmas.{claim_lacked_memory}
 use Rattle.msi_container_chains.proofs.ChainLemmas.{chain_push, follower_more, next_is, free_at}
 use Rattle.msi_container_chains.proofs.WholeChainLemmas.{more_left, none_left, none_from_end, front_push, follower_push, some_follows}
-use Rattle.msi_container_chains.proofs.StepLemmas.{used_more, used_one_more, used_same, used_most}
+use Rattle.msi_container_chains.proofs.StepLemmas.{used_more, used_one_more, used_most}
 use Rattle.msi_container_chains.proofs.walks.walk_to_end.Goals as goal
 
-pub returns-in_err-claim-clause-only : goal.returns-in_err-claim-clause-only
-returns-in_err-claim-clause-only c = λ chain whole can.
+pub returns-in_err-claim_onto-clause-only : goal.returns-in_err-claim_onto-clause-only
+returns-in_err-claim_onto-clause-only c = λ chain whole can.
     let p = err_from_is_err_and c.from_residual.result c.from_residual.ensures.1 in
     let next = successor c.args.table.now.bytes.now c.args.table.now.sectors.now in
     let i = c.loop-link.invariant in
@@ -24,7 +24,7 @@ returns-in_err-claim-clause-only c = λ chain whole can.
     let claimed : c.loop-link.claims.list.items ≡ used ++ take (length xs) chain = i.claimed ∙ ap (λ ys. used ++ ys) front.front in
     let free : IsFree (vec_len c.loop-link.claims.marks) c.loop-link.claims.list.items link =
     rw (i.limit, claimed, ← same) (free_at _ (length xs) used chain can left) in
-    rw (p.1, p.2) (claim_lacked_memory _ _ _ _ c.in_err-claim.ensures.kinds c.in_err-claim.ensures.invalid free)
+    rw (p.1, p.2) (claim_lacked_memory _ _ _ _ c.in_err-claim_onto.ensures.kinds c.in_err-claim_onto.ensures.invalid free)
 
 pub loop-link-preserved : goal.loop-link-preserved
 loop-link-preserved c =
@@ -32,14 +32,14 @@ loop-link-preserved c =
     let i = c.loop-link.invariant in
     let xs = c.loop-link.chain.items in
     let link = c.loop-link.link in
-    let pushed = c.in_ok-push.ensures.items in
-    let long = c.in_ok-push.ensures.len in
+    let pushed = c.in_ok-claim_onto.ensures.listed in
+    let long = used_one_more c.loop-link.chain c.claim_onto.new.list c.loop-link.link pushed in
     record {
       so_far = rw (pushed, long) (chain_push next c.args.start (vec_len c.loop-link.chain) link xs i.so_far i.follows);
       follows = rw pushed (follower_push next c.args.start link xs ∙ sym c.in-Some.ensures.value);
       filled = λ _. omega (arith, long);
-      claimed = rw pushed (c.in_ok-claim.ensures.ok.1 ∙ rw i.claimed (append_assoc c.args.claims.now.list.items xs _));
-      limit = c.in_ok-claim.ensures.limit ∙ i.limit;
+      claimed = rw pushed (c.in_ok-claim_onto.ensures.claimed ∙ rw i.claimed (append_assoc c.args.claims.now.list.items xs _));
+      limit = c.in_ok-claim_onto.ensures.limit ∙ i.limit;
       only = λ chain whole can.
           let front = i.only chain whole can in
           let left = more_left next c.args.start link chain xs whole front i.follows c.loop-link-test.true in
@@ -66,17 +66,10 @@ returns-clause-only c = λ chain whole can.
     let ended = i.follows ∙ ap Some c.loop-link-test.false in
     none_left next c.args.start _ c.args.claims.now.list.items chain c.loop-link.chain.items whole can c.requires.regular (i.only chain whole can) ended
 
-pub returns-in_err-claim-clause-steps : goal.returns-in_err-claim-clause-steps
-returns-in_err-claim-clause-steps c =
+pub returns-in_err-claim_onto-clause-steps : goal.returns-in_err-claim_onto-clause-steps
+returns-in_err-claim_onto-clause-steps c =
     let i = c.loop-link.invariant in
-    let same = used_same c.loop-link.claims.list c.claim.new.self.list c.in_err-claim.ensures.err in
-    omega (arith, used_more c.args.claims.now.list c.loop-link.claims.list c.loop-link.chain i.claimed, same, i.counted)
-
-pub returns-in_err-push-clause-steps : goal.returns-in_err-push-clause-steps
-returns-in_err-push-clause-steps c =
-    let i = c.loop-link.invariant in
-    let more = used_one_more c.loop-link.claims.list c.claim.new.self.list c.loop-link.link c.in_ok-claim.ensures.ok.1 in
-    omega (arith, used_more c.args.claims.now.list c.loop-link.claims.list c.loop-link.chain i.claimed, more, i.counted)
+    omega (arith, used_more c.args.claims.now.list c.loop-link.claims.list c.loop-link.chain i.claimed, c.in_err-claim_onto.ensures.grows, i.counted)
 
 pub successor-requires : goal.successor-requires
 successor-requires c =
@@ -86,14 +79,14 @@ successor-requires c =
 
 pub loop-link-smaller : goal.loop-link-smaller
 loop-link-smaller c =
-    let after = c.claim.new.self in
-    let more = used_one_more c.loop-link.claims.list after.list c.loop-link.link c.in_ok-claim.ensures.ok.1 in
-    omega (arith, more, used_most after.marks after.list after.counted, c.in_ok-claim.ensures.limit)
+    let after = c.claim_onto.new.self in
+    let more = used_one_more c.loop-link.claims.list after.list c.loop-link.link c.in_ok-claim_onto.ensures.claimed in
+    omega (arith, more, used_most after.marks after.list after.counted, c.in_ok-claim_onto.ensures.limit)
 
 pub returns-in-None-clause-steps : goal.returns-in-None-clause-steps
 returns-in-None-clause-steps c =
     let i = c.loop-link.invariant in
-    let more = used_one_more c.loop-link.claims.list c.claim.new.self.list c.loop-link.link c.in_ok-claim.ensures.ok.1 in
+    let more = used_one_more c.loop-link.claims.list c.claim_onto.new.self.list c.loop-link.link c.in_ok-claim_onto.ensures.claimed in
     omega (arith, used_more c.args.claims.now.list c.loop-link.claims.list c.loop-link.chain i.claimed, more, i.counted, c.in-None.ensures.step)
 
 pub returns-clause-found : goal.returns-clause-found

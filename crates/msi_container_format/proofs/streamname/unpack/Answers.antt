@@ -11,4 +11,4 @@ returns-clause-ok c =
     rw (characters_are _ c.loop-c.text c.loop-c.invariant) (ap (flat_map unpacked) (sym (map-id c.loop-c.yielded) ∙ end.0))
 
 pub loop-c-preserved : goal.loop-c-preserved
-loop-c-preserved c = encodes_more unpacked c.loop-c.yielded c.in-Some.c _ _ c.loop-c.invariant c.in_ok-push_unpacked.ensures.ok
+loop-c-preserved c = encodes_more unpacked c.loop-c.yielded c.in-Some.c _ _ c.loop-c.invariant c.in_ok-push_unpacked.ensures
