@@ -9,6 +9,7 @@ pub mod PlanPartsLemmas
 pub mod ListingLemmas
 pub mod StepLemmas
 pub mod KindLemmas
+pub mod MembersLemmas
 pub mod RoomLemmas
 pub mod OutlineLemmas
 pub mod KeptLemmas

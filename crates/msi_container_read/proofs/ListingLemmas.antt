@@ -1,5 +1,5 @@
 -- What holds of entries holds of the streams among them.
-use Rattle.std.proofs.Common.{◌≡◌, ◌≢◌, refl, ℕ, zero, suc, ◌*◌, ◌/◌, ◌<◌, Bool, true, false, cond, eqb, List, [], ◌∷◌, length, get_or, filter, arith, Result, Ok, Err, IfOk}
+use Rattle.std.proofs.Common.{◌≡◌, ◌≢◌, refl, ℕ, zero, suc, ◌*◌, ◌/◌, ◌<◌, Bool, true, false, cond, eqb, List, [], ◌∷◌, length, get_or, filter, arith, Result, Ok, Err, IfOk, OnOk}
 use Rattle.msi_text_base.specs.declared.errors.ErrorKind.{ErrorKind}
 use Rattle.msi_text_base.specs.declared.errors.ErrorKind.TheVariants.{InvalidData}
 use Rattle.msi_container_chains.specs.Outcomes.{ViewIsUnlessMemory}
@@ -95,6 +95,11 @@ covered bytes fat mini_fat mini_stream directory (k ∷ ks) (c ∷ cs) z h b = (
 pub if_ok_map3 : {X : Type 0} (r : Result X ErrorKind) (P Q R S : X → Type 0) → ((x : X) → P x → Q x → R x → S x) → IfOk r P → IfOk r Q → IfOk r R → IfOk r S
 if_ok_map3 (Ok x) P Q R S f p q r = f x p q r
 if_ok_map3 (Err e) P Q R S f p q r = tt
+
+-- what holds at all holds where a call succeeds
+pub on_ok_of : {X : Type 0} (r : Result X ErrorKind) (P : Type 0) → P → OnOk r P
+on_ok_of (Ok x) P p = p
+on_ok_of (Err e) P p = tt
 
 -- what lacks nothing but memory isn't refused for its bytes
 pub gives_not_invalid : {X Y : Type 0} (view : X → Y) (r : Result X ErrorKind) (y : Y) → ViewIsUnlessMemory view r y → ◌≡◌ {A = Result X ErrorKind} r (Err InvalidData) → ⊥

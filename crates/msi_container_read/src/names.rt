@@ -1,6 +1,6 @@
 //! Names of entries: each is made once, and compared with those that are there already.
 
-ghost use Rattle.std.specs.Prelude.{◌≡◌, ℕ, List, ◌<◌, true, false, IfOk, OnOk, OnErr, IsErrOf};
+ghost use Rattle.std.specs.Prelude.{◌≡◌, ℕ, List, ◌<◌, true, false, IfOk, OnOk, OnErr, IsErrOf, ◌⊎◌};
 ghost use Rattle.std.specs.BTreeSet.{contains};
 ghost use Rattle.std.specs.FinMap as finite;
 ghost use Rattle.msi_text_base.specs.declared.errors.ErrorKind.TheVariants.{InvalidData};
@@ -67,7 +67,7 @@ pub(crate) fn own_name(
 }
 
 /// Puts a stream at its name. `InvalidData` where there is one of that name; `OutOfMemory`.
-pub(crate) fn insert_stream(streams: &mut StreamMap, name: Name, bytes: Bytes) -> Result<(), Error>
+fn insert_stream(streams: &mut StreamMap, name: Name, bytes: Bytes) -> Result<(), Error>
     ensures ok { OnOk result (streams.new ≡ finite.insert streams.old name bytes) }
     ensures free { OnOk result (finite.contains_key streams.old name ≡ false) }
     ensures invalid { IsErrOf result InvalidData → finite.contains_key streams.old name ≡ true }
@@ -79,6 +79,34 @@ pub(crate) fn insert_stream(streams: &mut StreamMap, name: Name, bytes: Bytes) -
         return Err(Error::new(ErrorKind::InvalidData, reasons::NAME_TWICE));
     }
     Ok(())
+}
+
+/// Puts an entry's stream at the entry's name. `InvalidData` where that isn't well formed, or one of these names or of
+/// the streams' is the same; `OutOfMemory`.
+pub(crate) fn put_stream(
+    directory: &Directory,
+    entry: u32,
+    taken: &BTreeSet<Name>,
+    streams: &mut StreamMap,
+    bytes: Bytes,
+) -> Result<(), Error>
+    requires { entry < container.entry_count directory.now.bytes.now directory.now.sectors.now }
+    ensures ok { OnOk result (streams.new ≡ finite.insert streams.old
+        (container.name directory.now.bytes.now directory.now.sectors.now entry) bytes) }
+    ensures named { OnOk result (container.HasName directory.now.bytes.now directory.now.sectors.now entry) }
+    ensures free { OnOk result
+        (contains name_cmp taken.now (container.name directory.now.bytes.now directory.now.sectors.now entry) ≡ false) }
+    ensures absent { OnOk result (finite.contains_key streams.old
+        (container.name directory.now.bytes.now directory.now.sectors.now entry) ≡ false) }
+    ensures invalid { IsErrOf result InvalidData
+        → container.HasName directory.now.bytes.now directory.now.sectors.now entry
+        → (contains name_cmp taken.now (container.name directory.now.bytes.now directory.now.sectors.now entry) ≡ true)
+        ⊎ (finite.contains_key streams.old
+        (container.name directory.now.bytes.now directory.now.sectors.now entry) ≡ true) }
+    ensures kinds { FailsByData result }
+{
+    let name = own_name(directory, entry, taken)?;
+    insert_stream(streams, name, bytes)
 }
 
 /// Puts a size at its name. `InvalidData` where there is one at that name; `OutOfMemory`.

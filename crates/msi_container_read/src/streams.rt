@@ -13,7 +13,7 @@ ghost use Rattle.msi_container_read.specs.Reading as spec;
 ghost use Rattle.msi_container_chains.specs.Counts.{links};
 
 use crate::directory::Directory;
-use crate::names::{insert_stream, names_of, own_name};
+use crate::names::{names_of, put_stream};
 use crate::runs::run_start;
 use msi_container_chains::parts::{AllocationTable, Claims, Steps, sector_size, walk};
 use msi_container_format::contents::{Bytes, StreamMap};
@@ -311,7 +311,6 @@ pub(crate) fn collect(
     let taken = names_of(alloc, directory, storages)?;
     let mut streams = StreamMap::new(alloc);
     for (entry, chain) in entries.iter().zip(chains) {
-        let name = own_name(directory, *entry, &taken)?;
         let held = stream_of(
             alloc,
             directory,
@@ -320,7 +319,7 @@ pub(crate) fn collect(
             *entry,
             chain.as_slice(),
         )?;
-        insert_stream(&mut streams, name, held)?;
+        put_stream(directory, *entry, &taken, &mut streams, held)?;
     }
     Ok(streams)
 }

@@ -1,6 +1,6 @@
-use Rattle.std.proofs.Common.{◌≡◌, ℕ, ◌<◌, Bool, false, refl, List, [], length, get_or, arith, ◌∙◌, sym, ap, Vec, Global}
+use Rattle.std.proofs.Common.{◌≡◌, ℕ, ◌<◌, Bool, false, refl, List, [], length, get_or, arith, ◌∙◌, sym, ap, inl, inr, Vec, Global}
 use Rattle.std.specs.BTreeSet.{contains}
-use Rattle.std.specs.FinMap.{from_entries, contains_key}
+use Rattle.std.specs.FinMap.{from_entries, contains_key, insert}
 use Rattle.std.specs.Slice.Iter.{iter_rest}
 use Rattle.std.specs.Iterator.Adapters.{zip_first, zip_second}
 use Rattle.std.proofs.lemmas.List.{length-map, length_push, get_or-map, take_all}
@@ -48,72 +48,6 @@ returns-in_err-taken-clause-invalid c = λ broken have.
     let p = err_from_is_err_and c.from_residual.result c.from_residual.ensures.1 in
     c.in_err-taken.ensures.invalid (refused _ _ _ p.1 p.2 broken) have.storages_named
 
-pub returns-in_err-name-clause-invalid : goal.returns-in_err-name-clause-invalid
-returns-in_err-name-clause-invalid c = λ broken have.
-    let bytes = c.args.directory.now.bytes.now in
-    let sectors = c.args.directory.now.sectors.now in
-    let entries = c.args.entries.now in
-    let chains = c.args.chains.now in
-    let l = c.loop-entry in
-    let started = c.into_iter-entry-iterator in
-    let first : iter_rest (zip_first started.result) ≡ entries = rw (started.ensures.into_iter_gives, c.zip-entry-items.ensures.first) c.iter.ensures.rest in
-    let second : iter_rest (zip_second started.result) ≡ chains = rw started.ensures.into_iter_gives c.zip-entry-items.ensures.second.0 in
-    let turn = zip_turn entries chains l.yielded started.result l.entry-iterator c.next.new.self _ first second l.yielded_by (c.in-Some.entry, c.in-Some.chain) c.in-Some.is c.next.ensures.steps in
-    let i = length l.yielded in
-    let k = get_or entries i 0 in
-    let taken : List ℕ → Bool = λ q. contains name_cmp c.in_ok-taken.taken q in
-    let at : c.in-Some.entry.now ≡ k = turn.2 0 in
-    let has : HasName bytes sectors c.in-Some.entry.now = rw at (have.streams_named.named i turn.0) in
-    taken_clash bytes sectors c.args.storages.now entries taken (name bytes sectors c.in-Some.entry.now) i turn.0 (ap (name bytes sectors) at)
-    c.in_ok-taken.ensures.known (c.in_err-name.ensures.invalid has) have
-
-pub returns-in_err-insert_stream-clause-invalid : goal.returns-in_err-insert_stream-clause-invalid
-returns-in_err-insert_stream-clause-invalid c = λ broken have.
-    let bytes = c.args.directory.now.bytes.now in
-    let sectors = c.args.directory.now.sectors.now in
-    let entries = c.args.entries.now in
-    let chains = c.args.chains.now in
-    let l = c.loop-entry in
-    let started = c.into_iter-entry-iterator in
-    let first : iter_rest (zip_first started.result) ≡ entries = rw (started.ensures.into_iter_gives, c.zip-entry-items.ensures.first) c.iter.ensures.rest in
-    let second : iter_rest (zip_second started.result) ≡ chains = rw started.ensures.into_iter_gives c.zip-entry-items.ensures.second.0 in
-    let turn = zip_turn entries chains l.yielded started.result l.entry-iterator c.next.new.self _ first second l.yielded_by (c.in-Some.entry, c.in-Some.chain) c.in-Some.is c.next.ensures.steps in
-    let i = length l.yielded in
-    let k = get_or entries i 0 in
-    let taken : List ℕ → Bool = λ q. contains name_cmp c.in_ok-taken.taken q in
-    let p = err_from_is_err_and c.from_residual-in_err-insert_stream.result c.from_residual-in_err-insert_stream.ensures.1 in
-    let named : c.in_ok-name.name ≡ name bytes sectors k = c.in_ok-name.ensures.found ∙ ap (name bytes sectors) (turn.2 0) in
-    held_clash bytes sectors c.args.storages.now entries taken (λ q. contains_key l.streams q) c.in_ok-name.name i turn.0 named
-    (c.in_err-insert_stream.ensures.invalid (refused _ _ _ p.1 p.2 broken)) l.invariant.names have
-
-pub loop-entry-preserved : goal.loop-entry-preserved
-loop-entry-preserved c =
-    let mini_stream = c.args.mini_stream.now in
-    let bytes = c.args.directory.now.bytes.now in
-    let sectors = c.args.directory.now.sectors.now in
-    let entries = c.args.entries.now in
-    let chains = c.args.chains.now in
-    let l = c.loop-entry in
-    let started = c.into_iter-entry-iterator in
-    let first : iter_rest (zip_first started.result) ≡ entries = rw (started.ensures.into_iter_gives, c.zip-entry-items.ensures.first) c.iter.ensures.rest in
-    let second : iter_rest (zip_second started.result) ≡ chains = rw started.ensures.into_iter_gives c.zip-entry-items.ensures.second.0 in
-    let turn = zip_turn entries chains l.yielded started.result l.entry-iterator c.next.new.self _ first second l.yielded_by (c.in-Some.entry, c.in-Some.chain) c.in-Some.is c.next.ensures.steps in
-    let i = length l.yielded in
-    let k = get_or entries i 0 in
-    let taken : List ℕ → Bool = λ q. contains name_cmp c.in_ok-taken.taken q in
-    let chain = chain_at chains i c.in-Some.chain.now c.as_slice.result.now turn.1 (turn.3 _) c.as_slice.ensures.value in
-    let at : c.in-Some.entry.now ≡ k = turn.2 0 in
-    let named : c.in_ok-name.name ≡ name bytes sectors k = c.in_ok-name.ensures.found ∙ ap (name bytes sectors) at in
-    let has : HasName bytes sectors k = rw at at c.in_ok-name.ensures.ok in
-    let free : taken (name bytes sectors k) ≡ false = rw at at c.in_ok-name.ensures.free in
-    let read : c.in_ok-held.held ≡ stream_bytes bytes mini_stream sectors k (get_or (views chains) i []) = c.in_ok-held.ensures.ok ∙ rw (← chain, at) refl in
-    let grown = begun_more bytes sectors c.args.storages.now entries taken l.streams c.in_ok-name.name c.in_ok-held.held i turn.0 named has free c.in_ok-insert_stream.ensures.free l.invariant.names in
-    let more = from_named_bytes_more bytes mini_stream sectors entries (views chains) i grown.own turn.0 (omega (arith, length-map chains held)) in
-    record {
-      held = rw length_push (c.in_ok-insert_stream.ensures.ok ∙ rw (l.invariant.held, named, read) (sym more));
-      names = rw (length_push, c.in_ok-insert_stream.ensures.ok) grown;
-    }
-
 pub returns-clause-ok : goal.returns-clause-ok
 returns-clause-ok c =
     let entries = c.args.entries.now in
@@ -139,8 +73,8 @@ returns-clause-names c =
     begun_all c.args.directory.now.bytes.now c.args.directory.now.sectors.now c.args.storages.now entries (λ q. contains name_cmp c.in_ok-taken.taken q)
     (λ q. contains_key l.streams q) (length l.yielded) (omega (arith, turns, long, length-map chains held)) c.in_ok-taken.ensures.names c.in_ok-taken.ensures.known l.invariant.names
 
-pub own_name-requires : goal.own_name-requires
-own_name-requires c =
+pub stream_of-requires-clause-below : goal.stream_of-requires-clause-below
+stream_of-requires-clause-below c =
     let entries = c.args.entries.now in
     let chains = c.args.chains.now in
     let l = c.loop-entry in
@@ -150,8 +84,61 @@ own_name-requires c =
     let turn = zip_turn entries chains l.yielded started.result l.entry-iterator c.next.new.self _ first second l.yielded_by (c.in-Some.entry, c.in-Some.chain) c.in-Some.is c.next.ensures.steps in
     below_at _ entries (length l.yielded) c.in-Some.entry.now c.requires.below turn.0 (turn.2 0)
 
-pub stream_of-requires-clause-below : goal.stream_of-requires-clause-below
-stream_of-requires-clause-below c =
+pub returns-in_err-put_stream-clause-invalid : goal.returns-in_err-put_stream-clause-invalid
+returns-in_err-put_stream-clause-invalid c = λ broken have.
+    let bytes = c.args.directory.now.bytes.now in
+    let sectors = c.args.directory.now.sectors.now in
+    let entries = c.args.entries.now in
+    let chains = c.args.chains.now in
+    let l = c.loop-entry in
+    let started = c.into_iter-entry-iterator in
+    let first : iter_rest (zip_first started.result) ≡ entries = rw (started.ensures.into_iter_gives, c.zip-entry-items.ensures.first) c.iter.ensures.rest in
+    let second : iter_rest (zip_second started.result) ≡ chains = rw started.ensures.into_iter_gives c.zip-entry-items.ensures.second.0 in
+    let turn = zip_turn entries chains l.yielded started.result l.entry-iterator c.next.new.self _ first second l.yielded_by (c.in-Some.entry, c.in-Some.chain) c.in-Some.is c.next.ensures.steps in
+    let i = length l.yielded in
+    let k = get_or entries i 0 in
+    let taken : List ℕ → Bool = λ q. contains name_cmp c.in_ok-taken.taken q in
+    let p = err_from_is_err_and c.from_residual-in_err-put_stream.result c.from_residual-in_err-put_stream.ensures.1 in
+    let at : c.in-Some.entry.now ≡ k = turn.2 0 in
+    let has : HasName bytes sectors c.in-Some.entry.now = rw at (have.streams_named.named i turn.0) in
+    let named = ap (name bytes sectors) at in
+    elim (c.in_err-put_stream.ensures.invalid (refused _ _ _ p.1 p.2 broken) has) [
+      | inl there ↦ taken_clash bytes sectors c.args.storages.now entries taken (name bytes sectors c.in-Some.entry.now) i turn.0 named c.in_ok-taken.ensures.known there have
+      | inr there ↦ held_clash bytes sectors c.args.storages.now entries taken (λ q. contains_key l.streams q) (name bytes sectors c.in-Some.entry.now) i turn.0 named there l.invariant.names have
+    ]
+
+pub loop-entry-preserved : goal.loop-entry-preserved
+loop-entry-preserved c =
+    let mini_stream = c.args.mini_stream.now in
+    let bytes = c.args.directory.now.bytes.now in
+    let sectors = c.args.directory.now.sectors.now in
+    let entries = c.args.entries.now in
+    let chains = c.args.chains.now in
+    let l = c.loop-entry in
+    let started = c.into_iter-entry-iterator in
+    let first : iter_rest (zip_first started.result) ≡ entries = rw (started.ensures.into_iter_gives, c.zip-entry-items.ensures.first) c.iter.ensures.rest in
+    let second : iter_rest (zip_second started.result) ≡ chains = rw started.ensures.into_iter_gives c.zip-entry-items.ensures.second.0 in
+    let turn = zip_turn entries chains l.yielded started.result l.entry-iterator c.next.new.self _ first second l.yielded_by (c.in-Some.entry, c.in-Some.chain) c.in-Some.is c.next.ensures.steps in
+    let i = length l.yielded in
+    let k = get_or entries i 0 in
+    let taken : List ℕ → Bool = λ q. contains name_cmp c.in_ok-taken.taken q in
+    let chain = chain_at chains i c.in-Some.chain.now c.as_slice.result.now turn.1 (turn.3 _) c.as_slice.ensures.value in
+    let at : c.in-Some.entry.now ≡ k = turn.2 0 in
+    let put = c.in_ok-put_stream.ensures in
+    let has : HasName bytes sectors k = rw at at put.named in
+    let free : taken (name bytes sectors k) ≡ false = rw at at put.free in
+    let absent : contains_key l.streams (name bytes sectors k) ≡ false = rw at at put.absent in
+    let stored : c.put_stream.new.streams ≡ insert l.streams (name bytes sectors k) c.in_ok-held.held = rw at at put.ok in
+    let read : c.in_ok-held.held ≡ stream_bytes bytes mini_stream sectors k (get_or (views chains) i []) = c.in_ok-held.ensures.ok ∙ rw (← chain, at) refl in
+    let grown = begun_more bytes sectors c.args.storages.now entries taken l.streams (name bytes sectors k) c.in_ok-held.held i turn.0 refl has free absent l.invariant.names in
+    let more = from_named_bytes_more bytes mini_stream sectors entries (views chains) i grown.own turn.0 (omega (arith, length-map chains held)) in
+    record {
+      held = rw length_push (stored ∙ rw (l.invariant.held, read) (sym more));
+      names = rw (length_push, stored) grown;
+    }
+
+pub put_stream-requires : goal.put_stream-requires
+put_stream-requires c =
     let entries = c.args.entries.now in
     let chains = c.args.chains.now in
     let l = c.loop-entry in

@@ -2,7 +2,8 @@ use Rattle.std.proofs.Common.{arith, ◌≡◌, ℕ, ◌++◌, true, false, sym,
 use Rattle.std.proofs.lemmas.Result.{IfOk-weaker}
 use Rattle.std.proofs.lemmas.Bool.{le-ltb, lt-ltb}
 use Rattle.std.proofs.lemmas.List.{append-nil}
-use Rattle.msi_container_format.specs.Container.{is_mini, size, sectors_in, mini_sectors_in}
+use Rattle.msi_container_format.specs.Container.{is_mini, size, sectors_in, mini_sectors_in, IsMembers}
+use Rattle.msi_container_read.proofs.MembersLemmas.{small_chain, small_members, large_chain, large_members}
 use Rattle.msi_container_read.proofs.PlanPartsLemmas.{few_claimed}
 use Rattle.msi_container_read.proofs.RoomLemmas.{room_in_first, room_in_second}
 use Rattle.msi_container_read.proofs.streams.walk_stream.Goals as goal
@@ -35,3 +36,44 @@ pub walk-requires-else-size-lt-CUTOFF : goal.walk-requires-else-size-lt-CUTOFF
 walk-requires-else-size-lt-CUTOFF c =
     let minis = c.args.uses.now.mini_sectors in
     room_in_first _ _ _ _ _ (few_claimed minis.marks minis.list minis.counted) c.requires.steps
+
+pub returns-then-size-lt-CUTOFF-clause-only : goal.returns-then-size-lt-CUTOFF-clause-only
+returns-then-size-lt-CUTOFF-clause-only c = λ chain are can can_mini.
+    let bytes = c.args.directory.now.bytes.now in
+    let directory = c.args.directory.now.sectors.now in
+    let fat = c.args.tables.now.fat.sectors.now in
+    let mini_fat = c.args.tables.now.mini_fat.sectors.now in
+    let small : is_mini (size bytes directory c.args.entry) ≡ true = lt-ltb _ _ (omega (arith, c.size-size.ensures)) in
+    c.walk.ensures.only chain (small_chain bytes fat mini_fat directory c.args.entry _ _ _ _ chain c.requires.same_mini c.start_sector-start.ensures c.size-size.ensures small c.div_ceil-count.ensures are) (rw small at can_mini)
+
+pub returns-else-size-lt-CUTOFF-clause-only : goal.returns-else-size-lt-CUTOFF-clause-only
+returns-else-size-lt-CUTOFF-clause-only c = λ chain are can can_mini.
+    let bytes = c.args.directory.now.bytes.now in
+    let directory = c.args.directory.now.sectors.now in
+    let fat = c.args.tables.now.fat.sectors.now in
+    let mini_fat = c.args.tables.now.mini_fat.sectors.now in
+    let large : is_mini (size bytes directory c.args.entry) ≡ false = le-ltb _ _ (omega (arith, c.size-size.ensures)) in
+    c.walk-else-size-lt-CUTOFF.ensures.only chain
+    (large_chain bytes fat mini_fat directory c.args.entry _ _ _ _ chain c.requires.same c.start_sector-start.ensures c.size-size.ensures _ large c.sector_size.ensures.value c.div_ceil-count-else-size-lt-CUTOFF.ensures are) (rw large at can)
+
+pub returns-then-size-lt-CUTOFF-clause-members : goal.returns-then-size-lt-CUTOFF-clause-members
+returns-then-size-lt-CUTOFF-clause-members c =
+    let bytes = c.args.directory.now.bytes.now in
+    let directory = c.args.directory.now.sectors.now in
+    let fat = c.args.tables.now.fat.sectors.now in
+    let mini_fat = c.args.tables.now.mini_fat.sectors.now in
+    let small : is_mini (size bytes directory c.args.entry) ≡ true = lt-ltb _ _ (omega (arith, c.size-size.ensures)) in
+    IfOk-weaker c.walk.result _ (λ (chain : Vec ℕ Global). IsMembers bytes fat mini_fat directory c.args.entry chain.items)
+    (λ chain found. small_members bytes fat mini_fat directory c.args.entry _ _ _ _ chain.items c.requires.same_mini c.start_sector-start.ensures c.size-size.ensures small c.div_ceil-count.ensures found.0)
+    c.walk.ensures.found
+
+pub returns-else-size-lt-CUTOFF-clause-members : goal.returns-else-size-lt-CUTOFF-clause-members
+returns-else-size-lt-CUTOFF-clause-members c =
+    let bytes = c.args.directory.now.bytes.now in
+    let directory = c.args.directory.now.sectors.now in
+    let fat = c.args.tables.now.fat.sectors.now in
+    let mini_fat = c.args.tables.now.mini_fat.sectors.now in
+    let large : is_mini (size bytes directory c.args.entry) ≡ false = le-ltb _ _ (omega (arith, c.size-size.ensures)) in
+    IfOk-weaker c.walk-else-size-lt-CUTOFF.result _ (λ (chain : Vec ℕ Global). IsMembers bytes fat mini_fat directory c.args.entry chain.items)
+    (λ chain found. large_members bytes fat mini_fat directory c.args.entry _ _ _ _ chain.items c.requires.same c.start_sector-start.ensures c.size-size.ensures _ large c.sector_size.ensures.value c.div_ceil-count-else-size-lt-CUTOFF.ensures found.0)
+    c.walk-else-size-lt-CUTOFF.ensures.found
