@@ -5,6 +5,7 @@ use Rattle.std.specs.Prelude.{◌⊎◌, is_some, drop}
 use Rattle.std.specs.List.{AllZip}
 use Rattle.std.specs.Int.{w32}
 use Rattle.msi_text_base.specs.declared.codepage.CodePage.TheVariants as page
+use Rattle.msi_text_base.specs.declared.errors.ErrorKind.TheVariants as kind
 use Rattle.msi_text_base.specs.Lists.{has_pair, entry_where}
 use Rattle.msi_text_base.specs.Numbers.{number_at, bytes_at}
 use Rattle.msi_text_base.specs.Results.{◌>>=◌}
@@ -12,9 +13,11 @@ use Rattle.msi_summary_properties.specs.declared.propset.PropertyValue.{Property
 use Rattle.msi_summary_properties.specs.declared.propset.PropertyValue.TheVariants.{LpStr}
 use Rattle.msi_summary_properties.specs.Properties.{Properties, set_of, value_with_id, with_value}
 use Rattle.msi_summary_properties.specs.Reading.{value_at}
+use Rattle.msi_recode.specs.declared.errors.RecodeError.{RecodeError}
+use Rattle.msi_recode.specs.declared.errors.RecodeError.TheVariants as error
 use Rattle.msi_recode.specs.declared.page.TextPage.{TextPage}
 use Rattle.msi_recode.specs.TextPages.{text_in}
-use Rattle.msi_recode.specs.SummaryRecoding.{page_named, in_utf8}
+use Rattle.msi_recode.specs.SummaryRecoding.{IsFirstUnread, in_utf8}
 
 -- the bytes of the text that stands here behind the number of its type and its length
 unfoldable pub piece_at : List ℕ → Option (List ℕ)
@@ -35,12 +38,6 @@ in_page page bytes value = Some value
 
 unfoldable pub value_in : ℕ → TextPage → List ℕ → Option PropertyValue
 value_in version text_page bytes = value_at version page.Utf8 bytes >>= in_page text_page bytes
-
--- the page that the value at this place names
-abbrev pub page_stated : Option TextPage → ℕ → List ℕ → ℕ → Option ℕ → Option TextPage
-page_stated given version bytes section None = page_named given None
-page_stated given version bytes section (Some place) =
-    value_at version page.Utf8 (drop (section + place) bytes) >>= λ v. page_named given (Some v)
 
 -- the value of a pair is read so
 abbrev pub IsEntryRead : ℕ → TextPage → List ℕ → ℕ → ℕ × ℕ → ℕ × PropertyValue → Type 0
@@ -70,3 +67,9 @@ IsNotPut version page bytes id before =
 abbrev pub CannotBePut : ℕ → TextPage → List ℕ → ℕ → List (ℕ × ℕ) → Type 0
 CannotBePut version page bytes section pairs = (entries : List (ℕ × PropertyValue))
     → AllZip (IsEntryRead version page bytes section) pairs entries → has_pair (λ p q. p.0 == q.0) pairs ≡ true
+
+-- an error that names a property names the first of these
+abbrev pub TellsPair : ℕ → TextPage → List ℕ → ℕ → List (ℕ × ℕ) → RecodeError → Type 0
+TellsPair version page bytes section pairs (error.Property id kind.InvalidData) =
+    IsFirstUnread version page bytes section pairs id
+TellsPair version page bytes section pairs _ = Unit {0}

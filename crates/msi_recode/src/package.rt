@@ -9,7 +9,8 @@ ghost use Rattle.msi_container_format.specs.declared.contents.Contents as held;
 ghost use Rattle.msi_recode.specs.Errors.{kind_of};
 ghost use Rattle.msi_recode.specs.Recoding as packages;
 ghost use Rattle.msi_recode.specs.Recoding.{AreStreamsRecoded, AreTextsRecoded, CannotBeRecodedIn, HaveTextStreams};
-ghost use Rattle.msi_recode.specs.Recoding.{IsFileRecoded, IsRecoded, with_text_streams};
+ghost use Rattle.msi_recode.specs.Recoding.{IsFileRecoded, IsFileRefused, IsRecoded, IsTooLongIn};
+ghost use Rattle.msi_recode.specs.Recoding.{with_text_streams};
 
 use crate::errors::RecodeError;
 use crate::page::TextPage;
@@ -31,14 +32,15 @@ use std::marker::Model;
 ///
 /// # Errors
 /// Fails with `InvalidData` if the bytes hold no compound file, a stream of the pool or the summary is missing, or one
-/// isn't recoded (`recode_pool`, `recode_summary`). Fails with `InvalidInput` if storages lie below the root, or the
-/// file would be too long, and otherwise with `OutOfMemory`.
+/// isn't recoded (`recode_pool`, `recode_summary`). Fails with `InvalidInput` if the summary would be too long, if
+/// storages lie below the root, or if the file would pass 2^31 bytes, and otherwise with `OutOfMemory`.
 pub fn recode(alloc: Global, given: Option<TextPage>, bytes: &[u8]) -> Result<Vec<u8>, RecodeError>
     ensures ok { IfOk result (λ after. IsFileRecoded given bytes.now after.items) }
     ensures kinds { IfErr result (λ error. (kind_of error ≡ InvalidData) ⊎ (kind_of error ≡ InvalidInput)
         ⊎ (kind_of error ≡ OutOfMemory)) }
     ensures refused { IfErr result (λ error. kind_of error ≡ InvalidData → (contents : held.Contents)
         → Holds bytes.now contents → CannotBeRecodedIn given contents.streams) }
+    ensures unwritten { IfErr result (λ error. kind_of error ≡ InvalidInput → IsFileRefused given bytes.now) }
 {
     let contents = recode_contents(alloc, given, read(alloc, bytes)?)?;
     Ok(write(alloc, &contents, 0)?)
@@ -59,6 +61,7 @@ pub fn recode_contents(
     ensures kinds { IfErr result (λ error. (kind_of error ≡ InvalidData) ⊎ (kind_of error ≡ InvalidInput)
         ⊎ (kind_of error ≡ OutOfMemory)) }
     ensures refused { IfErr result (λ error. kind_of error ≡ InvalidData → CannotBeRecodedIn given contents.streams) }
+    ensures long { IfErr result (λ error. kind_of error ≡ InvalidInput → IsTooLongIn given contents.streams) }
 {
     let Contents {
         clsid,
@@ -83,6 +86,7 @@ fn recode_streams(
     ensures kinds { IfErr result (λ error. (kind_of error ≡ InvalidData) ⊎ (kind_of error ≡ InvalidInput)
         ⊎ (kind_of error ≡ OutOfMemory)) }
     ensures refused { IfErr result (λ error. kind_of error ≡ InvalidData → CannotBeRecodedIn given streams) }
+    ensures long { IfErr result (λ error. kind_of error ≡ InvalidInput → IsTooLongIn given streams) }
 {
     let texts = texts_recoded(alloc, given, &streams)?;
     Ok(with_texts(streams, texts)?)
@@ -115,6 +119,7 @@ fn texts_recoded(
     ensures kinds { IfErr result (λ error. (kind_of error ≡ InvalidData) ⊎ (kind_of error ≡ InvalidInput)
         ⊎ (kind_of error ≡ OutOfMemory)) }
     ensures refused { IfErr result (λ error. kind_of error ≡ InvalidData → CannotBeRecodedIn given streams.now) }
+    ensures long { IfErr result (λ error. kind_of error ≡ InvalidInput → IsTooLongIn given streams.now) }
 {
     let pool = bytes_at(streams, &string_pool_key(), reasons::NO_POOL)?;
     let data = bytes_at(streams, &string_data_key(), reasons::NO_POOL)?;

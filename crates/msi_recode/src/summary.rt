@@ -7,9 +7,10 @@ ghost use Rattle.msi_text_base.specs.declared.errors.ErrorKind.TheVariants.{Inva
 ghost use Rattle.msi_summary_properties.specs.Properties.{value_with_id, with_value};
 ghost use Rattle.msi_recode.specs.Errors.{kind_of};
 ghost use Rattle.msi_recode.specs.Readers.{page_of};
-ghost use Rattle.msi_recode.specs.SummaryReading.{ArePut, CannotBePut, IsNotPut, IsPutIn, is_text, page_stated};
-ghost use Rattle.msi_recode.specs.SummaryReading.{piece_at, value_in};
-ghost use Rattle.msi_recode.specs.SummaryRecoding.{HasNoSummary, IsSummary, IsSummaryRecoded, in_utf8, page_named};
+ghost use Rattle.msi_recode.specs.SummaryReading.{ArePut, CannotBePut, IsNotPut, IsPutIn, TellsPair};
+ghost use Rattle.msi_recode.specs.SummaryReading.{is_text, piece_at, value_in};
+ghost use Rattle.msi_recode.specs.SummaryRecoding.{HasNoSummary, IsSummary, IsSummaryRecoded, IsSummaryTooLong};
+ghost use Rattle.msi_recode.specs.SummaryRecoding.{TellsProperty, in_utf8, page_named, page_stated};
 
 use crate::errors::RecodeError;
 use crate::page::{TextPage, page_for};
@@ -33,8 +34,8 @@ const PAGE: u32 = 1;
 ///
 /// # Errors
 /// Fails with `InvalidData` if the bytes encode no set, if property 1 names no known page, or if the page has no text
-/// for the bytes of one, which is named. Fails with `InvalidInput` if the section would have 2^32 bytes or more, and
-/// otherwise with `OutOfMemory`.
+/// for the bytes of one: the first that isn't there, isn't read or is listed twice is named. Fails with `InvalidInput`
+/// if the section would have 2^32 bytes or more, and otherwise with `OutOfMemory`.
 pub fn recode_summary(
     alloc: Global,
     given: Option<TextPage>,
@@ -44,6 +45,8 @@ pub fn recode_summary(
     ensures kinds { IfErr result (λ error. (kind_of error ≡ InvalidData) ⊎ (kind_of error ≡ InvalidInput)
         ⊎ (kind_of error ≡ OutOfMemory)) }
     ensures refused { IfErr result (λ error. kind_of error ≡ InvalidData → HasNoSummary given bytes.now) }
+    ensures long { IfErr result (λ error. kind_of error ≡ InvalidInput → IsSummaryTooLong given bytes.now) }
+    ensures property { IfErr result (λ error. TellsProperty given bytes.now error) }
 {
     let set = set_in_utf8(alloc, given, bytes)?;
     // UTF-8 writes each text so that it reads back: the call states that the texts are UTF-8.
@@ -60,6 +63,7 @@ fn set_in_utf8(
     ensures ok { IfOk result (λ set. IsSummary given bytes.now set) }
     ensures kinds { IfErr result (λ error. (kind_of error ≡ InvalidData) ⊎ (kind_of error ≡ OutOfMemory)) }
     ensures refused { IfErr result (λ error. kind_of error ≡ InvalidData → HasNoSummary given bytes.now) }
+    ensures property { IfErr result (λ error. TellsProperty given bytes.now error) }
 {
     let head = header_at(bytes)?;
     let pairs = section_at(alloc, rest_from(bytes, head.section, 0))?;
@@ -156,6 +160,8 @@ fn put_values(
     ensures kinds { IfErr result (λ error. (kind_of error ≡ InvalidData) ⊎ (kind_of error ≡ OutOfMemory)) }
     ensures refused { IfErr result (λ error. kind_of error ≡ InvalidData
         → CannotBePut version (page_of reader.now) bytes.now section pairs.now) }
+    ensures property { IfErr result (λ error.
+        TellsPair version (page_of reader.now) bytes.now section pairs.now error) }
 {
     let mut left = most_text(bytes);
     for &(id, place) in pairs {
