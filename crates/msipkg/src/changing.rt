@@ -5,6 +5,7 @@ use crate::words::Verb;
 use msipkg_changes::{
     New, add_streams, carry_out_statements, create_package, remove_streams, set_properties,
 };
+use msipkg_import::import_files;
 use msipkg_looks::extract_streams;
 use msipkg_output::{Failure, Folder};
 use std::fs::OpenFile;
@@ -14,7 +15,13 @@ use std::rt::Files;
 /// Whether a command writes a file, and prints nothing.
 pub(crate) fn is_change(asked: &Asked<'_, '_>) -> bool {
     match asked.verb {
-        Verb::New | Verb::Add | Verb::Remove | Verb::Exec | Verb::Extract | Verb::Batch => true,
+        Verb::New
+        | Verb::Add
+        | Verb::Remove
+        | Verb::Exec
+        | Verb::Import
+        | Verb::Extract
+        | Verb::Batch => true,
         Verb::Summary => !asked.texts("set").is_empty() || !asked.texts("clear").is_empty(),
         _ => false,
     }
@@ -36,6 +43,7 @@ where
         Verb::Add => add_streams(rt, file, asked.texts("NAME=PATH"), errors),
         Verb::Remove => remove_streams(rt, file, asked.texts("NAME"), errors),
         Verb::Exec => carry_out_statements(rt, file, asked.texts("TEXT"), errors),
+        Verb::Import => import_files(rt, file, asked.texts("PATH"), errors),
         Verb::Extract => extract_streams(rt, file, asked.texts("NAME"), target_of(asked), errors),
         Verb::Batch => Err(Failure::rule("batch is no command of a batch")),
         _ => set_properties(rt, file, asked.texts("set"), asked.texts("clear"), errors),

@@ -1,6 +1,7 @@
 //! A command over any files and writers: from arguments to what they ask for, from a failure to its line and status.
 
 use crate::changing::{self, is_change};
+use crate::exchanging::{compare, export_asked};
 use crate::looking::look;
 use crate::several::print_each;
 use crate::words::{self, Verb};
@@ -76,8 +77,16 @@ where
         Ok(is_well) => u8::from(!is_well),
         Err(failure) => {
             report(asked.file(), &failure, errors);
-            1
+            failure_status(asked.verb)
         }
+    }
+}
+
+/// The exit status for a command that failed: `diff` has 1 where something differs, and 2 where it failed.
+fn failure_status(verb: Verb) -> u8 {
+    match verb {
+        Verb::Diff => 2,
+        _ => 1,
     }
 }
 
@@ -173,6 +182,8 @@ where
 {
     match asked.verb {
         Verb::Info | Verb::Check => print_each(rt, asked, output, errors),
+        Verb::Export => export_asked(rt, asked, output, errors),
+        Verb::Diff => compare(rt, asked, output),
         _ => {
             look(rt, asked, output)?;
             Ok(true)

@@ -4,6 +4,7 @@
 mod batch;
 mod changing;
 mod commands;
+mod exchanging;
 mod lines;
 mod looking;
 mod several;

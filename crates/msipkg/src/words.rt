@@ -18,6 +18,9 @@ pub(crate) enum Verb {
     Add,
     Remove,
     Exec,
+    Export,
+    Import,
+    Diff,
     Batch,
 }
 
@@ -54,6 +57,8 @@ enum Form {
     Value(&'static str),
     /// `--ID` with a value of this name, as often as it is needed.
     Values(&'static str),
+    /// `--ID`, or a letter, with a value of this name.
+    Lettered(char, &'static str),
     /// `--ID`, or a letter, with a value of this name, which has to be there.
     Needed(char, &'static str),
     /// `--ID` with one of these values.
@@ -93,7 +98,7 @@ const FORCE: Argument = Argument {
 };
 
 /// The commands, in the order in which help lists them.
-static COMMANDS: [Row; 13] = [
+static COMMANDS: [Row; 16] = [
     Row {
         verb: Verb::Info,
         name: "info",
@@ -264,6 +269,68 @@ static COMMANDS: [Row; 13] = [
         ],
     },
     Row {
+        verb: Verb::Export,
+        name: "export",
+        about: "Writes tables, or a whole package, as files that other programs read",
+        arguments: &[
+            FILE,
+            Argument {
+                id: "TABLE",
+                form: Form::AnyWords,
+                help: "The tables; the whole package where none is named",
+            },
+            Argument {
+                id: "format",
+                form: Form::Default("FORMAT", "json", &["json", "csv", "idt"]),
+                help: "The format of the files; json is one line for the whole package",
+            },
+            Argument {
+                id: "output",
+                form: Form::Lettered('o', "PATH"),
+                help: "The file for json, or the folder for the others; by default the output",
+            },
+            Argument {
+                id: "each",
+                form: Form::Instead(&["output", "format"]),
+                help: "Takes the words behind FILE as packages, too: each is a line of JSON",
+            },
+            FORCE,
+            ESCAPE,
+        ],
+    },
+    Row {
+        verb: Verb::Import,
+        name: "import",
+        about: "Gives a package what files have: all of it, or nothing",
+        arguments: &[
+            FILE,
+            Argument {
+                id: "PATH",
+                form: Form::Words,
+                help: "The files, which end in .idt, .json or .csv",
+            },
+        ],
+    },
+    Row {
+        verb: Verb::Diff,
+        name: "diff",
+        about: "Prints what differs between two packages; the status is 1 where something does",
+        arguments: &[
+            Argument {
+                id: "FILE",
+                form: Form::Word,
+                help: "The old package",
+            },
+            Argument {
+                id: "OTHER",
+                form: Form::Word,
+                help: "The new package",
+            },
+            JSON,
+            ESCAPE,
+        ],
+    },
+    Row {
         verb: Verb::Batch,
         name: "batch",
         about: "Runs the commands of standard input, a line each",
@@ -325,6 +392,7 @@ fn arg_of<'a>(alloc: Global, argument: &Argument) -> Result<Arg<'a>, AllocError>
         Form::Instead(others) => instead(arg.long(id), others)?,
         Form::Value(name) => arg.long(id).value_name(name),
         Form::Values(name) => arg.long(id).value_name(name).action(ArgAction::Append),
+        Form::Lettered(letter, name) => arg.long(id).short(letter).value_name(name),
         Form::Needed(letter, name) => arg.long(id).short(letter).value_name(name).required(true),
         Form::Choice(name, values) => arg.long(id).value_name(name).value_parser(values),
         Form::Default(name, value, values) => arg

@@ -1,0 +1,254 @@
+//! The command `export`: which files it writes, or what it prints.
+
+use crate::archives::export_archives;
+use crate::csv_tables::{export_csv, write_csv};
+use crate::json_packages::write_package;
+use crate::table_archives::write_archive;
+use crate::table_rows::rows_of;
+use msi::{Metered, Package, Source, Table};
+use msipkg_output::json::write_line;
+use msipkg_output::{
+    Failure, Folder, Shown, Style, at_file, failure_json, is_list, open_new, open_package, settle,
+    table_named,
+};
+use std::alloc::Global;
+use std::fs::OpenFile;
+use std::io::{BufWriter, Read, Seek, Write};
+use std::rt::Files;
+
+/// How many bytes are collected before they go to a file.
+const CAPACITY: usize = 64 * 1024;
+
+/// How a file is written: as it is.
+pub(crate) const BARE: Style = Style {
+    is_terminal: false,
+    is_escaped: false,
+};
+
+/// The refusal of several tables on the output.
+const FOLDER: &str = "more than one table goes into a folder: add -o DIR";
+
+/// What an export goes to.
+#[derive(Clone, Copy, Debug)]
+pub struct Target<'a> {
+    /// The format: `json`, `csv` or `idt`.
+    pub format: &'a str,
+    /// The path of a file for JSON, or of a folder for the other formats; without one the output.
+    pub path: Option<&'a str>,
+    /// Whether files that are there already are replaced.
+    pub is_forced: bool,
+}
+
+/// Writes tables of a package, or the whole package where none is named, to files or to the output. Where a whole
+/// package has streams that aren't found under their names, `notes` gets a line for each, since they aren't exported.
+///
+/// # Errors
+/// Fails as opening the package does, if a table isn't there or can't be read, if a text can't stand in the format, if
+/// a file is there already and isn't to be replaced, as the calls of the system do, and as the writer does.
+pub fn export<R, O, N>(
+    rt: &R,
+    style: Style,
+    file: &str,
+    names: &[&str],
+    target: &Target<'_>,
+    output: &mut O,
+    notes: &mut N,
+) -> Result<(), Failure>
+where
+    R: Files + AllocGlobal,
+    R::File: OpenFile + Read + Write + Seek + Drop,
+    O: Write + Drop,
+    N: Write,
+{
+    let package = open_package(rt, file)?;
+    match target.path {
+        None => print_package(rt.alloc(), style, file, &package, names, target, output)?,
+        Some(path) => write_files(rt, file, &package, names, target, path)?,
+    }
+    if names.is_empty() && target.format != "csv" {
+        note_hidden(&package, notes)?;
+    }
+    Ok(())
+}
+
+/// Prints a package as JSON, or a table in another format.
+fn print_package<F: Source, O: Write + Drop>(
+    alloc: Global,
+    style: Style,
+    file: &str,
+    package: &Package<F>,
+    names: &[&str],
+    target: &Target<'_>,
+    output: &mut O,
+) -> Result<(), Failure> {
+    if target.format == "json" {
+        return write_package(alloc, style, file, package, names, output);
+    }
+    let table = one_table(alloc, package, names)?;
+    match target.format {
+        "csv" => write_csv(alloc, style, package, table, output),
+        _ => write_archive(alloc, style, package, table, output),
+    }
+}
+
+/// The table of the one name that is given.
+fn one_table<'a, F: Source>(
+    alloc: Global,
+    package: &'a Package<F>,
+    names: &[&str],
+) -> Result<&'a Table, Failure> {
+    match names {
+        [name] => table_named(alloc, package, name),
+        _ => Err(Failure::rule(FOLDER)),
+    }
+}
+
+/// Writes a package to a file of JSON, or tables to files of a folder.
+fn write_files<R, F>(
+    rt: &R,
+    file: &str,
+    package: &Package<F>,
+    names: &[&str],
+    target: &Target<'_>,
+    path: &str,
+) -> Result<(), Failure>
+where
+    R: Files + AllocGlobal,
+    R::File: OpenFile + Write + Drop,
+    F: Source,
+{
+    let is_forced = target.is_forced;
+    let folder = Folder { path, is_forced };
+    match target.format {
+        "json" => at_file(
+            rt.alloc(),
+            path,
+            write_json(rt, file, package, names, &folder),
+        ),
+        "csv" => export_csv(rt, package, names, &folder),
+        _ => export_archives(rt, package, names, &folder),
+    }
+}
+
+/// Writes a package to a file of JSON, piece by piece.
+fn write_json<R, F>(
+    rt: &R,
+    file: &str,
+    package: &Package<F>,
+    names: &[&str],
+    target: &Folder<'_>,
+) -> Result<(), Failure>
+where
+    R: Files + AllocGlobal,
+    R::File: OpenFile + Write + Drop,
+    F: Source,
+{
+    let (made, mut new) = open_new(rt, target.path, target.is_forced)?;
+    let written = write_synced(rt.alloc(), file, package, names, &mut new);
+    drop(new);
+    settle(rt, written, made.as_str(), target.path)
+}
+
+/// Writes a package as JSON to a file, and waits until the disk has it.
+fn write_synced<F: Source, W: OpenFile + Write>(
+    alloc: Global,
+    file: &str,
+    package: &Package<F>,
+    names: &[&str],
+    new: &mut W,
+) -> Result<(), Failure> {
+    write_buffered(alloc, file, package, names, new)?;
+    Ok(new.sync_all()?)
+}
+
+/// Writes a package as JSON to a file.
+fn write_buffered<F: Source, W: Write>(
+    alloc: Global,
+    file: &str,
+    package: &Package<F>,
+    names: &[&str],
+    new: &mut W,
+) -> Result<(), Failure> {
+    let mut lines = BufWriter::with_capacity(alloc, CAPACITY, new)?;
+    write_package(alloc, BARE, file, package, names, &mut lines)?;
+    Ok(lines.flush()?)
+}
+
+/// Writes a line for each stream that isn't found under its name.
+fn note_hidden<F: Source, N: Write>(package: &Package<F>, notes: &mut N) -> Result<(), Failure> {
+    for name in package.streams() {
+        let name = name?;
+        if !package.has_stream(name.as_str()) {
+            let name = Shown::escaped(name.as_str());
+            writeln!(
+                notes,
+                "msipkg: stream {name}: it isn't exported, since it isn't found under its name"
+            )?;
+        }
+    }
+    Ok(())
+}
+
+/// Writes each of several packages as a line of JSON, and returns whether none failed. What failed is such a line too.
+///
+/// # Errors
+/// Fails as the writer does.
+pub fn export_each<R, O>(
+    rt: &R,
+    style: Style,
+    file: &str,
+    others: &[&str],
+    output: &mut O,
+) -> Result<bool, Failure>
+where
+    R: Files + AllocGlobal,
+    R::File: Read + Seek + Drop,
+    O: Write,
+{
+    let mut is_well = export_line(rt, style, file, output)?;
+    for other in others {
+        is_well &= export_line(rt, style, other, output)?;
+    }
+    Ok(is_well)
+}
+
+/// Writes a package as a line of JSON, or why that failed, and returns whether it didn't.
+fn export_line<R, O>(rt: &R, style: Style, file: &str, output: &mut O) -> Result<bool, Failure>
+where
+    R: Files + AllocGlobal,
+    R::File: Read + Seek + Drop,
+    O: Write,
+{
+    match readable_package(rt, file) {
+        Ok(package) => {
+            write_package(rt.alloc(), style, file, &package, &[], output)?;
+            Ok(true)
+        }
+        Err(failure) => {
+            let line = failure_json(rt.alloc(), file, &failure)?;
+            write_line(style, line.as_str(), output)?;
+            Ok(false)
+        }
+    }
+}
+
+/// The package of a file, whose tables can all be read.
+fn readable_package<R>(rt: &R, file: &str) -> Result<Package<Metered<R::File>>, Failure>
+where
+    R: Files + AllocGlobal,
+    R::File: Read + Seek + Drop,
+{
+    let package = open_package(rt, file)?;
+    check_tables(rt.alloc(), &package)?;
+    Ok(package)
+}
+
+/// Fails if a table can't be read.
+fn check_tables<F: Source>(alloc: Global, package: &Package<F>) -> Result<(), Failure> {
+    for table in package.tables() {
+        if !is_list(table) {
+            drop(rows_of(alloc, package, table.name())?);
+        }
+    }
+    Ok(())
+}

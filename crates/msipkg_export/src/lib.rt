@@ -1,0 +1,19 @@
+//! `export FILE [TABLE..]`: tables, or a whole package, as files that other programs read: JSON, CSV, and the text
+//! archives of the installer (IDT files).
+#![tactic(auto)]
+
+mod archive_errors;
+mod archive_parts;
+mod archive_texts;
+pub mod archives;
+pub mod csv_tables;
+pub mod exporting;
+pub mod json_packages;
+pub mod summary;
+pub mod table_archives;
+pub mod table_rows;
+
+pub use archive_errors::failure_of;
+pub use exporting::{Target, export, export_each};
+pub use summary::{PROPERTIES, property_text};
+pub use table_rows::rows_of;
