@@ -2,8 +2,7 @@
 
 use crate::report::{Place, Report};
 use msi::{Error, Package, Source, SummaryInfo};
-use msipkg_export::{PROPERTIES, property_text};
-use msipkg_output::kind_name;
+use msipkg_output::{PROPERTIES, kind_name, property_text};
 use std::alloc::AllocError;
 
 /// Compares the kinds and the code pages.

@@ -3,8 +3,7 @@
 use crate::report::{Change, Place, Report, Side};
 use msi::{Column, Error, Items, Package, Row, Rows, Source, Table, Value};
 use msi_compare::{Difference, differences};
-use msipkg_export::rows_of;
-use msipkg_output::{Failure, push_key};
+use msipkg_output::{Failure, push_key, rows_of};
 use std::alloc::{AllocError, Global};
 
 /// The rows of two tables, with the columns of the first.

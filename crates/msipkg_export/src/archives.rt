@@ -2,10 +2,11 @@
 
 use crate::archive_parts::text_value;
 use crate::archive_texts::archive_text;
-use crate::summary::{PROPERTIES, property_text};
 use crate::table_archives::{StreamFile, table_archive};
 use msi::{CodePage, Column, Error, Items, Package, Source, SummaryInfo, Table, Value};
-use msipkg_output::{Failure, Folder, SafeNames, chosen_tables, path_in};
+use msipkg_output::{
+    Failure, Folder, PROPERTIES, SafeNames, chosen_tables, path_in, property_text,
+};
 use std::alloc::{AllocError, Global};
 use std::collections::BTreeSet;
 use std::fs::{self, OpenFile};

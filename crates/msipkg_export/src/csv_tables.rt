@@ -1,9 +1,10 @@
 //! Tables as comma-separated values: the names of the columns, and then a line for each row.
 
 use crate::exporting::BARE;
-use crate::table_rows::rows_of;
 use msi::{Package, Source, Table};
-use msipkg_output::{Failure, Folder, Format, SafeNames, Style, chosen_tables, write_rows};
+use msipkg_output::{
+    Failure, Folder, Format, SafeNames, Style, chosen_tables, rows_of, write_rows,
+};
 use std::alloc::{AllocError, Global};
 use std::fs::{self, OpenFile};
 use std::io::Write;

@@ -4,12 +4,11 @@ use crate::archives::export_archives;
 use crate::csv_tables::{export_csv, write_csv};
 use crate::json_packages::write_package;
 use crate::table_archives::write_archive;
-use crate::table_rows::rows_of;
 use msi::{Metered, Package, Source, Table};
 use msipkg_output::json::write_line;
 use msipkg_output::{
-    Failure, Folder, Shown, Style, at_file, failure_json, is_list, open_new, open_package, settle,
-    table_named,
+    Failure, Folder, Shown, Style, at_file, failure_json, is_list, open_new, open_package, rows_of,
+    settle, table_named,
 };
 use std::alloc::Global;
 use std::fs::OpenFile;

@@ -1,11 +1,12 @@
 //! Packages as JSON on one line: the summary, the tables with the types of their columns, and the streams.
 
-use crate::summary::{PROPERTIES, property_text};
-use crate::table_rows::rows_of;
 use base64::engine::general_purpose::STANDARD;
 use msi::{Error, Package, Row, Rows, Source, SummaryInfo, Table};
 use msipkg_output::json::{JsonObject, write_quoted, write_text};
-use msipkg_output::{Failure, Style, chosen_tables, kind_name, put_columns, write_json_value};
+use msipkg_output::{
+    Failure, PROPERTIES, Style, chosen_tables, kind_name, property_text, put_columns, rows_of,
+    write_json_value,
+};
 use std::alloc::Global;
 use std::io::{self, Write};
 

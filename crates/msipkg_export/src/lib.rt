@@ -9,11 +9,7 @@ pub mod archives;
 pub mod csv_tables;
 pub mod exporting;
 pub mod json_packages;
-pub mod summary;
 pub mod table_archives;
-pub mod table_rows;
 
 pub use archive_errors::failure_of;
 pub use exporting::{Target, export, export_each};
-pub use summary::{PROPERTIES, property_text};
-pub use table_rows::rows_of;

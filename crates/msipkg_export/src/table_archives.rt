@@ -2,9 +2,8 @@
 
 use crate::archive_parts::text_value;
 use crate::archive_texts::archive_text;
-use crate::table_rows::rows_of;
 use msi::{CodePage, Items, Package, Row, Rows, Source, Table, Value};
-use msipkg_output::{Failure, SafeNames, Shown, Style, stream_name};
+use msipkg_output::{Failure, SafeNames, Shown, Style, rows_of, stream_name};
 use std::alloc::Global;
 use std::io::{self, Write};
 

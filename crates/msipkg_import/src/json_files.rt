@@ -3,8 +3,7 @@
 use crate::gathered::{Content, Gathered};
 use crate::json_parts::{columns_of, list_of, rows_of, text_of};
 use base64::engine::general_purpose::STANDARD;
-use msipkg_export::PROPERTIES;
-use msipkg_output::Failure;
+use msipkg_output::{Failure, PROPERTIES};
 use serde_json::Value as Json;
 use std::alloc::Global;
 use std::str;

@@ -2,8 +2,7 @@
 
 use msi::{Memory, Package, SummaryInfo};
 use msipkg_changes::{clear_property, set_property};
-use msipkg_export::{PROPERTIES, property_text};
-use msipkg_output::Failure;
+use msipkg_output::{Failure, PROPERTIES, property_text};
 use std::alloc::{AllocError, Global};
 
 /// Gives a package a summary, of which nothing of the old one stays but the code page, where none is given.

@@ -15,6 +15,7 @@ pub mod rows;
 pub mod safe_names;
 pub mod stored;
 pub mod style;
+pub mod summary_texts;
 pub mod tables;
 pub mod texts;
 
@@ -30,5 +31,6 @@ pub use rows::{Format, write_json_value, write_rows};
 pub use safe_names::{SafeNames, safe_name};
 pub use stored::{StoredStreams, stored_streams, stream_bytes};
 pub use style::Style;
-pub use tables::{chosen_tables, is_list, table_named};
+pub use summary_texts::{PROPERTIES, property_text};
+pub use tables::{chosen_tables, is_list, rows_of, table_named};
 pub use texts::{TimeText, UuidText, kind_name, push_key, stream_name};
