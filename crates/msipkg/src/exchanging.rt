@@ -1,18 +1,64 @@
 //! The commands that exchange packages with other files, and that compare them.
 
 use crate::commands::Asked;
+use crate::words::Verb;
+use msi::{Package, Source};
 use msipkg_diff::print_differences;
-use msipkg_export::{Target, export, export_each};
-use msipkg_output::Failure;
+use msipkg_export::{Target, export, export_line};
+use msipkg_output::{Failure, open_package};
 use std::fs::OpenFile;
 use std::io::{Read, Seek, Write};
 use std::rt::Files;
 
-/// Exports packages, and returns whether none failed.
+/// Whether packages are exported as a line each.
+pub(crate) fn is_each(asked: &Asked<'_, '_>) -> bool {
+    matches!(asked.verb, Verb::Export) && asked.given.get_flag("each")
+}
+
+/// Exports the package of a file, or tables of it.
 ///
 /// # Errors
 /// Fails as exporting does, and as the writer does.
-pub(crate) fn export_asked<R, O, E>(
+pub(crate) fn export_asked<R, F, O, E>(
+    rt: &R,
+    asked: &Asked<'_, '_>,
+    file: &str,
+    package: &Package<F>,
+    output: &mut O,
+    errors: &mut E,
+) -> Result<(), Failure>
+where
+    R: Files + AllocGlobal,
+    R::File: OpenFile + Write + Drop,
+    F: Source,
+    O: Write + Drop,
+    E: Write,
+{
+    if is_each(asked) {
+        return export_line(rt.alloc(), asked.style, file, package, output);
+    }
+    let target = Target {
+        format: asked.text("format"),
+        path: asked.given.get_str("output"),
+        is_forced: asked.given.get_flag("force"),
+        style: asked.style,
+    };
+    export(
+        rt,
+        file,
+        package,
+        asked.texts("TABLE"),
+        &target,
+        output,
+        errors,
+    )
+}
+
+/// Compares two packages, and returns whether nothing differs.
+///
+/// # Errors
+/// Fails as opening the packages and comparing them do, and as the writers do.
+pub(crate) fn compare<R, O, E>(
     rt: &R,
     asked: &Asked<'_, '_>,
     output: &mut O,
@@ -20,33 +66,33 @@ pub(crate) fn export_asked<R, O, E>(
 ) -> Result<bool, Failure>
 where
     R: Files + AllocGlobal,
-    R::File: OpenFile + Read + Write + Seek + Drop,
-    O: Write + Drop,
+    R::File: Read + Seek + Drop,
+    O: Write,
     E: Write,
 {
-    let (style, file, names) = (asked.style, asked.file(), asked.texts("TABLE"));
-    if asked.given.get_flag("each") {
-        return export_each(rt, style, file, names, output);
-    }
-    let target = Target {
-        format: asked.text("format"),
-        path: asked.given.get_str("output"),
-        is_forced: asked.given.get_flag("force"),
-    };
-    export(rt, style, file, names, &target, output, errors)?;
-    Ok(true)
+    let old = open_package(rt, asked.package(asked.file()), errors)?;
+    compare_with(rt, asked, &old, output, errors)
 }
 
-/// Compares two packages, and returns whether nothing differs.
-///
-/// # Errors
-/// Fails as comparing does, and as the writer does.
-pub(crate) fn compare<R, O>(rt: &R, asked: &Asked<'_, '_>, output: &mut O) -> Result<bool, Failure>
+/// Compares a package with the other one, at whose file a failure to open it is.
+fn compare_with<R, F, O, E>(
+    rt: &R,
+    asked: &Asked<'_, '_>,
+    old: &Package<F>,
+    output: &mut O,
+    errors: &mut E,
+) -> Result<bool, Failure>
 where
     R: Files + AllocGlobal,
     R::File: Read + Seek + Drop,
+    F: Source,
     O: Write,
+    E: Write,
 {
-    let (old, new) = (asked.file(), asked.text("OTHER"));
-    print_differences(rt, asked.style, old, new, asked.is_json(), output)
+    let files = (asked.file(), asked.text("OTHER"));
+    let new = match open_package(rt, asked.package(files.1), errors) {
+        Ok(package) => package,
+        Err(failure) => return Err(failure.at(rt.alloc(), "file", files.1)),
+    };
+    print_differences(rt, asked.style, files, old, &new, asked.is_json(), output)
 }

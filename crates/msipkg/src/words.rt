@@ -91,6 +91,25 @@ const ESCAPE: Argument = Argument {
     help: "Prints characters that a terminal would obey or not show as escapes",
 };
 
+/// The code pages that texts are read in.
+const PAGES: &[&str] = &[
+    "874", "932", "936", "949", "950", "1250", "1251", "1252", "1253", "1254", "1255", "1256",
+    "1257", "1258", "10000", "10007", "28591", "28592", "28593", "28594", "28595", "28596",
+    "28597", "28598", "28599", "65001",
+];
+
+const PAGE: Argument = Argument {
+    id: "page",
+    form: Form::Choice("N", PAGES),
+    help: "The code page of the texts of a package that names none, that is, page 0",
+};
+
+const RECODE: Argument = Argument {
+    id: "recode",
+    form: Form::Flag,
+    help: "Writes the texts in UTF-8 if they are in a page that packages aren't written in",
+};
+
 const FORCE: Argument = Argument {
     id: "force",
     form: Form::Flag,
@@ -103,13 +122,13 @@ static COMMANDS: [Row; 16] = [
         verb: Verb::Info,
         name: "info",
         about: "Prints what packages are",
-        arguments: &[FILES, JSON, ESCAPE],
+        arguments: &[FILES, JSON, PAGE, ESCAPE],
     },
     Row {
         verb: Verb::Tables,
         name: "tables",
         about: "Prints the tables, and how many rows they have",
-        arguments: &[FILE, ESCAPE],
+        arguments: &[FILE, PAGE, ESCAPE],
     },
     Row {
         verb: Verb::Schema,
@@ -128,6 +147,7 @@ static COMMANDS: [Row; 16] = [
                 form: Form::Instead(&["json"]),
                 help: "Prints statements that create the tables, as exec takes them",
             },
+            PAGE,
             ESCAPE,
         ],
     },
@@ -147,6 +167,7 @@ static COMMANDS: [Row; 16] = [
                 form: Form::Choice("FORMAT", &["table", "tabs", "csv", "json", "lines"]),
                 help: "How rows are printed: by default as a table on a terminal, and elsewhere parted by tabs",
             },
+            PAGE,
             ESCAPE,
         ],
     },
@@ -154,7 +175,7 @@ static COMMANDS: [Row; 16] = [
         verb: Verb::Streams,
         name: "streams",
         about: "Prints the streams, and how many bytes they have",
-        arguments: &[FILE, ESCAPE],
+        arguments: &[FILE, PAGE, ESCAPE],
     },
     Row {
         verb: Verb::Extract,
@@ -173,6 +194,7 @@ static COMMANDS: [Row; 16] = [
                 help: "The folder for the files; it is made where it isn't there",
             },
             FORCE,
+            PAGE,
         ],
     },
     Row {
@@ -192,6 +214,8 @@ static COMMANDS: [Row; 16] = [
                 help: "Clears a property, instead of printing them; may be repeated",
             },
             JSON,
+            PAGE,
+            RECODE,
             ESCAPE,
         ],
     },
@@ -207,6 +231,8 @@ static COMMANDS: [Row; 16] = [
                 help: "Counts the texts anew first, and replaces a file whose counts were wrong",
             },
             JSON,
+            PAGE,
+            RECODE,
             ESCAPE,
         ],
     },
@@ -240,6 +266,8 @@ static COMMANDS: [Row; 16] = [
                 form: Form::Words,
                 help: "The name of a stream, and the path of its file",
             },
+            PAGE,
+            RECODE,
         ],
     },
     Row {
@@ -253,6 +281,8 @@ static COMMANDS: [Row; 16] = [
                 form: Form::Words,
                 help: "The streams",
             },
+            PAGE,
+            RECODE,
         ],
     },
     Row {
@@ -266,6 +296,8 @@ static COMMANDS: [Row; 16] = [
                 form: Form::Words,
                 help: "A statement, as DELETE FROM Property WHERE Property = 'Old'",
             },
+            PAGE,
+            RECODE,
         ],
     },
     Row {
@@ -295,6 +327,7 @@ static COMMANDS: [Row; 16] = [
                 help: "Takes the words behind FILE as packages, too: each is a line of JSON",
             },
             FORCE,
+            PAGE,
             ESCAPE,
         ],
     },
@@ -309,6 +342,8 @@ static COMMANDS: [Row; 16] = [
                 form: Form::Words,
                 help: "The files, which end in .idt, .json or .csv",
             },
+            PAGE,
+            RECODE,
         ],
     },
     Row {
@@ -327,6 +362,7 @@ static COMMANDS: [Row; 16] = [
                 help: "The new package",
             },
             JSON,
+            PAGE,
             ESCAPE,
         ],
     },

@@ -7,39 +7,23 @@ use crate::streams::check_streams;
 use crate::validation::check_validation;
 use crate::values::check_values;
 use msi::{Package, Source};
-use msipkg_output::{Failure, Style, open_package};
+use msipkg_output::{Failure, Style};
 use std::alloc::Global;
-use std::io::{Read, Seek, Write};
-use std::rt::Files;
+use std::io::Write;
 
-/// Prints each error in a package on a line, or all of them as JSON on one line. Returns whether there is none.
+/// Prints each error in a file's package on a line, or all of them as JSON on one line. Returns whether there is none.
 ///
 /// # Errors
-/// Fails as opening the package does, and as the writer does.
-pub fn print_check<R, O>(
-    rt: &R,
+/// Fails if memory is refused, and as the writer does.
+pub fn print_check<F: Source, O: Write>(
+    alloc: Global,
     style: Style,
     file: &str,
+    package: &mut Package<F>,
     is_json: bool,
     output: &mut O,
-) -> Result<bool, Failure>
-where
-    R: Files + AllocGlobal,
-    R::File: Read + Seek + Drop,
-    O: Write,
-{
-    let mut package = open_package(rt, file)?;
-    let report = Report::new(rt.alloc(), style, file, is_json)?;
-    write_report(rt.alloc(), &mut package, report, output)
-}
-
-/// Writes the errors in a package, and returns whether there is none.
-fn write_report<F: Source, W: Write>(
-    alloc: Global,
-    package: &mut Package<F>,
-    mut report: Report<'_>,
-    output: &mut W,
 ) -> Result<bool, Failure> {
+    let mut report = Report::new(alloc, style, file, is_json)?;
     find_errors(alloc, package, &mut report)?;
     Ok(report.print(output)?)
 }

@@ -4,15 +4,13 @@ use crate::archives::export_archives;
 use crate::csv_tables::{export_csv, write_csv};
 use crate::json_packages::write_package;
 use crate::table_archives::write_archive;
-use msi::{Metered, Package, Source, Table};
-use msipkg_output::json::write_line;
+use msi::{Package, Source, Table};
 use msipkg_output::{
-    Failure, Folder, Shown, Style, at_file, failure_json, is_list, open_new, open_package, rows_of,
-    settle, table_named,
+    Failure, Folder, Shown, Style, at_file, is_list, open_new, rows_of, settle, table_named,
 };
 use std::alloc::Global;
 use std::fs::OpenFile;
-use std::io::{BufWriter, Read, Seek, Write};
+use std::io::{BufWriter, Write};
 use std::rt::Files;
 
 /// How many bytes are collected before they go to a file.
@@ -28,7 +26,7 @@ pub(crate) const BARE: Style = Style {
 const FOLDER: &str = "more than one table goes into a folder: add -o DIR";
 
 /// What an export goes to.
-#[derive(Clone, Copy, Debug)]
+#[derive(Clone, Copy)]
 pub struct Target<'a> {
     /// The format: `json`, `csv` or `idt`.
     pub format: &'a str,
@@ -36,18 +34,21 @@ pub struct Target<'a> {
     pub path: Option<&'a str>,
     /// Whether files that are there already are replaced.
     pub is_forced: bool,
+    /// How texts are printed on the output.
+    pub style: Style,
 }
 
-/// Writes tables of a package, or the whole package where none is named, to files or to the output. Where a whole
-/// package has streams that aren't found under their names, `notes` gets a line for each, since they aren't exported.
+/// Writes tables of a file's package, or the whole package where none is named, to files or to the output. Where a
+/// whole package has streams that aren't found under their names, `notes` gets a line for each, since they aren't
+/// exported.
 ///
 /// # Errors
-/// Fails as opening the package does, if a table isn't there or can't be read, if a text can't stand in the format, if
-/// a file is there already and isn't to be replaced, as the calls of the system do, and as the writer does.
-pub fn export<R, O, N>(
+/// Fails if a table isn't there or can't be read, if a text can't stand in the format, if a file is there already and
+/// isn't to be replaced, as the calls of the system do, and as the writer does.
+pub fn export<R, F, O, N>(
     rt: &R,
-    style: Style,
     file: &str,
+    package: &Package<F>,
     names: &[&str],
     target: &Target<'_>,
     output: &mut O,
@@ -55,17 +56,17 @@ pub fn export<R, O, N>(
 ) -> Result<(), Failure>
 where
     R: Files + AllocGlobal,
-    R::File: OpenFile + Read + Write + Seek + Drop,
+    R::File: OpenFile + Write + Drop,
+    F: Source,
     O: Write + Drop,
     N: Write,
 {
-    let package = open_package(rt, file)?;
     match target.path {
-        None => print_package(rt.alloc(), style, file, &package, names, target, output)?,
-        Some(path) => write_files(rt, file, &package, names, target, path)?,
+        None => print_package(rt.alloc(), file, package, names, target, output)?,
+        Some(path) => write_files(rt, file, package, names, target, path)?,
     }
     if names.is_empty() && target.format != "csv" {
-        note_hidden(&package, notes)?;
+        note_hidden(package, notes)?;
     }
     Ok(())
 }
@@ -73,13 +74,13 @@ where
 /// Prints a package as JSON, or a table in another format.
 fn print_package<F: Source, O: Write + Drop>(
     alloc: Global,
-    style: Style,
     file: &str,
     package: &Package<F>,
     names: &[&str],
     target: &Target<'_>,
     output: &mut O,
 ) -> Result<(), Failure> {
+    let style = target.style;
     if target.format == "json" {
         return write_package(alloc, style, file, package, names, output);
     }
@@ -188,58 +189,19 @@ fn note_hidden<F: Source, N: Write>(package: &Package<F>, notes: &mut N) -> Resu
     Ok(())
 }
 
-/// Writes each of several packages as a line of JSON, and returns whether none failed. What failed is such a line too.
+/// Writes a package as a line of JSON, if its tables can all be read.
 ///
 /// # Errors
-/// Fails as the writer does.
-pub fn export_each<R, O>(
-    rt: &R,
+/// Fails if a table can't be read, and then nothing is written; and as the writer does.
+pub fn export_line<F: Source, O: Write>(
+    alloc: Global,
     style: Style,
     file: &str,
-    others: &[&str],
+    package: &Package<F>,
     output: &mut O,
-) -> Result<bool, Failure>
-where
-    R: Files + AllocGlobal,
-    R::File: Read + Seek + Drop,
-    O: Write,
-{
-    let mut is_well = export_line(rt, style, file, output)?;
-    for other in others {
-        is_well &= export_line(rt, style, other, output)?;
-    }
-    Ok(is_well)
-}
-
-/// Writes a package as a line of JSON, or why that failed, and returns whether it didn't.
-fn export_line<R, O>(rt: &R, style: Style, file: &str, output: &mut O) -> Result<bool, Failure>
-where
-    R: Files + AllocGlobal,
-    R::File: Read + Seek + Drop,
-    O: Write,
-{
-    match readable_package(rt, file) {
-        Ok(package) => {
-            write_package(rt.alloc(), style, file, &package, &[], output)?;
-            Ok(true)
-        }
-        Err(failure) => {
-            let line = failure_json(rt.alloc(), file, &failure)?;
-            write_line(style, line.as_str(), output)?;
-            Ok(false)
-        }
-    }
-}
-
-/// The package of a file, whose tables can all be read.
-fn readable_package<R>(rt: &R, file: &str) -> Result<Package<Metered<R::File>>, Failure>
-where
-    R: Files + AllocGlobal,
-    R::File: Read + Seek + Drop,
-{
-    let package = open_package(rt, file)?;
-    check_tables(rt.alloc(), &package)?;
-    Ok(package)
+) -> Result<(), Failure> {
+    check_tables(alloc, package)?;
+    write_package(alloc, style, file, package, &[], output)
 }
 
 /// Fails if a table can't be read.

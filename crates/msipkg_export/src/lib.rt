@@ -12,4 +12,4 @@ pub mod json_packages;
 pub mod table_archives;
 
 pub use archive_errors::failure_of;
-pub use exporting::{Target, export, export_each};
+pub use exporting::{Target, export, export_line};

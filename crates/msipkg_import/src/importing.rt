@@ -7,9 +7,9 @@ use crate::gathered::Gathered;
 use crate::json_files::gather_json;
 use crate::paths::{ending_of, stem_of};
 use msipkg_changes::{load, store};
-use msipkg_output::{Failure, at_file};
+use msipkg_output::{Failure, PackageFile, at_file};
 use std::fs::{self, OpenFile};
-use std::io::{Read, Seek, Write};
+use std::io::{Read, Write};
 use std::rt::Files;
 
 /// Gives a package what files have: `.idt` text archives, `.json` packages that `export` wrote, and `.csv` rows of the
@@ -18,16 +18,21 @@ use std::rt::Files;
 /// # Errors
 /// Fails if a file can't be read or has another ending, at what a file is refused for, as the changes of the package
 /// do, and as storing the package does. Then the package's file is as it was.
-pub fn import_files<R, N>(rt: &R, file: &str, paths: &[&str], notes: &mut N) -> Result<(), Failure>
+pub fn import_files<R, N>(
+    rt: &R,
+    file: PackageFile<'_>,
+    paths: &[&str],
+    notes: &mut N,
+) -> Result<(), Failure>
 where
     R: Files + AllocGlobal,
-    R::File: OpenFile + Read + Write + Seek + Drop,
+    R::File: OpenFile + Read + Write + Drop,
     N: Write,
 {
     let gathered = gather_files(rt, paths)?;
-    let mut package = load(rt, file)?;
+    let mut package = load(rt, file, notes)?;
     apply(rt.alloc(), &mut package, gathered)?;
-    store(rt, file, package, notes)
+    store(rt, file.path, package, notes)
 }
 
 /// What files give.

@@ -2,7 +2,9 @@
 
 use crate::escape::Shown;
 use crate::json::JsonObject;
+use crate::pages::Pages;
 use msi::{Error, ErrorKind, ParseError};
+use msi_recode::RecodeError;
 use std::alloc::{AllocError, AllocFailed, Global};
 use std::{fmt, io};
 
@@ -17,6 +19,12 @@ pub enum Cause {
     Query(ParseError),
     /// A line of CSV that can't be written.
     Csv(csv::Error),
+    /// A text of a package that its page doesn't read.
+    Text(RecodeError),
+    /// A text of a package that names page 0, and isn't UTF-8.
+    Unnamed(RecodeError),
+    /// A package that isn't in UTF-8 isn't written so unasked.
+    Recoding(Pages),
     /// A rule of the program: a sentence, without its full stop.
     Rule(&'static str),
 }
@@ -28,8 +36,29 @@ impl fmt::Display for Cause {
             Cause::File(error) => error.fmt(f),
             Cause::Query(error) => error.fmt(f),
             Cause::Csv(error) => error.fmt(f),
+            Cause::Text(error) => write_text_error(error, f),
+            Cause::Unnamed(error) => {
+                write_text_error(error, f)?;
+                f.write_str("; --page N names the page of its texts")
+            }
+            Cause::Recoding(pages) => write!(
+                f,
+                "texts in {pages} would be written in UTF-8, which --recode allows"
+            ),
             Cause::Rule(rule) => f.write_str(rule),
         }
+    }
+}
+
+/// Writes which text a page doesn't read. Texts are counted from 1 on, as tables refer to them.
+fn write_text_error<W: fmt::Write>(error: &RecodeError, f: &mut fmt::Formatter<W>) -> fmt::Result {
+    match error {
+        RecodeError::Package(error) => write!(f, "{error}"),
+        RecodeError::Place(place, error) => {
+            let number = place.saturating_add(1);
+            write!(f, "text {number} of the database: {error}")
+        }
+        RecodeError::Property(id, error) => write!(f, "property {id} of the summary: {error}"),
     }
 }
 

@@ -1,0 +1,146 @@
+//! Packages with texts in a page that packages aren't read in: they are recoded to UTF-8 first.
+
+use crate::escape::Shown;
+use crate::failure::{Cause, Failure};
+use crate::pages::{NamedPages, Pages};
+use msi::compound::{self, Contents};
+use msi_recode::{RecodeError, TextPage, recode_contents};
+use std::alloc::Global;
+use std::fs;
+use std::io::{self, Read, Write};
+use std::rt::Files;
+
+/// The file of a package, and how it is read.
+#[derive(Clone, Copy, Debug)]
+pub struct PackageFile<'a> {
+    /// The path of the file.
+    pub path: &'a str,
+    /// The page of the texts, where the package names page 0, which says nothing of it.
+    pub page: Option<i32>,
+    /// Whether a package that is recoded may be written, with its texts in UTF-8.
+    pub is_recoded: bool,
+}
+
+/// The bytes of a package with its texts in UTF-8.
+pub struct Recoded {
+    bytes: Vec<u8>,
+    pages: Pages,
+}
+
+/// Written out, so that a function that owns one calls one drop, and its proof doesn't go through those of the parts.
+impl Drop for Recoded {
+    fn drop(self) {
+        let Recoded { bytes: _, pages: _ } = self;
+    }
+}
+
+impl Recoded {
+    /// Returns the bytes.
+    pub fn into_bytes(self) -> Vec<u8> {
+        let Recoded { bytes, pages: _ } = self;
+        bytes
+    }
+
+    /// Writes a line that says that the package's texts are recoded.
+    ///
+    /// # Errors
+    /// Fails as the writer does.
+    pub fn note<N: Write>(&self, path: &str, notes: &mut N) -> io::Result<()> {
+        let (path, pages) = (Shown::escaped(path), self.pages);
+        writeln!(notes, "msipkg: {path}: texts in {pages} are read as UTF-8")
+    }
+
+    /// Fails if the package may not be written, and notes else that its texts are recoded.
+    ///
+    /// # Errors
+    /// Fails with the pages of the texts, and as the writer does.
+    pub fn permit<N: Write>(&self, file: PackageFile<'_>, notes: &mut N) -> Result<(), Failure> {
+        if !file.is_recoded {
+            return Err(Failure::new(Cause::Recoding(self.pages)));
+        }
+        Ok(self.note(file.path, notes)?)
+    }
+}
+
+/// Returns a package's bytes with its texts in UTF-8 if a page is given and the package has texts to be recoded. Such a
+/// package isn't tried as it is, since bytes in any page may happen to be UTF-8.
+///
+/// # Errors
+/// Fails as `recoded` does.
+pub fn recoded_by_page<R>(rt: &R, file: PackageFile<'_>) -> Result<Option<Recoded>, Failure>
+where
+    R: Files + AllocGlobal,
+    R::File: Read + Drop,
+{
+    match file.page {
+        Some(_) => recoded(rt, file),
+        None => Ok(None),
+    }
+}
+
+/// Returns the bytes of a package that can't be opened as it is, with its texts in UTF-8.
+///
+/// # Errors
+/// Fails as `recoded` does, and with the failure of opening if the package has no texts to be recoded.
+pub fn recoded_instead<R>(
+    rt: &R,
+    file: PackageFile<'_>,
+    failure: Failure,
+) -> Result<Recoded, Failure>
+where
+    R: Files + AllocGlobal,
+    R::File: Read + Drop,
+{
+    match recoded(rt, file)? {
+        Some(recoded) => Ok(recoded),
+        None => Err(failure),
+    }
+}
+
+/// Returns a package's bytes with its texts in UTF-8, if they are to be recoded: one of its pages isn't one that
+/// packages are read in, or it is page 0 and a page is given.
+///
+/// # Errors
+/// Fails if the file can't be read, and at a text that its page doesn't read.
+pub fn recoded<R>(rt: &R, file: PackageFile<'_>) -> Result<Option<Recoded>, Failure>
+where
+    R: Files + AllocGlobal,
+    R::File: Read + Drop,
+{
+    let bytes = fs::read(rt, file.path)?;
+    match compound::read(rt.alloc(), bytes.as_slice()) {
+        Ok(contents) => recoded_of(rt.alloc(), contents, file.page),
+        Err(_) => Ok(None),
+    }
+}
+
+/// The bytes of a package of these contents with its texts in UTF-8, if they are to be recoded. The texts of page 0 are
+/// UTF-8 where no page is given; they are read all the same, to say which one can't be.
+fn recoded_of(
+    alloc: Global,
+    contents: Contents,
+    given: Option<i32>,
+) -> Result<Option<Recoded>, Failure> {
+    let named = NamedPages::of(alloc, &contents.streams)?;
+    let pages = named.recoded_from(given);
+    let is_unnamed = named.has_zero() && given.is_none();
+    if pages.is_empty() && !is_unnamed {
+        return Ok(None);
+    }
+    match recode_contents(alloc, given.and_then(TextPage::of), contents) {
+        Ok(_) | Err(RecodeError::Package(_)) if pages.is_empty() => Ok(None),
+        Ok(contents) => {
+            let bytes = compound::write(alloc, &contents, 0)?;
+            Ok(Some(Recoded { bytes, pages }))
+        }
+        Err(error) => Err(failure_of(error, is_unnamed)),
+    }
+}
+
+/// Why texts aren't recoded.
+fn failure_of(error: RecodeError, is_unnamed: bool) -> Failure {
+    if is_unnamed {
+        return Failure::new(Cause::Unnamed(error));
+    }
+    Failure::new(Cause::Text(error))
+}
