@@ -17,8 +17,10 @@ pub enum Cause {
     File(io::Error),
     /// A text is no query.
     Query(ParseError),
-    /// A line of CSV that can't be written.
+    /// A line of CSV that can't be read or written.
     Csv(csv::Error),
+    /// A text isn't the JSON that is wanted.
+    Json(serde_json::Error),
     /// A text of a package that its page doesn't read.
     Text(RecodeError),
     /// A text of a package that names page 0, and isn't UTF-8.
@@ -36,6 +38,7 @@ impl fmt::Display for Cause {
             Cause::File(error) => error.fmt(f),
             Cause::Query(error) => error.fmt(f),
             Cause::Csv(error) => error.fmt(f),
+            Cause::Json(error) => error.fmt(f),
             Cause::Text(error) => write_text_error(error, f),
             Cause::Unnamed(error) => {
                 write_text_error(error, f)?;
@@ -181,6 +184,12 @@ impl<T: Drop> From<AllocFailed<T>> for Failure {
 impl From<csv::Error> for Failure {
     fn from(error: csv::Error) -> Failure {
         Failure::new(Cause::Csv(error))
+    }
+}
+
+impl From<serde_json::Error> for Failure {
+    fn from(error: serde_json::Error) -> Failure {
+        Failure::new(Cause::Json(error))
     }
 }
 
