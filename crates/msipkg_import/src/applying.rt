@@ -2,12 +2,14 @@
 
 use crate::checking::{check_columns, check_rows};
 use crate::described::Described;
-use crate::fields::{check_names, described, values_of_rows};
+use crate::fields::{described, values_of_rows};
 use crate::gathered::{Content, Gathered, GivenStream, GivenTable};
+use crate::limits::Limits;
 use crate::summary::apply_summary;
-use crate::validation::{VALIDATION, describe, refine, take_validation};
+use crate::validation::{Rules, VALIDATION};
+use csv::StringRecord;
 use msi::{Column, Error, Insert, Memory, Package, Value};
-use msipkg_changes::{fill_stream, page_of};
+use msipkg_changes::fill_stream;
 use msipkg_output::Failure;
 use std::alloc::Global;
 
@@ -19,22 +21,17 @@ use std::alloc::Global;
 pub(crate) fn apply(
     alloc: Global,
     package: &mut Package<Memory>,
-    mut gathered: Gathered,
+    gathered: &mut Gathered,
 ) -> Result<(), Failure> {
+    if let Some(page) = gathered.page {
+        package.set_database_codepage(page)?;
+    }
     let tables = gathered.take_tables(alloc);
-    apply_page(package, gathered.page.as_ref())?;
-    apply_tables(alloc, package, tables)?;
+    apply_tables(alloc, package, &gathered.rules, tables)?;
+    gathered.rules.describe(alloc, package)?;
     apply_streams(alloc, package, gathered.streams.as_slice())?;
     match &gathered.summary {
-        Some(properties) => apply_summary(alloc, package, properties.as_slice()),
-        None => Ok(()),
-    }
-}
-
-/// Gives a package a code page.
-fn apply_page(package: &mut Package<Memory>, page: Option<&String>) -> Result<(), Failure> {
-    match page {
-        Some(page) => Ok(package.set_database_codepage(page_of(page.as_str())?)?),
+        Some(properties) => apply_summary(alloc, package, properties),
         None => Ok(()),
     }
 }
@@ -43,46 +40,33 @@ fn apply_page(package: &mut Package<Memory>, page: Option<&String>) -> Result<()
 fn apply_tables(
     alloc: Global,
     package: &mut Package<Memory>,
-    mut tables: Vec<GivenTable>,
+    rules: &Rules,
+    tables: Vec<GivenTable>,
 ) -> Result<(), Failure> {
-    let validation = take_validation(alloc, tables.as_mut_slice())?;
-    refine(alloc, validation.as_slice(), tables.as_mut_slice())?;
     for table in tables {
-        apply_given(alloc, package, table)?;
+        let (name, content) = table.into_parts();
+        if let Err(failure) = apply_table(alloc, package, rules, name.as_str(), content) {
+            return Err(failure.at(alloc, "table", name.as_str()));
+        }
     }
-    Ok(describe(alloc, package, validation.as_slice())?)
-}
-
-/// Gives a package a table, unless it is `_Validation`.
-fn apply_given(
-    alloc: Global,
-    package: &mut Package<Memory>,
-    table: GivenTable,
-) -> Result<(), Failure> {
-    if table.name.as_str() == VALIDATION {
-        return Ok(());
-    }
-    let name = String::from_str(alloc, table.name.as_str())?;
-    match apply_table(alloc, package, name.as_str(), table.into_content()) {
-        Ok(()) => Ok(()),
-        Err(failure) => Err(failure.at(alloc, "table", name.as_str())),
-    }
+    Ok(())
 }
 
 /// Gives a package a table.
 fn apply_table(
     alloc: Global,
     package: &mut Package<Memory>,
+    rules: &Rules,
     name: &str,
     content: Content,
 ) -> Result<(), Failure> {
     let rows = match content {
         Content::Values { columns, rows } => {
-            make_table(alloc, package, name, columns.as_slice())?;
+            make_table(alloc, package, rules, name, columns.as_slice())?;
             rows
         }
         Content::Fields { names, rows } => {
-            values_of(alloc, package, name, names.as_slice(), rows.as_slice())?
+            values_of(alloc, package, rules, name, &names, rows.as_slice())?
         }
     };
     insert(alloc, package, name, rows)
@@ -92,21 +76,30 @@ fn apply_table(
 fn make_table(
     alloc: Global,
     package: &mut Package<Memory>,
+    rules: &Rules,
     name: &str,
     columns: &[Described],
 ) -> Result<(), Failure> {
     if let Some(table) = package.get_table(name) {
         return check_columns(table.columns(), columns);
     }
-    let columns = built(alloc, columns)?;
+    let columns = built(alloc, rules, name, columns, columns_of(package, VALIDATION))?;
     Ok(package.create_table(name, columns)?)
 }
 
-/// The columns of descriptions.
-fn built(alloc: Global, columns: &[Described]) -> Result<Vec<Column>, Error> {
+/// The columns of descriptions, limited by rules, or else by the descriptions themselves.
+fn built(
+    alloc: Global,
+    rules: &Rules,
+    table: &str,
+    columns: &[Described],
+    validation: &[Column],
+) -> Result<Vec<Column>, Error> {
     let mut all = Vec::with_capacity(alloc, columns.len())?;
     for column in columns {
-        all.push(column.build(alloc)?)?;
+        let limits = rules.limits_of(alloc, table, column.name.as_str())?;
+        let limits = limits.unwrap_or(column.limits.as_slice());
+        all.push(column.build(alloc, Limits::new(limits, validation))?)?;
     }
     Ok(all)
 }
@@ -115,25 +108,24 @@ fn built(alloc: Global, columns: &[Described]) -> Result<Vec<Column>, Error> {
 fn values_of(
     alloc: Global,
     package: &mut Package<Memory>,
+    rules: &Rules,
     name: &str,
-    names: &[String],
-    rows: &[Vec<String>],
+    names: &StringRecord,
+    rows: &[StringRecord],
 ) -> Result<Vec<Vec<Value>>, Failure> {
     if !package.has_table(name) {
         let columns = described(alloc, names, rows)?;
-        make_table(alloc, package, name, columns.as_slice())?;
+        make_table(alloc, package, rules, name, columns.as_slice())?;
     }
-    let columns = columns_of(package, name);
-    check_names(alloc, name, columns, names)?;
-    values_of_rows(alloc, name, columns, names, rows)
+    values_of_rows(alloc, name, columns_of(package, name), names, rows)
 }
 
 /// The columns of a table.
 fn columns_of<'a>(package: &'a Package<Memory>, name: &str) -> &'a [Column] {
-    package
-        .get_table(name)
-        .map(|table| table.columns())
-        .unwrap_or(&[])
+    match package.get_table(name) {
+        Some(table) => table.columns(),
+        None => &[],
+    }
 }
 
 /// Inserts rows into a table.
@@ -156,9 +148,8 @@ fn apply_streams(
 ) -> Result<(), Failure> {
     for stream in streams {
         let name = stream.name.as_str();
-        match fill_stream(package, name, stream.bytes.as_slice()) {
-            Ok(()) => {}
-            Err(failure) => return Err(failure.at(alloc, "stream", name)),
+        if let Err(failure) = fill_stream(package, name, stream.bytes.as_slice()) {
+            return Err(failure.at(alloc, "stream", name));
         }
     }
     Ok(())

@@ -1,23 +1,24 @@
 //! What text archives give.
 
-use crate::archive_texts::decoded;
+use crate::archive_errors::failure_of;
+use crate::archive_streams::{StreamFile, listed_files, read_files, take_files};
 use crate::described::Described;
-use crate::gathered::{Content, Gathered};
-use crate::paths::{is_file_name, without_ending};
-use msi::{ColumnType, Items, Value};
+use crate::gathered::Gathered;
+use crate::summary::name_of;
+use msi::{CodePage, Value};
 use msi_text_archive::{Archive, ArchiveColumn, read};
-use msipkg_export::failure_of;
-use msipkg_output::{Failure, path_in, push_key};
+use msipkg_output::Failure;
 use std::alloc::{AllocError, Global};
-use std::fs;
+use std::collections::BTreeMap;
 use std::io::Read;
 use std::rt::Files;
+use std::str;
 
 /// Adds what the text archive of a file gives, and the files of its streams.
 ///
 /// # Errors
 /// Fails if the bytes are none, at their line and field, if the file of a stream can't be read or doesn't lie in the
-/// folder of the archive, and if memory is refused.
+/// folder of the archive's streams, and if memory is refused.
 pub(crate) fn gather_archive<R>(
     rt: &R,
     path: &str,
@@ -28,116 +29,114 @@ where
     R: Files + AllocGlobal,
     R::File: Read + Drop,
 {
+    let mut files = Vec::new(rt.alloc());
     let archive = archive_in(rt.alloc(), path, bytes)?;
-    match archive.table() {
-        "_ForceCodepage" => Ok(gather_page(rt.alloc(), &archive, gathered)?),
-        "_SummaryInformation" => gather_summary(rt.alloc(), &archive, gathered),
-        "_Streams" => gather_streams(rt, without_ending(path), &archive, gathered),
-        _ => gather_table(rt, without_ending(path), archive, gathered),
-    }
+    gather(rt.alloc(), archive, &mut files, gathered)?;
+    read_files(rt, path, files.as_slice(), gathered)
 }
 
 /// The archive that a file's bytes mean.
 fn archive_in(alloc: Global, path: &str, bytes: &[u8]) -> Result<Archive, Failure> {
-    let text = decoded(alloc, bytes)?;
+    let text = text_in(alloc, bytes)?;
     match read(alloc, text.as_str()) {
         Ok(archive) => Ok(archive),
         Err(error) => Err(failure_of(alloc, "file", path, &error)),
     }
 }
 
-/// Adds the code page.
-fn gather_page(
+/// The text of a file's bytes, in the code page that its third line names, or else in UTF-8, of which ASCII is a part.
+fn text_in(alloc: Global, bytes: &[u8]) -> Result<String, Failure> {
+    let page = match page_number(bytes) {
+        Some(number) => page_of(number)?,
+        None => CodePage::Utf8,
+    };
+    Ok(page.decode(alloc, bytes)?)
+}
+
+/// The number in front of the third line.
+fn page_number(bytes: &[u8]) -> Option<u16> {
+    let line = bytes.split(|byte| *byte == b'\n').nth(2)?;
+    let field = line.split(|byte| *byte == b'\t').next()?;
+    str::from_utf8(field).ok()?.parse::<u16>().ok()
+}
+
+/// The code page of a number.
+fn page_of(number: u16) -> Result<CodePage, Failure> {
+    match CodePage::from_id(i32::from(number)) {
+        Some(page) => Ok(page),
+        None => Err(Failure::rule("its third line names a code page that isn't known")),
+    }
+}
+
+/// Adds what an archive gives, and notes the files of its streams.
+fn gather(
     alloc: Global,
-    archive: &Archive,
+    archive: Archive,
+    files: &mut Vec<StreamFile>,
     gathered: &mut Gathered,
-) -> Result<(), AllocError> {
-    if let Some(page) = archive.page() {
-        gathered.page = Some(page.to_string(alloc)?);
+) -> Result<(), Failure> {
+    match archive.table() {
+        "_ForceCodepage" => gather_page(&archive, gathered),
+        "_SummaryInformation" => gather_summary(alloc, &archive, gathered),
+        "_Streams" => listed_files(alloc, archive.rows(), files),
+        _ => gather_table(alloc, archive, files, gathered),
+    }
+}
+
+/// Adds the code page.
+fn gather_page(archive: &Archive, gathered: &mut Gathered) -> Result<(), Failure> {
+    if let Some(number) = archive.page() {
+        gathered.page = Some(page_of(number)?);
     }
     Ok(())
 }
 
-/// Adds the summary.
+/// Adds the summary. A property that no call of the library sets, as a thumbnail, is passed over.
 fn gather_summary(
     alloc: Global,
     archive: &Archive,
     gathered: &mut Gathered,
 ) -> Result<(), Failure> {
-    let mut properties = Vec::new(alloc);
+    let mut properties = BTreeMap::new(alloc);
     for row in archive.rows() {
-        let [Value::Int(id), value] = row.as_slice() else {
+        let Some((id, text)) = property_of(row.as_slice()) else {
             return Err(Failure::rule("its rows have to be numbers and texts"));
         };
-        let text = String::from_str(alloc, value.as_str().unwrap_or(""))?;
-        properties.push((*id, text))?;
+        if let Some(name) = name_of(id) {
+            properties.insert(
+                String::from_str(alloc, name)?,
+                String::from_str(alloc, text)?,
+            )?;
+        }
     }
     gathered.summary = Some(properties);
     Ok(())
 }
 
-/// Adds streams.
-fn gather_streams<R>(
-    rt: &R,
-    folder: &str,
-    archive: &Archive,
-    gathered: &mut Gathered,
-) -> Result<(), Failure>
-where
-    R: Files + AllocGlobal,
-    R::File: Read + Drop,
-{
-    for row in archive.rows() {
-        let [Value::Str(name), Value::Str(file)] = row.as_slice() else {
-            return Err(Failure::rule("its rows have to be names of streams and of files"));
-        };
-        let bytes = stream_bytes(rt, folder, file.as_str())?;
-        gathered.add_stream(rt.alloc(), name.as_str(), bytes)?;
-    }
-    Ok(())
-}
-
-/// The bytes of a stream's file.
-fn stream_bytes<R>(rt: &R, folder: &str, file: &str) -> Result<Vec<u8>, Failure>
-where
-    R: Files + AllocGlobal,
-    R::File: Read + Drop,
-{
-    if !is_file_name(file) {
-        let what = Failure::rule("the file of its stream isn't in the folder of the archive");
-        return Err(what.at(rt.alloc(), "file", file));
-    }
-    let path = path_in(rt.alloc(), folder, file)?;
-    match fs::read(rt, path.as_str()) {
-        Ok(bytes) => Ok(bytes),
-        Err(error) => Err(Failure::from(error).at(rt.alloc(), "file", path.as_str())),
+/// The number and the text of a property. Null is the empty text.
+fn property_of(row: &[Value]) -> Option<(i32, &str)> {
+    match row {
+        [Value::Int(id), Value::Str(text)] => Some((*id, text.as_str())),
+        [Value::Int(id), Value::Null] => Some((*id, "")),
+        _ => None,
     }
 }
 
 /// Adds a table.
-fn gather_table<R>(
-    rt: &R,
-    folder: &str,
+fn gather_table(
+    alloc: Global,
     archive: Archive,
+    files: &mut Vec<StreamFile>,
     gathered: &mut Gathered,
-) -> Result<(), Failure>
-where
-    R: Files + AllocGlobal,
-    R::File: Read + Drop,
-{
-    let name = String::from_str(rt.alloc(), archive.table())?;
-    let columns = described_columns(rt.alloc(), &archive)?;
+) -> Result<(), Failure> {
+    let name = String::from_str(alloc, archive.table())?;
+    let columns = described_columns(alloc, &archive)?;
+    if !are_keys(&archive) {
+        return Err(Failure::rule("its third line names a key that is no column"));
+    }
     let rows = archive.into_rows();
-    let rows = rows_of(
-        rt,
-        folder,
-        name.as_str(),
-        columns.as_slice(),
-        rows,
-        gathered,
-    )?;
-    let content = Content::Values { columns, rows };
-    Ok(gathered.add_table(rt.alloc(), name.as_str(), content)?)
+    let rows = take_files(alloc, name.as_str(), columns.as_slice(), rows, files)?;
+    gathered.add_values(alloc, name.as_str(), columns, rows)
 }
 
 /// The columns that an archive describes.
@@ -155,76 +154,18 @@ fn described_column(
     archive: &Archive,
     column: &ArchiveColumn,
 ) -> Result<Described, AllocError> {
-    let name = column.name();
-    let mut described = Described::new(alloc, name, column.coltype())?;
+    let mut described = Described::new(alloc, column.name(), column.coltype())?;
     described.is_localizable = column.is_localizable();
     described.is_nullable = column.is_nullable();
-    described.is_key = archive.keys().iter().any(|key| key.as_str() == name);
+    described.is_key = archive
+        .keys()
+        .iter()
+        .any(|key| key.as_str() == column.name());
     Ok(described)
 }
 
-/// The values of rows, whose streams are added.
-fn rows_of<R>(
-    rt: &R,
-    folder: &str,
-    table: &str,
-    columns: &[Described],
-    rows: Items<Items<Value>>,
-    gathered: &mut Gathered,
-) -> Result<Vec<Vec<Value>>, Failure>
-where
-    R: Files + AllocGlobal,
-    R::File: Read + Drop,
-{
-    let mut all = Vec::with_capacity(rt.alloc(), rows.len())?;
-    for row in rows.into_vec() {
-        let mut values = row.into_vec();
-        take_streams(rt, folder, table, columns, values.as_mut_slice(), gathered)?;
-        all.push(values)?;
-    }
-    Ok(all)
-}
-
-/// Adds the streams of a row, whose values become marks for them.
-fn take_streams<R>(
-    rt: &R,
-    folder: &str,
-    table: &str,
-    columns: &[Described],
-    row: &mut [Value],
-    gathered: &mut Gathered,
-) -> Result<(), Failure>
-where
-    R: Files + AllocGlobal,
-    R::File: Read + Drop,
-{
-    for i in 0..row.len().min(columns.len()) {
-        if !matches!(columns[i].coltype, ColumnType::Binary) {
-            continue;
-        }
-        if let Value::Str(file) = &row[i] {
-            let bytes = stream_bytes(rt, folder, file.as_str())?;
-            let name = stream_name(rt.alloc(), table, columns, row)?;
-            gathered.add_stream(rt.alloc(), name.as_str(), bytes)?;
-            row[i] = Value::Binary;
-        }
-    }
-    Ok(())
-}
-
-/// The name of a row's stream: its table and the values of its key, parted by dots.
-fn stream_name(
-    alloc: Global,
-    table: &str,
-    columns: &[Described],
-    row: &[Value],
-) -> Result<String, AllocError> {
-    let mut name = String::from_str(alloc, table)?;
-    for i in 0..row.len().min(columns.len()) {
-        if columns[i].is_key {
-            name.push('.')?;
-            push_key(&row[i], &mut name)?;
-        }
-    }
-    Ok(name)
+/// Whether each name of a key is that of a column.
+fn are_keys(archive: &Archive) -> bool {
+    let columns = archive.columns();
+    archive.keys().iter().all(|key| columns.iter().any(|column| column.name() == key.as_str()))
 }

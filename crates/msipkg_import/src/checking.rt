@@ -39,8 +39,7 @@ pub(crate) fn check_rows(
         }
         if let Some(place) = invalid_place(columns, row) {
             let column = columns.get(place).map(|column| column.name());
-            let what = Failure::rule("the column doesn't take this value");
-            return Err(at_row(alloc, what, table, i, column));
+            return Err(at_row(alloc, not_taken(&row[place]), table, i, column));
         }
     }
     Ok(())
@@ -56,6 +55,15 @@ fn invalid_place(columns: &[Column], row: &[Value]) -> Option<usize> {
     None
 }
 
+/// The refusal of a value.
+fn not_taken(value: &Value) -> Failure {
+    if value.is_null() {
+        Failure::rule("the column doesn't take null")
+    } else {
+        Failure::rule("the column doesn't take this value")
+    }
+}
+
 /// Returns a failure at a row of a table, counted from 1, and at a column of it.
 pub(crate) fn at_row(
     alloc: Global,
@@ -65,17 +73,20 @@ pub(crate) fn at_row(
     column: Option<&str>,
 ) -> Failure {
     let place = row_text(alloc, table, row.saturating_add(1), column);
-    at_table(alloc, failure, place)
+    at_place(alloc, failure, place)
 }
 
-/// Returns the failure of a rule at a column of a table.
-pub(crate) fn at_column(alloc: Global, rule: &'static str, table: &str, column: &str) -> Failure {
-    let place = format!(in alloc; "{table}: column {column}");
-    at_table(alloc, Failure::rule(rule), place)
+/// Returns a failure at a column of a table.
+pub(crate) fn at_column(alloc: Global, failure: Failure, table: &str, column: &str) -> Failure {
+    at_place(
+        alloc,
+        failure,
+        format!(in alloc; "{table}: column {column}"),
+    )
 }
 
 /// A failure at a place in a table, if there was memory for its text.
-fn at_table(alloc: Global, failure: Failure, place: Result<String, AllocError>) -> Failure {
+fn at_place(alloc: Global, failure: Failure, place: Result<String, AllocError>) -> Failure {
     match place {
         Ok(place) => failure.at(alloc, "table", place.as_str()),
         Err(_) => failure,

@@ -3,9 +3,9 @@
 use crate::gathered::{Content, Gathered};
 use csv::{ReaderBuilder, StringRecord};
 use msipkg_output::Failure;
-use std::alloc::{AllocError, Global};
+use std::alloc::Global;
 
-/// Adds the table of a text: the names of the columns, and then a line for each row.
+/// Adds the table of a text: a line with the names of columns, and then a line for each row.
 ///
 /// # Errors
 /// Fails if a line can't be read or hasn't as many fields as the first, and if memory is refused.
@@ -20,31 +20,22 @@ pub(crate) fn gather_csv(
         return Err(Failure::rule("its first line names no columns"));
     }
     let rows = records.split_off(1)?;
-    let names = records.pop().unwrap_or(Vec::new(alloc));
+    let names = records.pop().unwrap_or(StringRecord::new(alloc));
     Ok(gathered.add_table(alloc, table, Content::Fields { names, rows })?)
 }
 
 /// The records of a text.
-fn records_of(alloc: Global, bytes: &[u8]) -> Result<Vec<Vec<String>>, Failure> {
+fn records_of(alloc: Global, bytes: &[u8]) -> Result<Vec<StringRecord>, Failure> {
     let mut reader = ReaderBuilder::new()
         .has_headers(false)
         .from_reader(alloc, bytes);
-    let mut record = StringRecord::new(alloc);
     let mut records = Vec::new(alloc);
     for _ in 0..u64::MAX {
+        let mut record = StringRecord::new(alloc);
         if !reader.read_record(&mut record)? {
             break;
         }
-        records.push(fields_of(alloc, &record)?)?;
+        records.push(record)?;
     }
     Ok(records)
-}
-
-/// The fields of a record.
-fn fields_of(alloc: Global, record: &StringRecord) -> Result<Vec<String>, AllocError> {
-    let mut fields = Vec::new(alloc);
-    for field in record.iter() {
-        fields.push(String::from_str(alloc, field)?)?;
-    }
-    Ok(fields)
 }

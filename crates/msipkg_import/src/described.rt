@@ -1,6 +1,7 @@
 //! Descriptions of columns, from which columns are built.
 
-use msi::{Category, Column, ColumnBuilder, ColumnType, Error};
+use crate::limits::Limits;
+use msi::{Column, ColumnBuilder, ColumnType, Error, Value};
 use std::alloc::{AllocError, Global};
 
 /// What is said of a column.
@@ -10,12 +11,8 @@ pub(crate) struct Described {
     pub(crate) is_localizable: bool,
     pub(crate) is_nullable: bool,
     pub(crate) is_key: bool,
-    pub(crate) category: Option<Category>,
-    pub(crate) min: Option<i32>,
-    pub(crate) max: Option<i32>,
-    pub(crate) key_table: Option<String>,
-    pub(crate) key_column: i32,
-    pub(crate) values: Vec<String>,
+    /// What its values are limited to, as in a row of `_Validation`; empty where nothing is said of that.
+    pub(crate) limits: Vec<Value>,
 }
 
 /// Written out, so that a function that owns one calls one drop, and its proof doesn't go through those of the parts.
@@ -27,12 +24,7 @@ impl Drop for Described {
             is_localizable: _,
             is_nullable: _,
             is_key: _,
-            category: _,
-            min: _,
-            max: _,
-            key_table: _,
-            key_column: _,
-            values: _,
+            limits: _,
         } = self;
     }
 }
@@ -54,12 +46,7 @@ impl Described {
             is_localizable: false,
             is_nullable: false,
             is_key: false,
-            category: None,
-            min: None,
-            max: None,
-            key_table: None,
-            key_column: 1,
-            values: Vec::new(alloc),
+            limits: Vec::new(alloc),
         })
     }
 
@@ -74,12 +61,13 @@ impl Described {
         true
     }
 
-    /// Returns the column.
+    /// Returns the column, with limits.
     ///
     /// # Errors
     /// Fails with `OutOfMemory`.
-    pub(crate) fn build(&self, alloc: Global) -> Result<Column, Error> {
-        let builder = self.limited(alloc, self.flagged(alloc)?)?;
+    pub(crate) fn build(&self, alloc: Global, limits: Limits<'_>) -> Result<Column, Error> {
+        let builder = Column::build(alloc, self.name.as_str())?;
+        let builder = limits.put(alloc, self.put_flags(builder))?;
         Ok(match self.coltype {
             ColumnType::Int16 => builder.int16(),
             ColumnType::Int32 => builder.int32(),
@@ -88,9 +76,8 @@ impl Described {
         })
     }
 
-    /// A builder with the flags, the category and the range.
-    fn flagged(&self, alloc: Global) -> Result<ColumnBuilder, Error> {
-        let mut builder = Column::build(alloc, self.name.as_str())?;
+    /// Says of a column whether it is of the key, takes null, and can be localized.
+    fn put_flags(&self, mut builder: ColumnBuilder) -> ColumnBuilder {
         if self.is_key {
             builder = builder.primary_key();
         }
@@ -100,26 +87,7 @@ impl Described {
         if self.is_localizable {
             builder = builder.localizable();
         }
-        if let Some(category) = self.category {
-            builder = builder.category(category);
-        }
-        Ok(match (self.min, self.max) {
-            (Some(min), Some(max)) => builder.range(min, max),
-            _ => builder,
-        })
-    }
-
-    /// The builder with the column that is referred to and the texts that are taken.
-    fn limited(&self, alloc: Global, builder: ColumnBuilder) -> Result<ColumnBuilder, Error> {
-        let builder = match &self.key_table {
-            Some(table) => builder.foreign_key(table.as_str(), self.key_column)?,
-            None => builder,
-        };
-        if self.values.is_empty() {
-            return Ok(builder);
-        }
-        let texts = borrowed(alloc, self.values.as_slice())?;
-        builder.enum_values(texts.as_slice())
+        builder
     }
 }
 
@@ -135,13 +103,4 @@ fn type_in(text: &str) -> Option<(u8, ColumnType)> {
         _ => return None,
     };
     Some((letter, coltype))
-}
-
-/// Texts where they lie.
-fn borrowed<'a>(alloc: Global, texts: &'a [String]) -> Result<Vec<&'a str>, AllocError> {
-    let mut all = Vec::with_capacity(alloc, texts.len())?;
-    for text in texts {
-        all.push(text.as_str())?;
-    }
-    Ok(all)
 }

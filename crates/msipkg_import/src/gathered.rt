@@ -1,11 +1,15 @@
 //! What files give, before a package takes it.
 
 use crate::described::Described;
-use msi::Value;
+use crate::validation::{Rules, VALIDATION};
+use csv::StringRecord;
+use msi::{CodePage, Value};
+use msipkg_output::Failure;
 use std::alloc::{AllocError, Global};
+use std::collections::BTreeMap;
 use std::mem;
 
-/// The rows of a table.
+/// The columns and the rows of a table.
 #[derive(Drop)]
 pub(crate) enum Content {
     /// Values of described columns.
@@ -15,15 +19,15 @@ pub(crate) enum Content {
     },
     /// The names of columns, and fields whose types the package's table says.
     Fields {
-        names: Vec<String>,
-        rows: Vec<Vec<String>>,
+        names: StringRecord,
+        rows: Vec<StringRecord>,
     },
 }
 
 /// A table.
 pub(crate) struct GivenTable {
-    pub(crate) name: String,
-    pub(crate) content: Content,
+    name: String,
+    content: Content,
 }
 
 /// Written out, so that a function that owns one calls one drop, and its proof doesn't go through those of the parts.
@@ -37,10 +41,10 @@ impl Drop for GivenTable {
 }
 
 impl GivenTable {
-    /// Returns the rows.
-    pub(crate) fn into_content(self) -> Content {
-        let GivenTable { name: _, content } = self;
-        content
+    /// Returns the name, and the columns and rows.
+    pub(crate) fn into_parts(self) -> (String, Content) {
+        let GivenTable { name, content } = self;
+        (name, content)
     }
 }
 
@@ -59,11 +63,13 @@ impl Drop for GivenStream {
 
 /// What files give.
 pub(crate) struct Gathered {
-    /// The number of the database's code page, if it is given.
-    pub(crate) page: Option<String>,
-    /// The properties of the summary by their numbers, if they are given.
-    pub(crate) summary: Option<Vec<(i32, String)>>,
-    pub(crate) tables: Vec<GivenTable>,
+    /// The code page of the database.
+    pub(crate) page: Option<CodePage>,
+    /// The texts of the summary's properties, by their names.
+    pub(crate) summary: Option<BTreeMap<String, String>>,
+    /// The tables but for `_Validation`.
+    tables: Vec<GivenTable>,
+    pub(crate) rules: Rules,
     pub(crate) streams: Vec<GivenStream>,
 }
 
@@ -74,6 +80,7 @@ impl Drop for Gathered {
             page: _,
             summary: _,
             tables: _,
+            rules: _,
             streams: _,
         } = self;
     }
@@ -86,6 +93,7 @@ impl Gathered {
             page: None,
             summary: None,
             tables: Vec::new(alloc),
+            rules: Rules::new(alloc),
             streams: Vec::new(alloc),
         }
     }
@@ -93,6 +101,23 @@ impl Gathered {
     /// Takes the tables out.
     pub(crate) fn take_tables(&mut self, alloc: Global) -> Vec<GivenTable> {
         mem::replace(&mut self.tables, Vec::new(alloc))
+    }
+
+    /// Adds a table of values. Rows of `_Validation` stand apart.
+    ///
+    /// # Errors
+    /// Fails if these rows aren't such ones, and if memory is refused.
+    pub(crate) fn add_values(
+        &mut self,
+        alloc: Global,
+        name: &str,
+        columns: Vec<Described>,
+        rows: Vec<Vec<Value>>,
+    ) -> Result<(), Failure> {
+        if name == VALIDATION {
+            return self.rules.add(alloc, columns.as_slice(), rows);
+        }
+        Ok(self.add_table(alloc, name, Content::Values { columns, rows })?)
     }
 
     /// Adds a table.

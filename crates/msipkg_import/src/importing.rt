@@ -5,11 +5,11 @@ use crate::archives::gather_archive;
 use crate::csv_files::gather_csv;
 use crate::gathered::Gathered;
 use crate::json_files::gather_json;
-use crate::paths::{ending_of, stem_of};
-use msipkg_changes::{load, store};
+use msipkg_changes::{load, noted, store};
 use msipkg_output::{Failure, PackageFile, at_file};
 use std::fs::{self, OpenFile};
 use std::io::{Read, Write};
+use std::path::Path;
 use std::rt::Files;
 
 /// Gives a package what files have: `.idt` text archives, `.json` packages that `export` wrote, and `.csv` rows of the
@@ -29,9 +29,11 @@ where
     R::File: OpenFile + Read + Write + Drop,
     N: Write,
 {
-    let gathered = gather_files(rt, paths)?;
+    let mut gathered = gather_files(rt, paths)?;
     let mut package = load(rt, file, notes)?;
-    apply(rt.alloc(), &mut package, gathered)?;
+    if let Err(failure) = apply(rt.alloc(), &mut package, &mut gathered) {
+        return Err(noted(&mut package, failure));
+    }
     store(rt, file.path, package, notes)
 }
 
@@ -49,24 +51,23 @@ where
     Ok(gathered)
 }
 
-/// Adds what a file gives.
+/// Adds what a file gives, whose ending says what it has.
 fn gather_file<R>(rt: &R, path: &str, gathered: &mut Gathered) -> Result<(), Failure>
 where
     R: Files + AllocGlobal,
     R::File: Read + Drop,
 {
-    let ending = ending_of(path);
-    let is_archive = ending.eq_ignore_ascii_case("idt");
-    let is_json = ending.eq_ignore_ascii_case("json");
-    if !is_archive && !is_json && !ending.eq_ignore_ascii_case("csv") {
-        return Err(Failure::rule("its name has to end in .idt, .csv or .json"));
-    }
     let bytes = fs::read(rt, path)?;
-    if is_archive {
+    let name = Path::new(path);
+    let ending = name.extension().unwrap_or("");
+    if ending.eq_ignore_ascii_case("idt") {
         gather_archive(rt, path, bytes.as_slice(), gathered)
-    } else if is_json {
-        gather_json(rt.alloc(), bytes.as_slice(), gathered)
+    } else if ending.eq_ignore_ascii_case("json") {
+        gather_json(rt.alloc(), path, bytes.as_slice(), gathered)
+    } else if ending.eq_ignore_ascii_case("csv") {
+        let table = name.file_stem().unwrap_or("");
+        gather_csv(rt.alloc(), table, bytes.as_slice(), gathered)
     } else {
-        gather_csv(rt.alloc(), stem_of(path), bytes.as_slice(), gathered)
+        Err(Failure::rule("its name has to end in .idt, .json or .csv"))
     }
 }

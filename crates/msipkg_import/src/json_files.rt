@@ -1,12 +1,13 @@
 //! Packages from JSON.
 
-use crate::gathered::{Content, Gathered};
-use crate::json_parts::{columns_of, list_of, rows_of, text_of};
+use crate::gathered::Gathered;
+use crate::json_package::{JsonPackage, JsonStream, JsonTable};
+use crate::json_parts::{columns_of, rows_of};
 use base64::engine::general_purpose::STANDARD;
-use msipkg_output::{Failure, PROPERTIES};
-use serde_json::Value as Json;
-use std::alloc::Global;
-use std::str;
+use msi::CodePage;
+use msipkg_output::Failure;
+use serde_json::Category;
+use std::alloc::{AllocError, Global};
 
 /// Adds what a text gives that is a package as JSON.
 ///
@@ -14,78 +15,90 @@ use std::str;
 /// Fails if the text is none, and if memory is refused.
 pub(crate) fn gather_json(
     alloc: Global,
+    path: &str,
     bytes: &[u8],
     gathered: &mut Gathered,
 ) -> Result<(), Failure> {
-    let Ok(text) = str::from_utf8(bytes) else {
-        return Err(Failure::rule("it is no UTF-8"));
-    };
-    let Ok(package) = Json::from_str(alloc, text) else {
-        return Err(Failure::rule("it is no JSON of one package"));
-    };
-    gather_page(alloc, &package, gathered)?;
-    gather_summary(alloc, &package, gathered)?;
-    gather_tables(alloc, list_of(&package, "tables"), gathered)?;
-    gather_streams(alloc, list_of(&package, "streams"), gathered)
-}
-
-/// Adds the code page, if it is given.
-fn gather_page(alloc: Global, package: &Json, gathered: &mut Gathered) -> Result<(), Failure> {
-    if let Some(page) = package.get("codepage") {
-        gathered.page = Some(page.to_string(alloc)?);
+    match serde_json::from_slice::<JsonPackage>(alloc, bytes) {
+        Ok(mut package) => gather_package(alloc, &mut package, gathered),
+        Err(error) => Err(failure_of(alloc, path, &error)),
     }
-    Ok(())
 }
 
-/// Adds the summary, if it is given.
-fn gather_summary(alloc: Global, package: &Json, gathered: &mut Gathered) -> Result<(), Failure> {
-    let Some(summary) = package.get("summary") else {
+/// The failure of an error of JSON, at its line and column.
+fn failure_of(alloc: Global, path: &str, error: &serde_json::Error) -> Failure {
+    let failure = match error.classify() {
+        Category::Memory => Failure::from(AllocError),
+        Category::Data => Failure::rule("it isn't a package as export writes one"),
+        _ => Failure::rule("it isn't one value of JSON"),
+    };
+    let (line, column) = (error.line(), error.column());
+    match format!(in alloc; "{path}: line {line}, column {column}") {
+        Ok(place) => failure.at(alloc, "file", place.as_str()),
+        Err(_) => failure,
+    }
+}
+
+/// Adds what a package gives.
+fn gather_package(
+    alloc: Global,
+    package: &mut JsonPackage,
+    gathered: &mut Gathered,
+) -> Result<(), Failure> {
+    gather_whole(package, gathered)?;
+    gather_tables(alloc, package.tables.as_slice(), gathered)?;
+    gather_streams(alloc, package.streams.as_slice(), gathered)
+}
+
+/// Adds the summary and the code page of a whole package. That of some of its tables is left alone.
+fn gather_whole(package: &mut JsonPackage, gathered: &mut Gathered) -> Result<(), Failure> {
+    let Some(summary) = package.summary.take() else {
         return Ok(());
     };
-    let mut properties = Vec::new(alloc);
-    for (id, name) in &PROPERTIES {
-        if let Some(text) = property_of(summary, name) {
-            properties.push((*id, String::from_str(alloc, text)?))?;
-        }
+    gathered.summary = Some(summary);
+    if let Some(number) = package.codepage {
+        let Some(page) = CodePage::from_id(number) else {
+            return Err(Failure::rule("there is no code page of its number"));
+        };
+        gathered.page = Some(page);
     }
-    gathered.summary = Some(properties);
     Ok(())
-}
-
-/// The text of a property, if it is given.
-fn property_of<'a>(summary: &'a Json, name: &str) -> Option<&'a str> {
-    summary.get(name)?.as_str()
 }
 
 /// Adds tables.
-fn gather_tables(alloc: Global, tables: &[Json], gathered: &mut Gathered) -> Result<(), Failure> {
+fn gather_tables(
+    alloc: Global,
+    tables: &[JsonTable],
+    gathered: &mut Gathered,
+) -> Result<(), Failure> {
     for table in tables {
-        let name = text_of(table, "table");
-        match table_of(alloc, name, table) {
-            Ok(content) => gathered.add_table(alloc, name, content)?,
-            Err(failure) => return Err(failure.at(alloc, "table", name)),
+        if let Err(failure) = gather_table(alloc, table, gathered) {
+            return Err(failure.at(alloc, "table", table.table.as_str()));
         }
     }
     Ok(())
 }
 
-/// What a table has.
-fn table_of(alloc: Global, name: &str, table: &Json) -> Result<Content, Failure> {
-    let columns = columns_of(alloc, name, list_of(table, "columns"))?;
-    let rows = rows_of(alloc, list_of(table, "rows"))?;
-    Ok(Content::Values { columns, rows })
+/// Adds a table.
+fn gather_table(alloc: Global, table: &JsonTable, gathered: &mut Gathered) -> Result<(), Failure> {
+    let name = table.table.as_str();
+    let columns = columns_of(alloc, name, table.columns.as_slice())?;
+    let rows = rows_of(alloc, name, table.rows.as_slice())?;
+    gathered.add_values(alloc, name, columns, rows)
 }
 
 /// Adds streams.
-fn gather_streams(alloc: Global, streams: &[Json], gathered: &mut Gathered) -> Result<(), Failure> {
+fn gather_streams(
+    alloc: Global,
+    streams: &[JsonStream],
+    gathered: &mut Gathered,
+) -> Result<(), Failure> {
     for stream in streams {
-        let name = text_of(stream, "stream");
-        match STANDARD.decode(alloc, text_of(stream, "base64").as_bytes()) {
-            Ok(bytes) => gathered.add_stream(alloc, name, bytes)?,
-            Err(_) => {
-                return Err(Failure::rule("its bytes are no base64").at(alloc, "stream", name));
-            }
-        }
+        let name = stream.stream.as_str();
+        let Ok(bytes) = STANDARD.decode(alloc, stream.base64.as_bytes()) else {
+            return Err(Failure::rule("its bytes are no base64").at(alloc, "stream", name));
+        };
+        gathered.add_stream(alloc, name, bytes)?;
     }
     Ok(())
 }

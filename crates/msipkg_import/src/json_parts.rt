@@ -1,114 +1,93 @@
 //! Columns and rows from JSON.
 
-use crate::checking::at_column;
+use crate::checking::{at_column, at_row};
 use crate::described::Described;
-use msi::{Category, ColumnType, Value};
+use crate::json_package::JsonColumn;
+use msi::{ColumnType, Error, Value};
 use msipkg_output::Failure;
 use serde_json::Value as Json;
 use std::alloc::{AllocError, Global};
 
-/// The text of a member, or the empty text.
-pub(crate) fn text_of<'a>(object: &'a Json, name: &str) -> &'a str {
-    match object.get(name) {
-        Some(value) => value.as_str().unwrap_or(""),
-        None => "",
-    }
-}
-
-/// The number of a member.
-fn number_of(object: &Json, name: &str) -> Option<i32> {
-    let number = object.get(name)?.as_i64()?;
-    i32::try_from(number).ok()
-}
-
-/// The list of a member, or no items.
-pub(crate) fn list_of<'a>(object: &'a Json, name: &str) -> &'a [Json] {
-    items_of(object, name).unwrap_or(&[])
-}
-
-/// The list of a member.
-fn items_of<'a>(object: &'a Json, name: &str) -> Option<&'a [Json]> {
-    Some(object.get(name)?.as_array()?.as_slice())
-}
-
 /// The columns of a table.
 ///
 /// # Errors
-/// Fails if a column isn't described.
+/// Fails at a column whose type is none, and if memory is refused.
 pub(crate) fn columns_of(
     alloc: Global,
     table: &str,
-    items: &[Json],
+    items: &[JsonColumn],
 ) -> Result<Vec<Described>, Failure> {
     let mut columns = Vec::with_capacity(alloc, items.len())?;
     for item in items {
-        columns.push(column_of(alloc, table, item)?)?;
+        let mut column = Described::new(alloc, item.column.as_str(), ColumnType::Int16)?;
+        if !column.take_type(item.coltype.as_str()) {
+            let failure = Failure::rule("its type has to be one such as s72, i2 or v0");
+            return Err(at_column(alloc, failure, table, item.column.as_str()));
+        }
+        column.is_key = item.key;
+        column.limits = limits_of(alloc, item)?;
+        columns.push(column)?;
     }
     Ok(columns)
 }
 
-/// A column.
-fn column_of(alloc: Global, table: &str, item: &Json) -> Result<Described, Failure> {
-    let name = text_of(item, "column");
-    let mut described = Described::new(alloc, name, ColumnType::Int16)?;
-    if !described.take_type(text_of(item, "type")) {
-        let rule = "its type has to be one such as s72, i2 or v0";
-        return Err(at_column(alloc, rule, table, name));
-    }
-    take_limits(alloc, item, &mut described)?;
-    Ok(described)
+/// What a column's values are limited to, as a row of `_Validation` has it.
+fn limits_of(alloc: Global, item: &JsonColumn) -> Result<Vec<Value>, Error> {
+    let table = text_value(alloc, item.key_table.as_ref())?;
+    let category = text_value(alloc, item.category.as_ref())?;
+    let set = match &item.values {
+        Some(texts) => Some(joined(alloc, texts.as_slice())?),
+        None => None,
+    };
+    let set = text_value(alloc, set.as_ref())?;
+    let (min, max) = (number_value(item.min), number_value(item.max));
+    let column = number_value(item.key_column);
+    Ok(vec![in alloc; min, max, table, column, category, set]?)
 }
 
-/// Takes what a column's values are limited to.
-fn take_limits(alloc: Global, item: &Json, described: &mut Described) -> Result<(), AllocError> {
-    described.is_key = is_true(item, "key");
-    described.category = text_of(item, "category").parse::<Category>().ok();
-    described.min = number_of(item, "min");
-    described.max = number_of(item, "max");
-    described.key_table = key_table_of(alloc, item)?;
-    described.key_column = number_of(item, "key_column").unwrap_or(1);
-    described.values = texts_of(alloc, list_of(item, "values"))?;
-    Ok(())
-}
-
-/// Whether a member is true.
-fn is_true(object: &Json, name: &str) -> bool {
-    match object.get(name) {
-        Some(value) => value.as_bool() == Some(true),
-        None => false,
+/// A number, or null.
+fn number_value(number: Option<i32>) -> Value {
+    match number {
+        Some(number) => Value::Int(number),
+        None => Value::Null,
     }
 }
 
-/// The table that a column refers to.
-fn key_table_of(alloc: Global, item: &Json) -> Result<Option<String>, AllocError> {
-    match text_of(item, "key_table") {
-        "" => Ok(None),
-        table => Ok(Some(String::from_str(alloc, table)?)),
+/// A text, or null.
+fn text_value(alloc: Global, text: Option<&String>) -> Result<Value, Error> {
+    match text {
+        Some(text) => Value::from_text(alloc, text.as_str()),
+        None => Ok(Value::Null),
     }
 }
 
-/// The texts among items.
-fn texts_of(alloc: Global, items: &[Json]) -> Result<Vec<String>, AllocError> {
-    let mut texts = Vec::new(alloc);
-    for item in items {
-        if let Some(text) = item.as_str() {
-            texts.push(String::from_str(alloc, text)?)?;
-        }
+/// Texts with `;` between each two.
+fn joined(alloc: Global, texts: &[String]) -> Result<String, AllocError> {
+    let mut all = String::new(alloc);
+    let mut before = "";
+    for text in texts {
+        all.push_str(before)?;
+        all.push_str(text.as_str())?;
+        before = ";";
     }
-    Ok(texts)
+    Ok(all)
 }
 
 /// The rows of a table.
 ///
 /// # Errors
-/// Fails if a row is no list, or if one of its values is none of a row.
-pub(crate) fn rows_of(alloc: Global, items: &[Json]) -> Result<Vec<Vec<Value>>, Failure> {
+/// Fails at a row that has what is no value of one, and if memory is refused.
+pub(crate) fn rows_of(
+    alloc: Global,
+    table: &str,
+    items: &[Vec<Json>],
+) -> Result<Vec<Vec<Value>>, Failure> {
     let mut rows = Vec::with_capacity(alloc, items.len())?;
-    for item in items {
-        let Some(values) = item.as_array() else {
-            return Err(Failure::rule("a row has to be a list of values"));
-        };
-        rows.push(values_of(alloc, values.as_slice())?)?;
+    for i in 0..items.len() {
+        match values_of(alloc, items[i].as_slice()) {
+            Ok(values) => rows.push(values)?,
+            Err(failure) => return Err(at_row(alloc, failure, table, i, None)),
+        }
     }
     Ok(rows)
 }
@@ -124,30 +103,24 @@ fn values_of(alloc: Global, items: &[Json]) -> Result<Vec<Value>, Failure> {
 
 /// A value.
 fn value_of(alloc: Global, item: &Json) -> Result<Value, Failure> {
-    if item.is_null() {
-        return Ok(Value::Null);
-    }
-    if item.as_bool() == Some(true) {
-        return Ok(Value::Binary);
-    }
     if let Some(text) = item.as_str() {
         return Ok(Value::from_text(alloc, text)?);
     }
-    match item.as_i64() {
-        Some(number) => int_of(number),
-        None => Err(no_value()),
+    match plain_value(item) {
+        Some(value) => Ok(value),
+        None => Err(Failure::rule(
+            "a value has to be null, a text, a number of 32 bits, or true for a stream",
+        )),
     }
 }
 
-/// A number as a value.
-fn int_of(number: i64) -> Result<Value, Failure> {
-    match i32::try_from(number) {
-        Ok(number) => Ok(Value::Int(number)),
-        Err(_) => Err(no_value()),
+/// A value that is no text.
+fn plain_value(item: &Json) -> Option<Value> {
+    if item.is_null() {
+        return Some(Value::Null);
     }
-}
-
-/// The refusal of what is no value of a row.
-fn no_value() -> Failure {
-    Failure::rule("a value has to be null, a text, a number of 32 bits, or true for a stream")
+    if item.as_bool() == Some(true) {
+        return Some(Value::Binary);
+    }
+    Some(Value::Int(i32::try_from(item.as_i64()?).ok()?))
 }

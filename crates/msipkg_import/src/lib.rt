@@ -3,7 +3,8 @@
 #![tactic(auto)]
 
 mod applying;
-mod archive_texts;
+mod archive_errors;
+mod archive_streams;
 mod archives;
 mod checking;
 mod csv_files;
@@ -12,8 +13,9 @@ mod fields;
 mod gathered;
 pub mod importing;
 mod json_files;
+mod json_package;
 mod json_parts;
-mod paths;
+mod limits;
 mod summary;
 mod validation;
 

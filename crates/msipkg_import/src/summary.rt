@@ -1,9 +1,20 @@
 //! Giving a package a summary.
 
-use msi::{Memory, Package, SummaryInfo};
+use msi::{Error, Memory, Package, SummaryInfo};
 use msipkg_changes::{clear_property, set_property};
-use msipkg_output::{Failure, PROPERTIES, property_text};
+use msipkg_output::{Failure, PROPERTIES};
 use std::alloc::{AllocError, Global};
+use std::collections::BTreeMap;
+
+/// Returns the name of the property of a number. None has one that no call of the library sets, as a thumbnail.
+pub(crate) fn name_of(id: i32) -> Option<&'static str> {
+    for (known, name) in &PROPERTIES {
+        if *known == id {
+            return Some(*name);
+        }
+    }
+    None
+}
 
 /// Gives a package a summary, of which nothing of the old one stays but the code page, where none is given.
 ///
@@ -12,72 +23,53 @@ use std::alloc::{AllocError, Global};
 pub(crate) fn apply_summary(
     alloc: Global,
     package: &mut Package<Memory>,
-    given: &[(i32, String)],
+    given: &BTreeMap<String, String>,
 ) -> Result<(), Failure> {
     let summary = package.summary_info_mut()?;
-    for (id, name) in &PROPERTIES {
-        if property_text(alloc, summary, *id)?.is_some() {
-            clear(summary, *id, name)?;
+    clear_all(summary)?;
+    for (name, text) in given.iter() {
+        if let Err(failure) = set(alloc, summary, name.as_str(), text.as_str()) {
+            return Err(failure.at(alloc, "summary property", name.as_str()));
         }
-    }
-    for (id, text) in given {
-        set(alloc, summary, *id, text.as_str())?;
     }
     Ok(())
 }
 
-/// Clears a property that is there, but for the code page, which each summary has.
-fn clear(summary: &mut SummaryInfo, id: i32, name: &str) -> Result<(), Failure> {
-    match id {
-        1 => Ok(()),
-        7 => {
-            clear_property(summary, "arch")?;
-            clear_property(summary, "languages")
+/// Clears all properties but the code page, which each summary has.
+fn clear_all(summary: &mut SummaryInfo) -> Result<(), Failure> {
+    for (_, name) in &PROPERTIES {
+        match *name {
+            "codepage" => {}
+            "template" => clear_template(summary)?,
+            name => clear_property(summary, name)?,
         }
-        _ => clear_property(summary, name),
     }
+    Ok(())
 }
 
-/// Sets the property of a number. One that no call of the library sets, as a thumbnail, is passed over.
-fn set(alloc: Global, summary: &mut SummaryInfo, id: i32, text: &str) -> Result<(), Failure> {
-    let Some(name) = name_of(id) else {
-        return Ok(());
-    };
-    match set_named(alloc, summary, id, name, text) {
-        Ok(()) => Ok(()),
-        Err(failure) => Err(failure.at(alloc, "summary property", name)),
-    }
+/// Clears the architecture and the languages.
+fn clear_template(summary: &mut SummaryInfo) -> Result<(), Error> {
+    summary.clear_arch()?;
+    summary.clear_languages()
 }
 
-/// The name of the property of a number.
-fn name_of(id: i32) -> Option<&'static str> {
-    let property = PROPERTIES.iter().find(|property| property.0 == id)?;
-    Some(property.1)
-}
-
-/// Sets the property of a number and a name.
-fn set_named(
-    alloc: Global,
-    summary: &mut SummaryInfo,
-    id: i32,
-    name: &str,
-    text: &str,
-) -> Result<(), Failure> {
-    match id {
-        5 => set_keywords(alloc, summary, text),
-        7 => set_template(alloc, summary, text),
-        11 | 12 | 13 => set_property(alloc, summary, name, iso_text(alloc, text)?.as_str()),
+/// Sets a property to what a text of the installer's stands for.
+fn set(alloc: Global, summary: &mut SummaryInfo, name: &str, text: &str) -> Result<(), Failure> {
+    match name {
+        "keywords" => Ok(set_keywords(alloc, summary, text)?),
+        "template" => set_template(alloc, summary, text),
+        "last_printed" | "creation_time" | "last_saved_time" => {
+            set_property(alloc, summary, name, iso_text(alloc, text)?.as_str())
+        }
         _ => set_property(alloc, summary, name, text),
     }
 }
 
-/// Sets the keywords, which are parted by `; `.
-fn set_keywords(alloc: Global, summary: &mut SummaryInfo, text: &str) -> Result<(), Failure> {
-    let mut keywords = Vec::new(alloc);
-    for keyword in text.split("; ") {
-        keywords.push(String::from_str(alloc, keyword)?)?;
-    }
-    Ok(summary.set_keywords(keywords.as_slice())?)
+/// Sets the text of the keywords, in which `; ` stands between each two.
+fn set_keywords(alloc: Global, summary: &mut SummaryInfo, text: &str) -> Result<(), Error> {
+    let text = String::from_str(alloc, text)?;
+    let keywords = vec![in alloc; text]?;
+    summary.set_keywords(keywords.as_slice())
 }
 
 /// Sets the architecture, and the languages behind the first `;`, if there are any.
@@ -92,17 +84,16 @@ fn set_template(alloc: Global, summary: &mut SummaryInfo, text: &str) -> Result<
 
 /// A time of the installer's tables as ISO 8601 has it. A number of ticks stays as it is.
 fn iso_text(alloc: Global, text: &str) -> Result<String, AllocError> {
-    let mut iso = String::new(alloc);
     if text.ends_with(" ticks") {
-        iso.push_str(text)?;
-        return Ok(iso);
+        return String::from_str(alloc, text);
     }
+    let mut iso = String::new(alloc);
     for c in text.chars() {
-        match c {
-            '/' => iso.push('-')?,
-            ' ' => iso.push('T')?,
-            _ => iso.push(c)?,
-        }
+        iso.push(match c {
+            '/' => '-',
+            ' ' => 'T',
+            _ => c,
+        })?;
     }
     iso.push('Z')?;
     Ok(iso)

@@ -1,148 +1,153 @@
-//! What rows of `_Validation` say of columns.
+//! Rows of `_Validation`, which say more of columns.
 
+use crate::checking::at_column;
 use crate::described::Described;
-use crate::gathered::{Content, GivenTable};
-use msi::{Category, Error, Expr, Memory, Package, Update, Value};
+use crate::limits::limits_in;
+use msi::{Error, Expr, Memory, Package, Update, Value};
+use msipkg_output::Failure;
 use std::alloc::{AllocError, Global};
+use std::collections::BTreeMap;
 
 /// The table that describes columns further.
 pub(crate) const VALIDATION: &str = "_Validation";
 
-/// Takes the rows of `_Validation` out of given tables.
-///
-/// # Errors
-/// Fails if memory is refused, and so do the other calls.
-pub(crate) fn take_validation(
-    alloc: Global,
-    tables: &mut [GivenTable],
-) -> Result<Vec<Vec<Value>>, AllocError> {
-    let mut taken = Vec::new(alloc);
-    for table in tables.iter_mut() {
-        if table.name.as_str() == VALIDATION {
-            if let Content::Values { columns: _, rows } = &mut table.content {
-                taken.append(rows)?;
-            }
+/// The names of its columns.
+const NAMES: &str =
+    "Table Column Nullable MinValue MaxValue KeyTable KeyColumn Category Set Description";
+
+/// Rows of `_Validation`, by the column that they are about.
+pub(crate) struct Rules {
+    rows: BTreeMap<String, Vec<Value>>,
+}
+
+/// Written out, so that a function that owns one calls one drop, and its proof doesn't go through those of the parts.
+impl Drop for Rules {
+    fn drop(self) {
+        let Rules { rows: _ } = self;
+    }
+}
+
+impl Rules {
+    /// Returns no rows.
+    pub(crate) fn new(alloc: Global) -> Rules {
+        Rules {
+            rows: BTreeMap::new(alloc),
         }
     }
-    Ok(taken)
-}
 
-/// Says of given columns what rows of `_Validation` say.
-pub(crate) fn refine(
-    alloc: Global,
-    rows: &[Vec<Value>],
-    tables: &mut [GivenTable],
-) -> Result<(), AllocError> {
-    for row in rows {
-        refine_tables(alloc, row.as_slice(), tables)?;
-    }
-    Ok(())
-}
-
-/// Says of the column of a row what the row says.
-fn refine_tables(
-    alloc: Global,
-    row: &[Value],
-    tables: &mut [GivenTable],
-) -> Result<(), AllocError> {
-    for table in tables.iter_mut() {
-        if is_named(row, 0, table.name.as_str()) {
-            refine_table(alloc, row, &mut table.content)?;
+    /// Adds rows.
+    ///
+    /// # Errors
+    /// Fails if the columns aren't those of `_Validation`, if a row names no column, and if memory is refused.
+    pub(crate) fn add(
+        &mut self,
+        alloc: Global,
+        columns: &[Described],
+        rows: Vec<Vec<Value>>,
+    ) -> Result<(), Failure> {
+        if !have_names(columns) {
+            return Err(Failure::rule("its columns aren't the ten of this table"));
         }
-    }
-    Ok(())
-}
-
-/// Whether a row has a name at a place.
-fn is_named(row: &[Value], place: usize, name: &str) -> bool {
-    match row.get(place) {
-        Some(value) => value.as_str() == Some(name),
-        None => false,
-    }
-}
-
-/// Says of a table's column what a row says.
-fn refine_table(alloc: Global, row: &[Value], content: &mut Content) -> Result<(), AllocError> {
-    let Content::Values { columns, rows: _ } = content else {
-        return Ok(());
-    };
-    for column in columns.iter_mut() {
-        if is_named(row, 1, column.name.as_str()) {
-            refine_column(alloc, row, column)?;
+        for row in rows {
+            self.add_row(alloc, row)?;
         }
+        Ok(())
     }
-    Ok(())
-}
 
-/// Says of a column what its row says.
-fn refine_column(alloc: Global, row: &[Value], column: &mut Described) -> Result<(), AllocError> {
-    let [_, _, _, min, max, table, number, category, set, ..] = row else {
-        return Ok(());
-    };
-    column.min = min.as_int();
-    column.max = max.as_int();
-    column.category = category_of(category);
-    if let (Some(table), Some(number)) = (table.as_str(), number.as_int()) {
-        column.key_table = Some(String::from_str(alloc, table)?);
-        column.key_column = number;
+    /// Adds a row.
+    fn add_row(&mut self, alloc: Global, row: Vec<Value>) -> Result<(), Failure> {
+        let Some((table, column)) = subject_of(row.as_slice()) else {
+            return Err(Failure::rule(
+                "a row of it needs ten values, and names a table and a column",
+            ));
+        };
+        let subject = subject_text(alloc, table, column)?;
+        self.rows.insert(subject, row)?;
+        Ok(())
     }
-    if let Some(set) = set.as_str() {
-        column.values = pieces(alloc, set)?;
+
+    /// Returns what the values of a column are limited to, if there is a row about it.
+    ///
+    /// # Errors
+    /// Fails if memory is refused.
+    pub(crate) fn limits_of(
+        &self,
+        alloc: Global,
+        table: &str,
+        column: &str,
+    ) -> Result<Option<&[Value]>, AllocError> {
+        let subject = subject_text(alloc, table, column)?;
+        Ok(
+            self.rows
+                .get(subject.as_str())
+                .map(|row| limits_in(row.as_slice())),
+        )
     }
-    Ok(())
-}
 
-/// The category of a name, if it is one.
-fn category_of(name: &Value) -> Option<Category> {
-    name.as_str()?.parse::<Category>().ok()
-}
-
-/// The pieces of a text between each two semicolons.
-fn pieces(alloc: Global, text: &str) -> Result<Vec<String>, AllocError> {
-    let mut pieces = Vec::new(alloc);
-    for piece in text.split(';') {
-        pieces.push(String::from_str(alloc, piece)?)?;
-    }
-    Ok(pieces)
-}
-
-/// Describes columns for people, as rows of `_Validation` do.
-pub(crate) fn describe(
-    alloc: Global,
-    package: &mut Package<Memory>,
-    rows: &[Vec<Value>],
-) -> Result<(), Error> {
-    for row in rows {
-        if let [table, column, .., text] = row.as_slice() {
-            describe_column(alloc, package, table, column, text)?;
+    /// Describes the columns of a package's tables for people, as the rows do.
+    ///
+    /// # Errors
+    /// Fails as `Package::update_rows` does, at the table and the column.
+    pub(crate) fn describe(
+        &self,
+        alloc: Global,
+        package: &mut Package<Memory>,
+    ) -> Result<(), Failure> {
+        for row in self.rows.values() {
+            describe_column(alloc, package, row.as_slice())?;
         }
+        Ok(())
     }
-    Ok(())
 }
 
-/// Describes a column for people, if its row has a text.
+/// Whether columns have the names of those of `_Validation`.
+fn have_names(columns: &[Described]) -> bool {
+    NAMES
+        .split(' ')
+        .eq(columns.iter().map(|column| column.name.as_str()))
+}
+
+/// The table and the column that a row is about.
+fn subject_of(row: &[Value]) -> Option<(&str, &str)> {
+    match row {
+        [table, column, _, _, _, _, _, _, _, _] => Some((table.as_str()?, column.as_str()?)),
+        _ => None,
+    }
+}
+
+/// The text under which the row about a column stands.
+fn subject_text(alloc: Global, table: &str, column: &str) -> Result<String, AllocError> {
+    format!(in alloc; "{table}\t{column}")
+}
+
+/// Describes the column that a row is about, if the table is there and the row has a text for that.
 fn describe_column(
     alloc: Global,
     package: &mut Package<Memory>,
-    table: &Value,
-    column: &Value,
-    text: &Value,
-) -> Result<(), Error> {
-    if !text.is_str() {
+    row: &[Value],
+) -> Result<(), Failure> {
+    let [Value::Str(table), Value::Str(column), .., text] = row else {
+        return Ok(());
+    };
+    if text.is_null() || !package.has_table(table.as_str()) {
         return Ok(());
     }
-    let query = description_update(alloc, table, column, text)?;
-    package.update_rows(query)
+    let query = description_update(alloc, table.as_str(), column.as_str(), text)?;
+    match package.update_rows(query) {
+        Ok(()) => Ok(()),
+        Err(error) => {
+            Err(at_column(alloc, Failure::from(error), table.as_str(), column.as_str()))
+        }
+    }
 }
 
 /// The query that describes a column.
 fn description_update(
     alloc: Global,
-    table: &Value,
-    column: &Value,
+    table: &str,
+    column: &str,
     text: &Value,
 ) -> Result<Update, Error> {
-    let (table, column) = (table.as_str().unwrap_or(""), column.as_str().unwrap_or(""));
     let is_table = Expr::col(alloc, "Table")?.eq(alloc, Expr::string(alloc, table)?)?;
     let is_column = Expr::col(alloc, "Column")?.eq(alloc, Expr::string(alloc, column)?)?;
     Update::table(alloc, VALIDATION)?
