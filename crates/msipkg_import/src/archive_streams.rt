@@ -11,16 +11,10 @@ use std::path::Path;
 use std::rt::Files;
 
 /// A stream, and the name of the file that has its bytes.
+#[derive(Drop)]
 pub(crate) struct StreamFile {
     stream: String,
     file: String,
-}
-
-/// Written out, so that a function that owns one calls one drop, and its proof doesn't go through those of the parts.
-impl Drop for StreamFile {
-    fn drop(self) {
-        let StreamFile { stream: _, file: _ } = self;
-    }
 }
 
 /// Notes the files of listed streams.

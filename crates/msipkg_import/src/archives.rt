@@ -1,12 +1,12 @@
 //! What text archives give.
 
-use crate::archive_errors::failure_of;
 use crate::archive_streams::{StreamFile, listed_files, read_files, take_files};
 use crate::described::Described;
 use crate::gathered::Gathered;
+use crate::places::at_line;
 use crate::summary::name_of;
 use msi::{CodePage, Value};
-use msi_text_archive::{Archive, ArchiveColumn, read};
+use msi_text_archive::{Archive, ArchiveColumn, ArchiveError, read};
 use msipkg_output::Failure;
 use std::alloc::{AllocError, Global};
 use std::collections::BTreeMap;
@@ -40,7 +40,16 @@ fn archive_in(alloc: Global, path: &str, bytes: &[u8]) -> Result<Archive, Failur
     let text = text_in(alloc, bytes)?;
     match read(alloc, text.as_str()) {
         Ok(archive) => Ok(archive),
-        Err(error) => Err(failure_of(alloc, "file", path, &error)),
+        Err(error) => Err(failure_of(alloc, path, &error)),
+    }
+}
+
+/// The failure of an archive's error, at its line and field.
+fn failure_of(alloc: Global, path: &str, error: &ArchiveError) -> Failure {
+    let failure = Failure::rule(error.reason().0);
+    match error.place() {
+        Some(place) => at_line(alloc, failure, path, place.line, ("field", place.field)),
+        None => failure,
     }
 }
 

@@ -1,9 +1,10 @@
 //! Whether a table takes rows, and which value it doesn't take.
 
 use crate::described::Described;
+use crate::places::at_row;
 use msi::{Column, Value};
 use msipkg_output::Failure;
-use std::alloc::{AllocError, Global};
+use std::alloc::Global;
 
 /// Refuses columns that aren't those of the package's table.
 ///
@@ -32,76 +33,25 @@ pub(crate) fn check_rows(
     rows: &[Vec<Value>],
 ) -> Result<(), Failure> {
     for i in 0..rows.len() {
-        let row = rows[i].as_slice();
-        if row.len() != columns.len() {
-            let what = Failure::rule("it has another number of values than there are columns");
-            return Err(at_row(alloc, what, table, i, None));
-        }
-        if let Some(place) = invalid_place(columns, row) {
-            let column = columns.get(place).map(|column| column.name());
-            return Err(at_row(alloc, not_taken(&row[place]), table, i, column));
+        if let Some((column, rule)) = refused_value(columns, rows[i].as_slice()) {
+            return Err(at_row(alloc, Failure::rule(rule), table, i, column));
         }
     }
     Ok(())
 }
 
-/// The place of the first value that its column doesn't take.
-fn invalid_place(columns: &[Column], row: &[Value]) -> Option<usize> {
-    for i in 0..row.len().min(columns.len()) {
-        if !columns[i].is_valid_value(&row[i]) {
-            return Some(i);
-        }
+/// The column of the first value that isn't taken, and the rule that is broken there.
+fn refused_value<'a>(columns: &'a [Column], row: &[Value]) -> Option<(&'a str, &'static str)> {
+    if row.len() != columns.len() {
+        return Some(("", "it has another number of values than there are columns"));
     }
-    None
-}
-
-/// The refusal of a value.
-fn not_taken(value: &Value) -> Failure {
+    let (column, value) = columns
+        .iter()
+        .zip(row.iter())
+        .find(|(column, value)| !column.is_valid_value(value))?;
     if value.is_null() {
-        Failure::rule("the column doesn't take null")
+        Some((column.name(), "the column doesn't take null"))
     } else {
-        Failure::rule("the column doesn't take this value")
-    }
-}
-
-/// Returns a failure at a row of a table, counted from 1, and at a column of it.
-pub(crate) fn at_row(
-    alloc: Global,
-    failure: Failure,
-    table: &str,
-    row: usize,
-    column: Option<&str>,
-) -> Failure {
-    let place = row_text(alloc, table, row.saturating_add(1), column);
-    at_place(alloc, failure, place)
-}
-
-/// Returns a failure at a column of a table.
-pub(crate) fn at_column(alloc: Global, failure: Failure, table: &str, column: &str) -> Failure {
-    at_place(
-        alloc,
-        failure,
-        format!(in alloc; "{table}: column {column}"),
-    )
-}
-
-/// A failure at a place in a table, if there was memory for its text.
-fn at_place(alloc: Global, failure: Failure, place: Result<String, AllocError>) -> Failure {
-    match place {
-        Ok(place) => failure.at(alloc, "table", place.as_str()),
-        Err(_) => failure,
-    }
-}
-
-/// The text of a row's place.
-fn row_text(
-    alloc: Global,
-    table: &str,
-    number: usize,
-    column: Option<&str>,
-) -> Result<String, AllocError> {
-    match column {
-        Some(column) => format!(in alloc; "{table}: row {number}, column {column}"),
-        None => format!(in alloc; "{table}: row {number}"),
+        Some((column.name(), "the column doesn't take this value"))
     }
 }

@@ -1,7 +1,7 @@
 //! Rows of fields as rows of values.
 
-use crate::checking::at_column;
 use crate::described::Described;
+use crate::places::at_column;
 use csv::StringRecord;
 use msi::{Column, ColumnType, Error, Value};
 use msipkg_output::Failure;

@@ -25,19 +25,10 @@ pub(crate) enum Content {
 }
 
 /// A table.
+#[derive(Drop)]
 pub(crate) struct GivenTable {
     name: String,
     content: Content,
-}
-
-/// Written out, so that a function that owns one calls one drop, and its proof doesn't go through those of the parts.
-impl Drop for GivenTable {
-    fn drop(self) {
-        let GivenTable {
-            name: _,
-            content: _,
-        } = self;
-    }
 }
 
 impl GivenTable {
@@ -49,16 +40,10 @@ impl GivenTable {
 }
 
 /// A stream.
+#[derive(Drop)]
 pub(crate) struct GivenStream {
     pub(crate) name: String,
     pub(crate) bytes: Vec<u8>,
-}
-
-/// Written out, so that a function that owns one calls one drop, and its proof doesn't go through those of the parts.
-impl Drop for GivenStream {
-    fn drop(self) {
-        let GivenStream { name: _, bytes: _ } = self;
-    }
 }
 
 /// What files give.

@@ -3,6 +3,7 @@
 use crate::gathered::Gathered;
 use crate::json_package::{JsonPackage, JsonStream, JsonTable};
 use crate::json_parts::{columns_of, rows_of};
+use crate::places::at_line;
 use base64::engine::general_purpose::STANDARD;
 use msi::CodePage;
 use msipkg_output::Failure;
@@ -32,11 +33,13 @@ fn failure_of(alloc: Global, path: &str, error: &serde_json::Error) -> Failure {
         Category::Data => Failure::rule("it isn't a package as export writes one"),
         _ => Failure::rule("it isn't one value of JSON"),
     };
-    let (line, column) = (error.line(), error.column());
-    match format!(in alloc; "{path}: line {line}, column {column}") {
-        Ok(place) => failure.at(alloc, "file", place.as_str()),
-        Err(_) => failure,
-    }
+    at_line(
+        alloc,
+        failure,
+        path,
+        error.line(),
+        ("column", error.column()),
+    )
 }
 
 /// Adds what a package gives.

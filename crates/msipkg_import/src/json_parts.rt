@@ -1,8 +1,8 @@
 //! Columns and rows from JSON.
 
-use crate::checking::{at_column, at_row};
 use crate::described::Described;
 use crate::json_package::JsonColumn;
+use crate::places::{at_column, at_row};
 use msi::{ColumnType, Error, Value};
 use msipkg_output::Failure;
 use serde_json::Value as Json;
@@ -86,7 +86,7 @@ pub(crate) fn rows_of(
     for i in 0..items.len() {
         match values_of(alloc, items[i].as_slice()) {
             Ok(values) => rows.push(values)?,
-            Err(failure) => return Err(at_row(alloc, failure, table, i, None)),
+            Err(failure) => return Err(at_row(alloc, failure, table, i, "")),
         }
     }
     Ok(rows)

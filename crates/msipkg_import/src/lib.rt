@@ -3,7 +3,6 @@
 #![tactic(auto)]
 
 mod applying;
-mod archive_errors;
 mod archive_streams;
 mod archives;
 mod checking;
@@ -16,6 +15,7 @@ mod json_files;
 mod json_package;
 mod json_parts;
 mod limits;
+mod places;
 mod summary;
 mod validation;
 

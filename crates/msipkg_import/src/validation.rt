@@ -1,8 +1,8 @@
 //! Rows of `_Validation`, which say more of columns.
 
-use crate::checking::at_column;
 use crate::described::Described;
 use crate::limits::limits_in;
+use crate::places::at_column;
 use msi::{Error, Expr, Memory, Package, Update, Value};
 use msipkg_output::Failure;
 use std::alloc::{AllocError, Global};
@@ -16,15 +16,9 @@ const NAMES: &str =
     "Table Column Nullable MinValue MaxValue KeyTable KeyColumn Category Set Description";
 
 /// Rows of `_Validation`, by the column that they are about.
+#[derive(Drop)]
 pub(crate) struct Rules {
     rows: BTreeMap<String, Vec<Value>>,
-}
-
-/// Written out, so that a function that owns one calls one drop, and its proof doesn't go through those of the parts.
-impl Drop for Rules {
-    fn drop(self) {
-        let Rules { rows: _ } = self;
-    }
 }
 
 impl Rules {
