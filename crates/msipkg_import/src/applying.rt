@@ -87,7 +87,7 @@ fn make_table(
     Ok(package.create_table(name, columns)?)
 }
 
-/// The columns of descriptions, limited by rules, or else by the descriptions themselves.
+/// The columns of descriptions, which are limited as rules say.
 fn built(
     alloc: Global,
     rules: &Rules,
@@ -97,11 +97,26 @@ fn built(
 ) -> Result<Vec<Column>, Error> {
     let mut all = Vec::with_capacity(alloc, columns.len())?;
     for column in columns {
-        let limits = rules.limits_of(alloc, table, column.name.as_str())?;
-        let limits = limits.unwrap_or(column.limits.as_slice());
-        all.push(column.build(alloc, Limits::new(limits, validation))?)?;
+        all.push(limited(alloc, rules, table, column, validation)?)?;
     }
     Ok(all)
+}
+
+/// The column of a description, which is limited as rules say.
+fn limited(
+    alloc: Global,
+    rules: &Rules,
+    table: &str,
+    column: &Described,
+    validation: &[Column],
+) -> Result<Column, Error> {
+    let row = rules.row_about(alloc, table, column.name.as_str())?;
+    let limits = Limits {
+        row: row.map(|row| row.as_slice()).unwrap_or(&[]),
+        columns: validation,
+    };
+    let builder = limits.put(alloc, column.begin(alloc)?)?;
+    Ok(column.end(builder))
 }
 
 /// The values of rows of fields. The table is created if it isn't there.

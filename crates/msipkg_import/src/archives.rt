@@ -3,7 +3,7 @@
 use crate::archive_streams::{StreamFile, listed_files, read_files, take_files};
 use crate::described::Described;
 use crate::gathered::Gathered;
-use crate::places::at_line;
+use crate::places::at_field;
 use crate::summary::name_of;
 use msi::{CodePage, Value};
 use msi_text_archive::{Archive, ArchiveColumn, ArchiveError, read};
@@ -48,7 +48,7 @@ fn archive_in(alloc: Global, path: &str, bytes: &[u8]) -> Result<Archive, Failur
 fn failure_of(alloc: Global, path: &str, error: &ArchiveError) -> Failure {
     let failure = Failure::rule(error.reason().0);
     match error.place() {
-        Some(place) => at_line(alloc, failure, path, place.line, ("field", place.field)),
+        Some(place) => at_field(alloc, failure, path, place),
         None => failure,
     }
 }

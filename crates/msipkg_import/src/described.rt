@@ -1,7 +1,6 @@
 //! Descriptions of columns, from which columns are built.
 
-use crate::limits::Limits;
-use msi::{Column, ColumnBuilder, ColumnType, Error, Value};
+use msi::{Column, ColumnBuilder, ColumnType, Error};
 use std::alloc::{AllocError, Global};
 
 /// What is said of a column.
@@ -11,8 +10,6 @@ pub(crate) struct Described {
     pub(crate) is_localizable: bool,
     pub(crate) is_nullable: bool,
     pub(crate) is_key: bool,
-    /// What its values are limited to, as in a row of `_Validation`; empty where nothing is said of that.
-    pub(crate) limits: Vec<Value>,
 }
 
 /// Written out, so that a function that owns one calls one drop, and its proof doesn't go through those of the parts.
@@ -24,7 +21,6 @@ impl Drop for Described {
             is_localizable: _,
             is_nullable: _,
             is_key: _,
-            limits: _,
         } = self;
     }
 }
@@ -46,7 +42,6 @@ impl Described {
             is_localizable: false,
             is_nullable: false,
             is_key: false,
-            limits: Vec::new(alloc),
         })
     }
 
@@ -61,19 +56,22 @@ impl Described {
         true
     }
 
-    /// Returns the column, with limits.
+    /// Begins the column.
     ///
     /// # Errors
     /// Fails with `OutOfMemory`.
-    pub(crate) fn build(&self, alloc: Global, limits: Limits<'_>) -> Result<Column, Error> {
-        let builder = Column::build(alloc, self.name.as_str())?;
-        let builder = limits.put(alloc, self.put_flags(builder))?;
-        Ok(match self.coltype {
+    pub(crate) fn begin(&self, alloc: Global) -> Result<ColumnBuilder, Error> {
+        Ok(self.put_flags(Column::build(alloc, self.name.as_str())?))
+    }
+
+    /// Ends the column by its type.
+    pub(crate) fn end(&self, builder: ColumnBuilder) -> Column {
+        match self.coltype {
             ColumnType::Int16 => builder.int16(),
             ColumnType::Int32 => builder.int32(),
             ColumnType::Str(length) => builder.string(length),
             ColumnType::Binary => builder.binary(),
-        })
+        }
     }
 
     /// Says of a column whether it is of the key, takes null, and can be localized.

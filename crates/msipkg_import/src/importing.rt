@@ -63,7 +63,7 @@ where
     if ending.eq_ignore_ascii_case("idt") {
         gather_archive(rt, path, bytes.as_slice(), gathered)
     } else if ending.eq_ignore_ascii_case("json") {
-        gather_json(rt.alloc(), path, bytes.as_slice(), gathered)
+        gather_json(rt.alloc(), bytes.as_slice(), gathered)
     } else if ending.eq_ignore_ascii_case("csv") {
         let table = name.file_stem().unwrap_or("");
         gather_csv(rt.alloc(), table, bytes.as_slice(), gathered)

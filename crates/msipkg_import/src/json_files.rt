@@ -3,12 +3,10 @@
 use crate::gathered::Gathered;
 use crate::json_package::{JsonPackage, JsonStream, JsonTable};
 use crate::json_parts::{columns_of, rows_of};
-use crate::places::at_line;
 use base64::engine::general_purpose::STANDARD;
 use msi::CodePage;
 use msipkg_output::Failure;
-use serde_json::Category;
-use std::alloc::{AllocError, Global};
+use std::alloc::Global;
 
 /// Adds what a text gives that is a package as JSON.
 ///
@@ -16,39 +14,11 @@ use std::alloc::{AllocError, Global};
 /// Fails if the text is none, and if memory is refused.
 pub(crate) fn gather_json(
     alloc: Global,
-    path: &str,
     bytes: &[u8],
     gathered: &mut Gathered,
 ) -> Result<(), Failure> {
-    match serde_json::from_slice::<JsonPackage>(alloc, bytes) {
-        Ok(mut package) => gather_package(alloc, &mut package, gathered),
-        Err(error) => Err(failure_of(alloc, path, &error)),
-    }
-}
-
-/// The failure of an error of JSON, at its line and column.
-fn failure_of(alloc: Global, path: &str, error: &serde_json::Error) -> Failure {
-    let failure = match error.classify() {
-        Category::Memory => Failure::from(AllocError),
-        Category::Data => Failure::rule("it isn't a package as export writes one"),
-        _ => Failure::rule("it isn't one value of JSON"),
-    };
-    at_line(
-        alloc,
-        failure,
-        path,
-        error.line(),
-        ("column", error.column()),
-    )
-}
-
-/// Adds what a package gives.
-fn gather_package(
-    alloc: Global,
-    package: &mut JsonPackage,
-    gathered: &mut Gathered,
-) -> Result<(), Failure> {
-    gather_whole(package, gathered)?;
+    let mut package: JsonPackage = serde_json::from_slice(alloc, bytes)?;
+    gather_whole(&mut package, gathered)?;
     gather_tables(alloc, package.tables.as_slice(), gathered)?;
     gather_streams(alloc, package.streams.as_slice(), gathered)
 }

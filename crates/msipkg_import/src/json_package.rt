@@ -22,7 +22,7 @@ pub(crate) struct JsonTable {
     pub(crate) rows: Vec<Vec<Value>>,
 }
 
-/// A column, and what its values are limited to.
+/// A column. What its values are limited to stands in rows of `_Validation`, too, and is taken from these.
 #[derive(Drop, Deserialize)]
 pub(crate) struct JsonColumn {
     pub(crate) column: String,
@@ -30,12 +30,6 @@ pub(crate) struct JsonColumn {
     pub(crate) coltype: String,
     #[serde(default)]
     pub(crate) key: bool,
-    pub(crate) category: Option<String>,
-    pub(crate) min: Option<i32>,
-    pub(crate) max: Option<i32>,
-    pub(crate) key_table: Option<String>,
-    pub(crate) key_column: Option<i32>,
-    pub(crate) values: Option<Vec<String>>,
 }
 
 /// A stream.

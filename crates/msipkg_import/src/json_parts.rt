@@ -3,10 +3,10 @@
 use crate::described::Described;
 use crate::json_package::JsonColumn;
 use crate::places::{at_column, at_row};
-use msi::{ColumnType, Error, Value};
+use msi::{ColumnType, Value};
 use msipkg_output::Failure;
 use serde_json::Value as Json;
-use std::alloc::{AllocError, Global};
+use std::alloc::Global;
 
 /// The columns of a table.
 ///
@@ -25,52 +25,9 @@ pub(crate) fn columns_of(
             return Err(at_column(alloc, failure, table, item.column.as_str()));
         }
         column.is_key = item.key;
-        column.limits = limits_of(alloc, item)?;
         columns.push(column)?;
     }
     Ok(columns)
-}
-
-/// What a column's values are limited to, as a row of `_Validation` has it.
-fn limits_of(alloc: Global, item: &JsonColumn) -> Result<Vec<Value>, Error> {
-    let table = text_value(alloc, item.key_table.as_ref())?;
-    let category = text_value(alloc, item.category.as_ref())?;
-    let set = match &item.values {
-        Some(texts) => Some(joined(alloc, texts.as_slice())?),
-        None => None,
-    };
-    let set = text_value(alloc, set.as_ref())?;
-    let (min, max) = (number_value(item.min), number_value(item.max));
-    let column = number_value(item.key_column);
-    Ok(vec![in alloc; min, max, table, column, category, set]?)
-}
-
-/// A number, or null.
-fn number_value(number: Option<i32>) -> Value {
-    match number {
-        Some(number) => Value::Int(number),
-        None => Value::Null,
-    }
-}
-
-/// A text, or null.
-fn text_value(alloc: Global, text: Option<&String>) -> Result<Value, Error> {
-    match text {
-        Some(text) => Value::from_text(alloc, text.as_str()),
-        None => Ok(Value::Null),
-    }
-}
-
-/// Texts with `;` between each two.
-fn joined(alloc: Global, texts: &[String]) -> Result<String, AllocError> {
-    let mut all = String::new(alloc);
-    let mut before = "";
-    for text in texts {
-        all.push_str(before)?;
-        all.push_str(text.as_str())?;
-        before = ";";
-    }
-    Ok(all)
 }
 
 /// The rows of a table.

@@ -1,17 +1,13 @@
 //! Failures at their places in files and tables.
 
+use msi_text_archive::Place;
 use msipkg_output::Failure;
 use std::alloc::{AllocError, Global};
 
-/// Returns a failure at a line of a file, and at a part of this line, as `field` and its number.
-pub(crate) fn at_line(
-    alloc: Global,
-    failure: Failure,
-    path: &str,
-    line: usize,
-    (part, number): (&str, usize),
-) -> Failure {
-    let place = format!(in alloc; "{path}: line {line}, {part} {number}");
+/// Returns a failure at a place in a file.
+pub(crate) fn at_field(alloc: Global, failure: Failure, path: &str, place: Place) -> Failure {
+    let (line, field) = (place.line, place.field);
+    let place = format!(in alloc; "{path}: line {line}, field {field}");
     at_place(alloc, failure, "file", place)
 }
 

@@ -1,7 +1,6 @@
 //! Rows of `_Validation`, which say more of columns.
 
 use crate::described::Described;
-use crate::limits::limits_in;
 use crate::places::at_column;
 use msi::{Error, Expr, Memory, Package, Update, Value};
 use msipkg_output::Failure;
@@ -60,22 +59,18 @@ impl Rules {
         Ok(())
     }
 
-    /// Returns what the values of a column are limited to, if there is a row about it.
+    /// Returns the row about a column, if there is one.
     ///
     /// # Errors
     /// Fails if memory is refused.
-    pub(crate) fn limits_of(
+    pub(crate) fn row_about(
         &self,
         alloc: Global,
         table: &str,
         column: &str,
-    ) -> Result<Option<&[Value]>, AllocError> {
+    ) -> Result<Option<&Vec<Value>>, AllocError> {
         let subject = subject_text(alloc, table, column)?;
-        Ok(
-            self.rows
-                .get(subject.as_str())
-                .map(|row| limits_in(row.as_slice())),
-        )
+        Ok(self.rows.get(subject.as_str()))
     }
 
     /// Describes the columns of a package's tables for people, as the rows do.
