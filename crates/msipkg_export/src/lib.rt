@@ -2,14 +2,14 @@
 //! archives of the installer (IDT files).
 #![tactic(auto)]
 
-mod archive_errors;
 mod archive_parts;
 mod archive_texts;
 pub mod archives;
 pub mod csv_tables;
 pub mod exporting;
+mod folders;
 pub mod json_packages;
+mod other_archives;
 pub mod table_archives;
 
-pub use archive_errors::failure_of;
-pub use exporting::{Target, export, export_line};
+pub use exporting::{FileFormat, Target, export, export_line};
