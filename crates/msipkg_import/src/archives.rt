@@ -35,9 +35,9 @@ where
     read_files(rt, path, files.as_slice(), gathered)
 }
 
-/// The archive that a file's bytes mean.
+/// The archive that a file's bytes mean. `msiinfo` of msitools writes a null behind `_ForceCodepage`.
 fn archive_in(alloc: Global, path: &str, bytes: &[u8]) -> Result<Archive, Failure> {
-    let text = text_in(alloc, bytes)?;
+    let text = text_in(alloc, bytes.strip_suffix(b"\0").unwrap_or(bytes))?;
     match read(alloc, text.as_str()) {
         Ok(archive) => Ok(archive),
         Err(error) => Err(failure_of(alloc, path, &error)),
