@@ -1,6 +1,7 @@
 //! Tables from comma-separated values.
 
 use crate::gathered::{Content, Gathered};
+use crate::places::at_row;
 use csv::{ReaderBuilder, StringRecord};
 use msipkg_output::Failure;
 use std::alloc::Global;
@@ -21,6 +22,10 @@ pub(crate) fn gather_csv(
     }
     let rows = records.split_off(1)?;
     let names = records.pop().unwrap_or(StringRecord::new(alloc));
+    if let Some(row) = rows.iter().position(|row| row.len() != names.len()) {
+        let failure = Failure::rule("it has another number of fields than the first line");
+        return Err(at_row(alloc, failure, table, row, ""));
+    }
     Ok(gathered.add_table(alloc, table, Content::Fields { names, rows })?)
 }
 
@@ -28,6 +33,7 @@ pub(crate) fn gather_csv(
 fn records_of(alloc: Global, bytes: &[u8]) -> Result<Vec<StringRecord>, Failure> {
     let mut reader = ReaderBuilder::new()
         .has_headers(false)
+        .flexible(true)
         .from_reader(alloc, bytes);
     let mut records = Vec::new(alloc);
     for _ in 0..u64::MAX {

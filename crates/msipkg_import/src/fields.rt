@@ -51,8 +51,8 @@ fn field_at(row: &StringRecord, place: usize) -> &str {
     row.get(place).unwrap_or("")
 }
 
-/// Returns the rows of fields as values of the columns. A column that isn't named has nulls. A field that is no value of
-/// its column is a text, which the table doesn't take.
+/// Returns the rows of fields as values of the columns. A column that isn't named has nulls. A field that is no value
+/// of its column is a text, which the table doesn't take.
 ///
 /// # Errors
 /// Fails at a name that no column has or that stands twice, and if memory is refused.
