@@ -39,11 +39,17 @@ fn type_of(rows: &[StringRecord], place: usize) -> ColumnType {
         .iter()
         .map(|row| field_at(row, place))
         .filter(|field| !field.is_empty());
-    let has_field = rows.iter().any(|row| !field_at(row, place).is_empty());
-    if has_field && filled.all(|field| field.parse::<i32>().is_ok()) {
-        return ColumnType::Int32;
+    match filled.next() {
+        Some(first) if is_number(first) && filled.all(is_number) => ColumnType::Int32,
+        _ => ColumnType::Str(if place == 0 { KEY_LENGTH } else { 0 }),
     }
-    ColumnType::Str(if place == 0 { KEY_LENGTH } else { 0 })
+}
+
+/// Whether a field is a number of 32 bits as it prints. One with zeros in front, say, is a text.
+fn is_number(field: &str) -> bool {
+    let digits = field.strip_prefix('-').unwrap_or(field);
+    let is_plain = field == "0" || digits.starts_with(|c: char| matches!(c, '1'..='9'));
+    is_plain && field.parse::<i32>().is_ok()
 }
 
 /// The field at a place, or the empty text.

@@ -115,31 +115,35 @@ fn describe_column(
     package: &mut Package<Memory>,
     row: &[Value],
 ) -> Result<(), Failure> {
-    let [Value::Str(table), Value::Str(column), .., text] = row else {
+    let [Value::Str(table), Value::Str(column), .., Value::Str(text)] = row else {
         return Ok(());
     };
-    if text.is_null() || !package.has_table(table.as_str()) {
+    let (table, column) = (table.as_str(), column.as_str());
+    if !package.has_table(table) {
         return Ok(());
     }
-    let query = description_update(alloc, table.as_str(), column.as_str(), text)?;
-    match package.update_rows(query) {
+    let is_about = is_about(alloc, table, column)?;
+    match package.update_rows(description_update(alloc, text.as_str(), is_about)?) {
         Ok(()) => Ok(()),
-        Err(error) => {
-            Err(at_column(alloc, Failure::from(error), table.as_str(), column.as_str()))
-        }
+        Err(error) => Err(at_column(alloc, Failure::from(error), table, column)),
     }
 }
 
-/// The query that describes a column.
-fn description_update(
-    alloc: Global,
-    table: &str,
-    column: &str,
-    text: &Value,
-) -> Result<Update, Error> {
-    let is_table = Expr::col(alloc, "Table")?.eq(alloc, Expr::string(alloc, table)?)?;
-    let is_column = Expr::col(alloc, "Column")?.eq(alloc, Expr::string(alloc, column)?)?;
+/// Sets the descriptions of rows that meet a condition.
+fn description_update(alloc: Global, text: &str, condition: Expr) -> Result<Update, Error> {
+    let text = Value::from_text(alloc, text)?;
     Update::table(alloc, VALIDATION)?
-        .set("Description", text.clone(alloc)?)?
-        .with(is_table.and(alloc, is_column)?)
+        .set("Description", text)?
+        .with(condition)
+}
+
+/// The condition that a row is about a column.
+fn is_about(alloc: Global, table: &str, column: &str) -> Result<Expr, Error> {
+    let is_table = is_equal(alloc, "Table", table)?;
+    is_table.and(alloc, is_equal(alloc, "Column", column)?)
+}
+
+/// The condition that a row has a text in a column.
+fn is_equal(alloc: Global, column: &str, text: &str) -> Result<Expr, Error> {
+    Expr::col(alloc, column)?.eq(alloc, Expr::string(alloc, text)?)
 }
