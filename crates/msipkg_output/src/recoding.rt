@@ -8,6 +8,7 @@ use msi_recode::{RecodeError, TextPage, recode_contents};
 use std::alloc::Global;
 use std::fs;
 use std::io::{self, Read, Write};
+use std::rc::Rc;
 use std::rt::Files;
 
 /// The file of a package, and how it is read.
@@ -107,8 +108,8 @@ where
     R: Files + AllocGlobal,
     R::File: Read + Drop,
 {
-    let bytes = fs::read(rt, file.path)?;
-    match compound::read(rt.alloc(), bytes.as_slice()) {
+    let bytes = Rc::new(rt.alloc(), fs::read(rt, file.path)?)?;
+    match compound::read_shared(rt.alloc(), bytes) {
         Ok(contents) => recoded_of(rt.alloc(), contents, file.page),
         Err(_) => Ok(None),
     }
@@ -123,8 +124,8 @@ fn recoded_of(
 ) -> Result<Option<Recoded>, Failure> {
     let named = NamedPages::of(alloc, &contents.streams)?;
     let pages = named.recoded_from(given);
-    let is_unnamed = named.has_zero() && given.is_none();
-    if pages.is_empty() && !is_unnamed {
+    let may_be_unread = given.is_none() && named.has_zero();
+    if pages.is_empty() && !may_be_unread {
         return Ok(None);
     }
     match recode_contents(alloc, given.and_then(TextPage::of), contents) {
@@ -133,14 +134,9 @@ fn recoded_of(
             let bytes = compound::write(alloc, &contents, 0)?;
             Ok(Some(Recoded { bytes, pages }))
         }
-        Err(error) => Err(failure_of(error, is_unnamed)),
+        Err(error) if given.is_none() && named.is_zero_at(&error) => {
+            Err(Failure::new(Cause::Unnamed(error)))
+        }
+        Err(error) => Err(Failure::new(Cause::Text(error))),
     }
-}
-
-/// Why texts aren't recoded.
-fn failure_of(error: RecodeError, is_unnamed: bool) -> Failure {
-    if is_unnamed {
-        return Failure::new(Cause::Unnamed(error));
-    }
-    Failure::new(Cause::Text(error))
 }
