@@ -67,14 +67,14 @@ impl Recoded {
 /// package isn't tried as it is, since bytes in any page may happen to be UTF-8.
 ///
 /// # Errors
-/// Fails as `recoded` does.
+/// Fails as `recode_file` does.
 pub fn recoded_by_page<R>(rt: &R, file: PackageFile<'_>) -> Result<Option<Recoded>, Failure>
 where
     R: Files + AllocGlobal,
     R::File: Read + Drop,
 {
     match file.page {
-        Some(_) => recoded(rt, file),
+        Some(_) => recode_file(rt, file),
         None => Ok(None),
     }
 }
@@ -82,7 +82,7 @@ where
 /// Returns the bytes of a package that can't be opened as it is, with its texts in UTF-8.
 ///
 /// # Errors
-/// Fails as `recoded` does, and with the failure of opening if the package has no texts to be recoded.
+/// Fails as `recode_file` does, and with the failure of opening if the package has no texts to be recoded.
 pub fn recoded_instead<R>(
     rt: &R,
     file: PackageFile<'_>,
@@ -92,7 +92,7 @@ where
     R: Files + AllocGlobal,
     R::File: Read + Drop,
 {
-    match recoded(rt, file)? {
+    match recode_file(rt, file)? {
         Some(recoded) => Ok(recoded),
         None => Err(failure),
     }
@@ -103,7 +103,7 @@ where
 ///
 /// # Errors
 /// Fails if the file can't be read, and at a text that its page doesn't read.
-pub fn recoded<R>(rt: &R, file: PackageFile<'_>) -> Result<Option<Recoded>, Failure>
+pub fn recode_file<R>(rt: &R, file: PackageFile<'_>) -> Result<Option<Recoded>, Failure>
 where
     R: Files + AllocGlobal,
     R::File: Read + Drop,
