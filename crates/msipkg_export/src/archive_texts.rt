@@ -3,9 +3,12 @@
 use crate::archive_errors::failure_of;
 use crate::archive_parts::{archive_columns, key_names};
 use msi::{CodePage, Column, Error, IntoText, Items, Value};
-use msi_text_archive::{Archive, write};
+use msi_text_archive::{Archive, ArchiveError, write};
 use msipkg_output::Failure;
 use std::alloc::Global;
+
+/// The refusal of a text in a row: these characters stand for others there.
+const STAND_IN: &str = "no text archive has a text with a character 16, 17, 21, 24, 25 or 27";
 
 /// Returns the text of a table's archive. It names the code page only where one of its texts isn't ASCII.
 ///
@@ -23,7 +26,35 @@ pub(crate) fn archive_text(
     let archive = archive_of(alloc, number, table, columns, Items::from_vec(rows))?;
     match write(alloc, &archive) {
         Ok(text) => Ok(text),
-        Err(error) => Err(failure_of(alloc, "table", table, &error)),
+        Err(error) => Err(refusal(alloc, table, columns, &error)),
+    }
+}
+
+/// Why a table has no archive. Of a row, whose texts alone may have none, the place is its number, counted from 1, and
+/// the column.
+fn refusal(alloc: Global, table: &str, columns: &[Column], error: &ArchiveError) -> Failure {
+    match cell_of(columns, error) {
+        Some((row, column)) => at_cell(alloc, table, row, column),
+        None => failure_of(alloc, "table", table, error),
+    }
+}
+
+/// The row and the column of an error, if it is in a row, which stands behind three lines.
+fn cell_of<'a>(columns: &'a [Column], error: &ArchiveError) -> Option<(usize, &'a str)> {
+    let place = error.place()?;
+    if place.line <= 3 {
+        return None;
+    }
+    let column = columns.get(place.field.saturating_sub(1))?;
+    Some((place.line - 3, column.name()))
+}
+
+/// The failure of a text in a row and a column.
+fn at_cell(alloc: Global, table: &str, row: usize, column: &str) -> Failure {
+    let failure = Failure::rule(STAND_IN);
+    match format!(in alloc; "{table}: row {row}, column {column}") {
+        Ok(place) => failure.at(alloc, "table", place.as_str()),
+        Err(_) => failure,
     }
 }
 

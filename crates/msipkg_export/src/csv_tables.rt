@@ -1,12 +1,13 @@
 //! Tables as comma-separated values: the names of the columns, and then a line for each row.
 
 use crate::exporting::BARE;
+use crate::folders::make_folder;
 use msi::{Package, Source, Table};
 use msipkg_output::{
     Failure, Folder, Format, SafeNames, Style, chosen_tables, rows_of, write_rows,
 };
 use std::alloc::{AllocError, Global};
-use std::fs::{self, OpenFile};
+use std::fs::OpenFile;
 use std::io::Write;
 use std::rt::Files;
 
@@ -28,7 +29,7 @@ where
     F: Source,
 {
     let tables = chosen_tables(rt.alloc(), package, names, false)?;
-    fs::create_dir_all(rt, folder.path)?;
+    make_folder(rt, folder.path)?;
     let mut given = SafeNames::new(rt.alloc());
     for table in &tables {
         export_table(rt, package, table, folder, &mut given)?;

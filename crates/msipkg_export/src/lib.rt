@@ -8,7 +8,9 @@ mod archive_texts;
 pub mod archives;
 pub mod csv_tables;
 pub mod exporting;
+mod folders;
 pub mod json_packages;
+mod other_archives;
 pub mod table_archives;
 
 pub use archive_errors::failure_of;

@@ -2,7 +2,7 @@
 
 use crate::archive_parts::text_value;
 use crate::archive_texts::archive_text;
-use msi::{CodePage, Items, Package, Row, Rows, Source, Table, Value};
+use msi::{CodePage, Error, Items, Package, Row, Rows, Source, Table, Value};
 use msipkg_output::{Failure, SafeNames, Shown, Style, rows_of, stream_name};
 use std::alloc::Global;
 use std::io::{self, Write};
@@ -32,6 +32,8 @@ impl StreamFile {
 
 /// A table as the text of an archive, with the files of its rows' streams.
 pub struct TableArchive {
+    /// The code page in which the text is stored.
+    pub page: CodePage,
     /// The text.
     pub text: String,
     /// The streams of the rows, whose values in the archive are the names of their files.
@@ -41,14 +43,35 @@ pub struct TableArchive {
 /// Written out, so that a function that owns one calls one drop, and its proof doesn't go through those of the parts.
 impl Drop for TableArchive {
     fn drop(self) {
-        let TableArchive { text: _, files: _ } = self;
+        let TableArchive {
+            page: _,
+            text: _,
+            files: _,
+        } = self;
     }
 }
 
 impl TableArchive {
+    /// Returns an archive of a text in a code page, and of the streams that it names.
+    pub(crate) fn new(page: CodePage, text: String, files: Vec<StreamFile>) -> TableArchive {
+        TableArchive { page, text, files }
+    }
+
+    /// Returns the bytes of the text, as they are stored.
+    ///
+    /// # Errors
+    /// Fails with `InvalidInput` if the text can't be written in its code page, and with `OutOfMemory`.
+    pub(crate) fn encoded(&self, alloc: Global) -> Result<Vec<u8>, Error> {
+        self.page.encode(alloc, self.text.as_str())
+    }
+
     /// Returns the streams of the rows.
     pub(crate) fn into_files(self) -> Vec<StreamFile> {
-        let TableArchive { text: _, files } = self;
+        let TableArchive {
+            page: _,
+            text: _,
+            files,
+        } = self;
         files
     }
 }
@@ -111,7 +134,7 @@ impl Gathering {
             rows,
         } = self;
         let text = archive_text(alloc, page, table.name(), table.columns(), rows)?;
-        Ok(TableArchive { text, files })
+        Ok(TableArchive::new(page, text, files))
     }
 
     /// Adds a row.
@@ -160,9 +183,7 @@ pub(crate) fn write_archive<F: Source, W: Write>(
     if style.is_escaped {
         return Ok(write_shown(archive.text.as_str(), output)?);
     }
-    let page = package.database_codepage();
-    let bytes = page.encode(alloc, archive.text.as_str())?;
-    Ok(output.write_all(bytes.as_slice())?)
+    Ok(output.write_all(archive.encoded(alloc)?.as_slice())?)
 }
 
 /// Writes the lines of an archive with escapes.
