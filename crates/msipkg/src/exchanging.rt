@@ -4,7 +4,7 @@ use crate::commands::Asked;
 use crate::words::Verb;
 use msi::{Package, Source};
 use msipkg_diff::print_differences;
-use msipkg_export::{Target, export, export_line};
+use msipkg_export::{FileFormat, Target, export, export_line};
 use msipkg_output::{Failure, open_package};
 use std::fs::OpenFile;
 use std::io::{Read, Seek, Write};
@@ -35,10 +35,10 @@ where
     E: Write,
 {
     if is_each(asked) {
-        return export_line(rt.alloc(), asked.style, file, package, output);
+        return export_line(rt.alloc(), asked.style, file, package, output, errors);
     }
     let target = Target {
-        format: asked.text("format"),
+        format: FileFormat::of_name(asked.text("format")).unwrap_or(FileFormat::Json),
         path: asked.given.get_str("output"),
         is_forced: asked.given.get_flag("force"),
         style: asked.style,

@@ -10,7 +10,7 @@ use msipkg_output::{
 };
 use std::alloc::Global;
 use std::fs::OpenFile;
-use std::io::{BufWriter, Write};
+use std::io::{self, BufWriter, Write};
 use std::rt::Files;
 
 /// How many bytes are collected before they go to a file.
@@ -25,11 +25,34 @@ pub(crate) const BARE: Style = Style {
 /// The refusal of several tables on the output.
 const FOLDER: &str = "more than one table goes into a folder: add -o DIR";
 
+/// The formats of files that other programs read.
+#[derive(Clone, Copy)]
+pub enum FileFormat {
+    /// A package, or some of its tables, as one line of JSON.
+    Json,
+    /// A table as comma-separated values.
+    Csv,
+    /// A table as a text archive of the installer.
+    Idt,
+}
+
+impl FileFormat {
+    /// Returns the format of this name, as the command line has it.
+    pub fn of_name(name: &str) -> Option<FileFormat> {
+        match name {
+            "json" => Some(FileFormat::Json),
+            "csv" => Some(FileFormat::Csv),
+            "idt" => Some(FileFormat::Idt),
+            _ => None,
+        }
+    }
+}
+
 /// What an export goes to.
 #[derive(Clone, Copy)]
 pub struct Target<'a> {
-    /// The format: `json`, `csv` or `idt`.
-    pub format: &'a str,
+    /// The format of the files.
+    pub format: FileFormat,
     /// The path of a file for JSON, or of a folder for the other formats; without one the output.
     pub path: Option<&'a str>,
     /// Whether files that are there already are replaced.
@@ -65,8 +88,8 @@ where
         None => print_package(rt.alloc(), file, package, names, target, output)?,
         Some(path) => write_files(rt, file, package, names, target, path)?,
     }
-    if names.is_empty() && target.format != "csv" {
-        note_hidden(package, notes)?;
+    if names.is_empty() && !matches!(target.format, FileFormat::Csv) {
+        note_hidden(file, package, notes)?;
     }
     Ok(())
 }
@@ -81,13 +104,16 @@ fn print_package<F: Source, O: Write + Drop>(
     output: &mut O,
 ) -> Result<(), Failure> {
     let style = target.style;
-    if target.format == "json" {
-        return write_package(alloc, style, file, package, names, output);
-    }
-    let table = one_table(alloc, package, names)?;
     match target.format {
-        "csv" => write_csv(alloc, style, package, table, output),
-        _ => write_archive(alloc, style, package, table, output),
+        FileFormat::Json => write_package(alloc, style, file, package, names, output),
+        FileFormat::Csv => {
+            let table = one_table(alloc, package, names)?;
+            write_csv(alloc, style, package, table, output)
+        }
+        FileFormat::Idt => {
+            let table = one_table(alloc, package, names)?;
+            write_archive(alloc, style, package, table, output)
+        }
     }
 }
 
@@ -120,13 +146,13 @@ where
     let is_forced = target.is_forced;
     let folder = Folder { path, is_forced };
     match target.format {
-        "json" => at_file(
+        FileFormat::Json => at_file(
             rt.alloc(),
             path,
             write_json(rt, file, package, names, &folder),
         ),
-        "csv" => export_csv(rt, package, names, &folder),
-        _ => export_archives(rt, package, names, &folder),
+        FileFormat::Csv => export_csv(rt, package, names, &folder),
+        FileFormat::Idt => export_archives(rt, package, names, &folder),
     }
 }
 
@@ -174,34 +200,46 @@ fn write_buffered<F: Source, W: Write>(
     Ok(lines.flush()?)
 }
 
-/// Writes a line for each stream that isn't found under its name.
-fn note_hidden<F: Source, N: Write>(package: &Package<F>, notes: &mut N) -> Result<(), Failure> {
+/// Writes a line for each stream of a file's package that isn't found under its name.
+fn note_hidden<F: Source, N: Write>(
+    file: &str,
+    package: &Package<F>,
+    notes: &mut N,
+) -> Result<(), Failure> {
     for name in package.streams() {
         let name = name?;
         if !package.has_stream(name.as_str()) {
-            let name = Shown::escaped(name.as_str());
-            writeln!(
-                notes,
-                "msipkg: stream {name}: it isn't exported, since it isn't found under its name"
-            )?;
+            note_stream(file, name.as_str(), notes)?;
         }
     }
     Ok(())
 }
 
-/// Writes a package as a line of JSON, if its tables can all be read.
+/// Writes the line for a stream that isn't exported.
+fn note_stream<N: Write>(file: &str, stream: &str, notes: &mut N) -> io::Result<()> {
+    let (file, stream) = (Shown::escaped(file), Shown::escaped(stream));
+    writeln!(
+        notes,
+        "msipkg: {file}: stream {stream}: it isn't exported, since it isn't found under its name"
+    )
+}
+
+/// Writes a file's package as a line of JSON, if its tables can all be read. If it has streams that aren't found under
+/// their names, `notes` gets a line for each, since they aren't exported.
 ///
 /// # Errors
-/// Fails if a table can't be read, and then nothing is written; and as the writer does.
-pub fn export_line<F: Source, O: Write>(
+/// Fails if a table can't be read, and then nothing is written; and as the writers do.
+pub fn export_line<F: Source, O: Write, N: Write>(
     alloc: Global,
     style: Style,
     file: &str,
     package: &Package<F>,
     output: &mut O,
+    notes: &mut N,
 ) -> Result<(), Failure> {
     check_tables(alloc, package)?;
-    write_package(alloc, style, file, package, &[], output)
+    write_package(alloc, style, file, package, &[], output)?;
+    note_hidden(file, package, notes)
 }
 
 /// Fails if a table can't be read.

@@ -14,4 +14,4 @@ mod other_archives;
 pub mod table_archives;
 
 pub use archive_errors::failure_of;
-pub use exporting::{Target, export, export_line};
+pub use exporting::{FileFormat, Target, export, export_line};
