@@ -1,11 +1,13 @@
 //! Text archives, made of columns and rows.
 
-use crate::archive_errors::failure_of;
 use crate::archive_parts::{archive_columns, key_names};
 use msi::{CodePage, Column, Error, IntoText, Items, Value};
 use msi_text_archive::{Archive, ArchiveError, write};
 use msipkg_output::Failure;
-use std::alloc::Global;
+use std::alloc::{AllocError, Global};
+
+/// How many lines of an archive stand in front of those of the rows.
+const HEAD: usize = 3;
 
 /// The refusal of a text in a row: these characters stand for others there.
 const STAND_IN: &str = "no text archive has a text with a character 16, 17, 21, 24, 25 or 27";
@@ -30,31 +32,49 @@ pub(crate) fn archive_text(
     }
 }
 
-/// Why a table has no archive. Of a row, whose texts alone may have none, the place is its number, counted from 1, and
-/// the column.
+/// Why a table has no archive, for people: the column, and in a row also its number, counted from 1.
 fn refusal(alloc: Global, table: &str, columns: &[Column], error: &ArchiveError) -> Failure {
-    match cell_of(columns, error) {
-        Some((row, column)) => at_cell(alloc, table, row, column),
-        None => failure_of(alloc, "table", table, error),
-    }
-}
-
-/// The row and the column of an error, if it is in a row, which stands behind three lines.
-fn cell_of<'a>(columns: &'a [Column], error: &ArchiveError) -> Option<(usize, &'a str)> {
-    let place = error.place()?;
-    if place.line <= 3 {
-        return None;
-    }
-    let column = columns.get(place.field.saturating_sub(1))?;
-    Some((place.line - 3, column.name()))
-}
-
-/// The failure of a text in a row and a column.
-fn at_cell(alloc: Global, table: &str, row: usize, column: &str) -> Failure {
-    let failure = Failure::rule(STAND_IN);
-    match format!(in alloc; "{table}: row {row}, column {column}") {
+    let failure = Failure::rule(rule_of(error));
+    match place_text(alloc, table, columns, error) {
         Ok(place) => failure.at(alloc, "table", place.as_str()),
         Err(_) => failure,
+    }
+}
+
+/// The rule that is broken. In a row, whose values are those of a table, only a text breaks one.
+fn rule_of(error: &ArchiveError) -> &'static str {
+    match error.place() {
+        Some(place) if place.line > HEAD => STAND_IN,
+        _ => error.reason().0,
+    }
+}
+
+/// The text of a place in a table.
+fn place_text(
+    alloc: Global,
+    table: &str,
+    columns: &[Column],
+    error: &ArchiveError,
+) -> Result<String, AllocError> {
+    let Some(place) = error.place() else {
+        return String::from_str(alloc, table);
+    };
+    let column = name_of(columns, place.field);
+    match place.line {
+        1 | 2 => format!(in alloc; "{table}: column {column}"),
+        3 => String::from_str(alloc, table),
+        line => {
+            let row = line.saturating_sub(HEAD);
+            format!(in alloc; "{table}: row {row}, column {column}")
+        }
+    }
+}
+
+/// The name of the column of a number, counted from 1.
+fn name_of(columns: &[Column], number: usize) -> &str {
+    match columns.get(number.saturating_sub(1)) {
+        Some(column) => column.name(),
+        None => "",
     }
 }
 

@@ -2,7 +2,6 @@
 //! archives of the installer (IDT files).
 #![tactic(auto)]
 
-mod archive_errors;
 mod archive_parts;
 mod archive_texts;
 pub mod archives;
@@ -13,5 +12,4 @@ pub mod json_packages;
 mod other_archives;
 pub mod table_archives;
 
-pub use archive_errors::failure_of;
 pub use exporting::{FileFormat, Target, export, export_line};
