@@ -1,6 +1,6 @@
 //! Output and files of `msipkg`: texts that are safe on a terminal, aligned tables, rows as CSV and JSON, and why a
-//! command failed; opening packages in any code page, and their streams, replacing a file whole, and names of files that
-//! stay inside a folder.
+//! command failed; opening packages in any code page, and their streams, replacing a file whole, and names of files
+//! that stay inside a folder.
 #![tactic(auto)]
 
 pub mod columns;

@@ -15,7 +15,7 @@ pub type Opened<F> = Metered<Either<F, Cursor<Vec<u8>>>>;
 /// says so.
 ///
 /// # Errors
-/// Fails if the file can't be opened, as `Package::open` and `recoded` do, and as the writer does.
+/// Fails if the file can't be opened, as `Package::open` and `recode_file` do, and as the writer does.
 pub fn open_package<R, N>(
     rt: &R,
     file: PackageFile<'_>,

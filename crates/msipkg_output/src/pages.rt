@@ -2,7 +2,7 @@
 
 use msi::compound::{Name, StreamMap};
 use msi::{Error, streamname};
-use msi_recode::TextPage;
+use msi_recode::{RecodeError, TextPage};
 use std::alloc::Global;
 use std::fmt;
 
@@ -39,7 +39,16 @@ impl NamedPages {
 
     /// Returns whether one of them is page 0, which says nothing of how texts are read.
     pub(crate) fn has_zero(self) -> bool {
-        matches!(self.database, Some(0)) || matches!(self.summary, Some(0))
+        is_zero(self.database) || is_zero(self.summary)
+    }
+
+    /// Returns whether the page of the text that an error is about is page 0.
+    pub(crate) fn is_zero_at(self, error: &RecodeError) -> bool {
+        match error {
+            RecodeError::Package(_) => false,
+            RecodeError::Place(_, _) => is_zero(self.database),
+            RecodeError::Property(_, _) => is_zero(self.summary),
+        }
     }
 
     /// Returns the pages that texts are recoded from: those that packages aren't read in, and for page 0 the one that
@@ -77,6 +86,11 @@ impl fmt::Display for Pages {
             (None, None) => f.write_str("no page"),
         }
     }
+}
+
+/// Whether a page is named, and it is page 0.
+fn is_zero(named: Option<i32>) -> bool {
+    matches!(named, Some(0))
 }
 
 /// The page that texts are recoded from, if they are.

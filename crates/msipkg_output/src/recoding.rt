@@ -8,6 +8,7 @@ use msi_recode::{RecodeError, TextPage, recode_contents};
 use std::alloc::Global;
 use std::fs;
 use std::io::{self, Read, Write};
+use std::rc::Rc;
 use std::rt::Files;
 
 /// The file of a package, and how it is read.
@@ -66,14 +67,14 @@ impl Recoded {
 /// package isn't tried as it is, since bytes in any page may happen to be UTF-8.
 ///
 /// # Errors
-/// Fails as `recoded` does.
+/// Fails as `recode_file` does.
 pub fn recoded_by_page<R>(rt: &R, file: PackageFile<'_>) -> Result<Option<Recoded>, Failure>
 where
     R: Files + AllocGlobal,
     R::File: Read + Drop,
 {
     match file.page {
-        Some(_) => recoded(rt, file),
+        Some(_) => recode_file(rt, file),
         None => Ok(None),
     }
 }
@@ -81,7 +82,7 @@ where
 /// Returns the bytes of a package that can't be opened as it is, with its texts in UTF-8.
 ///
 /// # Errors
-/// Fails as `recoded` does, and with the failure of opening if the package has no texts to be recoded.
+/// Fails as `recode_file` does, and with the failure of opening if the package has no texts to be recoded.
 pub fn recoded_instead<R>(
     rt: &R,
     file: PackageFile<'_>,
@@ -91,7 +92,7 @@ where
     R: Files + AllocGlobal,
     R::File: Read + Drop,
 {
-    match recoded(rt, file)? {
+    match recode_file(rt, file)? {
         Some(recoded) => Ok(recoded),
         None => Err(failure),
     }
@@ -102,13 +103,13 @@ where
 ///
 /// # Errors
 /// Fails if the file can't be read, and at a text that its page doesn't read.
-pub fn recoded<R>(rt: &R, file: PackageFile<'_>) -> Result<Option<Recoded>, Failure>
+pub fn recode_file<R>(rt: &R, file: PackageFile<'_>) -> Result<Option<Recoded>, Failure>
 where
     R: Files + AllocGlobal,
     R::File: Read + Drop,
 {
-    let bytes = fs::read(rt, file.path)?;
-    match compound::read(rt.alloc(), bytes.as_slice()) {
+    let bytes = Rc::new(rt.alloc(), fs::read(rt, file.path)?)?;
+    match compound::read_shared(rt.alloc(), bytes) {
         Ok(contents) => recoded_of(rt.alloc(), contents, file.page),
         Err(_) => Ok(None),
     }
@@ -123,8 +124,8 @@ fn recoded_of(
 ) -> Result<Option<Recoded>, Failure> {
     let named = NamedPages::of(alloc, &contents.streams)?;
     let pages = named.recoded_from(given);
-    let is_unnamed = named.has_zero() && given.is_none();
-    if pages.is_empty() && !is_unnamed {
+    let may_be_unread = given.is_none() && named.has_zero();
+    if pages.is_empty() && !may_be_unread {
         return Ok(None);
     }
     match recode_contents(alloc, given.and_then(TextPage::of), contents) {
@@ -133,14 +134,9 @@ fn recoded_of(
             let bytes = compound::write(alloc, &contents, 0)?;
             Ok(Some(Recoded { bytes, pages }))
         }
-        Err(error) => Err(failure_of(error, is_unnamed)),
+        Err(error) if given.is_none() && named.is_zero_at(&error) => {
+            Err(Failure::new(Cause::Unnamed(error)))
+        }
+        Err(error) => Err(Failure::new(Cause::Text(error))),
     }
-}
-
-/// Why texts aren't recoded.
-fn failure_of(error: RecodeError, is_unnamed: bool) -> Failure {
-    if is_unnamed {
-        return Failure::new(Cause::Unnamed(error));
-    }
-    Failure::new(Cause::Text(error))
 }
