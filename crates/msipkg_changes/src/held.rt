@@ -13,7 +13,7 @@ use std::rt::Files;
 /// # Errors
 /// Fails if the file can't be read, as `Package::open` and recoding do, and if the texts are to be recoded and may not
 /// be.
-pub fn load<R, N>(rt: &R, file: PackageFile<'_>, notes: &mut N) -> Result<Package<Memory>, Failure>
+pub fn load<R, N>(rt: &R, file: &PackageFile<'_>, notes: &mut N) -> Result<Package<Memory>, Failure>
 where
     R: Files + AllocGlobal,
     R::File: Read + Drop,

@@ -18,7 +18,7 @@ pub type Opened<F> = Metered<Either<F, Cursor<Vec<u8>>>>;
 /// Fails if the file can't be opened, as `Package::open` and `recode_file` do, and as the writer does.
 pub fn open_package<R, N>(
     rt: &R,
-    file: PackageFile<'_>,
+    file: &PackageFile<'_>,
     notes: &mut N,
 ) -> Result<Package<Opened<R::File>>, Failure>
 where
