@@ -79,10 +79,10 @@ where
     }
 }
 
-/// Returns the bytes of a package that can't be opened as it is, with its texts in UTF-8.
+/// Returns the bytes of a package that isn't opened as it is, for this failure, with its texts in UTF-8.
 ///
 /// # Errors
-/// Fails as `recode_file` does, and with the failure of opening if the package has no texts to be recoded.
+/// Fails as `recode_file` does, and with that failure if no invalid data was found or there are no texts to be recoded.
 pub fn recoded_instead<R>(
     rt: &R,
     file: &PackageFile<'_>,
@@ -92,6 +92,9 @@ where
     R: Files + AllocGlobal,
     R::File: Read + Drop,
 {
+    if !failure.is_invalid_data() {
+        return Err(failure);
+    }
     match recode_file(rt, file)? {
         Some(recoded) => Ok(recoded),
         None => Err(failure),
