@@ -33,12 +33,12 @@ where
     let file = asked.package(asked.file());
     match asked.verb {
         Verb::New => create_package(rt, file.path, wanted(asked)),
-        Verb::Add => add_streams(rt, file, asked.texts("NAME=PATH"), errors),
-        Verb::Remove => remove_streams(rt, file, asked.texts("NAME"), errors),
-        Verb::Exec => carry_out_statements(rt, file, asked.texts("TEXT"), errors),
-        Verb::Import => import_files(rt, file, asked.texts("PATH"), errors),
+        Verb::Add => add_streams(rt, &file, asked.texts("NAME=PATH"), errors),
+        Verb::Remove => remove_streams(rt, &file, asked.texts("NAME"), errors),
+        Verb::Exec => carry_out_statements(rt, &file, asked.texts("TEXT"), errors),
+        Verb::Import => import_files(rt, &file, asked.texts("PATH"), errors),
         Verb::Batch => Err(Failure::rule("batch is no command of a batch")),
-        _ => set_properties(rt, file, asked.texts("set"), asked.texts("clear"), errors),
+        _ => set_properties(rt, &file, asked.texts("set"), asked.texts("clear"), errors),
     }
 }
 

@@ -70,7 +70,7 @@ where
     O: Write,
     E: Write,
 {
-    let old = open_package(rt, asked.package(asked.file()), errors)?;
+    let old = open_package(rt, &asked.package(asked.file()), errors)?;
     compare_with(rt, asked, &old, output, errors)
 }
 
@@ -90,7 +90,7 @@ where
     E: Write,
 {
     let files = (asked.file(), asked.text("OTHER"));
-    let new = match open_package(rt, asked.package(files.1), errors) {
+    let new = match open_package(rt, &asked.package(files.1), errors) {
         Ok(package) => package,
         Err(failure) => return Err(failure.at(rt.alloc(), "file", files.1)),
     };

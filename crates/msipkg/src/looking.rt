@@ -35,7 +35,7 @@ where
     E: Write,
 {
     check_words(rt.alloc(), asked)?;
-    let mut package = open_package(rt, asked.package(file), errors)?;
+    let mut package = open_package(rt, &asked.package(file), errors)?;
     show(rt, asked, file, &mut package, output, errors)
 }
 

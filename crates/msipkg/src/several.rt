@@ -105,13 +105,13 @@ where
     E: Write,
 {
     if asked.given.get_flag("fix") {
-        fix(rt, asked.package(file), errors)?;
+        fix(rt, &asked.package(file), errors)?;
     }
     look(rt, asked, file, output, errors)
 }
 
 /// Mends the counts of a file, and prints how many were wrong.
-fn fix<R, E>(rt: &R, file: PackageFile<'_>, errors: &mut E) -> Result<(), Failure>
+fn fix<R, E>(rt: &R, file: &PackageFile<'_>, errors: &mut E) -> Result<(), Failure>
 where
     R: Files + AllocGlobal,
     R::File: OpenFile + Read + Write + Drop,

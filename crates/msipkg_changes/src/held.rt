@@ -1,7 +1,9 @@
 //! Packages that are held in memory while they are changed.
 
 use msi::{Memory, Package};
-use msipkg_output::{Failure, PackageFile, Shown, recoded_by_page, recoded_instead, replace_file};
+use msipkg_output::{
+    Failure, PackageFile, Recoded, Shown, recoded_by_page, recoded_instead, replace_file,
+};
 use std::alloc::Global;
 use std::fs::{self, OpenFile};
 use std::io::{Read, Write};
@@ -13,21 +15,33 @@ use std::rt::Files;
 /// # Errors
 /// Fails if the file can't be read, as `Package::open` and recoding do, and if the texts are to be recoded and may not
 /// be.
-pub fn load<R, N>(rt: &R, file: PackageFile<'_>, notes: &mut N) -> Result<Package<Memory>, Failure>
+pub fn load<R, N>(rt: &R, file: &PackageFile<'_>, notes: &mut N) -> Result<Package<Memory>, Failure>
 where
     R: Files + AllocGlobal,
     R::File: Read + Drop,
     N: Write,
 {
-    let recoded = match recoded_by_page(rt, file)? {
-        Some(recoded) => recoded,
-        None => match package_of(rt.alloc(), fs::read(rt, file.path)?) {
-            Err(failure) if failure.is_invalid_data() => recoded_instead(rt, file, failure)?,
-            loaded => return loaded,
-        },
-    };
+    if let Some(recoded) = recoded_by_page(rt, file)? {
+        return load_recoded(rt.alloc(), file, recoded, notes);
+    }
+    match package_of(rt.alloc(), fs::read(rt, file.path)?) {
+        Ok(package) => Ok(package),
+        Err(failure) => {
+            let recoded = recoded_instead(rt, file, failure)?;
+            load_recoded(rt.alloc(), file, recoded, notes)
+        }
+    }
+}
+
+/// A package that was recoded, if it may be written.
+fn load_recoded<N: Write>(
+    alloc: Global,
+    file: &PackageFile<'_>,
+    recoded: Recoded,
+    notes: &mut N,
+) -> Result<Package<Memory>, Failure> {
     recoded.permit(file, notes)?;
-    package_of(rt.alloc(), recoded.into_bytes())
+    package_of(alloc, recoded.into_bytes())
 }
 
 /// The package of these bytes.

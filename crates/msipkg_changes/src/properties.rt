@@ -65,7 +65,7 @@ static PROPERTIES: [(&str, Property); 18] = [
 /// package's file is as it was.
 pub fn set_properties<R, N>(
     rt: &R,
-    file: PackageFile<'_>,
+    file: &PackageFile<'_>,
     pairs: &[&str],
     cleared: &[&str],
     notes: &mut N,

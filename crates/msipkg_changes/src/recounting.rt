@@ -12,7 +12,7 @@ use std::rt::Files;
 ///
 /// # Errors
 /// Fails as `Package::recount` and storing the package do. Then the package's file is as it was.
-pub fn recount_package<R, N>(rt: &R, file: PackageFile<'_>, notes: &mut N) -> Result<u32, Failure>
+pub fn recount_package<R, N>(rt: &R, file: &PackageFile<'_>, notes: &mut N) -> Result<u32, Failure>
 where
     R: Files + AllocGlobal,
     R::File: OpenFile + Read + Write + Drop,

@@ -19,7 +19,7 @@ use std::rt::Files;
 /// as it was.
 pub fn carry_out_statements<R, N>(
     rt: &R,
-    file: PackageFile<'_>,
+    file: &PackageFile<'_>,
     texts: &[&str],
     notes: &mut N,
 ) -> Result<(), Failure>

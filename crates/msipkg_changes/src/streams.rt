@@ -15,7 +15,7 @@ use std::rt::Files;
 /// Then the package's file is as it was.
 pub fn add_streams<R, N>(
     rt: &R,
-    file: PackageFile<'_>,
+    file: &PackageFile<'_>,
     pairs: &[&str],
     notes: &mut N,
 ) -> Result<(), Failure>
@@ -75,7 +75,7 @@ pub fn fill_stream(package: &mut Package<Memory>, name: &str, bytes: &[u8]) -> R
 /// Fails if a stream isn't there, and as storing the package does. Then the package's file is as it was.
 pub fn remove_streams<R, N>(
     rt: &R,
-    file: PackageFile<'_>,
+    file: &PackageFile<'_>,
     names: &[&str],
     notes: &mut N,
 ) -> Result<(), Failure>

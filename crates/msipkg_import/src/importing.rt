@@ -20,7 +20,7 @@ use std::rt::Files;
 /// do, and as storing the package does. Then the package's file is as it was.
 pub fn import_files<R, N>(
     rt: &R,
-    file: PackageFile<'_>,
+    file: &PackageFile<'_>,
     paths: &[&str],
     notes: &mut N,
 ) -> Result<(), Failure>

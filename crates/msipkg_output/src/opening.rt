@@ -1,9 +1,10 @@
 //! Opening the package of a file for looking at it.
 
 use crate::failure::Failure;
-use crate::recoding::{PackageFile, recoded_by_page, recoded_instead};
+use crate::recoding::{PackageFile, Recoded, recoded_by_page, recoded_instead};
 use either::{Either, Left, Right};
 use msi::{Metered, Package};
+use std::alloc::Global;
 use std::fs;
 use std::io::{Cursor, Read, Seek, Write};
 use std::rt::Files;
@@ -18,7 +19,7 @@ pub type Opened<F> = Metered<Either<F, Cursor<Vec<u8>>>>;
 /// Fails if the file can't be opened, as `Package::open` and `recode_file` do, and as the writer does.
 pub fn open_package<R, N>(
     rt: &R,
-    file: PackageFile<'_>,
+    file: &PackageFile<'_>,
     notes: &mut N,
 ) -> Result<Package<Opened<R::File>>, Failure>
 where
@@ -26,16 +27,16 @@ where
     R::File: Read + Seek + Drop,
     N: Write,
 {
-    let recoded = match recoded_by_page(rt, file)? {
-        Some(recoded) => recoded,
-        None => match open_as_it_is(rt, file.path) {
-            Err(failure) if failure.is_invalid_data() => recoded_instead(rt, file, failure)?,
-            opened => return opened,
-        },
-    };
-    recoded.note(file.path, notes)?;
-    let bytes = Cursor::new(recoded.into_bytes());
-    Ok(Package::open(rt.alloc(), Metered::new(Right(bytes)))?)
+    if let Some(recoded) = recoded_by_page(rt, file)? {
+        return open_recoded(rt.alloc(), file.path, recoded, notes);
+    }
+    match open_as_it_is(rt, file.path) {
+        Ok(package) => Ok(package),
+        Err(failure) => {
+            let recoded = recoded_instead(rt, file, failure)?;
+            open_recoded(rt.alloc(), file.path, recoded, notes)
+        }
+    }
 }
 
 /// The package of a file, as it is.
@@ -46,4 +47,20 @@ where
 {
     let file = fs::open(rt, path)?;
     Ok(Package::open(rt.alloc(), Metered::new(Left(file)))?)
+}
+
+/// A package that was recoded, which is noted.
+fn open_recoded<F, N>(
+    alloc: Global,
+    path: &str,
+    recoded: Recoded,
+    notes: &mut N,
+) -> Result<Package<Opened<F>>, Failure>
+where
+    F: Read + Seek + Drop,
+    N: Write,
+{
+    recoded.note(path, notes)?;
+    let bytes = Cursor::new(recoded.into_bytes());
+    Ok(Package::open(alloc, Metered::new(Right(bytes)))?)
 }

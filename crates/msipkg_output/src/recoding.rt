@@ -55,7 +55,7 @@ impl Recoded {
     ///
     /// # Errors
     /// Fails with the pages of the texts, and as the writer does.
-    pub fn permit<N: Write>(&self, file: PackageFile<'_>, notes: &mut N) -> Result<(), Failure> {
+    pub fn permit<N: Write>(&self, file: &PackageFile<'_>, notes: &mut N) -> Result<(), Failure> {
         if !file.is_recoded {
             return Err(Failure::new(Cause::Recoding(self.pages)));
         }
@@ -68,7 +68,7 @@ impl Recoded {
 ///
 /// # Errors
 /// Fails as `recode_file` does.
-pub fn recoded_by_page<R>(rt: &R, file: PackageFile<'_>) -> Result<Option<Recoded>, Failure>
+pub fn recoded_by_page<R>(rt: &R, file: &PackageFile<'_>) -> Result<Option<Recoded>, Failure>
 where
     R: Files + AllocGlobal,
     R::File: Read + Drop,
@@ -79,19 +79,22 @@ where
     }
 }
 
-/// Returns the bytes of a package that can't be opened as it is, with its texts in UTF-8.
+/// Returns the bytes of a package that isn't opened as it is, for this failure, with its texts in UTF-8.
 ///
 /// # Errors
-/// Fails as `recode_file` does, and with the failure of opening if the package has no texts to be recoded.
+/// Fails as `recode_file` does, and with that failure if no invalid data was found or there are no texts to be recoded.
 pub fn recoded_instead<R>(
     rt: &R,
-    file: PackageFile<'_>,
+    file: &PackageFile<'_>,
     failure: Failure,
 ) -> Result<Recoded, Failure>
 where
     R: Files + AllocGlobal,
     R::File: Read + Drop,
 {
+    if !failure.is_invalid_data() {
+        return Err(failure);
+    }
     match recode_file(rt, file)? {
         Some(recoded) => Ok(recoded),
         None => Err(failure),
@@ -103,7 +106,7 @@ where
 ///
 /// # Errors
 /// Fails if the file can't be read, and at a text that its page doesn't read.
-pub fn recode_file<R>(rt: &R, file: PackageFile<'_>) -> Result<Option<Recoded>, Failure>
+pub fn recode_file<R>(rt: &R, file: &PackageFile<'_>) -> Result<Option<Recoded>, Failure>
 where
     R: Files + AllocGlobal,
     R::File: Read + Drop,
