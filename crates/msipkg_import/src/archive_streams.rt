@@ -152,7 +152,7 @@ where
 {
     let is_folder = fs::symlink_metadata(rt, folder)?.is_dir();
     if !is_folder || !fs::symlink_metadata(rt, path)?.is_file() {
-        return Err(Failure::rule("it is a link, or no regular file"));
+        return Err(Failure::rule("it is no regular file, or its folder or itself is a link"));
     }
     Ok(fs::read(rt, path)?)
 }

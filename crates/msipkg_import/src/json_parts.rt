@@ -1,33 +1,44 @@
 //! Columns and rows from JSON.
 
 use crate::described::Described;
-use crate::json_package::JsonColumn;
+use crate::members::Members;
 use crate::places::{at_column, at_row};
 use msi::{ColumnType, Value};
 use msipkg_output::Failure;
 use serde_json::Value as Json;
 use std::alloc::Global;
 
-/// The columns of a table.
+/// The columns of a table. What their values are limited to stands in rows of `_Validation`, too, and is taken there.
 ///
 /// # Errors
-/// Fails at a column whose type is none, and if memory is refused.
+/// Fails at a column that isn't one as `export` writes it, and if memory is refused.
 pub(crate) fn columns_of(
     alloc: Global,
     table: &str,
-    items: &[JsonColumn],
+    items: &[Json],
 ) -> Result<Vec<Described>, Failure> {
     let mut columns = Vec::with_capacity(alloc, items.len())?;
     for item in items {
-        let mut column = Described::new(alloc, item.column.as_str(), ColumnType::Int16)?;
-        if !column.take_type(item.coltype.as_str()) {
-            let failure = Failure::rule("its type has to be one such as s72, i2 or v0");
-            return Err(at_column(alloc, failure, table, item.column.as_str()));
+        let mut members = Members::of(item);
+        let name = members.text("column");
+        match column_of(alloc, name, &mut members) {
+            Ok(column) => columns.push(column)?,
+            Err(failure) => return Err(at_column(alloc, failure, table, name)),
         }
-        column.is_key = item.key;
-        columns.push(column)?;
     }
     Ok(columns)
+}
+
+/// A column.
+fn column_of(alloc: Global, name: &str, members: &mut Members<'_>) -> Result<Described, Failure> {
+    let mut column = Described::new(alloc, name, ColumnType::Int16)?;
+    column.is_key = members.holds("key");
+    let is_known = column.take_type(members.text("type"));
+    members.check()?;
+    if !is_known {
+        return Err(Failure::rule("its type has to be one such as s72, i2 or v0"));
+    }
+    Ok(column)
 }
 
 /// The rows of a table.
@@ -37,11 +48,11 @@ pub(crate) fn columns_of(
 pub(crate) fn rows_of(
     alloc: Global,
     table: &str,
-    items: &[Vec<Json>],
+    items: &[Json],
 ) -> Result<Vec<Vec<Value>>, Failure> {
     let mut rows = Vec::with_capacity(alloc, items.len())?;
     for i in 0..items.len() {
-        match values_of(alloc, items[i].as_slice()) {
+        match values_of(alloc, &items[i]) {
             Ok(values) => rows.push(values)?,
             Err(failure) => return Err(at_row(alloc, failure, table, i, "")),
         }
@@ -50,7 +61,10 @@ pub(crate) fn rows_of(
 }
 
 /// The values of a row.
-fn values_of(alloc: Global, items: &[Json]) -> Result<Vec<Value>, Failure> {
+fn values_of(alloc: Global, row: &Json) -> Result<Vec<Value>, Failure> {
+    let Some(items) = row.as_array() else {
+        return Err(Failure::rule("it has to be a list of values"));
+    };
     let mut values = Vec::with_capacity(alloc, items.len())?;
     for item in items {
         values.push(value_of(alloc, item)?)?;
