@@ -1,12 +1,13 @@
 //! A command over any files and writers: from arguments to what they ask for, from a failure to its line and status.
 
 use crate::changing::{self, is_change};
+use crate::exchanging::{compare, is_each};
 use crate::looking::look;
 use crate::several::print_each;
 use crate::words::{self, Verb};
 use clap::ArgMatches;
 use clap::error::ErrorKind;
-use msipkg_output::{Failure, Shown, Style};
+use msipkg_output::{Failure, PackageFile, Shown, Style};
 use std::fs::OpenFile;
 use std::io::{BufWriter, Read, Seek, Write};
 use std::rt::Files;
@@ -76,8 +77,16 @@ where
         Ok(is_well) => u8::from(!is_well),
         Err(failure) => {
             report(asked.file(), &failure, errors);
-            1
+            failure_status(asked.verb)
         }
+    }
+}
+
+/// The exit status for a command that failed: `diff` has 1 where something differs, and 2 where it failed.
+fn failure_status(verb: Verb) -> u8 {
+    match verb {
+        Verb::Diff => 2,
+        _ => 1,
     }
 }
 
@@ -104,6 +113,20 @@ impl<'a, 'b> Asked<'a, 'b> {
     /// The first file.
     pub(crate) fn file(&self) -> &'a str {
         self.text("FILE")
+    }
+
+    /// A package's file, and how it is to be read.
+    pub(crate) fn package<'c>(&self, path: &'c str) -> PackageFile<'c> {
+        PackageFile {
+            path,
+            page: self.page(),
+            is_recoded: self.given.get_flag("recode"),
+        }
+    }
+
+    /// The page that is given for texts.
+    fn page(&self) -> Option<i32> {
+        self.given.get_str("page")?.parse().ok()
     }
 
     /// Whether JSON is to be printed.
@@ -173,9 +196,8 @@ where
 {
     match asked.verb {
         Verb::Info | Verb::Check => print_each(rt, asked, output, errors),
-        _ => {
-            look(rt, asked, output)?;
-            Ok(true)
-        }
+        Verb::Export if is_each(asked) => print_each(rt, asked, output, errors),
+        Verb::Diff => compare(rt, asked, output, errors),
+        _ => look(rt, asked, asked.file(), output, errors),
     }
 }

@@ -4,11 +4,14 @@
 mod batch;
 mod changing;
 mod commands;
+mod exchanging;
 mod lines;
 mod looking;
 mod several;
+mod watching;
 mod words;
 
+use crate::watching::Watched;
 use std::io::IsTerminal;
 use std::process::ExitCode;
 use std::rt::Env;
@@ -32,12 +35,21 @@ fn is_batch(arguments: &[String]) -> bool {
 }
 
 fn main(rt: HostRuntime) -> ExitCode {
+    let is_shown = rt.stderr().is_terminal();
+    let watched = Watched { rt, is_shown };
     let status = match arguments(&rt) {
         Ok(arguments) if is_batch(arguments.as_slice()) => {
-            batch::run_lines(&rt, &mut rt.stdin(), &mut rt.stdout())
+            batch::run_lines(
+                &Watched {
+                    rt,
+                    is_shown: false,
+                },
+                &mut rt.stdin(),
+                &mut rt.stdout(),
+            )
         }
         Ok(arguments) => commands::run(
-            &rt,
+            &watched,
             arguments.as_slice(),
             rt.stdout().is_terminal(),
             &mut rt.stdout(),

@@ -1,11 +1,11 @@
 //! Commands that take several files: an error in one is printed, and the others go on.
 
 use crate::commands::{Asked, report};
+use crate::exchanging::is_each;
+use crate::looking::look;
 use crate::words::Verb;
 use msipkg_changes::recount_package;
-use msipkg_checks::print_check;
-use msipkg_looks::print_info;
-use msipkg_output::{Failure, Shown, failure_json, json};
+use msipkg_output::{Failure, PackageFile, Shown, failure_json, json};
 use std::alloc::Global;
 use std::fs::OpenFile;
 use std::io::{self, Read, Seek, Write};
@@ -24,11 +24,32 @@ pub(crate) fn print_each<R, O, E>(
 where
     R: Files + AllocGlobal,
     R::File: OpenFile + Read + Write + Seek + Drop,
-    O: Write,
+    O: Write + Drop,
+    E: Write,
+{
+    let mut is_well = print_files(rt, asked, asked.texts("FILE"), output, errors)?;
+    if is_each(asked) {
+        is_well &= print_files(rt, asked, asked.texts("TABLE"), output, errors)?;
+    }
+    Ok(is_well)
+}
+
+/// Prints these files, and returns whether all is well.
+fn print_files<R, O, E>(
+    rt: &R,
+    asked: &Asked<'_, '_>,
+    files: &[&str],
+    output: &mut O,
+    errors: &mut E,
+) -> io::Result<bool>
+where
+    R: Files + AllocGlobal,
+    R::File: OpenFile + Read + Write + Seek + Drop,
+    O: Write + Drop,
     E: Write,
 {
     let mut is_well = true;
-    for file in asked.texts("FILE") {
+    for file in files {
         is_well &= print_or_report(rt, asked, file, output, errors)?;
     }
     Ok(is_well)
@@ -45,7 +66,7 @@ fn print_or_report<R, O, E>(
 where
     R: Files + AllocGlobal,
     R::File: OpenFile + Read + Write + Seek + Drop,
-    O: Write,
+    O: Write + Drop,
     E: Write,
 {
     write_head(asked, file, output)?;
@@ -69,7 +90,7 @@ fn write_head<O: Write>(asked: &Asked<'_, '_>, file: &str, output: &mut O) -> io
     }
 }
 
-/// Prints a file, and returns whether all is well.
+/// Prints a file, whose counts may have to be mended first, and returns whether all is well.
 fn print_one<R, O, E>(
     rt: &R,
     asked: &Asked<'_, '_>,
@@ -80,30 +101,25 @@ fn print_one<R, O, E>(
 where
     R: Files + AllocGlobal,
     R::File: OpenFile + Read + Write + Seek + Drop,
-    O: Write,
+    O: Write + Drop,
     E: Write,
 {
-    let (style, is_json) = (asked.style, asked.is_json());
-    if matches!(asked.verb, Verb::Info) {
-        print_info(rt, style, file, is_json, output)?;
-        return Ok(true);
-    }
     if asked.given.get_flag("fix") {
-        fix(rt, file, errors)?;
+        fix(rt, &asked.package(file), errors)?;
     }
-    print_check(rt, style, file, is_json, output)
+    look(rt, asked, file, output, errors)
 }
 
 /// Mends the counts of a file, and prints how many were wrong.
-fn fix<R, E>(rt: &R, file: &str, errors: &mut E) -> Result<(), Failure>
+fn fix<R, E>(rt: &R, file: &PackageFile<'_>, errors: &mut E) -> Result<(), Failure>
 where
     R: Files + AllocGlobal,
-    R::File: OpenFile + Read + Write + Seek + Drop,
+    R::File: OpenFile + Read + Write + Drop,
     E: Write,
 {
     match recount_package(rt, file, errors)? {
         0 => Ok(()),
-        changed => Ok(report_mended(file, changed, errors)?),
+        changed => Ok(report_mended(file.path, changed, errors)?),
     }
 }
 
@@ -125,7 +141,7 @@ fn report_one<O: Write, E: Write>(
     output: &mut O,
     errors: &mut E,
 ) -> io::Result<()> {
-    if !asked.is_json() {
+    if !asked.is_json() && !is_each(asked) {
         report(file, failure, errors);
         return Ok(());
     }

@@ -18,6 +18,8 @@ pub(crate) enum Verb {
     Add,
     Remove,
     Exec,
+    Export,
+    Diff,
     Batch,
 }
 
@@ -54,6 +56,8 @@ enum Form {
     Value(&'static str),
     /// `--ID` with a value of this name, as often as it is needed.
     Values(&'static str),
+    /// `--ID`, or a letter, with a value of this name.
+    Lettered(char, &'static str),
     /// `--ID`, or a letter, with a value of this name, which has to be there.
     Needed(char, &'static str),
     /// `--ID` with one of these values.
@@ -86,6 +90,25 @@ const ESCAPE: Argument = Argument {
     help: "Prints characters that a terminal would obey or not show as escapes",
 };
 
+/// The code pages that texts are read in.
+const PAGES: &[&str] = &[
+    "874", "932", "936", "949", "950", "1250", "1251", "1252", "1253", "1254", "1255", "1256",
+    "1257", "1258", "10000", "10007", "28591", "28592", "28593", "28594", "28595", "28596",
+    "28597", "28598", "28599", "65001",
+];
+
+const PAGE: Argument = Argument {
+    id: "page",
+    form: Form::Choice("N", PAGES),
+    help: "The code page of the texts of a package that names none, that is, page 0",
+};
+
+const RECODE: Argument = Argument {
+    id: "recode",
+    form: Form::Flag,
+    help: "Writes the texts in UTF-8 if they are in a page that packages aren't written in",
+};
+
 const FORCE: Argument = Argument {
     id: "force",
     form: Form::Flag,
@@ -93,18 +116,18 @@ const FORCE: Argument = Argument {
 };
 
 /// The commands, in the order in which help lists them.
-static COMMANDS: [Row; 13] = [
+static COMMANDS: [Row; 15] = [
     Row {
         verb: Verb::Info,
         name: "info",
         about: "Prints what packages are",
-        arguments: &[FILES, JSON, ESCAPE],
+        arguments: &[FILES, JSON, PAGE, ESCAPE],
     },
     Row {
         verb: Verb::Tables,
         name: "tables",
         about: "Prints the tables, and how many rows they have",
-        arguments: &[FILE, ESCAPE],
+        arguments: &[FILE, PAGE, ESCAPE],
     },
     Row {
         verb: Verb::Schema,
@@ -123,6 +146,7 @@ static COMMANDS: [Row; 13] = [
                 form: Form::Instead(&["json"]),
                 help: "Prints statements that create the tables, as exec takes them",
             },
+            PAGE,
             ESCAPE,
         ],
     },
@@ -142,6 +166,7 @@ static COMMANDS: [Row; 13] = [
                 form: Form::Choice("FORMAT", &["table", "tabs", "csv", "json", "lines"]),
                 help: "How rows are printed: by default as a table on a terminal, and elsewhere parted by tabs",
             },
+            PAGE,
             ESCAPE,
         ],
     },
@@ -149,7 +174,7 @@ static COMMANDS: [Row; 13] = [
         verb: Verb::Streams,
         name: "streams",
         about: "Prints the streams, and how many bytes they have",
-        arguments: &[FILE, ESCAPE],
+        arguments: &[FILE, PAGE, ESCAPE],
     },
     Row {
         verb: Verb::Extract,
@@ -168,6 +193,7 @@ static COMMANDS: [Row; 13] = [
                 help: "The folder for the files; it is made where it isn't there",
             },
             FORCE,
+            PAGE,
         ],
     },
     Row {
@@ -187,6 +213,8 @@ static COMMANDS: [Row; 13] = [
                 help: "Clears a property, instead of printing them; may be repeated",
             },
             JSON,
+            PAGE,
+            RECODE,
             ESCAPE,
         ],
     },
@@ -202,6 +230,8 @@ static COMMANDS: [Row; 13] = [
                 help: "Counts the texts anew first, and replaces a file whose counts were wrong",
             },
             JSON,
+            PAGE,
+            RECODE,
             ESCAPE,
         ],
     },
@@ -235,6 +265,8 @@ static COMMANDS: [Row; 13] = [
                 form: Form::Words,
                 help: "The name of a stream, and the path of its file",
             },
+            PAGE,
+            RECODE,
         ],
     },
     Row {
@@ -248,6 +280,8 @@ static COMMANDS: [Row; 13] = [
                 form: Form::Words,
                 help: "The streams",
             },
+            PAGE,
+            RECODE,
         ],
     },
     Row {
@@ -261,6 +295,59 @@ static COMMANDS: [Row; 13] = [
                 form: Form::Words,
                 help: "A statement, as DELETE FROM Property WHERE Property = 'Old'",
             },
+            PAGE,
+            RECODE,
+        ],
+    },
+    Row {
+        verb: Verb::Export,
+        name: "export",
+        about: "Writes tables, or a whole package, as files that other programs read",
+        arguments: &[
+            FILE,
+            Argument {
+                id: "TABLE",
+                form: Form::AnyWords,
+                help: "The tables; the whole package where none is named",
+            },
+            Argument {
+                id: "format",
+                form: Form::Default("FORMAT", "json", &["json", "csv", "idt"]),
+                help: "The format of the files; json is one line for the whole package",
+            },
+            Argument {
+                id: "output",
+                form: Form::Lettered('o', "PATH"),
+                help: "The file for json, or the folder for the others; by default the output",
+            },
+            Argument {
+                id: "each",
+                form: Form::Instead(&["output", "format"]),
+                help: "Takes the words behind FILE as packages, too: each is a line of JSON",
+            },
+            FORCE,
+            PAGE,
+            ESCAPE,
+        ],
+    },
+    Row {
+        verb: Verb::Diff,
+        name: "diff",
+        about: "Prints what differs between two packages; the status is 1 where something does",
+        arguments: &[
+            Argument {
+                id: "FILE",
+                form: Form::Word,
+                help: "The old package",
+            },
+            Argument {
+                id: "OTHER",
+                form: Form::Word,
+                help: "The new package",
+            },
+            JSON,
+            PAGE,
+            ESCAPE,
         ],
     },
     Row {
@@ -325,6 +412,7 @@ fn arg_of<'a>(alloc: Global, argument: &Argument) -> Result<Arg<'a>, AllocError>
         Form::Instead(others) => instead(arg.long(id), others)?,
         Form::Value(name) => arg.long(id).value_name(name),
         Form::Values(name) => arg.long(id).value_name(name).action(ArgAction::Append),
+        Form::Lettered(letter, name) => arg.long(id).short(letter).value_name(name),
         Form::Needed(letter, name) => arg.long(id).short(letter).value_name(name).required(true),
         Form::Choice(name, values) => arg.long(id).value_name(name).value_parser(values),
         Form::Default(name, value, values) => arg

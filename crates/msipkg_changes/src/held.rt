@@ -1,22 +1,52 @@
 //! Packages that are held in memory while they are changed.
 
 use msi::{Memory, Package};
-use msipkg_output::{Failure, Shown, replace_file};
+use msipkg_output::{
+    Failure, PackageFile, Recoded, Shown, recoded_by_page, recoded_instead, replace_file,
+};
+use std::alloc::Global;
 use std::fs::{self, OpenFile};
-use std::io::{Read, Seek, Write};
+use std::io::{Read, Write};
 use std::rt::Files;
 
-/// Reads the package of a file into memory.
+/// Reads the package of a file into memory. If its texts are recoded, which has to be allowed, `notes` gets a line that
+/// says so.
 ///
 /// # Errors
-/// Fails if the file can't be read, and as `Package::open` does.
-pub fn load<R>(rt: &R, file: &str) -> Result<Package<Memory>, Failure>
+/// Fails if the file can't be read, as `Package::open` and recoding do, and if the texts are to be recoded and may not
+/// be.
+pub fn load<R, N>(rt: &R, file: &PackageFile<'_>, notes: &mut N) -> Result<Package<Memory>, Failure>
 where
     R: Files + AllocGlobal,
-    R::File: Read + Seek + Drop,
+    R::File: Read + Drop,
+    N: Write,
 {
-    let bytes = fs::read(rt, file)?;
-    Ok(Package::open(rt.alloc(), Memory::from_vec(bytes))?)
+    if let Some(recoded) = recoded_by_page(rt, file)? {
+        return load_recoded(rt.alloc(), file, recoded, notes);
+    }
+    match package_of(rt.alloc(), fs::read(rt, file.path)?) {
+        Ok(package) => Ok(package),
+        Err(failure) => {
+            let recoded = recoded_instead(rt, file, failure)?;
+            load_recoded(rt.alloc(), file, recoded, notes)
+        }
+    }
+}
+
+/// A package that was recoded, if it may be written.
+fn load_recoded<N: Write>(
+    alloc: Global,
+    file: &PackageFile<'_>,
+    recoded: Recoded,
+    notes: &mut N,
+) -> Result<Package<Memory>, Failure> {
+    recoded.permit(file, notes)?;
+    package_of(alloc, recoded.into_bytes())
+}
+
+/// The package of these bytes.
+fn package_of(alloc: Global, bytes: Vec<u8>) -> Result<Package<Memory>, Failure> {
+    Ok(Package::open(alloc, Memory::from_vec(bytes))?)
 }
 
 /// Replaces a file by a package that was changed. If the package is signed, `notes` gets a line that says that the

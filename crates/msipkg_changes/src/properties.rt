@@ -3,10 +3,10 @@
 use crate::create::page_of;
 use crate::held::{load, store};
 use msi::{Error, LanguageId, Memory, Package, SummaryInfo, Timestamp};
-use msipkg_output::Failure;
+use msipkg_output::{Failure, PackageFile};
 use std::alloc::Global;
 use std::fs::OpenFile;
-use std::io::{Read, Seek, Write};
+use std::io::{Read, Write};
 use std::rt::Files;
 use uuid::Uuid;
 
@@ -65,19 +65,19 @@ static PROPERTIES: [(&str, Property); 18] = [
 /// package's file is as it was.
 pub fn set_properties<R, N>(
     rt: &R,
-    file: &str,
+    file: &PackageFile<'_>,
     pairs: &[&str],
     cleared: &[&str],
     notes: &mut N,
 ) -> Result<(), Failure>
 where
     R: Files + AllocGlobal,
-    R::File: OpenFile + Read + Write + Seek + Drop,
+    R::File: OpenFile + Read + Write + Drop,
     N: Write,
 {
-    let mut package = load(rt, file)?;
+    let mut package = load(rt, file, notes)?;
     set_all(rt.alloc(), &mut package, pairs, cleared)?;
-    store(rt, file, package, notes)
+    store(rt, file.path, package, notes)
 }
 
 /// Sets and clears the properties of a package.

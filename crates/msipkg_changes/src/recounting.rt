@@ -2,26 +2,26 @@
 
 use crate::held::{load, store};
 use msi::{ErrorKind, Memory, Package};
-use msipkg_output::Failure;
+use msipkg_output::{Failure, PackageFile};
 use std::fs::OpenFile;
-use std::io::{Read, Seek, Write};
+use std::io::{self, Read, Write};
 use std::rt::Files;
 
 /// Counts the cells of a package anew, and returns how many texts had a wrong count. If none had, the file stays as it
-/// is.
+/// is. That its texts are recoded isn't noted: who looks at the package afterwards is told where it still is so.
 ///
 /// # Errors
 /// Fails as `Package::recount` and storing the package do. Then the package's file is as it was.
-pub fn recount_package<R, N>(rt: &R, file: &str, notes: &mut N) -> Result<u32, Failure>
+pub fn recount_package<R, N>(rt: &R, file: &PackageFile<'_>, notes: &mut N) -> Result<u32, Failure>
 where
     R: Files + AllocGlobal,
-    R::File: OpenFile + Read + Write + Seek + Drop,
+    R::File: OpenFile + Read + Write + Drop,
     N: Write,
 {
-    let mut package: Package<Memory> = load(rt, file)?;
+    let mut package: Package<Memory> = load(rt, file, &mut io::sink())?;
     let changed = package.recount()?;
     if changed > 0 {
-        store(rt, file, package, notes)?;
+        store(rt, file.path, package, notes)?;
     }
     Ok(changed)
 }

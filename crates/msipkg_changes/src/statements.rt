@@ -5,10 +5,10 @@ use crate::definition::{definition_of, is_definition};
 use crate::held::{load, store};
 use crate::recounting::noted;
 use msi::{Memory, Package, Parse, Statement};
-use msipkg_output::Failure;
+use msipkg_output::{Failure, PackageFile};
 use std::alloc::Global;
 use std::fs::OpenFile;
-use std::io::{Read, Seek, Write};
+use std::io::{Read, Write};
 use std::rt::Files;
 
 /// Carries out inserts, updates, deletes and changes of tables in turn: all, or none of them. Each text is read before
@@ -19,19 +19,19 @@ use std::rt::Files;
 /// as it was.
 pub fn carry_out_statements<R, N>(
     rt: &R,
-    file: &str,
+    file: &PackageFile<'_>,
     texts: &[&str],
     notes: &mut N,
 ) -> Result<(), Failure>
 where
     R: Files + AllocGlobal,
-    R::File: OpenFile + Read + Write + Seek + Drop,
+    R::File: OpenFile + Read + Write + Drop,
     N: Write,
 {
     check_texts(rt.alloc(), texts)?;
-    let mut package = load(rt, file)?;
+    let mut package = load(rt, file, notes)?;
     apply_texts(rt.alloc(), &mut package, texts)?;
-    store(rt, file, package, notes)
+    store(rt, file.path, package, notes)
 }
 
 /// Fails if one of the texts is no statement.

@@ -2,10 +2,10 @@
 
 use crate::held::{load, store};
 use msi::{Memory, Package};
-use msipkg_output::Failure;
+use msipkg_output::{Failure, PackageFile};
 use std::alloc::Global;
 use std::fs::{self, OpenFile};
-use std::io::{Read, Seek, Write};
+use std::io::{Read, Write};
 use std::rt::Files;
 
 /// Stores files as streams of a package, each given as `NAME=PATH`: all, or none of them.
@@ -13,15 +13,20 @@ use std::rt::Files;
 /// # Errors
 /// Fails if a word has no `=`, if a file can't be read, if no stream may have a name, and as storing the package does.
 /// Then the package's file is as it was.
-pub fn add_streams<R, N>(rt: &R, file: &str, pairs: &[&str], notes: &mut N) -> Result<(), Failure>
+pub fn add_streams<R, N>(
+    rt: &R,
+    file: &PackageFile<'_>,
+    pairs: &[&str],
+    notes: &mut N,
+) -> Result<(), Failure>
 where
     R: Files + AllocGlobal,
-    R::File: OpenFile + Read + Write + Seek + Drop,
+    R::File: OpenFile + Read + Write + Drop,
     N: Write,
 {
-    let mut package = load(rt, file)?;
+    let mut package = load(rt, file, notes)?;
     add_pairs(rt, &mut package, pairs)?;
-    store(rt, file, package, notes)
+    store(rt, file.path, package, notes)
 }
 
 /// Stores the files of pairs.
@@ -70,18 +75,18 @@ pub fn fill_stream(package: &mut Package<Memory>, name: &str, bytes: &[u8]) -> R
 /// Fails if a stream isn't there, and as storing the package does. Then the package's file is as it was.
 pub fn remove_streams<R, N>(
     rt: &R,
-    file: &str,
+    file: &PackageFile<'_>,
     names: &[&str],
     notes: &mut N,
 ) -> Result<(), Failure>
 where
     R: Files + AllocGlobal,
-    R::File: OpenFile + Read + Write + Seek + Drop,
+    R::File: OpenFile + Read + Write + Drop,
     N: Write,
 {
-    let mut package = load(rt, file)?;
+    let mut package = load(rt, file, notes)?;
     remove_named(rt.alloc(), &mut package, names)?;
-    store(rt, file, package, notes)
+    store(rt, file.path, package, notes)
 }
 
 /// Removes the streams of these names.

@@ -7,48 +7,39 @@ use crate::streams::check_streams;
 use crate::validation::check_validation;
 use crate::values::check_values;
 use msi::{Package, Source};
-use msipkg_output::{Failure, Style, open_package};
+use msipkg_output::{Failure, Style};
 use std::alloc::Global;
-use std::io::{Read, Seek, Write};
-use std::rt::Files;
+use std::io::Write;
 
-/// Prints each error in a package on a line, or all of them as JSON on one line. Returns whether there is none.
+/// Prints each error in a file's package on a line as it is found, or all of them as JSON on one line. Returns whether
+/// there is none.
 ///
 /// # Errors
-/// Fails as opening the package does, and as the writer does.
-pub fn print_check<R, O>(
-    rt: &R,
+/// Fails as the writer does, and if memory is refused. Where that comes in the midst of JSON, the line says so instead.
+pub fn print_check<F: Source, W: Write>(
+    alloc: Global,
     style: Style,
     file: &str,
-    is_json: bool,
-    output: &mut O,
-) -> Result<bool, Failure>
-where
-    R: Files + AllocGlobal,
-    R::File: Read + Seek + Drop,
-    O: Write,
-{
-    let mut package = open_package(rt, file)?;
-    let report = Report::new(rt.alloc(), style, file, is_json)?;
-    write_report(rt.alloc(), &mut package, report, output)
-}
-
-/// Writes the errors in a package, and returns whether there is none.
-fn write_report<F: Source, W: Write>(
-    alloc: Global,
     package: &mut Package<F>,
-    mut report: Report<'_>,
+    is_json: bool,
     output: &mut W,
 ) -> Result<bool, Failure> {
-    find_errors(alloc, package, &mut report)?;
-    Ok(report.print(output)?)
+    let mut report = Report::new(alloc, style, file, is_json, output);
+    report.begin()?;
+    let found = find_errors(alloc, package, &mut report);
+    report.end(found.as_ref().err())?;
+    if is_json {
+        return Ok(found.is_ok() && report.is_empty());
+    }
+    found?;
+    Ok(report.is_empty())
 }
 
 /// Finds the errors in a package. The counts come last, since counting anew changes the package in memory.
-fn find_errors<F: Source>(
+fn find_errors<F: Source, W: Write>(
     alloc: Global,
     package: &mut Package<F>,
-    report: &mut Report<'_>,
+    report: &mut Report<'_, W>,
 ) -> Result<(), Failure> {
     check_values(alloc, package, report)?;
     check_references(alloc, package, report)?;

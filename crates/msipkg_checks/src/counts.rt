@@ -4,6 +4,7 @@ use crate::report::{Place, Report};
 use msi::{Error, ErrorKind, Package, Source};
 use msipkg_output::Failure;
 use std::fmt;
+use std::io::Write;
 
 /// Finds out whether the counts of the texts are too low, so that each change of the tables is refused, and how many
 /// of them are wrong. The package is counted anew in memory. One with storages below its root isn't looked at: it is
@@ -11,9 +12,9 @@ use std::fmt;
 ///
 /// # Errors
 /// Fails with `OutOfMemory`.
-pub(crate) fn check_counts<F: Source>(
+pub(crate) fn check_counts<F: Source, W: Write>(
     package: &mut Package<F>,
-    report: &mut Report<'_>,
+    report: &mut Report<'_, W>,
 ) -> Result<(), Failure> {
     let page = package.database_codepage();
     if let Err(error) = package.set_database_codepage(page) {
@@ -43,7 +44,7 @@ impl fmt::Display for WrongCounts {
 ///
 /// # Errors
 /// Fails with `OutOfMemory`, also where that is the error.
-fn add_error(error: Error, report: &mut Report<'_>) -> Result<(), Failure> {
+fn add_error<W: Write>(error: Error, report: &mut Report<'_, W>) -> Result<(), Failure> {
     if error.kind() == ErrorKind::OutOfMemory {
         return Err(Failure::from(error));
     }

@@ -7,6 +7,7 @@ use msi::{Package, Row, Rows, Select, Source, Table};
 use msipkg_output::Failure;
 use std::alloc::{AllocError, Global};
 use std::collections::BTreeSet;
+use std::io::{self, Write};
 
 /// A column with a foreign key, and the numbers of the columns to which it refers.
 struct Reference {
@@ -30,10 +31,10 @@ impl Drop for Reference {
 ///
 /// # Errors
 /// Fails with `OutOfMemory`, and so do the other calls.
-pub(crate) fn check_references<F: Source>(
+pub(crate) fn check_references<F: Source, W: Write>(
     alloc: Global,
     package: &Package<F>,
-    report: &mut Report<'_>,
+    report: &mut Report<'_, W>,
 ) -> Result<(), Failure> {
     let mut keys = KeyColumns::new(alloc);
     for table in package.tables() {
@@ -43,12 +44,12 @@ pub(crate) fn check_references<F: Source>(
 }
 
 /// Finds such values of a table.
-fn check_table<F: Source>(
+fn check_table<F: Source, W: Write>(
     alloc: Global,
     package: &Package<F>,
     table: &Table,
     keys: &mut KeyColumns,
-    report: &mut Report<'_>,
+    report: &mut Report<'_, W>,
 ) -> Result<(), Failure> {
     let references = references_of(alloc, package, table, keys)?;
     if references.is_empty() {
@@ -96,13 +97,13 @@ fn targets_of<F: Source>(
 }
 
 /// Finds the values of rows whose foreign keys no row has.
-fn check_rows(
+fn check_rows<W: Write>(
     alloc: Global,
     table: &Table,
     rows: Rows<'_>,
     references: &[Reference],
     keys: &KeyColumns,
-    report: &mut Report<'_>,
+    report: &mut Report<'_, W>,
 ) -> Result<(), Failure> {
     let mut number = 0usize;
     for row in rows {
@@ -113,15 +114,15 @@ fn check_rows(
 }
 
 /// Finds the values of a row whose foreign keys no row has.
-fn check_row(
+fn check_row<W: Write>(
     alloc: Global,
     table: &Table,
     number: usize,
     row: &Row,
     references: &[Reference],
     keys: &KeyColumns,
-    report: &mut Report<'_>,
-) -> Result<(), AllocError> {
+    report: &mut Report<'_, W>,
+) -> io::Result<()> {
     for reference in references {
         if !is_met(alloc, row, reference, keys)? {
             add_missing(table, number, reference.place, report)?;
@@ -147,12 +148,12 @@ fn is_met(
 }
 
 /// Adds the error of a cell whose key no row has.
-fn add_missing(
+fn add_missing<W: Write>(
     table: &Table,
     row: usize,
     place: usize,
-    report: &mut Report<'_>,
-) -> Result<(), AllocError> {
+    report: &mut Report<'_, W>,
+) -> io::Result<()> {
     let Some(column) = table.columns().get(place) else {
         return Ok(());
     };

@@ -1,7 +1,7 @@
 //! The errors that a check finds in a package, each with its place.
 
 use msipkg_output::json::{self, JsonObject};
-use msipkg_output::{Shown, Style};
+use msipkg_output::{Failure, Shown, Style};
 use std::alloc::{AllocError, Global};
 use std::fmt;
 use std::io::{self, Write};
@@ -45,90 +45,74 @@ impl fmt::Display for Place<'_> {
     }
 }
 
-/// The errors of a package, in the order in which they are found.
-pub(crate) struct Report<'a> {
+/// The errors of a package, each of which is printed as it is found.
+#[derive(Drop)]
+pub(crate) struct Report<'a, W> {
+    pub(crate) alloc: Global,
     style: Style,
     file: &'a str,
-    text: ReportText,
+    is_json: bool,
+    /// Whether no error was found.
     is_empty: bool,
+    output: &'a mut W,
 }
 
-/// Written out, so that a function that owns one calls one drop, and its proof doesn't go through those of the parts.
-impl Drop for Report<'_> {
-    fn drop(self) {
-        let Report {
-            style: _,
-            file: _,
-            text: _,
-            is_empty: _,
-        } = self;
-    }
-}
-
-/// The errors as they are printed.
-#[derive(Drop)]
-enum ReportText {
-    /// An object with the list of the errors, which is open.
-    Json(JsonObject),
-    Lines(String),
-}
-
-impl<'a> Report<'a> {
+/// Each call fails as the writer does, and if memory is refused.
+impl<'a, W: Write> Report<'a, W> {
     /// Returns the report of a file, without errors.
-    ///
-    /// # Errors
-    /// Fails if memory is refused, and so do the other calls.
     pub(crate) fn new(
         alloc: Global,
         style: Style,
         file: &'a str,
         is_json: bool,
-    ) -> Result<Report<'a>, AllocError> {
-        let text = if is_json {
-            ReportText::Json(object_of(alloc, file)?)
-        } else {
-            ReportText::Lines(String::new(alloc))
-        };
-        Ok(Report {
+        output: &'a mut W,
+    ) -> Report<'a, W> {
+        Report {
+            alloc,
             style,
             file,
-            text,
+            is_json,
             is_empty: true,
-        })
+            output,
+        }
     }
 
-    /// Adds an error.
-    pub(crate) fn add<M: fmt::Display>(
-        &mut self,
-        place: Place<'_>,
-        message: &M,
-    ) -> Result<(), AllocError> {
+    /// Returns whether no error was found.
+    pub(crate) fn is_empty(&self) -> bool {
+        self.is_empty
+    }
+
+    /// Begins the report: JSON is an object with the file's path and the list of the errors, on one line.
+    pub(crate) fn begin(&mut self) -> io::Result<()> {
+        if !self.is_json {
+            return Ok(());
+        }
+        let object = object_of(self.alloc, self.file)?;
+        json::write_text(self.style, object.begun(), self.output)
+    }
+
+    /// Prints an error: behind the file's path, or as an item of the list.
+    pub(crate) fn add<M: fmt::Display>(&mut self, place: Place<'_>, message: &M) -> io::Result<()> {
+        let is_first = self.is_empty;
         self.is_empty = false;
-        match &mut self.text {
-            ReportText::Json(object) => put_error(place, message, object),
-            ReportText::Lines(lines) => {
-                writeln!(lines, "{}: {place}: {message}", self.style.show(self.file))
-            }
+        if !self.is_json {
+            let file = self.style.show(self.file);
+            return writeln!(self.output, "{file}: {place}: {message}");
         }
+        if !is_first {
+            self.output.write_all(b",")?;
+        }
+        let item = error_json(self.alloc, place, message)?;
+        json::write_text(self.style, item.as_str(), self.output)
     }
 
-    /// Writes each error on a line behind the file's path, or all of them as JSON on one line. Returns whether there is
-    /// none.
-    ///
-    /// # Errors
-    /// Fails as the writer does, and if memory is refused.
-    pub(crate) fn print<W: Write>(self, output: &mut W) -> io::Result<bool> {
-        let Report {
-            style,
-            file: _,
-            text,
-            is_empty,
-        } = self;
-        match text {
-            ReportText::Json(object) => write_object(style, object, output)?,
-            ReportText::Lines(lines) => output.write_all(lines.as_bytes())?,
+    /// Ends the report, also where the check failed: then JSON says why.
+    pub(crate) fn end(&mut self, failure: Option<&Failure>) -> io::Result<()> {
+        if !self.is_json {
+            return Ok(());
         }
-        Ok(is_empty)
+        let last = last_members(self.alloc, failure)?;
+        json::write_line(self.style, last.as_str(), self.output)
     }
 }
 
@@ -140,20 +124,24 @@ fn object_of(alloc: Global, file: &str) -> Result<JsonObject, AllocError> {
     Ok(object)
 }
 
-/// Puts an error into the list.
-fn put_error<M: fmt::Display>(
+/// An error as an object.
+fn error_json<M: fmt::Display>(
+    alloc: Global,
     place: Place<'_>,
     message: &M,
-    object: &mut JsonObject,
-) -> Result<(), AllocError> {
-    object.open_item()?;
+) -> Result<String, AllocError> {
+    let mut object = JsonObject::new(alloc)?;
     object.put_shown("place", &place)?;
     object.put_shown("message", message)?;
-    object.close_item()
+    object.finish()
 }
 
-/// Closes the list of errors, and writes the object.
-fn write_object<W: Write>(style: Style, mut object: JsonObject, output: &mut W) -> io::Result<()> {
-    object.close_list()?;
-    json::write_line(style, object.finish()?.as_str(), output)
+/// The end of the list and of the object, and between them why the check failed.
+fn last_members(alloc: Global, failure: Option<&Failure>) -> Result<String, AllocError> {
+    let Some(failure) = failure else {
+        return String::from_str(alloc, "]}");
+    };
+    let message = failure.to_string(alloc)?;
+    let error = json::quoted(alloc, message.as_str())?;
+    format!(in alloc; "],\"error\":{error}}}")
 }

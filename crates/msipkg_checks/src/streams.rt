@@ -6,16 +6,17 @@ use msi::{ColumnType, Package, Row, Rows, Select, Source, Table, Value};
 use msipkg_output::{Failure, stream_name};
 use std::alloc::{AllocError, Global};
 use std::collections::BTreeSet;
+use std::io::{self, Write};
 
 /// Finds the streams that no row names, and the names of rows for which there is no stream. A row with a stream names
 /// it after its table and its key, as `Icon.App`, and a row of `Media` names a cabinet behind a `#`.
 ///
 /// # Errors
 /// Fails with `OutOfMemory`, and so do the other calls.
-pub(crate) fn check_streams<F: Source>(
+pub(crate) fn check_streams<F: Source, W: Write>(
     alloc: Global,
     package: &Package<F>,
-    report: &mut Report<'_>,
+    report: &mut Report<'_, W>,
 ) -> Result<(), Failure> {
     let mut names = BTreeSet::new(alloc);
     for table in package.tables() {
@@ -27,10 +28,10 @@ pub(crate) fn check_streams<F: Source>(
 }
 
 /// Finds the streams whose name isn't among these.
-fn check_unnamed<F: Source>(
+fn check_unnamed<F: Source, W: Write>(
     package: &Package<F>,
     names: &BTreeSet<String>,
-    report: &mut Report<'_>,
+    report: &mut Report<'_, W>,
 ) -> Result<(), Failure> {
     for name in package.streams() {
         check_stream(package, names, name?.as_str(), report)?;
@@ -39,12 +40,12 @@ fn check_unnamed<F: Source>(
 }
 
 /// Adds an error if a stream isn't found under its name, or if its name isn't among these.
-fn check_stream<F: Source>(
+fn check_stream<F: Source, W: Write>(
     package: &Package<F>,
     names: &BTreeSet<String>,
     name: &str,
-    report: &mut Report<'_>,
-) -> Result<(), AllocError> {
+    report: &mut Report<'_, W>,
+) -> io::Result<()> {
     let message = if !package.has_stream(name) {
         "it isn't found under its name, which is stored in another form"
     } else if !names.contains(name) {
@@ -56,10 +57,10 @@ fn check_stream<F: Source>(
 }
 
 /// Finds the names for which there is no stream.
-fn check_missing<F: Source>(
+fn check_missing<F: Source, W: Write>(
     package: &Package<F>,
     names: &BTreeSet<String>,
-    report: &mut Report<'_>,
+    report: &mut Report<'_, W>,
 ) -> Result<(), Failure> {
     for name in names {
         if !package.has_stream(name.as_str()) {

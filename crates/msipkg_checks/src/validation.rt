@@ -5,16 +5,17 @@ use crate::report::{Place, Report};
 use msi::{Package, Row, Rows, Select, Source, Value};
 use msipkg_output::Failure;
 use std::alloc::Global;
+use std::io::Write;
 
 /// Finds the rows of `_Validation` for columns that aren't in their tables. Those for tables that aren't there are no
 /// errors: many tools put in the rows of all standard tables.
 ///
 /// # Errors
 /// Fails with `OutOfMemory`.
-pub(crate) fn check_validation<F: Source>(
+pub(crate) fn check_validation<F: Source, W: Write>(
     alloc: Global,
     package: &Package<F>,
-    report: &mut Report<'_>,
+    report: &mut Report<'_, W>,
 ) -> Result<(), Failure> {
     let query = Select::table(alloc, "_Validation")?.columns(&["Table", "Column"])?;
     match package.select_rows(query) {
@@ -24,10 +25,10 @@ pub(crate) fn check_validation<F: Source>(
 }
 
 /// Finds such rows.
-fn check_rows<F: Source>(
+fn check_rows<F: Source, W: Write>(
     package: &Package<F>,
     rows: Rows<'_>,
-    report: &mut Report<'_>,
+    report: &mut Report<'_, W>,
 ) -> Result<(), Failure> {
     for row in rows {
         check_row(package, &row?, report)?;
@@ -36,10 +37,10 @@ fn check_rows<F: Source>(
 }
 
 /// Adds an error if the row's column isn't in its table.
-fn check_row<F: Source>(
+fn check_row<F: Source, W: Write>(
     package: &Package<F>,
     row: &Row,
-    report: &mut Report<'_>,
+    report: &mut Report<'_, W>,
 ) -> Result<(), Failure> {
     if row.len() < 2 {
         return Ok(());

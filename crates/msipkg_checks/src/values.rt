@@ -4,15 +4,16 @@ use crate::report::{Place, Report};
 use msi::{ErrorKind, Package, Row, Rows, Select, Source, Table};
 use msipkg_output::Failure;
 use std::alloc::Global;
+use std::io::Write;
 
 /// Finds the tables that can't be read, and in the others the values that their columns don't take.
 ///
 /// # Errors
 /// Fails with `OutOfMemory`, and so do the other calls.
-pub(crate) fn check_values<F: Source>(
+pub(crate) fn check_values<F: Source, W: Write>(
     alloc: Global,
     package: &Package<F>,
-    report: &mut Report<'_>,
+    report: &mut Report<'_, W>,
 ) -> Result<(), Failure> {
     for table in package.tables() {
         check_table(alloc, package, table, report)?;
@@ -21,11 +22,11 @@ pub(crate) fn check_values<F: Source>(
 }
 
 /// Finds whether a table can't be read, and otherwise the values that its columns don't take.
-fn check_table<F: Source>(
+fn check_table<F: Source, W: Write>(
     alloc: Global,
     package: &Package<F>,
     table: &Table,
-    report: &mut Report<'_>,
+    report: &mut Report<'_, W>,
 ) -> Result<(), Failure> {
     match package.select_rows(Select::table(alloc, table.name())?) {
         Ok(rows) => check_rows(table.name(), rows, report),
@@ -35,7 +36,11 @@ fn check_table<F: Source>(
 }
 
 /// Finds the values of rows that their columns don't take.
-fn check_rows(table: &str, rows: Rows<'_>, report: &mut Report<'_>) -> Result<(), Failure> {
+fn check_rows<W: Write>(
+    table: &str,
+    rows: Rows<'_>,
+    report: &mut Report<'_, W>,
+) -> Result<(), Failure> {
     let mut number = 0usize;
     for row in rows {
         number = number.saturating_add(1);
@@ -45,11 +50,11 @@ fn check_rows(table: &str, rows: Rows<'_>, report: &mut Report<'_>) -> Result<()
 }
 
 /// Finds the values of a row that their columns don't take.
-fn check_row(
+fn check_row<W: Write>(
     table: &str,
     number: usize,
     row: &Row,
-    report: &mut Report<'_>,
+    report: &mut Report<'_, W>,
 ) -> Result<(), Failure> {
     let columns = row.columns();
     for i in 0..row.len().min(columns.len()) {

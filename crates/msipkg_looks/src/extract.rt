@@ -3,12 +3,12 @@
 
 use msi::{Error, Package, Source};
 use msipkg_output::{
-    Failure, Folder, SafeNames, Shown, StoredStreams, open_package, stored_streams, stream_bytes,
+    Failure, Folder, SafeNames, Shown, StoredStreams, stored_streams, stream_bytes,
 };
 use std::alloc::Global;
 use std::convert::AsStr;
 use std::fs::{self, OpenFile};
-use std::io::{self, Read, Seek, Write};
+use std::io::{self, Read, Write};
 use std::rt::Files;
 
 /// What streams are taken from, and where their files go.
@@ -19,39 +19,36 @@ struct Extraction<'a, 'b, F: Source> {
     folder: Folder<'b>,
 }
 
-/// Writes streams to files of a folder, or all streams where none is named. Where a stream's name isn't a safe name of
-/// a file, the file has an escaped one, and `notes` gets a line that says so.
+/// Writes streams of a file's package to files of a folder, or all streams where none is named. Where a stream's name
+/// isn't a safe name of a file, the file has an escaped one, and `notes` gets a line that says so.
 ///
 /// # Errors
-/// Fails as opening the package does, if a stream that is named isn't there, if a file is there already and isn't to be
-/// replaced, and as the calls of the system do. The files of earlier streams stay.
-pub fn extract_streams<R, N>(
+/// Fails if a stream that is named isn't there, if a file is there already and isn't to be replaced, and as the calls
+/// of the system do. The files of earlier streams stay.
+pub fn extract_streams<R, F, N>(
     rt: &R,
     file: &str,
+    package: &Package<F>,
     names: &[&str],
     folder: Folder<'_>,
     notes: &mut N,
 ) -> Result<(), Failure>
 where
     R: Files + AllocGlobal,
-    R::File: OpenFile + Read + Write + Seek + Drop,
+    R::File: OpenFile + Read + Write + Drop,
+    F: Source,
     N: Write,
 {
-    let package = open_package(rt, file)?;
-    let streams = stored_streams(rt, file, &package)?;
-    let stored = streams.as_ref();
-    let extraction = Extraction {
-        package: &package,
-        stored,
-        folder,
-    };
-    extract(rt, &extraction, names, notes)
+    let streams = stored_streams(rt, file, package)?;
+    extract(rt, package, streams.as_ref(), folder, names, notes)
 }
 
 /// Makes the folder, and writes streams to it.
-fn extract<R, F, N>(
+fn extract<'a, R, F, N>(
     rt: &R,
-    extraction: &Extraction<'_, '_, F>,
+    package: &'a Package<F>,
+    stored: Option<&'a StoredStreams>,
+    folder: Folder<'_>,
     names: &[&str],
     notes: &mut N,
 ) -> Result<(), Failure>
@@ -61,12 +58,17 @@ where
     F: Source,
     N: Write,
 {
-    fs::create_dir_all(rt, extraction.folder.path)?;
+    fs::create_dir_all(rt, folder.path)?;
+    let extraction = Extraction {
+        package,
+        stored,
+        folder,
+    };
     if !names.is_empty() {
-        return extract_each(rt, extraction, names, notes);
+        return extract_each(rt, &extraction, names, notes);
     }
-    let all = all_names(rt.alloc(), extraction.package)?;
-    extract_each(rt, extraction, all.as_slice(), notes)
+    let all = all_names(rt.alloc(), package)?;
+    extract_each(rt, &extraction, all.as_slice(), notes)
 }
 
 /// The names of all streams.

@@ -4,33 +4,32 @@ use crate::facts::Facts;
 use crate::summary::add_summary;
 use crate::tables::count_rows;
 use msi::{Error, Package, Source};
-use msipkg_output::{
-    Failure, StoredStreams, Style, kind_name, open_package, stored_streams, stream_bytes,
-};
+use msipkg_output::{Failure, StoredStreams, Style, kind_name, stored_streams, stream_bytes};
 use std::alloc::{AllocError, Global};
-use std::io::{Read, Seek, Write};
+use std::io::{Read, Write};
 use std::rt::Files;
 
-/// Prints what a package is, as lines or as JSON on one line.
+/// Prints what a file's package is, as lines or as JSON on one line.
 ///
 /// # Errors
-/// Fails as opening the package does, and as the writer does.
-pub fn print_info<R, O>(
+/// Fails if a stream can't be found in the file, and as the writer does.
+pub fn print_info<R, F, O>(
     rt: &R,
     style: Style,
     file: &str,
+    package: &mut Package<F>,
     is_json: bool,
     output: &mut O,
 ) -> Result<(), Failure>
 where
     R: Files + AllocGlobal,
-    R::File: Read + Seek + Drop,
+    R::File: Read + Drop,
+    F: Source,
     O: Write,
 {
-    let mut package = open_package(rt, file)?;
-    let stored = stored_streams(rt, file, &package)?;
+    let stored = stored_streams(rt, file, package)?;
     let facts = Facts::new(rt.alloc(), style, file, is_json)?;
-    write_facts(rt.alloc(), &mut package, stored.as_ref(), facts, output)
+    write_facts(rt.alloc(), package, stored.as_ref(), facts, output)
 }
 
 /// Writes what a package is.

@@ -14,7 +14,7 @@ pub mod tables;
 
 pub use extract::extract_streams;
 pub use info::print_info;
-pub use query::print_query;
+pub use query::{check_query, print_query};
 pub use schema::print_schema;
 pub use streams::print_streams;
 pub use summary::print_summary;

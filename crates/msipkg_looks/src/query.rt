@@ -1,33 +1,35 @@
 //! `query FILE TEXT`: the rows that a query selects.
 
 use msi::{Package, Parse, Select, Source};
-use msipkg_output::{Failure, Format, Style, open_package, write_rows};
+use msipkg_output::{Failure, Format, Style, write_rows};
 use std::alloc::Global;
-use std::io::{Read, Seek, Write};
-use std::rt::Files;
+use std::io::Write;
 
-/// Prints the rows that a query selects. The text is refused before the file is opened.
+/// Fails if a text spells no query for rows, so that it is refused before a file is opened.
 ///
 /// # Errors
-/// Fails if the text spells no query for rows, as opening the package and selecting do, and as the writer does.
-pub fn print_query<R, O>(
-    rt: &R,
+/// Fails at the query.
+pub fn check_query(alloc: Global, text: &str) -> Result<(), Failure> {
+    drop(parsed(alloc, text)?);
+    Ok(())
+}
+
+/// Prints the rows that a query selects.
+///
+/// # Errors
+/// Fails if the text spells no query for rows, as selecting does, and as the writer does.
+pub fn print_query<F: Source, O: Write + Drop>(
+    alloc: Global,
     style: Style,
-    file: &str,
+    package: &Package<F>,
     text: &str,
     format: Format,
     output: &mut O,
-) -> Result<(), Failure>
-where
-    R: Files + AllocGlobal,
-    R::File: Read + Seek + Drop,
-    O: Write + Drop,
-{
-    let query = parsed(rt.alloc(), text)?;
-    let package = open_package(rt, file)?;
-    match write_selected(rt.alloc(), style, format, &package, query, output) {
+) -> Result<(), Failure> {
+    let query = parsed(alloc, text)?;
+    match write_selected(alloc, style, format, package, query, output) {
         Ok(()) => Ok(()),
-        Err(failure) => Err(failure.at(rt.alloc(), "query", text)),
+        Err(failure) => Err(failure.at(alloc, "query", text)),
     }
 }
 

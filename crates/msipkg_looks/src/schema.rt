@@ -3,10 +3,9 @@
 use crate::columns::{ColumnPart, Part};
 use crate::schema_json::schema_json;
 use msi::{Column, Package, Source, Table};
-use msipkg_output::{Failure, Grid, Style, chosen_tables, json, open_package};
+use msipkg_output::{Failure, Grid, Style, chosen_tables, json};
 use std::alloc::{AllocError, Global};
-use std::io::{self, Read, Seek, Write};
-use std::rt::Files;
+use std::io::{self, Write};
 
 /// What is printed of each column, under its head.
 static PARTS: [(&str, Part); 7] = [
@@ -30,37 +29,19 @@ pub enum Form {
     Sql,
 }
 
-/// Prints the columns of tables, or of all tables where none is named: aligned on a terminal, parted by tabs
-/// elsewhere, as JSON on one line, or as statements that create the tables.
+/// Prints the columns of tables of a file's package, or of all tables where none is named: aligned on a terminal,
+/// parted by tabs elsewhere, as JSON on one line, or as statements that create the tables.
 ///
 /// # Errors
-/// Fails as opening the package does, if a table isn't there, and as the writer does.
-pub fn print_schema<R, O>(
-    rt: &R,
+/// Fails if a table isn't there, if memory is refused, and as the writer does.
+pub fn print_schema<F: Source, O: Write>(
+    alloc: Global,
     style: Style,
     file: &str,
+    package: &Package<F>,
     names: &[&str],
     form: Form,
     output: &mut O,
-) -> Result<(), Failure>
-where
-    R: Files + AllocGlobal,
-    R::File: Read + Seek + Drop,
-    O: Write,
-{
-    let package = open_package(rt, file)?;
-    write_schema(rt.alloc(), style, &package, file, names, form, output)
-}
-
-/// Writes the columns of tables.
-fn write_schema<F: Source, W: Write>(
-    alloc: Global,
-    style: Style,
-    package: &Package<F>,
-    file: &str,
-    names: &[&str],
-    form: Form,
-    output: &mut W,
 ) -> Result<(), Failure> {
     let tables = chosen_tables(alloc, package, names, true)?;
     match form {

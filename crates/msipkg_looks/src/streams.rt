@@ -1,29 +1,33 @@
 //! `streams FILE`: the names of a package's streams, and how many bytes they have.
 
 use msi::{Package, Source};
-use msipkg_output::{
-    Failure, Grid, StoredStreams, Style, open_package, stored_streams, stream_bytes,
-};
+use msipkg_output::{Failure, Grid, StoredStreams, Style, stored_streams, stream_bytes};
 use std::alloc::Global;
-use std::io::{Read, Seek, Write};
+use std::io::{Read, Write};
 use std::rt::Files;
 
 /// The heads of the columns that are printed.
 static HEADS: [&str; 2] = ["Stream", "Bytes"];
 
-/// Prints the name of each stream and how many bytes it has.
+/// Prints the name of each stream of a file's package and how many bytes it has.
 ///
 /// # Errors
-/// Fails as opening the package does, and as the writer does.
-pub fn print_streams<R, O>(rt: &R, style: Style, file: &str, output: &mut O) -> Result<(), Failure>
+/// Fails if a stream can't be found in the file, and as the writer does.
+pub fn print_streams<R, F, O>(
+    rt: &R,
+    style: Style,
+    file: &str,
+    package: &Package<F>,
+    output: &mut O,
+) -> Result<(), Failure>
 where
     R: Files + AllocGlobal,
-    R::File: Read + Seek + Drop,
+    R::File: Read + Drop,
+    F: Source,
     O: Write,
 {
-    let package = open_package(rt, file)?;
-    let stored = stored_streams(rt, file, &package)?;
-    write_streams(rt.alloc(), style, &package, stored.as_ref(), output)
+    let stored = stored_streams(rt, file, package)?;
+    write_streams(rt.alloc(), style, package, stored.as_ref(), output)
 }
 
 /// Writes a row for each stream.

@@ -2,39 +2,23 @@
 
 use crate::facts::Facts;
 use msi::{Error, LanguageId, SummaryInfo, Timestamp};
-use msipkg_output::{Failure, Style, TimeText, UuidText, open_package};
+use msipkg_output::{Failure, Style, TimeText, UuidText};
 use std::alloc::{AllocError, Global};
-use std::io::{Read, Seek, Write};
-use std::rt::Files;
+use std::io::Write;
 
-/// Prints a line for each property that is there, or all of them as JSON on one line.
+/// Prints a line for each property of a file's summary that is there, or all of them as JSON on one line.
 ///
 /// # Errors
-/// Fails as opening the package does, and as the writer does.
-pub fn print_summary<R, O>(
-    rt: &R,
+/// Fails if memory is refused, and as the writer does.
+pub fn print_summary<O: Write>(
+    alloc: Global,
     style: Style,
     file: &str,
+    summary: &SummaryInfo,
     is_json: bool,
     output: &mut O,
-) -> Result<(), Failure>
-where
-    R: Files + AllocGlobal,
-    R::File: Read + Seek + Drop,
-    O: Write,
-{
-    let package = open_package(rt, file)?;
-    let facts = Facts::new(rt.alloc(), style, file, is_json)?;
-    write_summary(rt.alloc(), package.summary_info(), facts, output)
-}
-
-/// Writes the properties that are there.
-fn write_summary<W: Write>(
-    alloc: Global,
-    summary: &SummaryInfo,
-    mut facts: Facts,
-    output: &mut W,
 ) -> Result<(), Failure> {
+    let mut facts = Facts::new(alloc, style, file, is_json)?;
     add_summary(alloc, summary, &mut facts)?;
     Ok(facts.print(output)?)
 }

@@ -1,10 +1,9 @@
 //! `tables FILE`: the names of a package's tables, and how many rows they have.
 
 use msi::{Error, Package, Select, Source, Table};
-use msipkg_output::{Failure, Grid, Style, open_package};
+use msipkg_output::{Grid, Style};
 use std::alloc::{AllocError, Global};
-use std::io::{self, Read, Seek, Write};
-use std::rt::Files;
+use std::io::{self, Write};
 
 /// The heads of the columns that are printed.
 static HEADS: [&str; 2] = ["Table", "Rows"];
@@ -12,15 +11,18 @@ static HEADS: [&str; 2] = ["Table", "Rows"];
 /// Prints the name of each table and the number of its rows, which is `?` where the table can't be read.
 ///
 /// # Errors
-/// Fails as opening the package does, and as the writer does.
-pub fn print_tables<R, O>(rt: &R, style: Style, file: &str, output: &mut O) -> Result<(), Failure>
-where
-    R: Files + AllocGlobal,
-    R::File: Read + Seek + Drop,
-    O: Write,
-{
-    let package = open_package(rt, file)?;
-    Ok(write_tables(rt.alloc(), style, &package, output)?)
+/// Fails if memory is refused, and as the writer does.
+pub fn print_tables<F: Source, O: Write>(
+    alloc: Global,
+    style: Style,
+    package: &Package<F>,
+    output: &mut O,
+) -> io::Result<()> {
+    let mut grid = Grid::headed(alloc, HEADS.as_slice())?;
+    for table in package.tables() {
+        put_table(alloc, style, package, table, &mut grid)?;
+    }
+    grid.print(style, output)
 }
 
 /// Returns how many rows a table has.
@@ -34,20 +36,6 @@ pub(crate) fn count_rows<F: Source>(
 ) -> Result<usize, Error> {
     let rows = package.select_rows(Select::table(alloc, table)?)?;
     Ok(rows.len())
-}
-
-/// Writes a row for each table.
-fn write_tables<F: Source, W: Write>(
-    alloc: Global,
-    style: Style,
-    package: &Package<F>,
-    output: &mut W,
-) -> io::Result<()> {
-    let mut grid = Grid::headed(alloc, HEADS.as_slice())?;
-    for table in package.tables() {
-        put_table(alloc, style, package, table, &mut grid)?;
-    }
-    grid.print(style, output)
 }
 
 /// Puts the row of a table.

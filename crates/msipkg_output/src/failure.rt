@@ -2,7 +2,9 @@
 
 use crate::escape::Shown;
 use crate::json::JsonObject;
+use crate::pages::Pages;
 use msi::{Error, ErrorKind, ParseError};
+use msi_recode::RecodeError;
 use std::alloc::{AllocError, AllocFailed, Global};
 use std::{fmt, io};
 
@@ -15,8 +17,14 @@ pub enum Cause {
     File(io::Error),
     /// A text is no query.
     Query(ParseError),
-    /// A line of CSV that can't be written.
+    /// A line of CSV that can't be read or written.
     Csv(csv::Error),
+    /// A text isn't the JSON that is wanted.
+    Json(serde_json::Error),
+    /// A text of a package that its page doesn't read.
+    Text(RecodeError),
+    /// A package that isn't in UTF-8 isn't written so unasked.
+    Recoding(Pages),
     /// A rule of the program: a sentence, without its full stop.
     Rule(&'static str),
 }
@@ -28,8 +36,26 @@ impl fmt::Display for Cause {
             Cause::File(error) => error.fmt(f),
             Cause::Query(error) => error.fmt(f),
             Cause::Csv(error) => error.fmt(f),
+            Cause::Json(error) => error.fmt(f),
+            Cause::Text(error) => write_text_error(error, f),
+            Cause::Recoding(pages) => write!(
+                f,
+                "texts in {pages} would be written in UTF-8, which --recode allows"
+            ),
             Cause::Rule(rule) => f.write_str(rule),
         }
+    }
+}
+
+/// Writes which text a page doesn't read. Texts are counted from 1 on, as tables refer to them.
+fn write_text_error<W: fmt::Write>(error: &RecodeError, f: &mut fmt::Formatter<W>) -> fmt::Result {
+    match error {
+        RecodeError::Package(error) => write!(f, "{error}"),
+        RecodeError::Place(place, error) => {
+            let number = place.saturating_add(1);
+            write!(f, "text {number} of the database: {error}")
+        }
+        RecodeError::Property(id, error) => write!(f, "property {id} of the summary: {error}"),
     }
 }
 
@@ -152,6 +178,12 @@ impl<T: Drop> From<AllocFailed<T>> for Failure {
 impl From<csv::Error> for Failure {
     fn from(error: csv::Error) -> Failure {
         Failure::new(Cause::Csv(error))
+    }
+}
+
+impl From<serde_json::Error> for Failure {
+    fn from(error: serde_json::Error) -> Failure {
+        Failure::new(Cause::Json(error))
     }
 }
 

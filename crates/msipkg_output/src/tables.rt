@@ -1,7 +1,7 @@
 //! The tables that a command is about.
 
 use crate::failure::Failure;
-use msi::{Package, Source, Table};
+use msi::{Error, Package, Rows, Select, Source, Table};
 use std::alloc::{AllocError, Global};
 
 /// Returns whether a table only lists what the others are.
@@ -57,4 +57,28 @@ fn add_tables<'a, F: Source>(
         }
     }
     Ok(())
+}
+
+/// Returns all rows of a table.
+///
+/// # Errors
+/// Fails if the table isn't there or can't be read, and with `OutOfMemory`; at the table's name.
+pub fn rows_of<'a, F: Source>(
+    alloc: Global,
+    package: &'a Package<F>,
+    table: &str,
+) -> Result<Rows<'a>, Failure> {
+    match selected(alloc, package, table) {
+        Ok(rows) => Ok(rows),
+        Err(error) => Err(Failure::from(error).at(alloc, "table", table)),
+    }
+}
+
+/// The rows that the query for a table selects.
+fn selected<'a, F: Source>(
+    alloc: Global,
+    package: &'a Package<F>,
+    table: &str,
+) -> Result<Rows<'a>, Error> {
+    package.select_rows(Select::table(alloc, table)?)
 }

@@ -1,0 +1,200 @@
+//! What differs between the columns of two tables.
+
+use crate::difference::{Change, Content, Difference, Member};
+use crate::report::Report;
+use msi::{Column, Table};
+use msipkg_output::ColumnTypeText;
+use msipkg_output::json::quoted;
+use std::alloc::{AllocError, Global};
+use std::io::{self, Write};
+
+/// Compares the columns of two tables by their names.
+///
+/// # Errors
+/// Fails as the writer does, and if memory is refused. So do the other calls.
+pub(crate) fn compare_columns<W: Write>(
+    old: &Table,
+    new: &Table,
+    report: &mut Report<'_, W>,
+) -> io::Result<()> {
+    for column in old.columns() {
+        compare_column(old, Some(column), new.get_column(column.name()), report)?;
+    }
+    for column in new.columns() {
+        if old.get_column(column.name()).is_none() {
+            compare_column(new, None, Some(column), report)?;
+        }
+    }
+    Ok(())
+}
+
+/// Compares a column that is there in both tables, or in one of them.
+fn compare_column<W: Write>(
+    table: &Table,
+    old: Option<&Column>,
+    new: Option<&Column>,
+    report: &mut Report<'_, W>,
+) -> io::Result<()> {
+    let removed = facts_beside(report.alloc, old, new)?;
+    let added = facts_beside(report.alloc, new, old)?;
+    match old.or(new) {
+        Some(column) if !removed.is_empty() || !added.is_empty() => {
+            let change = Change::of(old.is_some(), new.is_some());
+            add_facts(table, column, change, &removed, &added, report)
+        }
+        _ => Ok(()),
+    }
+}
+
+/// Adds what is said of a column in one package only.
+fn add_facts<W: Write>(
+    table: &Table,
+    column: &Column,
+    change: Change,
+    removed: &[Fact],
+    added: &[Fact],
+    report: &mut Report<'_, W>,
+) -> io::Result<()> {
+    let old = members_of(report.alloc, removed)?;
+    let new = members_of(report.alloc, added)?;
+    report.add(&Difference {
+        change,
+        kind: "column",
+        table: table.name(),
+        name: column.name(),
+        old: old.as_slice(),
+        new: new.as_slice(),
+    })
+}
+
+/// What may be said of a column.
+#[derive(Clone, Copy)]
+enum Aspect {
+    Type,
+    Key,
+    Localizable,
+    Category,
+    Min,
+    Max,
+    Values,
+    KeyTable,
+    KeyColumn,
+}
+
+/// The names of the aspects, which `schema --json` has, too. Whether a column is nullable, its type says.
+static ASPECTS: [(Aspect, &str); 9] = [
+    (Aspect::Type, "type"),
+    (Aspect::Key, "key"),
+    (Aspect::Localizable, "localizable"),
+    (Aspect::Category, "category"),
+    (Aspect::Min, "min"),
+    (Aspect::Max, "max"),
+    (Aspect::Values, "values"),
+    (Aspect::KeyTable, "key_table"),
+    (Aspect::KeyColumn, "key_column"),
+];
+
+/// What is said of a column, as JSON under its name.
+#[derive(Drop)]
+struct Fact {
+    name: &'static str,
+    json: String,
+}
+
+/// What is said of a column, if it is there, and not of another in the same way.
+fn facts_beside(
+    alloc: Global,
+    column: Option<&Column>,
+    other: Option<&Column>,
+) -> Result<Vec<Fact>, AllocError> {
+    let mut facts = Vec::new(alloc);
+    for (aspect, name) in &ASPECTS {
+        let fact = fact_of(alloc, column, *aspect)?;
+        let beside = fact_of(alloc, other, *aspect)?;
+        if fact == beside {
+            continue;
+        }
+        if let Some(json) = fact {
+            facts.push(Fact { name, json })?;
+        }
+    }
+    Ok(facts)
+}
+
+/// The members that show facts.
+fn members_of(alloc: Global, facts: &[Fact]) -> Result<Vec<Member<'_>>, AllocError> {
+    let mut members = Vec::new(alloc);
+    for fact in facts {
+        let content = Content::Json(fact.json.as_str());
+        members.push(Member {
+            name: fact.name,
+            content,
+        })?;
+    }
+    Ok(members)
+}
+
+/// What is said of a column, if it is there, in an aspect.
+fn fact_of(
+    alloc: Global,
+    column: Option<&Column>,
+    aspect: Aspect,
+) -> Result<Option<String>, AllocError> {
+    let Some(column) = column else {
+        return Ok(None);
+    };
+    match aspect {
+        Aspect::Type => type_json(alloc, column),
+        Aspect::Key => truth_json(alloc, column.is_primary_key()),
+        Aspect::Localizable => truth_json(alloc, column.is_localizable()),
+        Aspect::Category => text_json(alloc, column.category().map(|category| category.name())),
+        Aspect::Min => number_json(alloc, column.value_range().map(|range| range.0)),
+        Aspect::Max => number_json(alloc, column.value_range().map(|range| range.1)),
+        Aspect::Values => values_json(alloc, column),
+        Aspect::KeyTable => text_json(alloc, column.foreign_key().map(|key| key.0)),
+        Aspect::KeyColumn => number_json(alloc, column.foreign_key().map(|key| key.1)),
+    }
+}
+
+/// The type of a column.
+fn type_json(alloc: Global, column: &Column) -> Result<Option<String>, AllocError> {
+    let text = ColumnTypeText(column).to_string(alloc)?;
+    Ok(Some(quoted(alloc, text.as_str())?))
+}
+
+/// Whether something is so.
+fn truth_json(alloc: Global, holds: bool) -> Result<Option<String>, AllocError> {
+    Ok(Some(holds.to_string(alloc)?))
+}
+
+/// A text, if it is there.
+fn text_json(alloc: Global, text: Option<&str>) -> Result<Option<String>, AllocError> {
+    match text {
+        Some(text) => Ok(Some(quoted(alloc, text)?)),
+        None => Ok(None),
+    }
+}
+
+/// A number, if it is there.
+fn number_json(alloc: Global, number: Option<i32>) -> Result<Option<String>, AllocError> {
+    match number {
+        Some(number) => Ok(Some(number.to_string(alloc)?)),
+        None => Ok(None),
+    }
+}
+
+/// The list of the texts that a column takes, if it takes no others.
+fn values_json(alloc: Global, column: &Column) -> Result<Option<String>, AllocError> {
+    let Some(texts) = column.enum_values() else {
+        return Ok(None);
+    };
+    let mut json = String::new(alloc);
+    let mut before = '[';
+    for text in texts {
+        json.push(before)?;
+        json.push_str(quoted(alloc, text.as_str())?.as_str())?;
+        before = ',';
+    }
+    json.push(']')?;
+    Ok(Some(json))
+}

@@ -1,0 +1,209 @@
+//! A difference between two packages, as lines and as JSON.
+
+use msi::Value;
+use msipkg_output::Style;
+use msipkg_output::json::JsonObject;
+use std::alloc::{AllocError, Global};
+use std::fmt::{self, Display};
+
+/// How something differs.
+#[derive(Clone, Copy)]
+pub(crate) enum Change {
+    Added,
+    Removed,
+    Changed,
+}
+
+impl Change {
+    /// Returns how something differs that is there in the old package, in the new one, or in both.
+    pub(crate) fn of(is_old: bool, is_new: bool) -> Change {
+        match (is_old, is_new) {
+            (false, _) => Change::Added,
+            (_, false) => Change::Removed,
+            _ => Change::Changed,
+        }
+    }
+
+    fn name(self) -> &'static str {
+        match self {
+            Change::Added => "added",
+            Change::Removed => "removed",
+            Change::Changed => "changed",
+        }
+    }
+}
+
+/// What differs, with what either package has in its place, as far as that is shown.
+#[derive(Clone, Copy)]
+pub(crate) struct Difference<'a> {
+    pub(crate) change: Change,
+    /// What kind of thing it is, as `row`.
+    pub(crate) kind: &'static str,
+    /// The table that it is of, or no name if it is of none.
+    pub(crate) table: &'a str,
+    pub(crate) name: &'a str,
+    pub(crate) old: &'a [Member<'a>],
+    pub(crate) new: &'a [Member<'a>],
+}
+
+/// A value under its name.
+#[derive(Clone, Copy)]
+pub(crate) struct Member<'a> {
+    pub(crate) name: &'a str,
+    pub(crate) content: Content<'a>,
+}
+
+/// What stands under a name.
+#[derive(Clone, Copy)]
+pub(crate) enum Content<'a> {
+    Value(&'a Value),
+    Text(&'a str),
+    Number(i64),
+    /// A text that is JSON already.
+    Json(&'a str),
+}
+
+impl<'a> Content<'a> {
+    /// Returns how many things there are.
+    pub(crate) fn count(count: usize) -> Content<'a> {
+        Content::Number(i64::try_from(count).unwrap_or(i64::MAX))
+    }
+}
+
+/// Returns a difference as lines: what differs, the old values behind `-`, and the new ones behind `+`. A value that is
+/// null has no line.
+///
+/// # Errors
+/// Fails if memory is refused.
+pub(crate) fn difference_lines(
+    alloc: Global,
+    style: Style,
+    difference: &Difference<'_>,
+) -> Result<String, AllocError> {
+    let mut lines = String::new(alloc);
+    push_head(style, difference, &mut lines)?;
+    push_members(style, '-', difference.old, &mut lines)?;
+    push_members(style, '+', difference.new, &mut lines)?;
+    Ok(lines)
+}
+
+/// Pushes the line that says what differs.
+fn push_head(
+    style: Style,
+    difference: &Difference<'_>,
+    lines: &mut String,
+) -> Result<(), AllocError> {
+    let (change, kind) = (difference.change.name(), difference.kind);
+    let name = style.show(difference.name);
+    if difference.table.is_empty() {
+        return writeln!(lines, "{change} {kind} {name}");
+    }
+    let table = style.show(difference.table);
+    writeln!(lines, "{change} {kind} {table} {name}")
+}
+
+/// Pushes a line for each member that isn't null.
+fn push_members(
+    style: Style,
+    sign: char,
+    members: &[Member<'_>],
+    lines: &mut String,
+) -> Result<(), AllocError> {
+    for member in members {
+        push_member(style, sign, member, lines)?;
+    }
+    Ok(())
+}
+
+/// Pushes the line of a member, unless it is null.
+fn push_member(
+    style: Style,
+    sign: char,
+    member: &Member<'_>,
+    lines: &mut String,
+) -> Result<(), AllocError> {
+    if let Content::Value(Value::Null) = member.content {
+        return Ok(());
+    }
+    let name = style.show(member.name);
+    let content = ShownContent {
+        style,
+        content: member.content,
+    };
+    writeln!(lines, "{sign} {name}: {content}")
+}
+
+/// What stands under a name, in a line.
+#[derive(Clone, Copy)]
+struct ShownContent<'a> {
+    style: Style,
+    content: Content<'a>,
+}
+
+impl Display for ShownContent<'_> {
+    fn fmt<W: fmt::Write>(&self, f: &mut fmt::Formatter<W>) -> fmt::Result {
+        match self.content {
+            Content::Value(Value::Null) => Ok(()),
+            Content::Value(Value::Int(number)) => write!(f, "{number}"),
+            Content::Value(Value::Str(text)) => self.style.show(text.as_str()).fmt(f),
+            Content::Value(Value::Binary) => f.write_str("[stream]"),
+            Content::Text(text) | Content::Json(text) => self.style.show(text).fmt(f),
+            Content::Number(number) => write!(f, "{number}"),
+        }
+    }
+}
+
+/// Returns a difference as a JSON object.
+///
+/// # Errors
+/// Fails if memory is refused.
+pub(crate) fn difference_json(
+    alloc: Global,
+    difference: &Difference<'_>,
+) -> Result<String, AllocError> {
+    let mut object = JsonObject::new(alloc)?;
+    put_head(difference, &mut object)?;
+    put_members("old", difference.old, &mut object)?;
+    put_members("new", difference.new, &mut object)?;
+    object.finish()
+}
+
+/// Puts what differs.
+fn put_head(difference: &Difference<'_>, object: &mut JsonObject) -> Result<(), AllocError> {
+    object.put_text("change", Some(difference.change.name()))?;
+    object.put_text("kind", Some(difference.kind))?;
+    if !difference.table.is_empty() {
+        object.put_text("table", Some(difference.table))?;
+    }
+    object.put_text("name", Some(difference.name))
+}
+
+/// Puts an object of members under the name of a side, if there is one.
+fn put_members(
+    side: &str,
+    members: &[Member<'_>],
+    object: &mut JsonObject,
+) -> Result<(), AllocError> {
+    if members.is_empty() {
+        return Ok(());
+    }
+    object.open_object(side)?;
+    for member in members {
+        put_member(member, object)?;
+    }
+    object.close_item()
+}
+
+/// Puts a member, where a stream is `true`.
+fn put_member(member: &Member<'_>, object: &mut JsonObject) -> Result<(), AllocError> {
+    let name = member.name;
+    match member.content {
+        Content::Value(Value::Null) => object.put_text(name, None),
+        Content::Value(Value::Int(number)) => object.put_number(name, Some(i64::from(*number))),
+        Content::Value(Value::Str(text)) => object.put_text(name, Some(text.as_str())),
+        Content::Value(Value::Binary) => object.put_truth(name, true),
+        Content::Text(text) => object.put_text(name, Some(text)),
+        Content::Number(number) => object.put_number(name, Some(number)),
+        Content::Json(json) => object.put_json(name, json),
+    }
+}

@@ -1,0 +1,100 @@
+//! What differs between the kinds, the code pages and the summaries of two packages.
+
+use crate::difference::{Change, Content, Difference, Member};
+use crate::report::Report;
+use msi::{Package, Source, SummaryInfo};
+use msipkg_output::{Failure, PROPERTIES, kind_name, property_text};
+use std::io::{self, Write};
+
+/// Compares the kinds and the code pages.
+///
+/// # Errors
+/// Fails as the writer does, and if memory is refused. So do the other calls.
+pub(crate) fn compare_kinds<F: Source, W: Write>(
+    old: &Package<F>,
+    new: &Package<F>,
+    report: &mut Report<'_, W>,
+) -> io::Result<()> {
+    let (kind, other) = (kind_name(old.package_type()), kind_name(new.package_type()));
+    compare_texts("package", "kind", Some(kind), Some(other), report)?;
+    let (page, other) = (old.database_codepage(), new.database_codepage());
+    compare_pages(page.id(), other.id(), report)
+}
+
+/// Compares the code pages of two databases.
+fn compare_pages<W: Write>(old: i32, new: i32, report: &mut Report<'_, W>) -> io::Result<()> {
+    if old == new {
+        return Ok(());
+    }
+    report.add(&Difference {
+        change: Change::Changed,
+        kind: "package",
+        table: "",
+        name: "codepage",
+        old: &[page_member(old)],
+        new: &[page_member(new)],
+    })
+}
+
+/// A code page.
+fn page_member(page: i32) -> Member<'static> {
+    Member {
+        name: "codepage",
+        content: Content::Number(i64::from(page)),
+    }
+}
+
+/// Compares all properties.
+pub(crate) fn compare_summaries<W: Write>(
+    old: &SummaryInfo,
+    new: &SummaryInfo,
+    report: &mut Report<'_, W>,
+) -> Result<(), Failure> {
+    for (id, name) in &PROPERTIES {
+        compare_property(*id, name, old, new, report)?;
+    }
+    Ok(())
+}
+
+/// Compares a property.
+fn compare_property<W: Write>(
+    id: i32,
+    name: &'static str,
+    old: &SummaryInfo,
+    new: &SummaryInfo,
+    report: &mut Report<'_, W>,
+) -> Result<(), Failure> {
+    let old = property_text(report.alloc, old, id)?;
+    let new = property_text(report.alloc, new, id)?;
+    let old_text = old.as_ref().map(|text| text.as_str());
+    let new_text = new.as_ref().map(|text| text.as_str());
+    Ok(compare_texts("summary", name, old_text, new_text, report)?)
+}
+
+/// Compares a text that is there in both packages, or in one of them.
+fn compare_texts<W: Write>(
+    kind: &'static str,
+    name: &'static str,
+    old: Option<&str>,
+    new: Option<&str>,
+    report: &mut Report<'_, W>,
+) -> io::Result<()> {
+    if old == new {
+        return Ok(());
+    }
+    let (old_member, new_member) = (text_member(name, old), text_member(name, new));
+    report.add(&Difference {
+        change: Change::of(old.is_some(), new.is_some()),
+        kind,
+        table: "",
+        name,
+        old: old_member.as_slice(),
+        new: new_member.as_slice(),
+    })
+}
+
+/// A text under its name, if it is there.
+fn text_member<'a>(name: &'a str, text: Option<&'a str>) -> Option<Member<'a>> {
+    let content = Content::Text(text?);
+    Some(Member { name, content })
+}

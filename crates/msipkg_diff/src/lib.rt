@@ -1,0 +1,13 @@
+//! `diff A B`: what differs between two packages.
+#![tactic(auto)]
+
+mod columns;
+pub mod diff;
+mod difference;
+mod facts;
+mod report;
+mod rows;
+mod streams;
+mod tables;
+
+pub use diff::{Compared, print_differences};

@@ -1,0 +1,75 @@
+//! What differs between the streams of two packages.
+
+use crate::diff::Compared;
+use crate::difference::{Change, Content, Difference, Member};
+use crate::report::Report;
+use msi::Source;
+use msipkg_output::{Failure, stream_bytes};
+use std::io::{self, Write};
+
+/// Compares all streams by their names and their bytes.
+///
+/// # Errors
+/// Fails as the writer does, and if memory is refused. So do the other calls.
+pub(crate) fn compare_streams<F: Source, W: Write>(
+    old: &Compared<'_, F>,
+    new: &Compared<'_, F>,
+    report: &mut Report<'_, W>,
+) -> Result<(), Failure> {
+    for name in old.package.streams() {
+        let name = name?;
+        let bytes = bytes_of(old, name.as_str());
+        compare_stream(name.as_str(), bytes, bytes_of(new, name.as_str()), report)?;
+    }
+    add_new_streams(old, new, report)
+}
+
+/// Adds the streams that the new package alone has.
+fn add_new_streams<F: Source, W: Write>(
+    old: &Compared<'_, F>,
+    new: &Compared<'_, F>,
+    report: &mut Report<'_, W>,
+) -> Result<(), Failure> {
+    for name in new.package.streams() {
+        let name = name?;
+        if bytes_of(old, name.as_str()).is_none() {
+            compare_stream(name.as_str(), None, bytes_of(new, name.as_str()), report)?;
+        }
+    }
+    Ok(())
+}
+
+/// The bytes of a stream, if it is there.
+fn bytes_of<'a, F: Source>(package: &Compared<'a, F>, name: &str) -> Option<&'a [u8]> {
+    stream_bytes(package.package, package.stored, name).ok()
+}
+
+/// Compares the bytes of a stream.
+fn compare_stream<W: Write>(
+    name: &str,
+    old: Option<&[u8]>,
+    new: Option<&[u8]>,
+    report: &mut Report<'_, W>,
+) -> io::Result<()> {
+    if old == new {
+        return Ok(());
+    }
+    let (old_length, new_length) = (length_member(old), length_member(new));
+    report.add(&Difference {
+        change: Change::of(old.is_some(), new.is_some()),
+        kind: "stream",
+        table: "",
+        name,
+        old: old_length.as_slice(),
+        new: new_length.as_slice(),
+    })
+}
+
+/// How many bytes a stream has, if it is there.
+fn length_member(bytes: Option<&[u8]>) -> Option<Member<'static>> {
+    let content = Content::count(bytes?.len());
+    Some(Member {
+        name: "bytes",
+        content,
+    })
+}

@@ -1,0 +1,132 @@
+//! What differs between the tables of two packages.
+
+use crate::columns::compare_columns;
+use crate::diff::Compared;
+use crate::difference::{Change, Content, Difference, Member};
+use crate::report::Report;
+use crate::rows::compare_rows;
+use msi::{Column, Package, Source, Table};
+use msipkg_output::{Failure, is_list};
+use std::alloc::{AllocError, Global};
+use std::io::{self, Write};
+
+/// Compares all tables: their columns and, where these have the same names in the same order and the same keys, their
+/// rows.
+///
+/// # Errors
+/// Fails if a table can't be read, as the writer does, and if memory is refused. So do the other calls.
+pub(crate) fn compare_tables<F: Source, W: Write>(
+    old: &Compared<'_, F>,
+    new: &Compared<'_, F>,
+    report: &mut Report<'_, W>,
+) -> Result<(), Failure> {
+    for table in old.package.tables() {
+        if !is_list(table) {
+            compare_table(old, new, table, report)?;
+        }
+    }
+    Ok(add_new_tables(old.package, new.package, report)?)
+}
+
+/// Adds the tables that the new package alone has.
+fn add_new_tables<F: Source, W: Write>(
+    old: &Package<F>,
+    new: &Package<F>,
+    report: &mut Report<'_, W>,
+) -> io::Result<()> {
+    for table in new.tables() {
+        if !old.has_table(table.name()) {
+            note_table(Change::Added, table, report)?;
+        }
+    }
+    Ok(())
+}
+
+/// Adds a table that one package alone has.
+fn note_table<W: Write>(
+    change: Change,
+    table: &Table,
+    report: &mut Report<'_, W>,
+) -> io::Result<()> {
+    report.add(&Difference {
+        change,
+        kind: "table",
+        table: "",
+        name: table.name(),
+        old: &[],
+        new: &[],
+    })
+}
+
+/// Compares a table of the old package.
+fn compare_table<F: Source, W: Write>(
+    old: &Compared<'_, F>,
+    new: &Compared<'_, F>,
+    table: &Table,
+    report: &mut Report<'_, W>,
+) -> Result<(), Failure> {
+    let Some(other) = new.package.get_table(table.name()) else {
+        return Ok(note_table(Change::Removed, table, report)?);
+    };
+    compare_columns(table, other, report)?;
+    if !have_same_names(table.columns(), other.columns()) {
+        return Ok(compare_orders(table, other, report)?);
+    }
+    if !have_same_keys(table.columns(), other.columns()) {
+        return Ok(());
+    }
+    compare_rows(old, new, table, report)
+}
+
+/// Whether columns have the same names in the same order.
+fn have_same_names(columns: &[Column], others: &[Column]) -> bool {
+    columns.len() == others.len()
+        && columns
+            .iter()
+            .zip(others.iter())
+            .all(|(column, other)| column.name() == other.name())
+}
+
+/// Whether of columns of the same names the same ones are keys.
+fn have_same_keys(columns: &[Column], others: &[Column]) -> bool {
+    columns.iter().zip(others.iter()).all(|(column, other)| column.is_primary_key()
+        == other.is_primary_key())
+}
+
+/// Adds the orders of the columns of two tables, which differ.
+fn compare_orders<W: Write>(
+    old: &Table,
+    new: &Table,
+    report: &mut Report<'_, W>,
+) -> io::Result<()> {
+    let old_names = names_of(report.alloc, old.columns())?;
+    let new_names = names_of(report.alloc, new.columns())?;
+    report.add(&Difference {
+        change: Change::Changed,
+        kind: "table",
+        table: "",
+        name: old.name(),
+        old: &[names_member(old_names.as_str())],
+        new: &[names_member(new_names.as_str())],
+    })
+}
+
+/// The names of columns under a name.
+fn names_member(names: &str) -> Member<'_> {
+    Member {
+        name: "columns",
+        content: Content::Text(names),
+    }
+}
+
+/// The names of columns, in order.
+fn names_of(alloc: Global, columns: &[Column]) -> Result<String, AllocError> {
+    let mut names = String::new(alloc);
+    let mut before = "";
+    for column in columns {
+        names.push_str(before)?;
+        names.push_str(column.name())?;
+        before = ", ";
+    }
+    Ok(names)
+}

@@ -1,0 +1,247 @@
+//! A folder of text archives: one for each table, and those of what isn't in a table, with the files of streams.
+
+use crate::folders::{make_folder, make_inner_folder};
+use crate::other_archives::{
+    PAGE, STREAMS, SUMMARY, page_archive, streams_archive, summary_archive,
+};
+use crate::table_archives::{StreamFile, TableArchive, table_archive};
+use msi::{Package, Source, Table};
+use msipkg_output::{Failure, Folder, SafeNames, at_file, chosen_tables, path_in};
+use std::alloc::{AllocError, Global};
+use std::collections::BTreeSet;
+use std::fs::OpenFile;
+use std::io::Write;
+use std::rt::Files;
+
+/// What was exported.
+struct Exported {
+    /// The names of the tables' files.
+    given: SafeNames,
+    /// The streams of rows.
+    streams: BTreeSet<String>,
+}
+
+/// Written out, so that a function that owns one calls one drop, and its proof doesn't go through those of the parts.
+impl Drop for Exported {
+    fn drop(self) {
+        let Exported {
+            given: _,
+            streams: _,
+        } = self;
+    }
+}
+
+impl Exported {
+    /// Nothing. No table's file is named as that of the code page, the summary or the streams.
+    fn new(alloc: Global) -> Result<Exported, AllocError> {
+        let mut given = SafeNames::new(alloc);
+        for name in [PAGE, SUMMARY, STREAMS] {
+            given.give(name)?;
+        }
+        Ok(Exported {
+            given,
+            streams: BTreeSet::new(alloc),
+        })
+    }
+
+    /// Notes the streams of rows.
+    fn add(&mut self, files: Vec<StreamFile>) -> Result<(), AllocError> {
+        for file in files {
+            self.streams.insert(file.into_stream())?;
+        }
+        Ok(())
+    }
+}
+
+/// Writes each of the tables to a file of a folder as a text archive, and the streams of its rows to files of a folder
+/// in it that has the name of that file. Where no table is named, the code page, the summary and the other streams are
+/// written too, as the installer's tables `_ForceCodepage`, `_SummaryInformation` and `_Streams`.
+///
+/// # Errors
+/// Fails if a table isn't there or can't be read, if a text can't stand in an archive, if a stream that a row has isn't
+/// there, if a file is there already and isn't to be replaced, and as the calls of the system do. Earlier files stay.
+pub fn export_archives<R, F>(
+    rt: &R,
+    package: &Package<F>,
+    names: &[&str],
+    folder: &Folder<'_>,
+) -> Result<(), Failure>
+where
+    R: Files + AllocGlobal,
+    R::File: OpenFile + Write + Drop,
+    F: Source,
+{
+    let tables = chosen_tables(rt.alloc(), package, names, false)?;
+    make_folder(rt, folder.path)?;
+    let mut exported = Exported::new(rt.alloc())?;
+    export_tables(rt, package, tables.as_slice(), folder, &mut exported)?;
+    if names.is_empty() {
+        export_others(rt, package, &exported.streams, folder)?;
+    }
+    Ok(())
+}
+
+/// Writes tables and the streams of their rows, which are noted.
+fn export_tables<R, F>(
+    rt: &R,
+    package: &Package<F>,
+    tables: &[&Table],
+    folder: &Folder<'_>,
+    exported: &mut Exported,
+) -> Result<(), Failure>
+where
+    R: Files + AllocGlobal,
+    R::File: OpenFile + Write + Drop,
+    F: Source,
+{
+    for table in tables {
+        match export_table(rt, package, table, folder, exported) {
+            Ok(()) => {}
+            Err(failure) => return Err(failure.at(rt.alloc(), "table", table.name())),
+        }
+    }
+    Ok(())
+}
+
+/// Writes a table and the streams of its rows, which are noted.
+fn export_table<R, F>(
+    rt: &R,
+    package: &Package<F>,
+    table: &Table,
+    folder: &Folder<'_>,
+    exported: &mut Exported,
+) -> Result<(), Failure>
+where
+    R: Files + AllocGlobal,
+    R::File: OpenFile + Write + Drop,
+    F: Source,
+{
+    let archive = table_archive(rt.alloc(), package, table)?;
+    let safe = exported.given.give(table.name())?;
+    write_archive(rt, package, safe.as_str(), &archive, folder)?;
+    Ok(exported.add(archive.into_files())?)
+}
+
+/// Writes what isn't in a table: the code page, the summary, and the streams that no row has. Those of rows are
+/// `named`.
+fn export_others<R, F>(
+    rt: &R,
+    package: &Package<F>,
+    named: &BTreeSet<String>,
+    folder: &Folder<'_>,
+) -> Result<(), Failure>
+where
+    R: Files + AllocGlobal,
+    R::File: OpenFile + Write + Drop,
+    F: Source,
+{
+    let page = page_archive(rt.alloc(), package.database_codepage())?;
+    write_archive(rt, package, PAGE, &page, folder)?;
+    let summary = summary_archive(rt.alloc(), package.summary_info())?;
+    write_archive(rt, package, SUMMARY, &summary, folder)?;
+    export_streams(rt, package, named, folder)
+}
+
+/// Writes the streams that no row has, if there are some.
+fn export_streams<R, F>(
+    rt: &R,
+    package: &Package<F>,
+    named: &BTreeSet<String>,
+    folder: &Folder<'_>,
+) -> Result<(), Failure>
+where
+    R: Files + AllocGlobal,
+    R::File: OpenFile + Write + Drop,
+    F: Source,
+{
+    let streams = streams_archive(rt.alloc(), package, named)?;
+    if streams.files.is_empty() {
+        return Ok(());
+    }
+    write_archive(rt, package, STREAMS, &streams, folder)
+}
+
+/// Writes an archive to its file, which has this name and `.idt`, and its streams to files of the folder of this name.
+fn write_archive<R, F>(
+    rt: &R,
+    package: &Package<F>,
+    safe: &str,
+    archive: &TableArchive,
+    folder: &Folder<'_>,
+) -> Result<(), Failure>
+where
+    R: Files + AllocGlobal,
+    R::File: OpenFile + Write + Drop,
+    F: Source,
+{
+    write_text(rt, safe, archive, folder)?;
+    if archive.files.is_empty() {
+        return Ok(());
+    }
+    let path = path_in(rt.alloc(), folder.path, safe)?;
+    make_inner_folder(rt, path.as_str())?;
+    let inner = Folder {
+        path: path.as_str(),
+        is_forced: folder.is_forced,
+    };
+    write_streams(rt, package, archive.files.as_slice(), &inner)
+}
+
+/// Writes the text of an archive to its file.
+fn write_text<R>(
+    rt: &R,
+    safe: &str,
+    archive: &TableArchive,
+    folder: &Folder<'_>,
+) -> Result<(), Failure>
+where
+    R: Files + AllocGlobal,
+    R::File: OpenFile + Write + Drop,
+{
+    let name = archive_name(rt.alloc(), safe)?;
+    match archive.encoded(rt.alloc()) {
+        Ok(bytes) => folder.write(rt, name.as_str(), bytes.as_slice()),
+        Err(error) => at_file(rt.alloc(), name.as_str(), Err(Failure::from(error))),
+    }
+}
+
+/// The name of an archive's file.
+fn archive_name(alloc: Global, safe: &str) -> Result<String, AllocError> {
+    format!(in alloc; "{safe}.idt")
+}
+
+/// Writes streams to files of a folder.
+fn write_streams<R, F>(
+    rt: &R,
+    package: &Package<F>,
+    files: &[StreamFile],
+    folder: &Folder<'_>,
+) -> Result<(), Failure>
+where
+    R: Files + AllocGlobal,
+    R::File: OpenFile + Write + Drop,
+    F: Source,
+{
+    for file in files {
+        write_stream(rt, package, file, folder)?;
+    }
+    Ok(())
+}
+
+/// Writes a stream to its file.
+fn write_stream<R, F>(
+    rt: &R,
+    package: &Package<F>,
+    file: &StreamFile,
+    folder: &Folder<'_>,
+) -> Result<(), Failure>
+where
+    R: Files + AllocGlobal,
+    R::File: OpenFile + Write + Drop,
+    F: Source,
+{
+    match package.read_stream(file.stream.as_str()) {
+        Ok(stream) => folder.write(rt, file.file.as_str(), stream.rest()),
+        Err(error) => Err(Failure::from(error).at(rt.alloc(), "stream", file.stream.as_str())),
+    }
+}

@@ -1,0 +1,253 @@
+//! The command `export`: which files it writes, or what it prints.
+
+use crate::archives::export_archives;
+use crate::csv_tables::{export_csv, write_csv};
+use crate::json_packages::write_package;
+use crate::table_archives::write_archive;
+use msi::{Package, Source, Table};
+use msipkg_output::{
+    Failure, Folder, Shown, Style, at_file, is_list, open_new, rows_of, settle, table_named,
+};
+use std::alloc::Global;
+use std::fs::OpenFile;
+use std::io::{self, BufWriter, Write};
+use std::rt::Files;
+
+/// How many bytes are collected before they go to a file.
+const CAPACITY: usize = 64 * 1024;
+
+/// How a file is written: as it is.
+pub(crate) const BARE: Style = Style {
+    is_terminal: false,
+    is_escaped: false,
+};
+
+/// The refusal of several tables on the output.
+const FOLDER: &str = "more than one table goes into a folder: add -o DIR";
+
+/// The formats of files that other programs read.
+#[derive(Clone, Copy)]
+pub enum FileFormat {
+    /// A package, or some of its tables, as one line of JSON.
+    Json,
+    /// A table as comma-separated values.
+    Csv,
+    /// A table as a text archive of the installer.
+    Idt,
+}
+
+impl FileFormat {
+    /// Returns the format of this name, as the command line has it.
+    pub fn of_name(name: &str) -> Option<FileFormat> {
+        match name {
+            "json" => Some(FileFormat::Json),
+            "csv" => Some(FileFormat::Csv),
+            "idt" => Some(FileFormat::Idt),
+            _ => None,
+        }
+    }
+}
+
+/// What an export goes to.
+#[derive(Clone, Copy)]
+pub struct Target<'a> {
+    /// The format of the files.
+    pub format: FileFormat,
+    /// The path of a file for JSON, or of a folder for the other formats; without one the output.
+    pub path: Option<&'a str>,
+    /// Whether files that are there already are replaced.
+    pub is_forced: bool,
+    /// How texts are printed on the output.
+    pub style: Style,
+}
+
+/// Writes tables of a file's package, or the whole package where none is named, to files or to the output. Where a
+/// whole package has streams that aren't found under their names, `notes` gets a line for each, since they aren't
+/// exported.
+///
+/// # Errors
+/// Fails if a table isn't there or can't be read, if a text can't stand in the format, if a file is there already and
+/// isn't to be replaced, as the calls of the system do, and as the writer does.
+pub fn export<R, F, O, N>(
+    rt: &R,
+    file: &str,
+    package: &Package<F>,
+    names: &[&str],
+    target: &Target<'_>,
+    output: &mut O,
+    notes: &mut N,
+) -> Result<(), Failure>
+where
+    R: Files + AllocGlobal,
+    R::File: OpenFile + Write + Drop,
+    F: Source,
+    O: Write + Drop,
+    N: Write,
+{
+    match target.path {
+        None => print_package(rt.alloc(), file, package, names, target, output)?,
+        Some(path) => write_files(rt, file, package, names, target, path)?,
+    }
+    if names.is_empty() && !matches!(target.format, FileFormat::Csv) {
+        note_hidden(file, package, notes)?;
+    }
+    Ok(())
+}
+
+/// Prints a package as JSON, or a table in another format.
+fn print_package<F: Source, O: Write + Drop>(
+    alloc: Global,
+    file: &str,
+    package: &Package<F>,
+    names: &[&str],
+    target: &Target<'_>,
+    output: &mut O,
+) -> Result<(), Failure> {
+    let style = target.style;
+    match target.format {
+        FileFormat::Json => write_package(alloc, style, file, package, names, output),
+        FileFormat::Csv => {
+            let table = one_table(alloc, package, names)?;
+            write_csv(alloc, style, package, table, output)
+        }
+        FileFormat::Idt => {
+            let table = one_table(alloc, package, names)?;
+            write_archive(alloc, style, package, table, output)
+        }
+    }
+}
+
+/// The table of the one name that is given.
+fn one_table<'a, F: Source>(
+    alloc: Global,
+    package: &'a Package<F>,
+    names: &[&str],
+) -> Result<&'a Table, Failure> {
+    match names {
+        [name] => table_named(alloc, package, name),
+        _ => Err(Failure::rule(FOLDER)),
+    }
+}
+
+/// Writes a package to a file of JSON, or tables to files of a folder.
+fn write_files<R, F>(
+    rt: &R,
+    file: &str,
+    package: &Package<F>,
+    names: &[&str],
+    target: &Target<'_>,
+    path: &str,
+) -> Result<(), Failure>
+where
+    R: Files + AllocGlobal,
+    R::File: OpenFile + Write + Drop,
+    F: Source,
+{
+    let is_forced = target.is_forced;
+    let folder = Folder { path, is_forced };
+    match target.format {
+        FileFormat::Json => at_file(
+            rt.alloc(),
+            path,
+            write_json(rt, file, package, names, &folder),
+        ),
+        FileFormat::Csv => export_csv(rt, package, names, &folder),
+        FileFormat::Idt => export_archives(rt, package, names, &folder),
+    }
+}
+
+/// Writes a package to a file of JSON, piece by piece.
+fn write_json<R, F>(
+    rt: &R,
+    file: &str,
+    package: &Package<F>,
+    names: &[&str],
+    target: &Folder<'_>,
+) -> Result<(), Failure>
+where
+    R: Files + AllocGlobal,
+    R::File: OpenFile + Write + Drop,
+    F: Source,
+{
+    let (made, mut new) = open_new(rt, target.path, target.is_forced)?;
+    let written = write_synced(rt.alloc(), file, package, names, &mut new);
+    drop(new);
+    settle(rt, written, made.as_str(), target.path)
+}
+
+/// Writes a package as JSON to a file, and waits until the disk has it.
+fn write_synced<F: Source, W: OpenFile + Write>(
+    alloc: Global,
+    file: &str,
+    package: &Package<F>,
+    names: &[&str],
+    new: &mut W,
+) -> Result<(), Failure> {
+    write_buffered(alloc, file, package, names, new)?;
+    Ok(new.sync_all()?)
+}
+
+/// Writes a package as JSON to a file.
+fn write_buffered<F: Source, W: Write>(
+    alloc: Global,
+    file: &str,
+    package: &Package<F>,
+    names: &[&str],
+    new: &mut W,
+) -> Result<(), Failure> {
+    let mut lines = BufWriter::with_capacity(alloc, CAPACITY, new)?;
+    write_package(alloc, BARE, file, package, names, &mut lines)?;
+    Ok(lines.flush()?)
+}
+
+/// Writes a line for each stream of a file's package that isn't found under its name.
+fn note_hidden<F: Source, N: Write>(
+    file: &str,
+    package: &Package<F>,
+    notes: &mut N,
+) -> Result<(), Failure> {
+    for name in package.streams() {
+        let name = name?;
+        if !package.has_stream(name.as_str()) {
+            note_stream(file, name.as_str(), notes)?;
+        }
+    }
+    Ok(())
+}
+
+/// Writes the line for a stream that isn't exported.
+fn note_stream<N: Write>(file: &str, stream: &str, notes: &mut N) -> io::Result<()> {
+    let (file, stream) = (Shown::escaped(file), Shown::escaped(stream));
+    writeln!(
+        notes,
+        "msipkg: {file}: stream {stream}: it isn't exported, since it isn't found under its name"
+    )
+}
+
+/// Writes a file's package as a line of JSON, if its tables can all be read. If it has streams that aren't found under
+/// their names, `notes` gets a line for each, since they aren't exported.
+///
+/// # Errors
+/// Fails if a table can't be read, and then nothing is written; and as the writers do.
+pub fn export_line<F: Source, O: Write, N: Write>(
+    alloc: Global,
+    style: Style,
+    file: &str,
+    package: &Package<F>,
+    output: &mut O,
+    notes: &mut N,
+) -> Result<(), Failure> {
+    check_tables(alloc, package)?;
+    write_package(alloc, style, file, package, &[], output)?;
+    note_hidden(file, package, notes)
+}
+
+/// Fails if a table can't be read.
+fn check_tables<F: Source>(alloc: Global, package: &Package<F>) -> Result<(), Failure> {
+    for table in package.tables() {
+        if !is_list(table) {
+            drop(rows_of(alloc, package, table.name())?);
+        }
+    }
+    Ok(())
+}

@@ -1,0 +1,50 @@
+//! The folders that an export makes.
+
+use msipkg_output::Failure;
+use std::fs;
+use std::io::ErrorKind;
+use std::rt::Files;
+
+/// The refusal of a file, or a link, in the place of a folder.
+const NO_FOLDER: &str = "it is no folder, but a file or a link";
+
+/// Makes a folder, and those above it, where they aren't there.
+///
+/// # Errors
+/// Fails as the call of the system does, at the folder's path.
+pub(crate) fn make_folder<R: Files + AllocGlobal>(rt: &R, path: &str) -> Result<(), Failure> {
+    match fs::create_dir_all(rt, path) {
+        Ok(()) => Ok(()),
+        Err(error) => Err(Failure::from(error).at(rt.alloc(), "folder", path)),
+    }
+}
+
+/// Makes a folder in a folder, where it isn't there. A link in its place isn't followed, since files would be written
+/// outside the outer folder then.
+///
+/// # Errors
+/// Fails if something else is there, and as the calls of the system do, at the folder's path.
+pub(crate) fn make_inner_folder<R: Files + AllocGlobal>(rt: &R, path: &str) -> Result<(), Failure> {
+    match make_or_check(rt, path) {
+        Ok(()) => Ok(()),
+        Err(failure) => Err(failure.at(rt.alloc(), "folder", path)),
+    }
+}
+
+/// Makes a folder, or checks that it is there.
+fn make_or_check<R: Files>(rt: &R, path: &str) -> Result<(), Failure> {
+    match fs::create_dir(rt, path) {
+        Ok(()) => Ok(()),
+        Err(error) if error.kind() == ErrorKind::AlreadyExists => check_folder(rt, path),
+        Err(error) => Err(Failure::from(error)),
+    }
+}
+
+/// Refuses what isn't itself a folder.
+fn check_folder<R: Files>(rt: &R, path: &str) -> Result<(), Failure> {
+    if fs::symlink_metadata(rt, path)?.is_dir() {
+        Ok(())
+    } else {
+        Err(Failure::rule(NO_FOLDER))
+    }
+}

@@ -1,0 +1,133 @@
+//! The archives of what isn't in a table: the code page, the summary, and the streams that no row has.
+
+use crate::archive_parts::text_value;
+use crate::archive_texts::archive_text;
+use crate::table_archives::{StreamFile, TableArchive};
+use msi::{CodePage, Column, Error, Items, Package, Source, SummaryInfo, Value};
+use msipkg_output::{Failure, PROPERTIES, SafeNames, property_text};
+use std::alloc::{AllocError, Global};
+use std::collections::BTreeSet;
+
+/// The names of these archives, as the installer has them.
+pub(crate) const PAGE: &str = "_ForceCodepage";
+
+pub(crate) const SUMMARY: &str = "_SummaryInformation";
+
+pub(crate) const STREAMS: &str = "_Streams";
+
+/// Returns the archive of a code page, which has no columns.
+///
+/// # Errors
+/// Fails if memory is refused.
+pub(crate) fn page_archive(alloc: Global, page: CodePage) -> Result<TableArchive, AllocError> {
+    let id = page.id();
+    let text = format!(in alloc; "\r\n\r\n{id}\t{PAGE}\r\n")?;
+    Ok(TableArchive::new(page, text, Vec::new(alloc)))
+}
+
+/// Returns the archive of the summary, in the summary's own code page.
+///
+/// # Errors
+/// Fails at a text that no archive can have, and with `OutOfMemory`.
+pub(crate) fn summary_archive(
+    alloc: Global,
+    summary: &SummaryInfo,
+) -> Result<TableArchive, Failure> {
+    let page = summary.codepage();
+    let text = summary_text(alloc, page, summary)?;
+    Ok(TableArchive::new(page, text, Vec::new(alloc)))
+}
+
+/// The text of the summary's archive.
+fn summary_text(alloc: Global, page: CodePage, summary: &SummaryInfo) -> Result<String, Failure> {
+    let columns = summary_columns(alloc)?;
+    let rows = summary_rows(alloc, summary)?;
+    archive_text(alloc, page, SUMMARY, columns.as_slice(), rows)
+}
+
+/// The columns of the summary's archive.
+fn summary_columns(alloc: Global) -> Result<Vec<Column>, Error> {
+    let id = Column::build(alloc, "PropertyId")?.primary_key().int16();
+    let value = Column::build(alloc, "Value")?.localizable().string(255);
+    Ok(vec![in alloc; id, value]?)
+}
+
+/// The rows of the summary's archive.
+fn summary_rows(alloc: Global, summary: &SummaryInfo) -> Result<Vec<Items<Value>>, Error> {
+    let mut rows = Vec::new(alloc);
+    for (id, _) in &PROPERTIES {
+        if let Some(text) = property_text(alloc, summary, *id)? {
+            rows.push(property_row(alloc, *id, text.as_str())?)?;
+        }
+    }
+    Ok(rows)
+}
+
+/// The row of a property.
+fn property_row(alloc: Global, id: i32, text: &str) -> Result<Items<Value>, Error> {
+    let value = text_value(alloc, text)?;
+    Ok(Items::from_vec(vec![in alloc; Value::Int(id), value]?))
+}
+
+/// Returns the archive of the streams that no row has and that are found under their names. Those of rows are `named`.
+///
+/// # Errors
+/// Fails at a name that no archive can have, and with `OutOfMemory`.
+pub(crate) fn streams_archive<F: Source>(
+    alloc: Global,
+    package: &Package<F>,
+    named: &BTreeSet<String>,
+) -> Result<TableArchive, Failure> {
+    let page = package.database_codepage();
+    let files = stream_files(alloc, package, named)?;
+    let text = streams_text(alloc, page, files.as_slice())?;
+    Ok(TableArchive::new(page, text, files))
+}
+
+/// The streams that aren't named and are found under their names, with the names of their files.
+fn stream_files<F: Source>(
+    alloc: Global,
+    package: &Package<F>,
+    named: &BTreeSet<String>,
+) -> Result<Vec<StreamFile>, Error> {
+    let mut given = SafeNames::new(alloc);
+    let mut files = Vec::new(alloc);
+    for stream in package.streams() {
+        let stream = stream?;
+        if !named.contains(stream.as_str()) && package.has_stream(stream.as_str()) {
+            let file = given.give(stream.as_str())?;
+            files.push(StreamFile { stream, file })?;
+        }
+    }
+    Ok(files)
+}
+
+/// The text of the archive of streams.
+fn streams_text(alloc: Global, page: CodePage, files: &[StreamFile]) -> Result<String, Failure> {
+    let columns = stream_columns(alloc)?;
+    let rows = stream_rows(alloc, files)?;
+    archive_text(alloc, page, STREAMS, columns.as_slice(), rows)
+}
+
+/// The columns of the archive of streams.
+fn stream_columns(alloc: Global) -> Result<Vec<Column>, Error> {
+    let name = Column::build(alloc, "Name")?.primary_key().string(62);
+    let data = Column::build(alloc, "Data")?.nullable().binary();
+    Ok(vec![in alloc; name, data]?)
+}
+
+/// The rows of the archive of streams.
+fn stream_rows(alloc: Global, files: &[StreamFile]) -> Result<Vec<Items<Value>>, Error> {
+    let mut rows = Vec::with_capacity(alloc, files.len())?;
+    for file in files {
+        rows.push(stream_row(alloc, file)?)?;
+    }
+    Ok(rows)
+}
+
+/// The row of a stream.
+fn stream_row(alloc: Global, file: &StreamFile) -> Result<Items<Value>, Error> {
+    let name = Value::from_text(alloc, file.stream.as_str())?;
+    let data = Value::from_text(alloc, file.file.as_str())?;
+    Ok(Items::from_vec(vec![in alloc; name, data]?))
+}

@@ -1,0 +1,138 @@
+//! Packages with texts in a page that packages aren't read in: they are recoded to UTF-8 first.
+
+use crate::escape::Shown;
+use crate::failure::{Cause, Failure};
+use crate::pages::{NamedPages, Pages};
+use msi::compound::{self, Contents};
+use msi_recode::{TextPage, recode_contents};
+use std::alloc::Global;
+use std::fs;
+use std::io::{self, Read, Write};
+use std::rc::Rc;
+use std::rt::Files;
+
+/// The file of a package, and how it is read.
+#[derive(Clone, Copy, Debug)]
+pub struct PackageFile<'a> {
+    /// The path of the file.
+    pub path: &'a str,
+    /// The page of the texts, where the package names page 0, which says nothing of it.
+    pub page: Option<i32>,
+    /// Whether a package that is recoded may be written, with its texts in UTF-8.
+    pub is_recoded: bool,
+}
+
+/// The bytes of a package with its texts in UTF-8.
+pub struct Recoded {
+    bytes: Vec<u8>,
+    pages: Pages,
+}
+
+/// Written out, so that a function that owns one calls one drop, and its proof doesn't go through those of the parts.
+impl Drop for Recoded {
+    fn drop(self) {
+        let Recoded { bytes: _, pages: _ } = self;
+    }
+}
+
+impl Recoded {
+    /// Returns the bytes.
+    pub fn into_bytes(self) -> Vec<u8> {
+        let Recoded { bytes, pages: _ } = self;
+        bytes
+    }
+
+    /// Writes a line that says that the package's texts are recoded.
+    ///
+    /// # Errors
+    /// Fails as the writer does.
+    pub fn note<N: Write>(&self, path: &str, notes: &mut N) -> io::Result<()> {
+        let (path, pages) = (Shown::escaped(path), self.pages);
+        writeln!(notes, "msipkg: {path}: texts in {pages} are read as UTF-8")
+    }
+
+    /// Fails if the package may not be written, and notes else that its texts are recoded.
+    ///
+    /// # Errors
+    /// Fails with the pages of the texts, and as the writer does.
+    pub fn permit<N: Write>(&self, file: &PackageFile<'_>, notes: &mut N) -> Result<(), Failure> {
+        if !file.is_recoded {
+            return Err(Failure::new(Cause::Recoding(self.pages)));
+        }
+        Ok(self.note(file.path, notes)?)
+    }
+}
+
+/// Returns a package's bytes with its texts in UTF-8 if a page is given and the package has texts to be recoded. Such a
+/// package isn't tried as it is, since it would be read as UTF-8, in which no bytes are refused.
+///
+/// # Errors
+/// Fails as `recode_file` does.
+pub fn recoded_by_page<R>(rt: &R, file: &PackageFile<'_>) -> Result<Option<Recoded>, Failure>
+where
+    R: Files + AllocGlobal,
+    R::File: Read + Drop,
+{
+    match file.page {
+        Some(_) => recode_file(rt, file),
+        None => Ok(None),
+    }
+}
+
+/// Returns the bytes of a package that isn't opened as it is, for this failure, with its texts in UTF-8.
+///
+/// # Errors
+/// Fails as `recode_file` does, and with that failure if no invalid data was found or there are no texts to be recoded.
+pub fn recoded_instead<R>(
+    rt: &R,
+    file: &PackageFile<'_>,
+    failure: Failure,
+) -> Result<Recoded, Failure>
+where
+    R: Files + AllocGlobal,
+    R::File: Read + Drop,
+{
+    if !failure.is_invalid_data() {
+        return Err(failure);
+    }
+    match recode_file(rt, file)? {
+        Some(recoded) => Ok(recoded),
+        None => Err(failure),
+    }
+}
+
+/// Returns a package's bytes with its texts in UTF-8, if they are to be recoded: one of its pages isn't one that
+/// packages are read in, or it is page 0 and a page is given.
+///
+/// # Errors
+/// Fails if the file can't be read, and at a text that its page doesn't read.
+pub fn recode_file<R>(rt: &R, file: &PackageFile<'_>) -> Result<Option<Recoded>, Failure>
+where
+    R: Files + AllocGlobal,
+    R::File: Read + Drop,
+{
+    let bytes = Rc::new(rt.alloc(), fs::read(rt, file.path)?)?;
+    match compound::read_shared(rt.alloc(), bytes) {
+        Ok(contents) => recoded_of(rt.alloc(), contents, file.page),
+        Err(_) => Ok(None),
+    }
+}
+
+/// The bytes of a package of these contents with its texts in UTF-8, if they are to be recoded.
+fn recoded_of(
+    alloc: Global,
+    contents: Contents,
+    given: Option<i32>,
+) -> Result<Option<Recoded>, Failure> {
+    let pages = NamedPages::of(alloc, &contents.streams)?.recoded_from(given);
+    if pages.is_empty() {
+        return Ok(None);
+    }
+    match recode_contents(alloc, given.and_then(TextPage::of), contents) {
+        Ok(contents) => {
+            let bytes = compound::write(alloc, &contents, 0)?;
+            Ok(Some(Recoded { bytes, pages }))
+        }
+        Err(error) => Err(Failure::new(Cause::Text(error))),
+    }
+}

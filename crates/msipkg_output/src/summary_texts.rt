@@ -1,0 +1,143 @@
+//! The properties of a summary as texts, as the installer's table `_SummaryInformation` has them.
+
+use crate::texts::{TimeText, UuidText};
+use msi::{Error, SummaryInfo, Timestamp};
+use std::alloc::{AllocError, Global};
+
+/// The properties in the order of their numbers, each with its name. The template is the architecture and the
+/// languages.
+pub static PROPERTIES: [(i32, &str); 17] = [
+    (1, "codepage"),
+    (2, "title"),
+    (3, "subject"),
+    (4, "author"),
+    (5, "keywords"),
+    (6, "comments"),
+    (7, "template"),
+    (8, "last_saved_by"),
+    (9, "uuid"),
+    (11, "last_printed"),
+    (12, "creation_time"),
+    (13, "last_saved_time"),
+    (14, "page_count"),
+    (15, "word_count"),
+    (16, "character_count"),
+    (18, "creating_application"),
+    (19, "doc_security"),
+];
+
+/// Returns the text of the property of a number, if it is there: keywords with `; ` between each two, the template as
+/// `Intel;1033,1031`, and times in UTC as `2024/02/29 12:00:00`.
+///
+/// # Errors
+/// Fails with `OutOfMemory`.
+pub fn property_text(
+    alloc: Global,
+    summary: &SummaryInfo,
+    id: i32,
+) -> Result<Option<String>, Error> {
+    match id {
+        5 => keywords_text(alloc, summary),
+        7 => template_text(alloc, summary),
+        _ => Ok(plain_text(alloc, summary, id)?),
+    }
+}
+
+/// The text of a property that has one value.
+fn plain_text(alloc: Global, summary: &SummaryInfo, id: i32) -> Result<Option<String>, AllocError> {
+    if let Some(text) = text_of(summary, id) {
+        return Ok(Some(String::from_str(alloc, text)?));
+    }
+    if let Some(number) = number_of(summary, id) {
+        return Ok(Some(number.to_string(alloc)?));
+    }
+    match (time_of(summary, id), summary.uuid()) {
+        (Some(time), _) => Ok(Some(installer_time(alloc, time)?)),
+        (None, Some(uuid)) if id == 9 => Ok(Some(UuidText(uuid).to_string(alloc)?)),
+        _ => Ok(None),
+    }
+}
+
+/// The property of a number, if it is a text that is there.
+fn text_of(summary: &SummaryInfo, id: i32) -> Option<&str> {
+    match id {
+        2 => summary.title(),
+        3 => summary.subject(),
+        4 => summary.author(),
+        6 => summary.comments(),
+        8 => summary.last_saved_by(),
+        18 => summary.creating_application(),
+        _ => None,
+    }
+}
+
+/// The property of a number, if it is a number that is there.
+fn number_of(summary: &SummaryInfo, id: i32) -> Option<i32> {
+    match id {
+        1 => Some(summary.codepage().id()),
+        14 => summary.page_count(),
+        15 => summary.word_count(),
+        16 => summary.character_count(),
+        19 => summary.doc_security(),
+        _ => None,
+    }
+}
+
+/// The property of a number, if it is a time that is there.
+fn time_of(summary: &SummaryInfo, id: i32) -> Option<Timestamp> {
+    match id {
+        11 => summary.last_printed(),
+        12 => summary.creation_time(),
+        13 => summary.last_saved_time(),
+        _ => None,
+    }
+}
+
+/// A time as the installer's tables have it. Parts of a second stand behind a dot.
+fn installer_time(alloc: Global, time: Timestamp) -> Result<String, AllocError> {
+    let iso = TimeText(time).to_string(alloc)?;
+    let mut text = String::new(alloc);
+    for c in iso.as_str().chars() {
+        match c {
+            '-' => text.push('/')?,
+            'T' => text.push(' ')?,
+            'Z' => {}
+            _ => text.push(c)?,
+        }
+    }
+    Ok(text)
+}
+
+/// The keywords, if there is one.
+fn keywords_text(alloc: Global, summary: &SummaryInfo) -> Result<Option<String>, Error> {
+    let keywords = summary.keywords()?;
+    if keywords.is_empty() {
+        return Ok(None);
+    }
+    let mut text = String::new(alloc);
+    let mut before = "";
+    for keyword in &keywords {
+        text.push_str(before)?;
+        text.push_str(keyword.as_str())?;
+        before = "; ";
+    }
+    Ok(Some(text))
+}
+
+/// The architecture and the languages, if either is there.
+fn template_text(alloc: Global, summary: &SummaryInfo) -> Result<Option<String>, Error> {
+    let languages = summary.languages()?;
+    let arch = summary.arch();
+    if arch.is_none() && languages.is_empty() {
+        return Ok(None);
+    }
+    let mut text = String::from_str(alloc, arch.unwrap_or(""))?;
+    let mut before = ";";
+    for language in &languages {
+        let id = language.id();
+        text.push_str(before)?;
+        write!(text, "{id}")?;
+        before = ",";
+    }
+    Ok(Some(text))
+}
