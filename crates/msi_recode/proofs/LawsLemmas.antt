@@ -39,7 +39,7 @@ one_texts q bytes (e ∷ es) (x ∷ xs) (y ∷ ys) (piece, others, parts, len, r
     ap (λ (z : Place). z ∷ xs) first ∙ ap (λ (zs : List Place). y ∷ zs) (one_texts q others es xs ys more (subst (λ (b : List ℕ). SpellsTexts q b es ys) left later))
 
 pub pools_stay_alike : PoolsStayAlike
-pools_stay_alike pool_stream data_stream pool_after data_after pool (es, (id, others, small, known, parts, listed, few), texts) (head, places, (said, spelled), after) =
+pools_stay_alike pool_stream data_stream pool_after data_after pool (es, (id, others, small, known, parts, listed, few), texts) (head, places, (said, spelled), after, plain_streams) =
     let found = pages_read_alike id pool.page known in
     let mine : PoolHead = record { page = found.0; long = pool.long; entries = es } in
     let is : IsHead None pool_stream mine = (id, others, small, sym (page_alone id) ∙ found.1, parts, listed, few) in

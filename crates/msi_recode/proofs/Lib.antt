@@ -10,3 +10,5 @@ pub mod SummaryOnlyLemmas
 pub mod PackageLemmas
 pub mod PagesAlikeLemmas
 pub mod LawsLemmas
+pub mod SummaryOneLemmas
+pub mod SummaryAlikeLemmas

@@ -1,18 +1,19 @@
 -- The streams that have texts, and the files that hold them.
-use Rattle.std.proofs.Common.{◌≡◌, ℕ, List, Option, Some, None, inl, inr, sym, ap, subst, ◌∙◌}
+use Rattle.std.proofs.Common.{◌≡◌, ℕ, false, List, Option, Some, None, inl, inr, sym, ap, subst, ◌∙◌}
 use Rattle.std.specs.Prelude.{◌⊎◌}
 use Rattle.std.specs.FinMap.{get}
 use Rattle.msi_container_format.specs.declared.contents.Contents.{Contents}
 use Rattle.msi_container_format.specs.Container.{Holds}
 use Rattle.msi_container_format.specs.Streams.{Streams}
+use Rattle.msi_container_write.specs.Layout.{layout, refuses}
 use Rattle.msi_text_base.specs.declared.errors.ErrorKind.{ErrorKind}
 use Rattle.msi_text_base.specs.declared.errors.ErrorKind.TheVariants as kind
 use Rattle.msi_text_base.proofs.OptionLemmas.{some_is, not_given}
 use Rattle.msi_database_schema.specs.Keys.{table_key, summary_key, string_pool_name, string_data_name}
 use Rattle.msi_recode.specs.declared.page.TextPage.{TextPage}
 use Rattle.msi_recode.specs.PoolRecoding.{AreRecoded, CannotBeRecoded}
-use Rattle.msi_recode.specs.SummaryRecoding.{HasNoSummary, IsSummaryRecoded}
-use Rattle.msi_recode.specs.Recoding.{TextStreams, HaveTextStreams, AreTextsRecoded, CannotBeRecodedIn, IsRecoded, IsFileRecoded}
+use Rattle.msi_recode.specs.SummaryRecoding.{HasNoSummary, IsSummaryRecoded, IsSummaryTooLong}
+use Rattle.msi_recode.specs.Recoding.{TextStreams, HaveTextStreams, AreTextsRecoded, CannotBeRecodedIn, IsTooLongIn, IsRecoded, IsFileRecoded}
 
 pub texts_made : (hint : Option TextPage) (streams : Streams) (pool_name data_name name entries texts summary : List ℕ) (new : TextStreams) → pool_name ≡ table_key string_pool_name → data_name ≡ table_key string_data_name → name ≡ summary_key
     → get streams pool_name ≡ Some entries → get streams data_name ≡ Some texts → get streams name ≡ Some summary → AreRecoded hint entries texts new.entries new.texts → IsSummaryRecoded hint summary new.summary
@@ -23,8 +24,8 @@ texts_made hint streams pool_name data_name name entries texts summary new pool_
   (recoded, set),
 )
 
-pub file_made : (hint : Option TextPage) (before after : List ℕ) (old new : Contents) → Holds before old → Holds after new → IsRecoded hint old new → IsFileRecoded hint before after
-file_made hint before after old new a b c = (old, new, a, b, c)
+pub file_made : (hint : Option TextPage) (before after : List ℕ) (old new : Contents) → Holds before old → IsRecoded hint old new → refuses new 0 ≡ false → after ≡ layout new 0 → Holds after new → IsFileRecoded hint before after
+file_made hint before after old new a b c d e = (old, new, a, b, c, d, e)
 
 -- ---- why nothing is recoded
 
@@ -59,6 +60,21 @@ file_refused hint bytes k only is contents holds = let e : kind.InvalidData ≡ 
 
 pub contents_refused : (hint : Option TextPage) (bytes : List ℕ) (found : Contents) → ((contents : Contents) → Holds bytes contents → found ≡ contents) → CannotBeRecodedIn hint found.streams → (contents : Contents) → Holds bytes contents → CannotBeRecodedIn hint contents.streams
 contents_refused hint bytes found only refused contents holds = subst (λ (c : Contents). CannotBeRecodedIn hint c.streams) (only contents holds) refused
+
+pub not_input : {P : Type 0} (k : ErrorKind) → (k ≡ kind.InvalidData) ⊎ (k ≡ kind.OutOfMemory) → k ≡ kind.InvalidInput → P
+not_input k (inl e) is = let f : kind.InvalidInput ≡ kind.InvalidData = sym is ∙ e in cc
+not_input k (inr e) is = let f : kind.InvalidInput ≡ kind.OutOfMemory = sym is ∙ e in cc
+
+pub too_long_in : (hint : Option TextPage) (streams : Streams) (pool_name data_name name entries texts summary entries_after texts_after : List ℕ) → pool_name ≡ table_key string_pool_name → data_name ≡ table_key string_data_name → name ≡ summary_key
+    → get streams pool_name ≡ Some entries → get streams data_name ≡ Some texts → get streams name ≡ Some summary → AreRecoded hint entries texts entries_after texts_after → IsSummaryTooLong hint summary → IsTooLongIn hint streams
+too_long_in hint streams pool_name data_name name entries texts summary entries_after texts_after pool_is data_is name_is pool stored properties recoded long = (
+  record { entries = entries; texts = texts; summary = summary },
+  entries_after,
+  texts_after,
+  (ap (get streams) (sym pool_is) ∙ pool, ap (get streams) (sym data_is) ∙ stored, ap (get streams) (sym name_is) ∙ properties),
+  recoded,
+  long,
+)
 
 pub unwritten : {P : Type 0} (k : ErrorKind) → (k ≡ kind.InvalidInput) ⊎ (k ≡ kind.OutOfMemory) → k ≡ kind.InvalidData → P
 unwritten k (inl e) is = let f : kind.InvalidData ≡ kind.InvalidInput = sym is ∙ e in cc

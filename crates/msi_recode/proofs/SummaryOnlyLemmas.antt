@@ -56,7 +56,7 @@ read_again version text_page spelled others (I4 n) fit is = in_made version text
 read_again version text_page spelled others (LpStr text) fit is = text_again version text_page spelled others text is
 read_again version text_page spelled others (FileTime n) fit is = in_made version text_page (spelled ++ others) (FileTime n) (FileTime n) (value_again version page.Utf8 spelled others (FileTime n) fit is) refl
 
-entries_read : (version : ℕ) (text_page : TextPage) (bytes : List ℕ) (section : ℕ) (pairs : List (ℕ × ℕ)) (entries : List (ℕ × PropertyValue))
+pub entries_read : (version : ℕ) (text_page : TextPage) (bytes : List ℕ) (section : ℕ) (pairs : List (ℕ × ℕ)) (entries : List (ℕ × PropertyValue))
     → AllZip (EntryStandsAt version text_page bytes section) pairs entries → AllZip (IsEntryRead version text_page bytes section) pairs entries
 entries_read version text_page bytes section [] [] h = tt
 entries_read version text_page bytes section [] (e ∷ entries) h = absurd h
@@ -80,7 +80,7 @@ number_read hint version text_page bytes section place (I4 n) fit b h = absurd c
 number_read hint version text_page bytes section place (LpStr text) fit b h = absurd cc
 number_read hint version text_page bytes section place (FileTime n) fit b h = absurd cc
 
-page_again : (hint : Option TextPage) (version : ℕ) (text_page : TextPage) (bytes : List ℕ) (section : ℕ) (pairs : List (ℕ × ℕ)) (entries : List (ℕ × PropertyValue)) → AllZip (EntryStandsAt version text_page bytes section) pairs entries
+pub page_again : (hint : Option TextPage) (version : ℕ) (text_page : TextPage) (bytes : List ℕ) (section : ℕ) (pairs : List (ℕ × ℕ)) (entries : List (ℕ × PropertyValue)) → AllZip (EntryStandsAt version text_page bytes section) pairs entries
     → page_named hint (entry_where (λ k. eqb k 1) entries) ≡ Some text_page → page_stated hint version bytes section (entry_where (λ k. eqb k 1) pairs) ≡ Some text_page
 page_again hint version text_page bytes section [] [] all h = h
 page_again hint version text_page bytes section [] (e ∷ entries) all h = absurd all

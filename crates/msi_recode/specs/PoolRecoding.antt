@@ -51,11 +51,17 @@ entries_written places = flat_map (λ p. plain_entry (entry_of p)) places
 abbrev pub texts_written : List Place → List ℕ
 texts_written places = flat_map (λ p. p.text) places
 
+-- the two streams that these places have in UTF-8, in their plain spelling
+abbrev pub AreWrittenOf : Bool → List Place → List ℕ → List ℕ → Type 0
+AreWrittenOf long places pool_stream data_stream =
+    (pool_stream ≡ header_of 65001 long ++ entries_written places) × (data_stream ≡ texts_written places)
+
 -- the streams after have the places of the streams before in UTF-8: with the same numbers, counts and texts
 abbrev pub AreRecoded : Option TextPage → List ℕ → List ℕ → List ℕ → List ℕ → Type 0
 AreRecoded given pool_stream data_stream pool_after data_after = (head : PoolHead) × (places : List Place)
     × HavePlaces given pool_stream data_stream head places
     × IsPool pool_after data_after (record { page = page.Utf8; long = head.long; places = places })
+    × AreWrittenOf head.long places pool_after data_after
 
 -- the two streams have no places, or a text among theirs is too long in UTF-8
 abbrev pub CannotBeRecoded : Option TextPage → List ℕ → List ℕ → Type 0

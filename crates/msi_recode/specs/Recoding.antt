@@ -1,13 +1,14 @@
 -- A package whose texts are in UTF-8, and the one that it was made of.
-use Rattle.std.specs.Prelude.{◌≡◌, ◌⊎◌, ℕ, List, Option, Some}
+use Rattle.std.specs.Prelude.{◌≡◌, ◌⊎◌, ℕ, true, false, List, Option, Some}
 use Rattle.std.specs.FinMap.{get, insert}
 use Rattle.msi_container_format.specs.declared.contents.Contents.{Contents}
 use Rattle.msi_container_format.specs.Container.{Holds}
 use Rattle.msi_container_format.specs.Streams.{Streams}
+use Rattle.msi_container_write.specs.Layout.{layout, refuses}
 use Rattle.msi_database_schema.specs.Keys.{table_key, summary_key, string_pool_name, string_data_name}
 use Rattle.msi_recode.specs.declared.page.TextPage.{TextPage}
 use Rattle.msi_recode.specs.PoolRecoding.{AreRecoded, CannotBeRecoded}
-use Rattle.msi_recode.specs.SummaryRecoding.{HasNoSummary, IsSummaryRecoded}
+use Rattle.msi_recode.specs.SummaryRecoding.{HasNoSummary, IsSummaryRecoded, IsSummaryTooLong}
 
 -- the bytes of the three streams that have texts
 pub record TextStreams : Type 0 where
@@ -45,7 +46,19 @@ abbrev pub CannotBeRecodedIn : Option TextPage → Streams → Type 0
 CannotBeRecodedIn given streams = (these : TextStreams) → HaveTextStreams streams these
     → CannotBeRecoded given these.entries these.texts ⊎ HasNoSummary given these.summary
 
--- the files hold such contents
+-- the pool can be recoded, and the summary would be too long
+abbrev pub IsTooLongIn : Option TextPage → Streams → Type 0
+IsTooLongIn given streams = (these : TextStreams) × (entries : List ℕ) × (texts : List ℕ)
+    × HaveTextStreams streams these × AreRecoded given these.entries these.texts entries texts
+    × IsSummaryTooLong given these.summary
+
+-- the file after is written of the recoded contents of the file before
 abbrev pub IsFileRecoded : Option TextPage → List ℕ → List ℕ → Type 0
-IsFileRecoded given before after = (old : Contents) × (new : Contents)
-    × Holds before old × Holds after new × IsRecoded given old new
+IsFileRecoded given before after = (old : Contents) × (new : Contents) × Holds before old × IsRecoded given old new
+    × (refuses new 0 ≡ false) × (after ≡ layout new 0) × Holds after new
+
+-- the file's contents are recoded, but not written: the summary would be too long, storages lie below the root, or the
+-- file would be too long
+abbrev pub IsFileRefused : Option TextPage → List ℕ → Type 0
+IsFileRefused given bytes = (old : Contents) × Holds bytes old
+    × (IsTooLongIn given old.streams ⊎ ((new : Contents) × IsRecoded given old new × (refuses new 0 ≡ true)))

@@ -1,5 +1,5 @@
 -- The stream of the summary whose texts are read in a page of any kind, and its set in UTF-8.
-use Rattle.std.specs.Prelude.{◌≡◌, ℕ, ◌+◌, ◌^◌, ◌<◌, ◌⊎◌, false, ◌==◌, if◌then◌else◌, List, ◌++◌, ◌∷◌, []}
+use Rattle.std.specs.Prelude.{◌≡◌, ℕ, ◌+◌, ◌^◌, ◌<◌, ◌⊎◌, true, false, ◌==◌, if◌then◌else◌, List, ◌++◌, ◌∷◌, []}
 use Rattle.std.specs.Prelude.{length, Option, Some, None, option_map}
 use Rattle.std.specs.List.{AllZip}
 use Rattle.std.specs.Int.{w16, w32, to_le_bytes, cast_unsigned}
@@ -9,7 +9,10 @@ use Rattle.msi_summary_properties.specs.declared.propset.PropertyValue.{Property
 use Rattle.msi_summary_properties.specs.declared.propset.PropertyValue.TheVariants.{I2, LpStr}
 use Rattle.msi_summary_properties.specs.Properties.{Properties, page_value, value_with_id}
 use Rattle.msi_summary_properties.specs.PropertyStream.{FitsHeader, FitsFields, FitsValue, StandsAt, SpellsValue}
-use Rattle.msi_summary_properties.specs.PropertyStream.{Spells, header_bytes, section_head, string_bytes_of}
+use Rattle.msi_summary_properties.specs.PropertyStream.{Spells, header_bytes, property_stream, section_head}
+use Rattle.msi_summary_properties.specs.PropertyStream.{string_bytes_of}
+use Rattle.msi_summary_properties.specs.PropertyLaws.{IsKept}
+use Rattle.msi_summary_properties.specs.PropertyWriting.{is_refused}
 use Rattle.msi_recode.specs.declared.page.TextPage.{TextPage}
 use Rattle.msi_recode.specs.declared.page.TextPage.TheVariants.{Plain}
 use Rattle.msi_recode.specs.TextPages.{Reads, page_for}
@@ -63,6 +66,12 @@ pub record IsSummary (given : Option TextPage) (bytes : List ℕ) (set : Propert
 abbrev pub HasNoSummary : Option TextPage → List ℕ → Type 0
 HasNoSummary given bytes = (set : Properties) → IsSummary given bytes set → ⊥
 
--- the bytes after encode the set that the bytes before have, in UTF-8
+-- the bytes after are the plain spelling of the set that the bytes before have, in UTF-8
 abbrev pub IsSummaryRecoded : Option TextPage → List ℕ → List ℕ → Type 0
-IsSummaryRecoded given before after = (set : Properties) × IsSummary given before set × Spells after set
+IsSummaryRecoded given before after = (set : Properties) × IsSummary given before set × (is_refused set ≡ false)
+    × (property_stream set ≡ Some after) × Spells after set
+
+-- the set that the bytes have is too long to be written in UTF-8: its section would have 2^32 bytes or more
+abbrev pub IsSummaryTooLong : Option TextPage → List ℕ → Type 0
+IsSummaryTooLong given bytes =
+    (set : Properties) × IsSummary given bytes set × IsKept set × (is_refused set ≡ true)

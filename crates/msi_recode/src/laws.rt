@@ -1,6 +1,6 @@
 //! What follows from the definitions: each is the contract of a function without a body.
 
-ghost use Rattle.msi_recode.specs.RecodingLaws.{PoolsStayAlike};
+ghost use Rattle.msi_recode.specs.RecodingLaws.{OneSummary, PoolsStayAlike, SummariesStayAlike};
 ghost use Rattle.msi_recode.specs.TextPages.{PackagePagesReadAlike};
 
 /// What a package's page reads, the page of its id reads alike, also where that has a table.
@@ -11,4 +11,14 @@ pub fn package_pages_read_alike()
 /// A pool that a package may have comes back as it is, but for its page: with the same places, counts and texts.
 pub fn pools_stay_alike()
     ensures { PoolsStayAlike }
+{}
+
+/// A summary that a package may have comes back as it is, but for its page: with the same properties and texts.
+pub fn summaries_stay_alike()
+    ensures { SummariesStayAlike }
+{}
+
+/// Bytes have at most one summary, as sets are kept.
+pub fn bytes_have_one_summary()
+    ensures { OneSummary }
 {}

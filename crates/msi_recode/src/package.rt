@@ -9,7 +9,7 @@ ghost use Rattle.msi_container_format.specs.declared.contents.Contents as held;
 ghost use Rattle.msi_recode.specs.Errors.{kind_of};
 ghost use Rattle.msi_recode.specs.Recoding as packages;
 ghost use Rattle.msi_recode.specs.Recoding.{AreStreamsRecoded, AreTextsRecoded, CannotBeRecodedIn, HaveTextStreams};
-ghost use Rattle.msi_recode.specs.Recoding.{IsFileRecoded, IsRecoded, with_text_streams};
+ghost use Rattle.msi_recode.specs.Recoding.{IsFileRecoded, IsFileRefused, IsRecoded, IsTooLongIn, with_text_streams};
 
 use crate::errors::RecodeError;
 use crate::page::TextPage;
@@ -39,6 +39,7 @@ pub fn recode(alloc: Global, given: Option<TextPage>, bytes: &[u8]) -> Result<Ve
         ⊎ (kind_of error ≡ OutOfMemory)) }
     ensures refused { IfErr result (λ error. kind_of error ≡ InvalidData → (contents : held.Contents)
         → Holds bytes.now contents → CannotBeRecodedIn given contents.streams) }
+    ensures unwritten { IfErr result (λ error. kind_of error ≡ InvalidInput → IsFileRefused given bytes.now) }
 {
     let contents = recode_contents(alloc, given, read(alloc, bytes)?)?;
     Ok(write(alloc, &contents, 0)?)
@@ -59,6 +60,7 @@ pub fn recode_contents(
     ensures kinds { IfErr result (λ error. (kind_of error ≡ InvalidData) ⊎ (kind_of error ≡ InvalidInput)
         ⊎ (kind_of error ≡ OutOfMemory)) }
     ensures refused { IfErr result (λ error. kind_of error ≡ InvalidData → CannotBeRecodedIn given contents.streams) }
+    ensures long { IfErr result (λ error. kind_of error ≡ InvalidInput → IsTooLongIn given contents.streams) }
 {
     let Contents {
         clsid,
@@ -83,6 +85,7 @@ fn recode_streams(
     ensures kinds { IfErr result (λ error. (kind_of error ≡ InvalidData) ⊎ (kind_of error ≡ InvalidInput)
         ⊎ (kind_of error ≡ OutOfMemory)) }
     ensures refused { IfErr result (λ error. kind_of error ≡ InvalidData → CannotBeRecodedIn given streams) }
+    ensures long { IfErr result (λ error. kind_of error ≡ InvalidInput → IsTooLongIn given streams) }
 {
     let texts = texts_recoded(alloc, given, &streams)?;
     Ok(with_texts(streams, texts)?)
@@ -115,6 +118,7 @@ fn texts_recoded(
     ensures kinds { IfErr result (λ error. (kind_of error ≡ InvalidData) ⊎ (kind_of error ≡ InvalidInput)
         ⊎ (kind_of error ≡ OutOfMemory)) }
     ensures refused { IfErr result (λ error. kind_of error ≡ InvalidData → CannotBeRecodedIn given streams.now) }
+    ensures long { IfErr result (λ error. kind_of error ≡ InvalidInput → IsTooLongIn given streams.now) }
 {
     let pool = bytes_at(streams, &string_pool_key(), reasons::NO_POOL)?;
     let data = bytes_at(streams, &string_data_key(), reasons::NO_POOL)?;

@@ -9,7 +9,8 @@ ghost use Rattle.msi_recode.specs.Errors.{kind_of};
 ghost use Rattle.msi_recode.specs.Readers.{page_of};
 ghost use Rattle.msi_recode.specs.SummaryReading.{ArePut, CannotBePut, IsNotPut, IsPutIn, is_text, page_stated};
 ghost use Rattle.msi_recode.specs.SummaryReading.{piece_at, value_in};
-ghost use Rattle.msi_recode.specs.SummaryRecoding.{HasNoSummary, IsSummary, IsSummaryRecoded, in_utf8, page_named};
+ghost use Rattle.msi_recode.specs.SummaryRecoding.{HasNoSummary, IsSummary, IsSummaryRecoded, IsSummaryTooLong};
+ghost use Rattle.msi_recode.specs.SummaryRecoding.{in_utf8, page_named};
 
 use crate::errors::RecodeError;
 use crate::page::{TextPage, page_for};
@@ -44,6 +45,7 @@ pub fn recode_summary(
     ensures kinds { IfErr result (λ error. (kind_of error ≡ InvalidData) ⊎ (kind_of error ≡ InvalidInput)
         ⊎ (kind_of error ≡ OutOfMemory)) }
     ensures refused { IfErr result (λ error. kind_of error ≡ InvalidData → HasNoSummary given bytes.now) }
+    ensures long { IfErr result (λ error. kind_of error ≡ InvalidInput → IsSummaryTooLong given bytes.now) }
 {
     let set = set_in_utf8(alloc, given, bytes)?;
     // UTF-8 writes each text so that it reads back: the call states that the texts are UTF-8.

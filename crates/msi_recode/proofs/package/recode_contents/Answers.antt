@@ -5,3 +5,8 @@ pub returns-in_err-streams-clause-refused : goal.returns-in_err-streams-clause-r
 returns-in_err-streams-clause-refused c =
     let p = err_from_is_err_and c.from_residual.result c.from_residual.ensures.1 in
     rw (p.1, p.2) c.in_err-streams.ensures.refused
+
+pub returns-in_err-streams-clause-long : goal.returns-in_err-streams-clause-long
+returns-in_err-streams-clause-long c =
+    let p = err_from_is_err_and c.from_residual.result c.from_residual.ensures.1 in
+    rw (p.1, p.2) c.in_err-streams.ensures.long
