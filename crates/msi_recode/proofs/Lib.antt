@@ -10,5 +10,6 @@ pub mod SummaryOnlyLemmas
 pub mod PackageLemmas
 pub mod PagesAlikeLemmas
 pub mod LawsLemmas
+pub mod SummaryPropertyLemmas
 pub mod SummaryOneLemmas
 pub mod SummaryAlikeLemmas

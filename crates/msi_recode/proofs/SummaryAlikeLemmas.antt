@@ -48,7 +48,7 @@ page_found (Some (LpStr text)) p h = no_page p h
 page_found (Some (FileTime n)) p h = no_page p h
 
 known : (o : Option CodePage) → IsSome o → o ≡ Some (unwrap_or o page.Utf8)
-known None h = absurd h
+known None h = absurd cc
 known (Some p) h = refl
 
 -- ---- the values

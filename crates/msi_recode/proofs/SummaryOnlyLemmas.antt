@@ -47,7 +47,7 @@ text_again version text_page spelled others text (inr (reads, is)) =
     let piece = piece_again 0 (spelled ++ others) [] others (omega arith) refl (ap (λ (x : List ℕ). x ++ others) is) in
     in_made version text_page (spelled ++ others) (LpStr old) (LpStr text) at (text_made text_page (spelled ++ others) [] old text piece reads)
 
-read_again : (version : ℕ) (text_page : TextPage) (spelled others : List ℕ) (v : PropertyValue) → FitsValue v → SpellsValueIn version text_page spelled v → value_in version text_page (spelled ++ others) ≡ Some v
+pub read_again : (version : ℕ) (text_page : TextPage) (spelled others : List ℕ) (v : PropertyValue) → FitsValue v → SpellsValueIn version text_page spelled v → value_in version text_page (spelled ++ others) ≡ Some v
 read_again version text_page spelled others Empty fit is = in_made version text_page (spelled ++ others) Empty Empty (value_again version page.Utf8 spelled others Empty fit is) refl
 read_again version text_page spelled others Null fit is = in_made version text_page (spelled ++ others) Null Null (value_again version page.Utf8 spelled others Null fit is) refl
 read_again version text_page spelled others (I1 n) fit is = in_made version text_page (spelled ++ others) (I1 n) (I1 n) (value_again version page.Utf8 spelled others (I1 n) fit is) refl
@@ -206,7 +206,7 @@ listed_twice (suc i) (p ∷ pairs) pair lt is any = elim (cases_Bool (eqb p.0 pa
   | inr other ↦ or_right (list_any (λ q. eqb p.0 q.0) pairs) (has_pair (λ p q. eqb p.0 q.0) pairs) (listed_twice i pairs pair (omega (arith, lt)) is (sym (ap (λ (t : Bool). t || list_any (λ q. eqb q.0 pair.0) (take i pairs)) other) ∙ any))
 ]
 
-there_listed : (version : ℕ) (text_page : TextPage) (bytes : List ℕ) (section id : ℕ) (pairs : List (ℕ × ℕ)) (entries : List (ℕ × PropertyValue)) → AllZip (IsEntryRead version text_page bytes section) pairs entries
+pub there_listed : (version : ℕ) (text_page : TextPage) (bytes : List ℕ) (section id : ℕ) (pairs : List (ℕ × ℕ)) (entries : List (ℕ × PropertyValue)) → AllZip (IsEntryRead version text_page bytes section) pairs entries
     → is_some (entry_where (λ k. eqb k id) entries) ≡ true → list_any (λ p. eqb p.0 id) pairs ≡ true
 there_listed version text_page bytes section id [] [] all h = absurd cc
 there_listed version text_page bytes section id [] (e ∷ entries) all h = absurd all
@@ -219,7 +219,7 @@ there_listed version text_page bytes section id (p ∷ pairs) (e ∷ entries) ((
     by_test true later h = refl
     by_test false later h = later h
 
-mapped_some : {X : Type 0} (f : X → X) (o : Option X) → is_some (option_map f o) ≡ is_some o
+pub mapped_some : {X : Type 0} (f : X → X) (o : Option X) → is_some (option_map f o) ≡ is_some o
 mapped_some f None = refl
 mapped_some f (Some x) = refl
 

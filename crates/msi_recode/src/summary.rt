@@ -7,8 +7,8 @@ ghost use Rattle.msi_text_base.specs.declared.errors.ErrorKind.TheVariants.{Inva
 ghost use Rattle.msi_summary_properties.specs.Properties.{value_with_id, with_value};
 ghost use Rattle.msi_recode.specs.Errors.{kind_of};
 ghost use Rattle.msi_recode.specs.Readers.{page_of};
-ghost use Rattle.msi_recode.specs.SummaryReading.{ArePut, CannotBePut, IsNotPut, IsPutIn, is_text, page_stated};
-ghost use Rattle.msi_recode.specs.SummaryReading.{piece_at, value_in};
+ghost use Rattle.msi_recode.specs.SummaryReading.{ArePut, CannotBePut, IsNotPut, IsPutIn, TellsPair, TellsProperty};
+ghost use Rattle.msi_recode.specs.SummaryReading.{is_text, page_stated, piece_at, value_in};
 ghost use Rattle.msi_recode.specs.SummaryRecoding.{HasNoSummary, IsSummary, IsSummaryRecoded, IsSummaryTooLong};
 ghost use Rattle.msi_recode.specs.SummaryRecoding.{in_utf8, page_named};
 
@@ -46,6 +46,7 @@ pub fn recode_summary(
         ⊎ (kind_of error ≡ OutOfMemory)) }
     ensures refused { IfErr result (λ error. kind_of error ≡ InvalidData → HasNoSummary given bytes.now) }
     ensures long { IfErr result (λ error. kind_of error ≡ InvalidInput → IsSummaryTooLong given bytes.now) }
+    ensures property { IfErr result (λ error. TellsProperty given bytes.now error) }
 {
     let set = set_in_utf8(alloc, given, bytes)?;
     // UTF-8 writes each text so that it reads back: the call states that the texts are UTF-8.
@@ -62,6 +63,7 @@ fn set_in_utf8(
     ensures ok { IfOk result (λ set. IsSummary given bytes.now set) }
     ensures kinds { IfErr result (λ error. (kind_of error ≡ InvalidData) ⊎ (kind_of error ≡ OutOfMemory)) }
     ensures refused { IfErr result (λ error. kind_of error ≡ InvalidData → HasNoSummary given bytes.now) }
+    ensures property { IfErr result (λ error. TellsProperty given bytes.now error) }
 {
     let head = header_at(bytes)?;
     let pairs = section_at(alloc, rest_from(bytes, head.section, 0))?;
@@ -158,6 +160,8 @@ fn put_values(
     ensures kinds { IfErr result (λ error. (kind_of error ≡ InvalidData) ⊎ (kind_of error ≡ OutOfMemory)) }
     ensures refused { IfErr result (λ error. kind_of error ≡ InvalidData
         → CannotBePut version (page_of reader.now) bytes.now section pairs.now) }
+    ensures property { IfErr result (λ error.
+        TellsPair version (page_of reader.now) bytes.now section pairs.now error) }
 {
     let mut left = most_text(bytes);
     for &(id, place) in pairs {

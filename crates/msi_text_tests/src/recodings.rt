@@ -1,5 +1,6 @@
 //! String pools as `msibuild` of msitools 0.101 writes them in Windows 932 and 1251 and in UTF-8, and summaries.
 
+use msi_container_tests::shown::is_shown;
 use msi_recode::{RecodeError, RecodedPool, TextPage, recode_pool, recode_summary};
 use msi_text_base::ErrorKind;
 use std::alloc::{AllocError, Global};
@@ -20,13 +21,20 @@ static WRITTEN: [(&[u8], &[u8], &[u8], &str); 2] = [
     ),
 ];
 
-#[test]
-fn pools_become_those_of_other_programs(rt: HostRuntime) {
+/// Whether pools become those of other programs.
+fn become_others(alloc: Global) -> Result<bool, RecodeError> {
+    let mut are_same = true;
     for row in &WRITTEN {
-        let pool = recode_pool(rt.alloc(), None, row.0, row.1).expect(&rt, "a pool");
-        assert!(rt; pool.entries.as_slice() == row.2);
-        assert!(rt; pool.texts.as_slice() == row.3.as_bytes());
+        let pool = recode_pool(alloc, None, row.0, row.1)?;
+        are_same &= pool.entries.as_slice() == row.2;
+        are_same &= pool.texts.as_slice() == row.3.as_bytes();
     }
+    Ok(are_same)
+}
+
+/// Checks that pools become those of other programs.
+pub(crate) fn pools_become_those_of_other_programs(rt: &HostRuntime) -> bool {
+    is_shown(rt, &"recoded pools", become_others(rt.alloc()))
 }
 
 /// The page that is given for page 0, the two streams of a pool with one text, and the text in UTF-8. The last row has
@@ -44,16 +52,24 @@ static READ: [(Option<i32>, &[u8], &[u8], &str); 5] = [
     ),
 ];
 
-#[test]
-fn texts_are_read_in_the_page_that_is_named(rt: HostRuntime) {
+/// Whether pools have these texts.
+fn have_texts(alloc: Global) -> Result<bool, RecodeError> {
+    let mut are_same = true;
     for row in &READ {
-        let given = match row.0 {
-            Some(id) => TextPage::of(id),
-            None => None,
-        };
-        let pool = recode_pool(rt.alloc(), given, row.1, row.2).expect(&rt, "a pool");
-        assert!(rt; pool.texts.as_slice() == row.3.as_bytes());
+        let pool = recode_pool(alloc, page_of(row.0), row.1, row.2)?;
+        are_same &= pool.texts.as_slice() == row.3.as_bytes();
     }
+    Ok(are_same)
+}
+
+/// The page of an id, where one is given.
+fn page_of(given: Option<i32>) -> Option<TextPage> {
+    TextPage::of(given?)
+}
+
+/// Checks that texts are read in the page that the pool names, and for page 0 in the one that is given.
+pub(crate) fn texts_are_read_in_the_page(rt: &HostRuntime) -> bool {
+    is_shown(rt, &"pages of pools", have_texts(rt.alloc()))
 }
 
 /// The two streams of a pool that isn't recoded, and which place is in the way, if one is.
@@ -90,11 +106,13 @@ fn is_refused(alloc: Global, row: &(&[u8], &[u8], Option<usize>)) -> bool {
     }
 }
 
-#[test]
-fn what_a_page_lacks_is_refused(rt: HostRuntime) {
+/// Checks that what a page lacks is refused, with the place of the text.
+pub(crate) fn what_a_page_lacks_is_refused(rt: &HostRuntime) -> bool {
+    let mut are_refused = true;
     for row in &REFUSED {
-        assert!(rt; is_refused(rt.alloc(), row));
+        are_refused &= is_refused(rt.alloc(), row);
     }
+    is_shown(rt, &"refused pools", Ok::<bool, RecodeError>(are_refused))
 }
 
 /// The streams of a pool whose one text has 32768 letters, of one byte in Windows 1251 and two in UTF-8.
@@ -103,11 +121,16 @@ fn long_pool(alloc: Global) -> Result<RecodedPool, RecodeError> {
     recode_pool(alloc, None, b"\xE3\x04\0\0\0\x80\x01\0", data.as_slice())
 }
 
-#[test]
-fn a_text_of_65536_bytes_has_a_long_entry(rt: HostRuntime) {
-    let pool = long_pool(rt.alloc()).expect(&rt, "a pool");
-    assert!(rt; pool.entries.as_slice() == b"\xE9\xFD\0\0\0\0\x01\0\0\0\x01\0".as_slice());
-    assert!(rt; pool.texts.len() == 65536);
+/// Whether it has a long entry.
+fn has_long_entry(alloc: Global) -> Result<bool, RecodeError> {
+    let pool = long_pool(alloc)?;
+    Ok(pool.entries.as_slice() == b"\xE9\xFD\0\0\0\0\x01\0\0\0\x01\0".as_slice()
+        && pool.texts.len() == 65536)
+}
+
+/// Checks that a text of 65536 bytes has a long entry.
+pub(crate) fn a_text_of_65536_bytes_has_a_long_entry(rt: &HostRuntime) -> bool {
+    is_shown(rt, &"a long text", has_long_entry(rt.alloc()))
 }
 
 /// What stands in front of the section of a summary.
@@ -156,17 +179,20 @@ fn recoded_summary(
     recode_summary(alloc, given, bytes.as_slice())
 }
 
-#[test]
-fn summaries_are_written_in_utf8(rt: HostRuntime) {
-    let wanted = summary_of(rt.alloc(), SECTION_AFTER).expect(&rt, "memory");
+/// Whether the summaries have these bytes in UTF-8.
+fn are_in_utf8(alloc: Global) -> Result<bool, RecodeError> {
+    let wanted = summary_of(alloc, SECTION_AFTER)?;
+    let mut are_same = true;
     for row in &SECTIONS {
-        let given = match row.0 {
-            Some(id) => TextPage::of(id),
-            None => None,
-        };
-        let after = recoded_summary(rt.alloc(), given, row.1).expect(&rt, "a summary");
-        assert!(rt; after.as_slice() == wanted.as_slice());
+        let after = recoded_summary(alloc, page_of(row.0), row.1)?;
+        are_same &= after.as_slice() == wanted.as_slice();
     }
+    Ok(are_same)
+}
+
+/// Checks that summaries are written in UTF-8.
+pub(crate) fn summaries_are_written_in_utf8(rt: &HostRuntime) -> bool {
+    is_shown(rt, &"recoded summaries", are_in_utf8(rt.alloc()))
 }
 
 /// The property that is named as the one in the way of a summary with this section.
@@ -177,7 +203,8 @@ fn property_refused(alloc: Global, section: &[u8]) -> Option<u32> {
     }
 }
 
-#[test]
-fn the_property_that_is_not_read_is_named(rt: HostRuntime) {
-    assert!(rt; property_refused(rt.alloc(), SECTION_CUT) == Some(2));
+/// Checks that the property that isn't read is named.
+pub(crate) fn the_property_that_is_not_read_is_named(rt: &HostRuntime) -> bool {
+    let is_named = property_refused(rt.alloc(), SECTION_CUT) == Some(2);
+    is_shown(rt, &"a refused property", Ok::<bool, RecodeError>(is_named))
 }

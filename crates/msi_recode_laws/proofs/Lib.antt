@@ -1,0 +1,3 @@
+-- The lemmas of this crate.
+pub mod StreamsLemmas
+pub mod PackageLemmas

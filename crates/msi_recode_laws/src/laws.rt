@@ -1,0 +1,14 @@
+//! What follows from the definitions: each is the contract of a function without a body.
+
+ghost use Rattle.msi_recode_laws.specs.PackageLaws.{PackagesStayAlike, RecodedTextsAreRead};
+
+/// A file that is a package, and whose tables have names that tables may have, is one after it was recoded: with the
+/// same kind, tables, rows, streams, texts and properties. Its pool and its summary are in UTF-8.
+pub fn packages_stay_alike()
+    ensures { PackagesStayAlike }
+{}
+
+/// A recoded package passes the steps of opening that are about its pool and its texts, and has the kind that it had.
+pub fn recoded_texts_are_read()
+    ensures { RecodedTextsAreRead }
+{}

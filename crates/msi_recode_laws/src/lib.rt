@@ -1,0 +1,4 @@
+//! What recoding leaves alike of whole packages.
+#![tactic(auto)]
+
+pub mod laws;
