@@ -25,7 +25,8 @@ use Rattle.msi_summary_properties.proofs.ValueLemmas.{Begins, value_found}
 use Rattle.msi_recode.specs.declared.page.TextPage.{TextPage}
 use Rattle.msi_recode.specs.TextPages.{Reads, text_in}
 use Rattle.msi_recode.specs.SummaryRecoding.{SpellsString, SpellsValueIn, EntryStandsAt, page_named, in_utf8}
-use Rattle.msi_recode.specs.SummaryReading.{piece_at, in_page, value_in, page_stated, IsEntryRead, ArePut}
+use Rattle.msi_recode.specs.SummaryReading.{piece_at, in_page, value_in, IsEntryRead, ArePut}
+use Rattle.msi_recode.specs.SummaryRecoding.{page_stated}
 
 -- ---- a text
 

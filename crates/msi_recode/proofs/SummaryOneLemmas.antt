@@ -16,7 +16,8 @@ use Rattle.msi_summary_properties.proofs.HeaderLemmas.{IsHeader, header_again, s
 use Rattle.msi_summary_properties.proofs.SpelledSetLemmas.{stands_drop}
 use Rattle.msi_recode.specs.declared.page.TextPage.{TextPage}
 use Rattle.msi_recode.specs.RecodingLaws.{OneSummary}
-use Rattle.msi_recode.specs.SummaryReading.{IsEntryRead, page_stated}
+use Rattle.msi_recode.specs.SummaryReading.{IsEntryRead}
+use Rattle.msi_recode.specs.SummaryRecoding.{page_stated}
 use Rattle.msi_recode.specs.SummaryRecoding.{IsSummary, in_utf8}
 use Rattle.msi_recode.proofs.SummaryOnlyLemmas.{entries_read, page_again}
 

@@ -23,7 +23,8 @@ use Rattle.msi_summary_properties.proofs.ValueLemmas.{Begins, value_again}
 use Rattle.msi_recode.specs.declared.page.TextPage.{TextPage}
 use Rattle.msi_recode.specs.TextPages.{text_in}
 use Rattle.msi_recode.specs.SummaryRecoding.{SpellsString, SpellsValueIn, EntryStandsAt, IsSummary, HasNoSummary, in_utf8, page_named}
-use Rattle.msi_recode.specs.SummaryReading.{piece_at, in_page, value_in, page_stated, IsEntryRead, ArePut, CannotBePut}
+use Rattle.msi_recode.specs.SummaryReading.{piece_at, in_page, value_in, IsEntryRead, ArePut, CannotBePut}
+use Rattle.msi_recode.specs.SummaryRecoding.{page_stated}
 use Rattle.msi_recode.proofs.SummaryLemmas.{piece_again}
 
 -- ---- a value

@@ -15,7 +15,8 @@ use Rattle.msi_summary_properties.proofs.SpelledSetLemmas.{stands_drop}
 use Rattle.msi_recode.specs.declared.errors.RecodeError.{RecodeError}
 use Rattle.msi_recode.specs.declared.errors.RecodeError.TheVariants as error
 use Rattle.msi_recode.specs.declared.page.TextPage.{TextPage}
-use Rattle.msi_recode.specs.SummaryReading.{ArePut, IsNotPut, IsFirstUnread, TellsPair, TellsProperty, page_stated, value_in}
+use Rattle.msi_recode.specs.SummaryReading.{ArePut, IsNotPut, TellsPair, value_in}
+use Rattle.msi_recode.specs.SummaryRecoding.{IsFirstUnread, TellsProperty, page_stated}
 use Rattle.msi_recode.specs.SummaryRecoding.{EntryStandsAt, SpellsValueIn, in_utf8}
 use Rattle.msi_recode.proofs.SummaryLemmas.{entries_stand}
 use Rattle.msi_recode.proofs.SummaryOnlyLemmas.{read_again, there_listed, mapped_some}

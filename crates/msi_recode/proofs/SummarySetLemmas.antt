@@ -17,7 +17,8 @@ use Rattle.msi_summary_properties.proofs.HeaderLemmas.{header_found, section_fou
 use Rattle.msi_summary_properties.proofs.SpelledSetLemmas.{stands_here}
 use Rattle.msi_recode.specs.declared.page.TextPage.{TextPage}
 use Rattle.msi_recode.specs.SummaryRecoding.{IsSummary, in_utf8}
-use Rattle.msi_recode.specs.SummaryReading.{ArePut, page_stated}
+use Rattle.msi_recode.specs.SummaryReading.{ArePut}
+use Rattle.msi_recode.specs.SummaryRecoding.{page_stated}
 use Rattle.msi_recode.proofs.SummaryLemmas.{entries_stand, page_read}
 
 pub summary_read : (hint : Option TextPage) (bytes rest : List ℕ) (h : Header) (pairs : List (ℕ × ℕ)) (text_page : TextPage) (set : Properties) → IsBytes bytes → header_at bytes ≡ Some h → rest ≡ drop (h.section + 0) bytes → section_at rest ≡ Some pairs

@@ -1,8 +1,8 @@
 -- Scaffolding of proofs: how the summary's stream is read, one step after the other. What it holds stands in
 -- `SummaryRecoding`.
-use Rattle.std.specs.Prelude.{◌≡◌, ℕ, ◌+◌, ◌-◌, ◌==◌, false, true, Bool, List, ◌∷◌, ◌++◌, Option, Some, None, option_map}
+use Rattle.std.specs.Prelude.{◌≡◌, ℕ, ◌+◌, ◌-◌, ◌==◌, false, true, Bool, List, Option, Some, None, option_map}
 use Rattle.std.specs.Prelude.{◌⊎◌, is_some, drop}
-use Rattle.std.specs.List.{AllZip, list_any}
+use Rattle.std.specs.List.{AllZip}
 use Rattle.std.specs.Int.{w32}
 use Rattle.msi_text_base.specs.declared.codepage.CodePage.TheVariants as page
 use Rattle.msi_text_base.specs.declared.errors.ErrorKind.TheVariants as kind
@@ -12,12 +12,12 @@ use Rattle.msi_text_base.specs.Results.{◌>>=◌}
 use Rattle.msi_summary_properties.specs.declared.propset.PropertyValue.{PropertyValue}
 use Rattle.msi_summary_properties.specs.declared.propset.PropertyValue.TheVariants.{LpStr}
 use Rattle.msi_summary_properties.specs.Properties.{Properties, set_of, value_with_id, with_value}
-use Rattle.msi_summary_properties.specs.Reading.{Header, header_at, section_at, value_at}
+use Rattle.msi_summary_properties.specs.Reading.{value_at}
 use Rattle.msi_recode.specs.declared.errors.RecodeError.{RecodeError}
 use Rattle.msi_recode.specs.declared.errors.RecodeError.TheVariants as error
 use Rattle.msi_recode.specs.declared.page.TextPage.{TextPage}
 use Rattle.msi_recode.specs.TextPages.{text_in}
-use Rattle.msi_recode.specs.SummaryRecoding.{EntryStandsAt, page_named, in_utf8}
+use Rattle.msi_recode.specs.SummaryRecoding.{IsFirstUnread, in_utf8}
 
 -- the bytes of the text that stands here behind the number of its type and its length
 unfoldable pub piece_at : List ℕ → Option (List ℕ)
@@ -38,12 +38,6 @@ in_page page bytes value = Some value
 
 unfoldable pub value_in : ℕ → TextPage → List ℕ → Option PropertyValue
 value_in version text_page bytes = value_at version page.Utf8 bytes >>= in_page text_page bytes
-
--- the page that the value at this place names
-abbrev pub page_stated : Option TextPage → ℕ → List ℕ → ℕ → Option ℕ → Option TextPage
-page_stated given version bytes section None = page_named given None
-page_stated given version bytes section (Some place) =
-    value_at version page.Utf8 (drop (section + place) bytes) >>= λ v. page_named given (Some v)
 
 -- the value of a pair is read so
 abbrev pub IsEntryRead : ℕ → TextPage → List ℕ → ℕ → ℕ × ℕ → ℕ × PropertyValue → Type 0
@@ -74,31 +68,8 @@ abbrev pub CannotBePut : ℕ → TextPage → List ℕ → ℕ → List (ℕ × 
 CannotBePut version page bytes section pairs = (entries : List (ℕ × PropertyValue))
     → AllZip (IsEntryRead version page bytes section) pairs entries → has_pair (λ p q. p.0 == q.0) pairs ≡ true
 
--- the value of the first pair that isn't put in has this id: those in front are spelled, and it isn't, or one of them
--- has the id, too
-pub record IsFirstUnread (version : ℕ) (page : TextPage) (bytes : List ℕ) (section : ℕ) (pairs : List (ℕ × ℕ)) (id : ℕ)
-    : Type 0 where
-  pub front : List (ℕ × ℕ)
-  pub place : ℕ
-  pub behind : List (ℕ × ℕ)
-  pub listed : pairs ≡ front ++ (id, place) ∷ behind
-  pub entries : List (ℕ × PropertyValue)
-  pub spelled : AllZip (EntryStandsAt version page bytes section) front entries
-  pub once : has_pair (λ p q. p.0 == q.0) front ≡ false
-  pub fails : ((value : PropertyValue) → EntryStandsAt version page bytes section (id, place) (id, value) → ⊥)
-      ⊎ (list_any (λ p. p.0 == id) front ≡ true)
-
 -- an error that names a property names the first of these
 abbrev pub TellsPair : ℕ → TextPage → List ℕ → ℕ → List (ℕ × ℕ) → RecodeError → Type 0
 TellsPair version page bytes section pairs (error.Property id kind.InvalidData) =
     IsFirstUnread version page bytes section pairs id
 TellsPair version page bytes section pairs _ = Unit {0}
-
--- an error that names a property names the first that isn't spelled in the summary's page, or is listed a second time
-abbrev pub TellsProperty : Option TextPage → List ℕ → RecodeError → Type 0
-TellsProperty given bytes (error.Property id kind.InvalidData) =
-    (head : Header) × (pairs : List (ℕ × ℕ)) × (page : TextPage)
-    × (header_at bytes ≡ Some head) × (section_at (drop head.section bytes) ≡ Some pairs)
-    × (page_stated given head.version bytes head.section (entry_where (λ k. k == 1) pairs) ≡ Some page)
-    × IsFirstUnread head.version page bytes head.section pairs id
-TellsProperty given bytes _ = Unit {0}

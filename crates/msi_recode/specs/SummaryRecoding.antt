@@ -1,10 +1,12 @@
 -- The stream of the summary whose texts are read in a page of any kind, and its set in UTF-8.
-use Rattle.std.specs.Prelude.{◌≡◌, ℕ, ◌+◌, ◌^◌, ◌<◌, ◌⊎◌, true, false, ◌==◌, if◌then◌else◌, List, ◌++◌, ◌∷◌, []}
+use Rattle.std.specs.Prelude.{◌≡◌, ℕ, ◌+◌, ◌^◌, ◌<◌, ◌⊎◌, true, false, ◌==◌, if◌then◌else◌, List, ◌++◌, ◌∷◌, [], drop}
 use Rattle.std.specs.Prelude.{length, Option, Some, None, option_map}
-use Rattle.std.specs.List.{AllZip}
+use Rattle.std.specs.List.{AllZip, list_any}
 use Rattle.std.specs.Int.{w16, w32, to_le_bytes, cast_unsigned}
 use Rattle.msi_text_base.specs.declared.codepage.CodePage.TheVariants as page
+use Rattle.msi_text_base.specs.declared.errors.ErrorKind.TheVariants as kind
 use Rattle.msi_text_base.specs.Lists.{has_pair, entry_where}
+use Rattle.msi_text_base.specs.Results.{◌>>=◌}
 use Rattle.msi_summary_properties.specs.declared.propset.PropertyValue.{PropertyValue}
 use Rattle.msi_summary_properties.specs.declared.propset.PropertyValue.TheVariants.{I2, LpStr}
 use Rattle.msi_summary_properties.specs.Properties.{Properties, page_value, value_with_id}
@@ -13,6 +15,9 @@ use Rattle.msi_summary_properties.specs.PropertyStream.{Spells, header_bytes, pr
 use Rattle.msi_summary_properties.specs.PropertyStream.{string_bytes_of}
 use Rattle.msi_summary_properties.specs.PropertyLaws.{IsKept}
 use Rattle.msi_summary_properties.specs.PropertyWriting.{is_refused}
+use Rattle.msi_summary_properties.specs.Reading.{Header, header_at, section_at, value_at}
+use Rattle.msi_recode.specs.declared.errors.RecodeError.{RecodeError}
+use Rattle.msi_recode.specs.declared.errors.RecodeError.TheVariants as error
 use Rattle.msi_recode.specs.declared.page.TextPage.{TextPage}
 use Rattle.msi_recode.specs.declared.page.TextPage.TheVariants.{Plain}
 use Rattle.msi_recode.specs.TextPages.{Reads, page_for}
@@ -38,6 +43,12 @@ abbrev pub page_named : Option TextPage → Option PropertyValue → Option Text
 page_named given None = Some (Plain page.Utf8)
 page_named given (Some (I2 n)) = page_for given (cast_unsigned w16 n)
 page_named given _ = None
+
+-- the page that the value at this place names
+abbrev pub page_stated : Option TextPage → ℕ → List ℕ → ℕ → Option ℕ → Option TextPage
+page_stated given version bytes section None = page_named given None
+page_stated given version bytes section (Some place) =
+    value_at version page.Utf8 (drop (section + place) bytes) >>= λ v. page_named given (Some v)
 
 -- a value of a set in UTF-8: property 1 names that page
 abbrev pub in_utf8 : ℕ → PropertyValue → PropertyValue
@@ -75,3 +86,25 @@ IsSummaryRecoded given before after = (set : Properties) × IsSummary given befo
 abbrev pub IsSummaryTooLong : Option TextPage → List ℕ → Type 0
 IsSummaryTooLong given bytes =
     (set : Properties) × IsSummary given bytes set × IsKept set × (is_refused set ≡ true)
+
+-- this id is that of the first pair whose value isn't spelled in the page, or whose id is listed before
+pub record IsFirstUnread (version : ℕ) (page : TextPage) (bytes : List ℕ) (section : ℕ) (pairs : List (ℕ × ℕ)) (id : ℕ)
+    : Type 0 where
+  pub front : List (ℕ × ℕ)
+  pub place : ℕ
+  pub behind : List (ℕ × ℕ)
+  pub listed : pairs ≡ front ++ (id, place) ∷ behind
+  pub entries : List (ℕ × PropertyValue)
+  pub spelled : AllZip (EntryStandsAt version page bytes section) front entries
+  pub once : has_pair (λ p q. p.0 == q.0) front ≡ false
+  pub fails : ((value : PropertyValue) → EntryStandsAt version page bytes section (id, place) (id, value) → ⊥)
+      ⊎ (list_any (λ p. p.0 == id) front ≡ true)
+
+-- an error that names a property names the first that isn't spelled in the summary's page, or is listed a second time
+abbrev pub TellsProperty : Option TextPage → List ℕ → RecodeError → Type 0
+TellsProperty given bytes (error.Property id kind.InvalidData) =
+    (head : Header) × (pairs : List (ℕ × ℕ)) × (page : TextPage)
+    × (header_at bytes ≡ Some head) × (section_at (drop head.section bytes) ≡ Some pairs)
+    × (page_stated given head.version bytes head.section (entry_where (λ k. k == 1) pairs) ≡ Some page)
+    × IsFirstUnread head.version page bytes head.section pairs id
+TellsProperty given bytes _ = Unit {0}

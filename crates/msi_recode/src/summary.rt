@@ -7,10 +7,10 @@ ghost use Rattle.msi_text_base.specs.declared.errors.ErrorKind.TheVariants.{Inva
 ghost use Rattle.msi_summary_properties.specs.Properties.{value_with_id, with_value};
 ghost use Rattle.msi_recode.specs.Errors.{kind_of};
 ghost use Rattle.msi_recode.specs.Readers.{page_of};
-ghost use Rattle.msi_recode.specs.SummaryReading.{ArePut, CannotBePut, IsNotPut, IsPutIn, TellsPair, TellsProperty};
-ghost use Rattle.msi_recode.specs.SummaryReading.{is_text, page_stated, piece_at, value_in};
+ghost use Rattle.msi_recode.specs.SummaryReading.{ArePut, CannotBePut, IsNotPut, IsPutIn, TellsPair};
+ghost use Rattle.msi_recode.specs.SummaryReading.{is_text, piece_at, value_in};
 ghost use Rattle.msi_recode.specs.SummaryRecoding.{HasNoSummary, IsSummary, IsSummaryRecoded, IsSummaryTooLong};
-ghost use Rattle.msi_recode.specs.SummaryRecoding.{in_utf8, page_named};
+ghost use Rattle.msi_recode.specs.SummaryRecoding.{TellsProperty, in_utf8, page_named, page_stated};
 
 use crate::errors::RecodeError;
 use crate::page::{TextPage, page_for};
@@ -34,8 +34,8 @@ const PAGE: u32 = 1;
 ///
 /// # Errors
 /// Fails with `InvalidData` if the bytes encode no set, if property 1 names no known page, or if the page has no text
-/// for the bytes of one, which is named. Fails with `InvalidInput` if the section would have 2^32 bytes or more, and
-/// otherwise with `OutOfMemory`.
+/// for the bytes of one: the first that isn't there, isn't read or is listed twice is named. Fails with `InvalidInput`
+/// if the section would have 2^32 bytes or more, and otherwise with `OutOfMemory`.
 pub fn recode_summary(
     alloc: Global,
     given: Option<TextPage>,
