@@ -9,7 +9,8 @@ ghost use Rattle.msi_container_format.specs.declared.contents.Contents as held;
 ghost use Rattle.msi_recode.specs.Errors.{kind_of};
 ghost use Rattle.msi_recode.specs.Recoding as packages;
 ghost use Rattle.msi_recode.specs.Recoding.{AreStreamsRecoded, AreTextsRecoded, CannotBeRecodedIn, HaveTextStreams};
-ghost use Rattle.msi_recode.specs.Recoding.{IsFileRecoded, IsFileRefused, IsRecoded, IsTooLongIn, with_text_streams};
+ghost use Rattle.msi_recode.specs.Recoding.{IsFileRecoded, IsFileRefused, IsRecoded, IsTooLongIn};
+ghost use Rattle.msi_recode.specs.Recoding.{with_text_streams};
 
 use crate::errors::RecodeError;
 use crate::page::TextPage;
@@ -31,8 +32,8 @@ use std::marker::Model;
 ///
 /// # Errors
 /// Fails with `InvalidData` if the bytes hold no compound file, a stream of the pool or the summary is missing, or one
-/// isn't recoded (`recode_pool`, `recode_summary`). Fails with `InvalidInput` if the summary would be too long, storages
-/// lie below the root, or the file would pass 2^31 bytes, and otherwise with `OutOfMemory`.
+/// isn't recoded (`recode_pool`, `recode_summary`). Fails with `InvalidInput` if the summary would be too long, if
+/// storages lie below the root, or if the file would pass 2^31 bytes, and otherwise with `OutOfMemory`.
 pub fn recode(alloc: Global, given: Option<TextPage>, bytes: &[u8]) -> Result<Vec<u8>, RecodeError>
     ensures ok { IfOk result (λ after. IsFileRecoded given bytes.now after.items) }
     ensures kinds { IfErr result (λ error. (kind_of error ≡ InvalidData) ⊎ (kind_of error ≡ InvalidInput)
