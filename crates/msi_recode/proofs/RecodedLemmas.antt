@@ -113,7 +113,7 @@ recoded hint pool_stream data_stream head page list long entries_before texts_be
     let same = same_length head.page data_stream head.entries places here in
     let start : entries ≡ header_of 65001 head.long ++ entries_written places = w.entries ∙ ap (λ (x : List ℕ). x ++ entries_written places) (entries_are ∙ ap (header_of 65001) long_is) in
     let all : texts ≡ texts_written places = w.texts ∙ ap (λ (x : List ℕ). x ++ texts_written places) texts_are in
-    (head, places, (said, here), streams_are_pool head.long places entries texts (omega (arith, few, same)) w.counts w.short w.utf8 start all, start, all)
+    (head, places, (said, here), streams_are_pool head.long places entries texts (omega (arith, few, same)) w.counts w.short w.utf8 start all, (start, all))
 
 -- where the head isn't read, there is none
 pub no_head : (k : ErrorKind) (hint : Option TextPage) (pool_stream data_stream : List ℕ) → ((head : PoolHead) → IsHead hint pool_stream head → k ≡ kind.OutOfMemory) → k ≡ kind.InvalidData → CannotBeRecoded hint pool_stream data_stream

@@ -74,8 +74,8 @@ entries_alike : (version : ℕ) (p : CodePage) (q : TextPage) → ReadsAlike p q
 entries_alike version p q alike bytes section [] [] all = tt
 entries_alike version p q alike bytes section [] (v ∷ values) all = absurd all
 entries_alike version p q alike bytes section (r ∷ pairs) [] all = absurd all
-entries_alike version p q alike bytes section (r ∷ pairs) (v ∷ values) ((fit, front, spelled, others, len, parts, is), more) =
-    ((refl, fit, front, spelled, others, len, parts, value_alike version p q alike spelled v is), entries_alike version p q alike bytes section pairs values more)
+entries_alike version p q alike bytes section (r ∷ pairs) (v ∷ values) ((fit, (front, spelled, others, len, parts, is)), more) =
+    ((refl, fit, (front, spelled, others, len, parts, value_alike version p q alike spelled v is)), entries_alike version p q alike bytes section pairs values more)
 
 -- ---- the set that names UTF-8
 
@@ -92,7 +92,7 @@ lookup_mapped id (e ∷ es) = elim (cases_Bool (eqb e.0 id)) [
       ∙ sym (ap (λ (t : Bool). option_map (in_utf8 id) (cond t (Some e.1) (entry_where (λ k. eqb k id) es))) other)
 ]
 
-above_mapped : (n : ℕ) (es : List (ℕ × PropertyValue)) → AllByRecursion (λ f. n < f.0) es → AllByRecursion (λ f. n < f.0) (map (λ e. (e.0, in_utf8 e.0 e.1)) es)
+above_mapped : (n : ℕ) (es : List (ℕ × PropertyValue)) → AllByRecursion (λ (f : ℕ × PropertyValue). n < f.0) es → AllByRecursion (λ (f : ℕ × PropertyValue). n < f.0) (map (λ e. (e.0, in_utf8 e.0 e.1)) es)
 above_mapped n [] all = tt
 above_mapped n (e ∷ es) (lt, more) = (lt, above_mapped n es more)
 

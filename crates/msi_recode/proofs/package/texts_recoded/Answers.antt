@@ -54,7 +54,7 @@ returns-in_err-summary-clause-long c =
 pub returns-in_err-recoded-clause-long : goal.returns-in_err-recoded-clause-long
 returns-in_err-recoded-clause-long c =
     let p = err_from_is_err_and c.from_residual-in_err-recoded.result c.from_residual-in_err-recoded.ensures.1 in
-    rw (p.1, p.2) (not_input (kind_of c.in_err-recoded.field-0) c.in_err-recoded.ensures.kinds)
+    rw (p.1, p.2) (not_input (kind_of c.in_err-recoded.field-0.0) c.in_err-recoded.ensures.kinds)
 
 pub returns-in_err-summary-2-clause-long : goal.returns-in_err-summary-2-clause-long
 returns-in_err-summary-2-clause-long c =

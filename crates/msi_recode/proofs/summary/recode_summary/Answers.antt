@@ -17,7 +17,7 @@ returns-clause-ok c =
 pub returns-in_err-set-clause-long : goal.returns-in_err-set-clause-long
 returns-in_err-set-clause-long c =
     let p = err_from_is_err_and c.from_residual.result c.from_residual.ensures.1 in
-    rw (p.1, p.2) (not_input (kind_of c.in_err-set.field-0) c.in_err-set.ensures.kinds)
+    rw (p.1, p.2) (not_input (kind_of c.in_err-set.field-0.0) c.in_err-set.ensures.kinds)
 
 pub returns-in_err-stream_of-clause-long : goal.returns-in_err-stream_of-clause-long
 returns-in_err-stream_of-clause-long c =

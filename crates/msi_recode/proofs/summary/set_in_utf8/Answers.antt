@@ -3,6 +3,7 @@ use Rattle.std.proofs.lemmas.Result.{err_from_is_err_and}
 use Rattle.msi_summary_properties.specs.HeaderView.{view_head}
 use Rattle.msi_recode.specs.Readers.{page_of}
 use Rattle.msi_recode.proofs.SummaryOnlyLemmas.{no_header, no_section, no_page, no_values}
+use Rattle.msi_recode.proofs.SummaryPropertyLemmas.{property_told}
 use Rattle.msi_recode.proofs.SummarySetLemmas.{summary_made}
 use Rattle.msi_recode.proofs.summary.set_in_utf8.Goals as goal
 
@@ -31,3 +32,9 @@ returns-in_err-put_values-clause-refused c =
     let p = err_from_is_err_and c.from_residual-in_err-put_values.result c.from_residual-in_err-put_values.ensures.1 in
     rw (p.1, p.2) (λ invalid. no_values c.args.given c.args.bytes.now c.rest_from.result.now (view_head c.in_ok-head.head) c.in_ok-pairs.pairs.items c.deref.result.now c.deref-2.result.now c.in_ok-page.page (page_of c.in_ok-reader.reader)
     c.in_ok-head.ensures c.rest_from.ensures c.in_ok-pairs.ensures c.deref.ensures.value c.deref-2.ensures.value c.in_ok-reader.ensures.ok c.in_ok-page.ensures (c.in_err-put_values.ensures.refused invalid))
+
+pub returns-in_err-put_values-clause-property : goal.returns-in_err-put_values-clause-property
+returns-in_err-put_values-clause-property c =
+    let p = err_from_is_err_and c.from_residual-in_err-put_values.result c.from_residual-in_err-put_values.ensures.1 in
+    rw (p.1, p.2) (property_told c.in_err-put_values.field-0.0 c.args.given c.args.bytes.now c.rest_from.result.now (view_head c.in_ok-head.head) c.in_ok-pairs.pairs.items c.deref.result.now c.deref-2.result.now c.in_ok-page.page (page_of c.in_ok-reader.reader)
+    c.in_ok-head.ensures c.rest_from.ensures c.in_ok-pairs.ensures c.deref.ensures.value c.deref-2.ensures.value c.in_ok-reader.ensures.ok c.in_ok-page.ensures c.in_err-put_values.ensures.property)
