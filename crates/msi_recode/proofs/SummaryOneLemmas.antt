@@ -110,7 +110,7 @@ heads_alike : (hint : Option TextPage) (bytes : List ℕ) (a b : Properties) (s 
 unfolding header_with
 heads_alike hint bytes a b s t =
     let same : header_with a s.version s.reserved s.section ≡ header_with b t.version t.reserved t.section =
-        some_is (header_with a s.version s.reserved s.section) (header_with b t.version t.reserved t.section) (sym (header_read hint bytes a s) ∙ header_read hint bytes b t) in
+    some_is (header_with a s.version s.reserved s.section) (header_with b t.version t.reserved t.section) (sym (header_read hint bytes a s) ∙ header_read hint bytes b t) in
     let section : s.section ≡ t.section = ap (λ (h : Header). h.section) same in record {
       version = ap (λ (h : Header). h.version) same;
       section = section;

@@ -124,8 +124,10 @@ fn long_pool(alloc: Global) -> Result<RecodedPool, RecodeError> {
 /// Whether it has a long entry.
 fn has_long_entry(alloc: Global) -> Result<bool, RecodeError> {
     let pool = long_pool(alloc)?;
-    Ok(pool.entries.as_slice() == b"\xE9\xFD\0\0\0\0\x01\0\0\0\x01\0".as_slice()
-        && pool.texts.len() == 65536)
+    Ok(
+        pool.entries.as_slice() == b"\xE9\xFD\0\0\0\0\x01\0\0\0\x01\0".as_slice()
+            && pool.texts.len() == 65536,
+    )
 }
 
 /// Checks that a text of 65536 bytes has a long entry.

@@ -25,5 +25,5 @@ returns-in-Err-clause-property c =
     let page = page_of c.args.reader.now in
     let pair = get_or c.args.pairs.now c.loop-id.id-index (0, 0) in
     pair_told c.args.version page c.args.bytes.now c.args.section c.args.pairs.now pair.0 _ (λ invalid.
-        first_unread c.args.version page c.args.bytes.now c.args.section c.args.pairs.now c.loop-id.id-index pair.0 pair.1 c.args.set.now c.loop-id.set (λ i. omega (arith, c.type_inv.bytes i)) c.loop-id.invariant c.loop-id-test.true refl
-        (subst (λ bytes. IsNotPut c.args.version page bytes pair.0 c.loop-id.set) c.rest_from-rest.ensures (c.in-Err.ensures.refused invalid)))
+    first_unread c.args.version page c.args.bytes.now c.args.section c.args.pairs.now c.loop-id.id-index pair.0 pair.1 c.args.set.now c.loop-id.set (λ i. omega (arith, c.type_inv.bytes i)) c.loop-id.invariant c.loop-id-test.true refl
+    (subst (λ bytes. IsNotPut c.args.version page bytes pair.0 c.loop-id.set) c.rest_from-rest.ensures (c.in-Err.ensures.refused invalid)))

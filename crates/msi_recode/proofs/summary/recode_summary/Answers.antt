@@ -10,9 +10,13 @@ use Rattle.msi_recode.proofs.summary.recode_summary.Goals as goal
 
 pub returns-clause-ok : goal.returns-clause-ok
 returns-clause-ok c =
-    let is = c.in_ok-set.ensures.ok in
-    (c.in_ok-set.set, is, not_true (is_refused c.in_ok-set.set) (λ h. let e = c.in_ok-stream_of.ensures.refused.1 h in absurd cc), c.in_ok-stream_of.ensures.ok,
-    c.in_ok-stream_of.ensures.spelled (summary_writable c.args.given c.args.bytes.now c.in_ok-set.set is c.is_writable-writable.ensures.utf8))
+    let is = c.in_ok-set.ensures.ok in (
+      c.in_ok-set.set,
+      is,
+      not_true (is_refused c.in_ok-set.set) (λ h. let e = c.in_ok-stream_of.ensures.refused.1 h in absurd cc),
+      c.in_ok-stream_of.ensures.ok,
+      c.in_ok-stream_of.ensures.spelled (summary_writable c.args.given c.args.bytes.now c.in_ok-set.set is c.is_writable-writable.ensures.utf8),
+    )
 
 pub returns-in_err-set-clause-long : goal.returns-in_err-set-clause-long
 returns-in_err-set-clause-long c =
