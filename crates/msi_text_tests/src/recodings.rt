@@ -21,13 +21,17 @@ static WRITTEN: [(&[u8], &[u8], &[u8], &str); 2] = [
     ),
 ];
 
+/// Whether a pool becomes that of another program.
+fn becomes_other(alloc: Global, row: &(&[u8], &[u8], &[u8], &str)) -> Result<bool, RecodeError> {
+    let pool = recode_pool(alloc, None, row.0, row.1)?;
+    Ok(pool.entries.as_slice() == row.2 && pool.texts.as_slice() == row.3.as_bytes())
+}
+
 /// Whether pools become those of other programs.
 fn become_others(alloc: Global) -> Result<bool, RecodeError> {
     let mut are_same = true;
     for row in &WRITTEN {
-        let pool = recode_pool(alloc, None, row.0, row.1)?;
-        are_same &= pool.entries.as_slice() == row.2;
-        are_same &= pool.texts.as_slice() == row.3.as_bytes();
+        are_same &= becomes_other(alloc, row)?;
     }
     Ok(are_same)
 }
