@@ -2,30 +2,23 @@
 
 use crate::readme::file;
 use msi::{Error, ErrorKind};
-use std::{env, fs, io, process};
+use std::{fs, io};
 
-/// What stands at a path before it is opened.
-#[derive(Clone, Copy, Debug)]
+/// What is put at a path before it is opened.
+#[derive(Clone, Copy)]
 enum Given {
     Nothing,
     Text(&'static str),
     Package,
 }
 
-/// What is given, and the kind of the refusal, if there is one.
-const OPENED: [(Given, Option<ErrorKind>); 4] = [
-    (Given::Package, None),
-    (Given::Text("no package"), Some(ErrorKind::InvalidData)),
-    (Given::Text(""), Some(ErrorKind::InvalidData)),
+/// What is given, and the kind of the refusal, if there is one. In the beginning nothing stands at the path.
+static OPENED: [(Given, Option<ErrorKind>); 4] = [
     (Given::Nothing, Some(ErrorKind::Io)),
+    (Given::Text(""), Some(ErrorKind::InvalidData)),
+    (Given::Text("no package"), Some(ErrorKind::InvalidData)),
+    (Given::Package, None),
 ];
-
-/// A path that no other test uses, where nothing stands yet.
-fn path(rt: &HostRuntime) -> io::Result<String> {
-    let folder = env::temp_dir(rt)?;
-    let id = process::id(rt.process());
-    Ok(format!(in rt.alloc(); "{}/msi-{id}-files", folder.as_path().display())?)
-}
 
 /// Puts what is given at a path, where `package` is the file of a package.
 fn put(rt: &HostRuntime, path: &str, given: Given, package: &[u8]) -> io::Result<()> {
@@ -44,27 +37,33 @@ fn refusal<P: Drop>(opened: Result<P, Error>) -> Option<ErrorKind> {
     }
 }
 
-/// Whether a file is opened or refused so, for reading alone and for changing, and stays as it was. A file that isn't
-/// there stays missing.
+/// Whether opening a file, for reading alone and for changing, is refused so, or isn't.
+fn are_refused(rt: &HostRuntime, path: &str, kind: Option<ErrorKind>) -> bool {
+    refusal(msi::open(rt, path)) == kind && refusal(msi::open_rw(rt, path)) == kind
+}
+
+/// Whether a file is opened or refused so, and stays as it was. A file that isn't there stays missing.
 fn is_left_alone(rt: &HostRuntime, path: &str, kind: Option<ErrorKind>) -> bool {
     let before = fs::read(rt, path).ok();
-    let read = refusal(msi::open(rt, path));
-    let changed = refusal(msi::open_rw(rt, path));
+    let is_refused = are_refused(rt, path, kind);
     let after = fs::read(rt, path).ok();
-    read == kind && changed == kind && before.as_deref() == after.as_deref()
+    is_refused && before.as_deref() == after.as_deref()
+}
+
+/// Whether each file is opened or refused as it should be, and stays as it was.
+fn are_left_alone(rt: &HostRuntime, path: &str, package: &[u8]) -> bool {
+    let mut are_left = true;
+    for row in &OPENED {
+        are_left &= put(rt, path, row.0, package).is_ok();
+        are_left &= is_left_alone(rt, path, row.1);
+    }
+    are_left
 }
 
 /// Checks what opening takes and refuses, and that it leaves the file as it was.
-pub(crate) fn opening_leaves_the_file_as_it_was(rt: &HostRuntime) -> io::Result<bool> {
-    let path = path(rt)?;
-    let Ok(package) = file(rt.alloc()) else {
-        return Ok(false);
-    };
-    let mut are_left = true;
-    for (given, kind) in &OPENED {
-        put(rt, path.as_str(), *given, package.as_slice())?;
-        are_left &= is_left_alone(rt, path.as_str(), *kind);
-        let _ = fs::remove_file(rt, path.as_str());
+pub(crate) fn opening_leaves_the_file_as_it_was(rt: &HostRuntime, path: &str) -> bool {
+    match file(rt.alloc()) {
+        Ok(package) => are_left_alone(rt, path, package.as_slice()),
+        Err(_error) => false,
     }
-    Ok(are_left)
 }

@@ -77,7 +77,11 @@ fn feature(alloc: Global, name: &str, title: &str, level: i32) -> Result<Vec<Val
 }
 
 /// Returns how many rows a table has.
-fn count_rows(alloc: Global, package: &Package<Memory>, table: &str) -> Result<usize, Error> {
+pub(crate) fn count_rows(
+    alloc: Global,
+    package: &Package<Memory>,
+    table: &str,
+) -> Result<usize, Error> {
     Ok(package.select_rows(Select::table(alloc, table)?)?.len())
 }
 

@@ -2,13 +2,13 @@
 //! works.
 
 use crate::readme::file;
-use crate::runs::path;
+use crate::runs::is_written;
 use csv::Writer;
 use msi::{Parse, Row, Rows, Select, Value};
 use std::alloc::{AllocError, Global};
 use std::io::{Read, Seek, Write};
 use std::rt::Files;
-use std::{fmt, fs, io};
+use std::{fmt, io};
 
 /// An error of the package, of the text of a query, or of the CSV writer.
 #[derive(Debug, Drop)]
@@ -115,13 +115,6 @@ fn text_of(alloc: Global, value: &Value) -> Result<String, AllocError> {
 }
 
 /// Prints the rows of a table in a file, and returns whether it can. Whoever runs the tests compares what is printed.
-pub(crate) fn rows_of_a_file_are_printed(rt: &HostRuntime) -> io::Result<bool> {
-    let path = path(rt, "printed")?;
-    let Ok(package) = file(rt.alloc()) else {
-        return Ok(false);
-    };
-    fs::write(rt, path.as_str(), package)?;
-    let printed = print_rows(rt, path.as_str(), "SELECT * FROM Numbers");
-    fs::remove_file(rt, path.as_str())?;
-    Ok(printed.is_ok())
+pub(crate) fn rows_of_a_file_are_printed(rt: &HostRuntime, path: &str) -> bool {
+    is_written(rt, path, file(rt.alloc())) && print_rows(rt, path, "SELECT * FROM Numbers").is_ok()
 }

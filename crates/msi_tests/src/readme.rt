@@ -1,6 +1,7 @@
 //! The library example of the README, to the letter, and a test that it works.
 
-use msi::{Column, Error, Insert, Memory, Package, PackageType, Select, Value};
+use crate::guide::count_rows;
+use msi::{Column, Error, Insert, Memory, Package, PackageType, Value};
 use msi_container_tests::shown::is_shown;
 use std::alloc::Global;
 
@@ -24,8 +25,7 @@ pub(crate) fn file(alloc: Global) -> Result<Vec<u8>, Error> {
 /// Whether the package has one row.
 fn has_a_row(alloc: Global) -> Result<bool, Error> {
     let package = Package::open(alloc, Memory::from_vec(numbers(alloc)?))?;
-    let rows = package.select_rows(Select::table(alloc, "Numbers")?)?;
-    Ok(rows.len() == 1)
+    Ok(count_rows(alloc, &package, "Numbers")? == 1)
 }
 
 /// Checks that the example makes a package with a row.

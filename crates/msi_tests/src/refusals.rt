@@ -1,14 +1,22 @@
 //! What is refused, and what is told of it.
 
-use crate::runs::{USAGE, check, ends_moving, ends_unflushed, path, prints, shows};
-use std::{fs, io};
+use crate::runs::{USAGE, check, ends_moving, ends_unflushed, prints, shows};
+use std::fs;
+
+/// Whether a file holds these bytes.
+fn holds(rt: &HostRuntime, path: &str, bytes: &[u8]) -> bool {
+    match fs::read(rt, path) {
+        Ok(held) => held.as_slice() == bytes,
+        Err(_error) => false,
+    }
+}
 
 /// Whether a run is refused with this line of errors, and leaves the file as it was.
-fn refuses(rt: &HostRuntime, all: &[&str], path: &str, line: &str) -> io::Result<bool> {
-    let before = fs::read(rt, path)?;
-    let is_told = prints(rt, all, path, b"", "", line)?;
-    let after = fs::read(rt, path)?;
-    Ok(is_told && before.as_slice() == after.as_slice())
+fn refuses(rt: &HostRuntime, all: &[&str], path: &str, line: &str) -> bool {
+    let Ok(before) = fs::read(rt, path) else {
+        return false;
+    };
+    prints(rt, all, path, b"", "", line) && holds(rt, path, before.as_slice())
 }
 
 /// Words, and the line of errors. The file is no compound file.
@@ -50,15 +58,12 @@ static FAULTS: [(&'static [&'static str], &'static str); 33] = [
 ];
 
 /// Checks that errors are reported and leave the file as it was.
-pub(crate) fn faults_are_told_and_leave_the_file_as_it_was(rt: &HostRuntime) -> io::Result<bool> {
-    let mut are_so = true;
-    let path = path(rt, "faults")?;
-    fs::write(rt, path.as_str(), "as it was")?;
+pub(crate) fn faults_are_told_and_leave_the_file_as_it_was(rt: &HostRuntime, path: &str) -> bool {
+    let mut are_so = fs::write(rt, path, "as it was").is_ok();
     for row in &FAULTS {
-        are_so &= check(rt, row.0, refuses(rt, row.0, path.as_str(), row.1));
+        are_so &= check(rt, row.0, refuses(rt, row.0, path, row.1));
     }
-    fs::remove_file(rt, path.as_str())?;
-    Ok(are_so)
+    are_so
 }
 
 /// The words that make the file, those of a run, and its line of errors.
@@ -80,15 +85,14 @@ static REFUSED: [Refusal<'static>; 8] = [
 /// Checks that what a package refuses leaves the file as it was.
 pub(crate) fn what_a_package_refuses_leaves_the_file_as_it_was(
     rt: &HostRuntime,
-) -> io::Result<bool> {
+    path: &str,
+) -> bool {
     let mut are_so = true;
-    let path = path(rt, "refused")?;
     for row in &REFUSED {
-        are_so &= check(rt, row.0, shows(rt, row.0, path.as_str(), ""));
-        are_so &= check(rt, row.1, refuses(rt, row.1, path.as_str(), row.2));
+        are_so &= check(rt, row.0, shows(rt, row.0, path, ""));
+        are_so &= check(rt, row.1, refuses(rt, row.1, path, row.2));
     }
-    fs::remove_file(rt, path.as_str())?;
-    Ok(are_so)
+    are_so
 }
 
 /// The fault that is told first where standard input and output fail.
@@ -116,15 +120,13 @@ static FIRST: [Refusal<'static>; 10] = [
 ];
 
 /// Checks that the first of several errors is reported.
-pub(crate) fn the_first_fault_is_told(rt: &HostRuntime) -> io::Result<bool> {
+pub(crate) fn the_first_fault_is_told(rt: &HostRuntime, path: &str) -> bool {
     let mut are_so = true;
-    let path = path(rt, "broken")?;
     for row in &FIRST {
-        are_so &= check(rt, row.0, shows(rt, row.0, path.as_str(), ""));
-        are_so &= check(rt, row.1, ends_moving(rt, row.1, path.as_str(), "", row.2));
+        are_so &= check(rt, row.0, shows(rt, row.0, path, ""));
+        are_so &= check(rt, row.1, ends_moving(rt, row.1, path, "", row.2));
     }
-    fs::remove_file(rt, path.as_str())?;
-    Ok(are_so)
+    are_so
 }
 
 /// Commands that print.
@@ -137,13 +139,10 @@ static PRINTING: [&'static [&'static str]; 5] = [
 ];
 
 /// Checks that output which can't be flushed is an error.
-pub(crate) fn output_that_cannot_be_flushed_is_an_error(rt: &HostRuntime) -> io::Result<bool> {
-    let mut are_so = true;
-    let path = path(rt, "unflushed")?;
-    are_so &= check(rt, &["new"], shows(rt, &["new", "FILE"], path.as_str(), ""));
+pub(crate) fn output_that_cannot_be_flushed_is_an_error(rt: &HostRuntime, path: &str) -> bool {
+    let mut are_so = check(rt, &["new"], shows(rt, &["new", "FILE"], path, ""));
     for words in &PRINTING {
-        are_so &= check(rt, words, ends_unflushed(rt, words, path.as_str(), "Io"));
+        are_so &= check(rt, words, ends_unflushed(rt, words, path, "Io"));
     }
-    fs::remove_file(rt, path.as_str())?;
-    Ok(are_so)
+    are_so
 }

@@ -8,37 +8,56 @@ use msi_replay::{
 };
 use std::alloc::Global;
 
-/// Calls on a stream.
-fn stream_calls(alloc: Global, calls: &mut Vec<Call>) -> Result<(), Error> {
+/// The call that writes a stream.
+fn write_stream(alloc: Global) -> Result<Call, Error> {
     let piece = Items::from_vec(Vec::from_slice(alloc, b"Hi")?);
     let writes = Items::from_vec(vec![in alloc; WriterCall::Write(piece)]?);
-    calls.push(Call::WriteStream("a".into_text(alloc)?, writes))?;
+    Ok(Call::WriteStream("a".into_text(alloc)?, writes))
+}
+
+/// The call that reads it.
+fn read_stream(alloc: Global) -> Result<Call, Error> {
     let reads = Items::from_vec(vec![in alloc; ReaderCall::Read(10)]?);
-    calls.push(Call::ReadStream("a".into_text(alloc)?, reads))?;
+    Ok(Call::ReadStream("a".into_text(alloc)?, reads))
+}
+
+/// The call that asks a summary.
+fn ask_summary(alloc: Global) -> Result<Call, Error> {
+    let asks = Items::from_vec(vec![in alloc; SummaryQuestion::Codepage]?);
+    Ok(Call::SummaryInfo(asks))
+}
+
+/// The call that asks a summary which is borrowed to be changed.
+fn ask_summary_mut(alloc: Global) -> Result<Call, Error> {
+    let asks = Items::from_vec(vec![in alloc; SummaryCall::Ask(SummaryQuestion::Arch)]?);
+    Ok(Call::SummaryInfoMut(asks))
+}
+
+/// Adds a call.
+fn add(calls: &mut Vec<Call>, call: Call) -> Result<(), Error> {
+    calls.push(call)?;
     Ok(())
 }
 
-/// Calls on the summary.
-fn summary_calls(alloc: Global, calls: &mut Vec<Call>) -> Result<(), Error> {
-    let asks = Items::from_vec(vec![in alloc; SummaryQuestion::Codepage]?);
-    calls.push(Call::SummaryInfo(asks))?;
-    let asks = Items::from_vec(vec![in alloc; SummaryCall::Ask(SummaryQuestion::Arch)]?);
-    calls.push(Call::SummaryInfoMut(asks))?;
-    Ok(())
+/// Adds a call of each kind.
+fn add_calls(alloc: Global, calls: &mut Vec<Call>) -> Result<(), Error> {
+    add(calls, Call::LookUp(LookUp::PackageType))?;
+    let name = "Words".into_text(alloc)?;
+    add(calls, Call::Change(Change::DropTable(name)))?;
+    add(calls, Call::SelectRows(Select::table(alloc, "_Tables")?))?;
+    add(calls, write_stream(alloc)?)?;
+    add(calls, read_stream(alloc)?)?;
+    add(calls, ask_summary(alloc)?)?;
+    add(calls, ask_summary_mut(alloc)?)?;
+    add(calls, Call::Image(0))?;
+    add(calls, Call::Flush)?;
+    add(calls, Call::DeviceFailed)
 }
 
 /// A call of each kind.
 fn calls(alloc: Global) -> Result<Vec<Call>, Error> {
     let mut calls = Vec::new(alloc);
-    calls.push(Call::LookUp(LookUp::PackageType))?;
-    let name = "Words".into_text(alloc)?;
-    calls.push(Call::Change(Change::DropTable(name)))?;
-    calls.push(Call::SelectRows(Select::table(alloc, "_Tables")?))?;
-    stream_calls(alloc, &mut calls)?;
-    summary_calls(alloc, &mut calls)?;
-    calls.push(Call::Image(0))?;
-    calls.push(Call::Flush)?;
-    calls.push(Call::DeviceFailed)?;
+    add_calls(alloc, &mut calls)?;
     Ok(calls)
 }
 

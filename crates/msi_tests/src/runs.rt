@@ -1,37 +1,58 @@
 //! Runs of commands, on a file in the folder for temporary ones.
 
+use msi::Error;
 use msi_container_tests::shown::is_shown;
 use msidb_commands::run;
 use std::alloc::{AllocError, Global};
 use std::io::{self, Read, Write};
+use std::path::Path;
 use std::{env, fs, process};
 
 /// The message for arguments that match no command.
 pub(crate) const USAGE: &str =
     "usage: msidb raw|wrap|new|tables|rows|summary|streams|cat|put|recount FILE [NAME]";
 
+/// A path in this folder, for the process with this number.
+fn path_in(alloc: Global, folder: Path, id: u32, name: &str) -> Result<String, AllocError> {
+    format!(in alloc; "{}/msidb-{id}-{name}", folder.display())
+}
+
 /// A path in the folder for temporary files that no other test uses.
 pub(crate) fn path(rt: &HostRuntime, name: &str) -> io::Result<String> {
     let folder = env::temp_dir(rt)?;
     let id = process::id(rt.process());
-    Ok(format!(in rt.alloc(); "{}/msidb-{id}-{name}", folder.as_path().display())?)
+    Ok(path_in(rt.alloc(), folder.as_path(), id, name)?)
 }
 
 /// A word as the program is handed it, with a path where it begins with `FILE`.
-fn word(alloc: Global, word: &str, path: &str) -> Result<String, AllocError> {
+pub(crate) fn word(alloc: Global, word: &str, path: &str) -> Result<String, AllocError> {
     match word.strip_prefix("FILE") {
         Some(rest) => format!(in alloc; "{path}{rest}"),
         None => String::from_str(alloc, word),
     }
 }
 
-/// Words as the program is handed them.
-pub(crate) fn words(alloc: Global, all: &[&str], path: &str) -> io::Result<Vec<String>> {
-    let mut words = Vec::new(alloc);
+/// Adds words as the program is handed them.
+fn add_words(alloc: Global, words: &mut Vec<String>, all: &[&str], path: &str) -> io::Result<()> {
     for item in all {
         words.push(word(alloc, item, path)?)?;
     }
+    Ok(())
+}
+
+/// Words as the program is handed them.
+pub(crate) fn words(alloc: Global, all: &[&str], path: &str) -> io::Result<Vec<String>> {
+    let mut words = Vec::new(alloc);
+    add_words(alloc, &mut words, all, path)?;
     Ok(words)
+}
+
+/// Whether the bytes of a package were made, and are written to a file.
+pub(crate) fn is_written(rt: &HostRuntime, path: &str, made: Result<Vec<u8>, Error>) -> bool {
+    match made {
+        Ok(package) => fs::write(rt, path, package).is_ok(),
+        Err(_error) => false,
+    }
 }
 
 /// The exit status for this line of errors, or for none.
@@ -75,9 +96,11 @@ pub(crate) fn ends<I: Read, O: Write>(
     input: &mut I,
     output: &mut O,
     line: &str,
-) -> io::Result<bool> {
-    let words = words(rt.alloc(), all, path)?;
-    Ok(runs(rt, words.as_slice(), input, output, line))
+) -> bool {
+    match words(rt.alloc(), all, path) {
+        Ok(words) => runs(rt, words.as_slice(), input, output, line),
+        Err(_error) => false,
+    }
 }
 
 /// Whether a run with this input prints this, and ends with this line of errors, or none.
@@ -88,14 +111,14 @@ pub(crate) fn prints(
     mut input: &[u8],
     output: &str,
     line: &str,
-) -> io::Result<bool> {
+) -> bool {
     let mut printed = Vec::new(rt.alloc());
-    let has_ended = ends(rt, all, path, &mut input, &mut printed, line)?;
-    Ok(has_ended && printed.as_slice() == output.as_bytes())
+    let has_ended = ends(rt, all, path, &mut input, &mut printed, line);
+    has_ended && printed.as_slice() == output.as_bytes()
 }
 
 /// Whether a run without input prints this, and succeeds.
-pub(crate) fn shows(rt: &HostRuntime, all: &[&str], path: &str, output: &str) -> io::Result<bool> {
+pub(crate) fn shows(rt: &HostRuntime, all: &[&str], path: &str, output: &str) -> bool {
     prints(rt, all, path, b"", output, "")
 }
 
@@ -122,7 +145,7 @@ pub(crate) fn ends_moving(
     path: &str,
     moved: &str,
     line: &str,
-) -> io::Result<bool> {
+) -> bool {
     let mut input = Mover {
         rt,
         from: moved,
@@ -147,18 +170,14 @@ impl Write for Unflushed {
 }
 
 /// Whether a run ends with this line of errors where standard output can't be flushed.
-pub(crate) fn ends_unflushed(
-    rt: &HostRuntime,
-    all: &[&str],
-    path: &str,
-    line: &str,
-) -> io::Result<bool> {
+pub(crate) fn ends_unflushed(rt: &HostRuntime, all: &[&str], path: &str, line: &str) -> bool {
     let mut input: &[u8] = &[];
     ends(rt, all, path, &mut input, &mut Unflushed, line)
 }
 
 /// Returns whether a run over these words did what it should. If it didn't, they are printed to standard error.
-pub(crate) fn check(rt: &HostRuntime, all: &[&str], found: io::Result<bool>) -> bool {
+pub(crate) fn check(rt: &HostRuntime, all: &[&str], is_so: bool) -> bool {
     let words = all.first().copied().unwrap_or("a run");
+    let found: io::Result<bool> = Ok(is_so);
     is_shown(rt, &words, found)
 }

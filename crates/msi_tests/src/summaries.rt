@@ -1,11 +1,10 @@
 //! `summary`.
 
-use crate::runs::{check, path, shows, words};
+use crate::runs::{is_written, shows, words};
 use msi::{Error, Memory, Package, PackageType};
 use msi_summary::SummaryInfo;
 use msi_text::{CodePage, LanguageId, Timestamp};
 use std::alloc::Global;
-use std::{fs, io};
 use uuid::Uuid;
 
 /// All that a summary may tell.
@@ -70,24 +69,21 @@ fn set_all(alloc: Global, summary: &mut SummaryInfo) -> Result<(), Error> {
     set_numbers(summary)
 }
 
+/// Gives a package this summary, and writes it.
+fn write_summary(alloc: Global, package: &mut Package<Memory>) -> Result<(), Error> {
+    set_all(alloc, package.summary_info_mut()?)?;
+    package.flush()
+}
+
 /// The file of a package with this summary.
 fn file(alloc: Global) -> Result<Vec<u8>, Error> {
     let device = Memory::from_vec(Vec::new(alloc));
     let mut package = Package::create(alloc, PackageType::Patch, device)?;
-    set_all(alloc, package.summary_info_mut()?)?;
-    package.flush()?;
+    write_summary(alloc, &mut package)?;
     Ok(package.into_reader().into_vec())
 }
 
 /// Checks that all that a summary has is printed in order.
-pub(crate) fn all_that_a_summary_tells_is_printed_in_order(rt: &HostRuntime) -> io::Result<bool> {
-    let path = path(rt, "summary")?;
-    let Ok(file) = file(rt.alloc()) else {
-        return Ok(false);
-    };
-    fs::write(rt, path.as_str(), file)?;
-    let summary = ["summary", "FILE"];
-    let is_so = check(rt, &summary, shows(rt, &summary, path.as_str(), SUMMARY));
-    fs::remove_file(rt, path.as_str())?;
-    Ok(is_so)
+pub(crate) fn all_that_a_summary_tells_is_printed_in_order(rt: &HostRuntime, path: &str) -> bool {
+    is_written(rt, path, file(rt.alloc())) && shows(rt, &["summary", "FILE"], path, SUMMARY)
 }
