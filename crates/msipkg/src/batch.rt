@@ -2,8 +2,9 @@
 
 use crate::commands::run;
 use crate::lines::words_of;
+use crate::messages::Messages;
 use std::fs::OpenFile;
-use std::io::{self, Read, Seek, Write};
+use std::io::{self, Read, Write};
 use std::rt::Files;
 
 /// Runs the commands of an input, a line each, and prints each line before what it prints. A line has the words behind
@@ -12,7 +13,7 @@ use std::rt::Files;
 pub(crate) fn run_lines<R, I, O>(rt: &R, input: &mut I, output: &mut O) -> u8
 where
     R: Files + AllocGlobal,
-    R::File: OpenFile + Read + Write + Seek + Drop,
+    R::File: OpenFile + Read + Write + Drop,
     I: Read,
     O: Write + Drop,
 {
@@ -26,7 +27,7 @@ where
 fn run_text<R, I, O>(rt: &R, input: &mut I, output: &mut O) -> io::Result<u8>
 where
     R: Files + AllocGlobal,
-    R::File: OpenFile + Read + Write + Seek + Drop,
+    R::File: OpenFile + Read + Write + Drop,
     I: Read,
     O: Write + Drop,
 {
@@ -44,7 +45,7 @@ where
 fn run_line<R, O>(rt: &R, line: &str, output: &mut O) -> io::Result<u8>
 where
     R: Files + AllocGlobal,
-    R::File: OpenFile + Read + Write + Seek + Drop,
+    R::File: OpenFile + Read + Write + Drop,
     O: Write + Drop,
 {
     if line.trim().is_empty() || line.starts_with('#') {
@@ -63,12 +64,12 @@ where
 fn run_command<R, O>(rt: &R, line: &str, output: &mut O) -> io::Result<u8>
 where
     R: Files + AllocGlobal,
-    R::File: OpenFile + Read + Write + Seek + Drop,
+    R::File: OpenFile + Read + Write + Drop,
     O: Write + Drop,
 {
     let words = words_of(rt.alloc(), line)?;
-    let mut messages = Vec::new(rt.alloc());
+    let mut messages = Messages::Kept(Vec::new(rt.alloc()));
     let status = run(rt, words.as_slice(), false, output, &mut messages);
-    output.write_all(messages.as_slice())?;
+    output.write_all(messages.text())?;
     Ok(status)
 }

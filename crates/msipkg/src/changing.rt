@@ -1,11 +1,16 @@
 //! The commands that change packages.
 
 use crate::commands::Asked;
+use crate::messages::Messages;
 use crate::words::Verb;
+use msi::{CodePage, Package, Source};
 use msipkg_changes::{
-    New, add_streams, carry_out_statements, create_package, remove_streams, set_properties,
+    add_streams, carry_out_statements, check_statements, kind_of, page_of, remove_streams,
+    set_pages, set_properties, store,
 };
+use msipkg_files::{Opened, Purpose, new_package, open_package, write_file, written};
 use msipkg_output::Failure;
+use std::alloc::Global;
 use std::fs::OpenFile;
 use std::io::{Read, Write};
 use std::rt::Files;
@@ -19,32 +24,84 @@ pub(crate) fn is_change(asked: &Asked<'_, '_>) -> bool {
     }
 }
 
-/// Carries out a command that changes a package.
+/// Carries out a command that changes a package: all of the change, or none of it.
 ///
 /// # Errors
-/// Fails as the command does.
-pub(crate) fn change<R, E>(rt: &R, asked: &Asked<'_, '_>, errors: &mut E) -> Result<(), Failure>
+/// Fails as the command does. Then the file is as it was.
+pub(crate) fn change<R>(rt: &R, asked: &Asked<'_, '_>, errors: &mut Messages) -> Result<(), Failure>
 where
     R: Files + AllocGlobal,
     R::File: OpenFile + Read + Write + Drop,
-    E: Write,
 {
-    let file = asked.package(asked.file());
     match asked.verb {
-        Verb::New => create_package(rt, file.path, wanted(asked)),
-        Verb::Add => add_streams(rt, &file, asked.texts("NAME=PATH"), errors),
-        Verb::Remove => remove_streams(rt, &file, asked.texts("NAME"), errors),
-        Verb::Exec => carry_out_statements(rt, &file, asked.texts("TEXT"), errors),
+        Verb::New => create(rt, asked),
         Verb::Batch => Err(Failure::rule("batch is no command of a batch")),
-        _ => set_properties(rt, &file, asked.texts("set"), asked.texts("clear"), errors),
+        _ => change_file(rt, asked, errors),
     }
 }
 
-/// The package that `new` makes.
-fn wanted<'a>(asked: &Asked<'a, '_>) -> New<'a> {
-    New {
-        kind: asked.text("kind"),
-        page: asked.given.get_str("page"),
-        is_forced: asked.given.get_flag("force"),
+/// Makes a file with a new package.
+fn create<R>(rt: &R, asked: &Asked<'_, '_>) -> Result<(), Failure>
+where
+    R: Files + AllocGlobal,
+    R::File: OpenFile + Read + Write + Drop,
+{
+    let kind = kind_of(asked.text("kind"))?;
+    let page = page_asked(asked)?;
+    let mut package: Package<Opened<R::File>> = new_package(rt.alloc(), kind)?;
+    set_pages(&mut package, page)?;
+    let bytes = written(package)?;
+    write_file(
+        rt,
+        asked.file(),
+        asked.given.get_flag("force"),
+        bytes.as_slice(),
+    )
+}
+
+/// The page of a new package.
+fn page_asked(asked: &Asked<'_, '_>) -> Result<CodePage, Failure> {
+    match asked.given.get_str("page") {
+        Some(number) => page_of(number),
+        None => Ok(CodePage::Utf8),
+    }
+}
+
+/// Changes the package of a file. Statements are read before the file is.
+fn change_file<R>(rt: &R, asked: &Asked<'_, '_>, errors: &mut Messages) -> Result<(), Failure>
+where
+    R: Files + AllocGlobal,
+    R::File: OpenFile + Read + Write + Drop,
+{
+    check_words(rt.alloc(), asked)?;
+    let file = asked.package(asked.file(), asked.purpose_of_change(Purpose::Recode));
+    let mut package = open_package(rt, &file, errors)?;
+    apply(rt, asked, &mut package)?;
+    store(rt, file.path, package, errors)
+}
+
+/// Fails if a statement is given that is none.
+fn check_words(alloc: Global, asked: &Asked<'_, '_>) -> Result<(), Failure> {
+    match asked.verb {
+        Verb::Exec => check_statements(alloc, asked.texts("TEXT")),
+        _ => Ok(()),
+    }
+}
+
+/// Makes the change in a package.
+fn apply<R, F>(rt: &R, asked: &Asked<'_, '_>, package: &mut Package<F>) -> Result<(), Failure>
+where
+    R: Files + AllocGlobal,
+    R::File: Read + Drop,
+    F: Source,
+{
+    match asked.verb {
+        Verb::Add => add_streams(rt, package, asked.texts("NAME=PATH")),
+        Verb::Remove => remove_streams(rt.alloc(), package, asked.texts("NAME")),
+        Verb::Exec => carry_out_statements(rt.alloc(), package, asked.texts("TEXT")),
+        _ => {
+            let (set, cleared) = (asked.texts("set"), asked.texts("clear"));
+            set_properties(rt.alloc(), package, set, cleared)
+        }
     }
 }

@@ -3,13 +3,15 @@
 use crate::changing::{self, is_change};
 use crate::exchanging::{compare, is_each};
 use crate::looking::look;
+use crate::messages::Messages;
 use crate::several::print_each;
 use crate::words::{self, Verb};
 use clap::ArgMatches;
 use clap::error::ErrorKind;
-use msipkg_output::{Failure, PackageFile, Shown, Style};
+use msipkg_files::{PackageFile, Purpose};
+use msipkg_output::{Failure, Shown, Style};
 use std::fs::OpenFile;
-use std::io::{BufWriter, Read, Seek, Write};
+use std::io::{BufWriter, Read, Write};
 use std::rt::Files;
 
 /// How many bytes are collected before they go to the output.
@@ -17,18 +19,17 @@ const CAPACITY: usize = 64 * 1024;
 
 /// Runs a command over its arguments and two writers. Returns the exit status: 0 on success; 1 on an error, which is
 /// written to `errors`; 2 with a hint there, if the arguments match no command.
-pub(crate) fn run<R, O, E>(
+pub(crate) fn run<R, O>(
     rt: &R,
     words: &[String],
     is_terminal: bool,
     output: &mut O,
-    errors: &mut E,
+    errors: &mut Messages,
 ) -> u8
 where
     R: Files + AllocGlobal,
-    R::File: OpenFile + Read + Write + Seek + Drop,
+    R::File: OpenFile + Read + Write + Drop,
     O: Write + Drop,
-    E: Write,
 {
     match words::matches_of(rt.alloc(), words) {
         Ok(matches) => run_matched(rt, &matches, is_terminal, output, errors),
@@ -37,7 +38,7 @@ where
 }
 
 /// Shows why the words gave no command: help and the version on the output, and a mistake with its hint on `errors`.
-fn show_parse<O: Write, E: Write>(error: &clap::Error, output: &mut O, errors: &mut E) -> u8 {
+fn show_parse<O: Write>(error: &clap::Error, output: &mut O, errors: &mut Messages) -> u8 {
     if error.use_stderr() {
         let _ = write!(errors, "{error}");
         return status_of(error.kind());
@@ -57,18 +58,17 @@ fn status_of(kind: ErrorKind) -> u8 {
 }
 
 /// Runs the command that the words ask for.
-fn run_matched<R, O, E>(
+fn run_matched<R, O>(
     rt: &R,
     matches: &ArgMatches<'_>,
     is_terminal: bool,
     output: &mut O,
-    errors: &mut E,
+    errors: &mut Messages,
 ) -> u8
 where
     R: Files + AllocGlobal,
-    R::File: OpenFile + Read + Write + Seek + Drop,
+    R::File: OpenFile + Read + Write + Drop,
     O: Write + Drop,
-    E: Write,
 {
     let Some(asked) = asked_of(matches, is_terminal) else {
         return 2;
@@ -115,12 +115,22 @@ impl<'a, 'b> Asked<'a, 'b> {
         self.text("FILE")
     }
 
-    /// A package's file, and how it is to be read.
-    pub(crate) fn package<'c>(&self, path: &'c str) -> PackageFile<'c> {
+    /// A package's file, which is opened for this.
+    pub(crate) fn package<'c>(&self, path: &'c str, purpose: Purpose) -> PackageFile<'c> {
         PackageFile {
             path,
             page: self.page(),
-            is_recoded: self.given.get_flag("recode"),
+            purpose,
+        }
+    }
+
+    /// What a package is opened for that is changed: where its texts are recoded, this one is allowed to be with
+    /// `--recode` alone.
+    pub(crate) fn purpose_of_change(&self, recoded: Purpose) -> Purpose {
+        if self.given.get_flag("recode") {
+            recoded
+        } else {
+            Purpose::Change
         }
     }
 
@@ -146,7 +156,7 @@ impl<'a, 'b> Asked<'a, 'b> {
 }
 
 /// Writes on a line why a command failed on a file.
-pub(crate) fn report<E: Write>(file: &str, failure: &Failure, errors: &mut E) {
+pub(crate) fn report(file: &str, failure: &Failure, errors: &mut Messages) {
     let file = Shown::escaped(file);
     let _ = if failure.is_mended_by_counting() {
         writeln!(
@@ -159,17 +169,16 @@ pub(crate) fn report<E: Write>(file: &str, failure: &Failure, errors: &mut E) {
 }
 
 /// Carries out a command, and returns whether all is well: nothing was found to be wrong.
-fn carry_out<R, O, E>(
+fn carry_out<R, O>(
     rt: &R,
     asked: &Asked<'_, '_>,
     output: &mut O,
-    errors: &mut E,
+    errors: &mut Messages,
 ) -> Result<bool, Failure>
 where
     R: Files + AllocGlobal,
-    R::File: OpenFile + Read + Write + Seek + Drop,
+    R::File: OpenFile + Read + Write + Drop,
     O: Write + Drop,
-    E: Write,
 {
     if is_change(asked) {
         changing::change(rt, asked, errors)?;
@@ -182,17 +191,16 @@ where
 }
 
 /// Carries out a command that prints, and returns whether all is well.
-fn print<R, O, E>(
+fn print<R, O>(
     rt: &R,
     asked: &Asked<'_, '_>,
     output: &mut O,
-    errors: &mut E,
+    errors: &mut Messages,
 ) -> Result<bool, Failure>
 where
     R: Files + AllocGlobal,
-    R::File: OpenFile + Read + Write + Seek + Drop,
+    R::File: OpenFile + Read + Write + Drop,
     O: Write + Drop,
-    E: Write,
 {
     match asked.verb {
         Verb::Info | Verb::Check => print_each(rt, asked, output, errors),

@@ -1,13 +1,15 @@
 //! The commands that exchange packages with other files, and that compare them.
 
 use crate::commands::Asked;
+use crate::messages::Messages;
 use crate::words::Verb;
 use msi::{Package, Source};
 use msipkg_diff::{Compared, print_differences};
 use msipkg_export::{FileFormat, Target, export, export_line};
-use msipkg_output::{Failure, Opened, open_package, stored_streams};
+use msipkg_files::{Opened, Purpose, open_package, stored_streams};
+use msipkg_output::Failure;
 use std::fs::OpenFile;
-use std::io::{Read, Seek, Write};
+use std::io::{Read, Write};
 use std::rt::Files;
 
 /// Whether packages are exported as a line each.
@@ -19,20 +21,19 @@ pub(crate) fn is_each(asked: &Asked<'_, '_>) -> bool {
 ///
 /// # Errors
 /// Fails as exporting does, and as the writer does.
-pub(crate) fn export_asked<R, F, O, E>(
+pub(crate) fn export_asked<R, F, O>(
     rt: &R,
     asked: &Asked<'_, '_>,
     file: &str,
     package: &Package<F>,
     output: &mut O,
-    errors: &mut E,
+    errors: &mut Messages,
 ) -> Result<(), Failure>
 where
     R: Files + AllocGlobal,
     R::File: OpenFile + Write + Drop,
     F: Source,
     O: Write + Drop,
-    E: Write,
 {
     if is_each(asked) {
         return export_line(rt.alloc(), asked.style, file, package, output, errors);
@@ -58,38 +59,36 @@ where
 ///
 /// # Errors
 /// Fails as opening the packages and comparing them do, and as the writers do.
-pub(crate) fn compare<R, O, E>(
+pub(crate) fn compare<R, O>(
     rt: &R,
     asked: &Asked<'_, '_>,
     output: &mut O,
-    errors: &mut E,
+    errors: &mut Messages,
 ) -> Result<bool, Failure>
 where
     R: Files + AllocGlobal,
-    R::File: Read + Seek + Drop,
+    R::File: Read + Drop,
     O: Write,
-    E: Write,
 {
     let file = asked.file();
-    let package = open_package(rt, &asked.package(file), errors)?;
+    let package = open_package(rt, &asked.package(file, Purpose::Look), errors)?;
     let stored = stored_streams(rt, file, &package)?;
     let old = Compared::new(file, &package, stored.as_ref());
     compare_with(rt, asked, &old, output, errors)
 }
 
 /// Compares a package with the other one.
-fn compare_with<R, O, E>(
+fn compare_with<R, O>(
     rt: &R,
     asked: &Asked<'_, '_>,
     old: &Compared<'_, Opened<R::File>>,
     output: &mut O,
-    errors: &mut E,
+    errors: &mut Messages,
 ) -> Result<bool, Failure>
 where
     R: Files + AllocGlobal,
-    R::File: Read + Seek + Drop,
+    R::File: Read + Drop,
     O: Write,
-    E: Write,
 {
     let file = asked.text("OTHER");
     let package = open_other(rt, asked, file, errors)?;
@@ -99,18 +98,17 @@ where
 }
 
 /// The package of the other file, at which a failure is.
-fn open_other<R, E>(
+fn open_other<R>(
     rt: &R,
     asked: &Asked<'_, '_>,
     file: &str,
-    errors: &mut E,
+    errors: &mut Messages,
 ) -> Result<Package<Opened<R::File>>, Failure>
 where
     R: Files + AllocGlobal,
-    R::File: Read + Seek + Drop,
-    E: Write,
+    R::File: Read + Drop,
 {
-    match open_package(rt, &asked.package(file), errors) {
+    match open_package(rt, &asked.package(file, Purpose::Look), errors) {
         Ok(package) => Ok(package),
         Err(failure) => Err(failure.at(rt.alloc(), "file", file)),
     }

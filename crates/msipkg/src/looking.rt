@@ -2,18 +2,20 @@
 
 use crate::commands::Asked;
 use crate::exchanging::export_asked;
+use crate::messages::Messages;
 use crate::words::Verb;
 use msi::{Package, Source};
 use msipkg_checks::print_check;
+use msipkg_files::{Folder, Purpose, open_package};
 use msipkg_looks::schema::Form;
 use msipkg_looks::{
     check_query, extract_streams, print_info, print_query, print_schema, print_streams,
     print_summary, print_tables,
 };
-use msipkg_output::{Failure, Folder, Format, open_package};
+use msipkg_output::{Failure, Format};
 use std::alloc::Global;
 use std::fs::OpenFile;
-use std::io::{Read, Seek, Write};
+use std::io::{Read, Write};
 use std::rt::Files;
 
 /// Carries out a command that looks at the package of a file, and returns whether all is well: nothing was found to be
@@ -21,21 +23,20 @@ use std::rt::Files;
 ///
 /// # Errors
 /// Fails as opening the package and the command do, and as the writers do.
-pub(crate) fn look<R, O, E>(
+pub(crate) fn look<R, O>(
     rt: &R,
     asked: &Asked<'_, '_>,
     file: &str,
     output: &mut O,
-    errors: &mut E,
+    errors: &mut Messages,
 ) -> Result<bool, Failure>
 where
     R: Files + AllocGlobal,
-    R::File: OpenFile + Read + Write + Seek + Drop,
+    R::File: OpenFile + Read + Write + Drop,
     O: Write + Drop,
-    E: Write,
 {
     check_words(rt.alloc(), asked)?;
-    let mut package = open_package(rt, &asked.package(file), errors)?;
+    let mut package = open_package(rt, &asked.package(file, Purpose::Look), errors)?;
     show(rt, asked, file, &mut package, output, errors)
 }
 
@@ -48,20 +49,19 @@ fn check_words(alloc: Global, asked: &Asked<'_, '_>) -> Result<(), Failure> {
 }
 
 /// Prints or writes what a package has, and returns whether all is well.
-fn show<R, F, O, E>(
+fn show<R, F, O>(
     rt: &R,
     asked: &Asked<'_, '_>,
     file: &str,
     package: &mut Package<F>,
     output: &mut O,
-    errors: &mut E,
+    errors: &mut Messages,
 ) -> Result<bool, Failure>
 where
     R: Files + AllocGlobal,
     R::File: OpenFile + Read + Write + Drop,
     F: Source,
     O: Write + Drop,
-    E: Write,
 {
     let (style, is_json) = (asked.style, asked.is_json());
     match asked.verb {
@@ -77,20 +77,19 @@ where
 }
 
 /// Writes what a package has to files, or as files to the output.
-fn write_out<R, F, O, E>(
+fn write_out<R, F, O>(
     rt: &R,
     asked: &Asked<'_, '_>,
     file: &str,
     package: &Package<F>,
     output: &mut O,
-    errors: &mut E,
+    errors: &mut Messages,
 ) -> Result<(), Failure>
 where
     R: Files + AllocGlobal,
     R::File: OpenFile + Read + Write + Drop,
     F: Source,
     O: Write + Drop,
-    E: Write,
 {
     match asked.verb {
         Verb::Extract => {

@@ -7,10 +7,12 @@ mod commands;
 mod exchanging;
 mod lines;
 mod looking;
+mod messages;
 mod several;
 mod watching;
 mod words;
 
+use crate::messages::Messages;
 use crate::watching::Watched;
 use std::io::IsTerminal;
 use std::process::ExitCode;
@@ -53,7 +55,7 @@ fn main(rt: HostRuntime) -> ExitCode {
             arguments.as_slice(),
             rt.stdout().is_terminal(),
             &mut rt.stdout(),
-            &mut rt.stderr(),
+            &mut Messages::Shown(rt.stderr()),
         ),
         Err(error) => {
             let _ = eprintln!(rt; "msipkg: the arguments: {error}");

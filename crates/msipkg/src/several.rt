@@ -3,29 +3,30 @@
 use crate::commands::{Asked, report};
 use crate::exchanging::is_each;
 use crate::looking::look;
+use crate::messages::Messages;
 use crate::words::Verb;
-use msipkg_changes::recount_package;
-use msipkg_output::{Failure, PackageFile, Shown, failure_json, json};
+use msipkg_changes::store;
+use msipkg_files::{Purpose, open_package};
+use msipkg_output::{Failure, Shown, failure_json, json};
 use std::alloc::Global;
 use std::fs::OpenFile;
-use std::io::{self, Read, Seek, Write};
+use std::io::{self, Read, Write};
 use std::rt::Files;
 
 /// Prints each file, and returns whether all is well. As JSON each file gives one line, with its error as `error`.
 ///
 /// # Errors
 /// Fails as the writer does.
-pub(crate) fn print_each<R, O, E>(
+pub(crate) fn print_each<R, O>(
     rt: &R,
     asked: &Asked<'_, '_>,
     output: &mut O,
-    errors: &mut E,
+    errors: &mut Messages,
 ) -> Result<bool, Failure>
 where
     R: Files + AllocGlobal,
-    R::File: OpenFile + Read + Write + Seek + Drop,
+    R::File: OpenFile + Read + Write + Drop,
     O: Write + Drop,
-    E: Write,
 {
     let mut is_well = print_files(rt, asked, asked.texts("FILE"), output, errors)?;
     if is_each(asked) {
@@ -35,18 +36,17 @@ where
 }
 
 /// Prints these files, and returns whether all is well.
-fn print_files<R, O, E>(
+fn print_files<R, O>(
     rt: &R,
     asked: &Asked<'_, '_>,
     files: &[&str],
     output: &mut O,
-    errors: &mut E,
+    errors: &mut Messages,
 ) -> io::Result<bool>
 where
     R: Files + AllocGlobal,
-    R::File: OpenFile + Read + Write + Seek + Drop,
+    R::File: OpenFile + Read + Write + Drop,
     O: Write + Drop,
-    E: Write,
 {
     let mut is_well = true;
     for file in files {
@@ -56,18 +56,17 @@ where
 }
 
 /// Prints a file, or why that failed, and returns whether all is well.
-fn print_or_report<R, O, E>(
+fn print_or_report<R, O>(
     rt: &R,
     asked: &Asked<'_, '_>,
     file: &str,
     output: &mut O,
-    errors: &mut E,
+    errors: &mut Messages,
 ) -> io::Result<bool>
 where
     R: Files + AllocGlobal,
-    R::File: OpenFile + Read + Write + Seek + Drop,
+    R::File: OpenFile + Read + Write + Drop,
     O: Write + Drop,
-    E: Write,
 {
     write_head(asked, file, output)?;
     match print_one(rt, asked, file, output, errors) {
@@ -91,40 +90,44 @@ fn write_head<O: Write>(asked: &Asked<'_, '_>, file: &str, output: &mut O) -> io
 }
 
 /// Prints a file, whose counts may have to be mended first, and returns whether all is well.
-fn print_one<R, O, E>(
+fn print_one<R, O>(
     rt: &R,
     asked: &Asked<'_, '_>,
     file: &str,
     output: &mut O,
-    errors: &mut E,
+    errors: &mut Messages,
 ) -> Result<bool, Failure>
 where
     R: Files + AllocGlobal,
-    R::File: OpenFile + Read + Write + Seek + Drop,
+    R::File: OpenFile + Read + Write + Drop,
     O: Write + Drop,
-    E: Write,
 {
     if asked.given.get_flag("fix") {
-        fix(rt, &asked.package(file), errors)?;
+        fix(rt, asked, file, errors)?;
     }
     look(rt, asked, file, output, errors)
 }
 
-/// Mends the counts of a file, and prints how many were wrong.
-fn fix<R, E>(rt: &R, file: &PackageFile<'_>, errors: &mut E) -> Result<(), Failure>
+/// Mends the counts of a file, and prints how many were wrong. That its texts are recoded isn't noted: who looks at it
+/// afterwards is told where it still is so.
+fn fix<R>(rt: &R, asked: &Asked<'_, '_>, file: &str, errors: &mut Messages) -> Result<(), Failure>
 where
     R: Files + AllocGlobal,
     R::File: OpenFile + Read + Write + Drop,
-    E: Write,
 {
-    match recount_package(rt, file, errors)? {
+    let purpose = asked.purpose_of_change(Purpose::RecodeSilently);
+    let mut package = open_package(rt, &asked.package(file, purpose), errors)?;
+    match package.recount()? {
         0 => Ok(()),
-        changed => Ok(report_mended(file.path, changed, errors)?),
+        changed => {
+            store(rt, file, package, errors)?;
+            Ok(report_mended(file, changed, errors)?)
+        }
     }
 }
 
 /// Writes how many counts of a file were wrong.
-fn report_mended<E: Write>(file: &str, changed: u32, errors: &mut E) -> io::Result<()> {
+fn report_mended(file: &str, changed: u32, errors: &mut Messages) -> io::Result<()> {
     let file = Shown::escaped(file);
     writeln!(
         errors,
@@ -133,13 +136,13 @@ fn report_mended<E: Write>(file: &str, changed: u32, errors: &mut E) -> io::Resu
 }
 
 /// Writes why a file failed: on `errors`, or as JSON on the output.
-fn report_one<O: Write, E: Write>(
+fn report_one<O: Write>(
     alloc: Global,
     asked: &Asked<'_, '_>,
     file: &str,
     failure: &Failure,
     output: &mut O,
-    errors: &mut E,
+    errors: &mut Messages,
 ) -> io::Result<()> {
     if !asked.is_json() && !is_each(asked) {
         report(file, failure, errors);

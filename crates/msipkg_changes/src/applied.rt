@@ -1,15 +1,15 @@
 //! Statements carried out on a package.
 
 use crate::definition::Definition;
-use msi::{Memory, Package, Statement};
+use msi::{Package, Source, Statement};
 use msipkg_output::Failure;
 
 /// Carries out a statement on rows.
 ///
 /// # Errors
 /// Fails for a `SELECT`, and as the change does. Then nothing has changed.
-pub(crate) fn apply_statement(
-    package: &mut Package<Memory>,
+pub(crate) fn apply_statement<F: Source>(
+    package: &mut Package<F>,
     statement: Statement,
 ) -> Result<(), Failure> {
     match statement {
@@ -24,8 +24,8 @@ pub(crate) fn apply_statement(
 ///
 /// # Errors
 /// Fails as the change does. Then nothing has changed.
-pub(crate) fn apply_definition(
-    package: &mut Package<Memory>,
+pub(crate) fn apply_definition<F: Source>(
+    package: &mut Package<F>,
     definition: Definition<'_>,
 ) -> Result<(), Failure> {
     match definition {

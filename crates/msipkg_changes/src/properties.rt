@@ -1,13 +1,9 @@
 //! `summary FILE --set NAME=VALUE.. --clear NAME..`: properties of a package's summary.
 
 use crate::create::page_of;
-use crate::held::{load, store};
-use msi::{Error, LanguageId, Memory, Package, SummaryInfo, Timestamp};
-use msipkg_output::{Failure, PackageFile};
+use msi::{Error, LanguageId, Package, Source, SummaryInfo, Timestamp};
+use msipkg_output::Failure;
 use std::alloc::Global;
-use std::fs::OpenFile;
-use std::io::{Read, Write};
-use std::rt::Files;
 use uuid::Uuid;
 
 /// How many nanoseconds a second has.
@@ -58,32 +54,14 @@ static PROPERTIES: [(&str, Property); 18] = [
     ("doc_security", Property::DocSecurity),
 ];
 
-/// Sets properties, each given as `NAME=VALUE`, and then clears others: all, or none of them.
+/// Sets properties, each given as `NAME=VALUE`, and then clears others.
 ///
 /// # Errors
-/// Fails if there is no property of a name, if it doesn't take a value, and as storing the package does. Then the
-/// package's file is as it was.
-pub fn set_properties<R, N>(
-    rt: &R,
-    file: &PackageFile<'_>,
-    pairs: &[&str],
-    cleared: &[&str],
-    notes: &mut N,
-) -> Result<(), Failure>
-where
-    R: Files + AllocGlobal,
-    R::File: OpenFile + Read + Write + Drop,
-    N: Write,
-{
-    let mut package = load(rt, file, notes)?;
-    set_all(rt.alloc(), &mut package, pairs, cleared)?;
-    store(rt, file.path, package, notes)
-}
-
-/// Sets and clears the properties of a package.
-fn set_all(
+/// Fails at the first word for which there is no property of the name, or which doesn't take the value. Those in front
+/// of it are set.
+pub fn set_properties<F: Source>(
     alloc: Global,
-    package: &mut Package<Memory>,
+    package: &mut Package<F>,
     pairs: &[&str],
     cleared: &[&str],
 ) -> Result<(), Failure> {

@@ -2,40 +2,16 @@
 
 use crate::applied::{apply_definition, apply_statement};
 use crate::definition::{definition_of, is_definition};
-use crate::held::{load, store};
 use crate::recounting::noted;
-use msi::{Memory, Package, Parse, Statement};
-use msipkg_output::{Failure, PackageFile};
+use msi::{Package, Parse, Source, Statement};
+use msipkg_output::Failure;
 use std::alloc::Global;
-use std::fs::OpenFile;
-use std::io::{Read, Write};
-use std::rt::Files;
 
-/// Carries out inserts, updates, deletes and changes of tables in turn: all, or none of them. Each text is read before
-/// the file is.
+/// Fails if one of the texts is no statement: an insert, an update, a delete or a change of tables.
 ///
 /// # Errors
-/// Fails if a text is no such statement, as the changes do, and as storing the package does. Then the package's file is
-/// as it was.
-pub fn carry_out_statements<R, N>(
-    rt: &R,
-    file: &PackageFile<'_>,
-    texts: &[&str],
-    notes: &mut N,
-) -> Result<(), Failure>
-where
-    R: Files + AllocGlobal,
-    R::File: OpenFile + Read + Write + Drop,
-    N: Write,
-{
-    check_texts(rt.alloc(), texts)?;
-    let mut package = load(rt, file, notes)?;
-    apply_texts(rt.alloc(), &mut package, texts)?;
-    store(rt, file.path, package, notes)
-}
-
-/// Fails if one of the texts is no statement.
-fn check_texts(alloc: Global, texts: &[&str]) -> Result<(), Failure> {
+/// Fails with the rule that the text breaks, and with `OutOfMemory`.
+pub fn check_statements(alloc: Global, texts: &[&str]) -> Result<(), Failure> {
     for text in texts {
         if let Err(failure) = check_text(alloc, text) {
             return Err(failure.at(alloc, "statement", text));
@@ -44,10 +20,13 @@ fn check_texts(alloc: Global, texts: &[&str]) -> Result<(), Failure> {
     Ok(())
 }
 
-/// Carries out the statements that texts spell.
-fn apply_texts(
+/// Carries out the statements that texts spell, in turn.
+///
+/// # Errors
+/// Fails at the first text that is no statement, or whose change is refused. Those in front of it are carried out.
+pub fn carry_out_statements<F: Source>(
     alloc: Global,
-    package: &mut Package<Memory>,
+    package: &mut Package<F>,
     texts: &[&str],
 ) -> Result<(), Failure> {
     for text in texts {
@@ -69,7 +48,11 @@ fn check_text(alloc: Global, text: &str) -> Result<(), Failure> {
 }
 
 /// Carries out the statement that a text spells.
-fn apply_text(alloc: Global, package: &mut Package<Memory>, text: &str) -> Result<(), Failure> {
+fn apply_text<F: Source>(
+    alloc: Global,
+    package: &mut Package<F>,
+    text: &str,
+) -> Result<(), Failure> {
     if is_definition(text) {
         apply_definition(package, definition_of(alloc, text)?)
     } else {

@@ -1,39 +1,22 @@
 //! `add FILE NAME=PATH..` and `remove FILE NAME..`: streams of a package.
 
-use crate::held::{load, store};
-use msi::{Memory, Package};
-use msipkg_output::{Failure, PackageFile};
+use msi::{Package, Source};
+use msipkg_output::Failure;
 use std::alloc::Global;
-use std::fs::{self, OpenFile};
+use std::fs;
 use std::io::{Read, Write};
 use std::rt::Files;
 
-/// Stores files as streams of a package, each given as `NAME=PATH`: all, or none of them.
+/// Stores files as streams of a package, each given as `NAME=PATH`.
 ///
 /// # Errors
-/// Fails if a word has no `=`, if a file can't be read, if no stream may have a name, and as storing the package does.
-/// Then the package's file is as it was.
-pub fn add_streams<R, N>(
-    rt: &R,
-    file: &PackageFile<'_>,
-    pairs: &[&str],
-    notes: &mut N,
-) -> Result<(), Failure>
-where
-    R: Files + AllocGlobal,
-    R::File: OpenFile + Read + Write + Drop,
-    N: Write,
-{
-    let mut package = load(rt, file, notes)?;
-    add_pairs(rt, &mut package, pairs)?;
-    store(rt, file.path, package, notes)
-}
-
-/// Stores the files of pairs.
-fn add_pairs<R>(rt: &R, package: &mut Package<Memory>, pairs: &[&str]) -> Result<(), Failure>
+/// Fails at the first word that has no `=`, whose file can't be read, or whose name no stream may have. Those in front
+/// of it are stored.
+pub fn add_streams<R, F>(rt: &R, package: &mut Package<F>, pairs: &[&str]) -> Result<(), Failure>
 where
     R: Files + AllocGlobal,
     R::File: Read + Drop,
+    F: Source,
 {
     for pair in pairs {
         add_pair(rt, package, pair)?;
@@ -42,10 +25,11 @@ where
 }
 
 /// Stores the file of a pair.
-fn add_pair<R>(rt: &R, package: &mut Package<Memory>, pair: &str) -> Result<(), Failure>
+fn add_pair<R, F>(rt: &R, package: &mut Package<F>, pair: &str) -> Result<(), Failure>
 where
     R: Files + AllocGlobal,
     R::File: Read + Drop,
+    F: Source,
 {
     let Some((name, path)) = pair.split_once('=') else {
         return Err(Failure::rule("it isn't of the form NAME=PATH").at(rt.alloc(), "word", pair));
@@ -64,35 +48,22 @@ where
 ///
 /// # Errors
 /// Fails if no stream may have the name, and with `OutOfMemory`.
-pub fn fill_stream(package: &mut Package<Memory>, name: &str, bytes: &[u8]) -> Result<(), Failure> {
+pub fn fill_stream<F: Source>(
+    package: &mut Package<F>,
+    name: &str,
+    bytes: &[u8],
+) -> Result<(), Failure> {
     package.write_stream(name)?.write_all(bytes)?;
     Ok(())
 }
 
-/// Removes streams of a package: all, or none of them.
+/// Removes streams of a package.
 ///
 /// # Errors
-/// Fails if a stream isn't there, and as storing the package does. Then the package's file is as it was.
-pub fn remove_streams<R, N>(
-    rt: &R,
-    file: &PackageFile<'_>,
-    names: &[&str],
-    notes: &mut N,
-) -> Result<(), Failure>
-where
-    R: Files + AllocGlobal,
-    R::File: OpenFile + Read + Write + Drop,
-    N: Write,
-{
-    let mut package = load(rt, file, notes)?;
-    remove_named(rt.alloc(), &mut package, names)?;
-    store(rt, file.path, package, notes)
-}
-
-/// Removes the streams of these names.
-fn remove_named(
+/// Fails at the first stream that isn't there. Those in front of it are removed.
+pub fn remove_streams<F: Source>(
     alloc: Global,
-    package: &mut Package<Memory>,
+    package: &mut Package<F>,
     names: &[&str],
 ) -> Result<(), Failure> {
     for name in names {

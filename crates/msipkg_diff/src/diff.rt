@@ -5,7 +5,8 @@ use crate::report::Report;
 use crate::streams::compare_streams;
 use crate::tables::compare_tables;
 use msi::{Package, Source};
-use msipkg_output::{Failure, StoredStreams, Style};
+use msipkg_files::StoredStreams;
+use msipkg_output::{Failure, Style};
 use std::alloc::Global;
 use std::io::Write;
 

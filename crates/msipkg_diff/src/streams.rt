@@ -4,7 +4,8 @@ use crate::diff::Compared;
 use crate::difference::{Change, Content, Difference, Member};
 use crate::report::Report;
 use msi::Source;
-use msipkg_output::{Failure, stream_bytes};
+use msipkg_files::stream_bytes;
+use msipkg_output::Failure;
 use std::io::{self, Write};
 
 /// Compares all streams by their names and their bytes.

@@ -6,7 +6,8 @@ use crate::other_archives::{
 };
 use crate::table_archives::{StreamFile, TableArchive, table_archive};
 use msi::{Package, Source, Table};
-use msipkg_output::{Failure, Folder, SafeNames, at_file, chosen_tables, path_in};
+use msipkg_files::{Folder, SafeNames, at_file, path_in};
+use msipkg_output::{Failure, chosen_tables};
 use std::alloc::{AllocError, Global};
 use std::collections::BTreeSet;
 use std::fs::OpenFile;

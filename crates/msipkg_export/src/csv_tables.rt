@@ -3,9 +3,8 @@
 use crate::exporting::BARE;
 use crate::folders::make_folder;
 use msi::{Package, Source, Table};
-use msipkg_output::{
-    Failure, Folder, Format, SafeNames, Style, chosen_tables, rows_of, write_rows,
-};
+use msipkg_files::{Folder, SafeNames};
+use msipkg_output::{Failure, Format, Style, chosen_tables, rows_of, write_rows};
 use std::alloc::{AllocError, Global};
 use std::fs::OpenFile;
 use std::io::Write;

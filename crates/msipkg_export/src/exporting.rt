@@ -5,9 +5,8 @@ use crate::csv_tables::{export_csv, write_csv};
 use crate::json_packages::write_package;
 use crate::table_archives::write_archive;
 use msi::{Package, Source, Table};
-use msipkg_output::{
-    Failure, Folder, Shown, Style, at_file, is_list, open_new, rows_of, settle, table_named,
-};
+use msipkg_files::{Folder, at_file, open_new, settle};
+use msipkg_output::{Failure, Shown, Style, is_list, rows_of, table_named};
 use std::alloc::Global;
 use std::fs::OpenFile;
 use std::io::{self, BufWriter, Write};

@@ -4,7 +4,8 @@ use crate::archive_parts::text_value;
 use crate::archive_texts::archive_text;
 use crate::table_archives::{StreamFile, TableArchive};
 use msi::{CodePage, Column, Error, Items, Package, Source, SummaryInfo, Value};
-use msipkg_output::{Failure, PROPERTIES, SafeNames, property_text};
+use msipkg_files::SafeNames;
+use msipkg_output::{Failure, PROPERTIES, property_text};
 use std::alloc::{AllocError, Global};
 use std::collections::BTreeSet;
 

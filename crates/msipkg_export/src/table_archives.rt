@@ -3,7 +3,8 @@
 use crate::archive_parts::text_value;
 use crate::archive_texts::archive_text;
 use msi::{CodePage, Error, Items, Package, Row, Rows, Source, Table, Value};
-use msipkg_output::{Failure, SafeNames, Shown, Style, rows_of, stream_name};
+use msipkg_files::SafeNames;
+use msipkg_output::{Failure, Shown, Style, rows_of, stream_name};
 use std::alloc::Global;
 use std::io::{self, Write};
 

@@ -2,9 +2,8 @@
 //! is written outside the folder.
 
 use msi::{Error, Package, Source};
-use msipkg_output::{
-    Failure, Folder, SafeNames, Shown, StoredStreams, stored_streams, stream_bytes,
-};
+use msipkg_files::{Folder, SafeNames, StoredStreams, stored_streams, stream_bytes};
+use msipkg_output::{Failure, Shown};
 use std::alloc::Global;
 use std::convert::AsStr;
 use std::fs::{self, OpenFile};

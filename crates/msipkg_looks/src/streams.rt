@@ -1,7 +1,8 @@
 //! `streams FILE`: the names of a package's streams, and how many bytes they have.
 
 use msi::{Package, Source};
-use msipkg_output::{Failure, Grid, StoredStreams, Style, stored_streams, stream_bytes};
+use msipkg_files::{StoredStreams, stored_streams, stream_bytes};
+use msipkg_output::{Failure, Grid, Style};
 use std::alloc::Global;
 use std::io::{Read, Write};
 use std::rt::Files;

@@ -33,16 +33,6 @@ fn letter_and_length(column: &Column) -> (char, usize) {
     }
 }
 
-/// Returns a column as JSON, as `put_columns` has it.
-///
-/// # Errors
-/// Fails if memory is refused.
-pub fn column_json(alloc: Global, column: &Column) -> Result<String, AllocError> {
-    let mut object = JsonObject::new(alloc)?;
-    put_column(column, &mut object)?;
-    object.finish()
-}
-
 /// Puts the name of a table, and the list of its columns: the name of each, its type, what it is, and what its values
 /// are limited to. What a column doesn't have isn't there.
 ///

@@ -1,63 +1,20 @@
-//! The pages that a package names for its texts.
+//! The pages that texts of a package are recoded from.
 
-use msi::compound::{Name, StreamMap};
-use msi::{Error, streamname};
-use msi_recode::TextPage;
-use std::alloc::Global;
 use std::fmt;
-
-/// The property of the summary that names its page.
-const PAGE: u32 = 1;
-
-/// Where the summary says where its section begins.
-const SECTION: usize = 44;
-
-/// Where a section lists its properties.
-const LIST: usize = 8;
-
-/// The pages that a package names: for its database, and for its summary. There is none where nothing names one.
-#[derive(Clone, Copy, Debug)]
-pub(crate) struct NamedPages {
-    database: Option<i32>,
-    summary: Option<i32>,
-}
-
-impl NamedPages {
-    /// Returns the pages that the streams of a package name.
-    ///
-    /// # Errors
-    /// Fails if memory is refused.
-    pub(crate) fn of(alloc: Global, streams: &StreamMap) -> Result<NamedPages, Error> {
-        let pool = streamname::encode(alloc, "_StringPool", true)?;
-        let pool = bytes_at(streams, pool.as_str())?;
-        let summary = bytes_at(streams, streamname::SUMMARY_INFO_STREAM_NAME)?;
-        Ok(NamedPages {
-            database: pool_page(pool.unwrap_or(&[])),
-            summary: summary_page(summary.unwrap_or(&[])),
-        })
-    }
-
-    /// Returns the pages that texts are recoded from: those that packages aren't read in, and for page 0 the one that
-    /// is given.
-    pub(crate) fn recoded_from(self, given: Option<i32>) -> Pages {
-        Pages {
-            database: recoded_from(self.database, given),
-            summary: recoded_from(self.summary, given),
-        }
-    }
-}
 
 /// The pages that texts of a package are recoded from: those of its database, and those of its summary. There is none
 /// where texts aren't recoded. It prints as `page 932` or `pages 932 and 1252`.
 #[derive(Clone, Copy, Debug)]
 pub struct Pages {
-    database: Option<i32>,
-    summary: Option<i32>,
+    /// That of its database.
+    pub database: Option<i32>,
+    /// That of its summary.
+    pub summary: Option<i32>,
 }
 
 impl Pages {
     /// Returns whether there is none.
-    pub(crate) fn is_empty(self) -> bool {
+    pub fn is_empty(self) -> bool {
         self.database.is_none() && self.summary.is_none()
     }
 }
@@ -72,61 +29,4 @@ impl fmt::Display for Pages {
             (None, None) => f.write_str("no page"),
         }
     }
-}
-
-/// The page that texts are recoded from, if they are.
-fn recoded_from(named: Option<i32>, given: Option<i32>) -> Option<i32> {
-    match named? {
-        0 => given,
-        page if is_tabled(page) => Some(page),
-        _ => None,
-    }
-}
-
-/// Whether packages aren't read in a page, but for ASCII, and it has a table to recode from.
-fn is_tabled(page: i32) -> bool {
-    matches!(TextPage::of(page), Some(TextPage::Tabled(_)))
-}
-
-/// The bytes of a stream, if it is there.
-fn bytes_at<'a>(streams: &'a StreamMap, name: &str) -> Result<Option<&'a [u8]>, Error> {
-    match streams.get(&Name::new(name)?) {
-        Some(bytes) => Ok(Some(bytes.as_slice())),
-        None => Ok(None),
-    }
-}
-
-/// The page that the pool names in its first 31 bits.
-fn pool_page(bytes: &[u8]) -> Option<i32> {
-    i32::try_from(u32_at(bytes, 0)? & 0x7FFF_FFFF).ok()
-}
-
-/// The page that the summary names: the 16 bits behind the type of its property 1.
-fn summary_page(bytes: &[u8]) -> Option<i32> {
-    let section = rest_at(bytes, u32_at(bytes, SECTION)?)?;
-    let value = rest_at(section, place_of_page(section)?)?;
-    i32::try_from(u32_at(value, 4)? & 0xFFFF).ok()
-}
-
-/// Where the property that names the page stands in a section, which begins with its length and the number of its
-/// properties, and has a pair of numbers for each: its id and its place.
-fn place_of_page(section: &[u8]) -> Option<u32> {
-    let count = usize::try_from(u32_at(section, 4)?).ok()?;
-    for pair in section.get(LIST..)?.chunks(8).take(count) {
-        if u32_at(pair, 0)? == PAGE {
-            return u32_at(pair, 4);
-        }
-    }
-    None
-}
-
-/// The bytes from a place on.
-fn rest_at(bytes: &[u8], place: u32) -> Option<&[u8]> {
-    bytes.get(usize::try_from(place).ok()?..)
-}
-
-/// The number of 32 bits at a place, the lowest byte first.
-fn u32_at(bytes: &[u8], place: usize) -> Option<u32> {
-    let front = bytes.get(place..)?.first_chunk::<4>()?;
-    Some(u32::from_le_bytes(*front))
 }

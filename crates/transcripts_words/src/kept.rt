@@ -114,14 +114,23 @@ pub(crate) fn add_range(all: &mut Vec<u8>, bytes: &[u8], range: &str) -> Result<
 
 /// Returns the bytes in a range, such as `0..512` or `512..`.
 pub(crate) fn ranged<'a>(bytes: &'a [u8], range: &str) -> Result<&'a [u8], Failure> {
-    let (from, to) = range.split_once("..").unwrap_or((range, range));
-    let end = if to.is_empty() {
-        bytes.len()
-    } else {
-        place(to)
+    let Some((from, to)) = range.split_once("..") else {
+        return Err(Failure::Unreadable("a range has two dots"));
     };
+    let front = if to.is_empty() {
+        bytes
+    } else {
+        up_to(bytes, place(to))?
+    };
+    front
+        .get(place(from)..)
+        .ok_or(Failure::Unreadable("the range is past the end"))
+}
+
+/// Returns the bytes in front of a place.
+fn up_to(bytes: &[u8], end: usize) -> Result<&[u8], Failure> {
     bytes
-        .get(place(from)..end)
+        .get(..end)
         .ok_or(Failure::Unreadable("the range is past the end"))
 }
 

@@ -1,9 +1,9 @@
 //! Streams that a package lists and doesn't find, since their names are stored in another form than the installer's, or
 //! have characters that no stream's name may have.
 
-use crate::failure::Failure;
 use msi::compound::{self, Contents, Name, StreamMap};
 use msi::{Error, Package, Source, streamname};
+use msipkg_output::Failure;
 use std::alloc::Global;
 use std::collections::BTreeMap;
 use std::fs;

@@ -1,7 +1,7 @@
 //! Replacing a file whole: the new bytes are written beside it and synced, and then take its name, so that an interrupt
 //! or a full disk leaves the old file.
 
-use crate::failure::Failure;
+use msipkg_output::Failure;
 use std::alloc::{AllocError, Global};
 use std::fs::{self, OpenFile, OpenOptions, Permissions};
 use std::io::{self, Write};

@@ -1,15 +1,27 @@
 //! Packages with texts in a page that packages aren't read in: they are recoded to UTF-8 first.
 
-use crate::escape::Shown;
-use crate::failure::{Cause, Failure};
-use crate::pages::{NamedPages, Pages};
+use crate::named_pages::NamedPages;
 use msi::compound::{self, Contents};
 use msi_recode::{TextPage, recode_contents};
+use msipkg_output::{Cause, Failure, Pages, Shown};
 use std::alloc::Global;
 use std::fs;
 use std::io::{self, Read, Write};
 use std::rc::Rc;
 use std::rt::Files;
+
+/// What a package is opened for.
+#[derive(Clone, Copy, Debug)]
+pub enum Purpose {
+    /// It is looked at.
+    Look,
+    /// It is changed, and may not be recoded.
+    Change,
+    /// It is changed, and is written with its texts in UTF-8 where it is recoded, which is noted.
+    Recode,
+    /// The same, but it isn't noted.
+    RecodeSilently,
+}
 
 /// The file of a package, and how it is read.
 #[derive(Clone, Copy, Debug)]
@@ -18,12 +30,12 @@ pub struct PackageFile<'a> {
     pub path: &'a str,
     /// The page of the texts, where the package names page 0, which says nothing of it.
     pub page: Option<i32>,
-    /// Whether a package that is recoded may be written, with its texts in UTF-8.
-    pub is_recoded: bool,
+    /// What the package is opened for.
+    pub purpose: Purpose,
 }
 
 /// The bytes of a package with its texts in UTF-8.
-pub struct Recoded {
+pub(crate) struct Recoded {
     bytes: Vec<u8>,
     pages: Pages,
 }
@@ -37,29 +49,31 @@ impl Drop for Recoded {
 
 impl Recoded {
     /// Returns the bytes.
-    pub fn into_bytes(self) -> Vec<u8> {
+    pub(crate) fn into_bytes(self) -> Vec<u8> {
         let Recoded { bytes, pages: _ } = self;
         bytes
     }
 
-    /// Writes a line that says that the package's texts are recoded.
-    ///
-    /// # Errors
-    /// Fails as the writer does.
-    pub fn note<N: Write>(&self, path: &str, notes: &mut N) -> io::Result<()> {
-        let (path, pages) = (Shown::escaped(path), self.pages);
-        writeln!(notes, "msipkg: {path}: texts in {pages} are read as UTF-8")
-    }
-
-    /// Fails if the package may not be written, and notes else that its texts are recoded.
+    /// Fails if the package is changed and may not be recoded, and notes else that its texts are.
     ///
     /// # Errors
     /// Fails with the pages of the texts, and as the writer does.
-    pub fn permit<N: Write>(&self, file: &PackageFile<'_>, notes: &mut N) -> Result<(), Failure> {
-        if !file.is_recoded {
-            return Err(Failure::new(Cause::Recoding(self.pages)));
+    pub(crate) fn permit<N: Write>(
+        &self,
+        file: &PackageFile<'_>,
+        notes: &mut N,
+    ) -> Result<(), Failure> {
+        match file.purpose {
+            Purpose::Look | Purpose::Recode => Ok(self.note(file.path, notes)?),
+            Purpose::RecodeSilently => Ok(()),
+            Purpose::Change => Err(Failure::new(Cause::Recoding(self.pages))),
         }
-        Ok(self.note(file.path, notes)?)
+    }
+
+    /// Writes a line that says that the package's texts are recoded.
+    fn note<N: Write>(&self, path: &str, notes: &mut N) -> io::Result<()> {
+        let (path, pages) = (Shown::escaped(path), self.pages);
+        writeln!(notes, "msipkg: {path}: texts in {pages} are read as UTF-8")
     }
 }
 
@@ -68,7 +82,7 @@ impl Recoded {
 ///
 /// # Errors
 /// Fails as `recode_file` does.
-pub fn recoded_by_page<R>(rt: &R, file: &PackageFile<'_>) -> Result<Option<Recoded>, Failure>
+pub(crate) fn recoded_by_page<R>(rt: &R, file: &PackageFile<'_>) -> Result<Option<Recoded>, Failure>
 where
     R: Files + AllocGlobal,
     R::File: Read + Drop,
@@ -83,7 +97,7 @@ where
 ///
 /// # Errors
 /// Fails as `recode_file` does, and with that failure if no invalid data was found or there are no texts to be recoded.
-pub fn recoded_instead<R>(
+pub(crate) fn recoded_instead<R>(
     rt: &R,
     file: &PackageFile<'_>,
     failure: Failure,
@@ -106,7 +120,7 @@ where
 ///
 /// # Errors
 /// Fails if the file can't be read, and at a text that its page doesn't read.
-pub fn recode_file<R>(rt: &R, file: &PackageFile<'_>) -> Result<Option<Recoded>, Failure>
+fn recode_file<R>(rt: &R, file: &PackageFile<'_>) -> Result<Option<Recoded>, Failure>
 where
     R: Files + AllocGlobal,
     R::File: Read + Drop,

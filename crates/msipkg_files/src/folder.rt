@@ -1,7 +1,7 @@
 //! Folders that files are written to.
 
-use crate::failure::Failure;
 use crate::replacing::write_file;
+use msipkg_output::Failure;
 use std::alloc::{AllocError, Global};
 use std::fs::OpenFile;
 use std::io::Write;

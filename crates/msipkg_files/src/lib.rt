@@ -1,0 +1,20 @@
+//! Files of `msipkg`: opening packages in any code page, and their streams, replacing a file whole, and names of files
+//! that stay inside a folder.
+#![tactic(auto)]
+
+pub mod carrier;
+pub mod folder;
+mod named_pages;
+pub mod opening;
+pub mod recoding;
+pub mod replacing;
+pub mod safe_names;
+pub mod stored;
+
+pub use carrier::Carrier;
+pub use folder::{Folder, at_file, path_in};
+pub use opening::{Opened, new_package, open_package, written};
+pub use recoding::{PackageFile, Purpose};
+pub use replacing::{open_new, replace_file, settle, write_file};
+pub use safe_names::{SafeNames, safe_name};
+pub use stored::{StoredStreams, stored_streams, stream_bytes};
