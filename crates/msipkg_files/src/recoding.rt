@@ -38,19 +38,29 @@ pub struct PackageFile<'a> {
 pub(crate) struct Recoded {
     bytes: Vec<u8>,
     pages: Pages,
+    /// Whether storages below the root are left out.
+    is_part: bool,
 }
 
 /// Written out, so that a function that owns one calls one drop, and its proof doesn't go through those of the parts.
 impl Drop for Recoded {
     fn drop(self) {
-        let Recoded { bytes: _, pages: _ } = self;
+        let Recoded {
+            bytes: _,
+            pages: _,
+            is_part: _,
+        } = self;
     }
 }
 
 impl Recoded {
     /// Returns the bytes.
     pub(crate) fn into_bytes(self) -> Vec<u8> {
-        let Recoded { bytes, pages: _ } = self;
+        let Recoded {
+            bytes,
+            pages: _,
+            is_part: _,
+        } = self;
         bytes
     }
 
@@ -73,7 +83,15 @@ impl Recoded {
     /// Writes a line that says that the package's texts are recoded.
     fn note<N: Write>(&self, path: &str, notes: &mut N) -> io::Result<()> {
         let (path, pages) = (Shown::escaped(path), self.pages);
-        writeln!(notes, "msipkg: {path}: texts in {pages} are read as UTF-8")
+        let left_out = if self.is_part {
+            ", and storages below the root are left out"
+        } else {
+            ""
+        };
+        writeln!(
+            notes,
+            "msipkg: {path}: texts in {pages} are read as UTF-8{left_out}"
+        )
     }
 }
 
@@ -127,7 +145,7 @@ where
 {
     let bytes = Rc::new(rt.alloc(), fs::read(rt, file.path)?)?;
     match compound::read_shared(rt.alloc(), bytes) {
-        Ok(contents) => recoded_of(rt.alloc(), contents, file.page),
+        Ok(contents) => recoded_of(rt.alloc(), contents, file),
         Err(_) => Ok(None),
     }
 }
@@ -136,17 +154,34 @@ where
 fn recoded_of(
     alloc: Global,
     contents: Contents,
-    given: Option<i32>,
+    file: &PackageFile<'_>,
 ) -> Result<Option<Recoded>, Failure> {
-    let pages = NamedPages::of(alloc, &contents.streams)?.recoded_from(given);
+    let pages = NamedPages::of(alloc, &contents.streams)?.recoded_from(file.page);
     if pages.is_empty() {
         return Ok(None);
     }
-    match recode_contents(alloc, given.and_then(TextPage::of), contents) {
-        Ok(contents) => {
-            let bytes = compound::write(alloc, &contents, 0)?;
-            Ok(Some(Recoded { bytes, pages }))
-        }
+    match recode_contents(alloc, file.page.and_then(TextPage::of), contents) {
+        Ok(contents) => Ok(Some(recoded_from(alloc, contents, pages, file.purpose)?)),
         Err(error) => Err(Failure::new(Cause::Text(error))),
     }
+}
+
+/// The bytes of a package of these contents. Storages below the root can't be written, so they are left out where the
+/// package is only looked at.
+fn recoded_from(
+    alloc: Global,
+    mut contents: Contents,
+    pages: Pages,
+    purpose: Purpose,
+) -> Result<Recoded, Failure> {
+    let is_part = contents.has_storages && matches!(purpose, Purpose::Look);
+    if is_part {
+        contents.has_storages = false;
+    }
+    let bytes = compound::write(alloc, &contents, 0)?;
+    Ok(Recoded {
+        bytes,
+        pages,
+        is_part,
+    })
 }

@@ -52,7 +52,7 @@ enum Call {
 }
 
 /// Each call by its name.
-static CALLS: [(&str, Call); 102] = [
+static CALLS: [(&str, Call); 101] = [
     ("device", Call::Package(PackageCall::Device)),
     ("create", Call::Package(PackageCall::Create)),
     ("open", Call::Package(PackageCall::Open)),
@@ -160,7 +160,6 @@ static CALLS: [(&str, Call); 102] = [
     ("parse_query", Call::Parse(Parsed::Query)),
     ("parse_expression", Call::Parse(Parsed::Expression)),
     ("parse_nested", Call::Parse(Parsed::Nested)),
-    ("parse_random", Call::Parse(Parsed::Random)),
 ];
 
 /// Makes a call, and prints its answer as lines. Fails if the line can't be read, if the call is refused, and if memory

@@ -8,6 +8,5 @@ pub mod evaluation;
 mod given;
 pub mod parsing;
 pub mod queries;
-mod random;
 pub mod tables;
 mod values;

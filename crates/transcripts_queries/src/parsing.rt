@@ -1,6 +1,5 @@
 //! Reads queries and expressions from texts, and prints what was read as the library does.
 
-use crate::random;
 use msi_query::Expr;
 use msi_query_parse::{Parse, ParseError, Statement};
 use std::alloc::{AllocError, Global};
@@ -15,8 +14,6 @@ pub enum Parsed {
     Expression,
     /// An expression that repeats two texts around a third.
     Nested,
-    /// Random expressions and queries, as they print.
-    Random,
 }
 
 /// Makes a call. Fails if memory runs out.
@@ -30,15 +27,6 @@ pub fn make(
         Parsed::Query => print_query(alloc, words.name(), answer),
         Parsed::Expression => print_expression(alloc, words.name(), answer),
         Parsed::Nested => print_nested(alloc, words, answer),
-        Parsed::Random => {
-            let count = words.count();
-            write!(
-                answer,
-                "{}",
-                random::count_alike(alloc, count, words.count())?
-            );
-            Ok(())
-        }
     }
 }
 

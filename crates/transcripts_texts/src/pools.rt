@@ -110,19 +110,40 @@ pub fn make(
     answer: &mut Answer,
 ) -> Result<(), Failure> {
     match words.one_of(&CALLS) {
-        Some(PoolCall::Look(look)) => print(answer, stock.pool()?, look, words),
-        Some(PoolCall::Incref(growth)) => {
-            let place = incref(alloc, stock.pool_mut()?, growth, words.name())?;
-            write!(answer, "{}", place.number());
-        }
-        Some(PoolCall::ReadReference) => read_reference(alloc, &stock.kept, words, answer)?,
-        Some(PoolCall::WriteReference) => write_reference(alloc, words, answer)?,
+        Some(PoolCall::Look(look)) => look_at(stock, look, words, answer),
+        Some(PoolCall::Incref(growth)) => store(alloc, stock, growth, words, answer),
+        Some(PoolCall::ReadReference) => read_reference(alloc, &stock.kept, words, answer),
+        Some(PoolCall::WriteReference) => write_reference(alloc, words, answer),
         Some(call) => {
             make_silent(alloc, stock, call, words)?;
             answer.push_str("ok");
+            Ok(())
         }
-        None => return Err(Failure::Unreadable("a pool has no such call")),
+        None => Err(Failure::Unreadable("a pool has no such call")),
     }
+}
+
+/// Prints what a call looks at.
+fn look_at(
+    stock: &Stock,
+    look: Look,
+    words: &mut Words,
+    answer: &mut Answer,
+) -> Result<(), Failure> {
+    print(answer, stock.pool()?, look, words);
+    Ok(())
+}
+
+/// Stores a text, and prints the number of its place.
+fn store(
+    alloc: Global,
+    stock: &mut Stock,
+    growth: Growth,
+    words: &mut Words,
+    answer: &mut Answer,
+) -> Result<(), Failure> {
+    let place = incref(alloc, stock.pool_mut()?, growth, words.name())?;
+    write!(answer, "{}", place.number());
     Ok(())
 }
 
@@ -174,36 +195,43 @@ fn write(
     words: &mut Words,
 ) -> Result<(), Failure> {
     let name = words.name();
+    let room = if words.len() > 0 {
+        Some(words.count())
+    } else {
+        None
+    };
     stock.kept.reserve(alloc, name)?;
     let mut bytes = Vec::new(alloc);
-    let outcome = write_to(alloc, stock, stream, words, &mut bytes);
+    let outcome = write_to(alloc, stock.pool()?, stream, room, &mut bytes);
     stock.kept.keep(name, bytes);
-    outcome
+    Ok(outcome?)
 }
 
-/// Writes one of the pool's streams.
+/// Writes one of a pool's streams, or its entries to a writer with room for so many bytes.
 fn write_to(
     alloc: Global,
-    stock: &Stock,
+    pool: &StringPool,
     stream: Stream,
-    words: &mut Words,
+    room: Option<usize>,
     bytes: &mut Vec<u8>,
-) -> Result<(), Failure> {
-    let pool = stock.pool()?;
-    if words.len() > 0 {
-        *bytes = vec![in alloc; 0; words.count()]?;
-        return Ok(write_to_room(pool, bytes.as_mut_slice())?);
+) -> Result<(), Error> {
+    match (room, stream) {
+        (Some(room), _) => write_to_room(alloc, pool, room, bytes),
+        (None, Stream::Places) => pool.write_pool(bytes),
+        (None, Stream::Texts) => pool.write_data(bytes),
     }
-    match stream {
-        Stream::Places => pool.write_pool(bytes)?,
-        Stream::Texts => pool.write_data(bytes)?,
-    }
-    Ok(())
 }
 
 /// Writes the entries to a writer with room for so many bytes.
-fn write_to_room(pool: &StringPool, mut room: &mut [u8]) -> Result<(), Error> {
-    pool.write_pool(&mut room)
+fn write_to_room(
+    alloc: Global,
+    pool: &StringPool,
+    room: usize,
+    bytes: &mut Vec<u8>,
+) -> Result<(), Error> {
+    *bytes = vec![in alloc; 0; room]?;
+    let mut rest: &mut [u8] = bytes.as_mut_slice();
+    pool.write_pool(&mut rest)
 }
 
 /// Returns the place of a number from 1 to 16777215, or the one of these that comes nearest.
