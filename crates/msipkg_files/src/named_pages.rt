@@ -5,6 +5,7 @@ use msi::{Error, streamname};
 use msi_recode::TextPage;
 use msipkg_output::Pages;
 use std::alloc::Global;
+use std::str;
 
 /// The property of the summary that names its page.
 const PAGE: u32 = 1;
@@ -45,6 +46,19 @@ impl NamedPages {
             summary: recoded_from(self.summary, given),
         }
     }
+}
+
+/// Returns whether a package names page 0 for its database, and the texts of that aren't UTF-8.
+///
+/// # Errors
+/// Fails if memory is refused.
+pub(crate) fn has_unnamed_texts(alloc: Global, streams: &StreamMap) -> Result<bool, Error> {
+    if !matches!(NamedPages::of(alloc, streams)?.database, Some(0)) {
+        return Ok(false);
+    }
+    let name = streamname::encode(alloc, "_StringData", true)?;
+    let texts = bytes_at(streams, name.as_str())?.unwrap_or(&[]);
+    Ok(str::from_utf8(texts).is_err())
 }
 
 /// The page that texts are recoded from, if they are.

@@ -1,7 +1,7 @@
 //! Opening the package of a file.
 
 use crate::carrier::Carrier;
-use crate::recoding::{PackageFile, Recoded, recoded_by_page, recoded_instead};
+use crate::recoding::{PackageFile, Recoded, check_unnamed, recoded_by_page, recoded_instead};
 use either::{Either, Left, Right};
 use msi::{Metered, Package, PackageType};
 use msipkg_output::Failure;
@@ -18,7 +18,7 @@ pub type Opened<F> = Metered<Carrier<F>>;
 ///
 /// # Errors
 /// Fails if the file can't be opened, as `Package::open` and `recode_file` do, if the texts are to be recoded and may
-/// not be, and as the writer does.
+/// not be, if a package that is changed has texts in a page that nothing names, and as the writer does.
 pub fn open_package<R, N>(
     rt: &R,
     file: &PackageFile<'_>,
@@ -32,6 +32,7 @@ where
     if let Some(recoded) = recoded_by_page(rt, file)? {
         return open_recoded(rt.alloc(), file, recoded, notes);
     }
+    check_unnamed(rt, file)?;
     match open_as_it_is(rt, file.path) {
         Ok(package) => Ok(package),
         Err(failure) => {

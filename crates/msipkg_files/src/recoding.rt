@@ -1,7 +1,7 @@
 //! Packages with texts in a page that packages aren't read in: they are recoded to UTF-8 first.
 
-use crate::named_pages::NamedPages;
-use msi::compound::{self, Contents};
+use crate::named_pages::{NamedPages, has_unnamed_texts};
+use msi::compound::{self, Contents, StreamMap};
 use msi_recode::{TextPage, recode_contents};
 use msipkg_output::{Cause, Failure, Pages, Shown};
 use std::alloc::Global;
@@ -9,6 +9,9 @@ use std::fs;
 use std::io::{self, Read, Write};
 use std::rc::Rc;
 use std::rt::Files;
+
+/// The refusal of a change that would lose texts.
+const UNNAMED: &str = "it names no code page, and its texts aren't UTF-8: add --page N";
 
 /// What a package is opened for.
 #[derive(Clone, Copy, Debug)]
@@ -109,6 +112,34 @@ where
         Some(_) => recode_file(rt, file),
         None => Ok(None),
     }
+}
+
+/// Fails if a package that is changed names page 0, and has texts that aren't UTF-8: they would be read with U+FFFD,
+/// and be written so.
+///
+/// # Errors
+/// Fails as the calls of the system do, too. A file that is no container isn't judged.
+pub(crate) fn check_unnamed<R>(rt: &R, file: &PackageFile<'_>) -> Result<(), Failure>
+where
+    R: Files + AllocGlobal,
+    R::File: Read + Drop,
+{
+    if matches!(file.purpose, Purpose::Look) {
+        return Ok(());
+    }
+    let bytes = Rc::new(rt.alloc(), fs::read(rt, file.path)?)?;
+    match compound::read_shared(rt.alloc(), bytes) {
+        Ok(contents) => check_streams(rt.alloc(), &contents.streams),
+        Err(_) => Ok(()),
+    }
+}
+
+/// Fails if these streams name page 0, and have texts that aren't UTF-8.
+fn check_streams(alloc: Global, streams: &StreamMap) -> Result<(), Failure> {
+    if has_unnamed_texts(alloc, streams)? {
+        return Err(Failure::rule(UNNAMED));
+    }
+    Ok(())
 }
 
 /// Returns the bytes of a package that isn't opened as it is, for this failure, with its texts in UTF-8.
