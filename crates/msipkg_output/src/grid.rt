@@ -5,13 +5,33 @@ use std::alloc::{AllocError, Global};
 use std::fmt::Display;
 use std::io::{self, Write};
 
+/// How many characters are written at a time.
+const PIECE: usize = 64;
+
+/// What columns are filled up with.
+static SPACES: [u8; PIECE] = [b' '; PIECE];
+
+/// What the line under the head is made of.
+static DASHES: [u8; PIECE] = [b'-'; PIECE];
+
 /// Rows of texts under a head.
 pub struct Grid {
     alloc: Global,
     /// How many texts a row has: at least one.
     width: usize,
     /// The texts, row by row, those of the head first.
-    cells: Vec<String>,
+    texts: String,
+    /// Where each text ends.
+    cells: Vec<Cell>,
+}
+
+/// A text of a grid.
+#[derive(Clone, Copy)]
+struct Cell {
+    /// Where it ends.
+    end: usize,
+    /// How many characters it has.
+    width: usize,
 }
 
 /// Written out, so that a function that owns one calls one drop, and its proof doesn't go through those of the parts.
@@ -20,6 +40,7 @@ impl Drop for Grid {
         let Grid {
             alloc: _,
             width: _,
+            texts: _,
             cells: _,
         } = self;
     }
@@ -31,6 +52,7 @@ impl Grid {
         Grid {
             alloc,
             width: width.max(1),
+            texts: String::new(alloc),
             cells: Vec::new(alloc),
         }
     }
@@ -42,7 +64,7 @@ impl Grid {
     pub fn headed(alloc: Global, names: &[&str]) -> Result<Grid, AllocError> {
         let mut grid = Grid::new(alloc, names.len());
         for name in names {
-            grid.put(name)?;
+            grid.push(name)?;
         }
         Ok(grid)
     }
@@ -53,15 +75,21 @@ impl Grid {
     /// Fails if memory is refused.
     pub fn put<D: Display>(&mut self, value: &D) -> Result<(), AllocError> {
         let text = value.to_string(self.alloc)?;
-        self.push(text)
+        self.push(text.as_str())
     }
 
     /// Puts the next text of a row.
     ///
     /// # Errors
     /// Fails if memory is refused.
-    pub fn push(&mut self, text: String) -> Result<(), AllocError> {
-        Ok(self.cells.push(text)?)
+    pub fn push(&mut self, text: &str) -> Result<(), AllocError> {
+        self.texts.push_str(text)?;
+        Ok(
+            self.cells.push(Cell {
+                end: self.texts.len(),
+                width: width_of(text),
+            })?,
+        )
     }
 
     /// Writes the grid as the style has it: aligned on a terminal, and else a line for each row, its texts parted by
@@ -73,8 +101,12 @@ impl Grid {
         if style.is_terminal {
             return self.write(output);
         }
-        for row in self.cells.as_slice().chunks(self.width.max(1)).skip(1) {
-            write_parted(row, output)?;
+        let mut start = 0;
+        for (number, row) in self.cells.as_slice().chunks(self.width.max(1)).enumerate() {
+            if number > 0 {
+                self.write_parted(start, row, output)?;
+            }
+            start = end_of(row);
         }
         Ok(())
     }
@@ -86,13 +118,13 @@ impl Grid {
     /// Fails if memory is refused, and as the writer does.
     pub fn write<W: Write>(&self, output: &mut W) -> io::Result<()> {
         let widths = self.widths()?;
-        let mut is_head = true;
-        for row in self.cells.as_slice().chunks(self.width.max(1)) {
-            write_row(row, widths.as_slice(), output)?;
-            if is_head {
+        let mut start = 0;
+        for (number, row) in self.cells.as_slice().chunks(self.width.max(1)).enumerate() {
+            self.write_row(start, row, widths.as_slice(), output)?;
+            if number == 0 {
                 write_dashes(widths.as_slice(), output)?;
             }
-            is_head = false;
+            start = end_of(row);
         }
         Ok(())
     }
@@ -105,42 +137,66 @@ impl Grid {
         }
         Ok(widths)
     }
+
+    /// The bytes of the text between two places.
+    fn bytes_of(&self, start: usize, end: usize) -> &[u8] {
+        self.texts.as_bytes().get(start..end).unwrap_or(&[])
+    }
+
+    /// Writes a row whose first text begins at a place, its texts filled up but for the last.
+    fn write_row<W: Write>(
+        &self,
+        start: usize,
+        row: &[Cell],
+        widths: &[usize],
+        output: &mut W,
+    ) -> io::Result<()> {
+        let mut start = start;
+        for i in 0..row.len().min(widths.len()) {
+            output.write_all(self.bytes_of(start, row[i].end))?;
+            start = row[i].end;
+            if i + 1 < row.len() {
+                write_filled(&SPACES, widths[i].saturating_sub(row[i].width), output)?;
+                output.write_all(b"  ")?;
+            }
+        }
+        output.write_all(b"\n")
+    }
+
+    /// Writes a row whose first text begins at a place, its texts parted by tabs.
+    fn write_parted<W: Write>(&self, start: usize, row: &[Cell], output: &mut W) -> io::Result<()> {
+        let (mut start, mut before) = (start, "");
+        for cell in row {
+            output.write_all(before.as_bytes())?;
+            output.write_all(self.bytes_of(start, cell.end))?;
+            start = cell.end;
+            before = "\t";
+        }
+        output.write_all(b"\n")
+    }
+}
+
+/// Where the last text of a row ends.
+fn end_of(row: &[Cell]) -> usize {
+    match row.last() {
+        Some(cell) => cell.end,
+        None => 0,
+    }
 }
 
 /// The width of a text in characters.
 fn width_of(text: &str) -> usize {
+    if text.is_ascii() {
+        return text.len();
+    }
     text.chars().count()
 }
 
 /// Makes columns wide enough for a row.
-fn widen(widths: &mut [usize], row: &[String]) {
+fn widen(widths: &mut [usize], row: &[Cell]) {
     for i in 0..widths.len().min(row.len()) {
-        widths[i] = widths[i].max(width_of(row[i].as_str()));
+        widths[i] = widths[i].max(row[i].width);
     }
-}
-
-/// Writes a row, its texts filled up but for the last.
-fn write_row<W: Write>(row: &[String], widths: &[usize], output: &mut W) -> io::Result<()> {
-    for i in 0..row.len().min(widths.len()) {
-        let text = row[i].as_str();
-        output.write_all(text.as_bytes())?;
-        if i + 1 < row.len() {
-            write_filled(b" ", widths[i].saturating_sub(width_of(text)), output)?;
-            output.write_all(b"  ")?;
-        }
-    }
-    output.write_all(b"\n")
-}
-
-/// Writes texts on a line, parted by tabs.
-fn write_parted<W: Write>(texts: &[String], output: &mut W) -> io::Result<()> {
-    let mut before = "";
-    for text in texts {
-        output.write_all(before.as_bytes())?;
-        output.write_all(text.as_bytes())?;
-        before = "\t";
-    }
-    output.write_all(b"\n")
 }
 
 /// Writes the line under the head.
@@ -148,16 +204,16 @@ fn write_dashes<W: Write>(widths: &[usize], output: &mut W) -> io::Result<()> {
     let mut before = "";
     for width in widths {
         output.write_all(before.as_bytes())?;
-        write_filled(b"-", *width, output)?;
+        write_filled(&DASHES, *width, output)?;
         before = "  ";
     }
     output.write_all(b"\n")
 }
 
-/// Writes a character so many times.
-fn write_filled<W: Write>(character: &[u8], count: usize, output: &mut W) -> io::Result<()> {
-    for _ in 0..count {
-        output.write_all(character)?;
+/// Writes so many of the same characters, by pieces.
+fn write_filled<W: Write>(piece: &[u8; PIECE], count: usize, output: &mut W) -> io::Result<()> {
+    for _ in 0..count / PIECE {
+        output.write_all(piece.as_slice())?;
     }
-    Ok(())
+    output.write_all(piece.get(..count % PIECE).unwrap_or(&[]))
 }

@@ -161,7 +161,7 @@ fn write_grid<W: Write>(printer: &Printer, rows: Rows<'_>, output: &mut W) -> Re
 /// Puts the names of columns.
 fn put_names(printer: &Printer, columns: &[Column], grid: &mut Grid) -> Result<(), AllocError> {
     for column in columns {
-        grid.push(text_of(printer, column.name())?)?;
+        grid.push(text_of(printer, column.name())?.as_str())?;
     }
     Ok(())
 }
@@ -177,9 +177,17 @@ fn put_rows(printer: &Printer, rows: Rows<'_>, grid: &mut Grid) -> Result<(), Fa
 /// Puts the values of a row.
 fn put_row(printer: &Printer, row: &Row, grid: &mut Grid) -> Result<(), AllocError> {
     for i in 0..row.len() {
-        grid.push(value_text(printer, &row[i])?)?;
+        put_value(printer, &row[i], grid)?;
     }
     Ok(())
+}
+
+/// Puts a value.
+fn put_value(printer: &Printer, value: &Value, grid: &mut Grid) -> Result<(), AllocError> {
+    match value {
+        Value::Str(text) if !printer.style.is_escaped => grid.push(text.as_str()),
+        _ => grid.push(value_text(printer, value)?.as_str()),
+    }
 }
 
 /// Writes CSV.
