@@ -358,6 +358,11 @@ static COMMANDS: [Row; 15] = [
     },
 ];
 
+/// The commands. Proofs go through all rows in each function that names the table, so this one alone does.
+fn commands() -> &'static [Row] {
+    COMMANDS.as_slice()
+}
+
 /// Parses the words behind the program's name.
 ///
 /// # Errors
@@ -368,7 +373,7 @@ pub(crate) fn matches_of<'a>(alloc: Global, words: &'a [String]) -> Result<ArgMa
 
 /// Returns the command of a name.
 pub(crate) fn verb_named(name: &str) -> Option<Verb> {
-    for row in &COMMANDS {
+    for row in commands() {
         if row.name == name {
             return Some(row.verb);
         }
@@ -385,7 +390,7 @@ fn program<'a>(alloc: Global) -> Result<Command<'a>, AllocError> {
         .no_binary_name(true)
         .propagate_version(true)
         .subcommand_required(true);
-    for row in &COMMANDS {
+    for row in commands() {
         program = program.subcommand(command_of(alloc, row)?)?;
     }
     Ok(program)
