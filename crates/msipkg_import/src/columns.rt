@@ -1,9 +1,13 @@
 //! The columns of tables that are created.
 
-use crate::rules::{RuleMap, rule_about};
+use crate::rules::rule_about;
 use msi::{Category, Column, ColumnBuilder, ColumnType, Error, Value};
 use msipkg_reading::{GivenColumn, GivenTable};
 use std::alloc::Global;
+
+/// How many columns are built at most: one more than a table may have, so that one with too many is refused, however
+/// many a file gives.
+const MOST_BUILT: usize = 33;
 
 /// Returns the columns of a table, whose values are limited as rules say.
 ///
@@ -11,11 +15,11 @@ use std::alloc::Global;
 /// Fails with `OutOfMemory`.
 pub(crate) fn built_columns(
     alloc: Global,
-    rules: &RuleMap,
+    rules: &[Vec<Value>],
     table: &GivenTable,
 ) -> Result<Vec<Column>, Error> {
-    let mut columns = Vec::with_capacity(alloc, table.columns.len())?;
-    for column in &table.columns {
+    let mut columns = Vec::new(alloc);
+    for column in table.columns.iter().take(MOST_BUILT) {
         columns.push(built_column(alloc, rules, table.name.as_str(), column)?)?;
     }
     Ok(columns)
@@ -24,11 +28,11 @@ pub(crate) fn built_columns(
 /// A column, whose values are limited as rules say.
 fn built_column(
     alloc: Global,
-    rules: &RuleMap,
+    rules: &[Vec<Value>],
     table: &str,
     column: &GivenColumn,
 ) -> Result<Column, Error> {
-    let rule = rule_about(alloc, rules, table, column.name.as_str())?;
+    let rule = rule_about(rules, table, column.name.as_str());
     let builder = flagged(column, Column::build(alloc, column.name.as_str())?);
     let builder = limited(alloc, rule, builder)?;
     Ok(match column.coltype {
@@ -58,7 +62,14 @@ fn limited(alloc: Global, rule: &[Value], builder: ColumnBuilder) -> Result<Colu
     let [_, _, _, least, greatest, table, column, category, set, _] = rule else {
         return Ok(builder);
     };
-    let builder = ranged(least, greatest, category, builder);
+    let builder = match (least, greatest) {
+        (Value::Int(least), Value::Int(greatest)) => builder.range(*least, *greatest),
+        _ => builder,
+    };
+    let builder = match category.as_str().unwrap_or("").parse::<Category>() {
+        Ok(category) => builder.category(category),
+        Err(_) => builder,
+    };
     let builder = match (table, column) {
         (Value::Str(table), Value::Int(column)) => builder.foreign_key(table.as_str(), *column)?,
         _ => builder,
@@ -66,23 +77,6 @@ fn limited(alloc: Global, rule: &[Value], builder: ColumnBuilder) -> Result<Colu
     match set {
         Value::Str(set) => listed(alloc, set.as_str(), builder),
         _ => Ok(builder),
-    }
-}
-
-/// Limits the values of a column to a range and to a category.
-fn ranged(
-    least: &Value,
-    greatest: &Value,
-    category: &Value,
-    builder: ColumnBuilder,
-) -> ColumnBuilder {
-    let builder = match (least, greatest) {
-        (Value::Int(least), Value::Int(greatest)) => builder.range(*least, *greatest),
-        _ => builder,
-    };
-    match category.as_str().unwrap_or("").parse::<Category>() {
-        Ok(category) => builder.category(category),
-        Err(_) => builder,
     }
 }
 

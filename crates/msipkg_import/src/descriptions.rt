@@ -1,6 +1,6 @@
 //! Descriptions of columns for people, which `_Validation` has.
 
-use crate::rules::{RuleMap, VALIDATION};
+use crate::rules::VALIDATION;
 use msi::{Error, Expr, Package, Source, Update, Value};
 use msipkg_output::Failure;
 use std::alloc::Global;
@@ -12,9 +12,9 @@ use std::alloc::Global;
 pub(crate) fn describe<F: Source>(
     alloc: Global,
     package: &mut Package<F>,
-    rules: &RuleMap,
+    rules: &[Vec<Value>],
 ) -> Result<(), Failure> {
-    for rule in rules.values() {
+    for rule in rules {
         describe_column(alloc, package, rule.as_slice())?;
     }
     Ok(())

@@ -58,17 +58,17 @@ fn package_row(
 ) -> Result<Vec<Value>, Error> {
     let mut values = Vec::with_capacity(alloc, columns.len())?;
     for column in columns {
-        let value = match table.place_of(column.name()) {
-            Some(place) => package_value(alloc, column.coltype(), row.get(place))?,
-            None => Value::Null,
+        let given = match table.place_of(column.name()) {
+            Some(place) => row.get(place),
+            None => None,
         };
-        values.push(value)?;
+        values.push(package_value(alloc, column.coltype(), given)?)?;
     }
     Ok(values)
 }
 
-/// The value of a column of a type. A text stands for a number or a stream there, as CSV has all values. One that
-/// doesn't is left to be refused.
+/// The value of a column of a type, which is null where none is given. A text stands for a number or a stream there, as
+/// CSV has all values. One that doesn't is left to be refused.
 fn package_value(
     alloc: Global,
     coltype: ColumnType,
@@ -77,18 +77,11 @@ fn package_value(
     let Some(value) = given else {
         return Ok(Value::Null);
     };
-    match meant(coltype, value.as_str().unwrap_or("")) {
-        Some(meant) => Ok(meant),
-        None => value.clone(alloc),
-    }
-}
-
-/// The number or the stream that a text stands for in a column of a type.
-fn meant(coltype: ColumnType, text: &str) -> Option<Value> {
-    match coltype {
-        ColumnType::Int16 | ColumnType::Int32 => Some(Value::Int(text.parse::<i32>().ok()?)),
-        ColumnType::Binary if text == STREAM => Some(Value::Binary),
-        _ => None,
+    let text = value.as_str().unwrap_or("");
+    match (coltype, text.parse::<i32>()) {
+        (ColumnType::Int16 | ColumnType::Int32, Ok(number)) => Ok(Value::Int(number)),
+        (ColumnType::Binary, _) if text == STREAM => Ok(Value::Binary),
+        _ => value.clone(alloc),
     }
 }
 

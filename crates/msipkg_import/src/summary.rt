@@ -30,17 +30,14 @@ fn clear_all(summary: &mut SummaryInfo) -> Result<(), Failure> {
     for (_, name) in &PROPERTIES {
         match *name {
             "codepage" => {}
-            "template" => clear_template(summary)?,
+            "template" => {
+                summary.clear_arch()?;
+                summary.clear_languages()?;
+            }
             name => clear_property(summary, name)?,
         }
     }
     Ok(())
-}
-
-/// Clears the architecture and the languages.
-fn clear_template(summary: &mut SummaryInfo) -> Result<(), Error> {
-    summary.clear_arch()?;
-    summary.clear_languages()
 }
 
 /// Sets a property to what a text of the installer's stands for.
@@ -77,7 +74,10 @@ fn iso_text(alloc: Global, text: &str) -> Result<String, AllocError> {
     if text.ends_with(" ticks") {
         return String::from_str(alloc, text);
     }
-    let mut iso = text.replace(alloc, '/', "-")?;
+    let mut iso = String::new(alloc);
+    for c in text.chars() {
+        iso.push(if c == '/' { '-' } else { c })?;
+    }
     iso.push('Z')?;
     Ok(iso)
 }

@@ -3,8 +3,8 @@
 use crate::columns::built_columns;
 use crate::descriptions::describe;
 use crate::rows::{check_rows, columns_of, package_rows};
-use crate::rules::{RuleMap, VALIDATION, rules_of};
-use msi::{Insert, Package, Source};
+use crate::rules::{VALIDATION, rules_of};
+use msi::{Insert, Package, Source, Value};
 use msipkg_output::Failure;
 use msipkg_reading::GivenTable;
 use std::alloc::Global;
@@ -21,8 +21,8 @@ pub(crate) fn apply_tables<F: Source>(
     tables: &[GivenTable],
 ) -> Result<(), Failure> {
     let rules = rules_of(alloc, columns_of(package, VALIDATION), tables)?;
-    create_tables(alloc, package, &rules, tables)?;
-    describe(alloc, package, &rules)?;
+    create_tables(alloc, package, rules.as_slice(), tables)?;
+    describe(alloc, package, rules.as_slice())?;
     insert_all(alloc, package, tables)
 }
 
@@ -30,7 +30,7 @@ pub(crate) fn apply_tables<F: Source>(
 fn create_tables<F: Source>(
     alloc: Global,
     package: &mut Package<F>,
-    rules: &RuleMap,
+    rules: &[Vec<Value>],
     tables: &[GivenTable],
 ) -> Result<(), Failure> {
     for table in tables {
@@ -48,7 +48,7 @@ fn create_tables<F: Source>(
 fn create_table<F: Source>(
     alloc: Global,
     package: &mut Package<F>,
-    rules: &RuleMap,
+    rules: &[Vec<Value>],
     table: &GivenTable,
 ) -> Result<(), Failure> {
     let columns = built_columns(alloc, rules, table)?;

@@ -29,13 +29,8 @@ where
     R: Files + AllocGlobal,
     R::File: Read + Drop,
 {
-    let columns = table.columns.as_slice();
-    for i in 0..row.len().min(columns.len()) {
-        if !matches!(columns[i].coltype, ColumnType::Binary) {
-            continue;
-        }
-        if let Value::Str(file) = &row[i] {
-            let stream = stream_of(rt, archive, table, row, file.as_str())?;
+    for i in 0..row.len() {
+        if let Some(stream) = stream_at(rt, archive, table, row, i)? {
             given.streams.push(stream)?;
             row[i] = Value::Binary;
         }
@@ -43,24 +38,35 @@ where
     Ok(())
 }
 
-/// The stream of a row whose bytes a file has.
-fn stream_of<R>(
+/// The stream of a row whose bytes the file has that stands at a place, if one stands there.
+fn stream_at<R>(
     rt: &R,
     archive: &str,
     table: &GivenTable,
     row: &[Value],
-    file: &str,
-) -> Result<GivenStream, Failure>
+    place: usize,
+) -> Result<Option<GivenStream>, Failure>
 where
     R: Files + AllocGlobal,
     R::File: Read + Drop,
 {
+    let Some(file) = file_at(table, row, place) else {
+        return Ok(None);
+    };
     let bytes = match read_file(rt, archive, file) {
         Ok(bytes) => bytes,
-        Err(failure) => return Err(at_part(rt.alloc(), failure, archive, ": file", file)),
+        Err(failure) => return Err(at_part(rt.alloc(), failure, archive, "file", file)),
     };
     let name = stream_name(rt.alloc(), table, row)?;
-    Ok(GivenStream { name, bytes })
+    Ok(Some(GivenStream { name, bytes }))
+}
+
+/// The name of the file that stands at a place of a row, if the column there is one of streams.
+fn file_at<'a>(table: &GivenTable, row: &'a [Value], place: usize) -> Option<&'a str> {
+    match table.columns.get(place)?.coltype {
+        ColumnType::Binary => row.get(place)?.as_str(),
+        _ => None,
+    }
 }
 
 /// The name of a row's stream: its table and the values of its key, parted by dots. A stream that no row of a table has
@@ -90,7 +96,9 @@ where
     if !is_file_name(file) {
         return Err(Failure::rule("the archive's folder can't have this file"));
     }
-    let folder = Path::new(archive).with_extension(rt.alloc(), "")?;
+    let folder = Path::new(archive)
+        .with_extension(rt.alloc(), "")?
+        .into_string();
     let path = path_in(rt.alloc(), folder.as_str(), file)?;
     read_plain(rt, folder.as_str(), path.as_str())
 }

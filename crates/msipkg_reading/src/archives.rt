@@ -1,7 +1,7 @@
 //! What text archives give.
 
 use crate::archive_streams::{STREAMS, take_streams};
-use crate::given::{Given, GivenColumn, GivenTable, add_property, page_of};
+use crate::given::{Given, GivenColumn, GivenProperty, GivenTable, page_of};
 use crate::places::at_part;
 use msi::{CodePage, Value};
 use msi_text_archive::{Archive, ArchiveColumn, ArchiveError, read};
@@ -51,7 +51,7 @@ fn failure_of(alloc: Global, path: &str, error: &ArchiveError) -> Failure {
     };
     let (line, field) = (place.line, place.field);
     match format!(in alloc; "{line}, field {field}") {
-        Ok(name) => at_part(alloc, failure, path, ": line", name.as_str()),
+        Ok(name) => at_part(alloc, failure, path, "line", name.as_str()),
         Err(_) => failure,
     }
 }
@@ -88,7 +88,7 @@ fn take_summary(alloc: Global, archive: &Archive, given: &mut Given) -> Result<(
             return Err(Failure::rule("its rows have to be numbers and texts"));
         };
         if let Some(name) = name_of(id) {
-            add_property(alloc, name, text, &mut properties)?;
+            properties.push(GivenProperty::new(alloc, name, text)?)?;
         }
     }
     given.summary = Some(properties);

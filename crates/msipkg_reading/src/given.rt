@@ -82,7 +82,7 @@ impl GivenTable {
     /// # Errors
     /// Fails if memory is refused.
     pub(crate) fn new(alloc: Global, file: &str, name: &str) -> Result<GivenTable, AllocError> {
-        let place = part_of(alloc, file, ": table", name)?;
+        let place = part_of(alloc, file, "table", name)?;
         Ok(GivenTable {
             place,
             name: String::from_str(alloc, name)?,
@@ -125,7 +125,7 @@ impl GivenTable {
 
     /// Returns a failure at a column.
     pub fn at_column(&self, alloc: Global, failure: Failure, column: &str) -> Failure {
-        at_part(alloc, failure, self.place.as_str(), ", column", column)
+        at_part(alloc, failure, self.place.as_str(), "column", column)
     }
 
     /// Returns a failure at the row of a place, which people count from 1 on, and at a column of it, unless that is the
@@ -134,7 +134,7 @@ impl GivenTable {
         let number = place.saturating_add(1);
         let between = if column.is_empty() { "" } else { ", column " };
         match format!(in alloc; "{number}{between}{column}") {
-            Ok(row) => at_part(alloc, failure, self.place.as_str(), ", row", row.as_str()),
+            Ok(row) => at_part(alloc, failure, self.place.as_str(), "row", row.as_str()),
             Err(_) => failure,
         }
     }
@@ -167,6 +167,21 @@ pub struct GivenProperty {
 impl Drop for GivenProperty {
     fn drop(self) {
         let GivenProperty { name: _, text: _ } = self;
+    }
+}
+
+impl GivenProperty {
+    /// Returns a property of a name and a text.
+    ///
+    /// # Errors
+    /// Fails if memory is refused.
+    pub(crate) fn new(
+        alloc: Global,
+        name: &'static str,
+        text: &str,
+    ) -> Result<GivenProperty, AllocError> {
+        let text = String::from_str(alloc, text)?;
+        Ok(GivenProperty { name, text })
     }
 }
 
@@ -215,18 +230,4 @@ pub(crate) fn page_of(number: i32) -> Result<CodePage, Failure> {
         Some(page) => Ok(page),
         None => Err(Failure::rule("it names a code page that isn't known")),
     }
-}
-
-/// Adds a property to those of a summary.
-///
-/// # Errors
-/// Fails if memory is refused.
-pub(crate) fn add_property(
-    alloc: Global,
-    name: &'static str,
-    text: &str,
-    properties: &mut Vec<GivenProperty>,
-) -> Result<(), AllocError> {
-    let text = String::from_str(alloc, text)?;
-    Ok(properties.push(GivenProperty { name, text })?)
 }

@@ -1,10 +1,11 @@
 //! Packages from JSON, as `export` writes them.
 
-use crate::given::{Given, GivenStream, add_property, page_of};
-use crate::json_tables::read_tables;
+use crate::given::{Given, GivenProperty, GivenStream, page_of};
+use crate::json_tables::table_of;
 use crate::places::at_part;
 use base64::DecodeAllocError;
 use base64::engine::general_purpose::STANDARD;
+use msi::CodePage;
 use msipkg_output::{Failure, PROPERTIES};
 use serde_json::Value;
 use std::alloc::{AllocError, Global};
@@ -33,32 +34,33 @@ fn read_package(
     let Some(tables) = items_in(package, "tables") else {
         return Err(Failure::rule("it is no package, since it has no list of tables"));
     };
-    if let Some(summary) = package.get("summary") {
-        read_page(package, given)?;
-        read_summary(alloc, path, summary, given)?;
+    for table in tables {
+        given.tables.push(table_of(alloc, path, table)?)?;
     }
-    read_tables(alloc, path, tables, given)?;
+    if let Some(summary) = package.get("summary") {
+        given.page = page_in(package)?;
+        given.summary = Some(properties_of(alloc, path, summary)?);
+    }
     match package.get("streams") {
         Some(streams) => read_streams(alloc, path, streams, given),
         None => Ok(()),
     }
 }
 
-/// Adds the code page of a whole package.
-fn read_page(package: &Value, given: &mut Given) -> Result<(), Failure> {
-    if let Some(number) = package.get("codepage") {
-        given.page = Some(page_of(number_of(number).unwrap_or(-1))?);
+/// The code page of a whole package.
+fn page_in(package: &Value) -> Result<Option<CodePage>, Failure> {
+    match package.get("codepage") {
+        Some(number) => Ok(Some(page_of(number_of(number).unwrap_or(-1))?)),
+        None => Ok(None),
     }
-    Ok(())
 }
 
-/// Adds the summary.
-fn read_summary(
+/// The properties of a summary.
+fn properties_of(
     alloc: Global,
     path: &str,
     summary: &Value,
-    given: &mut Given,
-) -> Result<(), Failure> {
+) -> Result<Vec<GivenProperty>, Failure> {
     let mut properties = Vec::new(alloc);
     for (_, name) in &PROPERTIES {
         let Some(property) = summary.get(*name) else {
@@ -66,12 +68,11 @@ fn read_summary(
         };
         let Some(text) = property.as_str() else {
             let failure = Failure::rule("its value has to be a text");
-            return Err(at_part(alloc, failure, path, ": summary property", name));
+            return Err(at_part(alloc, failure, path, "summary property", name));
         };
-        add_property(alloc, name, text, &mut properties)?;
+        properties.push(GivenProperty::new(alloc, name, text)?)?;
     }
-    given.summary = Some(properties);
-    Ok(())
+    Ok(properties)
 }
 
 /// Adds streams.
@@ -95,7 +96,7 @@ fn stream_of(alloc: Global, path: &str, stream: &Value) -> Result<GivenStream, F
     let name = text_in(stream, "stream").unwrap_or("");
     let Some(text) = text_in(stream, "base64") else {
         let failure = Failure::rule("it has no bytes in base64");
-        return Err(at_part(alloc, failure, path, ": stream", name));
+        return Err(at_part(alloc, failure, path, "stream", name));
     };
     match STANDARD.decode(alloc, text.as_bytes()) {
         Ok(bytes) => Ok(GivenStream {
@@ -105,7 +106,7 @@ fn stream_of(alloc: Global, path: &str, stream: &Value) -> Result<GivenStream, F
         Err(DecodeAllocError::OutOfMemory) => Err(Failure::from(AllocError)),
         Err(_) => {
             let failure = Failure::rule("its bytes are no base64");
-            Err(at_part(alloc, failure, path, ": stream", name))
+            Err(at_part(alloc, failure, path, "stream", name))
         }
     }
 }

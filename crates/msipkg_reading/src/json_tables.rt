@@ -1,30 +1,17 @@
 //! Tables from JSON, as `export` writes them.
 
-use crate::given::{Given, GivenColumn, GivenTable};
+use crate::given::{GivenColumn, GivenTable};
 use crate::json_packages::{items_in, number_of, text_in};
 use msi::{ColumnType, Error, Value};
 use msipkg_output::Failure;
 use serde_json::Value as Json;
 use std::alloc::Global;
 
-/// Adds tables.
+/// Returns a table.
 ///
 /// # Errors
-/// Fails at a table, a row or a column that isn't one as `export` writes it, and if memory is refused.
-pub(crate) fn read_tables(
-    alloc: Global,
-    path: &str,
-    tables: &[Json],
-    given: &mut Given,
-) -> Result<(), Failure> {
-    for table in tables {
-        given.tables.push(table_of(alloc, path, table)?)?;
-    }
-    Ok(())
-}
-
-/// A table.
-fn table_of(alloc: Global, path: &str, item: &Json) -> Result<GivenTable, Failure> {
+/// Fails if it isn't one as `export` writes it, at the row and the column, and if memory is refused.
+pub(crate) fn table_of(alloc: Global, path: &str, item: &Json) -> Result<GivenTable, Failure> {
     let mut table = GivenTable::new(alloc, path, text_in(item, "table").unwrap_or(""))?;
     read_columns(alloc, item, &mut table)?;
     read_rows(alloc, item, &mut table)?;

@@ -3,7 +3,7 @@
 use msipkg_output::Failure;
 use std::alloc::{AllocError, Global};
 
-/// Returns the text of a part of a place: the place, what kind of part it is, and its name.
+/// Returns the text of a part of a place: the place, of what kind the part is, and its name.
 ///
 /// # Errors
 /// Fails if memory is refused.
@@ -13,7 +13,7 @@ pub(crate) fn part_of(
     kind: &str,
     name: &str,
 ) -> Result<String, AllocError> {
-    format!(in alloc; "{place}{kind} {name}")
+    format!(in alloc; "{place}: {kind} {name}")
 }
 
 /// Returns a failure at a part of a place in a file. If memory for its text is refused, the failure has no place.
