@@ -9,6 +9,7 @@ use msipkg_changes::{
     set_pages, set_properties, store,
 };
 use msipkg_files::{Opened, Purpose, new_package, open_package, write_file, written};
+use msipkg_import::import_files;
 use msipkg_output::Failure;
 use std::alloc::Global;
 use std::fs::OpenFile;
@@ -18,7 +19,7 @@ use std::rt::Files;
 /// Whether a command changes a package, and prints nothing.
 pub(crate) fn is_change(asked: &Asked<'_, '_>) -> bool {
     match asked.verb {
-        Verb::New | Verb::Add | Verb::Remove | Verb::Exec | Verb::Batch => true,
+        Verb::New | Verb::Add | Verb::Remove | Verb::Exec | Verb::Import | Verb::Batch => true,
         Verb::Summary => !asked.texts("set").is_empty() || !asked.texts("clear").is_empty(),
         _ => false,
     }
@@ -99,6 +100,7 @@ where
         Verb::Add => add_streams(rt, package, asked.texts("NAME=PATH")),
         Verb::Remove => remove_streams(rt.alloc(), package, asked.texts("NAME")),
         Verb::Exec => carry_out_statements(rt.alloc(), package, asked.texts("TEXT")),
+        Verb::Import => import_files(rt, package, asked.texts("PATH")),
         _ => {
             let (set, cleared) = (asked.texts("set"), asked.texts("clear"));
             set_properties(rt.alloc(), package, set, cleared)

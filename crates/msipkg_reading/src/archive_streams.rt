@@ -1,0 +1,123 @@
+//! The streams of text archives, each in a file of the folder that has the archive's name without its ending.
+
+use crate::given::{Given, GivenStream, GivenTable};
+use crate::places::at_part;
+use msi::{ColumnType, Value};
+use msipkg_files::path_in;
+use msipkg_output::{Failure, push_key};
+use std::alloc::{AllocError, Global};
+use std::fs;
+use std::io::Read;
+use std::path::Path;
+use std::rt::Files;
+
+/// The archive of the streams that no row of a table has.
+pub(crate) const STREAMS: &str = "_Streams";
+
+/// Reads the files that a row names for its streams. Its values become marks for these.
+///
+/// # Errors
+/// Fails if a file can't be read or doesn't lie in the archive's folder, and if memory is refused.
+pub(crate) fn take_streams<R>(
+    rt: &R,
+    archive: &str,
+    table: &GivenTable,
+    row: &mut [Value],
+    given: &mut Given,
+) -> Result<(), Failure>
+where
+    R: Files + AllocGlobal,
+    R::File: Read + Drop,
+{
+    for i in 0..row.len() {
+        if let Some(stream) = stream_at(rt, archive, table, row, i)? {
+            given.streams.push(stream)?;
+            row[i] = Value::Binary;
+        }
+    }
+    Ok(())
+}
+
+/// The stream of a row whose bytes the file has that stands at a place, if one stands there.
+fn stream_at<R>(
+    rt: &R,
+    archive: &str,
+    table: &GivenTable,
+    row: &[Value],
+    place: usize,
+) -> Result<Option<GivenStream>, Failure>
+where
+    R: Files + AllocGlobal,
+    R::File: Read + Drop,
+{
+    let Some(file) = file_at(table, row, place) else {
+        return Ok(None);
+    };
+    let bytes = match read_file(rt, archive, file) {
+        Ok(bytes) => bytes,
+        Err(failure) => return Err(at_part(rt.alloc(), failure, archive, "file", file)),
+    };
+    let name = stream_name(rt.alloc(), table, row)?;
+    Ok(Some(GivenStream { name, bytes }))
+}
+
+/// The name of the file that stands at a place of a row, if the column there is one of streams.
+fn file_at<'a>(table: &GivenTable, row: &'a [Value], place: usize) -> Option<&'a str> {
+    match table.columns.get(place)?.coltype {
+        ColumnType::Binary => row.get(place)?.as_str(),
+        _ => None,
+    }
+}
+
+/// The name of a row's stream: its table and the values of its key, parted by dots. A stream that no row of a table has
+/// is named by the key alone.
+fn stream_name(alloc: Global, table: &GivenTable, row: &[Value]) -> Result<String, AllocError> {
+    let mut name = String::new(alloc);
+    if table.name.as_str() != STREAMS {
+        name.push_str(table.name.as_str())?;
+    }
+    for i in 0..row.len().min(table.columns.len()) {
+        if table.columns[i].is_key {
+            if !name.is_empty() {
+                name.push('.')?;
+            }
+            push_key(&row[i], &mut name)?;
+        }
+    }
+    Ok(name)
+}
+
+/// The bytes of a file in the folder of an archive.
+fn read_file<R>(rt: &R, archive: &str, file: &str) -> Result<Vec<u8>, Failure>
+where
+    R: Files + AllocGlobal,
+    R::File: Read + Drop,
+{
+    if !is_file_name(file) {
+        return Err(Failure::rule("the archive's folder can't have this file"));
+    }
+    let folder = Path::new(archive)
+        .with_extension(rt.alloc(), "")?
+        .into_string();
+    let path = path_in(rt.alloc(), folder.as_str(), file)?;
+    read_plain(rt, folder.as_str(), path.as_str())
+}
+
+/// Whether a name is that of a file in a folder itself, and leads out of none.
+fn is_file_name(name: &str) -> bool {
+    Path::new(name).file_name() == Some(name) && !name.contains('\\')
+}
+
+/// The bytes of a file that is no link, in a folder that is none, so that an archive gives no other files of the
+/// machine.
+fn read_plain<R>(rt: &R, folder: &str, path: &str) -> Result<Vec<u8>, Failure>
+where
+    R: Files + AllocGlobal,
+    R::File: Read + Drop,
+{
+    let is_folder = fs::symlink_metadata(rt, folder)?.is_dir();
+    if !is_folder || !fs::symlink_metadata(rt, path)?.is_file() {
+        return Err(Failure::rule("it is no regular file, or its folder or itself is a link"));
+    }
+    Ok(fs::read(rt, path)?)
+}
