@@ -36,9 +36,10 @@ fn apply<F: Source>(alloc: Global, package: &mut Package<F>, given: &Given) -> R
     }
     apply_tables(alloc, package, given.tables.as_slice())?;
     apply_streams(alloc, package, given.streams.as_slice())?;
-    match &given.summary {
-        Some(properties) => apply_summary(alloc, package, properties.as_slice()),
-        None => Ok(()),
+    if given.has_summary {
+        apply_summary(alloc, package, given.summary.as_slice())
+    } else {
+        Ok(())
     }
 }
 

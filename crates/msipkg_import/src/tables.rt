@@ -22,11 +22,10 @@ pub(crate) fn apply_tables<F: Source>(
 ) -> Result<(), Failure> {
     let rules = rules_of(alloc, columns_of(package, VALIDATION), tables)?;
     create_tables(alloc, package, rules.as_slice(), tables)?;
-    describe(alloc, package, rules.as_slice())?;
     insert_all(alloc, package, tables)
 }
 
-/// Creates the tables that aren't there.
+/// Creates the tables that aren't there, and describes columns.
 fn create_tables<F: Source>(
     alloc: Global,
     package: &mut Package<F>,
@@ -41,7 +40,7 @@ fn create_tables<F: Source>(
             return Err(table.at_table(alloc, failure));
         }
     }
-    Ok(())
+    describe(alloc, package, rules)
 }
 
 /// Creates a table.

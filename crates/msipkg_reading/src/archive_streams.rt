@@ -2,7 +2,7 @@
 
 use crate::given::{Given, GivenStream, GivenTable};
 use crate::places::at_part;
-use msi::{ColumnType, Value};
+use msi::{ColumnType, Error, Value};
 use msipkg_files::path_in;
 use msipkg_output::{Failure, push_key};
 use std::alloc::{AllocError, Global};
@@ -14,51 +14,64 @@ use std::rt::Files;
 /// The archive of the streams that no row of a table has.
 pub(crate) const STREAMS: &str = "_Streams";
 
-/// Reads the files that a row names for its streams. Its values become marks for these.
+/// The ending of an archive's path, in whatever case.
+const ENDING: &str = ".idt";
+
+/// Returns a row of an archive, with marks in place of the files of its streams, which are read.
 ///
 /// # Errors
 /// Fails if a file can't be read or doesn't lie in the archive's folder, and if memory is refused.
-pub(crate) fn take_streams<R>(
+pub(crate) fn row_with_streams<R>(
     rt: &R,
     archive: &str,
     table: &GivenTable,
-    row: &mut [Value],
+    row: &[Value],
     given: &mut Given,
-) -> Result<(), Failure>
+) -> Result<Vec<Value>, Failure>
 where
     R: Files + AllocGlobal,
     R::File: Read + Drop,
 {
+    let mut values = Vec::with_capacity(rt.alloc(), row.len())?;
     for i in 0..row.len() {
-        if let Some(stream) = stream_at(rt, archive, table, row, i)? {
-            given.streams.push(stream)?;
-            row[i] = Value::Binary;
-        }
+        let is_stream = take_stream(rt, archive, table, row, i, given)?;
+        values.push(value_or_mark(rt.alloc(), &row[i], is_stream)?)?;
     }
-    Ok(())
+    Ok(values)
 }
 
-/// The stream of a row whose bytes the file has that stands at a place, if one stands there.
-fn stream_at<R>(
+/// A copy of a value, or the mark for a stream.
+fn value_or_mark(alloc: Global, value: &Value, is_stream: bool) -> Result<Value, Error> {
+    if is_stream {
+        Ok(Value::Binary)
+    } else {
+        value.clone(alloc)
+    }
+}
+
+/// Adds the stream of a row whose file stands at a place, and returns whether one stands there.
+fn take_stream<R>(
     rt: &R,
     archive: &str,
     table: &GivenTable,
     row: &[Value],
     place: usize,
-) -> Result<Option<GivenStream>, Failure>
+    given: &mut Given,
+) -> Result<bool, Failure>
 where
     R: Files + AllocGlobal,
     R::File: Read + Drop,
 {
     let Some(file) = file_at(table, row, place) else {
-        return Ok(None);
+        return Ok(false);
     };
     let bytes = match read_file(rt, archive, file) {
         Ok(bytes) => bytes,
         Err(failure) => return Err(at_part(rt.alloc(), failure, archive, "file", file)),
     };
     let name = stream_name(rt.alloc(), table, row)?;
-    Ok(Some(GivenStream { name, bytes }))
+    given.streams.push(GivenStream { name, bytes })?;
+    Ok(true)
 }
 
 /// The name of the file that stands at a place of a row, if the column there is one of streams.
@@ -96,11 +109,10 @@ where
     if !is_file_name(file) {
         return Err(Failure::rule("the archive's folder can't have this file"));
     }
-    let folder = Path::new(archive)
-        .with_extension(rt.alloc(), "")?
-        .into_string();
-    let path = path_in(rt.alloc(), folder.as_str(), file)?;
-    read_plain(rt, folder.as_str(), path.as_str())
+    let end = archive.len().saturating_sub(ENDING.len());
+    let folder = archive.get(..end).unwrap_or("");
+    let path = path_in(rt.alloc(), folder, file)?;
+    read_plain(rt, folder, path.as_str())
 }
 
 /// Whether a name is that of a file in a folder itself, and leads out of none.

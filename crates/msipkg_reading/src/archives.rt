@@ -1,7 +1,7 @@
 //! What text archives give.
 
-use crate::archive_streams::{STREAMS, take_streams};
-use crate::given::{Given, GivenColumn, GivenProperty, GivenTable, page_of};
+use crate::archive_streams::{STREAMS, row_with_streams};
+use crate::given::{Given, GivenColumn, GivenTable, page_of};
 use crate::places::at_part;
 use msi::{CodePage, Value};
 use msi_text_archive::{Archive, ArchiveColumn, ArchiveError, read};
@@ -27,9 +27,18 @@ where
     R::File: Read + Drop,
 {
     let archive = archive_in(rt.alloc(), path, bytes)?;
+    take_archive(rt, path, &archive, given)
+}
+
+/// Adds what an archive gives, which is lent, since its drop is a long one.
+fn take_archive<R>(rt: &R, path: &str, archive: &Archive, given: &mut Given) -> Result<(), Failure>
+where
+    R: Files + AllocGlobal,
+    R::File: Read + Drop,
+{
     match archive.table() {
-        "_ForceCodepage" => take_page(&archive, given),
-        "_SummaryInformation" => take_summary(rt.alloc(), &archive, given),
+        "_ForceCodepage" => take_page(archive, given),
+        "_SummaryInformation" => take_summary(rt.alloc(), archive, given),
         _ => take_table(rt, path, archive, given),
     }
 }
@@ -82,16 +91,15 @@ fn take_page(archive: &Archive, given: &mut Given) -> Result<(), Failure> {
 
 /// Adds the summary. A property that no call of the library sets, as a thumbnail, is passed over.
 fn take_summary(alloc: Global, archive: &Archive, given: &mut Given) -> Result<(), Failure> {
-    let mut properties = Vec::new(alloc);
+    given.has_summary = true;
     for row in archive.rows() {
         let Some((id, text)) = property_in(row.as_slice()) else {
             return Err(Failure::rule("its rows have to be numbers and texts"));
         };
         if let Some(name) = name_of(id) {
-            properties.push(GivenProperty::new(alloc, name, text)?)?;
+            given.add_property(alloc, name, text)?;
         }
     }
-    given.summary = Some(properties);
     Ok(())
 }
 
@@ -115,13 +123,13 @@ fn name_of(id: i32) -> Option<&'static str> {
 }
 
 /// Adds a table and the streams of its rows. That of the streams that no row has is none itself.
-fn take_table<R>(rt: &R, path: &str, archive: Archive, given: &mut Given) -> Result<(), Failure>
+fn take_table<R>(rt: &R, path: &str, archive: &Archive, given: &mut Given) -> Result<(), Failure>
 where
     R: Files + AllocGlobal,
     R::File: Read + Drop,
 {
     let mut table = GivenTable::new(rt.alloc(), path, archive.table())?;
-    take_columns(rt.alloc(), &archive, &mut table)?;
+    take_columns(rt.alloc(), archive, &mut table)?;
     take_rows(rt, path, archive, &mut table, given)?;
     if table.name.as_str() != STREAMS {
         given.tables.push(table)?;
@@ -133,7 +141,7 @@ where
 fn take_rows<R>(
     rt: &R,
     path: &str,
-    archive: Archive,
+    archive: &Archive,
     table: &mut GivenTable,
     given: &mut Given,
 ) -> Result<(), Failure>
@@ -141,10 +149,9 @@ where
     R: Files + AllocGlobal,
     R::File: Read + Drop,
 {
-    for row in archive.into_rows().into_vec() {
-        let mut values = row.into_vec();
-        take_streams(rt, path, table, values.as_mut_slice(), given)?;
-        table.add_row(rt.alloc(), values)?;
+    for row in archive.rows() {
+        let row = row_with_streams(rt, path, table, row.as_slice(), given)?;
+        table.add_row(rt.alloc(), row)?;
     }
     Ok(())
 }

@@ -170,27 +170,14 @@ impl Drop for GivenProperty {
     }
 }
 
-impl GivenProperty {
-    /// Returns a property of a name and a text.
-    ///
-    /// # Errors
-    /// Fails if memory is refused.
-    pub(crate) fn new(
-        alloc: Global,
-        name: &'static str,
-        text: &str,
-    ) -> Result<GivenProperty, AllocError> {
-        let text = String::from_str(alloc, text)?;
-        Ok(GivenProperty { name, text })
-    }
-}
-
 /// What files give.
 pub struct Given {
     /// The code page of the database.
     pub page: Option<CodePage>,
-    /// The properties of the summary, if there is one.
-    pub summary: Option<Vec<GivenProperty>>,
+    /// Whether there is a summary.
+    pub has_summary: bool,
+    /// The properties of the summary.
+    pub summary: Vec<GivenProperty>,
     /// The tables, `_Validation` among them.
     pub tables: Vec<GivenTable>,
     /// The streams.
@@ -202,6 +189,7 @@ impl Drop for Given {
     fn drop(self) {
         let Given {
             page: _,
+            has_summary: _,
             summary: _,
             tables: _,
             streams: _,
@@ -214,10 +202,25 @@ impl Given {
     pub(crate) fn new(alloc: Global) -> Given {
         Given {
             page: None,
-            summary: None,
+            has_summary: false,
+            summary: Vec::new(alloc),
             tables: Vec::new(alloc),
             streams: Vec::new(alloc),
         }
+    }
+
+    /// Adds a property to the summary.
+    ///
+    /// # Errors
+    /// Fails if memory is refused.
+    pub(crate) fn add_property(
+        &mut self,
+        alloc: Global,
+        name: &'static str,
+        text: &str,
+    ) -> Result<(), AllocError> {
+        let text = String::from_str(alloc, text)?;
+        Ok(self.summary.push(GivenProperty { name, text })?)
     }
 }
 

@@ -1,6 +1,6 @@
 //! Packages from JSON, as `export` writes them.
 
-use crate::given::{Given, GivenProperty, GivenStream, page_of};
+use crate::given::{Given, GivenStream, page_of};
 use crate::json_tables::table_of;
 use crate::places::at_part;
 use base64::DecodeAllocError;
@@ -39,7 +39,7 @@ fn read_package(
     }
     if let Some(summary) = package.get("summary") {
         given.page = page_in(package)?;
-        given.summary = Some(properties_of(alloc, path, summary)?);
+        read_summary(alloc, path, summary, given)?;
     }
     match package.get("streams") {
         Some(streams) => read_streams(alloc, path, streams, given),
@@ -55,13 +55,14 @@ fn page_in(package: &Value) -> Result<Option<CodePage>, Failure> {
     }
 }
 
-/// The properties of a summary.
-fn properties_of(
+/// Adds the summary.
+fn read_summary(
     alloc: Global,
     path: &str,
     summary: &Value,
-) -> Result<Vec<GivenProperty>, Failure> {
-    let mut properties = Vec::new(alloc);
+    given: &mut Given,
+) -> Result<(), Failure> {
+    given.has_summary = true;
     for (_, name) in &PROPERTIES {
         let Some(property) = summary.get(*name) else {
             continue;
@@ -70,9 +71,9 @@ fn properties_of(
             let failure = Failure::rule("its value has to be a text");
             return Err(at_part(alloc, failure, path, "summary property", name));
         };
-        properties.push(GivenProperty::new(alloc, name, text)?)?;
+        given.add_property(alloc, name, text)?;
     }
-    Ok(properties)
+    Ok(())
 }
 
 /// Adds streams.
