@@ -21,10 +21,10 @@ const OPENED: [(Given, Option<ErrorKind>); 4] = [
 ];
 
 /// A path that no other test uses, where nothing stands yet.
-fn path(rt: &HostRuntime) -> io::Result<String> {
+pub(crate) fn path(rt: &HostRuntime, name: &str) -> io::Result<String> {
     let folder = env::temp_dir(rt)?;
     let id = process::id(rt.process());
-    Ok(format!(in rt.alloc(); "{}/msi-{id}-files", folder.as_path().display())?)
+    Ok(format!(in rt.alloc(); "{}/msi-{id}-{name}", folder.as_path().display())?)
 }
 
 /// Puts what is given at a path, where `package` is the file of a package.
@@ -56,7 +56,7 @@ fn is_left_alone(rt: &HostRuntime, path: &str, kind: Option<ErrorKind>) -> bool 
 
 /// Checks what opening takes and refuses, and that it leaves the file as it was.
 pub(crate) fn opening_leaves_the_file_as_it_was(rt: &HostRuntime) -> io::Result<bool> {
-    let path = path(rt)?;
+    let path = path(rt, "files")?;
     let Ok(package) = file(rt.alloc()) else {
         return Ok(false);
     };

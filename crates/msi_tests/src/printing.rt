@@ -1,8 +1,8 @@
 //! The rows of a package that a query selects, printed as CSV: the second example of the README, and a test that it
 //! works.
 
+use crate::files::path;
 use crate::readme::file;
-use crate::runs::path;
 use csv::Writer;
 use msi::{Parse, Row, Rows, Select, Value};
 use std::alloc::{AllocError, Global};

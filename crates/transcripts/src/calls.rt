@@ -1,11 +1,13 @@
 //! The calls by their names, and the answer of each.
 
 use crate::changes::{self, Change};
+use crate::commands::{self, Streams};
 use crate::looks::{self, Look};
 use crate::packages::{self, PackageCall};
 use crate::session::Session;
 use crate::{devices, summaries};
 use std::alloc::Global;
+use std::fs::OpenFile;
 use std::io::{Read, Seek, Write};
 use std::rt::Files;
 use transcripts_queries::cells::{self, CellCall};
@@ -31,6 +33,10 @@ enum Call {
     Look(Look),
     Bytes(BytesCall),
     File(FileCall),
+    /// Keeps the bytes of a file.
+    Load,
+    /// Runs a command of `msidb`.
+    Command(Streams),
     Text(TextCall),
     /// Makes a call on the name of a stream.
     StreamName,
@@ -52,7 +58,7 @@ enum Call {
 }
 
 /// Each call by its name.
-static CALLS: [(&str, Call); 101] = [
+static CALLS: [(&str, Call); 106] = [
     ("device", Call::Package(PackageCall::Device)),
     ("create", Call::Package(PackageCall::Create)),
     ("open", Call::Package(PackageCall::Open)),
@@ -115,6 +121,11 @@ static CALLS: [(&str, Call); 101] = [
     ("stream_name", Call::StreamName),
     ("on_device", Call::OnDevice),
     ("save", Call::File(FileCall::Save)),
+    ("load", Call::Load),
+    ("msidb", Call::Command(Streams::Sound)),
+    ("msidb_broken", Call::Command(Streams::Broken)),
+    ("msidb_unflushed", Call::Command(Streams::Unflushed)),
+    ("msidb_moving", Call::Command(Streams::Moving)),
     ("decode", Call::Text(TextCall::Decode)),
     ("encode", Call::Text(TextCall::Encode)),
     ("carries", Call::Text(TextCall::Carries)),
@@ -162,6 +173,11 @@ static CALLS: [(&str, Call); 101] = [
     ("parse_nested", Call::Parse(Parsed::Nested)),
 ];
 
+/// The calls. Proofs go through all rows in each function that names the table, so this one alone does.
+fn known_calls() -> &'static [(&'static str, Call)] {
+    CALLS.as_slice()
+}
+
 /// Makes a call, and prints its answer as lines. Fails if the line can't be read, if the call is refused, and if memory
 /// runs out.
 pub(crate) fn make<R>(
@@ -172,10 +188,14 @@ pub(crate) fn make<R>(
 ) -> Result<(), Failure>
 where
     R: Files + AllocGlobal,
-    R::File: Read + Write + Seek + Drop,
+    R::File: OpenFile + Read + Write + Seek + Drop,
 {
-    let outcome = match words.one_of(&CALLS) {
+    let outcome = match words.one_of(known_calls()) {
         Some(Call::File(call)) => files::make(rt, &session.stock.kept, call, words, answer),
+        Some(Call::Load) => load(rt, session, words, answer),
+        Some(Call::Command(streams)) => {
+            commands::make(rt, &session.stock.kept, streams, words, answer)
+        }
         Some(call) => make_other(rt.alloc(), session, call, words, answer),
         None => Err(Failure::Unreadable("there is no such call")),
     };
@@ -183,6 +203,22 @@ where
     outcome?;
     words.end()?;
     answer.check()
+}
+
+/// Keeps the bytes of a file.
+fn load<R>(
+    rt: &R,
+    session: &mut Session,
+    words: &mut Words,
+    answer: &mut Answer,
+) -> Result<(), Failure>
+where
+    R: Files + AllocGlobal,
+    R::File: Read + Drop,
+{
+    commands::load(rt, &mut session.stock.kept, words)?;
+    answer.push_str("ok");
+    Ok(())
 }
 
 /// Makes a call that touches no file.

@@ -7,6 +7,7 @@
 
 mod calls;
 mod changes;
+mod commands;
 mod cursors;
 mod devices;
 mod looks;

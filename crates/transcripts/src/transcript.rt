@@ -2,6 +2,7 @@
 
 use crate::session::Session;
 use crate::{calls, cursors, trials};
+use std::fs::OpenFile;
 use std::io::{Read, Seek, Write};
 use std::rt::Files;
 use transcripts_words::answers::Answer;
@@ -15,7 +16,7 @@ use transcripts_words::words::Words;
 pub(crate) fn run<R>(rt: &R, report: &mut Report, lines: &[Line]) -> Result<(), Failure>
 where
     R: Files + Print + AllocGlobal,
-    R::File: Read + Write + Seek + Drop,
+    R::File: OpenFile + Read + Write + Seek + Drop,
 {
     let mut session = Session::new(rt.alloc());
     for i in 0..lines.len() {
@@ -36,7 +37,7 @@ fn run_line<R>(
 ) -> Result<(), Failure>
 where
     R: Files + Print + AllocGlobal,
-    R::File: Read + Write + Seek + Drop,
+    R::File: OpenFile + Read + Write + Seek + Drop,
 {
     if !is_stream(rest) {
         let mut answer = Answer::new(rt.alloc())?;
@@ -76,7 +77,7 @@ fn make<R>(
 ) -> Result<(), Failure>
 where
     R: Files + Print + AllocGlobal,
-    R::File: Read + Write + Seek + Drop,
+    R::File: OpenFile + Read + Write + Seek + Drop,
 {
     let tokens = tokens(rt.alloc(), line.text())?;
     let mut words = Words::new(tokens.as_slice());

@@ -4,6 +4,7 @@
 use crate::calls;
 use crate::pictures::picture;
 use crate::session::Session;
+use std::fs::OpenFile;
 use std::io::{Read, Seek, Write};
 use std::rt::Files;
 use transcripts_words::answers::Answer;
@@ -19,7 +20,7 @@ pub(crate) fn make<R>(
 ) -> Result<(), Failure>
 where
     R: Files + Print + AllocGlobal,
-    R::File: Read + Write + Seek + Drop,
+    R::File: OpenFile + Read + Write + Seek + Drop,
 {
     let before = picture(rt.alloc(), session)?;
     print!(rt; "[")?;

@@ -1,0 +1,184 @@
+//! Runs of the commands of `msidb`, on files.
+
+use msidb_commands::run;
+use std::alloc::{AllocError, Global};
+use std::fs::{self, OpenFile};
+use std::io::{self, Read, Seek, Write};
+use std::rt::Files;
+use std::str;
+use transcripts_words::answers::Answer;
+use transcripts_words::failure::Failure;
+use transcripts_words::kept::{Kept, pieces, print_bytes};
+use transcripts_words::tokens::Token;
+use transcripts_words::words::Words;
+
+/// How the standard streams of a run behave.
+#[derive(Clone, Copy)]
+pub(crate) enum Streams {
+    /// As they should.
+    Sound,
+    /// Standard input can't be read, and standard output takes nothing.
+    Broken,
+    /// Standard output can't be flushed, and nothing of it is kept.
+    Unflushed,
+    /// Standard input is empty, and moves a file onto another path when it is read.
+    Moving,
+}
+
+/// The most bytes of a text that is printed as it is.
+const MOST: usize = 1024;
+
+/// A standard input.
+#[derive(Clone, Copy)]
+struct Input<'a, R> {
+    rt: &'a R,
+    bytes: &'a [u8],
+    /// A path, and the one that its file is moved to when this is read. It fails where there is no such file.
+    moved: Option<(&'a str, &'a str)>,
+}
+
+impl<R: Files> Read for Input<'_, R> {
+    fn read(&mut self, buffer: &mut [u8]) -> io::Result<usize> {
+        if let Some((from, to)) = self.moved {
+            fs::rename(self.rt, from, to)?;
+        }
+        self.bytes.read(buffer)
+    }
+}
+
+/// A standard output.
+#[derive(Drop)]
+struct Output {
+    bytes: Vec<u8>,
+    streams: Streams,
+}
+
+impl Write for Output {
+    fn write(&mut self, bytes: &[u8]) -> io::Result<usize> {
+        match self.streams {
+            Streams::Sound => self.bytes.write(bytes),
+            Streams::Unflushed => Ok(bytes.len()),
+            _ => Ok(0),
+        }
+    }
+
+    fn flush(&mut self) -> io::Result<()> {
+        match self.streams {
+            Streams::Unflushed => Err(io::Error::from(io::ErrorKind::BrokenPipe)),
+            _ => Ok(()),
+        }
+    }
+}
+
+/// Keeps the bytes of a file: `load NAME PATH`.
+pub(crate) fn load<R>(rt: &R, kept: &mut Kept, words: &mut Words) -> Result<(), Failure>
+where
+    R: Files + AllocGlobal,
+    R::File: Read + Drop,
+{
+    let name = words.name();
+    kept.reserve(rt.alloc(), name)?;
+    kept.keep(name, fs::read(rt, words.name())?);
+    Ok(())
+}
+
+/// Runs a command, whose standard input stands behind `<`, and prints what it prints, its line of errors, and the
+/// status if that isn't 0.
+pub(crate) fn make<R>(
+    rt: &R,
+    kept: &Kept,
+    streams: Streams,
+    words: &mut Words,
+    answer: &mut Answer,
+) -> Result<(), Failure>
+where
+    R: Files + AllocGlobal,
+    R::File: OpenFile + Read + Write + Seek + Drop,
+{
+    let moved = moved_by(streams, words);
+    let command = command(rt.alloc(), words)?;
+    let _ = words.takes("<");
+    let bytes = pieces(rt.alloc(), kept, words)?;
+    let input = Input {
+        rt,
+        bytes: bytes.as_slice(),
+        moved,
+    };
+    run_on(rt, command.as_slice(), input, streams, answer);
+    Ok(())
+}
+
+/// What standard input moves.
+fn moved_by<'a>(streams: Streams, words: &mut Words<'a>) -> Option<(&'a str, &'a str)> {
+    match streams {
+        Streams::Broken => Some(("", "")),
+        Streams::Moving => Some((words.name(), words.name())),
+        _ => None,
+    }
+}
+
+/// The words of a command, as the program is handed them.
+fn command(alloc: Global, words: &mut Words) -> Result<Vec<String>, AllocError> {
+    let mut command = Vec::new(alloc);
+    for _ in 0..words.len() {
+        if words.peek_word() == Some("<") {
+            break;
+        }
+        if let Some(Token::Word(word) | Token::Text(word)) = words.next_unmarked() {
+            command.push(String::from_str(alloc, word.as_str())?)?;
+        }
+    }
+    Ok(command)
+}
+
+/// Runs a command, and prints what comes of it. Where it fails, its file has to be as it was.
+fn run_on<R>(
+    rt: &R,
+    command: &[String],
+    mut input: Input<'_, R>,
+    streams: Streams,
+    answer: &mut Answer,
+)
+where
+    R: Files + AllocGlobal,
+    R::File: OpenFile + Read + Write + Seek + Drop,
+{
+    let before = file_of(rt, command);
+    let mut output = Output {
+        bytes: Vec::new(rt.alloc()),
+        streams,
+    };
+    let mut errors = Vec::new(rt.alloc());
+    let status = run(rt, command, &mut input, &mut output, &mut errors);
+    print_text(answer, output.bytes.as_slice());
+    print_text(answer, errors.as_slice());
+    if status != 0 {
+        writeln!(answer, "[{status}]");
+        let is_same = before.as_slice() == file_of(rt, command).as_slice();
+        answer.push_str(if is_same { "" } else { "changed" });
+    }
+    if answer.is_empty() {
+        answer.push_str("ok");
+    }
+}
+
+/// The bytes of a command's file, or none where it can't be read.
+fn file_of<R>(rt: &R, command: &[String]) -> Vec<u8>
+where
+    R: Files + AllocGlobal,
+    R::File: Read + Drop,
+{
+    let path = match command.get(1) {
+        Some(path) => path.as_str(),
+        None => "",
+    };
+    fs::read(rt, path).unwrap_or(Vec::new(rt.alloc()))
+}
+
+/// Prints a text, or the number and the checksum of its bytes if they are many.
+fn print_text(answer: &mut Answer, bytes: &[u8]) {
+    match str::from_utf8(bytes) {
+        Ok(text) if text.len() <= MOST => answer.push_str(text),
+        _ => print_bytes(answer, bytes),
+    }
+}
