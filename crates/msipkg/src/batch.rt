@@ -2,74 +2,58 @@
 
 use crate::commands::run;
 use crate::lines::words_of;
-use crate::messages::Messages;
-use std::fs::OpenFile;
-use std::io::{self, Read, Write};
-use std::rt::Files;
+use msipkg_system::{Output, System};
+use std::io;
 
-/// Runs the commands of an input, a line each, and prints each line before what it prints. A line has the words behind
-/// the program's name; quotes keep blanks. Messages go to the output too, and a status that isn't 0 has a line of its
-/// own. An empty line and one that begins with `#` are printed alone. Returns the highest status.
-pub(crate) fn run_lines<R, I, O>(rt: &R, input: &mut I, output: &mut O) -> u8
-where
-    R: Files + AllocGlobal,
-    R::File: OpenFile + Read + Write + Drop,
-    I: Read,
-    O: Write + Drop,
-{
-    match run_text(rt, input, output) {
-        Ok(status) => status,
+/// Runs the commands of standard input, a line each, and prints each line before what it prints. A line has the words
+/// behind the program's name; quotes keep blanks. Messages go to the output too, and a status that isn't 0 has a line
+/// of its own. An empty line and one that begins with `#` are printed alone. Returns the highest status.
+pub(crate) fn run_lines(rt: HostRuntime) -> u8 {
+    match io::read_to_string(rt.alloc(), rt.stdin()) {
+        Ok(text) => run_text(rt, text.as_str()),
         Err(_) => 1,
     }
 }
 
-/// Runs the commands of an input.
-fn run_text<R, I, O>(rt: &R, input: &mut I, output: &mut O) -> io::Result<u8>
-where
-    R: Files + AllocGlobal,
-    R::File: OpenFile + Read + Write + Drop,
-    I: Read,
-    O: Write + Drop,
-{
-    let mut text = String::new(rt.alloc());
-    input.read_to_string(&mut text)?;
+/// Runs the commands of a text, and returns the highest status.
+fn run_text(rt: HostRuntime, text: &str) -> u8 {
+    let system = System {
+        rt,
+        is_shown: false,
+    };
+    run_each(&system, text, &mut Output::to_output(rt)).unwrap_or(1)
+}
+
+/// Runs the commands of a text, until the output fails.
+fn run_each(rt: &System, text: &str, output: &mut Output) -> io::Result<u8> {
     let mut highest = 0u8;
-    for line in text.as_str().lines() {
+    for line in text.lines() {
         highest = highest.max(run_line(rt, line, output)?);
     }
-    output.flush()?;
     Ok(highest)
 }
 
-/// Runs the command of a line, if there is one.
-fn run_line<R, O>(rt: &R, line: &str, output: &mut O) -> io::Result<u8>
-where
-    R: Files + AllocGlobal,
-    R::File: OpenFile + Read + Write + Drop,
-    O: Write + Drop,
-{
+/// Runs the command of a line, if there is one. The line is written before the command runs.
+fn run_line(rt: &System, line: &str, output: &mut Output) -> io::Result<u8> {
     if line.trim().is_empty() || line.starts_with('#') {
-        writeln!(output, "{line}")?;
+        writeln!(output, "{line}");
+        output.end()?;
         return Ok(0);
     }
-    writeln!(output, "$ msipkg {line}")?;
-    let status = run_command(rt, line, output)?;
-    if status != 0 {
-        writeln!(output, "[status {status}]")?;
-    }
-    Ok(status)
+    writeln!(output, "$ msipkg {line}");
+    output.end()?;
+    let words = words_of(rt.alloc(), line)?;
+    run_words(rt, words.as_slice(), output)
 }
 
-/// Runs a command, and puts its messages behind what it prints.
-fn run_command<R, O>(rt: &R, line: &str, output: &mut O) -> io::Result<u8>
-where
-    R: Files + AllocGlobal,
-    R::File: OpenFile + Read + Write + Drop,
-    O: Write + Drop,
-{
-    let words = words_of(rt.alloc(), line)?;
-    let mut messages = Messages::Kept(Vec::new(rt.alloc()));
-    let status = run(rt, words.as_slice(), false, output, &mut messages);
-    output.write_all(messages.text())?;
+/// Runs a command, and puts its messages behind what it prints, and then its status, unless that is 0.
+fn run_words(rt: &System, words: &[String], output: &mut Output) -> io::Result<u8> {
+    let mut messages = Output::to_memory(rt.alloc());
+    let status = run(rt, words, false, output, &mut messages);
+    output.push_bytes(messages.as_bytes());
+    if status != 0 {
+        writeln!(output, "[status {status}]");
+    }
+    output.end()?;
     Ok(status)
 }

@@ -1,19 +1,16 @@
 //! The commands that change packages.
 
 use crate::commands::Asked;
-use crate::messages::Messages;
 use crate::words::Verb;
-use msi::{CodePage, Package, Source};
+use msi::{CodePage, Package};
 use msipkg_changes::{
     add_streams, carry_out_statements, check_statements, kind_of, page_of, remove_streams,
     set_pages, set_properties, store,
 };
-use msipkg_files::{Opened, Purpose, new_package, open_package, write_file, written};
+use msipkg_files::{Purpose, new_package, open_package, write_file, written};
 use msipkg_output::Failure;
+use msipkg_system::{Opened, Output, System};
 use std::alloc::Global;
-use std::fs::OpenFile;
-use std::io::{Read, Write};
-use std::rt::Files;
 
 /// Whether a command changes a package, and prints nothing.
 pub(crate) fn is_change(asked: &Asked<'_, '_>) -> bool {
@@ -28,11 +25,11 @@ pub(crate) fn is_change(asked: &Asked<'_, '_>) -> bool {
 ///
 /// # Errors
 /// Fails as the command does. Then the file is as it was.
-pub(crate) fn change<R>(rt: &R, asked: &Asked<'_, '_>, errors: &mut Messages) -> Result<(), Failure>
-where
-    R: Files + AllocGlobal,
-    R::File: OpenFile + Read + Write + Drop,
-{
+pub(crate) fn change(
+    rt: &System,
+    asked: &Asked<'_, '_>,
+    errors: &mut Output,
+) -> Result<(), Failure> {
     match asked.verb {
         Verb::New => create(rt, asked),
         Verb::Batch => Err(Failure::rule("batch is no command of a batch")),
@@ -41,22 +38,19 @@ where
 }
 
 /// Makes a file with a new package.
-fn create<R>(rt: &R, asked: &Asked<'_, '_>) -> Result<(), Failure>
-where
-    R: Files + AllocGlobal,
-    R::File: OpenFile + Read + Write + Drop,
-{
+fn create(rt: &System, asked: &Asked<'_, '_>) -> Result<(), Failure> {
+    let bytes = new_bytes(rt.alloc(), asked)?;
+    let is_forced = asked.given.get_flag("force");
+    write_file(rt, asked.file(), is_forced, bytes.as_slice())
+}
+
+/// The bytes of a new package.
+fn new_bytes(alloc: Global, asked: &Asked<'_, '_>) -> Result<Vec<u8>, Failure> {
     let kind = kind_of(asked.text("kind"))?;
     let page = page_asked(asked)?;
-    let mut package: Package<Opened<R::File>> = new_package(rt.alloc(), kind)?;
+    let mut package = new_package(alloc, kind)?;
     set_pages(&mut package, page)?;
-    let bytes = written(package)?;
-    write_file(
-        rt,
-        asked.file(),
-        asked.given.get_flag("force"),
-        bytes.as_slice(),
-    )
+    written(package)
 }
 
 /// The page of a new package.
@@ -68,11 +62,7 @@ fn page_asked(asked: &Asked<'_, '_>) -> Result<CodePage, Failure> {
 }
 
 /// Changes the package of a file. Statements are read before the file is.
-fn change_file<R>(rt: &R, asked: &Asked<'_, '_>, errors: &mut Messages) -> Result<(), Failure>
-where
-    R: Files + AllocGlobal,
-    R::File: OpenFile + Read + Write + Drop,
-{
+fn change_file(rt: &System, asked: &Asked<'_, '_>, errors: &mut Output) -> Result<(), Failure> {
     check_words(rt.alloc(), asked)?;
     let file = asked.package(asked.file(), asked.purpose_of_change(Purpose::Recode));
     let mut package = open_package(rt, &file, errors)?;
@@ -89,12 +79,7 @@ fn check_words(alloc: Global, asked: &Asked<'_, '_>) -> Result<(), Failure> {
 }
 
 /// Makes the change in a package.
-fn apply<R, F>(rt: &R, asked: &Asked<'_, '_>, package: &mut Package<F>) -> Result<(), Failure>
-where
-    R: Files + AllocGlobal,
-    R::File: Read + Drop,
-    F: Source,
-{
+fn apply(rt: &System, asked: &Asked<'_, '_>, package: &mut Package<Opened>) -> Result<(), Failure> {
     match asked.verb {
         Verb::Add => add_streams(rt, package, asked.texts("NAME=PATH")),
         Verb::Remove => remove_streams(rt.alloc(), package, asked.texts("NAME")),

@@ -1,36 +1,25 @@
-//! A command over any files and writers: from arguments to what they ask for, from a failure to its line and status.
+//! A command: from arguments to what they ask for, from a failure to its line and status.
 
 use crate::changing::{self, is_change};
 use crate::exchanging::{compare, is_each};
 use crate::looking::look;
-use crate::messages::Messages;
 use crate::several::print_each;
 use crate::words::{self, Verb};
 use clap::ArgMatches;
 use clap::error::ErrorKind;
 use msipkg_files::{PackageFile, Purpose};
 use msipkg_output::{Failure, Shown, Style};
-use std::fs::OpenFile;
-use std::io::{BufWriter, Read, Write};
-use std::rt::Files;
+use msipkg_system::{Output, System};
 
-/// How many bytes are collected before they go to the output.
-const CAPACITY: usize = 64 * 1024;
-
-/// Runs a command over its arguments and two writers. Returns the exit status: 0 on success; 1 on an error, which is
-/// written to `errors`; 2 with a hint there, if the arguments match no command.
-pub(crate) fn run<R, O>(
-    rt: &R,
+/// Runs a command over its arguments. What it prints is written when this returns. Returns the exit status: 0 on
+/// success; 1 on an error, which is written to `errors`; 2 with a hint there, if the arguments match no command.
+pub(crate) fn run(
+    rt: &System,
     words: &[String],
     is_terminal: bool,
-    output: &mut O,
-    errors: &mut Messages,
-) -> u8
-where
-    R: Files + AllocGlobal,
-    R::File: OpenFile + Read + Write + Drop,
-    O: Write + Drop,
-{
+    output: &mut Output,
+    errors: &mut Output,
+) -> u8 {
     match words::matches_of(rt.alloc(), words) {
         Ok(matches) => run_matched(rt, &matches, is_terminal, output, errors),
         Err(error) => show_parse(&error, output, errors),
@@ -38,12 +27,13 @@ where
 }
 
 /// Shows why the words gave no command: help and the version on the output, and a mistake with its hint on `errors`.
-fn show_parse<O: Write>(error: &clap::Error, output: &mut O, errors: &mut Messages) -> u8 {
+fn show_parse(error: &clap::Error, output: &mut Output, errors: &mut Output) -> u8 {
     if error.use_stderr() {
-        let _ = write!(errors, "{error}");
+        write!(errors, "{error}");
         return status_of(error.kind());
     }
-    match write!(output, "{error}") {
+    write!(output, "{error}");
+    match output.end() {
         Ok(()) => 0,
         Err(_) => 1,
     }
@@ -58,18 +48,13 @@ fn status_of(kind: ErrorKind) -> u8 {
 }
 
 /// Runs the command that the words ask for.
-fn run_matched<R, O>(
-    rt: &R,
+fn run_matched(
+    rt: &System,
     matches: &ArgMatches<'_>,
     is_terminal: bool,
-    output: &mut O,
-    errors: &mut Messages,
-) -> u8
-where
-    R: Files + AllocGlobal,
-    R::File: OpenFile + Read + Write + Drop,
-    O: Write + Drop,
-{
+    output: &mut Output,
+    errors: &mut Output,
+) -> u8 {
     let Some(asked) = asked_of(matches, is_terminal) else {
         return 2;
     };
@@ -156,55 +141,59 @@ impl<'a, 'b> Asked<'a, 'b> {
 }
 
 /// Writes on a line why a command failed on a file.
-pub(crate) fn report(file: &str, failure: &Failure, errors: &mut Messages) {
+pub(crate) fn report(file: &str, failure: &Failure, errors: &mut Output) {
     let file = Shown::escaped(file);
-    let _ = if failure.is_mended_by_counting() {
+    if failure.is_mended_by_counting() {
         writeln!(
             errors,
             "msipkg: {file}: {failure}; msipkg check {file} --fix mends counts"
-        )
+        );
     } else {
-        writeln!(errors, "msipkg: {file}: {failure}")
-    };
+        writeln!(errors, "msipkg: {file}: {failure}");
+    }
 }
 
-/// Carries out a command, and returns whether all is well: nothing was found to be wrong.
-fn carry_out<R, O>(
-    rt: &R,
+/// Carries out a command, and returns whether all is well: nothing was found to be wrong. What it printed before it
+/// failed is written, too.
+fn carry_out(
+    rt: &System,
     asked: &Asked<'_, '_>,
-    output: &mut O,
-    errors: &mut Messages,
-) -> Result<bool, Failure>
-where
-    R: Files + AllocGlobal,
-    R::File: OpenFile + Read + Write + Drop,
-    O: Write + Drop,
-{
+    output: &mut Output,
+    errors: &mut Output,
+) -> Result<bool, Failure> {
+    match obey(rt, asked, output, errors) {
+        Ok(is_well) => {
+            output.end()?;
+            errors.end()?;
+            Ok(is_well)
+        }
+        Err(failure) => Err(first_failure(failure, output)),
+    }
+}
+
+/// Writes what was printed before a command failed. Returns what failed first: the command, unless the output did.
+fn first_failure(failure: Failure, output: &mut Output) -> Failure {
+    let has_failed = output.has_failed();
+    match output.end() {
+        Err(error) if has_failed => Failure::from(error),
+        _ => failure,
+    }
+}
+
+/// Changes a package or prints what is asked for, and returns whether all is well.
+fn obey(
+    rt: &System,
+    asked: &Asked<'_, '_>,
+    output: &mut Output,
+    errors: &mut Output,
+) -> Result<bool, Failure> {
     if is_change(asked) {
         changing::change(rt, asked, errors)?;
         return Ok(true);
     }
-    let mut lines = BufWriter::with_capacity(rt.alloc(), CAPACITY, output)?;
-    let is_well = print(rt, asked, &mut lines, errors)?;
-    lines.flush()?;
-    Ok(is_well)
-}
-
-/// Carries out a command that prints, and returns whether all is well.
-fn print<R, O>(
-    rt: &R,
-    asked: &Asked<'_, '_>,
-    output: &mut O,
-    errors: &mut Messages,
-) -> Result<bool, Failure>
-where
-    R: Files + AllocGlobal,
-    R::File: OpenFile + Read + Write + Drop,
-    O: Write + Drop,
-{
     match asked.verb {
-        Verb::Info | Verb::Check => print_each(rt, asked, output, errors),
-        Verb::Export if is_each(asked) => print_each(rt, asked, output, errors),
+        Verb::Info | Verb::Check => Ok(print_each(rt, asked, output, errors)),
+        Verb::Export if is_each(asked) => Ok(print_each(rt, asked, output, errors)),
         Verb::Diff => compare(rt, asked, output, errors),
         _ => look(rt, asked, asked.file(), output, errors),
     }

@@ -1,16 +1,13 @@
 //! The commands that exchange packages with other files, and that compare them.
 
 use crate::commands::Asked;
-use crate::messages::Messages;
 use crate::words::Verb;
-use msi::{Package, Source};
+use msi::Package;
 use msipkg_diff::{Compared, print_differences};
 use msipkg_export::{FileFormat, Target, export, export_line};
-use msipkg_files::{Opened, Purpose, open_package, stored_streams};
+use msipkg_files::{Purpose, open_package, stored_streams};
 use msipkg_output::Failure;
-use std::fs::OpenFile;
-use std::io::{Read, Write};
-use std::rt::Files;
+use msipkg_system::{Opened, Output, System};
 
 /// Whether packages are exported as a line each.
 pub(crate) fn is_each(asked: &Asked<'_, '_>) -> bool {
@@ -20,21 +17,15 @@ pub(crate) fn is_each(asked: &Asked<'_, '_>) -> bool {
 /// Exports the package of a file, or tables of it.
 ///
 /// # Errors
-/// Fails as exporting does, and as the writer does.
-pub(crate) fn export_asked<R, F, O>(
-    rt: &R,
+/// Fails as exporting does.
+pub(crate) fn export_asked(
+    rt: &System,
     asked: &Asked<'_, '_>,
     file: &str,
-    package: &Package<F>,
-    output: &mut O,
-    errors: &mut Messages,
-) -> Result<(), Failure>
-where
-    R: Files + AllocGlobal,
-    R::File: OpenFile + Write + Drop,
-    F: Source,
-    O: Write + Drop,
-{
+    package: &Package<Opened>,
+    output: &mut Output,
+    errors: &mut Output,
+) -> Result<(), Failure> {
     if is_each(asked) {
         return export_line(rt.alloc(), asked.style, file, package, output, errors);
     }
@@ -58,18 +49,13 @@ where
 /// Compares two packages, and returns whether nothing differs.
 ///
 /// # Errors
-/// Fails as opening the packages and comparing them do, and as the writers do.
-pub(crate) fn compare<R, O>(
-    rt: &R,
+/// Fails as opening the packages and comparing them do.
+pub(crate) fn compare(
+    rt: &System,
     asked: &Asked<'_, '_>,
-    output: &mut O,
-    errors: &mut Messages,
-) -> Result<bool, Failure>
-where
-    R: Files + AllocGlobal,
-    R::File: Read + Drop,
-    O: Write,
-{
+    output: &mut Output,
+    errors: &mut Output,
+) -> Result<bool, Failure> {
     let file = asked.file();
     let package = open_package(rt, &asked.package(file, Purpose::Look), errors)?;
     let stored = stored_streams(rt, file, &package)?;
@@ -78,18 +64,13 @@ where
 }
 
 /// Compares a package with the other one.
-fn compare_with<R, O>(
-    rt: &R,
+fn compare_with(
+    rt: &System,
     asked: &Asked<'_, '_>,
-    old: &Compared<'_, Opened<R::File>>,
-    output: &mut O,
-    errors: &mut Messages,
-) -> Result<bool, Failure>
-where
-    R: Files + AllocGlobal,
-    R::File: Read + Drop,
-    O: Write,
-{
+    old: &Compared<'_>,
+    output: &mut Output,
+    errors: &mut Output,
+) -> Result<bool, Failure> {
     let file = asked.text("OTHER");
     let package = open_other(rt, asked, file, errors)?;
     let stored = stored_streams(rt, file, &package)?;
@@ -98,16 +79,12 @@ where
 }
 
 /// The package of the other file, at which a failure is.
-fn open_other<R>(
-    rt: &R,
+fn open_other(
+    rt: &System,
     asked: &Asked<'_, '_>,
     file: &str,
-    errors: &mut Messages,
-) -> Result<Package<Opened<R::File>>, Failure>
-where
-    R: Files + AllocGlobal,
-    R::File: Read + Drop,
-{
+    errors: &mut Output,
+) -> Result<Package<Opened>, Failure> {
     match open_package(rt, &asked.package(file, Purpose::Look), errors) {
         Ok(package) => Ok(package),
         Err(failure) => Err(failure.at(rt.alloc(), "file", file)),

@@ -2,9 +2,8 @@
 
 use crate::commands::Asked;
 use crate::exchanging::export_asked;
-use crate::messages::Messages;
 use crate::words::Verb;
-use msi::{Package, Source};
+use msi::Package;
 use msipkg_checks::print_check;
 use msipkg_files::{Folder, Purpose, open_package};
 use msipkg_looks::schema::Form;
@@ -13,28 +12,21 @@ use msipkg_looks::{
     print_summary, print_tables,
 };
 use msipkg_output::{Failure, Format};
+use msipkg_system::{Opened, Output, System};
 use std::alloc::Global;
-use std::fs::OpenFile;
-use std::io::{Read, Write};
-use std::rt::Files;
 
 /// Carries out a command that looks at the package of a file, and returns whether all is well: nothing was found to be
 /// wrong. A query is refused before the file is opened.
 ///
 /// # Errors
-/// Fails as opening the package and the command do, and as the writers do.
-pub(crate) fn look<R, O>(
-    rt: &R,
+/// Fails as opening the package and the command do.
+pub(crate) fn look(
+    rt: &System,
     asked: &Asked<'_, '_>,
     file: &str,
-    output: &mut O,
-    errors: &mut Messages,
-) -> Result<bool, Failure>
-where
-    R: Files + AllocGlobal,
-    R::File: OpenFile + Read + Write + Drop,
-    O: Write + Drop,
-{
+    output: &mut Output,
+    errors: &mut Output,
+) -> Result<bool, Failure> {
     check_words(rt.alloc(), asked)?;
     let mut package = open_package(rt, &asked.package(file, Purpose::Look), errors)?;
     show(rt, asked, file, &mut package, output, errors)
@@ -49,71 +41,61 @@ fn check_words(alloc: Global, asked: &Asked<'_, '_>) -> Result<(), Failure> {
 }
 
 /// Prints or writes what a package has, and returns whether all is well.
-fn show<R, F, O>(
-    rt: &R,
+fn show(
+    rt: &System,
     asked: &Asked<'_, '_>,
     file: &str,
-    package: &mut Package<F>,
-    output: &mut O,
-    errors: &mut Messages,
-) -> Result<bool, Failure>
-where
-    R: Files + AllocGlobal,
-    R::File: OpenFile + Read + Write + Drop,
-    F: Source,
-    O: Write + Drop,
-{
+    package: &mut Package<Opened>,
+    output: &mut Output,
+    errors: &mut Output,
+) -> Result<bool, Failure> {
     let (style, is_json) = (asked.style, asked.is_json());
     match asked.verb {
-        Verb::Check => {
-            return print_check(rt.alloc(), style, file, package, is_json, output);
+        Verb::Check => print_check(rt.alloc(), style, file, package, is_json, output),
+        _ => {
+            print_or_write(rt, asked, file, package, output, errors)?;
+            Ok(true)
         }
-        Verb::Info => print_info(rt, style, file, package, is_json, output)?,
-        Verb::Extract | Verb::Export => write_out(rt, asked, file, package, output, errors)?,
-        Verb::Streams => print_streams(rt, style, file, package, output)?,
-        _ => print_parts(rt.alloc(), asked, file, package, output)?,
     }
-    Ok(true)
 }
 
-/// Writes what a package has to files, or as files to the output.
-fn write_out<R, F, O>(
-    rt: &R,
+/// Prints what a package has, or writes it to files.
+fn print_or_write(
+    rt: &System,
     asked: &Asked<'_, '_>,
     file: &str,
-    package: &Package<F>,
-    output: &mut O,
-    errors: &mut Messages,
-) -> Result<(), Failure>
-where
-    R: Files + AllocGlobal,
-    R::File: OpenFile + Read + Write + Drop,
-    F: Source,
-    O: Write + Drop,
-{
+    package: &mut Package<Opened>,
+    output: &mut Output,
+    errors: &mut Output,
+) -> Result<(), Failure> {
+    let style = asked.style;
     match asked.verb {
+        Verb::Info => print_info(rt, style, file, package, asked.is_json(), output),
+        Verb::Streams => print_streams(rt, style, file, package, output),
         Verb::Extract => {
             let folder = folder_of(asked);
             extract_streams(rt, file, package, asked.texts("NAME"), folder, errors)
         }
-        _ => export_asked(rt, asked, file, package, output, errors),
+        Verb::Export => export_asked(rt, asked, file, package, output, errors),
+        _ => print_parts(rt.alloc(), asked, file, package, output),
     }
 }
 
 /// Prints parts of a package.
-fn print_parts<F: Source, O: Write + Drop>(
+fn print_parts(
     alloc: Global,
     asked: &Asked<'_, '_>,
     file: &str,
-    package: &Package<F>,
-    output: &mut O,
+    package: &Package<Opened>,
+    output: &mut Output,
 ) -> Result<(), Failure> {
     let style = asked.style;
     match asked.verb {
-        Verb::Tables => Ok(print_tables(alloc, style, package, output)?),
+        Verb::Tables => print_tables(alloc, style, package, output),
         Verb::Summary => {
             let summary = package.summary_info();
-            print_summary(alloc, style, file, summary, asked.is_json(), output)
+            print_summary(alloc, style, file, summary, asked.is_json(), output);
+            Ok(())
         }
         Verb::Schema => {
             let (names, form) = (asked.texts("TABLE"), form_of(asked));

@@ -7,22 +7,18 @@ mod commands;
 mod exchanging;
 mod lines;
 mod looking;
-mod messages;
 mod several;
-mod watching;
 mod words;
 
-use crate::messages::Messages;
-use crate::watching::Watched;
+use msipkg_system::{Output, System};
 use std::io::IsTerminal;
 use std::process::ExitCode;
-use std::rt::Env;
 use std::{env, io};
 
 /// The arguments behind the program's name.
-fn arguments<R: Env + AllocGlobal>(rt: &R) -> io::Result<Vec<String>> {
+fn arguments(rt: HostRuntime) -> io::Result<Vec<String>> {
     let mut arguments = Vec::new(rt.alloc());
-    for argument in env::args(rt)?.skip(1) {
+    for argument in env::args(&rt)?.skip(1) {
         arguments.push(argument)?;
     }
     Ok(arguments)
@@ -36,27 +32,25 @@ fn is_batch(arguments: &[String]) -> bool {
     }
 }
 
+/// Runs the command of the arguments, and returns the exit status.
+fn run_command(rt: HostRuntime, arguments: &[String]) -> u8 {
+    let system = System {
+        rt,
+        is_shown: rt.stderr().is_terminal(),
+    };
+    commands::run(
+        &system,
+        arguments,
+        rt.stdout().is_terminal(),
+        &mut Output::to_output(rt),
+        &mut Output::to_messages(rt),
+    )
+}
+
 fn main(rt: HostRuntime) -> ExitCode {
-    let is_shown = rt.stderr().is_terminal();
-    let watched = Watched { rt, is_shown };
-    let status = match arguments(&rt) {
-        Ok(arguments) if is_batch(arguments.as_slice()) => {
-            batch::run_lines(
-                &Watched {
-                    rt,
-                    is_shown: false,
-                },
-                &mut rt.stdin(),
-                &mut rt.stdout(),
-            )
-        }
-        Ok(arguments) => commands::run(
-            &watched,
-            arguments.as_slice(),
-            rt.stdout().is_terminal(),
-            &mut rt.stdout(),
-            &mut Messages::Shown(rt.stderr()),
-        ),
+    let status = match arguments(rt) {
+        Ok(arguments) if is_batch(arguments.as_slice()) => batch::run_lines(rt),
+        Ok(arguments) => run_command(rt, arguments.as_slice()),
         Err(error) => {
             let _ = eprintln!(rt; "msipkg: the arguments: {error}");
             2

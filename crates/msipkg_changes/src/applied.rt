@@ -1,35 +1,40 @@
 //! Statements carried out on a package.
 
 use crate::definition::Definition;
-use msi::{Package, Source, Statement};
+use msi::{Package, Statement};
 use msipkg_output::Failure;
+use msipkg_system::Opened;
 
 /// Carries out a statement on rows.
 ///
 /// # Errors
 /// Fails for a `SELECT`, and as the change does. Then nothing has changed.
-pub(crate) fn apply_statement<F: Source>(
-    package: &mut Package<F>,
+pub(crate) fn apply_statement(
+    package: &mut Package<Opened>,
     statement: Statement,
 ) -> Result<(), Failure> {
-    match statement {
-        Statement::Select(_) => Err(Failure::rule("it changes nothing; query prints its rows")),
-        Statement::Insert(insert) => Ok(package.insert_rows(insert)?),
-        Statement::Update(update) => Ok(package.update_rows(update)?),
-        Statement::Delete(delete) => Ok(package.delete_rows(delete)?),
-    }
+    let changed = match statement {
+        Statement::Select(_) => {
+            return Err(Failure::rule("it changes nothing; query prints its rows"));
+        }
+        Statement::Insert(insert) => package.insert_rows(insert),
+        Statement::Update(update) => package.update_rows(update),
+        Statement::Delete(delete) => package.delete_rows(delete),
+    };
+    Ok(changed?)
 }
 
 /// Carries out a change of tables.
 ///
 /// # Errors
 /// Fails as the change does. Then nothing has changed.
-pub(crate) fn apply_definition<F: Source>(
-    package: &mut Package<F>,
+pub(crate) fn apply_definition(
+    package: &mut Package<Opened>,
     definition: Definition<'_>,
 ) -> Result<(), Failure> {
-    match definition {
-        Definition::Create { table, columns } => Ok(package.create_table(table, columns)?),
-        Definition::Remove { table } => Ok(package.drop_table(table)?),
-    }
+    let changed = match definition {
+        Definition::Create { table, columns } => package.create_table(table, columns),
+        Definition::Remove { table } => package.drop_table(table),
+    };
+    Ok(changed?)
 }

@@ -1,7 +1,8 @@
 //! `new FILE`: a new package.
 
-use msi::{CodePage, Package, PackageType, Source};
+use msi::{CodePage, Package, PackageType};
 use msipkg_output::Failure;
+use msipkg_system::Opened;
 
 /// Returns the kind of a name: `installer`, `patch` or `transform`.
 ///
@@ -35,8 +36,7 @@ pub fn page_of(number: &str) -> Result<CodePage, Failure> {
 ///
 /// # Errors
 /// Fails if a text can't be written in the page, and with `OutOfMemory`.
-pub fn set_pages<F: Source>(package: &mut Package<F>, page: CodePage) -> Result<(), Failure> {
+pub fn set_pages(package: &mut Package<Opened>, page: CodePage) -> Result<(), Failure> {
     package.set_database_codepage(page)?;
-    package.summary_info_mut()?.set_codepage(page)?;
-    Ok(())
+    Ok(package.summary_info_mut()?.set_codepage(page)?)
 }

@@ -1,8 +1,9 @@
 //! `summary FILE --set NAME=VALUE.. --clear NAME..`: properties of a package's summary.
 
 use crate::create::page_of;
-use msi::{Error, LanguageId, Package, Source, SummaryInfo, Timestamp};
+use msi::{Error, LanguageId, Package, SummaryInfo, Timestamp};
 use msipkg_output::Failure;
+use msipkg_system::Opened;
 use std::alloc::Global;
 use uuid::Uuid;
 
@@ -59,9 +60,9 @@ static PROPERTIES: [(&str, Property); 18] = [
 /// # Errors
 /// Fails at the first word for which there is no property of the name, or which doesn't take the value. Those in front
 /// of it are set.
-pub fn set_properties<F: Source>(
+pub fn set_properties(
     alloc: Global,
-    package: &mut Package<F>,
+    package: &mut Package<Opened>,
     pairs: &[&str],
     cleared: &[&str],
 ) -> Result<(), Failure> {
@@ -221,15 +222,27 @@ fn set_uuid(summary: &mut SummaryInfo, value: &str) -> Result<(), Failure> {
 
 /// Sets the keywords, which are parted by `;`.
 fn set_keywords(alloc: Global, summary: &mut SummaryInfo, value: &str) -> Result<(), Failure> {
+    let keywords = keywords_of(alloc, value)?;
+    Ok(summary.set_keywords(keywords.as_slice())?)
+}
+
+/// Reads keywords, parted by `;`.
+fn keywords_of(alloc: Global, value: &str) -> Result<Vec<String>, Failure> {
     let mut keywords = Vec::new(alloc);
     for keyword in value.split(';') {
         keywords.push(String::from_str(alloc, keyword.trim())?)?;
     }
-    Ok(summary.set_keywords(keywords.as_slice())?)
+    Ok(keywords)
 }
 
 /// Sets the languages, whose numbers are parted by commas.
 fn set_languages(alloc: Global, summary: &mut SummaryInfo, value: &str) -> Result<(), Failure> {
+    let languages = languages_of(alloc, value)?;
+    Ok(summary.set_languages(languages.as_slice())?)
+}
+
+/// Reads the numbers of languages, parted by commas.
+fn languages_of(alloc: Global, value: &str) -> Result<Vec<LanguageId>, Failure> {
     let mut languages = Vec::new(alloc);
     for number in value.split(',') {
         let Ok(number) = number.trim().parse::<u16>() else {
@@ -239,7 +252,7 @@ fn set_languages(alloc: Global, summary: &mut SummaryInfo, value: &str) -> Resul
         };
         languages.push(LanguageId::from_id(number))?;
     }
-    Ok(summary.set_languages(languages.as_slice())?)
+    Ok(languages)
 }
 
 /// Clears a property. There is always a code page, so that one isn't cleared.

@@ -1,11 +1,12 @@
 //! The counts of a package's texts, where they are too low for a change.
 
-use msi::{ErrorKind, Package, Source};
+use msi::{ErrorKind, Package};
 use msipkg_output::Failure;
+use msipkg_system::Opened;
 
 /// Returns the failure of a change, with the note that counting the package anew mends it, if that is so. The package
 /// is counted anew then.
-pub fn noted<F: Source>(package: &mut Package<F>, failure: Failure) -> Failure {
+pub fn noted(package: &mut Package<Opened>, failure: Failure) -> Failure {
     if failure.is_invalid_data() && is_mended_by_counting(package) {
         failure.mended_by_counting()
     } else {
@@ -15,7 +16,7 @@ pub fn noted<F: Source>(package: &mut Package<F>, failure: Failure) -> Failure {
 
 /// Whether the counts of a package are too low for a change, and can be mended. The page is set to itself, which is a
 /// change like any other.
-fn is_mended_by_counting<F: Source>(package: &mut Package<F>) -> bool {
+fn is_mended_by_counting(package: &mut Package<Opened>) -> bool {
     let page = package.database_codepage();
     match package.set_database_codepage(page) {
         Err(error) if matches!(error.kind(), ErrorKind::InvalidData) => package.recount().is_ok(),

@@ -3,8 +3,9 @@
 use crate::applied::{apply_definition, apply_statement};
 use crate::definition::{definition_of, is_definition};
 use crate::recounting::noted;
-use msi::{Package, Parse, Source, Statement};
+use msi::{Package, Parse, Statement};
 use msipkg_output::Failure;
+use msipkg_system::Opened;
 use std::alloc::Global;
 
 /// Fails if one of the texts is no statement: an insert, an update, a delete or a change of tables.
@@ -24,9 +25,9 @@ pub fn check_statements(alloc: Global, texts: &[&str]) -> Result<(), Failure> {
 ///
 /// # Errors
 /// Fails at the first text that is no statement, or whose change is refused. Those in front of it are carried out.
-pub fn carry_out_statements<F: Source>(
+pub fn carry_out_statements(
     alloc: Global,
-    package: &mut Package<F>,
+    package: &mut Package<Opened>,
     texts: &[&str],
 ) -> Result<(), Failure> {
     for text in texts {
@@ -48,11 +49,7 @@ fn check_text(alloc: Global, text: &str) -> Result<(), Failure> {
 }
 
 /// Carries out the statement that a text spells.
-fn apply_text<F: Source>(
-    alloc: Global,
-    package: &mut Package<F>,
-    text: &str,
-) -> Result<(), Failure> {
+fn apply_text(alloc: Global, package: &mut Package<Opened>, text: &str) -> Result<(), Failure> {
     if is_definition(text) {
         apply_definition(package, definition_of(alloc, text)?)
     } else {

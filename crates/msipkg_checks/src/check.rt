@@ -6,40 +6,40 @@ use crate::report::Report;
 use crate::streams::check_streams;
 use crate::validation::check_validation;
 use crate::values::check_values;
-use msi::{Package, Source};
+use msi::Package;
 use msipkg_output::{Failure, Style};
+use msipkg_system::{Opened, Output};
 use std::alloc::Global;
-use std::io::Write;
 
 /// Prints each error in a file's package on a line as it is found, or all of them as JSON on one line. Returns whether
 /// there is none.
 ///
 /// # Errors
-/// Fails as the writer does, and if memory is refused. Where that comes in the midst of JSON, the line says so instead.
-pub fn print_check<F: Source, W: Write>(
+/// Fails if memory is refused for the check. Where that comes in the midst of JSON, the line says so instead.
+pub fn print_check(
     alloc: Global,
     style: Style,
     file: &str,
-    package: &mut Package<F>,
+    package: &mut Package<Opened>,
     is_json: bool,
-    output: &mut W,
+    output: &mut Output,
 ) -> Result<bool, Failure> {
     let mut report = Report::new(alloc, style, file, is_json, output);
-    report.begin()?;
+    report.begin();
     let found = find_errors(alloc, package, &mut report);
-    report.end(found.as_ref().err())?;
-    if is_json {
-        return Ok(found.is_ok() && report.is_empty());
+    report.end(found.as_ref().err());
+    match found {
+        Ok(()) => Ok(report.is_empty()),
+        Err(_) if is_json => Ok(false),
+        Err(failure) => Err(failure),
     }
-    found?;
-    Ok(report.is_empty())
 }
 
 /// Finds the errors in a package. The counts come last, since counting anew changes the package in memory.
-fn find_errors<F: Source, W: Write>(
+fn find_errors(
     alloc: Global,
-    package: &mut Package<F>,
-    report: &mut Report<'_, W>,
+    package: &mut Package<Opened>,
+    report: &mut Report<'_>,
 ) -> Result<(), Failure> {
     check_values(alloc, package, report)?;
     check_references(alloc, package, report)?;

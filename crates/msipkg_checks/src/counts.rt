@@ -1,10 +1,10 @@
 //! Reference counts of the string pool that are wrong.
 
 use crate::report::{Place, Report};
-use msi::{Error, ErrorKind, Package, Source};
+use msi::{Error, ErrorKind, Package};
 use msipkg_output::Failure;
+use msipkg_system::Opened;
 use std::fmt;
-use std::io::Write;
 
 /// Finds out whether the counts of the texts are too low, so that each change of the tables is refused, and how many
 /// of them are wrong. The package is counted anew in memory. One with storages below its root isn't looked at: it is
@@ -12,9 +12,9 @@ use std::io::Write;
 ///
 /// # Errors
 /// Fails with `OutOfMemory`.
-pub(crate) fn check_counts<F: Source, W: Write>(
-    package: &mut Package<F>,
-    report: &mut Report<'_, W>,
+pub(crate) fn check_counts(
+    package: &mut Package<Opened>,
+    report: &mut Report<'_>,
 ) -> Result<(), Failure> {
     let page = package.database_codepage();
     if let Err(error) = package.set_database_codepage(page) {
@@ -24,10 +24,11 @@ pub(crate) fn check_counts<F: Source, W: Write>(
         add_error(error, report)?;
     }
     match package.recount() {
-        Ok(0) => Ok(()),
-        Ok(changed) => Ok(report.add(Place::Pool, &WrongCounts(changed))?),
-        Err(error) => add_error(error, report),
+        Ok(0) => {}
+        Ok(changed) => report.add(Place::Pool, &WrongCounts(changed)),
+        Err(error) => return add_error(error, report),
     }
+    Ok(())
 }
 
 /// How many texts have a wrong count.
@@ -43,10 +44,11 @@ impl fmt::Display for WrongCounts {
 /// Adds an error of the string pool.
 ///
 /// # Errors
-/// Fails with `OutOfMemory`, also where that is the error.
-fn add_error<W: Write>(error: Error, report: &mut Report<'_, W>) -> Result<(), Failure> {
+/// Fails with `OutOfMemory` if that is the error.
+fn add_error(error: Error, report: &mut Report<'_>) -> Result<(), Failure> {
     if error.kind() == ErrorKind::OutOfMemory {
         return Err(Failure::from(error));
     }
-    Ok(report.add(Place::Pool, &error)?)
+    report.add(Place::Pool, &error);
+    Ok(())
 }

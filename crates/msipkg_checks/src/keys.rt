@@ -1,8 +1,9 @@
 //! The columns to which foreign keys refer, and values as texts.
 
 use crate::reading::pass_over;
-use msi::{Package, Rows, Select, Source, Value};
+use msi::{Package, Row, Rows, Select, Value};
 use msipkg_output::Failure;
+use msipkg_system::Opened;
 use std::alloc::{AllocError, Global};
 use std::collections::{BTreeMap, BTreeSet};
 
@@ -58,9 +59,9 @@ impl KeyColumns {
     ///
     /// # Errors
     /// Fails with `OutOfMemory`.
-    pub(crate) fn column<F: Source>(
+    pub(crate) fn column(
         &mut self,
-        package: &Package<F>,
+        package: &Package<Opened>,
         table: &str,
         place: i32,
     ) -> Result<usize, Failure> {
@@ -70,22 +71,39 @@ impl KeyColumns {
         }
         let column = self.columns.len();
         self.columns.insert(name, column)?;
-        match package.select_rows(Select::table(self.alloc, table)?) {
-            Ok(rows) => self.add_rows(column, usize::try_from(place).unwrap_or(0), rows)?,
-            Err(error) => pass_over(error)?,
-        }
+        self.add_column(package, table, place, column)?;
         Ok(column)
+    }
+
+    /// Adds the texts of a table's column, whose place is counted from 1, if it can be read.
+    fn add_column(
+        &mut self,
+        package: &Package<Opened>,
+        table: &str,
+        place: i32,
+        column: usize,
+    ) -> Result<(), Failure> {
+        match package.select_rows(Select::table(self.alloc, table)?) {
+            Ok(rows) => self.add_rows(column, usize::try_from(place).unwrap_or(0), rows),
+            Err(error) => pass_over(error),
+        }
     }
 
     /// Adds the texts of rows in the column at a place, counted from 1.
     fn add_rows(&mut self, column: usize, place: usize, rows: Rows<'_>) -> Result<(), Failure> {
         for row in rows {
-            let row = row?;
-            if place >= 1 && place <= row.len() {
-                self.add_value(column, &row[place - 1])?;
-            }
+            self.add_row(column, place, &row?)?;
         }
         Ok(())
+    }
+
+    /// Adds the text of a row in the column at a place, counted from 1, if it has one.
+    fn add_row(&mut self, column: usize, place: usize, row: &Row) -> Result<(), AllocError> {
+        if place >= 1 && place <= row.len() {
+            self.add_value(column, &row[place - 1])
+        } else {
+            Ok(())
+        }
     }
 
     /// Adds a value's text, if it has one.

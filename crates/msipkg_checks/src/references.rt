@@ -3,11 +3,11 @@
 use crate::keys::{KeyColumns, key_text};
 use crate::reading::pass_over;
 use crate::report::{Place, Report};
-use msi::{Package, Row, Rows, Select, Source, Table};
+use msi::{Package, Row, Rows, Select, Table};
 use msipkg_output::Failure;
+use msipkg_system::Opened;
 use std::alloc::{AllocError, Global};
 use std::collections::BTreeSet;
-use std::io::{self, Write};
 
 /// A column with a foreign key, and the numbers of the columns to which it refers.
 struct Reference {
@@ -31,58 +31,81 @@ impl Drop for Reference {
 ///
 /// # Errors
 /// Fails with `OutOfMemory`, and so do the other calls.
-pub(crate) fn check_references<F: Source, W: Write>(
+pub(crate) fn check_references(
     alloc: Global,
-    package: &Package<F>,
-    report: &mut Report<'_, W>,
+    package: &Package<Opened>,
+    report: &mut Report<'_>,
 ) -> Result<(), Failure> {
     let mut keys = KeyColumns::new(alloc);
+    check_tables(alloc, package, &mut keys, report)
+}
+
+/// Finds such values of all tables.
+fn check_tables(
+    alloc: Global,
+    package: &Package<Opened>,
+    keys: &mut KeyColumns,
+    report: &mut Report<'_>,
+) -> Result<(), Failure> {
     for table in package.tables() {
-        check_table(alloc, package, table, &mut keys, report)?;
+        check_table(alloc, package, table, keys, report)?;
     }
     Ok(())
 }
 
 /// Finds such values of a table.
-fn check_table<F: Source, W: Write>(
+fn check_table(
     alloc: Global,
-    package: &Package<F>,
+    package: &Package<Opened>,
     table: &Table,
     keys: &mut KeyColumns,
-    report: &mut Report<'_, W>,
+    report: &mut Report<'_>,
 ) -> Result<(), Failure> {
-    let references = references_of(alloc, package, table, keys)?;
+    let mut references = Vec::new(alloc);
+    add_references(alloc, package, table, keys, &mut references)?;
+    check_columns(alloc, package, table, references.as_slice(), keys, report)
+}
+
+/// Finds such values in these columns of a table.
+fn check_columns(
+    alloc: Global,
+    package: &Package<Opened>,
+    table: &Table,
+    references: &[Reference],
+    keys: &KeyColumns,
+    report: &mut Report<'_>,
+) -> Result<(), Failure> {
     if references.is_empty() {
         return Ok(());
     }
     match package.select_rows(Select::table(alloc, table.name())?) {
-        Ok(rows) => check_rows(alloc, table, rows, references.as_slice(), keys, report),
+        Ok(rows) => check_rows(alloc, table, rows, references, keys, report),
         Err(error) => pass_over(error),
     }
 }
 
-/// Returns the columns of a table that have a foreign key.
-fn references_of<F: Source>(
+/// Adds the columns of a table that have a foreign key.
+fn add_references(
     alloc: Global,
-    package: &Package<F>,
+    package: &Package<Opened>,
     table: &Table,
     keys: &mut KeyColumns,
-) -> Result<Vec<Reference>, Failure> {
-    let mut references = Vec::new(alloc);
+    references: &mut Vec<Reference>,
+) -> Result<(), Failure> {
     for (place, column) in table.columns().iter().enumerate() {
         if let Some((tables, number)) = column.foreign_key() {
             let targets = targets_of(alloc, package, tables, number, keys)?;
             references.push(Reference { place, targets })?;
         }
     }
-    Ok(references)
+    Ok(())
 }
 
 /// Returns the columns to which a foreign key refers: those at a place, counted from 1, of tables whose names stand
 /// between semicolons.
-fn targets_of<F: Source>(
+fn targets_of(
     alloc: Global,
-    package: &Package<F>,
+    package: &Package<Opened>,
     tables: &str,
     place: i32,
     keys: &mut KeyColumns,
@@ -97,13 +120,13 @@ fn targets_of<F: Source>(
 }
 
 /// Finds the values of rows whose foreign keys no row has.
-fn check_rows<W: Write>(
+fn check_rows(
     alloc: Global,
     table: &Table,
     rows: Rows<'_>,
     references: &[Reference],
     keys: &KeyColumns,
-    report: &mut Report<'_, W>,
+    report: &mut Report<'_>,
 ) -> Result<(), Failure> {
     let mut number = 0usize;
     for row in rows {
@@ -114,18 +137,18 @@ fn check_rows<W: Write>(
 }
 
 /// Finds the values of a row whose foreign keys no row has.
-fn check_row<W: Write>(
+fn check_row(
     alloc: Global,
     table: &Table,
     number: usize,
     row: &Row,
     references: &[Reference],
     keys: &KeyColumns,
-    report: &mut Report<'_, W>,
-) -> io::Result<()> {
+    report: &mut Report<'_>,
+) -> Result<(), AllocError> {
     for reference in references {
         if !is_met(alloc, row, reference, keys)? {
-            add_missing(table, number, reference.place, report)?;
+            add_missing(table, number, reference.place, report);
         }
     }
     Ok(())
@@ -148,19 +171,13 @@ fn is_met(
 }
 
 /// Adds the error of a cell whose key no row has.
-fn add_missing<W: Write>(
-    table: &Table,
-    row: usize,
-    place: usize,
-    report: &mut Report<'_, W>,
-) -> io::Result<()> {
-    let Some(column) = table.columns().get(place) else {
-        return Ok(());
-    };
-    let cell = Place::Cell {
-        table: table.name(),
-        row,
-        column: column.name(),
-    };
-    report.add(cell, &"no row has this key")
+fn add_missing(table: &Table, row: usize, place: usize, report: &mut Report<'_>) {
+    if let Some(column) = table.columns().get(place) {
+        let cell = Place::Cell {
+            table: table.name(),
+            row,
+            column: column.name(),
+        };
+        report.add(cell, &"no row has this key");
+    }
 }

@@ -2,9 +2,9 @@
 
 use msipkg_output::json::{self, JsonObject};
 use msipkg_output::{Failure, Shown, Style};
-use std::alloc::{AllocError, Global};
-use std::fmt;
-use std::io::{self, Write};
+use msipkg_system::Output;
+use std::alloc::Global;
+use std::{fmt, mem};
 
 /// Where an error is. Rows are counted from 1.
 #[derive(Clone, Copy)]
@@ -47,26 +47,25 @@ impl fmt::Display for Place<'_> {
 
 /// The errors of a package, each of which is printed as it is found.
 #[derive(Drop)]
-pub(crate) struct Report<'a, W> {
-    pub(crate) alloc: Global,
+pub(crate) struct Report<'a> {
+    alloc: Global,
     style: Style,
     file: &'a str,
     is_json: bool,
     /// Whether no error was found.
     is_empty: bool,
-    output: &'a mut W,
+    output: &'a mut Output,
 }
 
-/// Each call fails as the writer does, and if memory is refused.
-impl<'a, W: Write> Report<'a, W> {
+impl<'a> Report<'a> {
     /// Returns the report of a file, without errors.
     pub(crate) fn new(
         alloc: Global,
         style: Style,
         file: &'a str,
         is_json: bool,
-        output: &'a mut W,
-    ) -> Report<'a, W> {
+        output: &'a mut Output,
+    ) -> Report<'a> {
         Report {
             alloc,
             style,
@@ -83,65 +82,59 @@ impl<'a, W: Write> Report<'a, W> {
     }
 
     /// Begins the report: JSON is an object with the file's path and the list of the errors, on one line.
-    pub(crate) fn begin(&mut self) -> io::Result<()> {
+    pub(crate) fn begin(&mut self) {
         if !self.is_json {
-            return Ok(());
+            return;
         }
-        let object = object_of(self.alloc, self.file)?;
-        json::write_text(self.style, object.begun(), self.output)
+        let mut object = JsonObject::new(self.alloc);
+        object.put_text("file", Some(self.file));
+        object.open_list("errors");
+        match object.begun() {
+            Ok(text) => json::write_text(self.style, text, self.output),
+            Err(error) => self.output.refuse_memory(error),
+        }
     }
 
     /// Prints an error: behind the file's path, or as an item of the list.
-    pub(crate) fn add<M: fmt::Display>(&mut self, place: Place<'_>, message: &M) -> io::Result<()> {
-        let is_first = self.is_empty;
-        self.is_empty = false;
-        if !self.is_json {
+    pub(crate) fn add<M: fmt::Display>(&mut self, place: Place<'_>, message: &M) {
+        let is_first = mem::replace(&mut self.is_empty, false);
+        if self.is_json {
+            self.add_item(is_first, place, message);
+        } else {
             let file = self.style.show(self.file);
-            return writeln!(self.output, "{file}: {place}: {message}");
+            writeln!(self.output, "{file}: {place}: {message}");
         }
+    }
+
+    /// Prints an error as an item of the list.
+    fn add_item<M: fmt::Display>(&mut self, is_first: bool, place: Place<'_>, message: &M) {
         if !is_first {
-            self.output.write_all(b",")?;
+            self.output.push_str(",");
         }
-        let item = error_json(self.alloc, place, message)?;
-        json::write_text(self.style, item.as_str(), self.output)
+        let mut object = JsonObject::new(self.alloc);
+        object.put_shown("place", &place);
+        object.put_shown("message", message);
+        object.print(self.style, self.output);
     }
 
     /// Ends the report, also where the check failed: then JSON says why.
-    pub(crate) fn end(&mut self, failure: Option<&Failure>) -> io::Result<()> {
+    pub(crate) fn end(&mut self, failure: Option<&Failure>) {
         if !self.is_json {
-            return Ok(());
+            return;
         }
-        let last = last_members(self.alloc, failure)?;
-        json::write_line(self.style, last.as_str(), self.output)
+        self.output.push_str("]");
+        if let Some(failure) = failure {
+            self.output.push_str(",\"error\":");
+            self.put_failure(failure);
+        }
+        self.output.push_str("}\n");
     }
-}
 
-/// An object with the path of a file, and an open list of errors.
-fn object_of(alloc: Global, file: &str) -> Result<JsonObject, AllocError> {
-    let mut object = JsonObject::new(alloc)?;
-    object.put_text("file", Some(file))?;
-    object.open_list("errors")?;
-    Ok(object)
-}
-
-/// An error as an object.
-fn error_json<M: fmt::Display>(
-    alloc: Global,
-    place: Place<'_>,
-    message: &M,
-) -> Result<String, AllocError> {
-    let mut object = JsonObject::new(alloc)?;
-    object.put_shown("place", &place)?;
-    object.put_shown("message", message)?;
-    object.finish()
-}
-
-/// The end of the list and of the object, and between them why the check failed.
-fn last_members(alloc: Global, failure: Option<&Failure>) -> Result<String, AllocError> {
-    let Some(failure) = failure else {
-        return String::from_str(alloc, "]}");
-    };
-    let message = failure.to_string(alloc)?;
-    let error = json::quoted(alloc, message.as_str())?;
-    format!(in alloc; "],\"error\":{error}}}")
+    /// Prints why the check failed, as a text of JSON.
+    fn put_failure(&mut self, failure: &Failure) {
+        match failure.to_string(self.alloc) {
+            Ok(text) => json::write_quoted(self.alloc, self.style, text.as_str(), self.output),
+            Err(error) => self.output.refuse_memory(error),
+        }
+    }
 }

@@ -2,81 +2,95 @@
 
 use crate::reading::pass_over;
 use crate::report::{Place, Report};
-use msi::{ColumnType, Package, Row, Rows, Select, Source, Table, Value};
+use msi::{ColumnType, Package, Row, Rows, Select, Table, Value};
 use msipkg_output::{Failure, stream_name};
+use msipkg_system::Opened;
 use std::alloc::{AllocError, Global};
 use std::collections::BTreeSet;
-use std::io::{self, Write};
 
 /// Finds the streams that no row names, and the names of rows for which there is no stream. A row with a stream names
 /// it after its table and its key, as `Icon.App`, and a row of `Media` names a cabinet behind a `#`.
 ///
 /// # Errors
 /// Fails with `OutOfMemory`, and so do the other calls.
-pub(crate) fn check_streams<F: Source, W: Write>(
+pub(crate) fn check_streams(
     alloc: Global,
-    package: &Package<F>,
-    report: &mut Report<'_, W>,
+    package: &Package<Opened>,
+    report: &mut Report<'_>,
 ) -> Result<(), Failure> {
     let mut names = BTreeSet::new(alloc);
+    add_all_names(alloc, package, &mut names)?;
+    check_names(package, &names, report)
+}
+
+/// Adds the names of all streams that rows name.
+fn add_all_names(
+    alloc: Global,
+    package: &Package<Opened>,
+    names: &mut BTreeSet<String>,
+) -> Result<(), Failure> {
     for table in package.tables() {
-        add_names(alloc, package, table, &mut names)?;
+        add_names(alloc, package, table, names)?;
     }
-    add_cabinets(alloc, package, &mut names)?;
-    check_unnamed(package, &names, report)?;
-    check_missing(package, &names, report)
+    add_cabinets(alloc, package, names)
+}
+
+/// Finds the streams whose name isn't among these, and the names for which there is no stream.
+fn check_names(
+    package: &Package<Opened>,
+    names: &BTreeSet<String>,
+    report: &mut Report<'_>,
+) -> Result<(), Failure> {
+    check_unnamed(package, names, report)?;
+    check_missing(package, names, report);
+    Ok(())
 }
 
 /// Finds the streams whose name isn't among these.
-fn check_unnamed<F: Source, W: Write>(
-    package: &Package<F>,
+fn check_unnamed(
+    package: &Package<Opened>,
     names: &BTreeSet<String>,
-    report: &mut Report<'_, W>,
+    report: &mut Report<'_>,
 ) -> Result<(), Failure> {
     for name in package.streams() {
-        check_stream(package, names, name?.as_str(), report)?;
+        check_stream(package, names, name?.as_str(), report);
     }
     Ok(())
 }
 
 /// Adds an error if a stream isn't found under its name, or if its name isn't among these.
-fn check_stream<F: Source, W: Write>(
-    package: &Package<F>,
+fn check_stream(
+    package: &Package<Opened>,
     names: &BTreeSet<String>,
     name: &str,
-    report: &mut Report<'_, W>,
-) -> io::Result<()> {
+    report: &mut Report<'_>,
+) {
     let message = if !package.has_stream(name) {
         "it isn't found under its name, which is stored in another form"
     } else if !names.contains(name) {
         "no row names it"
     } else {
-        return Ok(());
+        return;
     };
-    report.add(Place::Stream(name), &message)
+    report.add(Place::Stream(name), &message);
 }
 
 /// Finds the names for which there is no stream.
-fn check_missing<F: Source, W: Write>(
-    package: &Package<F>,
-    names: &BTreeSet<String>,
-    report: &mut Report<'_, W>,
-) -> Result<(), Failure> {
+fn check_missing(package: &Package<Opened>, names: &BTreeSet<String>, report: &mut Report<'_>) {
     for name in names {
         if !package.has_stream(name.as_str()) {
             report.add(
                 Place::Stream(name.as_str()),
                 &"a row names it, and it isn't there",
-            )?;
+            );
         }
     }
-    Ok(())
 }
 
 /// Adds the names of the streams of a table's rows, if it has a column of streams.
-fn add_names<F: Source>(
+fn add_names(
     alloc: Global,
-    package: &Package<F>,
+    package: &Package<Opened>,
     table: &Table,
     names: &mut BTreeSet<String>,
 ) -> Result<(), Failure> {
@@ -107,10 +121,20 @@ fn add_row_names(
     names: &mut BTreeSet<String>,
 ) -> Result<(), Failure> {
     for row in rows {
-        let row = row?;
-        if has_stream(&row) {
-            names.insert(stream_name(alloc, table.name(), &row)?)?;
-        }
+        add_row_name(alloc, table, &row?, names)?;
+    }
+    Ok(())
+}
+
+/// Adds the name of a row's stream, if it has one.
+fn add_row_name(
+    alloc: Global,
+    table: &Table,
+    row: &Row,
+    names: &mut BTreeSet<String>,
+) -> Result<(), AllocError> {
+    if has_stream(row) {
+        names.insert(stream_name(alloc, table.name(), row)?)?;
     }
     Ok(())
 }
@@ -126,9 +150,9 @@ fn has_stream(row: &Row) -> bool {
 }
 
 /// Adds the names of the cabinets that are streams.
-fn add_cabinets<F: Source>(
+fn add_cabinets(
     alloc: Global,
-    package: &Package<F>,
+    package: &Package<Opened>,
     names: &mut BTreeSet<String>,
 ) -> Result<(), Failure> {
     let query = Select::table(alloc, "Media")?.columns(&["Cabinet"])?;
@@ -145,21 +169,21 @@ fn add_cabinet_names(
     names: &mut BTreeSet<String>,
 ) -> Result<(), Failure> {
     for row in rows {
-        let row = row?;
-        if !row.is_empty() {
-            add_cabinet_name(alloc, &row[0], names)?;
-        }
+        add_cabinet_name(alloc, &row?, names)?;
     }
     Ok(())
 }
 
-/// Adds the name behind a `#`, if there is one.
+/// Adds the name behind a `#` in a row's only value, if there is one.
 fn add_cabinet_name(
     alloc: Global,
-    value: &Value,
+    row: &Row,
     names: &mut BTreeSet<String>,
 ) -> Result<(), AllocError> {
-    let Value::Str(text) = value else {
+    if row.is_empty() {
+        return Ok(());
+    }
+    let Value::Str(text) = &row[0] else {
         return Ok(());
     };
     if let Some(name) = text.as_str().strip_prefix('#') {

@@ -2,20 +2,20 @@
 
 use crate::reading::pass_over;
 use crate::report::{Place, Report};
-use msi::{Package, Row, Rows, Select, Source, Value};
+use msi::{Package, Row, Rows, Select, Value};
 use msipkg_output::Failure;
+use msipkg_system::Opened;
 use std::alloc::Global;
-use std::io::Write;
 
 /// Finds the rows of `_Validation` for columns that aren't in their tables. Those for tables that aren't there are no
 /// errors: many tools put in the rows of all standard tables.
 ///
 /// # Errors
 /// Fails with `OutOfMemory`.
-pub(crate) fn check_validation<F: Source, W: Write>(
+pub(crate) fn check_validation(
     alloc: Global,
-    package: &Package<F>,
-    report: &mut Report<'_, W>,
+    package: &Package<Opened>,
+    report: &mut Report<'_>,
 ) -> Result<(), Failure> {
     let query = Select::table(alloc, "_Validation")?.columns(&["Table", "Column"])?;
     match package.select_rows(query) {
@@ -25,38 +25,35 @@ pub(crate) fn check_validation<F: Source, W: Write>(
 }
 
 /// Finds such rows.
-fn check_rows<F: Source, W: Write>(
-    package: &Package<F>,
+fn check_rows(
+    package: &Package<Opened>,
     rows: Rows<'_>,
-    report: &mut Report<'_, W>,
+    report: &mut Report<'_>,
 ) -> Result<(), Failure> {
     for row in rows {
-        check_row(package, &row?, report)?;
+        check_row(package, &row?, report);
     }
     Ok(())
 }
 
 /// Adds an error if the row's column isn't in its table.
-fn check_row<F: Source, W: Write>(
-    package: &Package<F>,
-    row: &Row,
-    report: &mut Report<'_, W>,
-) -> Result<(), Failure> {
+fn check_row(package: &Package<Opened>, row: &Row, report: &mut Report<'_>) {
     if row.len() < 2 {
-        return Ok(());
+        return;
     }
     let (Value::Str(table), Value::Str(column)) = (&row[0], &row[1]) else {
-        return Ok(());
+        return;
     };
-    match package.get_table(table.as_str()) {
-        Some(found) if !found.has_column(column.as_str()) => {
-            let place = Place::Column {
-                table: table.as_str(),
-                column: column.as_str(),
-            };
-            let message = "_Validation describes it, and the table hasn't got it";
-            Ok(report.add(place, &message)?)
-        }
-        _ => Ok(()),
+    if let Some(found) = package.get_table(table.as_str())
+        && !found.has_column(column.as_str())
+    {
+        let place = Place::Column {
+            table: table.as_str(),
+            column: column.as_str(),
+        };
+        report.add(
+            place,
+            &"_Validation describes it, and the table hasn't got it",
+        );
     }
 }

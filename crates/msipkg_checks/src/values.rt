@@ -1,19 +1,19 @@
 //! Values that their columns don't take, and tables that can't be read.
 
 use crate::report::{Place, Report};
-use msi::{ErrorKind, Package, Row, Rows, Select, Source, Table};
+use msi::{ErrorKind, Package, Row, Rows, Select, Table};
 use msipkg_output::Failure;
+use msipkg_system::Opened;
 use std::alloc::Global;
-use std::io::Write;
 
 /// Finds the tables that can't be read, and in the others the values that their columns don't take.
 ///
 /// # Errors
 /// Fails with `OutOfMemory`, and so do the other calls.
-pub(crate) fn check_values<F: Source, W: Write>(
+pub(crate) fn check_values(
     alloc: Global,
-    package: &Package<F>,
-    report: &mut Report<'_, W>,
+    package: &Package<Opened>,
+    report: &mut Report<'_>,
 ) -> Result<(), Failure> {
     for table in package.tables() {
         check_table(alloc, package, table, report)?;
@@ -22,40 +22,34 @@ pub(crate) fn check_values<F: Source, W: Write>(
 }
 
 /// Finds whether a table can't be read, and otherwise the values that its columns don't take.
-fn check_table<F: Source, W: Write>(
+fn check_table(
     alloc: Global,
-    package: &Package<F>,
+    package: &Package<Opened>,
     table: &Table,
-    report: &mut Report<'_, W>,
+    report: &mut Report<'_>,
 ) -> Result<(), Failure> {
     match package.select_rows(Select::table(alloc, table.name())?) {
         Ok(rows) => check_rows(table.name(), rows, report),
         Err(error) if error.kind() == ErrorKind::OutOfMemory => Err(Failure::from(error)),
-        Err(error) => Ok(report.add(Place::Table(table.name()), &error)?),
+        Err(error) => {
+            report.add(Place::Table(table.name()), &error);
+            Ok(())
+        }
     }
 }
 
 /// Finds the values of rows that their columns don't take.
-fn check_rows<W: Write>(
-    table: &str,
-    rows: Rows<'_>,
-    report: &mut Report<'_, W>,
-) -> Result<(), Failure> {
+fn check_rows(table: &str, rows: Rows<'_>, report: &mut Report<'_>) -> Result<(), Failure> {
     let mut number = 0usize;
     for row in rows {
         number = number.saturating_add(1);
-        check_row(table, number, &row?, report)?;
+        check_row(table, number, &row?, report);
     }
     Ok(())
 }
 
 /// Finds the values of a row that their columns don't take.
-fn check_row<W: Write>(
-    table: &str,
-    number: usize,
-    row: &Row,
-    report: &mut Report<'_, W>,
-) -> Result<(), Failure> {
+fn check_row(table: &str, number: usize, row: &Row, report: &mut Report<'_>) {
     let columns = row.columns();
     for i in 0..row.len().min(columns.len()) {
         if !columns[i].is_valid_value(&row[i]) {
@@ -64,8 +58,7 @@ fn check_row<W: Write>(
                 row: number,
                 column: columns[i].name(),
             };
-            report.add(cell, &"the column doesn't take this value")?;
+            report.add(cell, &"the column doesn't take this value");
         }
     }
-    Ok(())
 }

@@ -6,35 +6,31 @@ use msi::{Column, Table};
 use msipkg_output::ColumnTypeText;
 use msipkg_output::json::quoted;
 use std::alloc::{AllocError, Global};
-use std::io::{self, Write};
 
 /// Compares the columns of two tables by their names.
-///
-/// # Errors
-/// Fails as the writer does, and if memory is refused. So do the other calls.
-pub(crate) fn compare_columns<W: Write>(
-    old: &Table,
-    new: &Table,
-    report: &mut Report<'_, W>,
-) -> io::Result<()> {
+pub(crate) fn compare_columns(old: &Table, new: &Table, report: &mut Report<'_>) {
     for column in old.columns() {
-        compare_column(old, Some(column), new.get_column(column.name()), report)?;
+        let made = compare_column(old, Some(column), new.get_column(column.name()), report);
+        report.keep(made);
     }
     for column in new.columns() {
         if old.get_column(column.name()).is_none() {
-            compare_column(new, None, Some(column), report)?;
+            let made = compare_column(new, None, Some(column), report);
+            report.keep(made);
         }
     }
-    Ok(())
 }
 
 /// Compares a column that is there in both tables, or in one of them.
-fn compare_column<W: Write>(
+///
+/// # Errors
+/// Fails if memory is refused. So do the calls below.
+fn compare_column(
     table: &Table,
     old: Option<&Column>,
     new: Option<&Column>,
-    report: &mut Report<'_, W>,
-) -> io::Result<()> {
+    report: &mut Report<'_>,
+) -> Result<(), AllocError> {
     let removed = facts_beside(report.alloc, old, new)?;
     let added = facts_beside(report.alloc, new, old)?;
     match old.or(new) {
@@ -47,14 +43,14 @@ fn compare_column<W: Write>(
 }
 
 /// Adds what is said of a column in one package only.
-fn add_facts<W: Write>(
+fn add_facts(
     table: &Table,
     column: &Column,
     change: Change,
     removed: &[Fact],
     added: &[Fact],
-    report: &mut Report<'_, W>,
-) -> io::Result<()> {
+    report: &mut Report<'_>,
+) -> Result<(), AllocError> {
     let old = members_of(report.alloc, removed)?;
     let new = members_of(report.alloc, added)?;
     report.add(&Difference {
@@ -64,7 +60,8 @@ fn add_facts<W: Write>(
         name: column.name(),
         old: old.as_slice(),
         new: new.as_slice(),
-    })
+    });
+    Ok(())
 }
 
 /// What may be said of a column.

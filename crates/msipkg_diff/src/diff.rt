@@ -4,29 +4,29 @@ use crate::facts::{compare_kinds, compare_summaries};
 use crate::report::Report;
 use crate::streams::compare_streams;
 use crate::tables::compare_tables;
-use msi::{Package, Source};
+use msi::Package;
 use msipkg_files::StoredStreams;
 use msipkg_output::{Failure, Style};
+use msipkg_system::{Opened, Output};
 use std::alloc::Global;
-use std::io::Write;
 
 /// A package that is compared.
-#[derive(Drop)]
-pub struct Compared<'a, F: Source> {
+#[derive(Clone, Copy)]
+pub struct Compared<'a> {
     /// The path of its file.
     pub(crate) file: &'a str,
-    pub(crate) package: &'a Package<F>,
+    pub(crate) package: &'a Package<Opened>,
     /// The file's streams, if there is one that isn't found under its name.
     pub(crate) stored: Option<&'a StoredStreams>,
 }
 
-impl<'a, F: Source> Compared<'a, F> {
+impl<'a> Compared<'a> {
     /// Returns the package of a file as one that is compared.
     pub fn new(
         file: &'a str,
-        package: &'a Package<F>,
+        package: &'a Package<Opened>,
         stored: Option<&'a StoredStreams>,
-    ) -> Compared<'a, F> {
+    ) -> Compared<'a> {
         Compared {
             file,
             package,
@@ -39,30 +39,30 @@ impl<'a, F: Source> Compared<'a, F> {
 /// and streams. Returns whether nothing does.
 ///
 /// # Errors
-/// Fails if a table can't be read, if memory is refused, and as the writer does. The last member of JSON says so.
-pub fn print_differences<F: Source, W: Write>(
+/// Fails if a table can't be read, and if memory is refused for comparing. The last member of JSON says so. If printing
+/// fails, the output keeps that; then what is returned may miss a difference.
+pub fn print_differences(
     alloc: Global,
     style: Style,
-    old: &Compared<'_, F>,
-    new: &Compared<'_, F>,
+    old: &Compared<'_>,
+    new: &Compared<'_>,
     is_json: bool,
-    output: &mut W,
+    output: &mut Output,
 ) -> Result<bool, Failure> {
     let mut report = Report::new(alloc, style, is_json, output);
-    report.begin(old.file, new.file)?;
-    let compared = compare(old, new, &mut report);
-    report.end(compared.as_ref().err())?;
-    compared?;
-    Ok(report.is_equal())
+    report.begin(old.file, new.file);
+    match compare(old, new, &mut report) {
+        Ok(()) => Ok(report.end()),
+        Err(failure) => {
+            report.end_failed(&failure);
+            Err(failure)
+        }
+    }
 }
 
 /// Compares two packages.
-fn compare<F: Source, W: Write>(
-    old: &Compared<'_, F>,
-    new: &Compared<'_, F>,
-    report: &mut Report<'_, W>,
-) -> Result<(), Failure> {
-    compare_kinds(old.package, new.package, report)?;
+fn compare(old: &Compared<'_>, new: &Compared<'_>, report: &mut Report<'_>) -> Result<(), Failure> {
+    compare_kinds(old.package, new.package, report);
     compare_summaries(
         old.package.summary_info(),
         new.package.summary_info(),

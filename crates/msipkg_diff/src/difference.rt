@@ -1,9 +1,9 @@
 //! A difference between two packages, as lines and as JSON.
 
 use msi::Value;
-use msipkg_output::Style;
-use msipkg_output::json::JsonObject;
-use std::alloc::{AllocError, Global};
+use msipkg_output::{JsonObject, Style};
+use msipkg_system::Output;
+use std::alloc::Global;
 use std::fmt::{self, Display};
 
 /// How something differs.
@@ -70,67 +70,44 @@ impl<'a> Content<'a> {
     }
 }
 
-/// Returns a difference as lines: what differs, the old values behind `-`, and the new ones behind `+`. A value that is
+/// Prints a difference as lines: what differs, the old values behind `-`, and the new ones behind `+`. A value that is
 /// null has no line.
-///
-/// # Errors
-/// Fails if memory is refused.
-pub(crate) fn difference_lines(
-    alloc: Global,
-    style: Style,
-    difference: &Difference<'_>,
-) -> Result<String, AllocError> {
-    let mut lines = String::new(alloc);
-    push_head(style, difference, &mut lines)?;
-    push_members(style, '-', difference.old, &mut lines)?;
-    push_members(style, '+', difference.new, &mut lines)?;
-    Ok(lines)
+pub(crate) fn print_lines(style: Style, difference: &Difference<'_>, output: &mut Output) {
+    print_head(style, difference, output);
+    print_members(style, '-', difference.old, output);
+    print_members(style, '+', difference.new, output);
 }
 
-/// Pushes the line that says what differs.
-fn push_head(
-    style: Style,
-    difference: &Difference<'_>,
-    lines: &mut String,
-) -> Result<(), AllocError> {
+/// Prints the line that says what differs.
+fn print_head(style: Style, difference: &Difference<'_>, output: &mut Output) {
     let (change, kind) = (difference.change.name(), difference.kind);
     let name = style.show(difference.name);
     if difference.table.is_empty() {
-        return writeln!(lines, "{change} {kind} {name}");
+        writeln!(output, "{change} {kind} {name}");
+    } else {
+        let table = style.show(difference.table);
+        writeln!(output, "{change} {kind} {table} {name}");
     }
-    let table = style.show(difference.table);
-    writeln!(lines, "{change} {kind} {table} {name}")
 }
 
-/// Pushes a line for each member that isn't null.
-fn push_members(
-    style: Style,
-    sign: char,
-    members: &[Member<'_>],
-    lines: &mut String,
-) -> Result<(), AllocError> {
+/// Prints a line for each member that isn't null.
+fn print_members(style: Style, sign: char, members: &[Member<'_>], output: &mut Output) {
     for member in members {
-        push_member(style, sign, member, lines)?;
+        print_member(style, sign, member, output);
     }
-    Ok(())
 }
 
-/// Pushes the line of a member, unless it is null.
-fn push_member(
-    style: Style,
-    sign: char,
-    member: &Member<'_>,
-    lines: &mut String,
-) -> Result<(), AllocError> {
+/// Prints the line of a member, unless it is null.
+fn print_member(style: Style, sign: char, member: &Member<'_>, output: &mut Output) {
     if let Content::Value(Value::Null) = member.content {
-        return Ok(());
+        return;
     }
     let name = style.show(member.name);
     let content = ShownContent {
         style,
         content: member.content,
     };
-    writeln!(lines, "{sign} {name}: {content}")
+    writeln!(output, "{sign} {name}: {content}");
 }
 
 /// What stands under a name, in a line.
@@ -154,48 +131,38 @@ impl Display for ShownContent<'_> {
 }
 
 /// Returns a difference as a JSON object.
-///
-/// # Errors
-/// Fails if memory is refused.
-pub(crate) fn difference_json(
-    alloc: Global,
-    difference: &Difference<'_>,
-) -> Result<String, AllocError> {
-    let mut object = JsonObject::new(alloc)?;
-    put_head(difference, &mut object)?;
-    put_members("old", difference.old, &mut object)?;
-    put_members("new", difference.new, &mut object)?;
-    object.finish()
+pub(crate) fn difference_json(alloc: Global, difference: &Difference<'_>) -> JsonObject {
+    let mut object = JsonObject::new(alloc);
+    put_head(difference, &mut object);
+    put_members("old", difference.old, &mut object);
+    put_members("new", difference.new, &mut object);
+    object
 }
 
 /// Puts what differs.
-fn put_head(difference: &Difference<'_>, object: &mut JsonObject) -> Result<(), AllocError> {
-    object.put_text("change", Some(difference.change.name()))?;
-    object.put_text("kind", Some(difference.kind))?;
+fn put_head(difference: &Difference<'_>, object: &mut JsonObject) {
+    object.put_text("change", Some(difference.change.name()));
+    object.put_text("kind", Some(difference.kind));
     if !difference.table.is_empty() {
-        object.put_text("table", Some(difference.table))?;
+        object.put_text("table", Some(difference.table));
     }
-    object.put_text("name", Some(difference.name))
+    object.put_text("name", Some(difference.name));
 }
 
 /// Puts an object of members under the name of a side, if there is one.
-fn put_members(
-    side: &str,
-    members: &[Member<'_>],
-    object: &mut JsonObject,
-) -> Result<(), AllocError> {
+fn put_members(side: &str, members: &[Member<'_>], object: &mut JsonObject) {
     if members.is_empty() {
-        return Ok(());
+        return;
     }
-    object.open_object(side)?;
+    object.open_object(side);
     for member in members {
-        put_member(member, object)?;
+        put_member(member, object);
     }
-    object.close_item()
+    object.close_item();
 }
 
 /// Puts a member, where a stream is `true`.
-fn put_member(member: &Member<'_>, object: &mut JsonObject) -> Result<(), AllocError> {
+fn put_member(member: &Member<'_>, object: &mut JsonObject) {
     let name = member.name;
     match member.content {
         Content::Value(Value::Null) => object.put_text(name, None),

@@ -2,29 +2,22 @@
 
 use crate::difference::{Change, Content, Difference, Member};
 use crate::report::Report;
-use msi::{Package, Source, SummaryInfo};
-use msipkg_output::{Failure, PROPERTIES, kind_name, property_text};
-use std::io::{self, Write};
+use msi::{Error, Package, SummaryInfo};
+use msipkg_output::{PROPERTIES, kind_name, property_text};
+use msipkg_system::Opened;
 
 /// Compares the kinds and the code pages.
-///
-/// # Errors
-/// Fails as the writer does, and if memory is refused. So do the other calls.
-pub(crate) fn compare_kinds<F: Source, W: Write>(
-    old: &Package<F>,
-    new: &Package<F>,
-    report: &mut Report<'_, W>,
-) -> io::Result<()> {
+pub(crate) fn compare_kinds(old: &Package<Opened>, new: &Package<Opened>, report: &mut Report<'_>) {
     let (kind, other) = (kind_name(old.package_type()), kind_name(new.package_type()));
-    compare_texts("package", "kind", Some(kind), Some(other), report)?;
+    compare_texts("package", "kind", Some(kind), Some(other), report);
     let (page, other) = (old.database_codepage(), new.database_codepage());
-    compare_pages(page.id(), other.id(), report)
+    compare_pages(page.id(), other.id(), report);
 }
 
 /// Compares the code pages of two databases.
-fn compare_pages<W: Write>(old: i32, new: i32, report: &mut Report<'_, W>) -> io::Result<()> {
+fn compare_pages(old: i32, new: i32, report: &mut Report<'_>) {
     if old == new {
-        return Ok(());
+        return;
     }
     report.add(&Difference {
         change: Change::Changed,
@@ -33,7 +26,7 @@ fn compare_pages<W: Write>(old: i32, new: i32, report: &mut Report<'_, W>) -> io
         name: "codepage",
         old: &[page_member(old)],
         new: &[page_member(new)],
-    })
+    });
 }
 
 /// A code page.
@@ -45,11 +38,14 @@ fn page_member(page: i32) -> Member<'static> {
 }
 
 /// Compares all properties.
-pub(crate) fn compare_summaries<W: Write>(
+///
+/// # Errors
+/// Fails if memory is refused for the text of a property.
+pub(crate) fn compare_summaries(
     old: &SummaryInfo,
     new: &SummaryInfo,
-    report: &mut Report<'_, W>,
-) -> Result<(), Failure> {
+    report: &mut Report<'_>,
+) -> Result<(), Error> {
     for (id, name) in &PROPERTIES {
         compare_property(*id, name, old, new, report)?;
     }
@@ -57,30 +53,31 @@ pub(crate) fn compare_summaries<W: Write>(
 }
 
 /// Compares a property.
-fn compare_property<W: Write>(
+fn compare_property(
     id: i32,
     name: &'static str,
     old: &SummaryInfo,
     new: &SummaryInfo,
-    report: &mut Report<'_, W>,
-) -> Result<(), Failure> {
+    report: &mut Report<'_>,
+) -> Result<(), Error> {
     let old = property_text(report.alloc, old, id)?;
     let new = property_text(report.alloc, new, id)?;
     let old_text = old.as_ref().map(|text| text.as_str());
     let new_text = new.as_ref().map(|text| text.as_str());
-    Ok(compare_texts("summary", name, old_text, new_text, report)?)
+    compare_texts("summary", name, old_text, new_text, report);
+    Ok(())
 }
 
 /// Compares a text that is there in both packages, or in one of them.
-fn compare_texts<W: Write>(
+fn compare_texts(
     kind: &'static str,
     name: &'static str,
     old: Option<&str>,
     new: Option<&str>,
-    report: &mut Report<'_, W>,
-) -> io::Result<()> {
+    report: &mut Report<'_>,
+) {
     if old == new {
-        return Ok(());
+        return;
     }
     let (old_member, new_member) = (text_member(name, old), text_member(name, new));
     report.add(&Difference {
@@ -90,7 +87,7 @@ fn compare_texts<W: Write>(
         name,
         old: old_member.as_slice(),
         new: new_member.as_slice(),
-    })
+    });
 }
 
 /// A text under its name, if it is there.

@@ -1,31 +1,30 @@
 //! The differences as they are found: printed as lines, or as one line of JSON.
 
-use crate::difference::{Difference, difference_json, difference_lines};
-use msipkg_output::json::{JsonObject, quoted, write_line, write_text};
-use msipkg_output::{Failure, Style};
+use crate::difference::{Difference, difference_json, print_lines};
+use msipkg_output::json::{write_quoted, write_text};
+use msipkg_output::{Failure, JsonObject, Style};
+use msipkg_system::Output;
 use std::alloc::{AllocError, Global};
-use std::io::{self, Write};
 
 /// Where differences are printed.
 #[derive(Drop)]
-pub(crate) struct Report<'a, W> {
+pub(crate) struct Report<'a> {
     pub(crate) alloc: Global,
     style: Style,
     is_json: bool,
     /// Whether nothing was found to differ.
     is_equal: bool,
-    output: &'a mut W,
+    output: &'a mut Output,
 }
 
-/// Each call fails as the writer does, and if memory is refused.
-impl<'a, W: Write> Report<'a, W> {
+impl<'a> Report<'a> {
     /// Returns a report in which nothing differs.
     pub(crate) fn new(
         alloc: Global,
         style: Style,
         is_json: bool,
-        output: &'a mut W,
-    ) -> Report<'a, W> {
+        output: &'a mut Output,
+    ) -> Report<'a> {
         Report {
             alloc,
             style,
@@ -35,64 +34,66 @@ impl<'a, W: Write> Report<'a, W> {
         }
     }
 
-    /// Returns whether nothing was found to differ.
-    pub(crate) fn is_equal(&self) -> bool {
-        self.is_equal
-    }
-
     /// Begins the report on the packages of two files.
-    pub(crate) fn begin(&mut self, old: &str, new: &str) -> io::Result<()> {
+    pub(crate) fn begin(&mut self, old: &str, new: &str) {
         if !self.is_json {
-            return Ok(());
+            return;
         }
-        let object = object_of(self.alloc, old, new)?;
-        write_text(self.style, object.begun(), self.output)
+        let object = object_of(self.alloc, old, new);
+        match object.begun() {
+            Ok(text) => write_text(self.style, text, self.output),
+            Err(error) => self.output.refuse_memory(error),
+        }
     }
 
     /// Prints a difference.
-    pub(crate) fn add(&mut self, difference: &Difference<'_>) -> io::Result<()> {
-        let is_first = self.is_equal;
+    pub(crate) fn add(&mut self, difference: &Difference<'_>) {
+        if self.is_json {
+            if !self.is_equal {
+                self.output.push_str(",");
+            }
+            difference_json(self.alloc, difference).print(self.style, self.output);
+        } else {
+            print_lines(self.style, difference, self.output);
+        }
         self.is_equal = false;
-        if !self.is_json {
-            let lines = difference_lines(self.alloc, self.style, difference)?;
-            return self.output.write_all(lines.as_bytes());
-        }
-        if !is_first {
-            self.output.write_all(b",")?;
-        }
-        let json = difference_json(self.alloc, difference)?;
-        write_text(self.style, json.as_str(), self.output)
     }
 
-    /// Ends the report: whether nothing differs, or why comparing the packages failed.
-    pub(crate) fn end(&mut self, failure: Option<&Failure>) -> io::Result<()> {
-        if !self.is_json {
-            return Ok(());
+    /// Hands on to the output that memory was refused for what a difference is made of, if it was.
+    pub(crate) fn keep(&mut self, made: Result<(), AllocError>) {
+        if let Err(error) = made {
+            self.output.refuse_memory(error);
         }
-        let last = last_members(self.alloc, self.is_equal, failure)?;
-        write_line(self.style, last.as_str(), self.output)
+    }
+
+    /// Ends the report, and returns whether nothing was found to differ.
+    pub(crate) fn end(&mut self) -> bool {
+        let is_equal = self.is_equal;
+        if self.is_json {
+            writeln!(self.output, "],\"equal\":{is_equal}}}");
+        }
+        is_equal
+    }
+
+    /// Ends the report with the reason why comparing the packages failed.
+    pub(crate) fn end_failed(&mut self, failure: &Failure) {
+        if !self.is_json {
+            return;
+        }
+        self.output.push_str("],\"error\":");
+        match failure.to_string(self.alloc) {
+            Ok(message) => write_quoted(self.alloc, self.style, message.as_str(), self.output),
+            Err(error) => self.output.refuse_memory(error),
+        }
+        self.output.push_str("}\n");
     }
 }
 
 /// An object with the paths of two files, and an open list of differences.
-fn object_of(alloc: Global, old: &str, new: &str) -> Result<JsonObject, AllocError> {
-    let mut object = JsonObject::new(alloc)?;
-    object.put_text("old", Some(old))?;
-    object.put_text("new", Some(new))?;
-    object.open_list("differences")?;
-    Ok(object)
-}
-
-/// The end of the list and of the object, and between them its last member.
-fn last_members(
-    alloc: Global,
-    is_equal: bool,
-    failure: Option<&Failure>,
-) -> Result<String, AllocError> {
-    let Some(failure) = failure else {
-        return format!(in alloc; "],\"equal\":{is_equal}}}");
-    };
-    let message = failure.to_string(alloc)?;
-    let error = quoted(alloc, message.as_str())?;
-    format!(in alloc; "],\"error\":{error}}}")
+fn object_of(alloc: Global, old: &str, new: &str) -> JsonObject {
+    let mut object = JsonObject::new(alloc);
+    object.put_text("old", Some(old));
+    object.put_text("new", Some(new));
+    object.open_list("differences");
+    object
 }

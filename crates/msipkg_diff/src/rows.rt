@@ -3,11 +3,11 @@
 use crate::diff::Compared;
 use crate::difference::{Change, Content, Difference, Member};
 use crate::report::Report;
-use msi::{Column, Error, Items, Package, Row, Rows, Select, Source, Table, Value};
+use msi::{Column, Error, Items, Package, Row, Rows, Select, Table, Value};
 use msi_compare::{Difference as RowDifference, differences};
 use msipkg_output::{Failure, Shown, push_key};
+use msipkg_system::Opened;
 use std::alloc::{AllocError, Global};
-use std::io::{self, Write};
 
 /// The rows of two tables, with the columns of the first.
 #[derive(Clone, Copy)]
@@ -22,29 +22,38 @@ struct Pair<'a> {
 /// there are is shown.
 ///
 /// # Errors
-/// Fails if the table can't be read, as the writer does, and if memory is refused. So do the other calls.
-pub(crate) fn compare_rows<F: Source, W: Write>(
-    old: &Compared<'_, F>,
-    new: &Compared<'_, F>,
+/// Fails if the table can't be read, and if memory is refused for its rows. So do the other calls.
+pub(crate) fn compare_rows(
+    old: &Compared<'_>,
+    new: &Compared<'_>,
     table: &Table,
-    report: &mut Report<'_, W>,
+    report: &mut Report<'_>,
 ) -> Result<(), Failure> {
-    let alloc = report.alloc;
-    let old_rows = match selected_rows(alloc, old.package, table.name()) {
-        Ok(rows) => rows,
-        Err(error) => return Err(Failure::from(error).at(alloc, "table", table.name())),
-    };
-    let new_rows = match selected_rows(alloc, new.package, table.name()) {
-        Ok(rows) => rows,
-        Err(error) => return Err(failure_of_new(alloc, new.file, table.name(), error)),
-    };
-    let pair = Pair {
-        table: table.name(),
-        columns: table.columns(),
-        old: old_rows.as_slice(),
-        new: new_rows.as_slice(),
-    };
-    compare_pair(&pair, report)
+    match selected_rows(report.alloc, old.package, table.name()) {
+        Ok(rows) => compare_with_new(rows.as_slice(), new, table, report),
+        Err(error) => Err(Failure::from(error).at(report.alloc, "table", table.name())),
+    }
+}
+
+/// Compares the rows of a table with those of the new package.
+fn compare_with_new(
+    old_rows: &[Items<Value>],
+    new: &Compared<'_>,
+    table: &Table,
+    report: &mut Report<'_>,
+) -> Result<(), Failure> {
+    match selected_rows(report.alloc, new.package, table.name()) {
+        Ok(rows) => {
+            let pair = Pair {
+                table: table.name(),
+                columns: table.columns(),
+                old: old_rows,
+                new: rows.as_slice(),
+            };
+            compare_pair(&pair, report)
+        }
+        Err(error) => Err(failure_of_new(report.alloc, new.file, table.name(), error)),
+    }
 }
 
 /// The failure at a table of the new package, whose file has to be named.
@@ -57,9 +66,9 @@ fn failure_of_new(alloc: Global, file: &str, table: &str, error: Error) -> Failu
 }
 
 /// Copies of the rows of a table.
-fn selected_rows<F: Source>(
+fn selected_rows(
     alloc: Global,
-    package: &Package<F>,
+    package: &Package<Opened>,
     table: &str,
 ) -> Result<Vec<Items<Value>>, Error> {
     copied_rows(alloc, package.select_rows(Select::table(alloc, table)?)?)
@@ -84,14 +93,15 @@ fn copied_values(alloc: Global, row: &Row) -> Result<Items<Value>, Error> {
 }
 
 /// Adds what differs between rows.
-fn compare_pair<W: Write>(pair: &Pair<'_>, report: &mut Report<'_, W>) -> Result<(), Failure> {
+fn compare_pair(pair: &Pair<'_>, report: &mut Report<'_>) -> Result<(), Failure> {
     if are_same(pair.old, pair.new) {
         return Ok(());
     }
     if share_keys(report.alloc, pair.columns, pair.old)?
         || share_keys(report.alloc, pair.columns, pair.new)?
     {
-        return Ok(add_counts(pair, report)?);
+        add_counts(pair, report);
+        return Ok(());
     }
     add_differences(pair, report)
 }
@@ -111,7 +121,7 @@ fn share_keys(alloc: Global, columns: &[Column], rows: &[Items<Value>]) -> Resul
 }
 
 /// Adds how many rows there are.
-fn add_counts<W: Write>(pair: &Pair<'_>, report: &mut Report<'_, W>) -> io::Result<()> {
+fn add_counts(pair: &Pair<'_>, report: &mut Report<'_>) {
     report.add(&Difference {
         change: Change::Changed,
         kind: "table",
@@ -119,7 +129,7 @@ fn add_counts<W: Write>(pair: &Pair<'_>, report: &mut Report<'_, W>) -> io::Resu
         name: pair.table,
         old: &[count_member(pair.old)],
         new: &[count_member(pair.new)],
-    })
+    });
 }
 
 /// How many rows there are.
@@ -131,20 +141,21 @@ fn count_member(rows: &[Items<Value>]) -> Member<'static> {
 }
 
 /// Adds each difference between rows.
-fn add_differences<W: Write>(pair: &Pair<'_>, report: &mut Report<'_, W>) -> Result<(), Failure> {
+fn add_differences(pair: &Pair<'_>, report: &mut Report<'_>) -> Result<(), Failure> {
     let found = differences(report.alloc, pair.columns, pair.old, pair.new)?;
     for difference in &found {
-        add_difference(pair, *difference, report)?;
+        let made = add_difference(pair, *difference, report);
+        report.keep(made);
     }
     Ok(())
 }
 
 /// Adds a difference between rows.
-fn add_difference<W: Write>(
+fn add_difference(
     pair: &Pair<'_>,
     difference: RowDifference,
-    report: &mut Report<'_, W>,
-) -> io::Result<()> {
+    report: &mut Report<'_>,
+) -> Result<(), AllocError> {
     match difference {
         RowDifference::Removed(place) => {
             add_rows(
@@ -174,13 +185,13 @@ fn values_at(rows: &[Items<Value>], place: usize) -> &[Value] {
 }
 
 /// Adds two rows of one key, or one that is alone, and then the other has no values.
-fn add_rows<W: Write>(
+fn add_rows(
     pair: &Pair<'_>,
     change: Change,
     old: &[Value],
     new: &[Value],
-    report: &mut Report<'_, W>,
-) -> io::Result<()> {
+    report: &mut Report<'_>,
+) -> Result<(), AllocError> {
     let key_row = if old.is_empty() { new } else { old };
     let key = key_text(report.alloc, pair.columns, key_row)?;
     let old_members = members_beside(report.alloc, pair.columns, old, new)?;
@@ -192,7 +203,8 @@ fn add_rows<W: Write>(
         name: key.as_str(),
         old: old_members.as_slice(),
         new: new_members.as_slice(),
-    })
+    });
+    Ok(())
 }
 
 /// The values of a row that another one doesn't have.

@@ -3,57 +3,50 @@
 use crate::diff::Compared;
 use crate::difference::{Change, Content, Difference, Member};
 use crate::report::Report;
-use msi::Source;
 use msipkg_files::stream_bytes;
 use msipkg_output::Failure;
-use std::io::{self, Write};
 
 /// Compares all streams by their names and their bytes.
 ///
 /// # Errors
-/// Fails as the writer does, and if memory is refused. So do the other calls.
-pub(crate) fn compare_streams<F: Source, W: Write>(
-    old: &Compared<'_, F>,
-    new: &Compared<'_, F>,
-    report: &mut Report<'_, W>,
+/// Fails if memory is refused for the name of a stream. So does the other call.
+pub(crate) fn compare_streams(
+    old: &Compared<'_>,
+    new: &Compared<'_>,
+    report: &mut Report<'_>,
 ) -> Result<(), Failure> {
     for name in old.package.streams() {
         let name = name?;
         let bytes = bytes_of(old, name.as_str());
-        compare_stream(name.as_str(), bytes, bytes_of(new, name.as_str()), report)?;
+        compare_stream(name.as_str(), bytes, bytes_of(new, name.as_str()), report);
     }
     add_new_streams(old, new, report)
 }
 
 /// Adds the streams that the new package alone has.
-fn add_new_streams<F: Source, W: Write>(
-    old: &Compared<'_, F>,
-    new: &Compared<'_, F>,
-    report: &mut Report<'_, W>,
+fn add_new_streams(
+    old: &Compared<'_>,
+    new: &Compared<'_>,
+    report: &mut Report<'_>,
 ) -> Result<(), Failure> {
     for name in new.package.streams() {
         let name = name?;
         if bytes_of(old, name.as_str()).is_none() {
-            compare_stream(name.as_str(), None, bytes_of(new, name.as_str()), report)?;
+            compare_stream(name.as_str(), None, bytes_of(new, name.as_str()), report);
         }
     }
     Ok(())
 }
 
 /// The bytes of a stream, if it is there.
-fn bytes_of<'a, F: Source>(package: &Compared<'a, F>, name: &str) -> Option<&'a [u8]> {
+fn bytes_of<'a>(package: &Compared<'a>, name: &str) -> Option<&'a [u8]> {
     stream_bytes(package.package, package.stored, name).ok()
 }
 
 /// Compares the bytes of a stream.
-fn compare_stream<W: Write>(
-    name: &str,
-    old: Option<&[u8]>,
-    new: Option<&[u8]>,
-    report: &mut Report<'_, W>,
-) -> io::Result<()> {
+fn compare_stream(name: &str, old: Option<&[u8]>, new: Option<&[u8]>, report: &mut Report<'_>) {
     if old == new {
-        return Ok(());
+        return;
     }
     let (old_length, new_length) = (length_member(old), length_member(new));
     report.add(&Difference {
@@ -63,7 +56,7 @@ fn compare_stream<W: Write>(
         name,
         old: old_length.as_slice(),
         new: new_length.as_slice(),
-    })
+    });
 }
 
 /// How many bytes a stream has, if it is there.

@@ -5,49 +5,41 @@ use crate::diff::Compared;
 use crate::difference::{Change, Content, Difference, Member};
 use crate::report::Report;
 use crate::rows::compare_rows;
-use msi::{Column, Package, Source, Table};
+use msi::{Column, Package, Table};
 use msipkg_output::{Failure, is_list};
+use msipkg_system::Opened;
 use std::alloc::{AllocError, Global};
-use std::io::{self, Write};
 
 /// Compares all tables: their columns and, where these have the same names in the same order and the same keys, their
 /// rows.
 ///
 /// # Errors
-/// Fails if a table can't be read, as the writer does, and if memory is refused. So do the other calls.
-pub(crate) fn compare_tables<F: Source, W: Write>(
-    old: &Compared<'_, F>,
-    new: &Compared<'_, F>,
-    report: &mut Report<'_, W>,
+/// Fails if a table can't be read, and if memory is refused for its rows. So do the calls on one table.
+pub(crate) fn compare_tables(
+    old: &Compared<'_>,
+    new: &Compared<'_>,
+    report: &mut Report<'_>,
 ) -> Result<(), Failure> {
     for table in old.package.tables() {
         if !is_list(table) {
             compare_table(old, new, table, report)?;
         }
     }
-    Ok(add_new_tables(old.package, new.package, report)?)
-}
-
-/// Adds the tables that the new package alone has.
-fn add_new_tables<F: Source, W: Write>(
-    old: &Package<F>,
-    new: &Package<F>,
-    report: &mut Report<'_, W>,
-) -> io::Result<()> {
-    for table in new.tables() {
-        if !old.has_table(table.name()) {
-            note_table(Change::Added, table, report)?;
-        }
-    }
+    add_new_tables(old.package, new.package, report);
     Ok(())
 }
 
+/// Adds the tables that the new package alone has.
+fn add_new_tables(old: &Package<Opened>, new: &Package<Opened>, report: &mut Report<'_>) {
+    for table in new.tables() {
+        if !old.has_table(table.name()) {
+            note_table(Change::Added, table, report);
+        }
+    }
+}
+
 /// Adds a table that one package alone has.
-fn note_table<W: Write>(
-    change: Change,
-    table: &Table,
-    report: &mut Report<'_, W>,
-) -> io::Result<()> {
+fn note_table(change: Change, table: &Table, report: &mut Report<'_>) {
     report.add(&Difference {
         change,
         kind: "table",
@@ -55,22 +47,25 @@ fn note_table<W: Write>(
         name: table.name(),
         old: &[],
         new: &[],
-    })
+    });
 }
 
 /// Compares a table of the old package.
-fn compare_table<F: Source, W: Write>(
-    old: &Compared<'_, F>,
-    new: &Compared<'_, F>,
+fn compare_table(
+    old: &Compared<'_>,
+    new: &Compared<'_>,
     table: &Table,
-    report: &mut Report<'_, W>,
+    report: &mut Report<'_>,
 ) -> Result<(), Failure> {
     let Some(other) = new.package.get_table(table.name()) else {
-        return Ok(note_table(Change::Removed, table, report)?);
+        note_table(Change::Removed, table, report);
+        return Ok(());
     };
-    compare_columns(table, other, report)?;
+    compare_columns(table, other, report);
     if !have_same_names(table.columns(), other.columns()) {
-        return Ok(compare_orders(table, other, report)?);
+        let made = compare_orders(table, other, report);
+        report.keep(made);
+        return Ok(());
     }
     if !have_same_keys(table.columns(), other.columns()) {
         return Ok(());
@@ -94,11 +89,7 @@ fn have_same_keys(columns: &[Column], others: &[Column]) -> bool {
 }
 
 /// Adds the orders of the columns of two tables, which differ.
-fn compare_orders<W: Write>(
-    old: &Table,
-    new: &Table,
-    report: &mut Report<'_, W>,
-) -> io::Result<()> {
+fn compare_orders(old: &Table, new: &Table, report: &mut Report<'_>) -> Result<(), AllocError> {
     let old_names = names_of(report.alloc, old.columns())?;
     let new_names = names_of(report.alloc, new.columns())?;
     report.add(&Difference {
@@ -108,7 +99,8 @@ fn compare_orders<W: Write>(
         name: old.name(),
         old: &[names_member(old_names.as_str())],
         new: &[names_member(new_names.as_str())],
-    })
+    });
+    Ok(())
 }
 
 /// The names of columns under a name.

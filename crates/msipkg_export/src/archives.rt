@@ -5,14 +5,12 @@ use crate::other_archives::{
     PAGE, STREAMS, SUMMARY, page_archive, streams_archive, summary_archive,
 };
 use crate::table_archives::{StreamFile, TableArchive, table_archive};
-use msi::{Package, Source, Table};
+use msi::{Package, Table};
 use msipkg_files::{Folder, SafeNames, at_file, path_in};
 use msipkg_output::{Failure, chosen_tables};
+use msipkg_system::{Opened, System};
 use std::alloc::{AllocError, Global};
 use std::collections::BTreeSet;
-use std::fs::OpenFile;
-use std::io::Write;
-use std::rt::Files;
 
 /// What was exported.
 struct Exported {
@@ -61,40 +59,42 @@ impl Exported {
 /// # Errors
 /// Fails if a table isn't there or can't be read, if a text can't stand in an archive, if a stream that a row has isn't
 /// there, if a file is there already and isn't to be replaced, and as the calls of the system do. Earlier files stay.
-pub fn export_archives<R, F>(
-    rt: &R,
-    package: &Package<F>,
+pub fn export_archives(
+    rt: &System,
+    package: &Package<Opened>,
     names: &[&str],
     folder: &Folder<'_>,
-) -> Result<(), Failure>
-where
-    R: Files + AllocGlobal,
-    R::File: OpenFile + Write + Drop,
-    F: Source,
-{
+) -> Result<(), Failure> {
     let tables = chosen_tables(rt.alloc(), package, names, false)?;
     make_folder(rt, folder.path)?;
     let mut exported = Exported::new(rt.alloc())?;
-    export_tables(rt, package, tables.as_slice(), folder, &mut exported)?;
+    export_chosen(rt, package, names, tables.as_slice(), folder, &mut exported)
+}
+
+/// Writes the tables that are chosen by these names, and what isn't in a table where there is no name.
+fn export_chosen(
+    rt: &System,
+    package: &Package<Opened>,
+    names: &[&str],
+    tables: &[&Table],
+    folder: &Folder<'_>,
+    exported: &mut Exported,
+) -> Result<(), Failure> {
+    export_tables(rt, package, tables, folder, exported)?;
     if names.is_empty() {
-        export_others(rt, package, &exported.streams, folder)?;
+        return export_others(rt, package, &exported.streams, folder);
     }
     Ok(())
 }
 
 /// Writes tables and the streams of their rows, which are noted.
-fn export_tables<R, F>(
-    rt: &R,
-    package: &Package<F>,
+fn export_tables(
+    rt: &System,
+    package: &Package<Opened>,
     tables: &[&Table],
     folder: &Folder<'_>,
     exported: &mut Exported,
-) -> Result<(), Failure>
-where
-    R: Files + AllocGlobal,
-    R::File: OpenFile + Write + Drop,
-    F: Source,
-{
+) -> Result<(), Failure> {
     for table in tables {
         match export_table(rt, package, table, folder, exported) {
             Ok(()) => {}
@@ -105,18 +105,13 @@ where
 }
 
 /// Writes a table and the streams of its rows, which are noted.
-fn export_table<R, F>(
-    rt: &R,
-    package: &Package<F>,
+fn export_table(
+    rt: &System,
+    package: &Package<Opened>,
     table: &Table,
     folder: &Folder<'_>,
     exported: &mut Exported,
-) -> Result<(), Failure>
-where
-    R: Files + AllocGlobal,
-    R::File: OpenFile + Write + Drop,
-    F: Source,
-{
+) -> Result<(), Failure> {
     let archive = table_archive(rt.alloc(), package, table)?;
     let safe = exported.given.give(table.name())?;
     write_archive(rt, package, safe.as_str(), &archive, folder)?;
@@ -125,36 +120,40 @@ where
 
 /// Writes what isn't in a table: the code page, the summary, and the streams that no row has. Those of rows are
 /// `named`.
-fn export_others<R, F>(
-    rt: &R,
-    package: &Package<F>,
+fn export_others(
+    rt: &System,
+    package: &Package<Opened>,
     named: &BTreeSet<String>,
     folder: &Folder<'_>,
-) -> Result<(), Failure>
-where
-    R: Files + AllocGlobal,
-    R::File: OpenFile + Write + Drop,
-    F: Source,
-{
-    let page = page_archive(rt.alloc(), package.database_codepage())?;
-    write_archive(rt, package, PAGE, &page, folder)?;
-    let summary = summary_archive(rt.alloc(), package.summary_info())?;
-    write_archive(rt, package, SUMMARY, &summary, folder)?;
+) -> Result<(), Failure> {
+    export_page(rt, package, folder)?;
+    export_summary(rt, package, folder)?;
     export_streams(rt, package, named, folder)
 }
 
+/// Writes the code page.
+fn export_page(rt: &System, package: &Package<Opened>, folder: &Folder<'_>) -> Result<(), Failure> {
+    let page = page_archive(rt.alloc(), package.database_codepage())?;
+    write_archive(rt, package, PAGE, &page, folder)
+}
+
+/// Writes the summary.
+fn export_summary(
+    rt: &System,
+    package: &Package<Opened>,
+    folder: &Folder<'_>,
+) -> Result<(), Failure> {
+    let summary = summary_archive(rt.alloc(), package.summary_info())?;
+    write_archive(rt, package, SUMMARY, &summary, folder)
+}
+
 /// Writes the streams that no row has, if there are some.
-fn export_streams<R, F>(
-    rt: &R,
-    package: &Package<F>,
+fn export_streams(
+    rt: &System,
+    package: &Package<Opened>,
     named: &BTreeSet<String>,
     folder: &Folder<'_>,
-) -> Result<(), Failure>
-where
-    R: Files + AllocGlobal,
-    R::File: OpenFile + Write + Drop,
-    F: Source,
-{
+) -> Result<(), Failure> {
     let streams = streams_archive(rt.alloc(), package, named)?;
     if streams.files.is_empty() {
         return Ok(());
@@ -163,24 +162,18 @@ where
 }
 
 /// Writes an archive to its file, which has this name and `.idt`, and its streams to files of the folder of this name.
-fn write_archive<R, F>(
-    rt: &R,
-    package: &Package<F>,
+fn write_archive(
+    rt: &System,
+    package: &Package<Opened>,
     safe: &str,
     archive: &TableArchive,
     folder: &Folder<'_>,
-) -> Result<(), Failure>
-where
-    R: Files + AllocGlobal,
-    R::File: OpenFile + Write + Drop,
-    F: Source,
-{
+) -> Result<(), Failure> {
     write_text(rt, safe, archive, folder)?;
     if archive.files.is_empty() {
         return Ok(());
     }
     let path = path_in(rt.alloc(), folder.path, safe)?;
-    make_inner_folder(rt, path.as_str())?;
     let inner = Folder {
         path: path.as_str(),
         is_forced: folder.is_forced,
@@ -189,16 +182,12 @@ where
 }
 
 /// Writes the text of an archive to its file.
-fn write_text<R>(
-    rt: &R,
+fn write_text(
+    rt: &System,
     safe: &str,
     archive: &TableArchive,
     folder: &Folder<'_>,
-) -> Result<(), Failure>
-where
-    R: Files + AllocGlobal,
-    R::File: OpenFile + Write + Drop,
-{
+) -> Result<(), Failure> {
     let name = archive_name(rt.alloc(), safe)?;
     match archive.encoded(rt.alloc()) {
         Ok(bytes) => folder.write(rt, name.as_str(), bytes.as_slice()),
@@ -211,36 +200,27 @@ fn archive_name(alloc: Global, safe: &str) -> Result<String, AllocError> {
     format!(in alloc; "{safe}.idt")
 }
 
-/// Writes streams to files of a folder.
-fn write_streams<R, F>(
-    rt: &R,
-    package: &Package<F>,
+/// Makes an inner folder, and writes streams to files of it.
+fn write_streams(
+    rt: &System,
+    package: &Package<Opened>,
     files: &[StreamFile],
-    folder: &Folder<'_>,
-) -> Result<(), Failure>
-where
-    R: Files + AllocGlobal,
-    R::File: OpenFile + Write + Drop,
-    F: Source,
-{
+    inner: &Folder<'_>,
+) -> Result<(), Failure> {
+    make_inner_folder(rt, inner.path)?;
     for file in files {
-        write_stream(rt, package, file, folder)?;
+        write_stream(rt, package, file, inner)?;
     }
     Ok(())
 }
 
 /// Writes a stream to its file.
-fn write_stream<R, F>(
-    rt: &R,
-    package: &Package<F>,
+fn write_stream(
+    rt: &System,
+    package: &Package<Opened>,
     file: &StreamFile,
     folder: &Folder<'_>,
-) -> Result<(), Failure>
-where
-    R: Files + AllocGlobal,
-    R::File: OpenFile + Write + Drop,
-    F: Source,
-{
+) -> Result<(), Failure> {
     match package.read_stream(file.stream.as_str()) {
         Ok(stream) => folder.write(rt, file.file.as_str(), stream.rest()),
         Err(error) => Err(Failure::from(error).at(rt.alloc(), "stream", file.stream.as_str())),

@@ -2,13 +2,11 @@
 
 use crate::exporting::BARE;
 use crate::folders::make_folder;
-use msi::{Package, Source, Table};
+use msi::{Package, Table};
 use msipkg_files::{Folder, SafeNames};
 use msipkg_output::{Failure, Format, Style, chosen_tables, rows_of, write_rows};
+use msipkg_system::{Opened, Output, System};
 use std::alloc::{AllocError, Global};
-use std::fs::OpenFile;
-use std::io::Write;
-use std::rt::Files;
 
 /// Writes each of the tables to a file of a folder, which is named after the table. The folder is made where it isn't
 /// there.
@@ -16,42 +14,41 @@ use std::rt::Files;
 /// # Errors
 /// Fails if a table isn't there or can't be read, if a file is there already and isn't to be replaced, and as the calls
 /// of the system do. The files of earlier tables stay.
-pub fn export_csv<R, F>(
-    rt: &R,
-    package: &Package<F>,
+pub fn export_csv(
+    rt: &System,
+    package: &Package<Opened>,
     names: &[&str],
     folder: &Folder<'_>,
-) -> Result<(), Failure>
-where
-    R: Files + AllocGlobal,
-    R::File: OpenFile + Write + Drop,
-    F: Source,
-{
+) -> Result<(), Failure> {
     let tables = chosen_tables(rt.alloc(), package, names, false)?;
+    export_tables(rt, package, tables.as_slice(), folder)
+}
+
+/// Makes the folder, and writes tables to files of it.
+fn export_tables(
+    rt: &System,
+    package: &Package<Opened>,
+    tables: &[&Table],
+    folder: &Folder<'_>,
+) -> Result<(), Failure> {
     make_folder(rt, folder.path)?;
     let mut given = SafeNames::new(rt.alloc());
-    for table in &tables {
+    for table in tables {
         export_table(rt, package, table, folder, &mut given)?;
     }
     Ok(())
 }
 
 /// Writes a table to its file.
-fn export_table<R, F>(
-    rt: &R,
-    package: &Package<F>,
+fn export_table(
+    rt: &System,
+    package: &Package<Opened>,
     table: &Table,
     folder: &Folder<'_>,
     given: &mut SafeNames,
-) -> Result<(), Failure>
-where
-    R: Files + AllocGlobal,
-    R::File: OpenFile + Write + Drop,
-    F: Source,
-{
+) -> Result<(), Failure> {
     let file = file_name(rt.alloc(), table, given)?;
-    let mut bytes = Vec::new(rt.alloc());
-    write_csv(rt.alloc(), BARE, package, table, &mut bytes)?;
+    let bytes = csv_bytes(rt.alloc(), package, table)?;
     folder.write(rt, file.as_str(), bytes.as_slice())
 }
 
@@ -61,16 +58,23 @@ fn file_name(alloc: Global, table: &Table, given: &mut SafeNames) -> Result<Stri
     format!(in alloc; "{safe}.csv")
 }
 
+/// The bytes of a table's file.
+fn csv_bytes(alloc: Global, package: &Package<Opened>, table: &Table) -> Result<Vec<u8>, Failure> {
+    let mut output = Output::to_memory(alloc);
+    write_csv(alloc, BARE, package, table, &mut output)?;
+    Ok(output.into_bytes()?)
+}
+
 /// Writes a table as `query` prints it.
 ///
 /// # Errors
-/// Fails if the table can't be read, and as the writer does.
-pub(crate) fn write_csv<F: Source, W: Write + Drop>(
+/// Fails if the table can't be read.
+pub(crate) fn write_csv(
     alloc: Global,
     style: Style,
-    package: &Package<F>,
+    package: &Package<Opened>,
     table: &Table,
-    output: &mut W,
+    output: &mut Output,
 ) -> Result<(), Failure> {
     let rows = rows_of(alloc, package, table.name())?;
     write_rows(alloc, style, Format::Csv, rows, output)

@@ -4,16 +4,11 @@ use crate::archives::export_archives;
 use crate::csv_tables::{export_csv, write_csv};
 use crate::json_packages::write_package;
 use crate::table_archives::write_archive;
-use msi::{Package, Source, Table};
+use msi::{Package, Table};
 use msipkg_files::{Folder, at_file, open_new, settle};
 use msipkg_output::{Failure, Shown, Style, is_list, rows_of, table_named};
+use msipkg_system::{Opened, Output, System};
 use std::alloc::Global;
-use std::fs::OpenFile;
-use std::io::{self, BufWriter, Write};
-use std::rt::Files;
-
-/// How many bytes are collected before they go to a file.
-const CAPACITY: usize = 64 * 1024;
 
 /// How a file is written: as it is.
 pub(crate) const BARE: Style = Style {
@@ -66,41 +61,34 @@ pub struct Target<'a> {
 ///
 /// # Errors
 /// Fails if a table isn't there or can't be read, if a text can't stand in the format, if a file is there already and
-/// isn't to be replaced, as the calls of the system do, and as the writer does.
-pub fn export<R, F, O, N>(
-    rt: &R,
+/// isn't to be replaced, and as the calls of the system do.
+pub fn export(
+    rt: &System,
     file: &str,
-    package: &Package<F>,
+    package: &Package<Opened>,
     names: &[&str],
     target: &Target<'_>,
-    output: &mut O,
-    notes: &mut N,
-) -> Result<(), Failure>
-where
-    R: Files + AllocGlobal,
-    R::File: OpenFile + Write + Drop,
-    F: Source,
-    O: Write + Drop,
-    N: Write,
-{
+    output: &mut Output,
+    notes: &mut Output,
+) -> Result<(), Failure> {
     match target.path {
         None => print_package(rt.alloc(), file, package, names, target, output)?,
         Some(path) => write_files(rt, file, package, names, target, path)?,
     }
     if names.is_empty() && !matches!(target.format, FileFormat::Csv) {
-        note_hidden(file, package, notes)?;
+        return note_hidden(file, package, notes);
     }
     Ok(())
 }
 
 /// Prints a package as JSON, or a table in another format.
-fn print_package<F: Source, O: Write + Drop>(
+fn print_package(
     alloc: Global,
     file: &str,
-    package: &Package<F>,
+    package: &Package<Opened>,
     names: &[&str],
     target: &Target<'_>,
-    output: &mut O,
+    output: &mut Output,
 ) -> Result<(), Failure> {
     let style = target.style;
     match target.format {
@@ -117,9 +105,9 @@ fn print_package<F: Source, O: Write + Drop>(
 }
 
 /// The table of the one name that is given.
-fn one_table<'a, F: Source>(
+fn one_table<'a>(
     alloc: Global,
-    package: &'a Package<F>,
+    package: &'a Package<Opened>,
     names: &[&str],
 ) -> Result<&'a Table, Failure> {
     match names {
@@ -129,19 +117,14 @@ fn one_table<'a, F: Source>(
 }
 
 /// Writes a package to a file of JSON, or tables to files of a folder.
-fn write_files<R, F>(
-    rt: &R,
+fn write_files(
+    rt: &System,
     file: &str,
-    package: &Package<F>,
+    package: &Package<Opened>,
     names: &[&str],
     target: &Target<'_>,
     path: &str,
-) -> Result<(), Failure>
-where
-    R: Files + AllocGlobal,
-    R::File: OpenFile + Write + Drop,
-    F: Source,
-{
+) -> Result<(), Failure> {
     let is_forced = target.is_forced;
     let folder = Folder { path, is_forced };
     match target.format {
@@ -156,85 +139,64 @@ where
 }
 
 /// Writes a package to a file of JSON, piece by piece.
-fn write_json<R, F>(
-    rt: &R,
+fn write_json(
+    rt: &System,
     file: &str,
-    package: &Package<F>,
+    package: &Package<Opened>,
     names: &[&str],
     target: &Folder<'_>,
-) -> Result<(), Failure>
-where
-    R: Files + AllocGlobal,
-    R::File: OpenFile + Write + Drop,
-    F: Source,
-{
-    let (made, mut new) = open_new(rt, target.path, target.is_forced)?;
-    let written = write_synced(rt.alloc(), file, package, names, &mut new);
-    drop(new);
+) -> Result<(), Failure> {
+    let (made, new) = open_new(rt, target.path, target.is_forced)?;
+    let mut output = Output::to_file(rt.alloc(), new);
+    let written = write_synced(rt.alloc(), file, package, names, &mut output);
+    drop(output);
     settle(rt, written, made.as_str(), target.path)
 }
 
 /// Writes a package as JSON to a file, and waits until the disk has it.
-fn write_synced<F: Source, W: OpenFile + Write>(
+fn write_synced(
     alloc: Global,
     file: &str,
-    package: &Package<F>,
+    package: &Package<Opened>,
     names: &[&str],
-    new: &mut W,
+    output: &mut Output,
 ) -> Result<(), Failure> {
-    write_buffered(alloc, file, package, names, new)?;
-    Ok(new.sync_all()?)
-}
-
-/// Writes a package as JSON to a file.
-fn write_buffered<F: Source, W: Write>(
-    alloc: Global,
-    file: &str,
-    package: &Package<F>,
-    names: &[&str],
-    new: &mut W,
-) -> Result<(), Failure> {
-    let mut lines = BufWriter::with_capacity(alloc, CAPACITY, new)?;
-    write_package(alloc, BARE, file, package, names, &mut lines)?;
-    Ok(lines.flush()?)
+    write_package(alloc, BARE, file, package, names, output)?;
+    Ok(output.end_synced()?)
 }
 
 /// Writes a line for each stream of a file's package that isn't found under its name.
-fn note_hidden<F: Source, N: Write>(
-    file: &str,
-    package: &Package<F>,
-    notes: &mut N,
-) -> Result<(), Failure> {
+fn note_hidden(file: &str, package: &Package<Opened>, notes: &mut Output) -> Result<(), Failure> {
     for name in package.streams() {
         let name = name?;
         if !package.has_stream(name.as_str()) {
-            note_stream(file, name.as_str(), notes)?;
+            note_stream(file, name.as_str(), notes);
         }
     }
     Ok(())
 }
 
 /// Writes the line for a stream that isn't exported.
-fn note_stream<N: Write>(file: &str, stream: &str, notes: &mut N) -> io::Result<()> {
+fn note_stream(file: &str, stream: &str, notes: &mut Output) {
     let (file, stream) = (Shown::escaped(file), Shown::escaped(stream));
     writeln!(
         notes,
         "msipkg: {file}: stream {stream}: it isn't exported, since it isn't found under its name"
-    )
+    );
 }
 
 /// Writes a file's package as a line of JSON, if its tables can all be read. If it has streams that aren't found under
 /// their names, `notes` gets a line for each, since they aren't exported.
 ///
 /// # Errors
-/// Fails if a table can't be read, and then nothing is written; and as the writers do.
-pub fn export_line<F: Source, O: Write, N: Write>(
+/// Fails if a table can't be read, and then nothing is written.
+pub fn export_line(
     alloc: Global,
     style: Style,
     file: &str,
-    package: &Package<F>,
-    output: &mut O,
-    notes: &mut N,
+    package: &Package<Opened>,
+    output: &mut Output,
+    notes: &mut Output,
 ) -> Result<(), Failure> {
     check_tables(alloc, package)?;
     write_package(alloc, style, file, package, &[], output)?;
@@ -242,7 +204,7 @@ pub fn export_line<F: Source, O: Write, N: Write>(
 }
 
 /// Fails if a table can't be read.
-fn check_tables<F: Source>(alloc: Global, package: &Package<F>) -> Result<(), Failure> {
+fn check_tables(alloc: Global, package: &Package<Opened>) -> Result<(), Failure> {
     for table in package.tables() {
         if !is_list(table) {
             drop(rows_of(alloc, package, table.name())?);

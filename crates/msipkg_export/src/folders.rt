@@ -1,9 +1,9 @@
 //! The folders that an export makes.
 
 use msipkg_output::Failure;
+use msipkg_system::System;
 use std::fs;
 use std::io::ErrorKind;
-use std::rt::Files;
 
 /// The refusal of a file, or a link, in the place of a folder.
 const NO_FOLDER: &str = "it is no folder, but a file or a link";
@@ -12,7 +12,7 @@ const NO_FOLDER: &str = "it is no folder, but a file or a link";
 ///
 /// # Errors
 /// Fails as the call of the system does, at the folder's path.
-pub(crate) fn make_folder<R: Files + AllocGlobal>(rt: &R, path: &str) -> Result<(), Failure> {
+pub(crate) fn make_folder(rt: &System, path: &str) -> Result<(), Failure> {
     match fs::create_dir_all(rt, path) {
         Ok(()) => Ok(()),
         Err(error) => Err(Failure::from(error).at(rt.alloc(), "folder", path)),
@@ -24,7 +24,7 @@ pub(crate) fn make_folder<R: Files + AllocGlobal>(rt: &R, path: &str) -> Result<
 ///
 /// # Errors
 /// Fails if something else is there, and as the calls of the system do, at the folder's path.
-pub(crate) fn make_inner_folder<R: Files + AllocGlobal>(rt: &R, path: &str) -> Result<(), Failure> {
+pub(crate) fn make_inner_folder(rt: &System, path: &str) -> Result<(), Failure> {
     match make_or_check(rt, path) {
         Ok(()) => Ok(()),
         Err(failure) => Err(failure.at(rt.alloc(), "folder", path)),
@@ -32,7 +32,7 @@ pub(crate) fn make_inner_folder<R: Files + AllocGlobal>(rt: &R, path: &str) -> R
 }
 
 /// Makes a folder, or checks that it is there.
-fn make_or_check<R: Files>(rt: &R, path: &str) -> Result<(), Failure> {
+fn make_or_check(rt: &System, path: &str) -> Result<(), Failure> {
     match fs::create_dir(rt, path) {
         Ok(()) => Ok(()),
         Err(error) if error.kind() == ErrorKind::AlreadyExists => check_folder(rt, path),
@@ -41,7 +41,7 @@ fn make_or_check<R: Files>(rt: &R, path: &str) -> Result<(), Failure> {
 }
 
 /// Refuses what isn't itself a folder.
-fn check_folder<R: Files>(rt: &R, path: &str) -> Result<(), Failure> {
+fn check_folder(rt: &System, path: &str) -> Result<(), Failure> {
     if fs::symlink_metadata(rt, path)?.is_dir() {
         Ok(())
     } else {

@@ -1,14 +1,14 @@
 //! Packages as JSON on one line: the summary, the tables with the types of their columns, and the streams.
 
 use base64::engine::general_purpose::STANDARD;
-use msi::{Error, Package, Row, Rows, Source, SummaryInfo, Table};
+use msi::{Error, Package, Row, Rows, SummaryInfo, Table};
 use msipkg_output::json::{JsonObject, write_quoted, write_text};
 use msipkg_output::{
     Failure, PROPERTIES, Style, chosen_tables, kind_name, property_text, put_columns, rows_of,
     write_json_value,
 };
-use std::alloc::Global;
-use std::io::{self, Write};
+use msipkg_system::{Opened, Output};
+use std::alloc::{AllocError, Global};
 
 /// How many bytes of a stream are written at a time. Three of them are four signs, so that the pieces join.
 const PIECE: usize = 48 * 1024;
@@ -18,170 +18,195 @@ const PIECE: usize = 48 * 1024;
 /// under `streams`, in base64.
 ///
 /// # Errors
-/// Fails if a table isn't there or can't be read, and as the writer does.
-pub fn write_package<F: Source, W: Write>(
+/// Fails if a table isn't there or can't be read.
+pub fn write_package(
     alloc: Global,
     style: Style,
     file: &str,
-    package: &Package<F>,
+    package: &Package<Opened>,
     names: &[&str],
-    output: &mut W,
+    output: &mut Output,
 ) -> Result<(), Failure> {
     let tables = chosen_tables(alloc, package, names, false)?;
-    write_head(alloc, style, file, package, output)?;
+    write_head(alloc, style, file, package, output);
     if names.is_empty() {
-        write_summary(alloc, style, package.summary_info(), output)?;
+        write_whole(alloc, style, package, tables.as_slice(), output)
+    } else {
+        write_part(alloc, style, package, tables.as_slice(), output)
     }
-    write_tables(alloc, style, package, tables.as_slice(), output)?;
-    if names.is_empty() {
-        write_streams(alloc, style, package, output)?;
-    }
-    Ok(output.write_all(b"}\n")?)
 }
 
 /// Writes the path of a package, and what it is.
-fn write_head<F: Source, W: Write>(
+fn write_head(
     alloc: Global,
     style: Style,
     file: &str,
-    package: &Package<F>,
-    output: &mut W,
-) -> io::Result<()> {
-    output.write_all(b"{\"file\":")?;
-    write_quoted(alloc, style, file, output)?;
+    package: &Package<Opened>,
+    output: &mut Output,
+) {
+    output.push_str("{\"file\":");
+    write_quoted(alloc, style, file, output);
     let kind = kind_name(package.package_type());
     let page = package.database_codepage().id();
-    write!(output, ",\"kind\":\"{kind}\",\"codepage\":{page}")
+    write!(output, ",\"kind\":\"{kind}\",\"codepage\":{page}");
+}
+
+/// Writes the summary, tables and the streams of a package, and ends it.
+fn write_whole(
+    alloc: Global,
+    style: Style,
+    package: &Package<Opened>,
+    tables: &[&Table],
+    output: &mut Output,
+) -> Result<(), Failure> {
+    write_summary(alloc, style, package.summary_info(), output);
+    write_tables(alloc, style, package, tables, output)?;
+    write_streams(alloc, style, package, output)?;
+    output.push_str("}\n");
+    Ok(())
+}
+
+/// Writes tables of a package, and ends it.
+fn write_part(
+    alloc: Global,
+    style: Style,
+    package: &Package<Opened>,
+    tables: &[&Table],
+    output: &mut Output,
+) -> Result<(), Failure> {
+    write_tables(alloc, style, package, tables, output)?;
+    output.push_str("}\n");
+    Ok(())
 }
 
 /// Writes the properties that are there, each as a text.
-fn write_summary<W: Write>(
-    alloc: Global,
-    style: Style,
-    summary: &SummaryInfo,
-    output: &mut W,
-) -> Result<(), Failure> {
-    let json = summary_json(alloc, summary)?;
-    output.write_all(b",\"summary\":")?;
-    Ok(write_text(style, json.as_str(), output)?)
+fn write_summary(alloc: Global, style: Style, summary: &SummaryInfo, output: &mut Output) {
+    output.push_str(",\"summary\":");
+    match summary_json(alloc, summary) {
+        Ok(object) => object.print(style, output),
+        // Texts of properties fail for want of memory alone.
+        Err(_) => output.refuse_memory(AllocError),
+    }
 }
 
 /// The properties that are there as an object.
-fn summary_json(alloc: Global, summary: &SummaryInfo) -> Result<String, Error> {
-    let mut object = JsonObject::new(alloc)?;
+fn summary_json(alloc: Global, summary: &SummaryInfo) -> Result<JsonObject, Error> {
+    let mut object = JsonObject::new(alloc);
     for (id, name) in &PROPERTIES {
         if let Some(text) = property_text(alloc, summary, *id)? {
-            object.put_text(name, Some(text.as_str()))?;
+            object.put_text(name, Some(text.as_str()));
         }
     }
-    Ok(object.finish()?)
+    Ok(object)
 }
 
 /// Writes tables.
-fn write_tables<F: Source, W: Write>(
+fn write_tables(
     alloc: Global,
     style: Style,
-    package: &Package<F>,
+    package: &Package<Opened>,
     tables: &[&Table],
-    output: &mut W,
+    output: &mut Output,
 ) -> Result<(), Failure> {
-    output.write_all(b",\"tables\":[")?;
-    let mut before = "";
+    output.push_str(",\"tables\":[");
+    let mut before: &[u8] = b"";
     for table in tables {
-        output.write_all(before.as_bytes())?;
-        before = ",";
+        output.push_bytes(before);
+        before = b",";
         write_table(alloc, style, package, table, output)?;
     }
-    Ok(output.write_all(b"]")?)
+    output.push_str("]");
+    Ok(())
 }
 
 /// Writes a table.
-fn write_table<F: Source, W: Write>(
+fn write_table(
     alloc: Global,
     style: Style,
-    package: &Package<F>,
+    package: &Package<Opened>,
     table: &Table,
-    output: &mut W,
+    output: &mut Output,
 ) -> Result<(), Failure> {
-    write_columns(alloc, style, table, output)?;
+    write_columns(alloc, style, table, output);
     let rows = rows_of(alloc, package, table.name())?;
     write_rows(alloc, style, rows, output)
 }
 
 /// Writes the name and the columns of a table.
-fn write_columns<W: Write>(
-    alloc: Global,
-    style: Style,
-    table: &Table,
-    output: &mut W,
-) -> io::Result<()> {
-    let mut object = JsonObject::new(alloc)?;
-    put_columns(table.name(), table.columns(), &mut object)?;
-    write_text(style, object.begun(), output)
+fn write_columns(alloc: Global, style: Style, table: &Table, output: &mut Output) {
+    let mut object = JsonObject::new(alloc);
+    put_columns(table.name(), table.columns(), &mut object);
+    match object.begun() {
+        Ok(text) => write_text(style, text, output),
+        Err(error) => output.refuse_memory(error),
+    }
 }
 
 /// Writes rows, and ends their table.
-fn write_rows<W: Write>(
+fn write_rows(
     alloc: Global,
     style: Style,
     rows: Rows<'_>,
-    output: &mut W,
+    output: &mut Output,
 ) -> Result<(), Failure> {
-    output.write_all(b",\"rows\":[")?;
+    output.push_str(",\"rows\":[");
     let mut before: &[u8] = b"[";
     for row in rows {
-        output.write_all(before)?;
+        output.push_bytes(before);
         before = b",[";
-        write_row(alloc, style, &row?, output)?;
+        write_row(alloc, style, &row?, output);
     }
-    Ok(output.write_all(b"]}")?)
+    output.push_str("]}");
+    Ok(())
 }
 
 /// Writes the values of a row, and ends it.
-fn write_row<W: Write>(alloc: Global, style: Style, row: &Row, output: &mut W) -> io::Result<()> {
-    let mut before = "";
+fn write_row(alloc: Global, style: Style, row: &Row, output: &mut Output) {
+    let mut before: &[u8] = b"";
     for i in 0..row.len() {
-        output.write_all(before.as_bytes())?;
-        before = ",";
-        write_json_value(alloc, style, &row[i], output)?;
+        output.push_bytes(before);
+        before = b",";
+        write_json_value(alloc, style, &row[i], output);
     }
-    output.write_all(b"]")
+    output.push_str("]");
 }
 
 /// Writes the streams that are found under their names.
-fn write_streams<F: Source, W: Write>(
+fn write_streams(
     alloc: Global,
     style: Style,
-    package: &Package<F>,
-    output: &mut W,
+    package: &Package<Opened>,
+    output: &mut Output,
 ) -> Result<(), Failure> {
-    output.write_all(b",\"streams\":[")?;
+    output.push_str(",\"streams\":[");
     let mut before: &[u8] = b"";
     for name in package.streams() {
         let name = name?;
         if let Ok(stream) = package.read_stream(name.as_str()) {
-            output.write_all(before)?;
+            output.push_bytes(before);
             before = b",";
-            write_stream(alloc, style, name.as_str(), stream.rest(), output)?;
+            write_stream(alloc, style, name.as_str(), stream.rest(), output);
         }
     }
-    Ok(output.write_all(b"]")?)
+    output.push_str("]");
+    Ok(())
 }
 
 /// Writes a stream.
-fn write_stream<W: Write>(
-    alloc: Global,
-    style: Style,
-    name: &str,
-    bytes: &[u8],
-    output: &mut W,
-) -> io::Result<()> {
-    output.write_all(b"{\"stream\":")?;
-    write_quoted(alloc, style, name, output)?;
-    output.write_all(b",\"base64\":\"")?;
+fn write_stream(alloc: Global, style: Style, name: &str, bytes: &[u8], output: &mut Output) {
+    output.push_str("{\"stream\":");
+    write_quoted(alloc, style, name, output);
+    output.push_str(",\"base64\":\"");
     for piece in bytes.chunks(PIECE) {
-        let text = STANDARD.encode(alloc, piece)?;
-        output.write_all(text.as_bytes())?;
+        write_piece(alloc, piece, output);
     }
-    output.write_all(b"\"}")
+    output.push_str("\"}");
+}
+
+/// Writes a piece of a stream in base64.
+fn write_piece(alloc: Global, piece: &[u8], output: &mut Output) {
+    match STANDARD.encode(alloc, piece) {
+        Ok(text) => output.push_str(text.as_str()),
+        Err(error) => output.refuse_memory(error),
+    }
 }

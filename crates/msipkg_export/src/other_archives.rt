@@ -3,9 +3,10 @@
 use crate::archive_parts::text_value;
 use crate::archive_texts::archive_text;
 use crate::table_archives::{StreamFile, TableArchive};
-use msi::{CodePage, Column, Error, Items, Package, Source, SummaryInfo, Value};
+use msi::{CodePage, Column, Error, Items, Package, SummaryInfo, Value};
 use msipkg_files::SafeNames;
 use msipkg_output::{Failure, PROPERTIES, property_text};
+use msipkg_system::Opened;
 use std::alloc::{AllocError, Global};
 use std::collections::BTreeSet;
 
@@ -74,9 +75,9 @@ fn property_row(alloc: Global, id: i32, text: &str) -> Result<Items<Value>, Erro
 ///
 /// # Errors
 /// Fails at a name that no archive can have, and with `OutOfMemory`.
-pub(crate) fn streams_archive<F: Source>(
+pub(crate) fn streams_archive(
     alloc: Global,
-    package: &Package<F>,
+    package: &Package<Opened>,
     named: &BTreeSet<String>,
 ) -> Result<TableArchive, Failure> {
     let page = package.database_codepage();
@@ -86,9 +87,9 @@ pub(crate) fn streams_archive<F: Source>(
 }
 
 /// The streams that aren't named and are found under their names, with the names of their files.
-fn stream_files<F: Source>(
+fn stream_files(
     alloc: Global,
-    package: &Package<F>,
+    package: &Package<Opened>,
     named: &BTreeSet<String>,
 ) -> Result<Vec<StreamFile>, Error> {
     let mut given = SafeNames::new(alloc);

@@ -2,11 +2,11 @@
 
 use crate::archive_parts::text_value;
 use crate::archive_texts::archive_text;
-use msi::{CodePage, Error, Items, Package, Row, Rows, Source, Table, Value};
+use msi::{CodePage, Error, Items, Package, Row, Rows, Table, Value};
 use msipkg_files::SafeNames;
 use msipkg_output::{Failure, Shown, Style, rows_of, stream_name};
+use msipkg_system::{Opened, Output};
 use std::alloc::Global;
-use std::io::{self, Write};
 
 /// A stream and the name of its file.
 pub struct StreamFile {
@@ -101,9 +101,9 @@ impl Drop for Gathering {
 ///
 /// # Errors
 /// Fails if the table can't be read, and at a text that no archive can have.
-pub fn table_archive<F: Source>(
+pub fn table_archive(
     alloc: Global,
-    package: &Package<F>,
+    package: &Package<Opened>,
     table: &Table,
 ) -> Result<TableArchive, Failure> {
     let rows = rows_of(alloc, package, table.name())?;
@@ -112,16 +112,14 @@ pub fn table_archive<F: Source>(
 }
 
 /// The rows of a table as an archive has them.
-fn gather(alloc: Global, table: &str, rows: Rows<'_>) -> Result<Gathering, Failure> {
+fn gather(alloc: Global, table: &str, rows: Rows<'_>) -> Result<Gathering, Error> {
     let mut gathered = Gathering {
         alloc,
         given: SafeNames::new(alloc),
         files: Vec::new(alloc),
         rows: Vec::new(alloc),
     };
-    for row in rows {
-        gathered.add_row(table, &row?)?;
-    }
+    gathered.add_rows(table, rows)?;
     Ok(gathered)
 }
 
@@ -138,8 +136,16 @@ impl Gathering {
         Ok(TableArchive::new(page, text, files))
     }
 
+    /// Adds rows.
+    fn add_rows(&mut self, table: &str, rows: Rows<'_>) -> Result<(), Error> {
+        for row in rows {
+            self.add_row(table, &row?)?;
+        }
+        Ok(())
+    }
+
     /// Adds a row.
-    fn add_row(&mut self, table: &str, row: &Row) -> Result<(), Failure> {
+    fn add_row(&mut self, table: &str, row: &Row) -> Result<(), Error> {
         let mut values = Vec::with_capacity(self.alloc, row.len())?;
         for i in 0..row.len() {
             values.push(self.value_of(table, row, &row[i])?)?;
@@ -148,17 +154,17 @@ impl Gathering {
     }
 
     /// The value of an archive for a value of a row.
-    fn value_of(&mut self, table: &str, row: &Row, value: &Value) -> Result<Value, Failure> {
+    fn value_of(&mut self, table: &str, row: &Row, value: &Value) -> Result<Value, Error> {
         match value {
             Value::Null => Ok(Value::Null),
             Value::Int(number) => Ok(Value::Int(*number)),
-            Value::Str(text) => Ok(text_value(self.alloc, text.as_str())?),
+            Value::Str(text) => text_value(self.alloc, text.as_str()),
             Value::Binary => self.file_of(table, row),
         }
     }
 
     /// The name of the file of a row's stream, as a value.
-    fn file_of(&mut self, table: &str, row: &Row) -> Result<Value, Failure> {
+    fn file_of(&mut self, table: &str, row: &Row) -> Result<Value, Error> {
         let stream = stream_name(self.alloc, table, row)?;
         let file = self.given.give(stream.as_str())?;
         let value = Value::from_text(self.alloc, file.as_str())?;
@@ -171,37 +177,49 @@ impl Gathering {
 /// text instead, with escapes in its fields.
 ///
 /// # Errors
-/// Fails if the table can't be read, at a text that no archive can have, with `InvalidInput` if a text can't be written
-/// in the code page, and as the writer does.
-pub(crate) fn write_archive<F: Source, W: Write>(
+/// Fails if the table can't be read, at a text that no archive can have, and with `InvalidInput` if a text can't be
+/// written in the code page.
+pub(crate) fn write_archive(
     alloc: Global,
     style: Style,
-    package: &Package<F>,
+    package: &Package<Opened>,
     table: &Table,
-    output: &mut W,
+    output: &mut Output,
 ) -> Result<(), Failure> {
     let archive = table_archive(alloc, package, table)?;
     if style.is_escaped {
-        return Ok(write_shown(archive.text.as_str(), output)?);
+        write_shown(archive.text.as_str(), output);
+        Ok(())
+    } else {
+        write_encoded(alloc, &archive, output)
     }
-    Ok(output.write_all(archive.encoded(alloc)?.as_slice())?)
 }
 
-/// Writes the lines of an archive with escapes.
-fn write_shown<W: Write>(text: &str, output: &mut W) -> io::Result<()> {
-    for line in text.lines() {
-        write_shown_line(line, output)?;
-    }
+/// Writes the bytes of an archive.
+fn write_encoded(
+    alloc: Global,
+    archive: &TableArchive,
+    output: &mut Output,
+) -> Result<(), Failure> {
+    let bytes = archive.encoded(alloc)?;
+    output.push_bytes(bytes.as_slice());
     Ok(())
 }
 
+/// Writes the lines of an archive with escapes.
+fn write_shown(text: &str, output: &mut Output) {
+    for line in text.lines() {
+        write_shown_line(line, output);
+    }
+}
+
 /// Writes the fields of a line with escapes.
-fn write_shown_line<W: Write>(line: &str, output: &mut W) -> io::Result<()> {
+fn write_shown_line(line: &str, output: &mut Output) {
     let mut before: &[u8] = b"";
     for field in line.split('\t') {
-        output.write_all(before)?;
-        write!(output, "{}", Shown::escaped(field))?;
+        output.push_bytes(before);
+        write!(output, "{}", Shown::escaped(field));
         before = b"\t";
     }
-    writeln!(output)
+    output.push_str("\n");
 }

@@ -2,10 +2,8 @@
 
 use crate::replacing::write_file;
 use msipkg_output::Failure;
+use msipkg_system::System;
 use std::alloc::{AllocError, Global};
-use std::fs::OpenFile;
-use std::io::Write;
-use std::rt::Files;
 
 /// Where files go.
 #[derive(Clone, Copy, Debug)]
@@ -21,11 +19,7 @@ impl Folder<'_> {
     ///
     /// # Errors
     /// Fails as `write_file` does, at the file's path.
-    pub fn write<R>(&self, rt: &R, name: &str, bytes: &[u8]) -> Result<(), Failure>
-    where
-        R: Files + AllocGlobal,
-        R::File: OpenFile + Write + Drop,
-    {
+    pub fn write(&self, rt: &System, name: &str, bytes: &[u8]) -> Result<(), Failure> {
         let path = path_in(rt.alloc(), self.path, name)?;
         let written = write_file(rt, path.as_str(), self.is_forced, bytes);
         at_file(rt.alloc(), path.as_str(), written)

@@ -2,7 +2,6 @@
 //! that stay inside a folder.
 #![tactic(auto)]
 
-pub mod carrier;
 pub mod folder;
 mod named_pages;
 pub mod opening;
@@ -11,9 +10,8 @@ pub mod replacing;
 pub mod safe_names;
 pub mod stored;
 
-pub use carrier::Carrier;
 pub use folder::{Folder, at_file, path_in};
-pub use opening::{Opened, new_package, open_package, written};
+pub use opening::{new_package, open_package, written};
 pub use recoding::{PackageFile, Purpose};
 pub use replacing::{open_new, replace_file, settle, write_file};
 pub use safe_names::{SafeNames, safe_name};

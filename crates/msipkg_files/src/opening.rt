@@ -1,34 +1,25 @@
 //! Opening the package of a file.
 
-use crate::carrier::Carrier;
 use crate::recoding::{PackageFile, Recoded, check_unnamed, recoded_by_page, recoded_instead};
 use either::{Either, Left, Right};
 use msi::{Metered, Package, PackageType};
 use msipkg_output::Failure;
+use msipkg_system::{Carrier, Opened, Output, System, SystemFile};
 use std::alloc::Global;
 use std::fs;
-use std::io::{Cursor, Read, Write};
-use std::rt::Files;
-
-/// What a package lies on: its file, or the bytes of one that was recoded or is new, and memory that it is written to.
-pub type Opened<F> = Metered<Carrier<F>>;
+use std::io::Cursor;
 
 /// Returns the package of a file. If its texts are recoded, which has to be allowed where it is changed, `notes` gets a
 /// line that says so.
 ///
 /// # Errors
 /// Fails if the file can't be opened, as `Package::open` and `recode_file` do, if the texts are to be recoded and may
-/// not be, if a package that is changed has texts in a page that nothing names, and as the writer does.
-pub fn open_package<R, N>(
-    rt: &R,
+/// not be, and if a package that is changed has texts in a page that nothing names.
+pub fn open_package(
+    rt: &System,
     file: &PackageFile<'_>,
-    notes: &mut N,
-) -> Result<Package<Opened<R::File>>, Failure>
-where
-    R: Files + AllocGlobal,
-    R::File: Read + Drop,
-    N: Write,
-{
+    notes: &mut Output,
+) -> Result<Package<Opened>, Failure> {
     if let Some(recoded) = recoded_by_page(rt, file)? {
         return open_recoded(rt.alloc(), file, recoded, notes);
     }
@@ -43,35 +34,27 @@ where
 }
 
 /// The package of a file, as it is.
-fn open_as_it_is<R>(rt: &R, path: &str) -> Result<Package<Opened<R::File>>, Failure>
-where
-    R: Files + AllocGlobal,
-    R::File: Read + Drop,
-{
+fn open_as_it_is(rt: &System, path: &str) -> Result<Package<Opened>, Failure> {
     let file = fs::open(rt, path)?;
     open_from(rt.alloc(), Left(file))
 }
 
 /// A package that was recoded, if it may be.
-fn open_recoded<F, N>(
+fn open_recoded(
     alloc: Global,
     file: &PackageFile<'_>,
     recoded: Recoded,
-    notes: &mut N,
-) -> Result<Package<Opened<F>>, Failure>
-where
-    F: Read + Drop,
-    N: Write,
-{
+    notes: &mut Output,
+) -> Result<Package<Opened>, Failure> {
     recoded.permit(file, notes)?;
     open_from(alloc, Right(Cursor::new(recoded.into_bytes())))
 }
 
 /// The package of a source.
-fn open_from<F: Read + Drop>(
+fn open_from(
     alloc: Global,
-    source: Either<F, Cursor<Vec<u8>>>,
-) -> Result<Package<Opened<F>>, Failure> {
+    source: Either<SystemFile, Cursor<Vec<u8>>>,
+) -> Result<Package<Opened>, Failure> {
     Ok(Package::open(alloc, Metered::new(Carrier::new(alloc, source)))?)
 }
 
@@ -79,10 +62,7 @@ fn open_from<F: Read + Drop>(
 ///
 /// # Errors
 /// Fails if memory is refused.
-pub fn new_package<F: Read + Drop>(
-    alloc: Global,
-    kind: PackageType,
-) -> Result<Package<Opened<F>>, Failure> {
+pub fn new_package(alloc: Global, kind: PackageType) -> Result<Package<Opened>, Failure> {
     let source = Right(Cursor::new(Vec::new(alloc)));
     Ok(Package::create(alloc, kind, Metered::new(Carrier::new(alloc, source)))?)
 }
@@ -91,7 +71,7 @@ pub fn new_package<F: Read + Drop>(
 ///
 /// # Errors
 /// Fails as `Package::flush` does.
-pub fn written<F: Read + Drop>(mut package: Package<Opened<F>>) -> Result<Vec<u8>, Failure> {
+pub fn written(mut package: Package<Opened>) -> Result<Vec<u8>, Failure> {
     package.flush()?;
     Ok(package.into_reader().into_inner().into_written())
 }

@@ -4,11 +4,10 @@ use crate::named_pages::{NamedPages, has_unnamed_texts};
 use msi::compound::{self, Contents, StreamMap};
 use msi_recode::{TextPage, recode_contents};
 use msipkg_output::{Cause, Failure, Pages, Shown};
+use msipkg_system::{Output, System};
 use std::alloc::Global;
 use std::fs;
-use std::io::{self, Read, Write};
 use std::rc::Rc;
-use std::rt::Files;
 
 /// The refusal of a change that would lose texts.
 const UNNAMED: &str = "it names no code page, and its texts aren't UTF-8: add --page N";
@@ -70,21 +69,20 @@ impl Recoded {
     /// Fails if the package is changed and may not be recoded, and notes else that its texts are.
     ///
     /// # Errors
-    /// Fails with the pages of the texts, and as the writer does.
-    pub(crate) fn permit<N: Write>(
-        &self,
-        file: &PackageFile<'_>,
-        notes: &mut N,
-    ) -> Result<(), Failure> {
+    /// Fails with the pages of the texts.
+    pub(crate) fn permit(&self, file: &PackageFile<'_>, notes: &mut Output) -> Result<(), Failure> {
         match file.purpose {
-            Purpose::Look | Purpose::Recode => Ok(self.note(file.path, notes)?),
+            Purpose::Look | Purpose::Recode => {
+                self.note(file.path, notes);
+                Ok(())
+            }
             Purpose::RecodeSilently => Ok(()),
             Purpose::Change => Err(Failure::new(Cause::Recoding(self.pages))),
         }
     }
 
     /// Writes a line that says that the package's texts are recoded.
-    fn note<N: Write>(&self, path: &str, notes: &mut N) -> io::Result<()> {
+    fn note(&self, path: &str, notes: &mut Output) {
         let (path, pages) = (Shown::escaped(path), self.pages);
         let left_out = if self.is_part {
             ", and storages below the root are left out"
@@ -94,7 +92,7 @@ impl Recoded {
         writeln!(
             notes,
             "msipkg: {path}: texts in {pages} are read as UTF-8{left_out}"
-        )
+        );
     }
 }
 
@@ -103,11 +101,10 @@ impl Recoded {
 ///
 /// # Errors
 /// Fails as `recode_file` does.
-pub(crate) fn recoded_by_page<R>(rt: &R, file: &PackageFile<'_>) -> Result<Option<Recoded>, Failure>
-where
-    R: Files + AllocGlobal,
-    R::File: Read + Drop,
-{
+pub(crate) fn recoded_by_page(
+    rt: &System,
+    file: &PackageFile<'_>,
+) -> Result<Option<Recoded>, Failure> {
     match file.page {
         Some(_) => recode_file(rt, file),
         None => Ok(None),
@@ -119,11 +116,7 @@ where
 ///
 /// # Errors
 /// Fails as the calls of the system do, too. A file that is no container isn't judged.
-pub(crate) fn check_unnamed<R>(rt: &R, file: &PackageFile<'_>) -> Result<(), Failure>
-where
-    R: Files + AllocGlobal,
-    R::File: Read + Drop,
-{
+pub(crate) fn check_unnamed(rt: &System, file: &PackageFile<'_>) -> Result<(), Failure> {
     if matches!(file.purpose, Purpose::Look) {
         return Ok(());
     }
@@ -146,15 +139,11 @@ fn check_streams(alloc: Global, streams: &StreamMap) -> Result<(), Failure> {
 ///
 /// # Errors
 /// Fails as `recode_file` does, and with that failure if no invalid data was found or there are no texts to be recoded.
-pub(crate) fn recoded_instead<R>(
-    rt: &R,
+pub(crate) fn recoded_instead(
+    rt: &System,
     file: &PackageFile<'_>,
     failure: Failure,
-) -> Result<Recoded, Failure>
-where
-    R: Files + AllocGlobal,
-    R::File: Read + Drop,
-{
+) -> Result<Recoded, Failure> {
     if !failure.is_invalid_data() {
         return Err(failure);
     }
@@ -169,11 +158,7 @@ where
 ///
 /// # Errors
 /// Fails if the file can't be read, and at a text that its page doesn't read.
-fn recode_file<R>(rt: &R, file: &PackageFile<'_>) -> Result<Option<Recoded>, Failure>
-where
-    R: Files + AllocGlobal,
-    R::File: Read + Drop,
-{
+fn recode_file(rt: &System, file: &PackageFile<'_>) -> Result<Option<Recoded>, Failure> {
     let bytes = Rc::new(rt.alloc(), fs::read(rt, file.path)?)?;
     match compound::read_shared(rt.alloc(), bytes) {
         Ok(contents) => recoded_of(rt.alloc(), contents, file),

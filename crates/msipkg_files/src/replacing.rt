@@ -2,10 +2,10 @@
 //! or a full disk leaves the old file.
 
 use msipkg_output::Failure;
+use msipkg_system::{System, SystemFile};
 use std::alloc::{AllocError, Global};
 use std::fs::{self, OpenFile, OpenOptions, Permissions};
 use std::io::{self, Write};
-use std::rt::Files;
 
 /// How many names beside a file are tried for its new bytes.
 const TRIES: u32 = 100;
@@ -16,11 +16,7 @@ const TRIES: u32 = 100;
 /// # Errors
 /// Fails if it is no regular file, and as the calls of the system do. Then the old file is as it was, and no other is
 /// left beside it.
-pub fn replace_file<R>(rt: &R, path: &str, bytes: &[u8]) -> Result<(), Failure>
-where
-    R: Files + AllocGlobal,
-    R::File: OpenFile + Write + Drop,
-{
+pub fn replace_file(rt: &System, path: &str, bytes: &[u8]) -> Result<(), Failure> {
     let target = fs::canonicalize(rt, path)?.into_string();
     let permissions = permissions_of(rt, target.as_str())?;
     let (made, file) = open_beside(rt, target.as_str())?;
@@ -34,11 +30,7 @@ where
 /// # Errors
 /// Fails if a file is there that isn't to be replaced, and as the calls of the system do. Then an old file is as it
 /// was, and no other is left.
-pub fn write_file<R>(rt: &R, path: &str, is_forced: bool, bytes: &[u8]) -> Result<(), Failure>
-where
-    R: Files + AllocGlobal,
-    R::File: OpenFile + Write + Drop,
-{
+pub fn write_file(rt: &System, path: &str, is_forced: bool, bytes: &[u8]) -> Result<(), Failure> {
     let (made, file) = open_new(rt, path, is_forced)?;
     let written = write_synced(file, None, bytes);
     settle(rt, written, made.as_str(), path)
@@ -49,11 +41,7 @@ where
 ///
 /// # Errors
 /// Fails if a file is there that isn't to be replaced, and as the calls of the system do. Then no new file is left.
-pub fn open_new<R>(rt: &R, path: &str, is_forced: bool) -> Result<(String, R::File), Failure>
-where
-    R: Files + AllocGlobal,
-    R::File: Drop,
-{
+pub fn open_new(rt: &System, path: &str, is_forced: bool) -> Result<(String, SystemFile), Failure> {
     if is_forced {
         return open_beside(rt, path);
     }
@@ -63,7 +51,7 @@ where
 }
 
 /// The permissions of a file.
-fn permissions_of<R: Files + AllocGlobal>(rt: &R, path: &str) -> Result<Permissions, Failure> {
+fn permissions_of(rt: &System, path: &str) -> Result<Permissions, Failure> {
     let old = fs::metadata(rt, path)?;
     if !old.is_file() {
         return Err(Failure::rule("it is no regular file"));
@@ -72,16 +60,21 @@ fn permissions_of<R: Files + AllocGlobal>(rt: &R, path: &str) -> Result<Permissi
 }
 
 /// Writes bytes to a file, and waits until the disk has them.
-fn write_synced<F: OpenFile + Write + Drop>(
-    mut file: F,
+fn write_synced(
+    mut file: SystemFile,
     permissions: Option<Permissions>,
     bytes: &[u8],
 ) -> Result<(), Failure> {
+    Ok(fill(&mut file, permissions, bytes)?)
+}
+
+/// Gives a file its permissions and bytes, and waits until the disk has them.
+fn fill(file: &mut SystemFile, permissions: Option<Permissions>, bytes: &[u8]) -> io::Result<()> {
     if let Some(permissions) = permissions {
         file.set_permissions(permissions)?;
     }
     file.write_all(bytes)?;
-    Ok(file.sync_all()?)
+    file.sync_all()
 }
 
 /// Gives a file that was made the path that it is to have, or removes it where it wasn't written.
@@ -89,8 +82,8 @@ fn write_synced<F: OpenFile + Write + Drop>(
 /// # Errors
 /// Fails as writing it did, and as the calls of the system do. Then an old file of the path is as it was, and the new
 /// one isn't left.
-pub fn settle<R: Files>(
-    rt: &R,
+pub fn settle(
+    rt: &System,
     written: Result<(), Failure>,
     made: &str,
     path: &str,
@@ -106,16 +99,12 @@ pub fn settle<R: Files>(
 }
 
 /// Gives a file another path.
-fn rename<R: Files>(rt: &R, made: &str, path: &str) -> Result<(), Failure> {
+fn rename(rt: &System, made: &str, path: &str) -> Result<(), Failure> {
     Ok(fs::rename(rt, made, path)?)
 }
 
 /// Opens a new file beside another, and returns its path too.
-fn open_beside<R>(rt: &R, target: &str) -> Result<(String, R::File), Failure>
-where
-    R: Files + AllocGlobal,
-    R::File: Drop,
-{
+fn open_beside(rt: &System, target: &str) -> Result<(String, SystemFile), Failure> {
     for number in 0..TRIES {
         let path = beside_path(rt.alloc(), target, number)?;
         match new_file(rt, path.as_str()) {
@@ -128,7 +117,7 @@ where
 }
 
 /// Opens a new file.
-fn new_file<R: Files>(rt: &R, path: &str) -> io::Result<R::File> {
+fn new_file(rt: &System, path: &str) -> io::Result<SystemFile> {
     OpenOptions::new()
         .write(true)
         .create_new(true)

@@ -2,13 +2,12 @@
 //! have characters that no stream's name may have.
 
 use msi::compound::{self, Contents, Name, StreamMap};
-use msi::{Error, Package, Source, streamname};
+use msi::{Error, Package, streamname};
 use msipkg_output::Failure;
+use msipkg_system::{Opened, System};
 use std::alloc::Global;
 use std::collections::BTreeMap;
 use std::fs;
-use std::io::Read;
-use std::rt::Files;
 
 /// The streams of a file by the texts of their names, however these are stored.
 pub struct StoredStreams {
@@ -39,16 +38,11 @@ impl StoredStreams {
 ///
 /// # Errors
 /// Fails if the file can't be read or is no compound file, and with `OutOfMemory`.
-pub fn stored_streams<R, F>(
-    rt: &R,
+pub fn stored_streams(
+    rt: &System,
     file: &str,
-    package: &Package<F>,
-) -> Result<Option<StoredStreams>, Failure>
-where
-    R: Files + AllocGlobal,
-    R::File: Read + Drop,
-    F: Source,
-{
+    package: &Package<Opened>,
+) -> Result<Option<StoredStreams>, Failure> {
     if !has_hidden(package)? {
         return Ok(None);
     }
@@ -60,8 +54,8 @@ where
 ///
 /// # Errors
 /// Fails as `Package::read_stream` does, if it isn't among the stored ones either.
-pub fn stream_bytes<'a, F: Source>(
-    package: &'a Package<F>,
+pub fn stream_bytes<'a>(
+    package: &'a Package<Opened>,
     stored: Option<&'a StoredStreams>,
     name: &str,
 ) -> Result<&'a [u8], Error> {
@@ -72,8 +66,8 @@ pub fn stream_bytes<'a, F: Source>(
 }
 
 /// The bytes of a stream that isn't found under its name.
-fn stored_bytes<'a, F: Source>(
-    package: &Package<F>,
+fn stored_bytes<'a>(
+    package: &Package<Opened>,
     stored: Option<&'a StoredStreams>,
     name: &str,
 ) -> Option<&'a [u8]> {
@@ -84,7 +78,7 @@ fn stored_bytes<'a, F: Source>(
 }
 
 /// Whether a stream isn't found under its name.
-fn has_hidden<F: Source>(package: &Package<F>) -> Result<bool, Error> {
+fn has_hidden(package: &Package<Opened>) -> Result<bool, Error> {
     for name in package.streams() {
         if !package.has_stream(name?.as_str()) {
             return Ok(true);

@@ -1,21 +1,19 @@
 //! `extract FILE [NAME..] -o DIR`: the streams of a package as files of a folder. Whatever a stream's name is, nothing
 //! is written outside the folder.
 
-use msi::{Error, Package, Source};
+use msi::Package;
 use msipkg_files::{Folder, SafeNames, StoredStreams, stored_streams, stream_bytes};
 use msipkg_output::{Failure, Shown};
-use std::alloc::Global;
-use std::convert::AsStr;
-use std::fs::{self, OpenFile};
-use std::io::{self, Read, Write};
-use std::rt::Files;
+use msipkg_system::{Opened, Output, System};
+use std::fs;
 
 /// What streams are taken from, and where their files go.
-#[derive(Drop)]
-struct Extraction<'a, 'b, F: Source> {
-    package: &'a Package<F>,
+#[derive(Clone, Copy)]
+struct Extraction<'a> {
+    rt: &'a System,
+    package: &'a Package<Opened>,
     stored: Option<&'a StoredStreams>,
-    folder: Folder<'b>,
+    folder: Folder<'a>,
 }
 
 /// Writes streams of a file's package to files of a folder, or all streams where none is named. Where a stream's name
@@ -24,119 +22,92 @@ struct Extraction<'a, 'b, F: Source> {
 /// # Errors
 /// Fails if a stream that is named isn't there, if a file is there already and isn't to be replaced, and as the calls
 /// of the system do. The files of earlier streams stay.
-pub fn extract_streams<R, F, N>(
-    rt: &R,
+pub fn extract_streams(
+    rt: &System,
     file: &str,
-    package: &Package<F>,
+    package: &Package<Opened>,
     names: &[&str],
     folder: Folder<'_>,
-    notes: &mut N,
-) -> Result<(), Failure>
-where
-    R: Files + AllocGlobal,
-    R::File: OpenFile + Read + Write + Drop,
-    F: Source,
-    N: Write,
-{
+    notes: &mut Output,
+) -> Result<(), Failure> {
     let streams = stored_streams(rt, file, package)?;
     extract(rt, package, streams.as_ref(), folder, names, notes)
 }
 
 /// Makes the folder, and writes streams to it.
-fn extract<'a, R, F, N>(
-    rt: &R,
-    package: &'a Package<F>,
+fn extract<'a>(
+    rt: &'a System,
+    package: &'a Package<Opened>,
     stored: Option<&'a StoredStreams>,
-    folder: Folder<'_>,
+    folder: Folder<'a>,
     names: &[&str],
-    notes: &mut N,
-) -> Result<(), Failure>
-where
-    R: Files + AllocGlobal,
-    R::File: OpenFile + Write + Drop,
-    F: Source,
-    N: Write,
-{
+    notes: &mut Output,
+) -> Result<(), Failure> {
     fs::create_dir_all(rt, folder.path)?;
     let extraction = Extraction {
+        rt,
         package,
         stored,
         folder,
     };
-    if !names.is_empty() {
-        return extract_each(rt, &extraction, names, notes);
+    let mut given = SafeNames::new(rt.alloc());
+    if names.is_empty() {
+        extract_all(&extraction, &mut given, notes)
+    } else {
+        extract_named(&extraction, names, &mut given, notes)
     }
-    let all = all_names(rt.alloc(), package)?;
-    extract_each(rt, &extraction, all.as_slice(), notes)
 }
 
-/// The names of all streams.
-fn all_names<F: Source>(alloc: Global, package: &Package<F>) -> Result<Vec<String>, Error> {
-    let mut names = Vec::new(alloc);
-    for name in package.streams() {
-        names.push(name?)?;
+/// Writes all streams.
+fn extract_all(
+    extraction: &Extraction<'_>,
+    given: &mut SafeNames,
+    notes: &mut Output,
+) -> Result<(), Failure> {
+    for name in extraction.package.streams() {
+        extract_one(extraction, name?.as_str(), given, notes)?;
     }
-    Ok(names)
+    Ok(())
 }
 
 /// Writes the streams of these names.
-fn extract_each<R, F, S, N>(
-    rt: &R,
-    extraction: &Extraction<'_, '_, F>,
-    names: &[S],
-    notes: &mut N,
-) -> Result<(), Failure>
-where
-    R: Files + AllocGlobal,
-    R::File: OpenFile + Write + Drop,
-    F: Source,
-    S: AsStr,
-    N: Write,
-{
-    let mut given = SafeNames::new(rt.alloc());
+fn extract_named(
+    extraction: &Extraction<'_>,
+    names: &[&str],
+    given: &mut SafeNames,
+    notes: &mut Output,
+) -> Result<(), Failure> {
     for name in names {
-        extract_one(rt, extraction, name.as_str(), &mut given, notes)?;
+        extract_one(extraction, name, given, notes)?;
     }
     Ok(())
 }
 
 /// Writes a stream.
-fn extract_one<R, F, N>(
-    rt: &R,
-    extraction: &Extraction<'_, '_, F>,
+fn extract_one(
+    extraction: &Extraction<'_>,
     name: &str,
     given: &mut SafeNames,
-    notes: &mut N,
-) -> Result<(), Failure>
-where
-    R: Files + AllocGlobal,
-    R::File: OpenFile + Write + Drop,
-    F: Source,
-    N: Write,
-{
-    let bytes = bytes_of(rt.alloc(), extraction, name)?;
+    notes: &mut Output,
+) -> Result<(), Failure> {
+    let bytes = bytes_of(extraction, name)?;
     let safe = given.give(name)?;
-    note_file(name, safe.as_str(), notes)?;
-    extraction.folder.write(rt, safe.as_str(), bytes)
+    note_file(name, safe.as_str(), notes);
+    extraction.folder.write(extraction.rt, safe.as_str(), bytes)
 }
 
 /// The bytes of a stream.
-fn bytes_of<'a, F: Source>(
-    alloc: Global,
-    extraction: &Extraction<'a, '_, F>,
-    name: &str,
-) -> Result<&'a [u8], Failure> {
+fn bytes_of<'a>(extraction: &Extraction<'a>, name: &str) -> Result<&'a [u8], Failure> {
     match stream_bytes(extraction.package, extraction.stored, name) {
         Ok(bytes) => Ok(bytes),
-        Err(error) => Err(Failure::from(error).at(alloc, "stream", name)),
+        Err(error) => Err(Failure::from(error).at(extraction.rt.alloc(), "stream", name)),
     }
 }
 
 /// Writes the name of a stream's file, if it is another one than the stream's.
-fn note_file<N: Write>(name: &str, safe: &str, notes: &mut N) -> io::Result<()> {
-    if safe == name {
-        return Ok(());
+fn note_file(name: &str, safe: &str, notes: &mut Output) {
+    if safe != name {
+        let name = Shown::escaped(name);
+        writeln!(notes, "msipkg: stream {name}: its file is {safe}");
     }
-    let name = Shown::escaped(name);
-    writeln!(notes, "msipkg: stream {name}: its file is {safe}")
 }

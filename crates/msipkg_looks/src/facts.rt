@@ -1,25 +1,29 @@
 //! Facts of a package under their names, which print as lines or as JSON.
 
-use msipkg_output::Style;
-use msipkg_output::json::{self, JsonObject};
+use msi::LanguageId;
+use msipkg_output::{JsonObject, Style};
+use msipkg_system::Output;
 use std::alloc::{AllocError, Global};
-use std::convert::AsStr;
 use std::fmt::Display;
-use std::io::{self, Write};
 
 /// Facts in the order in which they are added. As a line each is its name, a colon and what it says.
 ///
-/// # Errors
-/// Each call that adds something fails if memory is refused.
+/// Where memory is refused for a fact, that is kept, and said once the facts are printed.
 pub(crate) struct Facts {
     style: Style,
     text: FactsText,
+    /// Whether memory was refused for what a fact was to say.
+    is_cut: bool,
 }
 
 /// Written out, so that a function that owns one calls one drop, and its proof doesn't go through those of the parts.
 impl Drop for Facts {
     fn drop(self) {
-        let Facts { style: _, text: _ } = self;
+        let Facts {
+            style: _,
+            text: _,
+            is_cut: _,
+        } = self;
     }
 }
 
@@ -27,29 +31,29 @@ impl Drop for Facts {
 #[derive(Drop)]
 enum FactsText {
     Json(JsonObject),
-    Lines(String),
+    /// The lines, which are printed to memory.
+    Lines(Output),
 }
 
 impl Facts {
     /// Returns no facts. As JSON they have the path of the file in front.
-    pub(crate) fn new(
-        alloc: Global,
-        style: Style,
-        file: &str,
-        is_json: bool,
-    ) -> Result<Facts, AllocError> {
+    pub(crate) fn new(alloc: Global, style: Style, file: &str, is_json: bool) -> Facts {
         let text = if is_json {
-            FactsText::Json(object_of(alloc, file)?)
+            FactsText::Json(object_of(alloc, file))
         } else {
-            FactsText::Lines(String::new(alloc))
+            FactsText::Lines(Output::to_memory(alloc))
         };
-        Ok(Facts { style, text })
+        Facts {
+            style,
+            text,
+            is_cut: false,
+        }
     }
 
     /// Adds a text, if there is one.
-    pub(crate) fn text(&mut self, name: &str, text: Option<&str>) -> Result<(), AllocError> {
+    pub(crate) fn text(&mut self, name: &str, text: Option<&str>) {
         let Some(text) = text else {
-            return Ok(());
+            return;
         };
         match &mut self.text {
             FactsText::Json(object) => object.put_text(name, Some(text)),
@@ -58,7 +62,7 @@ impl Facts {
     }
 
     /// Adds what a value prints, which has to be safe on a terminal.
-    pub(crate) fn shown<D: Display>(&mut self, name: &str, value: &D) -> Result<(), AllocError> {
+    pub(crate) fn shown<D: Display>(&mut self, name: &str, value: &D) {
         match &mut self.text {
             FactsText::Json(object) => object.put_shown(name, value),
             FactsText::Lines(lines) => writeln!(lines, "{name}: {value}"),
@@ -66,9 +70,9 @@ impl Facts {
     }
 
     /// Adds a number, if there is one.
-    pub(crate) fn number(&mut self, name: &str, number: Option<i64>) -> Result<(), AllocError> {
+    pub(crate) fn number(&mut self, name: &str, number: Option<i64>) {
         let Some(number) = number else {
-            return Ok(());
+            return;
         };
         match &mut self.text {
             FactsText::Json(object) => object.put_number(name, Some(number)),
@@ -77,7 +81,7 @@ impl Facts {
     }
 
     /// Adds whether something holds.
-    pub(crate) fn truth(&mut self, name: &str, holds: bool) -> Result<(), AllocError> {
+    pub(crate) fn truth(&mut self, name: &str, holds: bool) {
         match &mut self.text {
             FactsText::Json(object) => object.put_truth(name, holds),
             FactsText::Lines(lines) => {
@@ -87,9 +91,9 @@ impl Facts {
     }
 
     /// Adds texts, which are parted by `; ` in a line, unless there are none.
-    pub(crate) fn texts<S: AsStr>(&mut self, name: &str, texts: &[S]) -> Result<(), AllocError> {
+    pub(crate) fn texts(&mut self, name: &str, texts: &[String]) {
         if texts.is_empty() {
-            return Ok(());
+            return;
         }
         match &mut self.text {
             FactsText::Json(object) => put_texts(name, texts, object),
@@ -97,78 +101,103 @@ impl Facts {
         }
     }
 
-    /// Adds numbers, which are parted by commas in a line, unless there are none.
-    pub(crate) fn numbers(&mut self, name: &str, numbers: &[u16]) -> Result<(), AllocError> {
-        if numbers.is_empty() {
-            return Ok(());
+    /// Adds the numbers of languages, which are parted by commas in a line, and their tags, parted by `; `, unless
+    /// there are no languages.
+    pub(crate) fn languages(&mut self, languages: &[LanguageId]) {
+        if languages.is_empty() {
+            return;
         }
         match &mut self.text {
-            FactsText::Json(object) => put_numbers(name, numbers, object),
-            FactsText::Lines(lines) => push_numbers(name, numbers, lines),
+            FactsText::Json(object) => put_languages(languages, object),
+            FactsText::Lines(lines) => push_languages(languages, lines),
         }
     }
 
-    /// Writes the facts.
-    ///
-    /// # Errors
-    /// Fails as the writer does, and if memory is refused.
-    pub(crate) fn print<W: Write>(self, output: &mut W) -> io::Result<()> {
-        let Facts { style, text } = self;
+    /// Notes that memory was refused for what a fact was to say.
+    pub(crate) fn refuse_memory(&mut self) {
+        self.is_cut = true;
+    }
+
+    /// Prints the facts, or nothing of them where memory was refused, which the output is told.
+    pub(crate) fn print(self, output: &mut Output) {
+        let Facts {
+            style,
+            text,
+            is_cut,
+        } = self;
+        if is_cut {
+            return output.refuse_memory(AllocError);
+        }
         match text {
-            FactsText::Json(object) => json::write_line(style, object.finish()?.as_str(), output),
-            FactsText::Lines(lines) => output.write_all(lines.as_bytes()),
+            FactsText::Json(object) => object.print_line(style, output),
+            FactsText::Lines(lines) => print_lines(&lines, output),
         }
     }
 }
 
 /// An object with the path of a file.
-fn object_of(alloc: Global, file: &str) -> Result<JsonObject, AllocError> {
-    let mut object = JsonObject::new(alloc)?;
-    object.put_text("file", Some(file))?;
-    Ok(object)
+fn object_of(alloc: Global, file: &str) -> JsonObject {
+    let mut object = JsonObject::new(alloc);
+    object.put_text("file", Some(file));
+    object
 }
 
 /// Puts texts as a list.
-fn put_texts<S: AsStr>(name: &str, texts: &[S], object: &mut JsonObject) -> Result<(), AllocError> {
-    object.open_list(name)?;
+fn put_texts(name: &str, texts: &[String], object: &mut JsonObject) {
+    object.open_list(name);
     for text in texts {
-        object.put_text_item(text.as_str())?;
+        object.put_text_item(text.as_str());
     }
-    object.close_list()
+    object.close_list();
 }
 
 /// Puts texts on a line.
-fn push_texts<S: AsStr>(
-    style: Style,
-    name: &str,
-    texts: &[S],
-    lines: &mut String,
-) -> Result<(), AllocError> {
-    lines.push_str(name)?;
+fn push_texts(style: Style, name: &str, texts: &[String], lines: &mut Output) {
+    lines.push_str(name);
     let mut before = ": ";
     for text in texts {
-        write!(lines, "{before}{}", style.show(text.as_str()))?;
+        write!(lines, "{before}{}", style.show(text.as_str()));
         before = "; ";
     }
-    lines.push('\n')
+    lines.push_str("\n");
 }
 
-/// Puts numbers as a list.
-fn put_numbers(name: &str, numbers: &[u16], object: &mut JsonObject) -> Result<(), AllocError> {
-    object.open_list(name)?;
-    for number in numbers {
-        object.put_number_item(i64::from(*number))?;
+/// Puts the numbers of languages and their tags as lists.
+fn put_languages(languages: &[LanguageId], object: &mut JsonObject) {
+    object.open_list("languages");
+    for language in languages {
+        object.put_number_item(i64::from(language.id()));
     }
-    object.close_list()
+    object.close_list();
+    object.open_list("language_tags");
+    for language in languages {
+        object.put_text_item(language.tag());
+    }
+    object.close_list();
 }
 
-/// Puts numbers on a line.
-fn push_numbers(name: &str, numbers: &[u16], lines: &mut String) -> Result<(), AllocError> {
-    lines.push_str(name)?;
+/// Puts the numbers of languages and their tags on two lines.
+fn push_languages(languages: &[LanguageId], lines: &mut Output) {
+    lines.push_str("languages");
     let mut before = ": ";
-    for number in numbers {
-        write!(lines, "{before}{number}")?;
+    for language in languages {
+        write!(lines, "{before}{}", language.id());
         before = ",";
     }
-    lines.push('\n')
+    lines.push_str("\nlanguage_tags");
+    before = ": ";
+    for language in languages {
+        write!(lines, "{before}{}", language.tag());
+        before = "; ";
+    }
+    lines.push_str("\n");
+}
+
+/// Prints lines. Printing to memory fails only where memory is refused.
+fn print_lines(lines: &Output, output: &mut Output) {
+    if lines.has_failed() {
+        output.refuse_memory(AllocError);
+    } else {
+        output.push_bytes(lines.as_bytes());
+    }
 }

@@ -1,9 +1,9 @@
 //! `query FILE TEXT`: the rows that a query selects.
 
-use msi::{Package, Parse, Select, Source};
+use msi::{Package, Parse, Select};
 use msipkg_output::{Failure, Format, Style, write_rows};
+use msipkg_system::{Opened, Output};
 use std::alloc::Global;
-use std::io::Write;
 
 /// Fails if a text spells no query for rows, so that it is refused before a file is opened.
 ///
@@ -17,14 +17,14 @@ pub fn check_query(alloc: Global, text: &str) -> Result<(), Failure> {
 /// Prints the rows that a query selects.
 ///
 /// # Errors
-/// Fails if the text spells no query for rows, as selecting does, and as the writer does.
-pub fn print_query<F: Source, O: Write + Drop>(
+/// Fails if the text spells no query for rows, and as selecting does.
+pub fn print_query(
     alloc: Global,
     style: Style,
-    package: &Package<F>,
+    package: &Package<Opened>,
     text: &str,
     format: Format,
-    output: &mut O,
+    output: &mut Output,
 ) -> Result<(), Failure> {
     let query = parsed(alloc, text)?;
     match write_selected(alloc, style, format, package, query, output) {
@@ -39,13 +39,13 @@ fn parsed(alloc: Global, text: &str) -> Result<Select, Failure> {
 }
 
 /// Writes the rows that a query selects.
-fn write_selected<F: Source, W: Write + Drop>(
+fn write_selected(
     alloc: Global,
     style: Style,
     format: Format,
-    package: &Package<F>,
+    package: &Package<Opened>,
     query: Select,
-    output: &mut W,
+    output: &mut Output,
 ) -> Result<(), Failure> {
     let rows = package.select_rows(query)?;
     write_rows(alloc, style, format, rows, output)

@@ -2,10 +2,10 @@
 
 use crate::columns::{ColumnPart, Part};
 use crate::schema_json::schema_json;
-use msi::{Column, Package, Source, Table};
-use msipkg_output::{Failure, Grid, Style, chosen_tables, json};
-use std::alloc::{AllocError, Global};
-use std::io::{self, Write};
+use msi::{Column, Package, Table};
+use msipkg_output::{Failure, Grid, Style, chosen_tables};
+use msipkg_system::{Opened, Output};
+use std::alloc::Global;
 
 /// What is printed of each column, under its head.
 static PARTS: [(&str, Part); 7] = [
@@ -33,100 +33,74 @@ pub enum Form {
 /// parted by tabs elsewhere, as JSON on one line, or as statements that create the tables.
 ///
 /// # Errors
-/// Fails if a table isn't there, if memory is refused, and as the writer does.
-pub fn print_schema<F: Source, O: Write>(
+/// Fails if a table isn't there, and if memory is refused for the list of tables.
+pub fn print_schema(
     alloc: Global,
     style: Style,
     file: &str,
-    package: &Package<F>,
+    package: &Package<Opened>,
     names: &[&str],
     form: Form,
-    output: &mut O,
+    output: &mut Output,
 ) -> Result<(), Failure> {
     let tables = chosen_tables(alloc, package, names, true)?;
     match form {
-        Form::Rows => write_rows(alloc, style, tables.as_slice(), output)?,
-        Form::Json => write_json(alloc, style, file, tables.as_slice(), output)?,
-        Form::Sql => write_definitions(style, tables.as_slice(), output)?,
+        Form::Rows => write_rows(alloc, style, tables.as_slice(), output),
+        Form::Json => schema_json(alloc, file, tables.as_slice()).print_line(style, output),
+        Form::Sql => write_definitions(style, tables.as_slice(), output),
     }
     Ok(())
 }
 
 /// Writes a row for each column.
-fn write_rows<W: Write>(
-    alloc: Global,
-    style: Style,
-    tables: &[&Table],
-    output: &mut W,
-) -> io::Result<()> {
+fn write_rows(alloc: Global, style: Style, tables: &[&Table], output: &mut Output) {
     let mut grid = Grid::new(alloc, PARTS.len());
-    put_heads(&mut grid)?;
+    put_heads(&mut grid);
     for table in tables {
-        put_columns(style, table, &mut grid)?;
+        put_columns(style, table, &mut grid);
     }
-    grid.print(style, output)
+    grid.print(style, output);
 }
 
 /// Puts the heads.
-fn put_heads(grid: &mut Grid) -> Result<(), AllocError> {
+fn put_heads(grid: &mut Grid) {
     for (head, _) in &PARTS {
-        grid.put(head)?;
+        grid.push(head);
     }
-    Ok(())
 }
 
 /// Puts a row for each column of a table.
-fn put_columns(style: Style, table: &Table, grid: &mut Grid) -> Result<(), AllocError> {
+fn put_columns(style: Style, table: &Table, grid: &mut Grid) {
     for column in table.columns() {
-        put_column(style, table.name(), column, grid)?;
+        put_column(style, table.name(), column, grid);
     }
-    Ok(())
 }
 
 /// Puts the row of a column.
-fn put_column(
-    style: Style,
-    table: &str,
-    column: &Column,
-    grid: &mut Grid,
-) -> Result<(), AllocError> {
+fn put_column(style: Style, table: &str, column: &Column, grid: &mut Grid) {
     for (_, part) in &PARTS {
         grid.put(&ColumnPart {
             style,
             table,
             column,
             part: *part,
-        })?;
+        });
     }
-    Ok(())
-}
-
-/// Writes the columns as JSON on one line.
-fn write_json<W: Write>(
-    alloc: Global,
-    style: Style,
-    file: &str,
-    tables: &[&Table],
-    output: &mut W,
-) -> io::Result<()> {
-    let text = schema_json(alloc, file, tables)?;
-    json::write_line(style, text.as_str(), output)
 }
 
 /// Writes a statement for each table that creates it, as `exec` takes it. What `_Validation` says of the columns isn't
 /// in it.
-fn write_definitions<W: Write>(style: Style, tables: &[&Table], output: &mut W) -> io::Result<()> {
+fn write_definitions(style: Style, tables: &[&Table], output: &mut Output) {
     for table in tables {
-        write!(output, "CREATE TABLE `{}`", style.show(table.name()))?;
-        write_columns(style, table, output)?;
-        write_keys(style, table, output)?;
-        output.write_all(b")\n")?;
+        write!(output, "CREATE TABLE `{}`", style.show(table.name()));
+        write_columns(style, table, output);
+        write_keys(style, table, output);
+        output.push_str(")\n");
     }
-    Ok(())
 }
 
 /// Writes the columns of a table, parted by commas, behind a bracket.
-fn write_columns<W: Write>(style: Style, table: &Table, output: &mut W) -> io::Result<()> {
+fn write_columns(style: Style, table: &Table, output: &mut Output) {
     let mut before = " (";
     for column in table.columns() {
         let definition = ColumnPart {
@@ -135,20 +109,18 @@ fn write_columns<W: Write>(style: Style, table: &Table, output: &mut W) -> io::R
             column,
             part: Part::Definition,
         };
-        write!(output, "{before}{definition}")?;
+        write!(output, "{before}{definition}");
         before = ", ";
     }
-    Ok(())
 }
 
 /// Writes the columns of a table's key.
-fn write_keys<W: Write>(style: Style, table: &Table, output: &mut W) -> io::Result<()> {
+fn write_keys(style: Style, table: &Table, output: &mut Output) {
     let mut before = " PRIMARY KEY ";
     for column in table.columns() {
         if column.is_primary_key() {
-            write!(output, "{before}`{}`", style.show(column.name()))?;
+            write!(output, "{before}`{}`", style.show(column.name()));
             before = ", ";
         }
     }
-    Ok(())
 }

@@ -2,30 +2,23 @@
 
 use msi::Table;
 use msipkg_output::{JsonObject, put_columns};
-use std::alloc::{AllocError, Global};
+use std::alloc::Global;
 
 /// Returns the tables of a file as JSON. What a column doesn't have isn't there.
-///
-/// # Errors
-/// Fails if memory is refused.
-pub(crate) fn schema_json(
-    alloc: Global,
-    file: &str,
-    tables: &[&Table],
-) -> Result<String, AllocError> {
-    let mut object = JsonObject::new(alloc)?;
-    put_tables(file, tables, &mut object)?;
-    object.finish()
+pub(crate) fn schema_json(alloc: Global, file: &str, tables: &[&Table]) -> JsonObject {
+    let mut object = JsonObject::new(alloc);
+    put_tables(file, tables, &mut object);
+    object
 }
 
 /// Puts the tables of a file.
-fn put_tables(file: &str, tables: &[&Table], object: &mut JsonObject) -> Result<(), AllocError> {
-    object.put_text("file", Some(file))?;
-    object.open_list("tables")?;
+fn put_tables(file: &str, tables: &[&Table], object: &mut JsonObject) {
+    object.put_text("file", Some(file));
+    object.open_list("tables");
     for table in tables {
-        object.open_item()?;
-        put_columns(table.name(), table.columns(), object)?;
-        object.close_item()?;
+        object.open_item();
+        put_columns(table.name(), table.columns(), object);
+        object.close_item();
     }
-    object.close_list()
+    object.close_list();
 }

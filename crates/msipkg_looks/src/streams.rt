@@ -1,11 +1,10 @@
 //! `streams FILE`: the names of a package's streams, and how many bytes they have.
 
-use msi::{Package, Source};
+use msi::{Error, Package};
 use msipkg_files::{StoredStreams, stored_streams, stream_bytes};
 use msipkg_output::{Failure, Grid, Style};
+use msipkg_system::{Opened, Output, System};
 use std::alloc::Global;
-use std::io::{Read, Write};
-use std::rt::Files;
 
 /// The heads of the columns that are printed.
 static HEADS: [&str; 2] = ["Stream", "Bytes"];
@@ -13,44 +12,39 @@ static HEADS: [&str; 2] = ["Stream", "Bytes"];
 /// Prints the name of each stream of a file's package and how many bytes it has.
 ///
 /// # Errors
-/// Fails if a stream can't be found in the file, and as the writer does.
-pub fn print_streams<R, F, O>(
-    rt: &R,
+/// Fails if a stream can't be found in the file.
+pub fn print_streams(
+    rt: &System,
     style: Style,
     file: &str,
-    package: &Package<F>,
-    output: &mut O,
-) -> Result<(), Failure>
-where
-    R: Files + AllocGlobal,
-    R::File: Read + Drop,
-    F: Source,
-    O: Write,
-{
+    package: &Package<Opened>,
+    output: &mut Output,
+) -> Result<(), Failure> {
     let stored = stored_streams(rt, file, package)?;
     write_streams(rt.alloc(), style, package, stored.as_ref(), output)
 }
 
 /// Writes a row for each stream.
-fn write_streams<F: Source, W: Write>(
+fn write_streams(
     alloc: Global,
     style: Style,
-    package: &Package<F>,
+    package: &Package<Opened>,
     stored: Option<&StoredStreams>,
-    output: &mut W,
+    output: &mut Output,
 ) -> Result<(), Failure> {
-    let mut grid = Grid::headed(alloc, HEADS.as_slice())?;
+    let mut grid = Grid::headed(alloc, HEADS.as_slice());
     put_streams(style, package, stored, &mut grid)?;
-    Ok(grid.print(style, output)?)
+    grid.print(style, output);
+    Ok(())
 }
 
 /// Puts the row of each stream.
-fn put_streams<F: Source>(
+fn put_streams(
     style: Style,
-    package: &Package<F>,
+    package: &Package<Opened>,
     stored: Option<&StoredStreams>,
     grid: &mut Grid,
-) -> Result<(), Failure> {
+) -> Result<(), Error> {
     for name in package.streams() {
         put_stream(style, package, stored, name?.as_str(), grid)?;
     }
@@ -58,15 +52,15 @@ fn put_streams<F: Source>(
 }
 
 /// Puts the row of a stream.
-fn put_stream<F: Source>(
+fn put_stream(
     style: Style,
-    package: &Package<F>,
+    package: &Package<Opened>,
     stored: Option<&StoredStreams>,
     name: &str,
     grid: &mut Grid,
-) -> Result<(), Failure> {
+) -> Result<(), Error> {
     let bytes = stream_bytes(package, stored, name)?;
-    grid.put(&style.show(name))?;
-    grid.put(&bytes.len())?;
+    grid.put(&style.show(name));
+    grid.put(&bytes.len());
     Ok(())
 }

@@ -1,9 +1,9 @@
 //! `tables FILE`: the names of a package's tables, and how many rows they have.
 
-use msi::{Error, Package, Select, Source, Table};
-use msipkg_output::{Grid, Style};
-use std::alloc::{AllocError, Global};
-use std::io::{self, Write};
+use msi::{Error, Package, Select, Table};
+use msipkg_output::{Failure, Grid, Style};
+use msipkg_system::{Opened, Output};
+use std::alloc::Global;
 
 /// The heads of the columns that are printed.
 static HEADS: [&str; 2] = ["Table", "Rows"];
@@ -11,27 +11,29 @@ static HEADS: [&str; 2] = ["Table", "Rows"];
 /// Prints the name of each table and the number of its rows, which is `?` where the table can't be read.
 ///
 /// # Errors
-/// Fails if memory is refused, and as the writer does.
-pub fn print_tables<F: Source, O: Write>(
+/// Fails nowhere so far, since a table that can't be read prints as `?`: the result is that of each command that reads
+/// a package.
+pub fn print_tables(
     alloc: Global,
     style: Style,
-    package: &Package<F>,
-    output: &mut O,
-) -> io::Result<()> {
-    let mut grid = Grid::headed(alloc, HEADS.as_slice())?;
+    package: &Package<Opened>,
+    output: &mut Output,
+) -> Result<(), Failure> {
+    let mut grid = Grid::headed(alloc, HEADS.as_slice());
     for table in package.tables() {
-        put_table(alloc, style, package, table, &mut grid)?;
+        put_table(alloc, style, package, table, &mut grid);
     }
-    grid.print(style, output)
+    grid.print(style, output);
+    Ok(())
 }
 
 /// Returns how many rows a table has.
 ///
 /// # Errors
 /// Fails with `InvalidData` if the table can't be read.
-pub(crate) fn count_rows<F: Source>(
+pub(crate) fn count_rows(
     alloc: Global,
-    package: &Package<F>,
+    package: &Package<Opened>,
     table: &str,
 ) -> Result<usize, Error> {
     let rows = package.select_rows(Select::table(alloc, table)?)?;
@@ -39,16 +41,16 @@ pub(crate) fn count_rows<F: Source>(
 }
 
 /// Puts the row of a table.
-fn put_table<F: Source>(
+fn put_table(
     alloc: Global,
     style: Style,
-    package: &Package<F>,
+    package: &Package<Opened>,
     table: &Table,
     grid: &mut Grid,
-) -> Result<(), AllocError> {
-    grid.put(&style.show(table.name()))?;
+) {
+    grid.put(&style.show(table.name()));
     match count_rows(alloc, package, table.name()) {
         Ok(count) => grid.put(&count),
-        Err(_) => grid.put(&"?"),
+        Err(_) => grid.push("?"),
     }
 }

@@ -2,7 +2,6 @@
 
 use crate::json::JsonObject;
 use msi::{Column, ColumnType};
-use std::alloc::{AllocError, Global};
 use std::fmt;
 
 /// A column's type, which prints as the installer writes it: a letter and a length, as `s72`, `i2` or `v0`. A small
@@ -35,76 +34,66 @@ fn letter_and_length(column: &Column) -> (char, usize) {
 
 /// Puts the name of a table, and the list of its columns: the name of each, its type, what it is, and what its values
 /// are limited to. What a column doesn't have isn't there.
-///
-/// # Errors
-/// Fails if memory is refused.
-pub fn put_columns(
-    table: &str,
-    columns: &[Column],
-    object: &mut JsonObject,
-) -> Result<(), AllocError> {
-    object.put_text("table", Some(table))?;
-    object.open_list("columns")?;
+pub fn put_columns(table: &str, columns: &[Column], object: &mut JsonObject) {
+    object.put_text("table", Some(table));
+    object.open_list("columns");
     for column in columns {
-        object.open_item()?;
-        put_column(column, object)?;
-        object.close_item()?;
+        object.open_item();
+        put_column(column, object);
+        object.close_item();
     }
-    object.close_list()
+    object.close_list();
 }
 
 /// Puts what is said of a column.
-fn put_column(column: &Column, object: &mut JsonObject) -> Result<(), AllocError> {
-    put_kind(column, object)?;
-    put_category(column, object)?;
-    put_range(column, object)?;
-    put_values(column, object)?;
-    put_reference(column, object)
+fn put_column(column: &Column, object: &mut JsonObject) {
+    put_kind(column, object);
+    put_category(column, object);
+    put_range(column, object);
+    put_values(column, object);
+    put_reference(column, object);
 }
 
 /// Puts what a column is.
-fn put_kind(column: &Column, object: &mut JsonObject) -> Result<(), AllocError> {
-    object.put_text("column", Some(column.name()))?;
-    object.put_shown("type", &ColumnTypeText(column))?;
-    object.put_truth("key", column.is_primary_key())?;
-    object.put_truth("nullable", column.is_nullable())?;
-    object.put_truth("localizable", column.is_localizable())
+fn put_kind(column: &Column, object: &mut JsonObject) {
+    object.put_text("column", Some(column.name()));
+    object.put_shown("type", &ColumnTypeText(column));
+    object.put_truth("key", column.is_primary_key());
+    object.put_truth("nullable", column.is_nullable());
+    object.put_truth("localizable", column.is_localizable());
 }
 
 /// Puts the category of a column, if it has one.
-fn put_category(column: &Column, object: &mut JsonObject) -> Result<(), AllocError> {
-    match column.category() {
-        Some(category) => object.put_text("category", Some(category.name())),
-        None => Ok(()),
+fn put_category(column: &Column, object: &mut JsonObject) {
+    if let Some(category) = column.category() {
+        object.put_text("category", Some(category.name()));
     }
 }
 
 /// Puts the range of a column's numbers.
-fn put_range(column: &Column, object: &mut JsonObject) -> Result<(), AllocError> {
-    let Some((min, max)) = column.value_range() else {
-        return Ok(());
-    };
-    object.put_number("min", Some(i64::from(min)))?;
-    object.put_number("max", Some(i64::from(max)))
+fn put_range(column: &Column, object: &mut JsonObject) {
+    if let Some((min, max)) = column.value_range() {
+        object.put_number("min", Some(i64::from(min)));
+        object.put_number("max", Some(i64::from(max)));
+    }
 }
 
 /// Puts the texts that a column takes.
-fn put_values(column: &Column, object: &mut JsonObject) -> Result<(), AllocError> {
+fn put_values(column: &Column, object: &mut JsonObject) {
     let Some(texts) = column.enum_values() else {
-        return Ok(());
+        return;
     };
-    object.open_list("values")?;
+    object.open_list("values");
     for text in texts {
-        object.put_text_item(text.as_str())?;
+        object.put_text_item(text.as_str());
     }
-    object.close_list()
+    object.close_list();
 }
 
 /// Puts the column that a column's values stand in.
-fn put_reference(column: &Column, object: &mut JsonObject) -> Result<(), AllocError> {
-    let Some((table, number)) = column.foreign_key() else {
-        return Ok(());
-    };
-    object.put_text("key_table", Some(table))?;
-    object.put_number("key_column", Some(i64::from(number)))
+fn put_reference(column: &Column, object: &mut JsonObject) {
+    if let Some((table, number)) = column.foreign_key() {
+        object.put_text("key_table", Some(table));
+        object.put_number("key_column", Some(i64::from(number)));
+    }
 }

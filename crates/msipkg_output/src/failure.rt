@@ -188,12 +188,9 @@ impl From<serde_json::Error> for Failure {
 }
 
 /// Returns the line of a file that failed, as JSON.
-///
-/// # Errors
-/// Fails if memory is refused.
-pub fn failure_json(alloc: Global, file: &str, failure: &Failure) -> Result<String, AllocError> {
-    let mut object = JsonObject::new(alloc)?;
-    object.put_text("file", Some(file))?;
-    object.put_shown("error", failure)?;
-    object.finish()
+pub fn failure_json(alloc: Global, file: &str, failure: &Failure) -> JsonObject {
+    let mut object = JsonObject::new(alloc);
+    object.put_text("file", Some(file));
+    object.put_shown("error", failure);
+    object
 }

@@ -1,9 +1,9 @@
 //! Tables whose columns are aligned with spaces.
 
 use crate::style::Style;
+use msipkg_system::Output;
 use std::alloc::{AllocError, Global};
 use std::fmt::Display;
-use std::io::{self, Write};
 
 /// How many characters are written at a time.
 const PIECE: usize = 64;
@@ -14,7 +14,8 @@ static SPACES: [u8; PIECE] = [b' '; PIECE];
 /// What the line under the head is made of.
 static DASHES: [u8; PIECE] = [b'-'; PIECE];
 
-/// Rows of texts under a head.
+/// Rows of texts under a head. Where memory is refused for one, that is kept, and the output gets it once the grid is
+/// printed.
 pub struct Grid {
     alloc: Global,
     /// How many texts a row has: at least one.
@@ -23,6 +24,8 @@ pub struct Grid {
     texts: String,
     /// Where each text ends.
     cells: Vec<Cell>,
+    /// Whether memory was refused for a text.
+    is_cut: bool,
 }
 
 /// A text of a grid.
@@ -42,6 +45,7 @@ impl Drop for Grid {
             width: _,
             texts: _,
             cells: _,
+            is_cut: _,
         } = self;
     }
 }
@@ -54,83 +58,67 @@ impl Grid {
             width: width.max(1),
             texts: String::new(alloc),
             cells: Vec::new(alloc),
+            is_cut: false,
         }
     }
 
     /// Returns a grid with these texts as its head.
-    ///
-    /// # Errors
-    /// Fails if memory is refused.
-    pub fn headed(alloc: Global, names: &[&str]) -> Result<Grid, AllocError> {
+    pub fn headed(alloc: Global, names: &[&str]) -> Grid {
         let mut grid = Grid::new(alloc, names.len());
         for name in names {
-            grid.push(name)?;
+            grid.push(name);
         }
-        Ok(grid)
+        grid
     }
 
     /// Puts what a value prints as the next text of a row.
-    ///
-    /// # Errors
-    /// Fails if memory is refused.
-    pub fn put<D: Display>(&mut self, value: &D) -> Result<(), AllocError> {
-        let text = value.to_string(self.alloc)?;
-        self.push(text.as_str())
+    pub fn put<D: Display>(&mut self, value: &D) {
+        let done = write!(self.texts, "{value}");
+        self.end_text(done);
     }
 
     /// Puts the next text of a row.
-    ///
-    /// # Errors
-    /// Fails if memory is refused.
-    pub fn push(&mut self, text: &str) -> Result<(), AllocError> {
-        self.texts.push_str(text)?;
-        Ok(
-            self.cells.push(Cell {
-                end: self.texts.len(),
-                width: width_of(text),
-            })?,
-        )
+    pub fn push(&mut self, text: &str) {
+        let done = self.texts.push_str(text);
+        self.end_text(done);
+    }
+
+    /// Notes that the next text of a row ends where the texts end now.
+    fn end_text(&mut self, done: Result<(), AllocError>) {
+        let start = end_of(self.cells.as_slice());
+        let end = self.texts.len();
+        let width = width_of(self.bytes_of(start, end));
+        if done.is_err() || self.cells.push(Cell { end, width }).is_err() {
+            self.is_cut = true;
+        }
     }
 
     /// Writes the grid as the style has it: aligned on a terminal, and else a line for each row, its texts parted by
-    /// tabs, without the head.
-    ///
-    /// # Errors
-    /// Fails if memory is refused, and as the writer does.
-    pub fn print<W: Write>(&self, style: Style, output: &mut W) -> io::Result<()> {
+    /// tabs, without the head. Where memory was refused, the output gets that in its place.
+    pub fn print(&self, style: Style, output: &mut Output) {
         if style.is_terminal {
-            return self.write(output);
+            self.write(output);
+        } else if self.is_cut {
+            output.refuse_memory(AllocError);
+        } else {
+            self.write_parted(output);
         }
-        let mut start = 0;
-        for (number, row) in self.cells.as_slice().chunks(self.width.max(1)).enumerate() {
-            if number > 0 {
-                self.write_parted(start, row, output)?;
-            }
-            start = end_of(row);
-        }
-        Ok(())
     }
 
     /// Writes the head, a line of dashes and the rows. Each column is as wide as its longest text, in characters, and
-    /// the last one isn't filled up.
-    ///
-    /// # Errors
-    /// Fails if memory is refused, and as the writer does.
-    pub fn write<W: Write>(&self, output: &mut W) -> io::Result<()> {
-        let widths = self.widths()?;
-        let mut start = 0;
-        for (number, row) in self.cells.as_slice().chunks(self.width.max(1)).enumerate() {
-            self.write_row(start, row, widths.as_slice(), output)?;
-            if number == 0 {
-                write_dashes(widths.as_slice(), output)?;
-            }
-            start = end_of(row);
+    /// the last one isn't filled up. Where memory was refused, the output gets that in their place.
+    pub fn write(&self, output: &mut Output) {
+        match self.widths() {
+            Ok(widths) => self.write_aligned(widths.as_slice(), output),
+            Err(error) => output.refuse_memory(error),
         }
-        Ok(())
     }
 
-    /// The width of each column.
+    /// The width of each column, if all texts are there.
     fn widths(&self) -> Result<Vec<usize>, AllocError> {
+        if self.is_cut {
+            return Err(AllocError);
+        }
         let mut widths = vec![in self.alloc; 0usize; self.width]?;
         for row in self.cells.as_slice().chunks(self.width.max(1)) {
             widen(widths.as_mut_slice(), row);
@@ -143,53 +131,67 @@ impl Grid {
         self.texts.as_bytes().get(start..end).unwrap_or(&[])
     }
 
+    /// Writes the head, a line of dashes and the rows, the columns as wide as given.
+    fn write_aligned(&self, widths: &[usize], output: &mut Output) {
+        let mut start = 0;
+        for (number, row) in self.cells.as_slice().chunks(self.width.max(1)).enumerate() {
+            self.write_row(start, row, widths, output);
+            if number == 0 {
+                write_dashes(widths, output);
+            }
+            start = end_of(row);
+        }
+    }
+
     /// Writes a row whose first text begins at a place, its texts filled up but for the last.
-    fn write_row<W: Write>(
-        &self,
-        start: usize,
-        row: &[Cell],
-        widths: &[usize],
-        output: &mut W,
-    ) -> io::Result<()> {
+    fn write_row(&self, start: usize, row: &[Cell], widths: &[usize], output: &mut Output) {
         let mut start = start;
         for i in 0..row.len().min(widths.len()) {
-            output.write_all(self.bytes_of(start, row[i].end))?;
+            output.push_bytes(self.bytes_of(start, row[i].end));
             start = row[i].end;
             if i + 1 < row.len() {
-                write_filled(&SPACES, widths[i].saturating_sub(row[i].width), output)?;
-                output.write_all(b"  ")?;
+                write_filled(&SPACES, widths[i].saturating_sub(row[i].width), output);
+                output.push_str("  ");
             }
         }
-        output.write_all(b"\n")
+        output.push_str("\n");
+    }
+
+    /// Writes the rows without the head, their texts parted by tabs.
+    fn write_parted(&self, output: &mut Output) {
+        let mut start = 0;
+        for (number, row) in self.cells.as_slice().chunks(self.width.max(1)).enumerate() {
+            if number > 0 {
+                self.write_parted_row(start, row, output);
+            }
+            start = end_of(row);
+        }
     }
 
     /// Writes a row whose first text begins at a place, its texts parted by tabs.
-    fn write_parted<W: Write>(&self, start: usize, row: &[Cell], output: &mut W) -> io::Result<()> {
+    fn write_parted_row(&self, start: usize, row: &[Cell], output: &mut Output) {
         let (mut start, mut before) = (start, "");
         for cell in row {
-            output.write_all(before.as_bytes())?;
-            output.write_all(self.bytes_of(start, cell.end))?;
+            output.push_str(before);
+            output.push_bytes(self.bytes_of(start, cell.end));
             start = cell.end;
             before = "\t";
         }
-        output.write_all(b"\n")
+        output.push_str("\n");
     }
 }
 
-/// Where the last text of a row ends.
-fn end_of(row: &[Cell]) -> usize {
-    match row.last() {
+/// Where the last of some texts ends.
+fn end_of(cells: &[Cell]) -> usize {
+    match cells.last() {
         Some(cell) => cell.end,
         None => 0,
     }
 }
 
-/// The width of a text in characters.
-fn width_of(text: &str) -> usize {
-    if text.is_ascii() {
-        return text.len();
-    }
-    text.chars().count()
+/// The width of a text in characters, each of which has one byte that doesn't go on with the one in front.
+fn width_of(text: &[u8]) -> usize {
+    text.iter().filter(|byte| **byte & 0xC0 != 0x80).count()
 }
 
 /// Makes columns wide enough for a row.
@@ -200,20 +202,20 @@ fn widen(widths: &mut [usize], row: &[Cell]) {
 }
 
 /// Writes the line under the head.
-fn write_dashes<W: Write>(widths: &[usize], output: &mut W) -> io::Result<()> {
+fn write_dashes(widths: &[usize], output: &mut Output) {
     let mut before = "";
     for width in widths {
-        output.write_all(before.as_bytes())?;
-        write_filled(&DASHES, *width, output)?;
+        output.push_str(before);
+        write_filled(&DASHES, *width, output);
         before = "  ";
     }
-    output.write_all(b"\n")
+    output.push_str("\n");
 }
 
 /// Writes so many of the same characters, by pieces.
-fn write_filled<W: Write>(piece: &[u8; PIECE], count: usize, output: &mut W) -> io::Result<()> {
+fn write_filled(piece: &[u8; PIECE], count: usize, output: &mut Output) {
     for _ in 0..count / PIECE {
-        output.write_all(piece.as_slice())?;
+        output.push_bytes(piece.as_slice());
     }
-    output.write_all(piece.get(..count % PIECE).unwrap_or(&[]))
+    output.push_bytes(piece.get(..count % PIECE).unwrap_or(&[]));
 }

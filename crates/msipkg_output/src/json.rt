@@ -2,20 +2,20 @@
 
 use crate::escape::is_hidden;
 use crate::style::Style;
+use msipkg_system::Output;
 use serde_json::Value;
 use std::alloc::{AllocError, Global};
 use std::fmt::Display;
-use std::io::{self, Write};
 
-/// An object that is being written. Lists and objects in it are opened and closed in turn.
-///
-/// # Errors
-/// Each call fails if memory is refused.
+/// An object that is being written. Lists and objects in it are opened and closed in turn. Where memory is refused for
+/// a part of it, that is kept, and who takes the text or prints it gets that in its place.
 pub struct JsonObject {
     alloc: Global,
     text: String,
     /// Whether nothing stands in front of the next member or item.
     is_first: bool,
+    /// Whether memory was refused for a part.
+    is_cut: bool,
 }
 
 /// Written out, so that a function that owns one calls one drop, and its proof doesn't go through those of the parts.
@@ -25,141 +25,186 @@ impl Drop for JsonObject {
             alloc: _,
             text: _,
             is_first: _,
+            is_cut: _,
         } = self;
     }
 }
 
 impl JsonObject {
     /// Returns an object without members.
-    pub fn new(alloc: Global) -> Result<JsonObject, AllocError> {
-        let mut text = String::new(alloc);
-        text.push('{')?;
-        Ok(JsonObject {
+    pub fn new(alloc: Global) -> JsonObject {
+        let mut object = JsonObject {
             alloc,
-            text,
+            text: String::new(alloc),
             is_first: true,
-        })
+            is_cut: false,
+        };
+        object.push("{");
+        object
     }
 
     /// Puts a member whose value is written as JSON already.
-    pub fn put_json(&mut self, name: &str, value: &str) -> Result<(), AllocError> {
-        self.put_name(name)?;
-        self.text.push_str(value)
+    pub fn put_json(&mut self, name: &str, value: &str) {
+        self.put_name(name);
+        self.push(value);
     }
 
     /// Puts a text, or null where there is none.
-    pub fn put_text(&mut self, name: &str, text: Option<&str>) -> Result<(), AllocError> {
-        self.put_name(name)?;
+    pub fn put_text(&mut self, name: &str, text: Option<&str>) {
+        self.put_name(name);
         match text {
             Some(text) => self.push_quoted(text),
-            None => self.text.push_str("null"),
+            None => self.push("null"),
         }
     }
 
     /// Puts what a value prints, as a text.
-    pub fn put_shown<D: Display>(&mut self, name: &str, value: &D) -> Result<(), AllocError> {
-        let text = value.to_string(self.alloc)?;
-        self.put_text(name, Some(text.as_str()))
+    pub fn put_shown<D: Display>(&mut self, name: &str, value: &D) {
+        match value.to_string(self.alloc) {
+            Ok(text) => self.put_text(name, Some(text.as_str())),
+            Err(_) => self.is_cut = true,
+        }
     }
 
     /// Puts a number, or null where there is none.
-    pub fn put_number(&mut self, name: &str, number: Option<i64>) -> Result<(), AllocError> {
-        self.put_name(name)?;
+    pub fn put_number(&mut self, name: &str, number: Option<i64>) {
+        self.put_name(name);
         match number {
-            Some(number) => self.text.write(number),
-            None => self.text.push_str("null"),
+            Some(number) => self.push_number(number),
+            None => self.push("null"),
         }
     }
 
     /// Puts whether something holds.
-    pub fn put_truth(&mut self, name: &str, holds: bool) -> Result<(), AllocError> {
-        self.put_json(name, if holds { "true" } else { "false" })
+    pub fn put_truth(&mut self, name: &str, holds: bool) {
+        self.put_json(name, if holds { "true" } else { "false" });
     }
 
     /// Puts a list, whose items follow until it is closed.
-    pub fn open_list(&mut self, name: &str) -> Result<(), AllocError> {
-        self.put_name(name)?;
-        self.open('[')
+    pub fn open_list(&mut self, name: &str) {
+        self.put_name(name);
+        self.open("[");
     }
 
     /// Puts an object, whose members follow until it is closed.
-    pub fn open_object(&mut self, name: &str) -> Result<(), AllocError> {
-        self.put_name(name)?;
-        self.open('{')
+    pub fn open_object(&mut self, name: &str) {
+        self.put_name(name);
+        self.open("{");
     }
 
     /// Puts a text into the list.
-    pub fn put_text_item(&mut self, text: &str) -> Result<(), AllocError> {
-        self.separate()?;
-        self.push_quoted(text)
+    pub fn put_text_item(&mut self, text: &str) {
+        self.separate();
+        self.push_quoted(text);
     }
 
     /// Puts a number into the list.
-    pub fn put_number_item(&mut self, number: i64) -> Result<(), AllocError> {
-        self.separate()?;
-        self.text.write(number)
+    pub fn put_number_item(&mut self, number: i64) {
+        self.separate();
+        self.push_number(number);
     }
 
     /// Puts an object into the list, whose members follow until it is closed.
-    pub fn open_item(&mut self) -> Result<(), AllocError> {
-        self.separate()?;
-        self.open('{')
+    pub fn open_item(&mut self) {
+        self.separate();
+        self.open("{");
     }
 
     /// Closes the object, or the one in the list.
-    pub fn close_item(&mut self) -> Result<(), AllocError> {
-        self.close('}')
+    pub fn close_item(&mut self) {
+        self.close("}");
     }
 
     /// Closes the list.
-    pub fn close_list(&mut self) -> Result<(), AllocError> {
-        self.close(']')
+    pub fn close_list(&mut self) {
+        self.close("]");
     }
 
     /// Returns the text so far, behind which more members and the end of the object are still to stand.
-    pub fn begun(&self) -> &str {
-        self.text.as_str()
+    ///
+    /// # Errors
+    /// Fails if memory was refused for a part.
+    pub fn begun(&self) -> Result<&str, AllocError> {
+        if self.is_cut {
+            return Err(AllocError);
+        }
+        Ok(self.text.as_str())
     }
 
     /// Returns the text of the whole object.
-    pub fn finish(self) -> Result<String, AllocError> {
+    ///
+    /// # Errors
+    /// Fails if memory is refused, or was for a part.
+    pub fn finish(mut self) -> Result<String, AllocError> {
+        self.push("}");
         let JsonObject {
             alloc: _,
-            mut text,
+            text,
             is_first: _,
+            is_cut,
         } = self;
-        text.push('}')?;
-        Ok(text)
+        if is_cut { Err(AllocError) } else { Ok(text) }
+    }
+
+    /// Writes the whole object as `write_text` does. Where memory was refused, the output gets that in its place.
+    pub fn print(self, style: Style, output: &mut Output) {
+        match self.begun() {
+            Ok(text) => {
+                write_text(style, text, output);
+                output.push_str("}");
+            }
+            Err(error) => output.refuse_memory(error),
+        }
+    }
+
+    /// Writes the whole object on a line, as `print` does.
+    pub fn print_line(self, style: Style, output: &mut Output) {
+        self.print(style, output);
+        output.push_str("\n");
     }
 
     /// Puts the name of a member.
-    fn put_name(&mut self, name: &str) -> Result<(), AllocError> {
-        self.separate()?;
-        self.push_quoted(name)?;
-        self.text.push(':')
+    fn put_name(&mut self, name: &str) {
+        self.separate();
+        self.push_quoted(name);
+        self.push(":");
     }
 
     /// Puts a comma behind what stands in front.
-    fn separate(&mut self) -> Result<(), AllocError> {
+    fn separate(&mut self) {
         if !self.is_first {
-            self.text.push(',')?;
+            self.push(",");
         }
         self.is_first = false;
-        Ok(())
     }
 
-    fn push_quoted(&mut self, text: &str) -> Result<(), AllocError> {
-        self.text.push_str(quoted(self.alloc, text)?.as_str())
-    }
-
-    fn open(&mut self, bracket: char) -> Result<(), AllocError> {
+    fn open(&mut self, bracket: &str) {
         self.is_first = true;
-        self.text.push(bracket)
+        self.push(bracket);
     }
 
-    fn close(&mut self, bracket: char) -> Result<(), AllocError> {
+    fn close(&mut self, bracket: &str) {
         self.is_first = false;
-        self.text.push(bracket)
+        self.push(bracket);
+    }
+
+    fn push_quoted(&mut self, text: &str) {
+        match quoted(self.alloc, text) {
+            Ok(json) => self.push(json.as_str()),
+            Err(_) => self.is_cut = true,
+        }
+    }
+
+    fn push_number(&mut self, number: i64) {
+        if self.text.write(number).is_err() {
+            self.is_cut = true;
+        }
+    }
+
+    fn push(&mut self, json: &str) {
+        if self.text.push_str(json).is_err() {
+            self.is_cut = true;
+        }
     }
 }
 
@@ -172,19 +217,15 @@ pub fn quoted(alloc: Global, text: &str) -> Result<String, AllocError> {
 }
 
 /// Writes a text as a JSON string, as the style has it.
-///
-/// # Errors
-/// Fails if memory is refused, and as the writer does.
-pub fn write_quoted<W: Write>(
-    alloc: Global,
-    style: Style,
-    text: &str,
-    output: &mut W,
-) -> io::Result<()> {
+pub fn write_quoted(alloc: Global, style: Style, text: &str, output: &mut Output) {
     if text.bytes().all(|byte| is_plain(style, byte)) {
-        return write!(output, "\"{text}\"");
+        write!(output, "\"{text}\"");
+        return;
     }
-    write_text(style, quoted(alloc, text)?.as_str(), output)
+    match quoted(alloc, text) {
+        Ok(json) => write_text(style, json.as_str(), output),
+        Err(error) => output.refuse_memory(error),
+    }
 }
 
 /// Whether a byte stands for itself in a JSON string, wherever it is printed.
@@ -194,48 +235,35 @@ fn is_plain(style: Style, byte: u8) -> bool {
 
 /// Writes JSON on a line. If the style escapes, characters that a terminal would obey or not show are written as
 /// `\uXXXX`, which JSON reads as the same text.
-///
-/// # Errors
-/// Fails as the writer does.
-pub fn write_line<W: Write>(style: Style, json: &str, line: &mut W) -> io::Result<()> {
-    write_text(style, json, line)?;
-    line.write_all(b"\n")
+pub fn write_line(style: Style, json: &str, output: &mut Output) {
+    write_text(style, json, output);
+    output.push_str("\n");
 }
 
 /// Writes JSON as `write_line` does, without the end of the line.
-///
-/// # Errors
-/// Fails as the writer does.
-pub fn write_text<W: Write>(style: Style, json: &str, line: &mut W) -> io::Result<()> {
+pub fn write_text(style: Style, json: &str, output: &mut Output) {
     if style.is_escaped {
-        write_escaped(json, line)
+        write_escaped(json, output);
     } else {
-        line.write_all(json.as_bytes())
+        output.push_str(json);
     }
 }
 
 /// Writes JSON with escapes in place of hidden characters.
-fn write_escaped<W: Write>(json: &str, line: &mut W) -> io::Result<()> {
+fn write_escaped(json: &str, output: &mut Output) {
     for c in json.chars() {
-        write_character(c, line)?;
-    }
-    Ok(())
-}
-
-/// Writes a character, or its escape if it is hidden.
-fn write_character<W: Write>(c: char, line: &mut W) -> io::Result<()> {
-    if is_hidden(c) {
-        write_units(c, line)
-    } else {
-        write!(line, "{c}")
+        if is_hidden(c) {
+            write_units(c, output);
+        } else {
+            write!(output, "{c}");
+        }
     }
 }
 
 /// Writes a character as one or two escapes, each of a unit of UTF-16.
-fn write_units<W: Write>(c: char, line: &mut W) -> io::Result<()> {
+fn write_units(c: char, output: &mut Output) {
     let mut units = [0u16; 2];
     for unit in c.encode_utf16(&mut units).iter() {
-        write!(line, "\\u{unit:04x}")?;
+        write!(output, "\\u{unit:04x}");
     }
-    Ok(())
 }

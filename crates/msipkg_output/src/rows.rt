@@ -6,8 +6,8 @@ use crate::json;
 use crate::style::Style;
 use csv::Writer;
 use msi::{Column, Row, Rows, Value};
+use msipkg_system::Output;
 use std::alloc::{AllocError, Global};
-use std::io::{self, Write};
 
 /// How rows are printed.
 #[derive(Clone, Copy)]
@@ -103,13 +103,13 @@ struct Printer {
 /// Writes rows. Null prints as nothing, in JSON as `null`; a stream as `[stream]`, in JSON as `true`.
 ///
 /// # Errors
-/// Fails with `OutOfMemory`, and as the writer does.
-pub fn write_rows<W: Write + Drop>(
+/// Fails as reading a row does, and for CSV if memory is refused.
+pub fn write_rows(
     alloc: Global,
     style: Style,
     format: Format,
     rows: Rows<'_>,
-    output: &mut W,
+    output: &mut Output,
 ) -> Result<(), Failure> {
     let printer = Printer {
         alloc,
@@ -132,80 +132,59 @@ fn layout_of(format: Format) -> &'static Layout {
     }
 }
 
-/// The text of a value, which isn't JSON.
-fn value_text(printer: &Printer, value: &Value) -> Result<String, AllocError> {
-    match value {
-        Value::Null => Ok(String::new(printer.alloc)),
-        Value::Int(number) => number.to_string(printer.alloc),
-        Value::Str(text) => printer.style.show(text.as_str()).to_string(printer.alloc),
-        Value::Binary => STREAM.to_string(printer.alloc),
-    }
-}
-
-/// A text as it is printed.
-fn text_of(printer: &Printer, text: &str) -> Result<String, AllocError> {
-    match printer.format {
-        Format::Json => json::quoted(printer.alloc, text),
-        _ => printer.style.show(text).to_string(printer.alloc),
-    }
-}
-
 /// Writes rows under the names of their columns, all aligned.
-fn write_grid<W: Write>(printer: &Printer, rows: Rows<'_>, output: &mut W) -> Result<(), Failure> {
+fn write_grid(printer: &Printer, rows: Rows<'_>, output: &mut Output) -> Result<(), Failure> {
     let mut grid = Grid::new(printer.alloc, rows.columns().len());
-    put_names(printer, rows.columns(), &mut grid)?;
+    put_names(printer, rows.columns(), &mut grid);
     put_rows(printer, rows, &mut grid)?;
-    Ok(grid.write(output)?)
+    grid.write(output);
+    Ok(())
 }
 
 /// Puts the names of columns.
-fn put_names(printer: &Printer, columns: &[Column], grid: &mut Grid) -> Result<(), AllocError> {
+fn put_names(printer: &Printer, columns: &[Column], grid: &mut Grid) {
     for column in columns {
-        grid.push(text_of(printer, column.name())?.as_str())?;
+        grid.put(&printer.style.show(column.name()));
     }
-    Ok(())
 }
 
 /// Puts rows.
 fn put_rows(printer: &Printer, rows: Rows<'_>, grid: &mut Grid) -> Result<(), Failure> {
     for row in rows {
-        put_row(printer, &row?, grid)?;
+        put_row(printer, &row?, grid);
     }
     Ok(())
 }
 
 /// Puts the values of a row.
-fn put_row(printer: &Printer, row: &Row, grid: &mut Grid) -> Result<(), AllocError> {
+fn put_row(printer: &Printer, row: &Row, grid: &mut Grid) {
     for i in 0..row.len() {
-        put_value(printer, &row[i], grid)?;
+        put_value(printer, &row[i], grid);
     }
-    Ok(())
 }
 
 /// Puts a value.
-fn put_value(printer: &Printer, value: &Value, grid: &mut Grid) -> Result<(), AllocError> {
+fn put_value(printer: &Printer, value: &Value, grid: &mut Grid) {
     match value {
-        Value::Str(text) if !printer.style.is_escaped => grid.push(text.as_str()),
-        _ => grid.push(value_text(printer, value)?.as_str()),
+        Value::Null => grid.push(""),
+        Value::Int(number) => grid.put(number),
+        Value::Str(text) => grid.put(&printer.style.show(text.as_str())),
+        Value::Binary => grid.push(STREAM),
     }
 }
 
 /// Writes CSV.
-fn write_csv<W: Write + Drop>(
-    printer: &Printer,
-    rows: Rows<'_>,
-    output: &mut W,
-) -> Result<(), Failure> {
+fn write_csv(printer: &Printer, rows: Rows<'_>, output: &mut Output) -> Result<(), Failure> {
     let mut writer = Writer::from_writer(output);
     write_records(printer, rows, &mut writer)?;
     Ok(writer.flush()?)
 }
 
 /// Writes the names of columns and rows as lines of CSV.
-fn write_records<W: Write + Drop>(
+fn write_records(
     printer: &Printer,
     rows: Rows<'_>,
-    writer: &mut Writer<W>,
+    writer: &mut Writer<&mut Output>,
 ) -> Result<(), Failure> {
     write_names(printer, rows.columns(), writer)?;
     for row in rows {
@@ -215,10 +194,10 @@ fn write_records<W: Write + Drop>(
 }
 
 /// Writes the names of columns as a line of CSV.
-fn write_names<W: Write + Drop>(
+fn write_names(
     printer: &Printer,
     columns: &[Column],
-    writer: &mut Writer<W>,
+    writer: &mut Writer<&mut Output>,
 ) -> Result<(), Failure> {
     for column in columns {
         write_field(text_of(printer, column.name())?, writer)?;
@@ -227,10 +206,10 @@ fn write_names<W: Write + Drop>(
 }
 
 /// Writes the values of a row as a line of CSV.
-fn write_record<W: Write + Drop>(
+fn write_record(
     printer: &Printer,
     row: &Row,
-    writer: &mut Writer<W>,
+    writer: &mut Writer<&mut Output>,
 ) -> Result<(), Failure> {
     for i in 0..row.len() {
         write_field(value_text(printer, &row[i])?, writer)?;
@@ -239,100 +218,85 @@ fn write_record<W: Write + Drop>(
 }
 
 /// Writes a field of CSV.
-fn write_field<W: Write + Drop>(text: String, writer: &mut Writer<W>) -> Result<(), csv::Error> {
+fn write_field(text: String, writer: &mut Writer<&mut Output>) -> Result<(), csv::Error> {
     writer.write_field(text.as_bytes())
 }
 
+/// The text of a value in CSV.
+fn value_text(printer: &Printer, value: &Value) -> Result<String, AllocError> {
+    match value {
+        Value::Null => Ok(String::new(printer.alloc)),
+        Value::Int(number) => number.to_string(printer.alloc),
+        Value::Str(text) => text_of(printer, text.as_str()),
+        Value::Binary => text_of(printer, STREAM),
+    }
+}
+
+/// A text as it is printed.
+fn text_of(printer: &Printer, text: &str) -> Result<String, AllocError> {
+    printer.style.show(text).to_string(printer.alloc)
+}
+
 /// Writes rows one by one.
-fn write_each<W: Write>(printer: &Printer, rows: Rows<'_>, output: &mut W) -> Result<(), Failure> {
-    let names = names_of(printer, rows.columns())?;
-    output.write_all(printer.layout.open.as_bytes())?;
-    write_all_rows(printer, names.as_slice(), rows, output)?;
-    Ok(output.write_all(printer.layout.close.as_bytes())?)
-}
-
-/// What stands in front of the values of each column.
-fn names_of(printer: &Printer, columns: &[Column]) -> Result<Vec<String>, AllocError> {
-    let mut names = Vec::new(printer.alloc);
-    for column in columns {
-        names.push(name_of(printer, column.name())?)?;
-    }
-    Ok(names)
-}
-
-/// What stands in front of the values of a column.
-fn name_of(printer: &Printer, name: &str) -> Result<String, AllocError> {
-    let mut text = text_of(printer, name)?;
-    match printer.format {
-        Format::Json => text.push(':')?,
-        Format::Lines => text.push_str(" = ")?,
-        _ => text.clear(),
-    }
-    Ok(text)
+fn write_each(printer: &Printer, rows: Rows<'_>, output: &mut Output) -> Result<(), Failure> {
+    output.push_str(printer.layout.open);
+    write_all_rows(printer, rows, output)?;
+    output.push_str(printer.layout.close);
+    Ok(())
 }
 
 /// Writes rows.
-fn write_all_rows<W: Write>(
-    printer: &Printer,
-    names: &[String],
-    rows: Rows<'_>,
-    output: &mut W,
-) -> Result<(), Failure> {
+fn write_all_rows(printer: &Printer, rows: Rows<'_>, output: &mut Output) -> Result<(), Failure> {
     let mut is_first = true;
     for row in rows {
-        write_row(printer, is_first, names, &row?, output)?;
+        write_row(printer, is_first, &row?, output);
         is_first = false;
     }
     Ok(())
 }
 
 /// Writes a row.
-fn write_row<W: Write>(
-    printer: &Printer,
-    is_first: bool,
-    names: &[String],
-    row: &Row,
-    output: &mut W,
-) -> io::Result<()> {
-    let layout = printer.layout;
+fn write_row(printer: &Printer, is_first: bool, row: &Row, output: &mut Output) {
+    let (layout, columns) = (printer.layout, row.columns());
     let mut before = if is_first { layout.first } else { layout.next };
-    for i in 0..row.len().min(names.len()) {
-        output.write_all(before.as_bytes())?;
-        write_value(printer, names[i].as_str(), &row[i], output)?;
+    for i in 0..row.len().min(columns.len()) {
+        output.push_str(before);
+        write_name(printer, columns[i].name(), output);
+        write_value(printer, &row[i], output);
         before = layout.between;
     }
-    output.write_all(layout.last.as_bytes())
+    output.push_str(layout.last);
 }
 
-/// Writes a value behind the name of its column.
-fn write_value<W: Write>(
-    printer: &Printer,
-    name: &str,
-    value: &Value,
-    output: &mut W,
-) -> io::Result<()> {
-    if matches!(printer.format, Format::Json) {
-        json::write_text(printer.style, name, output)?;
-        return write_json_value(printer.alloc, printer.style, value, output);
+/// Writes what stands in front of the values of a column.
+fn write_name(printer: &Printer, name: &str, output: &mut Output) {
+    match printer.format {
+        Format::Json => {
+            json::write_quoted(printer.alloc, printer.style, name, output);
+            output.push_str(":");
+        }
+        Format::Lines => write!(output, "{} = ", printer.style.show(name)),
+        _ => {}
     }
-    let text = value_text(printer, value)?;
-    write!(output, "{name}{text}")
+}
+
+/// Writes a value.
+fn write_value(printer: &Printer, value: &Value, output: &mut Output) {
+    match (printer.format, value) {
+        (Format::Json, _) => write_json_value(printer.alloc, printer.style, value, output),
+        (_, Value::Null) => {}
+        (_, Value::Int(number)) => write!(output, "{number}"),
+        (_, Value::Str(text)) => write!(output, "{}", printer.style.show(text.as_str())),
+        (_, Value::Binary) => output.push_str(STREAM),
+    }
 }
 
 /// Writes a value as JSON, where a stream is `true`.
-///
-/// # Errors
-/// Fails if memory is refused, and as the writer does.
-pub fn write_json_value<W: Write>(
-    alloc: Global,
-    style: Style,
-    value: &Value,
-    output: &mut W,
-) -> io::Result<()> {
+pub fn write_json_value(alloc: Global, style: Style, value: &Value, output: &mut Output) {
     match value {
-        Value::Null => output.write_all(b"null"),
+        Value::Null => output.push_str("null"),
         Value::Int(number) => write!(output, "{number}"),
         Value::Str(text) => json::write_quoted(alloc, style, text.as_str(), output),
-        Value::Binary => output.write_all(b"true"),
+        Value::Binary => output.push_str("true"),
     }
 }

@@ -1,7 +1,8 @@
 //! The tables that a command is about.
 
 use crate::failure::Failure;
-use msi::{Error, Package, Rows, Select, Source, Table};
+use msi::{Error, Package, Rows, Select, Table};
+use msipkg_system::Opened;
 use std::alloc::{AllocError, Global};
 
 /// Returns whether a table only lists what the others are.
@@ -13,9 +14,9 @@ pub fn is_list(table: &Table) -> bool {
 ///
 /// # Errors
 /// Fails if it isn't there, at its name.
-pub fn table_named<'a, F: Source>(
+pub fn table_named<'a>(
     alloc: Global,
-    package: &'a Package<F>,
+    package: &'a Package<Opened>,
     name: &str,
 ) -> Result<&'a Table, Failure> {
     match package.get_table(name) {
@@ -29,9 +30,9 @@ pub fn table_named<'a, F: Source>(
 ///
 /// # Errors
 /// Fails if a table isn't there, at its name, and if memory is refused.
-pub fn chosen_tables<'a, F: Source>(
+pub fn chosen_tables<'a>(
     alloc: Global,
-    package: &'a Package<F>,
+    package: &'a Package<Opened>,
     names: &[&str],
     has_lists: bool,
 ) -> Result<Vec<&'a Table>, Failure> {
@@ -46,8 +47,8 @@ pub fn chosen_tables<'a, F: Source>(
 }
 
 /// Adds all tables, with those that only list what the others are, or without.
-fn add_tables<'a, F: Source>(
-    package: &'a Package<F>,
+fn add_tables<'a>(
+    package: &'a Package<Opened>,
     has_lists: bool,
     tables: &mut Vec<&'a Table>,
 ) -> Result<(), AllocError> {
@@ -63,9 +64,9 @@ fn add_tables<'a, F: Source>(
 ///
 /// # Errors
 /// Fails if the table isn't there or can't be read, and with `OutOfMemory`; at the table's name.
-pub fn rows_of<'a, F: Source>(
+pub fn rows_of<'a>(
     alloc: Global,
-    package: &'a Package<F>,
+    package: &'a Package<Opened>,
     table: &str,
 ) -> Result<Rows<'a>, Failure> {
     match selected(alloc, package, table) {
@@ -75,9 +76,9 @@ pub fn rows_of<'a, F: Source>(
 }
 
 /// The rows that the query for a table selects.
-fn selected<'a, F: Source>(
+fn selected<'a>(
     alloc: Global,
-    package: &'a Package<F>,
+    package: &'a Package<Opened>,
     table: &str,
 ) -> Result<Rows<'a>, Error> {
     package.select_rows(Select::table(alloc, table)?)

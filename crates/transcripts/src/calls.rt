@@ -7,9 +7,6 @@ use crate::packages::{self, PackageCall};
 use crate::session::Session;
 use crate::{devices, summaries};
 use std::alloc::Global;
-use std::fs::OpenFile;
-use std::io::{Read, Seek, Write};
-use std::rt::Files;
 use transcripts_queries::cells::{self, CellCall};
 use transcripts_queries::evaluation::{self, QueryCall};
 use transcripts_queries::parsing::{self, Parsed};
@@ -180,16 +177,12 @@ fn known_calls() -> &'static [(&'static str, Call)] {
 
 /// Makes a call, and prints its answer as lines. Fails if the line can't be read, if the call is refused, and if memory
 /// runs out.
-pub(crate) fn make<R>(
-    rt: &R,
+pub(crate) fn make(
+    rt: &HostRuntime,
     session: &mut Session,
     words: &mut Words,
     answer: &mut Answer,
-) -> Result<(), Failure>
-where
-    R: Files + AllocGlobal,
-    R::File: OpenFile + Read + Write + Seek + Drop,
-{
+) -> Result<(), Failure> {
     let outcome = match words.one_of(known_calls()) {
         Some(Call::File(call)) => files::make(rt, &session.stock.kept, call, words, answer),
         Some(Call::Load) => load(rt, session, words, answer),
@@ -206,16 +199,12 @@ where
 }
 
 /// Keeps the bytes of a file.
-fn load<R>(
-    rt: &R,
+fn load(
+    rt: &HostRuntime,
     session: &mut Session,
     words: &mut Words,
     answer: &mut Answer,
-) -> Result<(), Failure>
-where
-    R: Files + AllocGlobal,
-    R::File: Read + Drop,
-{
+) -> Result<(), Failure> {
     commands::load(rt, &mut session.stock.kept, words)?;
     answer.push_str("ok");
     Ok(())

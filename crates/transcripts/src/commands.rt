@@ -2,10 +2,8 @@
 
 use msidb_commands::run;
 use std::alloc::{AllocError, Global};
-use std::fs::{self, OpenFile};
-use std::io::{self, Read, Seek, Write};
-use std::rt::Files;
-use std::str;
+use std::io::{self, Read, Write};
+use std::{fs, str};
 use transcripts_words::answers::Answer;
 use transcripts_words::failure::Failure;
 use transcripts_words::kept::{Kept, pieces, print_bytes};
@@ -30,14 +28,14 @@ const MOST: usize = 1024;
 
 /// A standard input.
 #[derive(Clone, Copy)]
-struct Input<'a, R> {
-    rt: &'a R,
+struct Input<'a> {
+    rt: &'a HostRuntime,
     bytes: &'a [u8],
     /// A path, and the one that its file is moved to when this is read. It fails where there is no such file.
     moved: Option<(&'a str, &'a str)>,
 }
 
-impl<R: Files> Read for Input<'_, R> {
+impl Read for Input<'_> {
     fn read(&mut self, buffer: &mut [u8]) -> io::Result<usize> {
         if let Some((from, to)) = self.moved {
             fs::rename(self.rt, from, to)?;
@@ -71,11 +69,7 @@ impl Write for Output {
 }
 
 /// Keeps the bytes of a file: `load NAME PATH`.
-pub(crate) fn load<R>(rt: &R, kept: &mut Kept, words: &mut Words) -> Result<(), Failure>
-where
-    R: Files + AllocGlobal,
-    R::File: Read + Drop,
-{
+pub(crate) fn load(rt: &HostRuntime, kept: &mut Kept, words: &mut Words) -> Result<(), Failure> {
     let name = words.name();
     kept.reserve(rt.alloc(), name)?;
     kept.keep(name, fs::read(rt, words.name())?);
@@ -84,17 +78,13 @@ where
 
 /// Runs a command, whose standard input stands behind `<`, and prints what it prints, its line of errors, and the
 /// status if that isn't 0.
-pub(crate) fn make<R>(
-    rt: &R,
+pub(crate) fn make(
+    rt: &HostRuntime,
     kept: &Kept,
     streams: Streams,
     words: &mut Words,
     answer: &mut Answer,
-) -> Result<(), Failure>
-where
-    R: Files + AllocGlobal,
-    R::File: OpenFile + Read + Write + Seek + Drop,
-{
+) -> Result<(), Failure> {
     let moved = moved_by(streams, words);
     let command = command(rt.alloc(), words)?;
     let _ = words.takes("<");
@@ -132,17 +122,13 @@ fn command(alloc: Global, words: &mut Words) -> Result<Vec<String>, AllocError> 
 }
 
 /// Runs a command, and prints what comes of it. Where it fails, its file has to be as it was.
-fn run_on<R>(
-    rt: &R,
+fn run_on(
+    rt: &HostRuntime,
     command: &[String],
-    mut input: Input<'_, R>,
+    mut input: Input<'_>,
     streams: Streams,
     answer: &mut Answer,
-)
-where
-    R: Files + AllocGlobal,
-    R::File: OpenFile + Read + Write + Seek + Drop,
-{
+) {
     let before = file_of(rt, command);
     let mut output = Output {
         bytes: Vec::new(rt.alloc()),
@@ -163,11 +149,7 @@ where
 }
 
 /// The bytes of a command's file, or none where it can't be read.
-fn file_of<R>(rt: &R, command: &[String]) -> Vec<u8>
-where
-    R: Files + AllocGlobal,
-    R::File: Read + Drop,
-{
+fn file_of(rt: &HostRuntime, command: &[String]) -> Vec<u8> {
     let path = match command.get(1) {
         Some(path) => path.as_str(),
         None => "",

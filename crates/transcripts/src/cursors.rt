@@ -14,17 +14,14 @@ use transcripts_words::words::Words;
 
 /// Opens a stream for writing, and makes the calls below. Fails if there is no package, if memory runs out, and if
 /// nothing can be printed.
-pub(crate) fn write<R>(
-    rt: &R,
+pub(crate) fn write(
+    rt: &HostRuntime,
     report: &mut Report,
     session: &mut Session,
     name: &str,
     line: &Line,
     rest: &[Line],
-) -> Result<(), Failure>
-where
-    R: Print + AllocGlobal,
-{
+) -> Result<(), Failure> {
     let Some(package) = &mut session.package else {
         return Err(Failure::Unreadable("there is no package"));
     };
@@ -40,16 +37,13 @@ where
 }
 
 /// Makes the calls on a writer.
-fn write_lines<R>(
-    rt: &R,
+fn write_lines(
+    rt: &HostRuntime,
     report: &mut Report,
     kept: &Kept,
     stream: StreamWriter,
     rest: &[Line],
-) -> Result<(), Failure>
-where
-    R: Print + AllocGlobal,
-{
+) -> Result<(), Failure> {
     for i in 0..rest.len() {
         if rest[i].is_call() {
             break;
@@ -62,17 +56,14 @@ where
 }
 
 /// Makes a call on a writer, and checks its answer.
-fn write_line<R>(
-    rt: &R,
+fn write_line(
+    rt: &HostRuntime,
     report: &mut Report,
     kept: &Kept,
     stream: StreamWriter,
     line: &Line,
     rest: &[Line],
-) -> Result<(), Failure>
-where
-    R: Print + AllocGlobal,
-{
+) -> Result<(), Failure> {
     let mut answer = Answer::new(rt.alloc())?;
     let tokens = tokens(rt.alloc(), line.text())?;
     let mut words = Words::new(tokens.as_slice());
@@ -86,16 +77,13 @@ where
 
 /// Makes a call on a writer that may be refused memory. Such a call is made again, where the bytes and the position
 /// are as before.
-fn try_call<R>(
-    rt: &R,
+fn try_call(
+    rt: &HostRuntime,
     kept: &Kept,
     stream: StreamWriter,
     words: Words,
     answer: &mut Answer,
-) -> Result<(), Failure>
-where
-    R: Print + AllocGlobal,
-{
+) -> Result<(), Failure> {
     let before = picture(rt.alloc(), &mut *stream)?;
     print!(rt; "[")?;
     let outcome = make_write(rt.alloc(), kept, &mut *stream, &mut { words }, answer);
@@ -155,17 +143,14 @@ fn write_pieces(
 
 /// Opens a stream for reading, and makes the calls below. Fails if there is no package, if memory runs out, and if
 /// nothing can be printed.
-pub(crate) fn read<R>(
-    rt: &R,
+pub(crate) fn read(
+    rt: &HostRuntime,
     report: &mut Report,
     session: &Session,
     name: &str,
     line: &Line,
     rest: &[Line],
-) -> Result<(), Failure>
-where
-    R: Print + AllocGlobal,
-{
+) -> Result<(), Failure> {
     let mut answer = Answer::new(rt.alloc())?;
     answer.push_str("ok");
     match session.package()?.read_stream(name) {
@@ -178,15 +163,12 @@ where
 }
 
 /// Makes the calls on a reader.
-fn read_lines<R>(
-    rt: &R,
+fn read_lines(
+    rt: &HostRuntime,
     report: &mut Report,
     mut stream: StreamReader,
     rest: &[Line],
-) -> Result<(), Failure>
-where
-    R: Print + AllocGlobal,
-{
+) -> Result<(), Failure> {
     for i in 0..rest.len() {
         if rest[i].is_call() {
             break;

@@ -2,9 +2,6 @@
 
 use crate::session::Session;
 use crate::{calls, cursors, trials};
-use std::fs::OpenFile;
-use std::io::{Read, Seek, Write};
-use std::rt::Files;
 use transcripts_words::answers::Answer;
 use transcripts_words::failure::Failure;
 use transcripts_words::lines::Line;
@@ -13,11 +10,7 @@ use transcripts_words::tokens::tokens;
 use transcripts_words::words::Words;
 
 /// Makes the calls of a transcript, in order.
-pub(crate) fn run<R>(rt: &R, report: &mut Report, lines: &[Line]) -> Result<(), Failure>
-where
-    R: Files + Print + AllocGlobal,
-    R::File: OpenFile + Read + Write + Seek + Drop,
-{
+pub(crate) fn run(rt: &HostRuntime, report: &mut Report, lines: &[Line]) -> Result<(), Failure> {
     let mut session = Session::new(rt.alloc());
     for i in 0..lines.len() {
         if lines[i].is_call() {
@@ -28,17 +21,13 @@ where
 }
 
 /// Makes the call of a line, and those on the stream that it opens.
-fn run_line<R>(
-    rt: &R,
+fn run_line(
+    rt: &HostRuntime,
     report: &mut Report,
     session: &mut Session,
     line: &Line,
     rest: &[Line],
-) -> Result<(), Failure>
-where
-    R: Files + Print + AllocGlobal,
-    R::File: OpenFile + Read + Write + Seek + Drop,
-{
+) -> Result<(), Failure> {
     if !is_stream(rest) {
         let mut answer = Answer::new(rt.alloc())?;
         let outcome = make(rt, report.is_trial(), session, line, &mut answer);
@@ -68,17 +57,13 @@ fn is_stream(rest: &[Line]) -> bool {
 }
 
 /// Makes the call of a line, and prints its answer.
-fn make<R>(
-    rt: &R,
+fn make(
+    rt: &HostRuntime,
     is_trial: bool,
     session: &mut Session,
     line: &Line,
     answer: &mut Answer,
-) -> Result<(), Failure>
-where
-    R: Files + Print + AllocGlobal,
-    R::File: OpenFile + Read + Write + Seek + Drop,
-{
+) -> Result<(), Failure> {
     let tokens = tokens(rt.alloc(), line.text())?;
     let mut words = Words::new(tokens.as_slice());
     if words.takes("try") && is_trial {

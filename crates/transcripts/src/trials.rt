@@ -4,24 +4,17 @@
 use crate::calls;
 use crate::pictures::picture;
 use crate::session::Session;
-use std::fs::OpenFile;
-use std::io::{Read, Seek, Write};
-use std::rt::Files;
 use transcripts_words::answers::Answer;
 use transcripts_words::failure::Failure;
 use transcripts_words::words::Words;
 
 /// Makes a call, again if it is refused memory. The package has to answer then what it did before.
-pub(crate) fn make<R>(
-    rt: &R,
+pub(crate) fn make(
+    rt: &HostRuntime,
     session: &mut Session,
     words: Words,
     answer: &mut Answer,
-) -> Result<(), Failure>
-where
-    R: Files + Print + AllocGlobal,
-    R::File: OpenFile + Read + Write + Seek + Drop,
-{
+) -> Result<(), Failure> {
     let before = picture(rt.alloc(), session)?;
     print!(rt; "[")?;
     let outcome = calls::make(rt, session, &mut { words }, answer);

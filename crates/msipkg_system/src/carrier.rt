@@ -1,28 +1,31 @@
 //! What a package is read from, and what it is written to.
 
+use crate::system::SystemFile;
 use either::Either;
+use msi::Metered;
 use std::alloc::Global;
 use std::io::{self, Cursor, Read, Seek, SeekFrom, Write};
 
+/// What a package lies on: its file, or the bytes of one that was recoded or is new, and memory that it is written to.
+pub type Opened = Metered<Carrier>;
+
 /// What a package is read from, and memory that it is written to: what is read stays as it is. All packages are over
-/// one such type, whether they are looked at, changed or new, so that what is made of their code is made once.
+/// this type, whether they are looked at, changed or new, so that what is made of their code is made once.
 #[derive(Drop)]
-pub struct Carrier<F> {
-    source: Either<F, Cursor<Vec<u8>>>,
+pub struct Carrier {
+    source: Either<SystemFile, Cursor<Vec<u8>>>,
     written: Cursor<Vec<u8>>,
 }
 
-impl<F> Carrier<F> {
+impl Carrier {
     /// Returns the carrier of a package that is read from where its source stands.
-    pub fn new(alloc: Global, source: Either<F, Cursor<Vec<u8>>>) -> Carrier<F> {
+    pub fn new(alloc: Global, source: Either<SystemFile, Cursor<Vec<u8>>>) -> Carrier {
         Carrier {
             source,
             written: Cursor::new(Vec::new(alloc)),
         }
     }
-}
 
-impl<F: Drop> Carrier<F> {
     /// Returns the bytes that were written.
     pub fn into_written(self) -> Vec<u8> {
         let Carrier { source: _, written } = self;
@@ -30,13 +33,13 @@ impl<F: Drop> Carrier<F> {
     }
 }
 
-impl<F: Read> Read for Carrier<F> {
+impl Read for Carrier {
     fn read(&mut self, buf: &mut [u8]) -> io::Result<usize> {
         self.source.read(buf)
     }
 }
 
-impl<F> Write for Carrier<F> {
+impl Write for Carrier {
     fn write(&mut self, buf: &[u8]) -> io::Result<usize> {
         self.written.write(buf)
     }
@@ -47,7 +50,7 @@ impl<F> Write for Carrier<F> {
 }
 
 /// Seeks in what is written. What is read is read from its beginning on, once.
-impl<F> Seek for Carrier<F> {
+impl Seek for Carrier {
     fn seek(&mut self, to: SeekFrom) -> io::Result<u64> {
         self.written.seek(to)
     }

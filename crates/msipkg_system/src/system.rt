@@ -1,36 +1,23 @@
-//! The system's files, with a line on standard error that says how far reading or writing one is, once that has taken
-//! a second. The line is written over as it goes on, and cleared at the end.
+//! The system's files, with a line on standard error that says how far reading or writing one is.
 
+use crate::meter::Meter;
 use std::alloc::{Allocator, Global};
 use std::fs::{File, Metadata, OpenFile, OpenOptions, Permissions};
 use std::io::{self, Read, Seek, SeekFrom, Write};
 use std::path::PathBuf;
-use std::rt::{Clock, Files};
-use std::time::Duration;
+use std::rt::Files;
 
 /// How many bytes are read or written between two looks at the clock.
 const PIECE: usize = 1024 * 1024;
 
-/// How many seconds reading or writing takes until it is shown.
-const DELAY: u64 = 1;
-
-/// How many milliseconds a line stays until it is written anew.
-const STAY: u64 = 200;
-
-/// How many bytes are a megabyte.
-const MEGABYTE: u64 = 1_000_000;
-
-/// What clears the line from where the terminal stands.
-const CLEAR: &str = "\u{1b}[K";
-
 /// The system, whose files are watched where `is_shown` says so.
 #[derive(Clone, Copy)]
-pub(crate) struct Watched {
-    pub(crate) rt: HostRuntime,
-    pub(crate) is_shown: bool,
+pub struct System {
+    pub rt: HostRuntime,
+    pub is_shown: bool,
 }
 
-impl Alloc for Watched {
+impl Alloc for System {
     type A = Global;
 
     fn alloc(&self) -> Global {
@@ -39,19 +26,19 @@ impl Alloc for Watched {
 }
 
 /// The calls on files are passed on to the system.
-impl Files for Watched {
-    type File = WatchedFile;
+impl Files for System {
+    type File = SystemFile;
 
     type Dir = <HostRuntime as Files>::Dir;
 
-    fn open_file(&self, how: &OpenOptions, path: &str) -> io::Result<WatchedFile> {
+    fn open_file(&self, how: &OpenOptions, path: &str) -> io::Result<SystemFile> {
         let file = self.rt.open_file(how, path)?;
         let meter = if self.is_shown {
             Meter::of(self.rt, &file).ok()
         } else {
             None
         };
-        Ok(WatchedFile { file, meter })
+        Ok(SystemFile { file, meter })
     }
 
     fn open_dir(&self, path: &str) -> io::Result<Self::Dir> {
@@ -96,22 +83,22 @@ impl Files for Watched {
 }
 
 /// A file of the system, which is watched or not.
-pub(crate) struct WatchedFile {
+pub struct SystemFile {
     file: File,
     meter: Option<Meter>,
 }
 
 /// Clears the line, too.
-impl Drop for WatchedFile {
+impl Drop for SystemFile {
     fn drop(self) {
-        let WatchedFile { file: _, meter } = self;
+        let SystemFile { file: _, meter } = self;
         if let Some(mut meter) = meter {
             meter.end();
         }
     }
 }
 
-impl WatchedFile {
+impl SystemFile {
     /// Counts bytes that were read or written, as the word says.
     fn count(&mut self, bytes: usize, word: &'static str) {
         if let Some(meter) = &mut self.meter {
@@ -120,7 +107,7 @@ impl WatchedFile {
     }
 }
 
-impl Read for WatchedFile {
+impl Read for SystemFile {
     fn read(&mut self, buf: &mut [u8]) -> io::Result<usize> {
         let length = buf.len().min(PIECE);
         let read = self.file.read(&mut buf[..length])?;
@@ -129,7 +116,7 @@ impl Read for WatchedFile {
     }
 }
 
-impl Write for WatchedFile {
+impl Write for SystemFile {
     fn write(&mut self, buf: &[u8]) -> io::Result<usize> {
         let written = self.file.write(buf)?;
         self.count(written, "written");
@@ -152,13 +139,13 @@ impl Write for WatchedFile {
     }
 }
 
-impl Seek for WatchedFile {
+impl Seek for SystemFile {
     fn seek(&mut self, to: SeekFrom) -> io::Result<u64> {
         self.file.seek(to)
     }
 }
 
-impl OpenFile for WatchedFile {
+impl OpenFile for SystemFile {
     fn metadata(&self) -> io::Result<Metadata> {
         self.file.metadata()
     }
@@ -178,78 +165,4 @@ impl OpenFile for WatchedFile {
     fn set_permissions(&self, perm: Permissions) -> io::Result<()> {
         self.file.set_permissions(perm)
     }
-}
-
-/// How far a file is.
-#[derive(Clone, Copy)]
-pub(crate) struct Meter {
-    rt: HostRuntime,
-    /// How many bytes are read or written.
-    done: u64,
-    /// How many bytes there are, as far as that is known.
-    total: u64,
-    /// When the line is written next.
-    next: Duration,
-    /// Whether a line stands there.
-    has_line: bool,
-}
-
-impl Meter {
-    /// Returns the meter of a file that was opened just now.
-    ///
-    /// # Errors
-    /// Fails as the calls of the system do.
-    fn of(rt: HostRuntime, file: &File) -> io::Result<Meter> {
-        Ok(Meter {
-            rt,
-            done: 0,
-            total: file.metadata()?.len(),
-            next: rt.monotonic()?.saturating_add(Duration::from_secs(DELAY)),
-            has_line: false,
-        })
-    }
-
-    /// Notes that so many bytes are to be written.
-    fn expect(&mut self, bytes: usize) {
-        self.total = self.done.saturating_add(as_count(bytes));
-    }
-
-    /// Counts bytes that were read or written, and writes the line where it is time. Where there are no more, the line
-    /// is cleared.
-    fn count(&mut self, bytes: usize, word: &'static str) {
-        if bytes == 0 {
-            return self.end();
-        }
-        self.done = self.done.saturating_add(as_count(bytes));
-        if let Ok(now) = self.rt.monotonic()
-            && now >= self.next
-        {
-            self.next = now.saturating_add(Duration::from_millis(STAY));
-            self.write_line(word);
-        }
-    }
-
-    /// Writes the line.
-    fn write_line(&mut self, word: &'static str) {
-        self.has_line = true;
-        let (done, total) = (self.done / MEGABYTE, self.total / MEGABYTE);
-        let _ = if self.done < self.total {
-            eprint!(self.rt; "\r{CLEAR}msipkg: {done} of {total} MB are {word}")
-        } else {
-            eprint!(self.rt; "\r{CLEAR}msipkg: {done} MB are {word}")
-        };
-    }
-
-    /// Clears the line, if there is one.
-    fn end(&mut self) {
-        if self.has_line {
-            self.has_line = false;
-            let _ = eprint!(self.rt; "\r{CLEAR}");
-        }
-    }
-}
-
-/// A number of bytes.
-fn as_count(bytes: usize) -> u64 {
-    u64::try_from(bytes).unwrap_or(u64::MAX)
 }
