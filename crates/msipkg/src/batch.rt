@@ -2,7 +2,7 @@
 
 use crate::commands::run;
 use crate::lines::words_of;
-use msipkg_system::{Output, System};
+use msipkg_output::{Output, System};
 use std::io;
 
 /// Runs the commands of standard input, a line each, and prints each line before what it prints. A line has the words

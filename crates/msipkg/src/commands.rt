@@ -8,8 +8,7 @@ use crate::words::{self, Verb};
 use clap::ArgMatches;
 use clap::error::ErrorKind;
 use msipkg_files::{PackageFile, Purpose};
-use msipkg_output::{Failure, Shown, Style};
-use msipkg_system::{Output, System};
+use msipkg_output::{Failure, Output, Shown, Style, System};
 
 /// Runs a command over its arguments. What it prints is written when this returns. Returns the exit status: 0 on
 /// success; 1 on an error, which is written to `errors`; 2 with a hint there, if the arguments match no command.

@@ -3,7 +3,6 @@
 use crate::commands::Asked;
 use crate::exchanging::export_asked;
 use crate::words::Verb;
-use msi::Package;
 use msipkg_checks::print_check;
 use msipkg_files::{Folder, Purpose, open_package};
 use msipkg_looks::schema::Form;
@@ -11,8 +10,8 @@ use msipkg_looks::{
     check_query, extract_streams, print_info, print_query, print_schema, print_streams,
     print_summary, print_tables,
 };
-use msipkg_output::{Failure, Format};
-use msipkg_system::{Opened, Output, System};
+use msipkg_output::msi::Package;
+use msipkg_output::{Failure, Format, Opened, Output, System};
 use std::alloc::Global;
 
 /// Carries out a command that looks at the package of a file, and returns whether all is well: nothing was found to be

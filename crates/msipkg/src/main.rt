@@ -10,7 +10,7 @@ mod looking;
 mod several;
 mod words;
 
-use msipkg_system::{Output, System};
+use msipkg_output::{Output, System};
 use std::io::IsTerminal;
 use std::process::ExitCode;
 use std::{env, io};

@@ -1,9 +1,8 @@
 //! Statements carried out on a package.
 
 use crate::definition::Definition;
-use msi::{Package, Statement};
-use msipkg_output::Failure;
-use msipkg_system::Opened;
+use msipkg_output::msi::{Package, Statement};
+use msipkg_output::{Failure, Opened};
 
 /// Carries out a statement on rows.
 ///

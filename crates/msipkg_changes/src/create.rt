@@ -1,8 +1,7 @@
 //! `new FILE`: a new package.
 
-use msi::{CodePage, Package, PackageType};
-use msipkg_output::Failure;
-use msipkg_system::Opened;
+use msipkg_output::msi::{CodePage, Package, PackageType};
+use msipkg_output::{Failure, Opened};
 
 /// Returns the kind of a name: `installer`, `patch` or `transform`.
 ///

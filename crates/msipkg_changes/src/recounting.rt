@@ -1,8 +1,7 @@
 //! The counts of a package's texts, where they are too low for a change.
 
-use msi::{ErrorKind, Package};
-use msipkg_output::Failure;
-use msipkg_system::Opened;
+use msipkg_output::msi::{ErrorKind, Package};
+use msipkg_output::{Failure, Opened};
 
 /// Returns the failure of a change, with the note that counting the package anew mends it, if that is so. The package
 /// is counted anew then.

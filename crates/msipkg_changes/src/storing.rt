@@ -1,9 +1,8 @@
 //! Putting a package that was changed in the place of its file.
 
-use msi::Package;
 use msipkg_files::{replace_file, written};
-use msipkg_output::{Failure, Shown};
-use msipkg_system::{Opened, Output, System};
+use msipkg_output::msi::Package;
+use msipkg_output::{Failure, Opened, Output, Shown, System};
 
 /// Replaces a file by a package that was changed. If the package is signed, `errors` gets a line that says that the
 /// signature is no longer valid.

@@ -1,8 +1,7 @@
 //! `add FILE NAME=PATH..` and `remove FILE NAME..`: streams of a package.
 
-use msi::Package;
-use msipkg_output::Failure;
-use msipkg_system::{Opened, System};
+use msipkg_output::msi::Package;
+use msipkg_output::{Failure, Opened, System};
 use std::alloc::Global;
 use std::fs;
 use std::io::Write;

@@ -6,9 +6,8 @@ use crate::report::Report;
 use crate::streams::check_streams;
 use crate::validation::check_validation;
 use crate::values::check_values;
-use msi::Package;
-use msipkg_output::{Failure, Style};
-use msipkg_system::{Opened, Output};
+use msipkg_output::msi::Package;
+use msipkg_output::{Failure, Opened, Output, Style};
 use std::alloc::Global;
 
 /// Prints each error in a file's package on a line as it is found, or all of them as JSON on one line. Returns whether

@@ -1,9 +1,8 @@
 //! Reference counts of the string pool that are wrong.
 
 use crate::report::{Place, Report};
-use msi::{Error, ErrorKind, Package};
-use msipkg_output::Failure;
-use msipkg_system::Opened;
+use msipkg_output::msi::{Error, ErrorKind, Package};
+use msipkg_output::{Failure, Opened};
 use std::fmt;
 
 /// Finds out whether the counts of the texts are too low, so that each change of the tables is refused, and how many

@@ -1,9 +1,8 @@
 //! The columns to which foreign keys refer, and values as texts.
 
 use crate::reading::pass_over;
-use msi::{Package, Row, Rows, Select, Value};
-use msipkg_output::Failure;
-use msipkg_system::Opened;
+use msipkg_output::msi::{Package, Row, Rows, Select, Value};
+use msipkg_output::{Failure, Opened};
 use std::alloc::{AllocError, Global};
 use std::collections::{BTreeMap, BTreeSet};
 

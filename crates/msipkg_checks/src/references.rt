@@ -3,9 +3,8 @@
 use crate::keys::{KeyColumns, key_text};
 use crate::reading::pass_over;
 use crate::report::{Place, Report};
-use msi::{Package, Row, Rows, Select, Table};
-use msipkg_output::Failure;
-use msipkg_system::Opened;
+use msipkg_output::msi::{Package, Row, Rows, Select, Table};
+use msipkg_output::{Failure, Opened};
 use std::alloc::{AllocError, Global};
 use std::collections::BTreeSet;
 

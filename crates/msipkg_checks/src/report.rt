@@ -1,8 +1,7 @@
 //! The errors that a check finds in a package, each with its place.
 
 use msipkg_output::json::{self, JsonObject};
-use msipkg_output::{Failure, Shown, Style};
-use msipkg_system::Output;
+use msipkg_output::{Failure, Output, Shown, Style};
 use std::alloc::Global;
 use std::{fmt, mem};
 

@@ -2,9 +2,8 @@
 
 use crate::reading::pass_over;
 use crate::report::{Place, Report};
-use msi::{ColumnType, Package, Row, Rows, Select, Table, Value};
-use msipkg_output::{Failure, stream_name};
-use msipkg_system::Opened;
+use msipkg_output::msi::{ColumnType, Package, Row, Rows, Select, Table, Value};
+use msipkg_output::{Failure, Opened, stream_name};
 use std::alloc::{AllocError, Global};
 use std::collections::BTreeSet;
 

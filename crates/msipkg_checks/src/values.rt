@@ -1,9 +1,8 @@
 //! Values that their columns don't take, and tables that can't be read.
 
 use crate::report::{Place, Report};
-use msi::{ErrorKind, Package, Row, Rows, Select, Table};
-use msipkg_output::Failure;
-use msipkg_system::Opened;
+use msipkg_output::msi::{ErrorKind, Package, Row, Rows, Select, Table};
+use msipkg_output::{Failure, Opened};
 use std::alloc::Global;
 
 /// Finds the tables that can't be read, and in the others the values that their columns don't take.

@@ -4,10 +4,9 @@ use crate::facts::{compare_kinds, compare_summaries};
 use crate::report::Report;
 use crate::streams::compare_streams;
 use crate::tables::compare_tables;
-use msi::Package;
 use msipkg_files::StoredStreams;
-use msipkg_output::{Failure, Style};
-use msipkg_system::{Opened, Output};
+use msipkg_output::msi::Package;
+use msipkg_output::{Failure, Opened, Output, Style};
 use std::alloc::Global;
 
 /// A package that is compared.

@@ -1,8 +1,7 @@
 //! A difference between two packages, as lines and as JSON.
 
-use msi::Value;
-use msipkg_output::{JsonObject, Style};
-use msipkg_system::Output;
+use msipkg_output::msi::Value;
+use msipkg_output::{JsonObject, Output, Style};
 use std::alloc::Global;
 use std::fmt::{self, Display};
 

@@ -2,8 +2,7 @@
 
 use crate::difference::{Difference, difference_json, print_lines};
 use msipkg_output::json::{write_quoted, write_text};
-use msipkg_output::{Failure, JsonObject, Style};
-use msipkg_system::Output;
+use msipkg_output::{Failure, JsonObject, Output, Style};
 use std::alloc::{AllocError, Global};
 
 /// Where differences are printed.

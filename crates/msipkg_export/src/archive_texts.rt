@@ -1,9 +1,9 @@
 //! Text archives, made of columns and rows.
 
 use crate::archive_parts::{archive_columns, key_names};
-use msi::{CodePage, Column, Error, IntoText, Items, Value};
 use msi_text_archive::{Archive, ArchiveError, write};
 use msipkg_output::Failure;
+use msipkg_output::msi::{CodePage, Column, Error, IntoText, Items, Value};
 use std::alloc::{AllocError, Global};
 
 /// How many lines of an archive stand in front of those of the rows.

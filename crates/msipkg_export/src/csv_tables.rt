@@ -2,10 +2,11 @@
 
 use crate::exporting::BARE;
 use crate::folders::make_folder;
-use msi::{Package, Table};
 use msipkg_files::{Folder, SafeNames};
-use msipkg_output::{Failure, Format, Style, chosen_tables, rows_of, write_rows};
-use msipkg_system::{Opened, Output, System};
+use msipkg_output::msi::{Package, Table};
+use msipkg_output::{
+    Failure, Format, Opened, Output, Style, System, chosen_tables, rows_of, write_rows,
+};
 use std::alloc::{AllocError, Global};
 
 /// Writes each of the tables to a file of a folder, which is named after the table. The folder is made where it isn't

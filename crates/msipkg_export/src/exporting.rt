@@ -4,10 +4,9 @@ use crate::archives::export_archives;
 use crate::csv_tables::{export_csv, write_csv};
 use crate::json_packages::write_package;
 use crate::table_archives::write_archive;
-use msi::{Package, Table};
 use msipkg_files::{Folder, at_file, open_new, settle};
-use msipkg_output::{Failure, Shown, Style, is_list, rows_of, table_named};
-use msipkg_system::{Opened, Output, System};
+use msipkg_output::msi::{Package, Table};
+use msipkg_output::{Failure, Opened, Output, Shown, Style, System, is_list, rows_of, table_named};
 use std::alloc::Global;
 
 /// How a file is written: as it is.

@@ -1,7 +1,6 @@
 //! The folders that an export makes.
 
-use msipkg_output::Failure;
-use msipkg_system::System;
+use msipkg_output::{Failure, System};
 use std::fs;
 use std::io::ErrorKind;
 

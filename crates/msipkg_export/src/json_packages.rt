@@ -1,13 +1,12 @@
 //! Packages as JSON on one line: the summary, the tables with the types of their columns, and the streams.
 
 use base64::engine::general_purpose::STANDARD;
-use msi::{Error, Package, Row, Rows, SummaryInfo, Table};
 use msipkg_output::json::{JsonObject, write_quoted, write_text};
+use msipkg_output::msi::{Error, Package, Row, Rows, SummaryInfo, Table};
 use msipkg_output::{
-    Failure, PROPERTIES, Style, chosen_tables, kind_name, property_text, put_columns, rows_of,
-    write_json_value,
+    Failure, Opened, Output, PROPERTIES, Style, chosen_tables, kind_name, property_text,
+    put_columns, rows_of, write_json_value,
 };
-use msipkg_system::{Opened, Output};
 use std::alloc::{AllocError, Global};
 
 /// How many bytes of a stream are written at a time. Three of them are four signs, so that the pieces join.

@@ -3,10 +3,9 @@
 use crate::archive_parts::text_value;
 use crate::archive_texts::archive_text;
 use crate::table_archives::{StreamFile, TableArchive};
-use msi::{CodePage, Column, Error, Items, Package, SummaryInfo, Value};
 use msipkg_files::SafeNames;
-use msipkg_output::{Failure, PROPERTIES, property_text};
-use msipkg_system::Opened;
+use msipkg_output::msi::{CodePage, Column, Error, Items, Package, SummaryInfo, Value};
+use msipkg_output::{Failure, Opened, PROPERTIES, property_text};
 use std::alloc::{AllocError, Global};
 use std::collections::BTreeSet;
 

@@ -2,10 +2,9 @@
 
 use crate::archive_parts::text_value;
 use crate::archive_texts::archive_text;
-use msi::{CodePage, Error, Items, Package, Row, Rows, Table, Value};
 use msipkg_files::SafeNames;
-use msipkg_output::{Failure, Shown, Style, rows_of, stream_name};
-use msipkg_system::{Opened, Output};
+use msipkg_output::msi::{CodePage, Error, Items, Package, Row, Rows, Table, Value};
+use msipkg_output::{Failure, Opened, Output, Shown, Style, rows_of, stream_name};
 use std::alloc::Global;
 
 /// A stream and the name of its file.

@@ -1,8 +1,7 @@
 //! Folders that files are written to.
 
 use crate::replacing::write_file;
-use msipkg_output::Failure;
-use msipkg_system::System;
+use msipkg_output::{Failure, System};
 use std::alloc::{AllocError, Global};
 
 /// Where files go.

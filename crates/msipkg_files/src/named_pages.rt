@@ -1,9 +1,9 @@
 //! The pages that a package names for its texts.
 
-use msi::compound::{Name, StreamMap};
-use msi::{Error, streamname};
 use msi_recode::TextPage;
 use msipkg_output::Pages;
+use msipkg_output::msi::compound::{Name, StreamMap};
+use msipkg_output::msi::{Error, streamname};
 use std::alloc::Global;
 use std::str;
 

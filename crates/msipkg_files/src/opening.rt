@@ -2,9 +2,8 @@
 
 use crate::recoding::{PackageFile, Recoded, check_unnamed, recoded_by_page, recoded_instead};
 use either::{Either, Left, Right};
-use msi::{Metered, Package, PackageType};
-use msipkg_output::Failure;
-use msipkg_system::{Carrier, Opened, Output, System, SystemFile};
+use msipkg_output::msi::{Metered, Package, PackageType};
+use msipkg_output::{Carrier, Failure, Opened, Output, System, SystemFile};
 use std::alloc::Global;
 use std::fs;
 use std::io::Cursor;

@@ -1,10 +1,9 @@
 //! Packages with texts in a page that packages aren't read in: they are recoded to UTF-8 first.
 
 use crate::named_pages::{NamedPages, has_unnamed_texts};
-use msi::compound::{self, Contents, StreamMap};
 use msi_recode::{TextPage, recode_contents};
-use msipkg_output::{Cause, Failure, Pages, Shown};
-use msipkg_system::{Output, System};
+use msipkg_output::msi::compound::{self, Contents, StreamMap};
+use msipkg_output::{Cause, Failure, Output, Pages, Shown, System};
 use std::alloc::Global;
 use std::fs;
 use std::rc::Rc;

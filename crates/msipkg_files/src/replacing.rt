@@ -1,8 +1,7 @@
 //! Replacing a file whole: the new bytes are written beside it and synced, and then take its name, so that an interrupt
 //! or a full disk leaves the old file.
 
-use msipkg_output::Failure;
-use msipkg_system::{System, SystemFile};
+use msipkg_output::{Failure, System, SystemFile};
 use std::alloc::{AllocError, Global};
 use std::fs::{self, OpenFile, OpenOptions, Permissions};
 use std::io::{self, Write};

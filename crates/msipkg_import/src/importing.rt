@@ -2,11 +2,10 @@
 
 use crate::summary::apply_summary;
 use crate::tables::apply_tables;
-use msi::Package;
 use msipkg_changes::{fill_stream, noted};
-use msipkg_output::Failure;
+use msipkg_output::msi::Package;
+use msipkg_output::{Failure, Opened, System};
 use msipkg_reading::{Given, GivenStream, read_files};
-use msipkg_system::{Opened, System};
 use std::alloc::Global;
 
 /// Gives a package what files have: the code page, tables and rows, streams, and the summary, of which nothing of the

@@ -1,9 +1,8 @@
 //! Rows that files give, as a package's table has them.
 
-use msi::{Column, ColumnType, Error, Package, Value};
-use msipkg_output::Failure;
+use msipkg_output::msi::{Column, ColumnType, Error, Package, Value};
+use msipkg_output::{Failure, Opened};
 use msipkg_reading::GivenTable;
-use msipkg_system::Opened;
 use std::alloc::Global;
 
 /// The text of a stream, as `query --format csv` prints it.

@@ -1,8 +1,8 @@
 //! Rows of `_Validation`, which say more of columns.
 
 use crate::rows::package_rows;
-use msi::{Column, Value};
 use msipkg_output::Failure;
+use msipkg_output::msi::{Column, Value};
 use msipkg_reading::GivenTable;
 use std::alloc::Global;
 

@@ -1,10 +1,9 @@
 //! Giving a package a summary.
 
-use msi::{Error, Package, SummaryInfo};
 use msipkg_changes::{clear_property, set_property};
-use msipkg_output::{Failure, PROPERTIES};
+use msipkg_output::msi::{Error, Package, SummaryInfo};
+use msipkg_output::{Failure, Opened, PROPERTIES};
 use msipkg_reading::GivenProperty;
-use msipkg_system::Opened;
 use std::alloc::{AllocError, Global};
 
 /// Gives a package a summary, of which nothing of the old one stays but the code page, where none is given.

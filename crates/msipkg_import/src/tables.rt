@@ -4,10 +4,9 @@ use crate::columns::built_columns;
 use crate::descriptions::describe;
 use crate::rows::{check_rows, columns_of, package_rows};
 use crate::rules::{VALIDATION, rules_of};
-use msi::{Insert, Package, Value};
-use msipkg_output::Failure;
+use msipkg_output::msi::{Insert, Package, Value};
+use msipkg_output::{Failure, Opened};
 use msipkg_reading::GivenTable;
-use msipkg_system::Opened;
 use std::alloc::Global;
 
 /// Gives a package tables, each with its rows. Rows of `_Validation` say more of columns, and aren't stored themselves.

@@ -1,6 +1,6 @@
 //! What the columns of a table take, as texts.
 
-use msi::{Column, ColumnType};
+use msipkg_output::msi::{Column, ColumnType};
 use msipkg_output::{ColumnTypeText, Style};
 use std::fmt;
 

@@ -1,10 +1,9 @@
 //! `extract FILE [NAME..] -o DIR`: the streams of a package as files of a folder. Whatever a stream's name is, nothing
 //! is written outside the folder.
 
-use msi::Package;
 use msipkg_files::{Folder, SafeNames, StoredStreams, stored_streams, stream_bytes};
-use msipkg_output::{Failure, Shown};
-use msipkg_system::{Opened, Output, System};
+use msipkg_output::msi::Package;
+use msipkg_output::{Failure, Opened, Output, Shown, System};
 use std::fs;
 
 /// What streams are taken from, and where their files go.

@@ -1,8 +1,7 @@
 //! Facts of a package under their names, which print as lines or as JSON.
 
-use msi::LanguageId;
-use msipkg_output::{JsonObject, Style};
-use msipkg_system::Output;
+use msipkg_output::msi::LanguageId;
+use msipkg_output::{JsonObject, Output, Style};
 use std::alloc::{AllocError, Global};
 use std::fmt::Display;
 

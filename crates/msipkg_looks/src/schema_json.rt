@@ -1,6 +1,6 @@
 //! The columns of tables as JSON.
 
-use msi::Table;
+use msipkg_output::msi::Table;
 use msipkg_output::{JsonObject, put_columns};
 use std::alloc::Global;
 

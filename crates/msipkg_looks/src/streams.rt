@@ -1,9 +1,8 @@
 //! `streams FILE`: the names of a package's streams, and how many bytes they have.
 
-use msi::{Error, Package};
 use msipkg_files::{StoredStreams, stored_streams, stream_bytes};
-use msipkg_output::{Failure, Grid, Style};
-use msipkg_system::{Opened, Output, System};
+use msipkg_output::msi::{Error, Package};
+use msipkg_output::{Failure, Grid, Opened, Output, Style, System};
 use std::alloc::Global;
 
 /// The heads of the columns that are printed.

@@ -1,8 +1,7 @@
 //! `tables FILE`: the names of a package's tables, and how many rows they have.
 
-use msi::{Error, Package, Select, Table};
-use msipkg_output::{Failure, Grid, Style};
-use msipkg_system::{Opened, Output};
+use msipkg_output::msi::{Error, Package, Select, Table};
+use msipkg_output::{Failure, Grid, Opened, Output, Style};
 use std::alloc::Global;
 
 /// The heads of the columns that are printed.

@@ -3,8 +3,8 @@
 use crate::escape::Shown;
 use crate::json::JsonObject;
 use crate::pages::Pages;
-use msi::{Error, ErrorKind, ParseError};
 use msi_recode::RecodeError;
+use msipkg_system::msi::{Error, ErrorKind, ParseError};
 use std::alloc::{AllocError, AllocFailed, Global};
 use std::{fmt, io};
 

@@ -14,11 +14,13 @@ pub mod summary_texts;
 pub mod tables;
 pub mod texts;
 
+// For the crates above, as in `msipkg_system`.
 pub use columns::{ColumnTypeText, put_columns};
 pub use escape::Shown;
 pub use failure::{Cause, Failure, failure_json};
 pub use grid::Grid;
 pub use json::JsonObject;
+pub use msipkg_system::{Carrier, Opened, Output, System, SystemFile, msi};
 pub use pages::Pages;
 pub use rows::{Format, write_json_value, write_rows};
 pub use style::Style;

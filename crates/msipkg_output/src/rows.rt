@@ -5,8 +5,8 @@ use crate::grid::Grid;
 use crate::json;
 use crate::style::Style;
 use csv::Writer;
-use msi::{Column, Row, Rows, Value};
 use msipkg_system::Output;
+use msipkg_system::msi::{Column, Row, Rows, Value};
 use std::alloc::{AllocError, Global};
 
 /// How rows are printed.

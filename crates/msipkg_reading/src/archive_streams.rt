@@ -2,10 +2,9 @@
 
 use crate::given::{Given, GivenStream, GivenTable};
 use crate::places::at_part;
-use msi::{ColumnType, Error, Value};
 use msipkg_files::path_in;
-use msipkg_output::{Failure, push_key};
-use msipkg_system::System;
+use msipkg_output::msi::{ColumnType, Error, Value};
+use msipkg_output::{Failure, System, push_key};
 use std::alloc::{AllocError, Global};
 use std::fs;
 use std::path::Path;

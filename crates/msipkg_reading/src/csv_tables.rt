@@ -2,8 +2,8 @@
 
 use crate::given::{Given, GivenColumn, GivenTable};
 use csv::{ReaderBuilder, StringRecord};
-use msi::{ColumnType, Error, Value};
 use msipkg_output::Failure;
+use msipkg_output::msi::{ColumnType, Error, Value};
 use std::alloc::{AllocError, Global};
 
 /// How long the texts of a key are at most, where the table is created.

@@ -1,8 +1,8 @@
 //! What files give, before a package takes it.
 
 use crate::places::{at_part, part_of};
-use msi::{CodePage, ColumnType, Value};
 use msipkg_output::Failure;
+use msipkg_output::msi::{CodePage, ColumnType, Value};
 use std::alloc::{AllocError, Global};
 
 /// A column.

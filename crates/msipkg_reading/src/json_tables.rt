@@ -2,8 +2,8 @@
 
 use crate::given::{GivenColumn, GivenTable};
 use crate::json_packages::{items_in, number_of, text_in};
-use msi::{ColumnType, Error, Value};
 use msipkg_output::Failure;
+use msipkg_output::msi::{ColumnType, Error, Value};
 use serde_json::Value as Json;
 use std::alloc::Global;
 

@@ -5,8 +5,7 @@ use crate::csv_tables::read_csv;
 use crate::given::Given;
 use crate::json_packages::read_json;
 use msipkg_files::at_file;
-use msipkg_output::Failure;
-use msipkg_system::System;
+use msipkg_output::{Failure, System};
 use std::fs;
 use std::path::Path;
 
