@@ -7,6 +7,7 @@ use msipkg_changes::{
     set_pages, set_properties, store,
 };
 use msipkg_files::{Purpose, new_package, open_package, write_file, written};
+use msipkg_import::import_files;
 use msipkg_output::msi::{CodePage, Package};
 use msipkg_output::{Failure, Opened, Output, System};
 use std::alloc::Global;
@@ -14,7 +15,7 @@ use std::alloc::Global;
 /// Whether a command changes a package, and prints nothing.
 pub(crate) fn is_change(asked: &Asked<'_, '_>) -> bool {
     match asked.verb {
-        Verb::New | Verb::Add | Verb::Remove | Verb::Exec | Verb::Batch => true,
+        Verb::New | Verb::Add | Verb::Remove | Verb::Exec | Verb::Import | Verb::Batch => true,
         Verb::Summary => !asked.texts("set").is_empty() || !asked.texts("clear").is_empty(),
         _ => false,
     }
@@ -83,6 +84,7 @@ fn apply(rt: &System, asked: &Asked<'_, '_>, package: &mut Package<Opened>) -> R
         Verb::Add => add_streams(rt, package, asked.texts("NAME=PATH")),
         Verb::Remove => remove_streams(rt.alloc(), package, asked.texts("NAME")),
         Verb::Exec => carry_out_statements(rt.alloc(), package, asked.texts("TEXT")),
+        Verb::Import => import_files(rt, package, asked.texts("PATH")),
         _ => {
             let (set, cleared) = (asked.texts("set"), asked.texts("clear"));
             set_properties(rt.alloc(), package, set, cleared)

@@ -19,6 +19,7 @@ pub(crate) enum Verb {
     Remove,
     Exec,
     Export,
+    Import,
     Diff,
     Batch,
 }
@@ -116,7 +117,7 @@ const FORCE: Argument = Argument {
 };
 
 /// The commands, in the order in which help lists them.
-static COMMANDS: [Row; 15] = [
+static COMMANDS: [Row; 16] = [
     Row {
         verb: Verb::Info,
         name: "info",
@@ -328,6 +329,21 @@ static COMMANDS: [Row; 15] = [
             FORCE,
             PAGE,
             ESCAPE,
+        ],
+    },
+    Row {
+        verb: Verb::Import,
+        name: "import",
+        about: "Gives a package what files have: all of it, or nothing",
+        arguments: &[
+            FILE,
+            Argument {
+                id: "PATH",
+                form: Form::Words,
+                help: "The files, which end in .idt, .json or .csv",
+            },
+            PAGE,
+            RECODE,
         ],
     },
     Row {

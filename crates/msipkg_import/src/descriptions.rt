@@ -1,0 +1,54 @@
+//! Descriptions of columns for people, which `_Validation` has.
+
+use crate::rules::VALIDATION;
+use msipkg_output::msi::{Error, Expr, Package, Update, Value};
+use msipkg_output::{Failure, Opened};
+use std::alloc::Global;
+
+/// Describes the columns of a package's tables as rows of `_Validation` do.
+///
+/// # Errors
+/// Fails as `Package::update_rows` does, at the table.
+pub(crate) fn describe(
+    alloc: Global,
+    package: &mut Package<Opened>,
+    rules: &[Vec<Value>],
+) -> Result<(), Failure> {
+    for rule in rules {
+        describe_column(alloc, package, rule.as_slice())?;
+    }
+    Ok(())
+}
+
+/// Describes the column that a row is about, if the table is there and the row has a text for that.
+fn describe_column(
+    alloc: Global,
+    package: &mut Package<Opened>,
+    rule: &[Value],
+) -> Result<(), Failure> {
+    let [Value::Str(table), Value::Str(column), .., Value::Str(text)] = rule else {
+        return Ok(());
+    };
+    let (table, column) = (table.as_str(), column.as_str());
+    if !package.has_table(table) {
+        return Ok(());
+    }
+    match package.update_rows(update(alloc, table, column, text.as_str())?) {
+        Ok(()) => Ok(()),
+        Err(error) => Err(Failure::from(error).at(alloc, "table", table)),
+    }
+}
+
+/// Sets the description of a column.
+fn update(alloc: Global, table: &str, column: &str, text: &str) -> Result<Update, Error> {
+    let text = Value::from_text(alloc, text)?;
+    let is_about = is_equal(alloc, "Table", table)?.and(alloc, is_equal(alloc, "Column", column)?)?;
+    Update::table(alloc, VALIDATION)?
+        .set("Description", text)?
+        .with(is_about)
+}
+
+/// The condition that a row has a text in a column.
+fn is_equal(alloc: Global, column: &str, text: &str) -> Result<Expr, Error> {
+    Expr::col(alloc, column)?.eq(alloc, Expr::string(alloc, text)?)
+}

@@ -1,0 +1,117 @@
+//! Rows that files give, as a package's table has them.
+
+use msipkg_output::msi::{Column, ColumnType, Error, Package, Value};
+use msipkg_output::{Failure, Opened};
+use msipkg_reading::GivenTable;
+use std::alloc::Global;
+
+/// The text of a stream, as `query --format csv` prints it.
+const STREAM: &str = "[stream]";
+
+/// Returns the columns of a package's table, or none where it isn't there.
+pub(crate) fn columns_of<'a>(package: &'a Package<Opened>, name: &str) -> &'a [Column] {
+    match package.get_table(name) {
+        Some(table) => table.columns(),
+        None => &[],
+    }
+}
+
+/// Returns the rows of a table with a value for each of these columns, which is found by its name. One that isn't given
+/// has nulls.
+///
+/// # Errors
+/// Fails at a name that none of these columns has or that stands twice, and if memory is refused.
+pub(crate) fn package_rows(
+    alloc: Global,
+    columns: &[Column],
+    table: &GivenTable,
+) -> Result<Vec<Vec<Value>>, Failure> {
+    check_names(alloc, columns, table)?;
+    let mut rows = Vec::with_capacity(alloc, table.rows.len())?;
+    for row in &table.rows {
+        rows.push(package_row(alloc, columns, table, row.as_slice())?)?;
+    }
+    Ok(rows)
+}
+
+/// Refuses a name that no column has or that stands twice.
+fn check_names(alloc: Global, columns: &[Column], table: &GivenTable) -> Result<(), Failure> {
+    for i in 0..table.columns.len() {
+        let name = table.columns[i].name.as_str();
+        if table.place_of(name) != Some(i) {
+            return Err(table.at_column(alloc, Failure::rule("it is there twice"), name));
+        }
+        if !columns.iter().any(|column| column.name() == name) {
+            let failure = Failure::rule("the package's table has no such column");
+            return Err(table.at_column(alloc, failure, name));
+        }
+    }
+    Ok(())
+}
+
+/// The values of a row, in the order of columns.
+fn package_row(
+    alloc: Global,
+    columns: &[Column],
+    table: &GivenTable,
+    row: &[Value],
+) -> Result<Vec<Value>, Error> {
+    let mut values = Vec::with_capacity(alloc, columns.len())?;
+    for column in columns {
+        let given = match table.place_of(column.name()) {
+            Some(place) => row.get(place),
+            None => None,
+        };
+        values.push(package_value(alloc, column.coltype(), given)?)?;
+    }
+    Ok(values)
+}
+
+/// The value of a column of a type, which is null where none is given. A text stands for a number or a stream there, as
+/// CSV has all values. One that doesn't is left to be refused.
+fn package_value(
+    alloc: Global,
+    coltype: ColumnType,
+    given: Option<&Value>,
+) -> Result<Value, Error> {
+    let Some(value) = given else {
+        return Ok(Value::Null);
+    };
+    let text = value.as_str().unwrap_or("");
+    match (coltype, text.parse::<i32>()) {
+        (ColumnType::Int16 | ColumnType::Int32, Ok(number)) => Ok(Value::Int(number)),
+        (ColumnType::Binary, _) if text == STREAM => Ok(Value::Binary),
+        _ => value.clone(alloc),
+    }
+}
+
+/// Refuses the first row with a value that its column doesn't take.
+///
+/// # Errors
+/// Fails at the row and the column.
+pub(crate) fn check_rows(
+    alloc: Global,
+    columns: &[Column],
+    table: &GivenTable,
+    rows: &[Vec<Value>],
+) -> Result<(), Failure> {
+    for i in 0..rows.len() {
+        if let Some((column, rule)) = refused_value(columns, rows[i].as_slice()) {
+            return Err(table.at_row(alloc, Failure::rule(rule), i, column));
+        }
+    }
+    Ok(())
+}
+
+/// The column of the first value that isn't taken, and the rule that is broken there.
+fn refused_value<'a>(columns: &'a [Column], row: &[Value]) -> Option<(&'a str, &'static str)> {
+    let (column, value) = columns
+        .iter()
+        .zip(row.iter())
+        .find(|(column, value)| !column.is_valid_value(value))?;
+    if value.is_null() {
+        Some((column.name(), "the column doesn't take null"))
+    } else {
+        Some((column.name(), "the column doesn't take this value"))
+    }
+}

@@ -1,0 +1,71 @@
+//! Rows of `_Validation`, which say more of columns.
+
+use crate::rows::package_rows;
+use msipkg_output::Failure;
+use msipkg_output::msi::{Column, Value};
+use msipkg_reading::GivenTable;
+use std::alloc::Global;
+
+/// The table that describes columns further.
+pub(crate) const VALIDATION: &str = "_Validation";
+
+/// Returns the rows of `_Validation` among tables, with values for the columns that it has in the package. A value that
+/// such a column doesn't take becomes null. Other tools write such ones, as a list of tables to which a key refers.
+///
+/// # Errors
+/// Fails at a column that `_Validation` hasn't got, and if memory is refused.
+pub(crate) fn rules_of(
+    alloc: Global,
+    columns: &[Column],
+    tables: &[GivenTable],
+) -> Result<Vec<Vec<Value>>, Failure> {
+    let mut rules = Vec::new(alloc);
+    for table in tables {
+        if table.name.as_str() == VALIDATION {
+            add_rules(alloc, columns, table, &mut rules)?;
+        }
+    }
+    Ok(rules)
+}
+
+/// Adds the rows of a table.
+fn add_rules(
+    alloc: Global,
+    columns: &[Column],
+    table: &GivenTable,
+    rules: &mut Vec<Vec<Value>>,
+) -> Result<(), Failure> {
+    for row in package_rows(alloc, columns, table)? {
+        let mut rule = row;
+        forget_others(columns, rule.as_mut_slice());
+        rules.push(rule)?;
+    }
+    Ok(())
+}
+
+/// Makes values null that columns don't take.
+fn forget_others(columns: &[Column], row: &mut [Value]) {
+    for i in 0..row.len().min(columns.len()) {
+        if !columns[i].is_valid_value(&row[i]) {
+            row[i] = Value::Null;
+        }
+    }
+}
+
+/// Returns the row about a column, or nothing where there is none.
+pub(crate) fn rule_about<'a>(rules: &'a [Vec<Value>], table: &str, column: &str) -> &'a [Value] {
+    for rule in rules {
+        if is_about(rule.as_slice(), table, column) {
+            return rule.as_slice();
+        }
+    }
+    &[]
+}
+
+/// Whether a row is about a column.
+fn is_about(rule: &[Value], table: &str, column: &str) -> bool {
+    match rule {
+        [Value::Str(of), Value::Str(name), ..] => of.as_str() == table && name.as_str() == column,
+        _ => false,
+    }
+}
