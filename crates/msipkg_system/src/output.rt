@@ -24,8 +24,9 @@ enum Sink {
 
 /// What is printed, on its way to standard output, standard error, a file or memory.
 ///
-/// Bytes are collected, and written in large pieces. What fails is kept, and whatever is printed afterwards is dropped:
-/// so what prints returns nothing, and who has all of it printed asks once, by `end`.
+/// Bytes are collected, and written in large pieces. If something fails, that is kept, what was printed before is
+/// written, and whatever is printed afterwards is dropped: so what prints returns nothing, and who has all of it
+/// printed asks once, by `end`.
 pub struct Output {
     bytes: Vec<u8>,
     sink: Sink,
@@ -89,9 +90,9 @@ impl Output {
         self.pass_on(done);
     }
 
-    /// Notes that memory was refused for something that was to be printed.
+    /// Notes that memory was refused for something that was to be printed. What was printed before is written.
     pub fn refuse_memory(&mut self, error: AllocError) {
-        self.keep(Err(io::Error::from(error)));
+        self.pass_on(Err(io::Error::from(error)));
     }
 
     /// Returns whether something failed.
@@ -156,13 +157,13 @@ impl Output {
         }
     }
 
-    /// Writes what is collected, if it is enough.
+    /// Writes what is collected, if it is enough, or if nothing comes behind it since something failed.
     fn pass_on(&mut self, done: io::Result<()>) {
-        self.keep(done);
-        let is_at_once = matches!(self.sink, Sink::Messages(_));
+        let is_at_once = done.is_err() || matches!(self.sink, Sink::Messages(_));
         if is_at_once || self.bytes.len() >= CAPACITY {
             self.write_out();
         }
+        self.keep(done);
     }
 
     /// Writes what is collected, unless something failed: then it is dropped.
