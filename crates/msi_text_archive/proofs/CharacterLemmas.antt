@@ -1,12 +1,12 @@
 -- Control characters change places with those that stand for them.
-use Rattle.std.proofs.Common.{◌≡◌, ℕ, ◌+◌, ◌/◌, ◌%◌, ◌<◌, ◌≤◌, Bool, true, false, List, [], ◌∷◌, ◌++◌, refl, sym, ap, ◌∙◌, subst, append_assoc, arith, map, cond, eqb, ltb, encode_utf8_all}
+use Rattle.std.proofs.Common.{◌≡◌, ℕ, ◌+◌, ◌/◌, ◌%◌, ◌<◌, ◌≤◌, Bool, true, false, ◌||◌, List, [], ◌∷◌, ◌++◌, refl, sym, ap, ◌∙◌, subst, append_assoc, arith, map, cond, eqb, ltb, encode_utf8_all}
 use Rattle.std.proofs.Math.Utf8.{encode}
 use Rattle.std.specs.Char.{is_ascii_digit}
 use Rattle.std.specs.List.{AllByRecursion, list_any}
 use Rattle.std.specs.Str.{IsUtf8, chars}
 use Rattle.std.proofs.lemmas.List.{append-nil, map-append, map-id}
 use Rattle.std.proofs.lemmas.Bool.Decides.{Decides-eqb, Decides-ltb}
-use Rattle.std.proofs.lemmas.Bool.{ltb-false}
+use Rattle.std.proofs.lemmas.Bool.{ltb-false, or_parts}
 use Rattle.std.proofs.lemmas.Str.{encode_ascii, encodes-append, encodes-chars}
 use Rattle.msi_text_base.proofs.BoolLemmas.{by_test}
 use Rattle.msi_text_base.proofs.ListLemmas.{list_any-map, list_any_same}
@@ -56,6 +56,16 @@ control_of_field text = list_any-map is_control swapped text
 
 pub stand_in_of_text : (field : List ℕ) → list_any is_stand_in (map swapped field) ≡ list_any is_control field
 stand_in_of_text field = list_any-map is_stand_in swapped field ∙ list_any_same (λ c. is_stand_in (swapped c)) is_control field (λ c. ap is_control (swapped_twice c))
+
+-- a text without characters that change places stays
+stays_plain : (c : ℕ) → (is_control c || is_stand_in c) ≡ false → swapped c ≡ c
+stays_plain = by_character (λ c. (is_control c || is_stand_in c) ≡ false → swapped c ≡ c) (λ e. never (sym e)) (λ e. never (sym e)) (λ e. never (sym e)) (λ e. never (sym e)) (λ e. never (sym e)) (λ e. never (sym e)) (λ e. never (sym e)) (λ e. never (sym e)) (λ e. never (sym e)) (λ e. never (sym e)) (λ e. never (sym e)) (λ e. never (sym e)) (λ c stays plain e. stays)
+
+pub text_stays : (text : List ℕ) → list_any (λ c. is_control c || is_stand_in c) text ≡ false → map swapped text ≡ text
+text_stays [] e = refl
+text_stays (c ∷ cs) e =
+    let parts = or_parts (is_control c || is_stand_in c) (list_any (λ c. is_control c || is_stand_in c) cs) e in
+    ap (λ x. x ∷ map swapped cs) (stays_plain c parts.0) ∙ ap (λ xs. c ∷ xs) (text_stays cs parts.1)
 
 -- a byte past ASCII stays
 pub high_stays : (c : ℕ) → 128 ≤ c → swapped c ≡ c

@@ -1,13 +1,15 @@
 -- What is written of an archive means it.
-use Rattle.std.proofs.Common.{◌≡◌, ℕ, ◌<◌, ◌^◌, true, not, ◌&&◌, List, [], ◌∷◌, ◌++◌, Option, Some, None, refl, sym, ap, ◌∙◌, subst, arith, map, length, is_some}
+use Rattle.std.proofs.Common.{◌≡◌, ℕ, ◌<◌, ◌^◌, Bool, true, false, not, ◌&&◌, List, [], ◌∷◌, ◌++◌, Option, Some, None, refl, sym, ap, ◌∙◌, subst, arith, map, length, is_some, append_assoc}
 use Rattle.std.specs.Fmt.{decimal}
 use Rattle.std.specs.List.{AllByRecursion, AllZip, flat_map, list_all}
 use Rattle.std.specs.Str.Lines.{lines}
 use Rattle.std.proofs.lemmas.Bool.{and_parts}
+use Rattle.std.proofs.lemmas.List.{append-nil}
 use Rattle.std.proofs.lemmas.Bool.Decides.{Decides-ltb}
 use Rattle.msi_text.specs.Numerals.{u16_in}
 use Rattle.msi_table_values.specs.declared.value.Value.{Value}
 use Rattle.msi_text_archive.specs.Archives.{ArchiveColumnDef, ArchiveDef, KeysDef}
+use Rattle.msi_text_archive.specs.ArchiveLaws.{LinesBehind, WrittenByRows}
 use Rattle.msi_text_archive.specs.Fields.{fields, header_fields}
 use Rattle.msi_text_archive.specs.TextArchives.{MeanColumns, MeanKeys, MeanRow, Means, MeansPage, MeansText}
 use Rattle.msi_text_archive.specs.Writing.{archive_text, can_write, has_column_fields, has_field, has_key_fields, has_row_fields, has_row_line, has_table_field, has_type_field, has_value_field, key_fields, line_of, name_fields, page_fields, row_line, tabbed, text_field, type_fields, value_field}
@@ -148,3 +150,21 @@ written_means archive h =
       head = head_back archive.head q.0;
       rows = rows_back archive.columns archive.rows q.1;
     }
+
+-- ---- row by row
+
+lines_behind : (names types keys rows : List ℕ) → names ++ (types ++ (keys ++ rows)) ≡ (names ++ (types ++ (keys ++ []))) ++ rows
+lines_behind names types keys rows =
+    sym (append_assoc names (types ++ (keys ++ [])) rows
+    ∙ ap (λ line. names ++ line) (append_assoc types (keys ++ []) rows ∙ ap (λ line. types ++ (line ++ rows)) (append-nil keys)))
+
+tests_behind : (columns head rows : Bool) → (columns && (head && rows)) ≡ ((columns && (head && true)) && rows)
+tests_behind true true rows = refl
+tests_behind true false rows = refl
+tests_behind false head rows = refl
+
+pub rows_behind : (archive : ArchiveDef) → LinesBehind archive × WrittenByRows archive
+rows_behind archive = (
+  lines_behind (line_of (name_fields archive.columns)) (line_of (type_fields archive.columns)) (line_of (key_fields archive.head)) (flat_map row_line archive.rows),
+  tests_behind (list_all has_column_fields archive.columns) (has_key_fields archive.head) (list_all (has_row_line archive.columns) archive.rows),
+)

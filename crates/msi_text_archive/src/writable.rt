@@ -133,7 +133,11 @@ fn check_keys(archive: &Archive) -> Result<(), ArchiveError>
 }
 
 /// Refuses a row whose line, of this number, hasn't a value with a field for each column, or where there is no column.
-fn check_row(line: usize, columns: &[ArchiveColumn], row: &[Value]) -> Result<(), ArchiveError>
+pub(crate) fn check_row(
+    line: usize,
+    columns: &[ArchiveColumn],
+    row: &[Value],
+) -> Result<(), ArchiveError>
     ensures { Checks result (has_row_line columns.now row.now) }
 {
     if columns.len() != row.len() {

@@ -1,11 +1,11 @@
 //! Writing an archive as its text.
 
-ghost use Rattle.std.specs.Prelude.{◌≡◌, ◌++◌, ◌∷◌, [], IfOk, IfErr, OnOk, if◌then◌else◌, map, string_bytes};
+ghost use Rattle.std.specs.Prelude.{◌≡◌, ◌++◌, ◌∷◌, [], IfOk, IfErr, OnOk, if◌then◌else◌, map, string_bytes, true};
 ghost use Rattle.std.specs.List.{flat_map};
 ghost use Rattle.msi_text_base.specs.declared.errors.ErrorKind.TheVariants.{InvalidInput, OutOfMemory};
 ghost use Rattle.msi_text_archive.specs.TextArchives.{Means};
 ghost use Rattle.msi_text_archive.specs.Writing.{archive_text, can_write, key_fields, line_of, name_fields};
-ghost use Rattle.msi_text_archive.specs.Writing.{page_front, row_line, type_fields};
+ghost use Rattle.msi_text_archive.specs.Writing.{has_row_line, page_front, row_line, type_fields};
 ghost use Rattle.msi_text_archive.specs.Writing.{type_field as type_field_of};
 ghost use Rattle.msi_text_archive.specs.Writing.{type_letter as type_letter_of, type_width as type_width_of};
 ghost use Rattle.msi_text_archive.specs.Writing.{value_field as value_field_of};
@@ -13,7 +13,7 @@ ghost use Rattle.msi_text_archive.specs.Writing.{value_field as value_field_of};
 use crate::archive::{Archive, ArchiveColumn};
 use crate::characters::push_swapped;
 use crate::errors::ArchiveError;
-use crate::writable::check_archive;
+use crate::writable::{check_archive, check_row};
 use msi_table_values::column::ColumnType;
 use msi_table_values::value::Value;
 use msi_text::text::Items;
@@ -173,4 +173,30 @@ pub fn write(alloc: Global, archive: &Archive) -> Result<String, ArchiveError>
     check_archive(archive)?;
     let text = text_of_archive(alloc, archive)?;
     Ok(text)
+}
+
+/// Writes the line of a row behind a text: the text of the archive without rows, and behind it the line of each row, is
+/// the text of the archive. So the rows of a large table need not be held. Errors name the line by the number that is
+/// given, which is 4 for the first row.
+///
+/// # Errors
+/// Fails with `InvalidInput` if no line means the row, and then the text stays as it was: a text is empty or has one of
+/// the characters that stand for control characters; a value isn't of its column's type, or there isn't one for each
+/// column; or there is no column. Otherwise it fails with `OutOfMemory`, and a part of the line may stand behind the
+/// text.
+pub fn write_row(
+    text: &mut String,
+    line: usize,
+    columns: &[ArchiveColumn],
+    row: &[Value],
+) -> Result<(), ArchiveError>
+    ensures ok { OnOk result (string_bytes text.new ≡ string_bytes text.old ++ row_line row.now) }
+    ensures only { OnOk result (has_row_line columns.now row.now ≡ true) }
+    ensures kind { IfErr result (λ kind.
+        kind ≡ (if has_row_line columns.now row.now then OutOfMemory else InvalidInput)) }
+    ensures same { IfErr result (λ kind. kind ≡ InvalidInput → string_bytes text.new ≡ string_bytes text.old) }
+{
+    check_row(line, columns, row)?;
+    push_row(text, row)?;
+    Ok(())
 }

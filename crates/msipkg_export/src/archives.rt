@@ -188,7 +188,7 @@ fn write_text(
     folder: &Folder<'_>,
 ) -> Result<(), Failure> {
     let name = archive_name(rt.alloc(), safe)?;
-    match archive.encoded(rt.alloc()) {
+    match archive.text.encoded(rt.alloc()) {
         Ok(bytes) => folder.write(rt, name.as_str(), bytes.as_slice()),
         Err(error) => at_file(rt.alloc(), name.as_str(), Err(Failure::from(error))),
     }

@@ -1,7 +1,7 @@
 //! The archives of what isn't in a table: the code page, the summary, and the streams that no row has.
 
 use crate::archive_parts::text_value;
-use crate::archive_texts::archive_text;
+use crate::archive_texts::{StoredText, text_of_rows};
 use crate::table_archives::{StreamFile, TableArchive};
 use msipkg_files::SafeNames;
 use msipkg_output::msi::{CodePage, Column, Error, Items, Package, SummaryInfo, Value};
@@ -23,7 +23,7 @@ pub(crate) const STREAMS: &str = "_Streams";
 pub(crate) fn page_archive(alloc: Global, page: CodePage) -> Result<TableArchive, AllocError> {
     let id = page.id();
     let text = format!(in alloc; "\r\n\r\n{id}\t{PAGE}\r\n")?;
-    Ok(TableArchive::new(page, text, Vec::new(alloc)))
+    Ok(TableArchive::new(StoredText::of_ascii(text), Vec::new(alloc)))
 }
 
 /// Returns the archive of the summary, in the summary's own code page.
@@ -34,16 +34,16 @@ pub(crate) fn summary_archive(
     alloc: Global,
     summary: &SummaryInfo,
 ) -> Result<TableArchive, Failure> {
-    let page = summary.codepage();
-    let text = summary_text(alloc, page, summary)?;
-    Ok(TableArchive::new(page, text, Vec::new(alloc)))
+    let text = summary_text(alloc, summary)?;
+    Ok(TableArchive::new(text, Vec::new(alloc)))
 }
 
 /// The text of the summary's archive.
-fn summary_text(alloc: Global, page: CodePage, summary: &SummaryInfo) -> Result<String, Failure> {
+fn summary_text(alloc: Global, summary: &SummaryInfo) -> Result<StoredText, Failure> {
     let columns = summary_columns(alloc)?;
     let rows = summary_rows(alloc, summary)?;
-    archive_text(alloc, page, SUMMARY, columns.as_slice(), rows)
+    let page = summary.codepage();
+    text_of_rows(alloc, page, SUMMARY, columns.as_slice(), rows.as_slice())
 }
 
 /// The columns of the summary's archive.
@@ -82,7 +82,7 @@ pub(crate) fn streams_archive(
     let page = package.database_codepage();
     let files = stream_files(alloc, package, named)?;
     let text = streams_text(alloc, page, files.as_slice())?;
-    Ok(TableArchive::new(page, text, files))
+    Ok(TableArchive::new(text, files))
 }
 
 /// The streams that aren't named and are found under their names, with the names of their files.
@@ -104,10 +104,14 @@ fn stream_files(
 }
 
 /// The text of the archive of streams.
-fn streams_text(alloc: Global, page: CodePage, files: &[StreamFile]) -> Result<String, Failure> {
+fn streams_text(
+    alloc: Global,
+    page: CodePage,
+    files: &[StreamFile],
+) -> Result<StoredText, Failure> {
     let columns = stream_columns(alloc)?;
     let rows = stream_rows(alloc, files)?;
-    archive_text(alloc, page, STREAMS, columns.as_slice(), rows)
+    text_of_rows(alloc, page, STREAMS, columns.as_slice(), rows.as_slice())
 }
 
 /// The columns of the archive of streams.

@@ -1,9 +1,9 @@
 //! Tables as text archives, with the files of their rows' streams.
 
 use crate::archive_parts::text_value;
-use crate::archive_texts::archive_text;
+use crate::archive_texts::{ArchiveText, StoredText};
 use msipkg_files::SafeNames;
-use msipkg_output::msi::{CodePage, Error, Items, Package, Row, Rows, Table, Value};
+use msipkg_output::msi::{Error, Package, Row, Rows, Table, Value};
 use msipkg_output::{Failure, Opened, Output, Shown, Style, rows_of, stream_name};
 use std::alloc::Global;
 
@@ -31,67 +31,54 @@ impl StreamFile {
 }
 
 /// A table as the text of an archive, with the files of its rows' streams.
-pub struct TableArchive {
-    /// The code page in which the text is stored.
-    pub page: CodePage,
+pub(crate) struct TableArchive {
     /// The text.
-    pub text: String,
+    pub(crate) text: StoredText,
     /// The streams of the rows, whose values in the archive are the names of their files.
-    pub files: Vec<StreamFile>,
+    pub(crate) files: Vec<StreamFile>,
 }
 
 /// Written out, so that a function that owns one calls one drop, and its proof doesn't go through those of the parts.
 impl Drop for TableArchive {
     fn drop(self) {
-        let TableArchive {
-            page: _,
-            text: _,
-            files: _,
-        } = self;
+        let TableArchive { text: _, files: _ } = self;
     }
 }
 
 impl TableArchive {
-    /// Returns an archive of a text in a code page, and of the streams that it names.
-    pub(crate) fn new(page: CodePage, text: String, files: Vec<StreamFile>) -> TableArchive {
-        TableArchive { page, text, files }
-    }
-
-    /// Returns the bytes of the text, as they are stored.
-    ///
-    /// # Errors
-    /// Fails with `InvalidInput` if the text can't be written in its code page, and with `OutOfMemory`.
-    pub(crate) fn encoded(&self, alloc: Global) -> Result<Vec<u8>, Error> {
-        self.page.encode(alloc, self.text.as_str())
+    /// Returns an archive of a text, and of the streams that it names.
+    pub(crate) fn new(text: StoredText, files: Vec<StreamFile>) -> TableArchive {
+        TableArchive { text, files }
     }
 
     /// Returns the streams of the rows.
     pub(crate) fn into_files(self) -> Vec<StreamFile> {
-        let TableArchive {
-            page: _,
-            text: _,
-            files,
-        } = self;
+        let TableArchive { text: _, files } = self;
         files
     }
 }
 
-/// The rows of a table as an archive has them, with the files of their streams.
-struct Gathering {
+/// The rows of a table on their way into its archive, with the files of their streams.
+struct Gathering<'a> {
     alloc: Global,
+    table: &'a str,
     given: SafeNames,
     files: Vec<StreamFile>,
-    rows: Vec<Items<Value>>,
+    /// The values of a row, as an archive has them.
+    row: Vec<Value>,
+    text: ArchiveText<'a>,
 }
 
 /// Written out, so that a function that owns one calls one drop, and its proof doesn't go through those of the parts.
-impl Drop for Gathering {
+impl Drop for Gathering<'_> {
     fn drop(self) {
         let Gathering {
             alloc: _,
+            table: _,
             given: _,
             files: _,
-            rows: _,
+            row: _,
+            text: _,
         } = self;
     }
 }
@@ -100,71 +87,70 @@ impl Drop for Gathering {
 ///
 /// # Errors
 /// Fails if the table can't be read, and at a text that no archive can have.
-pub fn table_archive(
+pub(crate) fn table_archive(
     alloc: Global,
     package: &Package<Opened>,
     table: &Table,
 ) -> Result<TableArchive, Failure> {
     let rows = rows_of(alloc, package, table.name())?;
-    let gathered = gather(alloc, table.name(), rows)?;
-    gathered.write(package.database_codepage(), table)
-}
-
-/// The rows of a table as an archive has them.
-fn gather(alloc: Global, table: &str, rows: Rows<'_>) -> Result<Gathering, Error> {
+    let page = package.database_codepage();
     let mut gathered = Gathering {
         alloc,
+        table: table.name(),
         given: SafeNames::new(alloc),
         files: Vec::new(alloc),
-        rows: Vec::new(alloc),
+        row: Vec::new(alloc),
+        text: ArchiveText::new(alloc, page, table.name(), table.columns())?,
     };
-    gathered.add_rows(table, rows)?;
-    Ok(gathered)
+    gathered.add_rows(rows)?;
+    gathered.into_archive()
 }
 
-impl Gathering {
-    /// The archive of a table with these rows.
-    fn write(self, page: CodePage, table: &Table) -> Result<TableArchive, Failure> {
+impl Gathering<'_> {
+    /// The archive of the rows.
+    fn into_archive(self) -> Result<TableArchive, Failure> {
         let Gathering {
-            alloc,
+            alloc: _,
+            table: _,
             given: _,
             files,
-            rows,
+            row: _,
+            text,
         } = self;
-        let text = archive_text(alloc, page, table.name(), table.columns(), rows)?;
-        Ok(TableArchive::new(page, text, files))
+        Ok(TableArchive::new(text.into_stored()?, files))
     }
 
     /// Adds rows.
-    fn add_rows(&mut self, table: &str, rows: Rows<'_>) -> Result<(), Error> {
+    fn add_rows(&mut self, rows: Rows<'_>) -> Result<(), Failure> {
         for row in rows {
-            self.add_row(table, &row?)?;
+            self.add_row(&row?)?;
         }
         Ok(())
     }
 
     /// Adds a row.
-    fn add_row(&mut self, table: &str, row: &Row) -> Result<(), Error> {
-        let mut values = Vec::with_capacity(self.alloc, row.len())?;
+    fn add_row(&mut self, row: &Row) -> Result<(), Failure> {
+        self.row.clear();
         for i in 0..row.len() {
-            values.push(self.value_of(table, row, &row[i])?)?;
+            let value = self.value_of(row, &row[i])?;
+            self.row.push(value)?;
         }
-        Ok(self.rows.push(Items::from_vec(values))?)
+        self.text.push(self.row.as_slice())
     }
 
     /// The value of an archive for a value of a row.
-    fn value_of(&mut self, table: &str, row: &Row, value: &Value) -> Result<Value, Error> {
+    fn value_of(&mut self, row: &Row, value: &Value) -> Result<Value, Error> {
         match value {
             Value::Null => Ok(Value::Null),
             Value::Int(number) => Ok(Value::Int(*number)),
             Value::Str(text) => text_value(self.alloc, text.as_str()),
-            Value::Binary => self.file_of(table, row),
+            Value::Binary => self.file_of(row),
         }
     }
 
     /// The name of the file of a row's stream, as a value.
-    fn file_of(&mut self, table: &str, row: &Row) -> Result<Value, Error> {
-        let stream = stream_name(self.alloc, table, row)?;
+    fn file_of(&mut self, row: &Row) -> Result<Value, Error> {
+        let stream = stream_name(self.alloc, self.table, row)?;
         let file = self.given.give(stream.as_str())?;
         let value = Value::from_text(self.alloc, file.as_str())?;
         self.files.push(StreamFile { stream, file })?;
@@ -190,17 +176,13 @@ pub(crate) fn write_archive(
         write_shown(archive.text.as_str(), output);
         Ok(())
     } else {
-        write_encoded(alloc, &archive, output)
+        write_encoded(alloc, &archive.text, output)
     }
 }
 
 /// Writes the bytes of an archive.
-fn write_encoded(
-    alloc: Global,
-    archive: &TableArchive,
-    output: &mut Output,
-) -> Result<(), Failure> {
-    let bytes = archive.encoded(alloc)?;
+fn write_encoded(alloc: Global, text: &StoredText, output: &mut Output) -> Result<(), Failure> {
+    let bytes = text.encoded(alloc)?;
     output.push_bytes(bytes.as_slice());
     Ok(())
 }

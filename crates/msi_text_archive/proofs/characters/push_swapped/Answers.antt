@@ -1,15 +1,9 @@
-use Rattle.std.proofs.Common.{string_bytes}
-use Rattle.std.proofs.lemmas.Iterator.{YieldsList-from_chars}
-use Rattle.std.proofs.lemmas.Iterator.Consumers.{YieldsList-end}
-use Rattle.msi_text_archive.proofs.CharacterLemmas.{text_step, text_whole}
+use Rattle.std.proofs.Common.{◌++◌, ◌∙◌, ap, string_bytes, sym}
+use Rattle.msi_text_archive.proofs.CharacterLemmas.{text_stays}
+use Rattle.msi_text_archive.proofs.PushedLemmas.{when_pushed}
 use Rattle.msi_text_archive.proofs.characters.push_swapped.Goals as goal
 
-pub loop-character-preserved : goal.loop-character-preserved
-loop-character-preserved c =
-    text_step (string_bytes c.args.text.now) (string_bytes c.loop-character.text) (string_bytes c.push.new.self) c.loop-character.yielded c.in-Some.character c.swapped.result
-    c.swapped.ensures c.loop-character.invariant c.in_ok-push.ensures.bytes
-
-pub returns : goal.returns
-returns c =
-    let all = YieldsList-end (YieldsList-from_chars c.args.plain.now c.utf8.plain cc) c.loop-character.yielded _ c.loop-character.yielded_by _ _ c.in-None.is c.next.ensures.steps in
-    text_whole (string_bytes c.args.text.now) (string_bytes c.loop-character.text) c.args.plain.now c.loop-character.yielded c.utf8.plain all.0 c.loop-character.invariant
+pub returns-else-has_moved : goal.returns-else-has_moved
+returns-else-has_moved c =
+    when_pushed c.push_str.result (string_bytes c.args.text.now) c.args.plain.now (string_bytes c.push_str.new.self) _ c.push_str.ensures.bytes (λ ended.
+    ended ∙ ap (λ plain. string_bytes c.args.text.now ++ plain) (sym (text_stays c.args.plain.now (sym c.has_moved.ensures ∙ c.if-has_moved.false))))
