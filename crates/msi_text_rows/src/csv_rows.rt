@@ -9,6 +9,7 @@ ghost use Rattle.msi_text_rows.specs.CsvRows.{csv_line, value_field};
 
 use csv::{Error, Writer};
 use itoa::Buffer;
+use msi_table::row::Row;
 use msi_table_values::value::Value;
 use std::io::Write;
 
@@ -42,18 +43,18 @@ fn write_csv_value<W: Write + Drop>(writer: &mut Writer<W>, value: &Value) -> Re
 /// # Errors
 /// Fails if the output does, or if the row has another length than the first line, unless the writer is set up as
 /// flexible.
-pub fn write_csv_row<W: Write + Drop>(writer: &mut Writer<W>, row: &[Value]) -> Result<(), Error>
+pub fn write_csv_row<W: Write + Drop>(writer: &mut Writer<W>, row: &Row) -> Result<(), Error>
     ensures bytes { OnOk result (fields_written writer.old ≡ 0 → has_written writer.old ≡ false
         → (writer_setup writer.old).style ≢ NonNumeric
         → Appends (text_written W.contents writer.old) (text_written W.contents writer.new)
-        (csv_line (writer_setup writer.old) row.now)) }
+        (csv_line (writer_setup writer.old) row.now.values)) }
     ensures ended { OnOk result (fields_written writer.new ≡ 0) }
     ensures clean { OnOk result (has_written writer.new ≡ false) }
     ensures setup { OnOk result (writer_setup writer.new ≡ writer_setup writer.old) }
     ensures refused { IfErr result (λ e. Refused e) }
 {
-    for value in row {
-        write_csv_value(writer, value)?;
+    for i in 0..row.len() {
+        write_csv_value(writer, &row[i])?;
     }
     writer.end_record()
 }

@@ -6,7 +6,7 @@ ghost use Rattle.json.specs.Written.{WritesFront};
 ghost use Rattle.msi_text_rows.specs.JsonRows.{names_of, object_json, row_json, value_json};
 
 use json::Writer;
-use msi_table_values::column::Column;
+use msi_table::row::Row;
 use msi_table_values::value::Value;
 use std::alloc::AllocError;
 
@@ -31,37 +31,33 @@ pub fn write_json_value(writer: &mut Writer, value: &Value) -> Result<(), AllocE
 ///
 /// # Errors
 /// Fails if memory is refused.
-pub fn write_json_row(writer: &mut Writer, row: &[Value]) -> Result<(), AllocError>
-    ensures ok { OnOk result (writer.new.tokens ≡ writer.old.tokens ++ json_tokens (row_json row.now)) }
+pub fn write_json_row(writer: &mut Writer, row: &Row) -> Result<(), AllocError>
+    ensures ok { OnOk result (writer.new.tokens ≡ writer.old.tokens ++ json_tokens (row_json row.now.values)) }
     ensures err { OnErr result
-        (WritesFront writer.old.tokens writer.new.tokens (json_tokens (row_json row.now))) }
+        (WritesFront writer.old.tokens writer.new.tokens (json_tokens (row_json row.now.values))) }
     ensures before { writer.new.before ≡ writer.old.before }
 {
     writer.begin_array()?;
-    for value in row {
-        write_json_value(writer, value)?;
+    for i in 0..row.len() {
+        write_json_value(writer, &row[i])?;
     }
     writer.end_array()
 }
 
-/// Writes a row as an object: a member for each column that has a value, under its name. If it fails, a part in front
-/// may be written.
+/// Writes a row as an object: a member for each column, under its name. If it fails, a part in front may be written.
 ///
 /// # Errors
 /// Fails if memory is refused.
-pub fn write_json_object(
-    writer: &mut Writer,
-    columns: &[Column],
-    row: &[Value],
-) -> Result<(), AllocError>
+pub fn write_json_object(writer: &mut Writer, row: &Row) -> Result<(), AllocError>
     ensures ok { OnOk result (writer.new.tokens
-        ≡ writer.old.tokens ++ json_tokens (object_json (names_of columns.now) row.now)) }
+        ≡ writer.old.tokens ++ json_tokens (object_json (names_of row.now.columns) row.now.values)) }
     ensures err { OnErr result (WritesFront writer.old.tokens writer.new.tokens
-        (json_tokens (object_json (names_of columns.now) row.now))) }
+        (json_tokens (object_json (names_of row.now.columns) row.now.values))) }
     ensures before { writer.new.before ≡ writer.old.before }
 {
+    let columns = row.columns();
     writer.begin_object()?;
-    for i in 0..columns.len().min(row.len()) {
+    for i in 0..row.len() {
         writer.key(columns[i].name())?;
         write_json_value(writer, &row[i])?;
     }

@@ -5,11 +5,11 @@ use Rattle.csv.specs.declared.writer.QuoteStyle.TheVariants.{NonNumeric}
 use Rattle.msi_text_rows.specs.CsvRows.{value_field}
 use Rattle.msi_text_rows.proofs.csv_rows.write_csv_row.Given as goal
 
-abbrev pub invariant-loop-value : goal.invariant-loop-value
-invariant-loop-value g l = record {
+abbrev pub invariant-loop-i : goal.invariant-loop-i
+invariant-loop-i g l = record {
   setup : writer_setup l.writer ≡ writer_setup l.fn.writer;
   written : fields_written l.fn.writer ≡ 0 → has_written l.fn.writer ≡ false → (writer_setup l.fn.writer).style ≢ NonNumeric
-      → Appends (text_written g.W.Write.contents l.fn.writer) (text_written g.W.Write.contents l.writer) (row_body (writer_setup l.fn.writer) (take l.value-index (map value_field l.row)))
-      × (fields_written l.writer ≡ l.value-index)
-      × (is_blank (writer_setup l.fn.writer) (take l.value-index (map value_field l.row)) ≡ (not (has_written l.writer) && ((l.value-index == 0) || (l.value-index == 1))));
+      → Appends (text_written g.W.Write.contents l.fn.writer) (text_written g.W.Write.contents l.writer) (row_body (writer_setup l.fn.writer) (take l.i (map value_field l.row.values)))
+      × (fields_written l.writer ≡ l.i)
+      × (is_blank (writer_setup l.fn.writer) (take l.i (map value_field l.row.values)) ≡ (not (has_written l.writer) && ((l.i == 0) || (l.i == 1))));
 }

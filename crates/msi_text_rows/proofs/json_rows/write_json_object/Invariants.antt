@@ -7,7 +7,7 @@ use Rattle.msi_text_rows.proofs.json_rows.write_json_object.Given as goal
 
 abbrev pub invariant-loop-i : goal.invariant-loop-i
 invariant-loop-i l = record {
-  left : l.writer.tokens ++ members_from l.columns l.row l.i ≡ l.fn.writer.tokens ++ json_tokens (object_json (names_of l.columns) l.row);
+  left : l.writer.tokens ++ members_from l.row.columns l.row.values l.i ≡ l.fn.writer.tokens ++ json_tokens (object_json (names_of l.row.columns) l.row.values);
   front : (done : List Token) × (l.writer.tokens ≡ l.fn.writer.tokens ++ done);
   before : l.writer.before ≡ l.fn.writer.before;
 }
