@@ -33,9 +33,9 @@ fn plain_value(coltype: ColumnType, field: &str) -> Option<Value>
     }
 }
 
-/// Returns the value that a field stands for in a column of a type: null if it is empty, in a column of numbers a number
-/// of 32 bits in decimal, in front of which a sign may stand, in a column of streams a stream if it is `[stream]`, and
-/// otherwise its text, which the column may refuse.
+/// Returns the value that a field stands for in a column of a type. An empty field stands for null. In a column of
+/// numbers, a number of 32 bits in decimal stands for itself, also behind a sign; in a column of streams, `[stream]`
+/// stands for a stream. All else is a text, which the column may refuse.
 ///
 /// # Errors
 /// Fails with `OutOfMemory`.
