@@ -2,10 +2,10 @@
 
 use base64::engine::general_purpose::STANDARD;
 use msipkg_output::json::{JsonObject, write_quoted, write_text};
-use msipkg_output::msi::{Error, Package, Row, Rows, SummaryInfo, Table};
+use msipkg_output::msi::{Error, Package, Rows, SummaryInfo, Table};
 use msipkg_output::{
-    Failure, Opened, Output, PROPERTIES, Style, chosen_tables, kind_name, property_text,
-    put_columns, rows_of, write_json_value,
+    Failure, JsonRow, Opened, Output, PROPERTIES, Style, chosen_tables, kind_name, property_text,
+    put_columns, rows_of,
 };
 use std::alloc::{AllocError, Global};
 
@@ -149,25 +149,27 @@ fn write_rows(
     output: &mut Output,
 ) -> Result<(), Failure> {
     output.push_str(",\"rows\":[");
-    let mut before: &[u8] = b"[";
-    for row in rows {
-        output.push_bytes(before);
-        before = b",[";
-        write_row(alloc, style, &row?, output);
-    }
+    write_lists(alloc, style, rows, output)?;
     output.push_str("]}");
     Ok(())
 }
 
-/// Writes the values of a row, and ends it.
-fn write_row(alloc: Global, style: Style, row: &Row, output: &mut Output) {
+/// Writes rows as lists of their values.
+fn write_lists(
+    alloc: Global,
+    style: Style,
+    rows: Rows<'_>,
+    output: &mut Output,
+) -> Result<(), Failure> {
+    let mut json = JsonRow::new(alloc);
     let mut before: &[u8] = b"";
-    for i in 0..row.len() {
+    for row in rows {
+        json = json.list(&row?)?;
         output.push_bytes(before);
         before = b",";
-        write_json_value(alloc, style, &row[i], output);
+        json.print(style, output);
     }
-    output.push_str("]");
+    Ok(())
 }
 
 /// Writes the streams that are found under their names.

@@ -1,12 +1,10 @@
 //! Rows that files give, as a package's table has them.
 
 use msipkg_output::msi::{Column, ColumnType, Error, Package, Value};
+use msipkg_output::msi_text_rows::csv_value;
 use msipkg_output::{Failure, Opened};
 use msipkg_reading::GivenTable;
 use std::alloc::Global;
-
-/// The text of a stream, as `query --format csv` prints it.
-const STREAM: &str = "[stream]";
 
 /// Returns the columns of a package's table, or none where it isn't there.
 pub(crate) fn columns_of<'a>(package: &'a Package<Opened>, name: &str) -> &'a [Column] {
@@ -67,21 +65,19 @@ fn package_row(
     Ok(values)
 }
 
-/// The value of a column of a type, which is null where none is given. A text stands for a number or a stream there, as
-/// CSV has all values. One that doesn't is left to be refused.
+/// The value of a column of a type, which is null where none is given. A text stands for what a field of CSV does, but
+/// for the empty text. One that the column doesn't take is left to be refused.
 fn package_value(
     alloc: Global,
     coltype: ColumnType,
     given: Option<&Value>,
 ) -> Result<Value, Error> {
-    let Some(value) = given else {
-        return Ok(Value::Null);
-    };
-    let text = value.as_str().unwrap_or("");
-    match (coltype, text.parse::<i32>()) {
-        (ColumnType::Int16 | ColumnType::Int32, Ok(number)) => Ok(Value::Int(number)),
-        (ColumnType::Binary, _) if text == STREAM => Ok(Value::Binary),
-        _ => value.clone(alloc),
+    match given {
+        None => Ok(Value::Null),
+        Some(Value::Str(text)) if !text.as_str().is_empty() => {
+            csv_value(alloc, coltype, text.as_str())
+        }
+        Some(value) => value.clone(alloc),
     }
 }
 

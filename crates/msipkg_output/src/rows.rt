@@ -2,9 +2,10 @@
 
 use crate::failure::Failure;
 use crate::grid::Grid;
-use crate::json;
+use crate::json::JsonRow;
 use crate::style::Style;
 use csv::Writer;
+use msi_text_rows::write_csv_row;
 use msipkg_system::Output;
 use msipkg_system::msi::{Column, Row, Rows, Value};
 use std::alloc::{AllocError, Global};
@@ -48,62 +49,18 @@ impl Format {
 /// What stands for a value of a stream: its bytes stand in a stream of the package.
 const STREAM: &str = "[stream]";
 
-/// What stands around values, in the formats that print row by row.
-struct Layout {
-    /// In front of all rows.
-    open: &'static str,
-    /// In front of the first row.
-    first: &'static str,
-    /// In front of each other row.
-    next: &'static str,
-    /// Between the values of a row.
-    between: &'static str,
-    /// Behind the last value of a row.
-    last: &'static str,
-    /// Behind all rows.
-    close: &'static str,
-}
-
-static TABS: Layout = Layout {
-    open: "",
-    first: "",
-    next: "",
-    between: "\t",
-    last: "\n",
-    close: "",
-};
-
-static LINES: Layout = Layout {
-    open: "",
-    first: "",
-    next: "\n",
-    between: "\n",
-    last: "\n",
-    close: "",
-};
-
-static JSON: Layout = Layout {
-    open: "[",
-    first: "\n{",
-    next: ",\n{",
-    between: ",",
-    last: "}",
-    close: "\n]\n",
-};
-
 /// How values are printed.
 #[derive(Clone, Copy)]
 struct Printer {
     alloc: Global,
     style: Style,
     format: Format,
-    layout: &'static Layout,
 }
 
 /// Writes rows. Null prints as nothing, in JSON as `null`; a stream as `[stream]`, in JSON as `true`.
 ///
 /// # Errors
-/// Fails as reading a row does, and for CSV if memory is refused.
+/// Fails as reading a row does, and for CSV and JSON if memory is refused.
 pub fn write_rows(
     alloc: Global,
     style: Style,
@@ -115,20 +72,12 @@ pub fn write_rows(
         alloc,
         style,
         format,
-        layout: layout_of(format),
     };
     match format {
         Format::Table => write_grid(&printer, rows, output),
         Format::Csv => write_csv(&printer, rows, output),
-        _ => write_each(&printer, rows, output),
-    }
-}
-
-fn layout_of(format: Format) -> &'static Layout {
-    match format {
-        Format::Json => &JSON,
-        Format::Lines => &LINES,
-        _ => &TABS,
+        Format::Json => write_json(&printer, rows, output),
+        Format::Tabs | Format::Lines => write_each(&printer, rows, output),
     }
 }
 
@@ -211,6 +160,19 @@ fn write_record(
     row: &Row,
     writer: &mut Writer<&mut Output>,
 ) -> Result<(), Failure> {
+    if printer.style.is_escaped {
+        write_shown(printer, row, writer)
+    } else {
+        Ok(write_csv_row(writer, row)?)
+    }
+}
+
+/// Writes the values of a row as a line of CSV, with escapes in their texts.
+fn write_shown(
+    printer: &Printer,
+    row: &Row,
+    writer: &mut Writer<&mut Output>,
+) -> Result<(), Failure> {
     for i in 0..row.len() {
         write_field(value_text(printer, &row[i])?, writer)?;
     }
@@ -237,16 +199,29 @@ fn text_of(printer: &Printer, text: &str) -> Result<String, AllocError> {
     printer.style.show(text).to_string(printer.alloc)
 }
 
-/// Writes rows one by one.
-fn write_each(printer: &Printer, rows: Rows<'_>, output: &mut Output) -> Result<(), Failure> {
-    output.push_str(printer.layout.open);
-    write_all_rows(printer, rows, output)?;
-    output.push_str(printer.layout.close);
+/// Writes rows as a list of objects, one a line.
+fn write_json(printer: &Printer, rows: Rows<'_>, output: &mut Output) -> Result<(), Failure> {
+    output.push_str("[");
+    write_objects(printer, rows, output)?;
+    output.push_str("\n]\n");
     Ok(())
 }
 
-/// Writes rows.
-fn write_all_rows(printer: &Printer, rows: Rows<'_>, output: &mut Output) -> Result<(), Failure> {
+/// Writes rows as objects.
+fn write_objects(printer: &Printer, rows: Rows<'_>, output: &mut Output) -> Result<(), Failure> {
+    let mut json = JsonRow::new(printer.alloc);
+    let mut before = "\n";
+    for row in rows {
+        json = json.object(&row?)?;
+        output.push_str(before);
+        before = ",\n";
+        json.print(printer.style, output);
+    }
+    Ok(())
+}
+
+/// Writes rows one by one.
+fn write_each(printer: &Printer, rows: Rows<'_>, output: &mut Output) -> Result<(), Failure> {
     let mut is_first = true;
     for row in rows {
         write_row(printer, is_first, &row?, output);
@@ -255,48 +230,28 @@ fn write_all_rows(printer: &Printer, rows: Rows<'_>, output: &mut Output) -> Res
     Ok(())
 }
 
-/// Writes a row.
+/// Writes a row, with its values on lines, behind an empty line unless it is the first, or parted by tabs.
 fn write_row(printer: &Printer, is_first: bool, row: &Row, output: &mut Output) {
-    let (layout, columns) = (printer.layout, row.columns());
-    let mut before = if is_first { layout.first } else { layout.next };
-    for i in 0..row.len().min(columns.len()) {
+    let has_lines = matches!(printer.format, Format::Lines);
+    let between = if has_lines { "\n" } else { "\t" };
+    let mut before = if has_lines && !is_first { "\n" } else { "" };
+    for i in 0..row.len() {
         output.push_str(before);
-        write_name(printer, columns[i].name(), output);
-        write_value(printer, &row[i], output);
-        before = layout.between;
-    }
-    output.push_str(layout.last);
-}
-
-/// Writes what stands in front of the values of a column.
-fn write_name(printer: &Printer, name: &str, output: &mut Output) {
-    match printer.format {
-        Format::Json => {
-            json::write_quoted(printer.alloc, printer.style, name, output);
-            output.push_str(":");
+        before = between;
+        if has_lines {
+            write!(output, "{} = ", printer.style.show(row.columns()[i].name()));
         }
-        Format::Lines => write!(output, "{} = ", printer.style.show(name)),
-        _ => {}
+        write_value(printer, &row[i], output);
     }
+    output.push_str("\n");
 }
 
 /// Writes a value.
 fn write_value(printer: &Printer, value: &Value, output: &mut Output) {
-    match (printer.format, value) {
-        (Format::Json, _) => write_json_value(printer.alloc, printer.style, value, output),
-        (_, Value::Null) => {}
-        (_, Value::Int(number)) => write!(output, "{number}"),
-        (_, Value::Str(text)) => write!(output, "{}", printer.style.show(text.as_str())),
-        (_, Value::Binary) => output.push_str(STREAM),
-    }
-}
-
-/// Writes a value as JSON, where a stream is `true`.
-pub fn write_json_value(alloc: Global, style: Style, value: &Value, output: &mut Output) {
     match value {
-        Value::Null => output.push_str("null"),
+        Value::Null => {}
         Value::Int(number) => write!(output, "{number}"),
-        Value::Str(text) => json::write_quoted(alloc, style, text.as_str(), output),
-        Value::Binary => output.push_str("true"),
+        Value::Str(text) => write!(output, "{}", printer.style.show(text.as_str())),
+        Value::Binary => output.push_str(STREAM),
     }
 }

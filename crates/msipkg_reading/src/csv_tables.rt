@@ -4,6 +4,7 @@ use crate::given::{Given, GivenColumn, GivenTable};
 use csv::{ReaderBuilder, StringRecord};
 use msipkg_output::Failure;
 use msipkg_output::msi::{ColumnType, Error, Value};
+use msipkg_output::msi_text_rows::csv_value;
 use std::alloc::{AllocError, Global};
 
 /// How long the texts of a key are at most, where the table is created.
@@ -67,21 +68,13 @@ fn add_columns(
     Ok(())
 }
 
-/// The values of a record.
+/// The values of a record: texts and nulls, since which type a column has is known later.
 fn row_of(alloc: Global, record: &StringRecord) -> Result<Vec<Value>, Error> {
     let mut row = Vec::with_capacity(alloc, record.len())?;
     for field in record.iter() {
-        row.push(value_of(alloc, field)?)?;
+        row.push(csv_value(alloc, ColumnType::Str(0), field)?)?;
     }
     Ok(row)
-}
-
-/// The value of a field: null for an empty one.
-fn value_of(alloc: Global, field: &str) -> Result<Value, Error> {
-    if field.is_empty() {
-        return Ok(Value::Null);
-    }
-    Value::from_text(alloc, field)
 }
 
 /// Says of columns what their values show.

@@ -1,9 +1,10 @@
 //! Tables from JSON, as `export` writes them.
 
 use crate::given::{GivenColumn, GivenTable};
-use crate::json_packages::{items_in, number_of, text_in};
+use crate::json_packages::{items_in, text_in};
 use msipkg_output::Failure;
-use msipkg_output::msi::{ColumnType, Error, Value};
+use msipkg_output::msi::{ColumnType, Value};
+use msipkg_output::msi_text_rows::json_value;
 use serde_json::Value as Json;
 use std::alloc::Global;
 
@@ -86,7 +87,7 @@ fn row_of(alloc: Global, item: &Json, table: &GivenTable) -> Result<Vec<Value>, 
     };
     let mut row = Vec::with_capacity(alloc, items.len())?;
     for item in items {
-        let Some(value) = value_of(alloc, item)? else {
+        let Some(value) = json_value(alloc, item)? else {
             let failure = Failure::rule(
                 "a value has to be null, a text, a number of 32 bits, or true for a stream",
             );
@@ -96,23 +97,4 @@ fn row_of(alloc: Global, item: &Json, table: &GivenTable) -> Result<Vec<Value>, 
         row.push(value)?;
     }
     Ok(row)
-}
-
-/// The value that an item stands for, if it stands for one.
-fn value_of(alloc: Global, item: &Json) -> Result<Option<Value>, Error> {
-    match item.as_str() {
-        Some(text) => Ok(Some(Value::from_text(alloc, text)?)),
-        None => Ok(plain_value(item)),
-    }
-}
-
-/// The value that an item stands for which is no text.
-fn plain_value(item: &Json) -> Option<Value> {
-    if item.is_null() {
-        return Some(Value::Null);
-    }
-    if item.as_bool() == Some(true) {
-        return Some(Value::Binary);
-    }
-    Some(Value::Int(number_of(item)?))
 }
