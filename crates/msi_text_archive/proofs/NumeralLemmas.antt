@@ -61,7 +61,7 @@ told : {T : Type 0} {P : Type 0} (test : Bool) (v z : T) → Decides test P → 
 told true v z d h = let e = h (Ok v) (d.0 refl, refl) in cc
 told false v z d h = let e = h (Err tt) (λ p. let t : false ≡ true = d.1 p in cc) in absurd cc
 
-small : (z : ℤ) → FitsSigned w32 z → mag z < 2 ^ 63
+pub small : (z : ℤ) → FitsSigned w32 z → mag z < 2 ^ 63
 small (pos n) fits = omega (arith, ints)
 small (negsuc n) fits = omega (arith, ints)
 

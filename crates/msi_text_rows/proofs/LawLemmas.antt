@@ -23,16 +23,17 @@ use Rattle.msi_table_values.specs.declared.column.ColumnType.{ColumnType}
 use Rattle.msi_table_values.specs.declared.column.ColumnType.TheVariants as coltype
 use Rattle.msi_table_values.specs.declared.value.Value.{Value}
 use Rattle.msi_table_values.specs.declared.value.Value.TheVariants as value
-use Rattle.msi_text_rows.specs.CsvRows.{csv_line, field_value, number_in, value_field}
+use Rattle.msi_text_archive.specs.Fields.{number_in}
+use Rattle.msi_text_archive.proofs.NumeralLemmas.{number_back, signed_filled, small, within}
+use Rattle.msi_text_rows.specs.CsvRows.{csv_line, field_value, value_field}
 use Rattle.msi_text_rows.specs.JsonRows.{has_32_bits, items_json, members_json, number_value, object_json, row_in, row_json, value_in, value_json, values_in}
 use Rattle.msi_text_rows.specs.Laws.{has_field, is_small}
-use Rattle.msi_text_rows.proofs.NumberLemmas.{magnitude, number_back, number_filled}
 
 -- ---- printed JSON is read as the same JSON
 
 value_numbers : (v : Value) → is_small v ≡ true → HasNumbers (value_json v)
 value_numbers value.Null e = tt
-value_numbers (value.Int n) e = IsNumber-signed_decimal n (magnitude n e)
+value_numbers (value.Int n) e = IsNumber-signed_decimal n (small n (within n e))
 value_numbers (value.Str text) e = tt
 value_numbers value.Binary e = tt
 
@@ -82,7 +83,7 @@ number_data (negsuc m) e l = (
 
 value_data : (v : Value) → is_small v ≡ true → (d : parsed.Data) × (of_json (value_json v) ≡ Some d) × (value_in d ≡ Some v)
 value_data value.Null e = (parsed.null, refl, refl)
-value_data (value.Int n) e = number_data n e (magnitude n e)
+value_data (value.Int n) e = number_data n e (small n (within n e))
 value_data (value.Str text) e = (parsed.string text, refl, refl)
 value_data value.Binary e = (parsed.boolean true, refl, refl)
 
@@ -134,12 +135,12 @@ lines_back rows =
 -- ---- fields stand for values
 
 not_empty : (n : ℤ) → has_32_bits n ≡ true → (length (signed_decimal n) == 0) ≡ false
-not_empty n e = let some = number_filled n e in ne_eqb (length (signed_decimal n)) 0 (λ z. omega arith)
+not_empty n e = let some = signed_filled n (within n e) in ne_eqb (length (signed_decimal n)) 0 (λ z. omega arith)
 
 number_field : (n : ℤ) → has_32_bits n ≡ true → cond (length (signed_decimal n) == 0) value.Null (unwrap_or (option_map value.Int (number_in (signed_decimal n))) (value.Str (signed_decimal n))) ≡ value.Int n
 number_field n e =
     ap (λ b. cond b value.Null (unwrap_or (option_map value.Int (number_in (signed_decimal n))) (value.Str (signed_decimal n)))) (not_empty n e)
-    ∙ ap (λ o. unwrap_or (option_map value.Int o) (value.Str (signed_decimal n))) (number_back n e)
+    ∙ ap (λ o. unwrap_or (option_map value.Int o) (value.Str (signed_decimal n))) (number_back n (within n e))
 
 text_field : (text : List ℕ) → not (length text == 0) ≡ true → cond (length text == 0) value.Null (value.Str text) ≡ value.Str text
 text_field text e = by (length text == 0) e

@@ -1,5 +1,4 @@
 -- The lemmas of this crate.
-mod NumberLemmas
 mod JsonLemmas
 mod CsvLemmas
 mod LawLemmas

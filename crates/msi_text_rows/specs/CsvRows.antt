@@ -1,15 +1,14 @@
 -- Rows as lines of CSV (RFC 4180), and what fields of CSV stand for.
-use Rattle.std.specs.Prelude.{ℕ, ◌==◌, if◌then◌else◌, pos, neg_ℤ, ℤ, List, [], length, map, bytes_eq, codes}
+use Rattle.std.specs.Prelude.{ℕ, ◌==◌, if◌then◌else◌, List, [], length, map, bytes_eq, codes}
 use Rattle.std.specs.Prelude.{Option, Some, None, option_map, unwrap_or}
 use Rattle.std.specs.Fmt.{signed_decimal}
-use Rattle.std.specs.Str.Parse.{signed_digits_value}
 use Rattle.csv.specs.Writing.{row_text}
 use Rattle.csv.specs.declared.writer.WriterBuilder.{WriterBuilder}
-use Rattle.msi_text.specs.Numerals.{is_number_within}
 use Rattle.msi_table_values.specs.declared.column.ColumnType.{ColumnType}
 use Rattle.msi_table_values.specs.declared.column.ColumnType.TheVariants as coltype
 use Rattle.msi_table_values.specs.declared.value.Value.{Value}
 use Rattle.msi_table_values.specs.declared.value.Value.TheVariants as value
+use Rattle.msi_text_archive.specs.Fields.{number_in}
 
 -- what stands for a stream, whose bytes stand outside the table
 abbrev pub stream_mark : List ℕ
@@ -25,11 +24,6 @@ value_field value.Binary = stream_mark
 -- the line of a row, as a writer is set up
 abbrev pub csv_line : WriterBuilder → List Value → List ℕ
 csv_line setup row = row_text setup (map value_field row)
-
--- a number of 32 bits in decimal, where a sign may stand in front
-abbrev pub number_in : List ℕ → Option ℤ
-number_in field = if is_number_within (neg_ℤ (pos 2147483648)) (pos 2147483647) field
-    then Some (signed_digits_value 10 field) else None
 
 -- what a field stands for in a column of a type, if neither null nor a text
 abbrev pub plain_in : ColumnType → List ℕ → Option Value

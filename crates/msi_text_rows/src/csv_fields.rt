@@ -2,7 +2,8 @@
 
 ghost use Rattle.std.specs.Prelude.{◌≡◌, IfOk};
 ghost use Rattle.msi_text_base.specs.Results.{OnlyMemory};
-ghost use Rattle.msi_text_rows.specs.CsvRows.{field_value, number_in, plain_in};
+ghost use Rattle.msi_text_archive.specs.Fields.{number_in};
+ghost use Rattle.msi_text_rows.specs.CsvRows.{field_value, plain_in};
 
 use msi_table_values::column::ColumnType;
 use msi_table_values::value::Value;
