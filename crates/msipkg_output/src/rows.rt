@@ -210,11 +210,11 @@ fn write_json(printer: &Printer, rows: Rows<'_>, output: &mut Output) -> Result<
 /// Writes rows as objects.
 fn write_objects(printer: &Printer, rows: Rows<'_>, output: &mut Output) -> Result<(), Failure> {
     let mut json = JsonRow::new(printer.alloc);
-    let mut before = "\n";
+    let mut before: &[u8] = b"\n";
     for row in rows {
         json = json.object(&row?)?;
-        output.push_str(before);
-        before = ",\n";
+        output.push_bytes(before);
+        before = b",\n";
         json.print(printer.style, output);
     }
     Ok(())
