@@ -9,24 +9,21 @@ use std::alloc::Global;
 use std::io::{self, Read, Write};
 
 /// Does the tasks in turn.
-pub(crate) fn follow(rt: &(impl Print + AllocGlobal)) -> Result<(), Error> {
+pub(crate) fn follow(rt: &HostRuntime) -> Result<(), Error> {
     let file = fill_package(rt)?;
     open_and_handle_errors(rt, file)?;
     open_and_handle_errors(rt, b"Dear reader".to_vec(rt.alloc())?)
 }
 
 /// Makes a package, does the tasks that change it, and returns the bytes of its file.
-fn fill_package(rt: &(impl Print + AllocGlobal)) -> Result<Vec<u8>, Error> {
+fn fill_package(rt: &HostRuntime) -> Result<Vec<u8>, Error> {
     let mut package = make_package(rt)?;
     change_package(rt, &mut package)?;
     written(package)
 }
 
 /// Does the tasks that change a package.
-fn change_package(
-    rt: &(impl Print + AllocGlobal),
-    package: &mut Package<Memory>,
-) -> Result<(), Error> {
+fn change_package(rt: &HostRuntime, package: &mut Package<Memory>) -> Result<(), Error> {
     create_table(rt, package)?;
     insert_rows(rt, package)?;
     change_rows(rt, package)?;
@@ -37,7 +34,7 @@ fn change_package(
 }
 
 /// Makes a package in memory, with a title and the system tables.
-fn make_package(rt: &(impl Print + AllocGlobal)) -> Result<Package<Memory>, Error> {
+fn make_package(rt: &HostRuntime) -> Result<Package<Memory>, Error> {
     let device = Memory::from_vec(Vec::new(rt.alloc()));
     let package = Package::create(rt.alloc(), PackageType::Installer, device)?;
     let title = package.summary_info().title().unwrap_or("untitled");
@@ -60,10 +57,7 @@ fn feature_columns(alloc: Global) -> Result<Vec<Column>, Error> {
 }
 
 /// Creates a table of the features that can be installed.
-fn create_table(
-    rt: &(impl Print + AllocGlobal),
-    package: &mut Package<Memory>,
-) -> Result<(), Error> {
+fn create_table(rt: &HostRuntime, package: &mut Package<Memory>) -> Result<(), Error> {
     package.create_table("Feature", feature_columns(rt.alloc())?)?;
     println!(rt; "tables: {}", package.tables().len())?;
     Ok(())
@@ -90,10 +84,7 @@ fn insert_features(alloc: Global) -> Result<Insert, Error> {
 }
 
 /// Inserts three rows.
-fn insert_rows(
-    rt: &(impl Print + AllocGlobal),
-    package: &mut Package<Memory>,
-) -> Result<(), Error> {
+fn insert_rows(rt: &HostRuntime, package: &mut Package<Memory>) -> Result<(), Error> {
     package.insert_rows(insert_features(rt.alloc())?)?;
     println!(rt; "features: {}", count_rows(rt.alloc(), package, "Feature")?)?;
     Ok(())
@@ -117,10 +108,7 @@ fn delete_samples(alloc: Global) -> Result<Delete, Error> {
 }
 
 /// Changes one row, and deletes another.
-fn change_rows(
-    rt: &(impl Print + AllocGlobal),
-    package: &mut Package<Memory>,
-) -> Result<(), Error> {
+fn change_rows(rt: &HostRuntime, package: &mut Package<Memory>) -> Result<(), Error> {
     let alloc = rt.alloc();
     package.update_rows(lower_level(alloc)?)?;
     package.delete_rows(delete_samples(alloc)?)?;
@@ -135,7 +123,7 @@ fn low_levels(alloc: Global) -> Result<Select, Error> {
 }
 
 /// Prints the title of a feature.
-fn print_title(rt: &impl Print, feature: &Row) -> io::Result<()> {
+fn print_title(rt: &HostRuntime, feature: &Row) -> io::Result<()> {
     if feature.has_column("Title") {
         println!(rt; "selected: {}", feature["Title"])?;
     }
@@ -143,7 +131,7 @@ fn print_title(rt: &impl Print, feature: &Row) -> io::Result<()> {
 }
 
 /// Prints the titles of the features whose level is at most 3.
-fn select_rows(rt: &(impl Print + AllocGlobal), package: &Package<Memory>) -> Result<(), Error> {
+fn select_rows(rt: &HostRuntime, package: &Package<Memory>) -> Result<(), Error> {
     for row in package.select_rows(low_levels(rt.alloc())?)? {
         print_title(rt, &row?)?;
     }
@@ -176,7 +164,7 @@ fn component_of(alloc: Global, feature: &str, component: &str) -> Result<Vec<Val
 }
 
 /// Prints the values of a row.
-fn print_row(rt: &impl Print, row: &Row) -> io::Result<()> {
+fn print_row(rt: &HostRuntime, row: &Row) -> io::Result<()> {
     let mut before = "joined: ";
     for i in 0..row.len() {
         print!(rt; "{before}{}", row[i])?;
@@ -195,10 +183,7 @@ fn titles_and_components(alloc: Global) -> Result<Select, Error> {
 }
 
 /// Creates a table of components, and prints the title of each feature beside each of its components.
-fn join_tables(
-    rt: &(impl Print + AllocGlobal),
-    package: &mut Package<Memory>,
-) -> Result<(), Error> {
+fn join_tables(rt: &HostRuntime, package: &mut Package<Memory>) -> Result<(), Error> {
     let alloc = rt.alloc();
     package.create_table("FeatureComponents", component_columns(alloc)?)?;
     package.insert_rows(insert_components(alloc)?)?;
@@ -209,10 +194,7 @@ fn join_tables(
 }
 
 /// Puts bytes into a stream of the package, and reads them again.
-fn put_and_take_stream(
-    rt: &(impl Print + AllocGlobal),
-    package: &mut Package<Memory>,
-) -> Result<(), Error> {
+fn put_and_take_stream(rt: &HostRuntime, package: &mut Package<Memory>) -> Result<(), Error> {
     package
         .write_stream("Licence.txt")?
         .write_all(b"Do as you like.\n")?;
@@ -223,10 +205,7 @@ fn put_and_take_stream(
 }
 
 /// Sets properties of the summary.
-fn set_summary(
-    rt: &(impl Print + AllocGlobal),
-    package: &mut Package<Memory>,
-) -> Result<(), Error> {
+fn set_summary(rt: &HostRuntime, package: &mut Package<Memory>) -> Result<(), Error> {
     let summary = package.summary_info_mut()?;
     summary.set_author("Joluveman")?;
     summary.set_arch("x64")?;
@@ -249,7 +228,7 @@ fn add_feature(alloc: Global, file: Vec<u8>) -> Result<(), Error> {
 }
 
 /// Adds a feature to a package that another program made, or prints why that failed.
-fn open_and_handle_errors(rt: &(impl Print + AllocGlobal), file: Vec<u8>) -> Result<(), Error> {
+fn open_and_handle_errors(rt: &HostRuntime, file: Vec<u8>) -> Result<(), Error> {
     let answer = match add_feature(rt.alloc(), file) {
         Ok(()) => "added",
         Err(error) => match error.kind() {

@@ -6,8 +6,7 @@ use crate::readme::file;
 use csv::Writer;
 use msi::{Parse, Row, Rows, Select, Value};
 use std::alloc::{AllocError, Global};
-use std::io::{Read, Seek, Write};
-use std::rt::Files;
+use std::io::Write;
 use std::{fmt, fs, io};
 
 /// An error of the package, of the text of a query, or of the CSV writer.
@@ -59,11 +58,7 @@ impl From<AllocError> for Failure {
 }
 
 /// Prints the rows that a query selects as CSV: the names of their columns, then the rows.
-fn print_rows<R>(rt: &R, file: &str, query: &str) -> Result<(), Failure>
-where
-    R: Files + Print + AllocGlobal,
-    R::File: Read + Seek + Drop,
-{
+fn print_rows(rt: &HostRuntime, file: &str, query: &str) -> Result<(), Failure> {
     let query = Select::parse(rt.alloc(), query)?;
     let package = msi::open(rt, file)?;
     let rows = package.select_rows(query)?;

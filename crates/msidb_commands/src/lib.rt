@@ -1,5 +1,5 @@
-//! The commands of the program `msidb`, which inspects and creates Windows Installer packages. They run over any reader
-//! and writers, and over any files.
+//! The commands of the program `msidb`, which inspects and creates Windows Installer packages. They read
+//! and write files, and run over any standard input and outputs.
 #![tactic(auto)]
 
 ghost use Rattle.std.specs.Prelude.{◌≡◌, ◌≤◌, ◌↔◌, false};
@@ -17,9 +17,7 @@ mod wrap;
 
 use command::Command;
 use msi_text::Error;
-use std::fs::OpenFile;
-use std::io::{Read, Seek, Write};
-use std::rt::Files;
+use std::io::{Read, Write};
 
 /// The message for arguments that match no command.
 const USAGE: &str =
@@ -27,16 +25,14 @@ const USAGE: &str =
 
 /// Runs a command over its arguments, a reader and two writers. Returns the exit status: 0 on success; 1 on an
 /// error, whose kind is written to `errors`; 2, with the usage on `errors`, if the arguments match no command.
-pub fn run<R, I, O, E>(
-    rt: &R,
+pub fn run<I, O, E>(
+    rt: &HostRuntime,
     words: &[String],
     input: &mut I,
     output: &mut O,
     errors: &mut E,
 ) -> u8
 where
-    R: Files + AllocGlobal,
-    R::File: OpenFile + Read + Write + Seek + Drop,
     I: Read,
     O: Write,
     E: Write,
@@ -54,10 +50,13 @@ where
 }
 
 /// Carries out a command.
-fn carry_out<R, I, O>(rt: &R, command: &Command, input: &mut I, output: &mut O) -> Result<(), Error>
+fn carry_out<I, O>(
+    rt: &HostRuntime,
+    command: &Command,
+    input: &mut I,
+    output: &mut O,
+) -> Result<(), Error>
 where
-    R: Files + AllocGlobal,
-    R::File: OpenFile + Read + Write + Seek + Drop,
     I: Read,
     O: Write,
 {

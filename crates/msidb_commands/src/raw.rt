@@ -6,15 +6,13 @@ use msi_text::Error;
 use std::alloc::Global;
 use std::fs::{self, OpenFile};
 use std::io::{Read, Write};
-use std::rt::Files;
 
 /// Prints a line for each stream, in the container's order of names. All lines are made before the first is printed.
-pub(crate) fn print_streams<R, O>(rt: &R, file: &str, output: &mut O) -> Result<(), Error>
-where
-    R: Files + AllocGlobal,
-    R::File: OpenFile + Read + Drop,
-    O: Write,
-{
+pub(crate) fn print_streams<O: Write>(
+    rt: &HostRuntime,
+    file: &str,
+    output: &mut O,
+) -> Result<(), Error> {
     let bytes = read_whole(rt, file)?;
     let lines = list(rt.alloc(), bytes.as_slice())?;
     output.write_all(lines.as_slice())?;
@@ -23,11 +21,7 @@ where
 }
 
 /// The bytes of a file. Its length is asked for first, so that the vector needn't grow while it is read.
-fn read_whole<R>(rt: &R, path: &str) -> Result<Vec<u8>, Error>
-where
-    R: Files + AllocGlobal,
-    R::File: OpenFile + Read + Drop,
-{
+fn read_whole(rt: &HostRuntime, path: &str) -> Result<Vec<u8>, Error> {
     let mut file = fs::open(rt, path)?;
     let len = file.metadata()?.len() as usize;
     // With room for one byte more the end is found before the vector is full.

@@ -1,16 +1,10 @@
 //! `recount FILE`.
 
 use msi_text::Error;
-use std::io::{Read, Seek, Write};
-use std::rt::Files;
+use std::io::Write;
 
 /// Counts the cells of a package anew, writes the package, and prints how many texts got another count.
-pub(crate) fn recount<R, O>(rt: &R, file: &str, output: &mut O) -> Result<(), Error>
-where
-    R: Files + AllocGlobal,
-    R::File: Read + Write + Seek + Drop,
-    O: Write,
-{
+pub(crate) fn recount<O: Write>(rt: &HostRuntime, file: &str, output: &mut O) -> Result<(), Error> {
     let mut package = msi::open_rw(rt, file)?;
     let changed = package.recount()?;
     package.flush()?;

@@ -7,16 +7,14 @@ use msi_container_device::{Device, Source};
 use msi_streams::Streams;
 use msi_text::Error;
 use std::alloc::Global;
-use std::io::{self, Read, Seek, Write};
-use std::rt::Files;
+use std::io::{self, Read, Write};
 
 /// Prints the names of a package's streams, each on a line.
-pub(crate) fn print_names<R, O>(rt: &R, file: &str, output: &mut O) -> Result<(), Error>
-where
-    R: Files + AllocGlobal,
-    R::File: Read + Seek + Drop,
-    O: Write,
-{
+pub(crate) fn print_names<O: Write>(
+    rt: &HostRuntime,
+    file: &str,
+    output: &mut O,
+) -> Result<(), Error> {
     let package = msi::open(rt, file)?;
     write_names(rt.alloc(), package.streams(), output)
 }
@@ -33,12 +31,12 @@ fn write_names<W: Write>(alloc: Global, names: Streams<'_>, output: &mut W) -> R
 }
 
 /// Prints the bytes of a stream as they are.
-pub(crate) fn print_bytes<R, O>(rt: &R, file: &str, name: &str, output: &mut O) -> Result<(), Error>
-where
-    R: Files + AllocGlobal,
-    R::File: Read + Seek + Drop,
-    O: Write,
-{
+pub(crate) fn print_bytes<O: Write>(
+    rt: &HostRuntime,
+    file: &str,
+    name: &str,
+    output: &mut O,
+) -> Result<(), Error> {
     let package = msi::open(rt, file)?;
     Ok(write_rest(package.read_stream(name)?, output)?)
 }
@@ -52,12 +50,12 @@ fn write_rest<W: Write>(stream: StreamReader<'_>, output: &mut W) -> io::Result<
 /// Stores standard input as a stream of a package, and writes the package. Whether the file can be opened is reported
 /// first, then the input's errors, and then the package's. The file is closed while the input is read: if the program
 /// was started without a standard input, the file has its descriptor, and would be stored in itself.
-pub(crate) fn store_input<R, I>(rt: &R, file: &str, name: &str, input: &mut I) -> Result<(), Error>
-where
-    R: Files + AllocGlobal,
-    R::File: Read + Write + Seek + Drop,
-    I: Read,
-{
+pub(crate) fn store_input<I: Read>(
+    rt: &HostRuntime,
+    file: &str,
+    name: &str,
+    input: &mut I,
+) -> Result<(), Error> {
     packages::check_writable(rt, file)?;
     let mut bytes = Vec::new(rt.alloc());
     input.read_to_end(&mut bytes)?;
@@ -65,11 +63,7 @@ where
 }
 
 /// Stores bytes as a stream of a package, and writes the package.
-fn store_bytes<R>(rt: &R, file: &str, name: &str, bytes: Vec<u8>) -> Result<(), Error>
-where
-    R: Files + AllocGlobal,
-    R::File: Read + Write + Seek + Drop,
-{
+fn store_bytes(rt: &HostRuntime, file: &str, name: &str, bytes: Vec<u8>) -> Result<(), Error> {
     let mut package = msi::open_rw(rt, file)?;
     fill_stream(&mut package, name, bytes)?;
     package.flush()

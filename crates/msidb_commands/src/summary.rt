@@ -5,16 +5,14 @@ use msi_summary::SummaryInfo;
 use msi_text::{Error, Timestamp};
 use std::alloc::Global;
 use std::fmt::Display;
-use std::io::{self, Read, Seek, Write};
-use std::rt::Files;
+use std::io::{self, Write};
 
 /// Prints a line for each property of a package's summary that is there.
-pub(crate) fn print_summary<R, O>(rt: &R, file: &str, output: &mut O) -> Result<(), Error>
-where
-    R: Files + AllocGlobal,
-    R::File: Read + Seek + Drop,
-    O: Write,
-{
+pub(crate) fn print_summary<O: Write>(
+    rt: &HostRuntime,
+    file: &str,
+    output: &mut O,
+) -> Result<(), Error> {
     let package = msi::open(rt, file)?;
     write_buffered(rt.alloc(), package.summary_info(), output)
 }

@@ -7,16 +7,14 @@ use msi_query::Select;
 use msi_table::{Column, Row};
 use msi_text::Error;
 use std::alloc::Global;
-use std::io::{self, Read, Seek, Write};
-use std::rt::Files;
+use std::io::{self, Write};
 
 /// Prints the names of a package's tables, each on a line.
-pub(crate) fn print_tables<R, O>(rt: &R, file: &str, output: &mut O) -> Result<(), Error>
-where
-    R: Files + AllocGlobal,
-    R::File: Read + Seek + Drop,
-    O: Write,
-{
+pub(crate) fn print_tables<O: Write>(
+    rt: &HostRuntime,
+    file: &str,
+    output: &mut O,
+) -> Result<(), Error> {
     let package = msi::open(rt, file)?;
     Ok(write_names(rt.alloc(), package.tables(), output)?)
 }
@@ -32,12 +30,12 @@ fn write_names<W: Write>(alloc: Global, tables: Tables<'_>, output: &mut W) -> i
 }
 
 /// Prints the names of a table's columns on a line, and then each row on one of its own.
-pub(crate) fn print_rows<R, O>(rt: &R, file: &str, table: &str, output: &mut O) -> Result<(), Error>
-where
-    R: Files + AllocGlobal,
-    R::File: Read + Seek + Drop,
-    O: Write,
-{
+pub(crate) fn print_rows<O: Write>(
+    rt: &HostRuntime,
+    file: &str,
+    table: &str,
+    output: &mut O,
+) -> Result<(), Error> {
     let package = msi::open(rt, file)?;
     write_table(rt.alloc(), &package, table, output)
 }

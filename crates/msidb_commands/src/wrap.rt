@@ -15,8 +15,7 @@ use msi_container_device::parts::fault;
 use msi_text::{Error, ErrorKind, Reason};
 use std::alloc::Global;
 use std::fs;
-use std::io::{Read, Seek, Write};
-use std::rt::Files;
+use std::io::{Read, Write};
 
 const NAME_REFUSED: Reason = Reason("the name can't name a stream");
 
@@ -28,10 +27,13 @@ const INSTALLER_CLSID: [u8; 16] = [
 ];
 
 /// Writes the container. What can't be written is refused before `out` is touched.
-pub(crate) fn wrap_input<R, I>(rt: &R, out: &str, name: &str, input: &mut I) -> Result<(), Error>
+pub(crate) fn wrap_input<I>(
+    rt: &HostRuntime,
+    out: &str,
+    name: &str,
+    input: &mut I,
+) -> Result<(), Error>
 where
-    R: Files + AllocGlobal,
-    R::File: Read + Write + Seek + Drop,
     I: Read,
     ensures { is_valid_name false (chars name.now) ≡ false → IsErrOf result InvalidInput }
 {

@@ -16,9 +16,8 @@ use transcripts_texts::texts::{self, TextCall};
 use transcripts_words::answers::Answer;
 use transcripts_words::containers::{self, BytesCall};
 use transcripts_words::failure::Failure;
-use transcripts_words::files::{self, FileCall};
-use transcripts_words::stream_names;
 use transcripts_words::words::Words;
+use transcripts_words::{files, stream_names};
 
 /// A call.
 #[derive(Clone, Copy)]
@@ -29,7 +28,8 @@ enum Call {
     Recount,
     Look(Look),
     Bytes(BytesCall),
-    File(FileCall),
+    /// Writes bytes that are kept to a file.
+    Save,
     /// Keeps the bytes of a file.
     Load,
     /// Runs a command of `msidb`.
@@ -117,7 +117,7 @@ static CALLS: [(&str, Call); 106] = [
     ),
     ("stream_name", Call::StreamName),
     ("on_device", Call::OnDevice),
-    ("save", Call::File(FileCall::Save)),
+    ("save", Call::Save),
     ("load", Call::Load),
     ("msidb", Call::Command(Streams::Sound)),
     ("msidb_broken", Call::Command(Streams::Broken)),
@@ -184,7 +184,7 @@ pub(crate) fn make(
     answer: &mut Answer,
 ) -> Result<(), Failure> {
     let outcome = match words.one_of(known_calls()) {
-        Some(Call::File(call)) => files::make(rt, &session.stock.kept, call, words, answer),
+        Some(Call::Save) => files::save(rt, &session.stock.kept, words, answer),
         Some(Call::Load) => load(rt, session, words, answer),
         Some(Call::Command(streams)) => {
             commands::make(rt, &session.stock.kept, streams, words, answer)

@@ -34,9 +34,9 @@ impl<'a> Report<'a> {
 
     /// Compares what a call answered, or its failure, with the lines behind it, and prints the call if these expect
     /// another answer. Fails if memory runs out, and if nothing can be printed.
-    pub fn check<R: Print>(
+    pub fn check(
         &mut self,
-        rt: &R,
+        rt: &HostRuntime,
         line: &Line,
         rest: &[Line],
         outcome: Result<(), Failure>,
@@ -56,9 +56,9 @@ impl<'a> Report<'a> {
     }
 
     /// Prints a call whose answer isn't as expected.
-    fn print<R: Print>(
+    fn print(
         &mut self,
-        rt: &R,
+        rt: &HostRuntime,
         line: &Line,
         expected: &[Line],
         answer: &str,
