@@ -3,11 +3,10 @@
 use crate::commands::Asked;
 use crate::words::Verb;
 use msipkg_changes::{
-    add_streams, carry_out_statements, check_statements, kind_of, page_of, remove_streams,
-    set_pages, set_properties, store,
+    add_streams, carry_out_statements, check_statements, import_files, kind_of, page_of,
+    remove_streams, set_pages, set_properties, store,
 };
 use msipkg_files::{Purpose, new_package, open_package, write_file, written};
-use msipkg_import::import_files;
 use msipkg_output::msi::{CodePage, Package};
 use msipkg_output::{Failure, Opened, Output, System};
 use std::alloc::Global;

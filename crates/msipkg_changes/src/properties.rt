@@ -84,7 +84,7 @@ fn set_pair(alloc: Global, summary: &mut SummaryInfo, pair: &str) -> Result<(), 
 ///
 /// # Errors
 /// Fails if there is no such property, if it doesn't take the value, and with `OutOfMemory`.
-pub fn set_property(
+pub(crate) fn set_property(
     alloc: Global,
     summary: &mut SummaryInfo,
     name: &str,
@@ -108,7 +108,7 @@ fn clear_all(alloc: Global, summary: &mut SummaryInfo, names: &[&str]) -> Result
 ///
 /// # Errors
 /// Fails if there is no such property that can be cleared, and with `OutOfMemory`.
-pub fn clear_property(summary: &mut SummaryInfo, name: &str) -> Result<(), Failure> {
+pub(crate) fn clear_property(summary: &mut SummaryInfo, name: &str) -> Result<(), Failure> {
     match property_named(name) {
         Some(property) => clear(summary, property),
         None => Err(no_property()),

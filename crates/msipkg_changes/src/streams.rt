@@ -47,7 +47,11 @@ fn fill_named(
 ///
 /// # Errors
 /// Fails if no stream may have the name, and with `OutOfMemory`.
-pub fn fill_stream(package: &mut Package<Opened>, name: &str, bytes: &[u8]) -> Result<(), Failure> {
+pub(crate) fn fill_stream(
+    package: &mut Package<Opened>,
+    name: &str,
+    bytes: &[u8],
+) -> Result<(), Failure> {
     Ok(package.write_stream(name)?.write_all(bytes)?)
 }
 

@@ -10,7 +10,7 @@ pub mod replacing;
 pub mod safe_names;
 pub mod stored;
 
-pub use folder::{Folder, at_file, path_in};
+pub use folder::Folder;
 pub use opening::{new_package, open_package, written};
 pub use recoding::{PackageFile, Purpose};
 pub use replacing::{open_new, replace_file, settle, write_file};

@@ -187,6 +187,17 @@ impl From<serde_json::Error> for Failure {
     }
 }
 
+/// Returns what a call returned, with the path of its file where it failed and has no place yet.
+///
+/// # Errors
+/// Fails as the call did.
+pub fn at_file(alloc: Global, path: &str, done: Result<(), Failure>) -> Result<(), Failure> {
+    match done {
+        Ok(()) => Ok(()),
+        Err(failure) => Err(failure.at(alloc, "file", path)),
+    }
+}
+
 /// Returns the line of a file that failed, as JSON.
 pub fn failure_json(alloc: Global, file: &str, failure: &Failure) -> JsonObject {
     let mut object = JsonObject::new(alloc);

@@ -17,11 +17,11 @@ pub mod texts;
 // For the crates above, as in `msipkg_system`.
 pub use columns::{ColumnTypeText, put_columns};
 pub use escape::Shown;
-pub use failure::{Cause, Failure, failure_json};
+pub use failure::{Cause, Failure, at_file, failure_json};
 pub use grid::Grid;
 pub use json::{JsonObject, JsonRow};
 pub use msi_text_rows;
-pub use msipkg_system::{Carrier, Opened, Output, System, SystemFile, msi};
+pub use msipkg_system::{Carrier, Opened, Output, System, SystemFile, msi, path_in};
 pub use pages::Pages;
 pub use rows::{Format, write_rows};
 pub use style::Style;

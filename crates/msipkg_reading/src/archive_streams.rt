@@ -2,9 +2,8 @@
 
 use crate::given::{Given, GivenStream, GivenTable};
 use crate::places::at_part;
-use msipkg_files::path_in;
 use msipkg_output::msi::{ColumnType, Error, Value};
-use msipkg_output::{Failure, System, push_key};
+use msipkg_output::{Failure, System, path_in, push_key};
 use std::alloc::{AllocError, Global};
 use std::fs;
 use std::path::Path;

@@ -4,8 +4,7 @@ use crate::archives::read_archive;
 use crate::csv_tables::read_csv;
 use crate::given::Given;
 use crate::json_packages::read_json;
-use msipkg_files::at_file;
-use msipkg_output::{Failure, System};
+use msipkg_output::{Failure, System, at_file};
 use std::fs;
 use std::path::Path;
 

@@ -10,4 +10,4 @@ pub mod system;
 pub use carrier::{Carrier, Opened};
 pub use msi;
 pub use output::Output;
-pub use system::{System, SystemFile};
+pub use system::{System, SystemFile, path_in};

@@ -1,7 +1,7 @@
 //! The system's files, with a line on standard error that says how far reading or writing one is.
 
 use crate::meter::Meter;
-use std::alloc::{Allocator, Global};
+use std::alloc::{AllocError, Allocator, Global};
 use std::fs::{File, Metadata, OpenFile, OpenOptions, Permissions};
 use std::io::{self, Read, Seek, SeekFrom, Write};
 use std::path::PathBuf;
@@ -80,6 +80,15 @@ impl Files for System {
     fn canonicalize<B: Allocator>(&self, alloc: B, path: &str) -> io::Result<PathBuf<B>> {
         self.rt.canonicalize(alloc, path)
     }
+}
+
+/// Returns the path of a name in a folder.
+///
+/// # Errors
+/// Fails if memory is refused.
+pub fn path_in(alloc: Global, folder: &str, name: &str) -> Result<String, AllocError> {
+    let folder = folder.strip_suffix('/').unwrap_or(folder);
+    format!(in alloc; "{folder}/{name}")
 }
 
 /// A file of the system, which is watched or not.

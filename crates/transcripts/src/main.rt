@@ -26,8 +26,7 @@ use transcripts_words::reports::Report;
 
 /// Runs the tests that are functions, and returns whether all found what they look for.
 fn run_functions(rt: &HostRuntime) -> bool {
-    let mut are_shown = msi_text_tests::run(rt);
-    are_shown &= msi_container_tests::run(rt);
+    let are_shown = msi_container_tests::run(rt);
     are_shown & msi_tests::run(rt)
 }
 

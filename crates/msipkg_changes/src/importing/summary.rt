@@ -1,6 +1,6 @@
 //! Giving a package a summary.
 
-use msipkg_changes::{clear_property, set_property};
+use crate::properties::{clear_property, set_property};
 use msipkg_output::msi::{Error, Package, SummaryInfo};
 use msipkg_output::{Failure, Opened, PROPERTIES};
 use msipkg_reading::GivenProperty;

@@ -1,9 +1,9 @@
 //! Giving a package tables.
 
-use crate::columns::built_columns;
-use crate::descriptions::describe;
-use crate::rows::{check_rows, columns_of, package_rows};
-use crate::rules::{VALIDATION, rules_of};
+use crate::importing::columns::built_columns;
+use crate::importing::descriptions::describe;
+use crate::importing::rows::{check_rows, columns_of, package_rows};
+use crate::importing::rules::{VALIDATION, rules_of};
 use msipkg_output::msi::{Insert, Package, Value};
 use msipkg_output::{Failure, Opened};
 use msipkg_reading::GivenTable;

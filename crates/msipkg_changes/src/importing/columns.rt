@@ -1,6 +1,6 @@
 //! The columns of tables that are created.
 
-use crate::rules::rule_about;
+use crate::importing::rules::rule_about;
 use msipkg_output::msi::{Category, Column, ColumnBuilder, ColumnType, Error, Value};
 use msipkg_reading::{GivenColumn, GivenTable};
 use std::alloc::Global;

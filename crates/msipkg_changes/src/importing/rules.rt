@@ -1,6 +1,6 @@
 //! Rows of `_Validation`, which say more of columns.
 
-use crate::rows::package_rows;
+use crate::importing::rows::package_rows;
 use msipkg_output::Failure;
 use msipkg_output::msi::{Column, Value};
 use msipkg_reading::GivenTable;

@@ -1,12 +1,20 @@
 //! The command `import`: what files give, and a package that takes it.
 
-use crate::summary::apply_summary;
-use crate::tables::apply_tables;
-use msipkg_changes::{fill_stream, noted};
+mod columns;
+mod descriptions;
+mod rows;
+mod rules;
+mod summary;
+mod tables;
+
+use crate::recounting::noted;
+use crate::streams::fill_stream;
 use msipkg_output::msi::Package;
 use msipkg_output::{Failure, Opened, System};
 use msipkg_reading::{Given, GivenStream, read_files};
 use std::alloc::Global;
+use summary::apply_summary;
+use tables::apply_tables;
 
 /// Gives a package what files have: the code page, tables and rows, streams, and the summary, of which nothing of the
 /// old one stays.

@@ -1,6 +1,6 @@
 //! Descriptions of columns for people, which `_Validation` has.
 
-use crate::rules::VALIDATION;
+use crate::importing::rules::VALIDATION;
 use msipkg_output::msi::{Error, Expr, Package, Update, Value};
 use msipkg_output::{Failure, Opened};
 use std::alloc::Global;
