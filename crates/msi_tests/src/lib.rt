@@ -1,6 +1,6 @@
-//! Tests that no transcript of `crates/transcripts` can express: of text archives, of the code pages that have tables of
-//! their own, of recoding, of differences between tables, and of packages: the examples of the README, the code of the
-//! guide, packages in files, and lists of calls. The program `transcripts` runs them.
+//! Tests that no transcript of `crates/transcripts` can express: of text archives, code pages with tables of their own,
+//! recoding and differences between tables, and of packages: the examples of the README, the code of the guide,
+//! packages in files, and lists of calls. The program `transcripts` runs them.
 #![tactic(auto)]
 
 mod differences;
