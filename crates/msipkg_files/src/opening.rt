@@ -1,9 +1,8 @@
 //! Opening the package of a file.
 
 use crate::recoding::{PackageFile, Recoded, check_unnamed, recoded_by_page, recoded_instead};
-use either::{Either, Left, Right};
 use msipkg_output::msi::{Metered, Package, PackageType};
-use msipkg_output::{Carrier, Failure, Opened, Output, System, SystemFile};
+use msipkg_output::{Carrier, Failure, Opened, Origin, Output, System};
 use std::alloc::Global;
 use std::fs;
 use std::io::Cursor;
@@ -35,7 +34,7 @@ pub fn open_package(
 /// The package of a file, as it is.
 fn open_as_it_is(rt: &System, path: &str) -> Result<Package<Opened>, Failure> {
     let file = fs::open(rt, path)?;
-    open_from(rt.alloc(), Left(file))
+    open_from(rt.alloc(), Origin::File(file))
 }
 
 /// A package that was recoded, if it may be.
@@ -46,15 +45,12 @@ fn open_recoded(
     notes: &mut Output,
 ) -> Result<Package<Opened>, Failure> {
     recoded.permit(file, notes)?;
-    open_from(alloc, Right(Cursor::new(recoded.into_bytes())))
+    open_from(alloc, Origin::Memory(Cursor::new(recoded.into_bytes())))
 }
 
-/// The package of a source.
-fn open_from(
-    alloc: Global,
-    source: Either<SystemFile, Cursor<Vec<u8>>>,
-) -> Result<Package<Opened>, Failure> {
-    Ok(Package::open(alloc, Metered::new(Carrier::new(alloc, source)))?)
+/// The package that is read from somewhere.
+fn open_from(alloc: Global, origin: Origin) -> Result<Package<Opened>, Failure> {
+    Ok(Package::open(alloc, Metered::new(Carrier::new(alloc, origin)))?)
 }
 
 /// Returns a new package, which no file has yet.
@@ -62,8 +58,8 @@ fn open_from(
 /// # Errors
 /// Fails if memory is refused.
 pub fn new_package(alloc: Global, kind: PackageType) -> Result<Package<Opened>, Failure> {
-    let source = Right(Cursor::new(Vec::new(alloc)));
-    Ok(Package::create(alloc, kind, Metered::new(Carrier::new(alloc, source)))?)
+    let origin = Origin::Memory(Cursor::new(Vec::new(alloc)));
+    Ok(Package::create(alloc, kind, Metered::new(Carrier::new(alloc, origin)))?)
 }
 
 /// Returns the bytes of a package's file.

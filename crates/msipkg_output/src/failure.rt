@@ -3,9 +3,10 @@
 use crate::escape::Shown;
 use crate::json::JsonObject;
 use crate::pages::Pages;
+use msi::{Error, ErrorKind, ParseError};
 use msi_recode::RecodeError;
-use msipkg_system::msi::{Error, ErrorKind, ParseError};
 use std::alloc::{AllocError, AllocFailed, Global};
+use std::fmt::Display;
 use std::{fmt, io};
 
 /// What went wrong.
@@ -17,10 +18,8 @@ pub enum Cause {
     File(io::Error),
     /// A text is no query.
     Query(ParseError),
-    /// A line of CSV that can't be read or written.
-    Csv(csv::Error),
-    /// A text isn't the JSON that is wanted.
-    Json(serde_json::Error),
+    /// A text isn't the CSV or JSON that is wanted: why, as the library says that reads it.
+    Shown(String),
     /// A text of a package that its page doesn't read.
     Text(RecodeError),
     /// A package that isn't in UTF-8 isn't written so unasked.
@@ -35,8 +34,7 @@ impl fmt::Display for Cause {
             Cause::Package(error) => error.fmt(f),
             Cause::File(error) => error.fmt(f),
             Cause::Query(error) => error.fmt(f),
-            Cause::Csv(error) => error.fmt(f),
-            Cause::Json(error) => error.fmt(f),
+            Cause::Shown(error) => f.write_str(error.as_str()),
             Cause::Text(error) => write_text_error(error, f),
             Cause::Recoding(pages) => write!(
                 f,
@@ -90,6 +88,15 @@ impl Failure {
     /// Returns the failure of a rule of the program.
     pub fn rule(rule: &'static str) -> Failure {
         Failure::new(Cause::Rule(rule))
+    }
+
+    /// Returns the failure that an error of another library is, which prints as it does. Where there is no memory for
+    /// that, it is the failure of memory.
+    pub fn shown<D: Display>(alloc: Global, error: &D) -> Failure {
+        match error.to_string(alloc) {
+            Ok(text) => Failure::new(Cause::Shown(text)),
+            Err(error) => Failure::from(error),
+        }
     }
 
     /// Returns this failure, in the place of this kind and name, as `table` and `Property`. Where it has a place
@@ -172,18 +179,6 @@ impl From<AllocError> for Failure {
 impl<T: Drop> From<AllocFailed<T>> for Failure {
     fn from(_error: AllocFailed<T>) -> Failure {
         Failure::from(AllocError)
-    }
-}
-
-impl From<csv::Error> for Failure {
-    fn from(error: csv::Error) -> Failure {
-        Failure::new(Cause::Csv(error))
-    }
-}
-
-impl From<serde_json::Error> for Failure {
-    fn from(error: serde_json::Error) -> Failure {
-        Failure::new(Cause::Json(error))
     }
 }
 

@@ -2,9 +2,9 @@
 
 use crate::escape::is_hidden;
 use crate::style::Style;
+use msi::Row;
 use msi_text_rows::{JsonWriter, write_json_object, write_json_row};
 use msipkg_system::Output;
-use msipkg_system::msi::Row;
 use serde_json::Value;
 use std::alloc::{AllocError, Global};
 use std::fmt::Display;

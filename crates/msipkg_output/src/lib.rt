@@ -14,14 +14,15 @@ pub mod summary_texts;
 pub mod tables;
 pub mod texts;
 
-// For the crates above, as in `msipkg_system`.
+// `msi` and `msipkg_system` are for the crates above, so that each has one way to them: the rt of some kits goes down
+// every path between two crates.
 pub use columns::{ColumnTypeText, put_columns};
 pub use escape::Shown;
 pub use failure::{Cause, Failure, at_file, failure_json};
 pub use grid::Grid;
 pub use json::{JsonObject, JsonRow};
-pub use msi_text_rows;
-pub use msipkg_system::{Carrier, Opened, Output, System, SystemFile, msi, path_in};
+pub use msi;
+pub use msipkg_system::{Carrier, Opened, Origin, Output, System, SystemFile, path_in};
 pub use pages::Pages;
 pub use rows::{Format, write_rows};
 pub use style::Style;

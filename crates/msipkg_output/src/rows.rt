@@ -5,10 +5,10 @@ use crate::grid::Grid;
 use crate::json::JsonRow;
 use crate::style::Style;
 use csv::Writer;
+use msi::{Column, Row, Rows, Value};
 use msi_text_rows::write_csv_row;
 use msipkg_system::Output;
-use msipkg_system::msi::{Column, Row, Rows, Value};
-use std::alloc::{AllocError, Global};
+use std::alloc::Global;
 
 /// How rows are printed.
 #[derive(Clone, Copy)]
@@ -126,7 +126,7 @@ fn put_value(printer: &Printer, value: &Value, grid: &mut Grid) {
 fn write_csv(printer: &Printer, rows: Rows<'_>, output: &mut Output) -> Result<(), Failure> {
     let mut writer = Writer::from_writer(output);
     write_records(printer, rows, &mut writer)?;
-    Ok(writer.flush()?)
+    done(printer, writer.flush())
 }
 
 /// Writes the names of columns and rows as lines of CSV.
@@ -149,9 +149,9 @@ fn write_names(
     writer: &mut Writer<&mut Output>,
 ) -> Result<(), Failure> {
     for column in columns {
-        write_field(text_of(printer, column.name())?, writer)?;
+        write_field(printer, column.name(), writer)?;
     }
-    Ok(writer.end_record()?)
+    done(printer, writer.end_record())
 }
 
 /// Writes the values of a row as a line of CSV.
@@ -163,7 +163,7 @@ fn write_record(
     if printer.style.is_escaped {
         write_shown(printer, row, writer)
     } else {
-        Ok(write_csv_row(writer, row)?)
+        done(printer, write_csv_row(writer, row))
     }
 }
 
@@ -174,29 +174,44 @@ fn write_shown(
     writer: &mut Writer<&mut Output>,
 ) -> Result<(), Failure> {
     for i in 0..row.len() {
-        write_field(value_text(printer, &row[i])?, writer)?;
+        write_value_field(printer, &row[i], writer)?;
     }
-    Ok(writer.end_record()?)
+    done(printer, writer.end_record())
 }
 
-/// Writes a field of CSV.
-fn write_field(text: String, writer: &mut Writer<&mut Output>) -> Result<(), csv::Error> {
-    writer.write_field(text.as_bytes())
-}
-
-/// The text of a value in CSV.
-fn value_text(printer: &Printer, value: &Value) -> Result<String, AllocError> {
+/// Writes a value as a field of CSV.
+fn write_value_field(
+    printer: &Printer,
+    value: &Value,
+    writer: &mut Writer<&mut Output>,
+) -> Result<(), Failure> {
     match value {
-        Value::Null => Ok(String::new(printer.alloc)),
-        Value::Int(number) => number.to_string(printer.alloc),
-        Value::Str(text) => text_of(printer, text.as_str()),
-        Value::Binary => text_of(printer, STREAM),
+        Value::Null => write_field(printer, "", writer),
+        Value::Int(number) => {
+            let text = number.to_string(printer.alloc)?;
+            write_field(printer, text.as_str(), writer)
+        }
+        Value::Str(text) => write_field(printer, text.as_str(), writer),
+        Value::Binary => write_field(printer, STREAM, writer),
     }
 }
 
-/// A text as it is printed.
-fn text_of(printer: &Printer, text: &str) -> Result<String, AllocError> {
-    printer.style.show(text).to_string(printer.alloc)
+/// Writes a text as a field of CSV, as it is printed.
+fn write_field(
+    printer: &Printer,
+    text: &str,
+    writer: &mut Writer<&mut Output>,
+) -> Result<(), Failure> {
+    let text = printer.style.show(text).to_string(printer.alloc)?;
+    done(printer, writer.write_field(text.as_bytes()))
+}
+
+/// What a call of the writer returned.
+fn done(printer: &Printer, returned: Result<(), csv::Error>) -> Result<(), Failure> {
+    match returned {
+        Ok(()) => Ok(()),
+        Err(error) => Err(Failure::shown(printer.alloc, &error)),
+    }
 }
 
 /// Writes rows as a list of objects, one a line.

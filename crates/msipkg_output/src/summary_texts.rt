@@ -1,7 +1,7 @@
 //! The properties of a summary as texts, as the installer's table `_SummaryInformation` has them.
 
 use crate::texts::{TimeText, UuidText};
-use msipkg_system::msi::{Error, SummaryInfo, Timestamp};
+use msi::{Error, SummaryInfo, Timestamp};
 use std::alloc::{AllocError, Global};
 
 /// The properties in the order of their numbers, each with its name. The template is the architecture and the

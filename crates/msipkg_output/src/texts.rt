@@ -1,6 +1,6 @@
 //! Parts of packages as texts.
 
-use msipkg_system::msi::{PackageType, Row, Timestamp, Value};
+use msi::{PackageType, Row, Timestamp, Value};
 use std::alloc::{AllocError, Global};
 use std::fmt;
 use uuid::Uuid;

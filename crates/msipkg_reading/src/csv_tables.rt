@@ -2,9 +2,9 @@
 
 use crate::given::{Given, GivenColumn, GivenTable};
 use csv::{ReaderBuilder, StringRecord};
+use msi_text_rows::csv_value;
 use msipkg_output::Failure;
 use msipkg_output::msi::{ColumnType, Error, Value};
-use msipkg_output::msi_text_rows::csv_value;
 use std::alloc::{AllocError, Global};
 
 /// How long the texts of a key are at most, where the table is created.
@@ -39,10 +39,11 @@ fn read_records(alloc: Global, bytes: &[u8], table: &mut GivenTable) -> Result<(
         .from_reader(alloc, bytes);
     let mut record = StringRecord::new(alloc);
     for _ in 0..u64::MAX {
-        if !reader.read_record(&mut record)? {
-            break;
+        match reader.read_record(&mut record) {
+            Ok(true) => add_record(alloc, &record, table)?,
+            Ok(false) => break,
+            Err(error) => return Err(Failure::shown(alloc, &error)),
         }
-        add_record(alloc, &record, table)?;
     }
     Ok(())
 }

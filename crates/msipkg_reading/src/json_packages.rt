@@ -20,8 +20,10 @@ pub(crate) fn read_json(
     bytes: &[u8],
     given: &mut Given,
 ) -> Result<(), Failure> {
-    let package = Value::from_slice(alloc, bytes)?;
-    read_package(alloc, path, &package, given)
+    match Value::from_slice(alloc, bytes) {
+        Ok(package) => read_package(alloc, path, &package, given),
+        Err(error) => Err(Failure::shown(alloc, &error)),
+    }
 }
 
 /// Adds what a package gives.

@@ -2,9 +2,9 @@
 
 use crate::given::{GivenColumn, GivenTable};
 use crate::json_packages::{items_in, text_in};
+use msi_text_rows::json_value;
 use msipkg_output::Failure;
 use msipkg_output::msi::{ColumnType, Value};
-use msipkg_output::msi_text_rows::json_value;
 use serde_json::Value as Json;
 use std::alloc::Global;
 

@@ -1,41 +1,52 @@
 //! What a package is read from, and what it is written to.
 
 use crate::system::SystemFile;
-use either::Either;
-use msi::Metered;
+use msi_container_device::Metered;
 use std::alloc::Global;
 use std::io::{self, Cursor, Read, Seek, SeekFrom, Write};
 
 /// What a package lies on: its file, or the bytes of one that was recoded or is new, and memory that it is written to.
 pub type Opened = Metered<Carrier>;
 
+/// Where a package is read from.
+#[derive(Drop)]
+pub enum Origin {
+    /// Its file.
+    File(SystemFile),
+    /// The bytes of one that was recoded or is new.
+    Memory(Cursor<Vec<u8>>),
+}
+
 /// What a package is read from, and memory that it is written to: what is read stays as it is. All packages are over
 /// this type, whether they are looked at, changed or new, so that what is made of their code is made once.
 #[derive(Drop)]
 pub struct Carrier {
-    source: Either<SystemFile, Cursor<Vec<u8>>>,
+    origin: Origin,
     written: Cursor<Vec<u8>>,
 }
 
 impl Carrier {
-    /// Returns the carrier of a package that is read from where its source stands.
-    pub fn new(alloc: Global, source: Either<SystemFile, Cursor<Vec<u8>>>) -> Carrier {
+    /// Returns the carrier of a package that is read from its beginning on.
+    pub fn new(alloc: Global, origin: Origin) -> Carrier {
         Carrier {
-            source,
+            origin,
             written: Cursor::new(Vec::new(alloc)),
         }
     }
 
     /// Returns the bytes that were written.
     pub fn into_written(self) -> Vec<u8> {
-        let Carrier { source: _, written } = self;
+        let Carrier { origin: _, written } = self;
         written.into_inner()
     }
 }
 
 impl Read for Carrier {
     fn read(&mut self, buf: &mut [u8]) -> io::Result<usize> {
-        self.source.read(buf)
+        match &mut self.origin {
+            Origin::File(file) => file.read(buf),
+            Origin::Memory(bytes) => bytes.read(buf),
+        }
     }
 }
 

@@ -6,8 +6,6 @@ mod meter;
 pub mod output;
 pub mod system;
 
-// For the crates above, so that each has one way to them: rt goes down every path between two crates.
-pub use carrier::{Carrier, Opened};
-pub use msi;
+pub use carrier::{Carrier, Opened, Origin};
 pub use output::Output;
 pub use system::{System, SystemFile, path_in};

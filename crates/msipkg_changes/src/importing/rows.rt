@@ -1,7 +1,7 @@
 //! Rows that files give, as a package's table has them.
 
+use msi_text_rows::csv_value;
 use msipkg_output::msi::{Column, ColumnType, Error, Package, Value};
-use msipkg_output::msi_text_rows::csv_value;
 use msipkg_output::{Failure, Opened};
 use msipkg_reading::GivenTable;
 use std::alloc::Global;
