@@ -1,5 +1,6 @@
 -- The lemmas of this crate.
 pub mod OwnNameLemmas
+pub mod PassedLemmas
 pub mod TreeLemmas
 pub mod SectorBytesLemmas
 pub mod StreamChainLemmas

@@ -1,14 +1,11 @@
 -- What the parts of a file say of its plan, where the code has sectors and entries under other names: behind a slice, or
 -- as they stood before a call. Over plain lists and numbers, since a function that owns all parts has long goals.
-use Rattle.std.proofs.Common.{◌≡◌, ℕ, ◌+◌, ◌-◌, ◌<◌, ◌≤◌, ◌^◌, Bool, List, ◌++◌, length, sum_by, Result, Err, ◌⊎◌, inl, sym, ◌∙◌, ap, arith, refl}
-use Rattle.msi_text_base.specs.declared.errors.ErrorKind.{ErrorKind}
-use Rattle.msi_text_base.specs.declared.errors.ErrorKind.TheVariants.{InvalidData, OutOfMemory}
+use Rattle.std.proofs.Common.{◌≡◌, ℕ, ◌+◌, ◌-◌, ◌<◌, ◌≤◌, ◌^◌, Bool, List, ◌++◌, length, sum_by, inl, sym, ◌∙◌, ap, arith, refl}
 use Rattle.msi_container_format.specs.Chains.{AreBelow, AreDistinct}
 use Rattle.msi_container_format.specs.Format.{MAX_REGULAR_SECTOR}
 use Rattle.msi_container_format.specs.Trees.{Tree, members}
 use Rattle.msi_container_format.specs.Container.{Plan, IsPlan, IsSector, IsDirectoryTree, kind, child, clsid, entry_count, has_storage, streams_among, stream_entries}
 use Rattle.msi_container_chains.specs.Counts.{links, sectors_inside}
-use Rattle.msi_container_chains.specs.Outcomes.{FailsByData}
 use Rattle.msi_container_read.specs.Reading.{AreOfKinds, IsStart, IsNamelessListing, IsMini, AreChained, IsOutline, HaveNamesApart, storages_among, mini_limit}
 use Rattle.msi_container_read.specs.Steps.{steps_of, IsWithinSectors}
 use Rattle.msi_container_read.proofs.ListingLemmas.{some_entries}
@@ -41,12 +38,6 @@ room_of s t k l marks limit count a b d e f g = omega arith
 
 pub started_late : (s t u k l m : ℕ) → s ≤ 2 ^ 63 → t + k ≤ s + l → u + l ≤ t + m → u ≤ 2 ^ 63 + m
 started_late s t u k l m a b d = omega arith
-
--- ERRORS
-
--- an error that is passed on is of the kinds that it was of
-pub passed_on : {X : Type 0} (r : Result X ErrorKind) (e f : ErrorKind) → r ≡ Err e → e ≡ f → (f ≡ InvalidData) ⊎ (f ≡ OutOfMemory) → FailsByData r
-passed_on r e f a b k = rw (a, b) k
 
 -- THE PARTS
 
@@ -217,3 +208,10 @@ listing_found bytes directory root top tree entries seen k five t spelled same d
 -- sectors in the last of three parts are few, too
 pub few_last : (a b d limit count : ℕ) → a + b + d ≤ limit → limit ≡ count → count ≤ MAX_REGULAR_SECTOR + 1 → d ≤ 2 ^ 32
 few_last a b d limit count h e r = omega arith
+
+-- what was made of the entries, behind a slice, is made of the tree's members
+pub made_of : {X : Type 0} (f : List ℕ → X) (found : X) (seen entries all : List ℕ) → found ≡ f seen → seen ≡ entries → entries ≡ all → found ≡ f all
+made_of f found seen entries all e s m = e ∙ ap f (s ∙ m)
+
+pub both_are : {X Y : Type 0} (a b : X) (d e : Y) → a ≡ b → d ≡ e → ◌≡◌ {A = X × Y} (a, d) (b, e)
+both_are a b d e p q = rw (p, q) refl
