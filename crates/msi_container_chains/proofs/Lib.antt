@@ -1,4 +1,5 @@
 -- The lemmas of this crate.
+pub mod PassedLemmas
 pub mod ClaimLemmas
 pub mod StepLemmas
 pub mod ChainLemmas

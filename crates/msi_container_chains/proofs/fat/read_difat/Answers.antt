@@ -1,4 +1,4 @@
-use Rattle.std.proofs.Common.{arith, ◌≡◌, ◌<◌, ◌-◌, ◌/◌, ◌++◌, take, vec_len, ◌∙◌, sym, Some}
+use Rattle.std.proofs.Common.{arith, ◌≡◌, ◌<◌, ◌-◌, ◌/◌, ◌++◌, take, vec_len, ◌∙◌, sym, Some, refl, inr}
 use Rattle.std.specs.Int.{div_ceil}
 use Rattle.std.proofs.lemmas.Result.{err_from_is_err_and}
 use Rattle.std.proofs.lemmas.List.{append_assoc, take_all}
@@ -8,6 +8,9 @@ use Rattle.msi_container_chains.specs.Walks.{follower}
 use Rattle.msi_container_format.specs.Container.{next_difat, fat_count, sector_size}
 use Rattle.msi_container_chains.proofs.ClaimLemmas.{claim_lacked_memory}
 use Rattle.msi_container_chains.proofs.ChainLemmas.{chain_push, same_push, next_is, free_at}
+use Rattle.msi_text_base.specs.declared.errors.ErrorKind.TheVariants.{OutOfMemory}
+use Rattle.msi_container_chains.proofs.PassedLemmas.{no_value, kind_passed, memory_viewed}
+use Rattle.msi_container_chains.proofs.FatLemmas.{difat_count_is}
 use Rattle.msi_container_chains.proofs.fat.read_difat.Goals as goal
 
 pub returns-in_err-claim-clause-only : goal.returns-in_err-claim-clause-only
@@ -21,7 +24,7 @@ returns-in_err-claim-clause-only c = λ difat is can.
     let n = c.loop.counter in
     let s = c.next_sector-sector.result in
     let used = c.args.claims.now.list.items in
-    let end : c.div_ceil-end.result ≡ count = cc in
+    let end = difat_count_is bytes _ _ _ _ c.div_ceil-end.ensures c.saturating_sub-listed.ensures c.number32.ensures c.sector_size-size.ensures.value in
     let within : n < count = rw (← end) c.loop-test.true in
     let follows : follower next start c.loop.difat.items ≡ Some s = rw c.deref.ensures.value at (sym c.next_sector-sector.ensures) in
     let same = next_is next start count n s _ difat is within (i.only difat is can) follows in
@@ -40,7 +43,7 @@ loop-preserved c =
     let xs = c.loop.difat.items in
     let s = c.next_sector-sector.result in
     let pushed = c.in_ok-push.ensures.items in
-    let end : c.div_ceil-end.result ≡ count = cc in
+    let end = difat_count_is bytes _ _ _ _ c.div_ceil-end.ensures c.saturating_sub-listed.ensures c.number32.ensures c.sector_size-size.ensures.value in
     let within : c.loop.counter < count = rw (← end) c.loop-test.true in
     let follows : follower next start xs ≡ Some s = rw c.deref.ensures.value at (sym c.next_sector-sector.ensures) in
     record {
@@ -54,7 +57,7 @@ pub returns-clause-found : goal.returns-clause-found
 returns-clause-found c =
     let bytes = c.args.bytes.now in
     let count = div_ceil (fat_count bytes - 109) (sector_size bytes / 4 - 1) in
-    let end : c.div_ceil-end.result ≡ count = cc in
+    let end = difat_count_is bytes _ _ _ _ c.div_ceil-end.ensures c.saturating_sub-listed.ensures c.number32.ensures c.sector_size-size.ensures.value in
     let all : c.loop.counter ≡ c.div_ceil-end.result = omega arith in
     (rw (all, end) at c.loop.invariant.so_far, c.loop.invariant.claimed)
 
@@ -62,6 +65,30 @@ pub returns-clause-only : goal.returns-clause-only
 returns-clause-only c = λ difat is can.
     let bytes = c.args.bytes.now in
     let count = div_ceil (fat_count bytes - 109) (sector_size bytes / 4 - 1) in
-    let end : c.div_ceil-end.result ≡ count = cc in
+    let end = difat_count_is bytes _ _ _ _ c.div_ceil-end.ensures c.saturating_sub-listed.ensures c.number32.ensures c.sector_size-size.ensures.value in
     let all : c.loop.counter ≡ c.div_ceil-end.result = omega arith in
     c.loop.invariant.only difat is can ∙ take_all c.loop.counter difat (omega (arith, is.long, end, all))
+
+pub returns-in_err-claim-clause-found : goal.returns-in_err-claim-clause-found
+returns-in_err-claim-clause-found c = no_value _ c.from_residual.result c.in_err-claim.field-0.0 c.from_residual.ensures.1
+
+pub returns-in_err-claim-clause-kinds : goal.returns-in_err-claim-clause-kinds
+returns-in_err-claim-clause-kinds c = kind_passed c.from_residual.result c.in_err-claim.field-0.0 c.from_residual.ensures.1 c.in_err-claim.ensures.kinds
+
+pub returns-in_err-claim-clause-limit : goal.returns-in_err-claim-clause-limit
+returns-in_err-claim-clause-limit c = c.in_err-claim.ensures.limit ∙ c.loop.invariant.limit
+
+pub returns-in_err-push-clause-found : goal.returns-in_err-push-clause-found
+returns-in_err-push-clause-found c = no_value _ c.from_residual-in_err-push.result OutOfMemory c.from_residual-in_err-push.ensures.1
+
+pub returns-in_err-push-clause-kinds : goal.returns-in_err-push-clause-kinds
+returns-in_err-push-clause-kinds c = kind_passed c.from_residual-in_err-push.result OutOfMemory c.from_residual-in_err-push.ensures.1 (inr refl)
+
+pub returns-in_err-push-clause-limit : goal.returns-in_err-push-clause-limit
+returns-in_err-push-clause-limit c = c.in_ok-claim.ensures.limit ∙ c.loop.invariant.limit
+
+pub returns-in_err-push-clause-only : goal.returns-in_err-push-clause-only
+returns-in_err-push-clause-only c = λ difat is can. memory_viewed _ c.from_residual-in_err-push.result _ c.from_residual-in_err-push.ensures.1
+
+pub returns-clause-limit : goal.returns-clause-limit
+returns-clause-limit c = c.loop.invariant.limit

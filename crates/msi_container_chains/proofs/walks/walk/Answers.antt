@@ -1,4 +1,4 @@
-use Rattle.std.proofs.Common.{List, arith, ◌≡◌, ℕ, ◌++◌, length, get_or, take, vec_len, ◌∙◌, sym, ap, Some}
+use Rattle.std.proofs.Common.{List, arith, ◌≡◌, ℕ, ◌++◌, length, get_or, take, vec_len, ◌∙◌, sym, ap, Some, refl, inl, inr}
 use Rattle.std.proofs.lemmas.Result.{err_from_is_err_and}
 use Rattle.std.proofs.lemmas.List.{append_assoc, take_all}
 use Rattle.std.proofs.lemmas.Option.{none-some}
@@ -8,6 +8,8 @@ use Rattle.msi_container_format.specs.Container.{successor}
 use Rattle.msi_container_chains.proofs.ClaimLemmas.{claim_lacked_memory}
 use Rattle.msi_container_chains.proofs.ChainLemmas.{chain_push, same_push, follower_is, next_is, free_at}
 use Rattle.msi_container_chains.proofs.StepLemmas.{used_more, used_one_more, used_same, used_most}
+use Rattle.msi_text_base.specs.declared.errors.ErrorKind.TheVariants.{OutOfMemory}
+use Rattle.msi_container_chains.proofs.PassedLemmas.{no_value, kind_passed, memory_viewed}
 use Rattle.msi_container_chains.proofs.walks.walk.Goals as goal
 
 pub returns-in_err-sector-clause-only : goal.returns-in_err-sector-clause-only
@@ -90,3 +92,57 @@ returns-clause-bounded c =
 
 pub returns-clause-exact : goal.returns-clause-exact
 returns-clause-exact c = omega (arith, c.loop.invariant.steps, c.loop.invariant.so_far.long)
+
+pub returns-in_err-sector-clause-found : goal.returns-in_err-sector-clause-found
+returns-in_err-sector-clause-found c = no_value _ c.from_residual.result c.in_err-sector.field-0.0 c.from_residual.ensures.1
+
+pub returns-in_err-sector-clause-exact : goal.returns-in_err-sector-clause-exact
+returns-in_err-sector-clause-exact c = no_value _ c.from_residual.result c.in_err-sector.field-0.0 c.from_residual.ensures.1
+
+pub returns-in_err-sector-clause-kinds : goal.returns-in_err-sector-clause-kinds
+returns-in_err-sector-clause-kinds c = kind_passed c.from_residual.result c.in_err-sector.field-0.0 c.from_residual.ensures.1 (inl c.in_err-sector.ensures.value.0)
+
+pub returns-in_err-sector-clause-limit : goal.returns-in_err-sector-clause-limit
+returns-in_err-sector-clause-limit c = c.loop.invariant.limit
+
+pub returns-in_err-sector-clause-grows : goal.returns-in_err-sector-clause-grows
+returns-in_err-sector-clause-grows c = omega (arith, c.loop.invariant.steps, c.in_err-sector.ensures.step)
+
+pub returns-in_err-claim-clause-found : goal.returns-in_err-claim-clause-found
+returns-in_err-claim-clause-found c = no_value _ c.from_residual-in_err-claim.result c.in_err-claim.field-0.0 c.from_residual-in_err-claim.ensures.1
+
+pub returns-in_err-claim-clause-exact : goal.returns-in_err-claim-clause-exact
+returns-in_err-claim-clause-exact c = no_value _ c.from_residual-in_err-claim.result c.in_err-claim.field-0.0 c.from_residual-in_err-claim.ensures.1
+
+pub returns-in_err-claim-clause-kinds : goal.returns-in_err-claim-clause-kinds
+returns-in_err-claim-clause-kinds c = kind_passed c.from_residual-in_err-claim.result c.in_err-claim.field-0.0 c.from_residual-in_err-claim.ensures.1 c.in_err-claim.ensures.kinds
+
+pub returns-in_err-claim-clause-limit : goal.returns-in_err-claim-clause-limit
+returns-in_err-claim-clause-limit c = c.in_err-claim.ensures.limit ∙ c.loop.invariant.limit
+
+pub returns-in_err-claim-clause-grows : goal.returns-in_err-claim-clause-grows
+returns-in_err-claim-clause-grows c = omega (arith, c.loop.invariant.steps, c.in_ok-sector.ensures.step)
+
+pub returns-in_err-push-clause-found : goal.returns-in_err-push-clause-found
+returns-in_err-push-clause-found c = no_value _ c.from_residual-in_err-push.result OutOfMemory c.from_residual-in_err-push.ensures.1
+
+pub returns-in_err-push-clause-exact : goal.returns-in_err-push-clause-exact
+returns-in_err-push-clause-exact c = no_value _ c.from_residual-in_err-push.result OutOfMemory c.from_residual-in_err-push.ensures.1
+
+pub returns-in_err-push-clause-kinds : goal.returns-in_err-push-clause-kinds
+returns-in_err-push-clause-kinds c = kind_passed c.from_residual-in_err-push.result OutOfMemory c.from_residual-in_err-push.ensures.1 (inr refl)
+
+pub returns-in_err-push-clause-limit : goal.returns-in_err-push-clause-limit
+returns-in_err-push-clause-limit c = c.in_ok-claim.ensures.limit ∙ c.loop.invariant.limit
+
+pub returns-in_err-push-clause-grows : goal.returns-in_err-push-clause-grows
+returns-in_err-push-clause-grows c = omega (arith, c.loop.invariant.steps, c.in_ok-sector.ensures.step)
+
+pub returns-in_err-push-clause-only : goal.returns-in_err-push-clause-only
+returns-in_err-push-clause-only c = λ chain is can. memory_viewed _ c.from_residual-in_err-push.result _ c.from_residual-in_err-push.ensures.1
+
+pub returns-clause-limit : goal.returns-clause-limit
+returns-clause-limit c = c.loop.invariant.limit
+
+pub returns-clause-grows : goal.returns-clause-grows
+returns-clause-grows c = omega (arith, c.loop.invariant.steps)
