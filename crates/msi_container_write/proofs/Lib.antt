@@ -7,6 +7,7 @@ pub mod EntriesLemmas
 pub mod PutLemmas
 pub mod LayoutHeldLemmas
 pub mod LayoutLemmas
+pub mod FailedLemmas
 pub mod LayoutRows
 pub mod LaidLemmas
 pub mod PlacedLemmas

@@ -1,4 +1,5 @@
 use Rattle.std.proofs.Common.{◌≡◌, ◌∷◌, List, ℕ, if◌then◌else◌, [], length, ◌∙◌, ap, subst, arith, rules}
+use Rattle.std.proofs.lemmas.Result.{IfOk-from_err}
 use Rattle.msi_container_format.specs.Chains.{AreBelow}
 use Rattle.msi_container_format.specs.Container.{is_mini}
 use Rattle.msi_container_write.specs.Extents.{units, all_units}
@@ -32,3 +33,15 @@ loop-name-preserved c =
           c.units-units_of_name.ensures.units bytes u v c.in_ok-push.ensures.items c.loop-name.invariant.indexed;
       names = name_known stream c.loop-name.name-iterator c.next.new.self is named c.loop-name.invariant.names;
     }
+
+pub returns-in_err-places-clause-indexed : goal.returns-in_err-places-clause-indexed
+returns-in_err-places-clause-indexed c = IfOk-from_err c.from_residual.result _ c.from_residual.ensures.0
+
+pub returns-in_err-places-clause-names : goal.returns-in_err-places-clause-names
+returns-in_err-places-clause-names c = IfOk-from_err c.from_residual.result _ c.from_residual.ensures.0
+
+pub returns-in_err-push-clause-indexed : goal.returns-in_err-push-clause-indexed
+returns-in_err-push-clause-indexed c = IfOk-from_err c.from_residual-in_err-push.result _ c.from_residual-in_err-push.ensures.0
+
+pub returns-in_err-push-clause-names : goal.returns-in_err-push-clause-names
+returns-in_err-push-clause-names c = IfOk-from_err c.from_residual-in_err-push.result _ c.from_residual-in_err-push.ensures.0

@@ -1,8 +1,9 @@
-use Rattle.std.proofs.Common.{ℕ, ◌+◌, arith, rules}
+use Rattle.std.proofs.Common.{ℕ, ◌+◌, arith}
 use Rattle.msi_text_base.proofs.ResultLemmas.{on_err_from}
 use Rattle.msi_container_write.specs.Image.{image_byte}
 use Rattle.msi_container_write.specs.Index.{streams_of}
 use Rattle.msi_container_write.specs.Layout.{mini_fat_run, parts_of}
+use Rattle.msi_container_write.proofs.FailedLemmas.{still_so}
 use Rattle.msi_container_write.proofs.SectorsHeldLemmas.{sector_in_part, sector_written}
 use Rattle.msi_container_write.proofs.writing.write_sectors.Goals as goal
 
@@ -19,5 +20,5 @@ loop-n-preserved g c =
     let byte : ℕ → ℕ = image_byte (parts_of c.args.layout.now.clsid streams) (mini_fat_run streams) c.args.layout.now.extent.total in
     record {
       held = sector_written byte c.loop-n.n c.fill.new.sector _ _ _ c.loop-n.invariant.held c.fill.ensures c.in_ok-write_all.ensures.ok;
-      failed = search rules;
+      failed = still_so _ _ _ c.in_ok-write_all.ensures.failed c.loop-n.invariant.failed;
     }
