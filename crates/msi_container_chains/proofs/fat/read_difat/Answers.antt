@@ -1,6 +1,6 @@
 use Rattle.std.proofs.Common.{arith, ◌≡◌, ◌<◌, ◌-◌, ◌/◌, ◌++◌, take, vec_len, ◌∙◌, sym, Some, refl, inr}
 use Rattle.std.specs.Int.{div_ceil}
-use Rattle.std.proofs.lemmas.Result.{err_from_is_err_and}
+use Rattle.std.proofs.lemmas.Result.{IfOk-from_err, err_from_is_err_and}
 use Rattle.std.proofs.lemmas.List.{append_assoc, take_all}
 use Rattle.msi_container_format.specs.Bytes.{number32}
 use Rattle.msi_container_chains.specs.Claims.{IsFree}
@@ -9,7 +9,7 @@ use Rattle.msi_container_format.specs.Container.{next_difat, fat_count, sector_s
 use Rattle.msi_container_chains.proofs.ClaimLemmas.{claim_lacked_memory}
 use Rattle.msi_container_chains.proofs.ChainLemmas.{chain_push, same_push, next_is, free_at}
 use Rattle.msi_text_base.specs.declared.errors.ErrorKind.TheVariants.{OutOfMemory}
-use Rattle.msi_container_chains.proofs.PassedLemmas.{no_value, kind_passed, memory_viewed}
+use Rattle.msi_container_chains.proofs.PassedLemmas.{kind_passed, memory_viewed}
 use Rattle.msi_container_chains.proofs.FatLemmas.{difat_count_is}
 use Rattle.msi_container_chains.proofs.fat.read_difat.Goals as goal
 
@@ -70,7 +70,7 @@ returns-clause-only c = λ difat is can.
     c.loop.invariant.only difat is can ∙ take_all c.loop.counter difat (omega (arith, is.long, end, all))
 
 pub returns-in_err-claim-clause-found : goal.returns-in_err-claim-clause-found
-returns-in_err-claim-clause-found c = no_value _ c.from_residual.result c.in_err-claim.field-0.0 c.from_residual.ensures.1
+returns-in_err-claim-clause-found c = IfOk-from_err c.from_residual.result _ c.from_residual.ensures.0
 
 pub returns-in_err-claim-clause-kinds : goal.returns-in_err-claim-clause-kinds
 returns-in_err-claim-clause-kinds c = kind_passed c.from_residual.result c.in_err-claim.field-0.0 c.from_residual.ensures.1 c.in_err-claim.ensures.kinds
@@ -79,7 +79,7 @@ pub returns-in_err-claim-clause-limit : goal.returns-in_err-claim-clause-limit
 returns-in_err-claim-clause-limit c = c.in_err-claim.ensures.limit ∙ c.loop.invariant.limit
 
 pub returns-in_err-push-clause-found : goal.returns-in_err-push-clause-found
-returns-in_err-push-clause-found c = no_value _ c.from_residual-in_err-push.result OutOfMemory c.from_residual-in_err-push.ensures.1
+returns-in_err-push-clause-found c = IfOk-from_err c.from_residual-in_err-push.result _ c.from_residual-in_err-push.ensures.0
 
 pub returns-in_err-push-clause-kinds : goal.returns-in_err-push-clause-kinds
 returns-in_err-push-clause-kinds c = kind_passed c.from_residual-in_err-push.result OutOfMemory c.from_residual-in_err-push.ensures.1 (inr refl)

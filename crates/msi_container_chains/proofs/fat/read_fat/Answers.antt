@@ -1,6 +1,6 @@
 use Rattle.std.proofs.Common.{arith, ◌≡◌, ◌∷◌, [], ◌++◌, vec_len, ◌∙◌, ap, sym, map, refl, inr}
 use Rattle.std.specs.List.{range_with_len}
-use Rattle.std.proofs.lemmas.Result.{err_from_is_err_and}
+use Rattle.std.proofs.lemmas.Result.{IfOk-from_err, err_from_is_err_and}
 use Rattle.std.proofs.lemmas.List.{append_assoc, append-nil}
 use Rattle.std.proofs.lemmas.List.FromFn.{map-range_with_len_more}
 use Rattle.msi_text_base.specs.declared.errors.ErrorKind.TheVariants.{OutOfMemory}
@@ -8,7 +8,7 @@ use Rattle.msi_container_chains.specs.Claims.{IsFree}
 use Rattle.msi_container_format.specs.Container.{listed, fat_count}
 use Rattle.msi_container_chains.proofs.ClaimLemmas.{claim_lacked_memory}
 use Rattle.msi_container_chains.proofs.FatLemmas.{fat_sector_free}
-use Rattle.msi_container_chains.proofs.PassedLemmas.{no_value, kind_passed, memory_viewed}
+use Rattle.msi_container_chains.proofs.PassedLemmas.{kind_passed, memory_viewed}
 use Rattle.msi_container_chains.proofs.fat.read_fat.Goals as goal
 
 pub returns-in_err-claim-clause-only : goal.returns-in_err-claim-clause-only
@@ -35,7 +35,7 @@ loop-place-preserved c =
     }
 
 pub returns-in_err-claim-clause-found : goal.returns-in_err-claim-clause-found
-returns-in_err-claim-clause-found c = no_value _ c.from_residual.result c.in_err-claim.field-0.0 c.from_residual.ensures.1
+returns-in_err-claim-clause-found c = IfOk-from_err c.from_residual.result _ c.from_residual.ensures.0
 
 pub returns-in_err-claim-clause-kinds : goal.returns-in_err-claim-clause-kinds
 returns-in_err-claim-clause-kinds c = kind_passed c.from_residual.result c.in_err-claim.field-0.0 c.from_residual.ensures.1 c.in_err-claim.ensures.kinds
@@ -44,7 +44,7 @@ pub returns-in_err-claim-clause-limit : goal.returns-in_err-claim-clause-limit
 returns-in_err-claim-clause-limit c = c.in_err-claim.ensures.limit ∙ c.loop-place.invariant.limit
 
 pub returns-in_err-push-clause-found : goal.returns-in_err-push-clause-found
-returns-in_err-push-clause-found c = no_value _ c.from_residual-in_err-push.result OutOfMemory c.from_residual-in_err-push.ensures.1
+returns-in_err-push-clause-found c = IfOk-from_err c.from_residual-in_err-push.result _ c.from_residual-in_err-push.ensures.0
 
 pub returns-in_err-push-clause-kinds : goal.returns-in_err-push-clause-kinds
 returns-in_err-push-clause-kinds c = kind_passed c.from_residual-in_err-push.result OutOfMemory c.from_residual-in_err-push.ensures.1 (inr refl)

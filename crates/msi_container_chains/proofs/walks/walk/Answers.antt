@@ -1,5 +1,5 @@
 use Rattle.std.proofs.Common.{List, arith, ◌≡◌, ℕ, ◌++◌, length, get_or, take, vec_len, ◌∙◌, sym, ap, Some, refl, inl, inr}
-use Rattle.std.proofs.lemmas.Result.{err_from_is_err_and}
+use Rattle.std.proofs.lemmas.Result.{IfOk-from_err, err_from_is_err_and}
 use Rattle.std.proofs.lemmas.List.{append_assoc, take_all}
 use Rattle.std.proofs.lemmas.Option.{none-some}
 use Rattle.msi_container_chains.specs.Claims.{IsFree}
@@ -9,7 +9,7 @@ use Rattle.msi_container_chains.proofs.ClaimLemmas.{claim_lacked_memory}
 use Rattle.msi_container_chains.proofs.ChainLemmas.{chain_push, same_push, follower_is, next_is, free_at}
 use Rattle.msi_container_chains.proofs.StepLemmas.{used_more, used_one_more, used_same, used_most}
 use Rattle.msi_text_base.specs.declared.errors.ErrorKind.TheVariants.{OutOfMemory}
-use Rattle.msi_container_chains.proofs.PassedLemmas.{no_value, kind_passed, memory_viewed}
+use Rattle.msi_container_chains.proofs.PassedLemmas.{kind_passed, memory_viewed}
 use Rattle.msi_container_chains.proofs.walks.walk.Goals as goal
 
 pub returns-in_err-sector-clause-only : goal.returns-in_err-sector-clause-only
@@ -94,10 +94,10 @@ pub returns-clause-exact : goal.returns-clause-exact
 returns-clause-exact c = omega (arith, c.loop.invariant.steps, c.loop.invariant.so_far.long)
 
 pub returns-in_err-sector-clause-found : goal.returns-in_err-sector-clause-found
-returns-in_err-sector-clause-found c = no_value _ c.from_residual.result c.in_err-sector.field-0.0 c.from_residual.ensures.1
+returns-in_err-sector-clause-found c = IfOk-from_err c.from_residual.result _ c.from_residual.ensures.0
 
 pub returns-in_err-sector-clause-exact : goal.returns-in_err-sector-clause-exact
-returns-in_err-sector-clause-exact c = no_value _ c.from_residual.result c.in_err-sector.field-0.0 c.from_residual.ensures.1
+returns-in_err-sector-clause-exact c = IfOk-from_err c.from_residual.result _ c.from_residual.ensures.0
 
 pub returns-in_err-sector-clause-kinds : goal.returns-in_err-sector-clause-kinds
 returns-in_err-sector-clause-kinds c = kind_passed c.from_residual.result c.in_err-sector.field-0.0 c.from_residual.ensures.1 (inl c.in_err-sector.ensures.value.0)
@@ -109,10 +109,10 @@ pub returns-in_err-sector-clause-grows : goal.returns-in_err-sector-clause-grows
 returns-in_err-sector-clause-grows c = omega (arith, c.loop.invariant.steps, c.in_err-sector.ensures.step)
 
 pub returns-in_err-claim-clause-found : goal.returns-in_err-claim-clause-found
-returns-in_err-claim-clause-found c = no_value _ c.from_residual-in_err-claim.result c.in_err-claim.field-0.0 c.from_residual-in_err-claim.ensures.1
+returns-in_err-claim-clause-found c = IfOk-from_err c.from_residual-in_err-claim.result _ c.from_residual-in_err-claim.ensures.0
 
 pub returns-in_err-claim-clause-exact : goal.returns-in_err-claim-clause-exact
-returns-in_err-claim-clause-exact c = no_value _ c.from_residual-in_err-claim.result c.in_err-claim.field-0.0 c.from_residual-in_err-claim.ensures.1
+returns-in_err-claim-clause-exact c = IfOk-from_err c.from_residual-in_err-claim.result _ c.from_residual-in_err-claim.ensures.0
 
 pub returns-in_err-claim-clause-kinds : goal.returns-in_err-claim-clause-kinds
 returns-in_err-claim-clause-kinds c = kind_passed c.from_residual-in_err-claim.result c.in_err-claim.field-0.0 c.from_residual-in_err-claim.ensures.1 c.in_err-claim.ensures.kinds
@@ -124,10 +124,10 @@ pub returns-in_err-claim-clause-grows : goal.returns-in_err-claim-clause-grows
 returns-in_err-claim-clause-grows c = omega (arith, c.loop.invariant.steps, c.in_ok-sector.ensures.step)
 
 pub returns-in_err-push-clause-found : goal.returns-in_err-push-clause-found
-returns-in_err-push-clause-found c = no_value _ c.from_residual-in_err-push.result OutOfMemory c.from_residual-in_err-push.ensures.1
+returns-in_err-push-clause-found c = IfOk-from_err c.from_residual-in_err-push.result _ c.from_residual-in_err-push.ensures.0
 
 pub returns-in_err-push-clause-exact : goal.returns-in_err-push-clause-exact
-returns-in_err-push-clause-exact c = no_value _ c.from_residual-in_err-push.result OutOfMemory c.from_residual-in_err-push.ensures.1
+returns-in_err-push-clause-exact c = IfOk-from_err c.from_residual-in_err-push.result _ c.from_residual-in_err-push.ensures.0
 
 pub returns-in_err-push-clause-kinds : goal.returns-in_err-push-clause-kinds
 returns-in_err-push-clause-kinds c = kind_passed c.from_residual-in_err-push.result OutOfMemory c.from_residual-in_err-push.ensures.1 (inr refl)

@@ -1,5 +1,5 @@
 use Rattle.std.proofs.Common.{arith, ◌≡◌, [], ◌∷◌, ◌++◌, length, take, vec_len, ◌∙◌, sym, ap, Some, refl, inr}
-use Rattle.std.proofs.lemmas.Result.{err_from_is_err_and}
+use Rattle.std.proofs.lemmas.Result.{IfOk-from_err, err_from_is_err_and}
 use Rattle.std.proofs.lemmas.Option.{none-some}
 use Rattle.std.proofs.lemmas.List.{append_assoc}
 use Rattle.msi_text_base.specs.declared.errors.ErrorKind.TheVariants.{OutOfMemory}
@@ -9,7 +9,7 @@ use Rattle.msi_container_chains.proofs.ClaimLemmas.{claim_lacked_memory}
 use Rattle.msi_container_chains.proofs.ChainLemmas.{chain_push, follower_more, next_is, free_at}
 use Rattle.msi_container_chains.proofs.WholeChainLemmas.{more_left, none_left, none_from_end, front_push, follower_push, some_follows}
 use Rattle.msi_container_chains.proofs.StepLemmas.{used_more, used_one_more, used_same, used_most}
-use Rattle.msi_container_chains.proofs.PassedLemmas.{no_value, kind_passed, memory_viewed}
+use Rattle.msi_container_chains.proofs.PassedLemmas.{kind_passed, memory_viewed}
 use Rattle.msi_container_chains.proofs.walks.walk_to_end.Goals as goal
 
 pub returns-in_err-claim-clause-only : goal.returns-in_err-claim-clause-only
@@ -122,10 +122,10 @@ returns-then-start-eq-END_OF_CHAIN-clause-only c = λ chain whole can.
     absurd (none_from_end _ c.args.start _ c.args.claims.now.list.items chain whole can c.requires.regular c.if-start-eq-END_OF_CHAIN.true)
 
 pub returns-in_err-claim-clause-found : goal.returns-in_err-claim-clause-found
-returns-in_err-claim-clause-found c = no_value _ c.from_residual.result c.in_err-claim.field-0.0 c.from_residual.ensures.1
+returns-in_err-claim-clause-found c = IfOk-from_err c.from_residual.result _ c.from_residual.ensures.0
 
 pub returns-in_err-claim-clause-exact : goal.returns-in_err-claim-clause-exact
-returns-in_err-claim-clause-exact c = no_value _ c.from_residual.result c.in_err-claim.field-0.0 c.from_residual.ensures.1
+returns-in_err-claim-clause-exact c = IfOk-from_err c.from_residual.result _ c.from_residual.ensures.0
 
 pub returns-in_err-claim-clause-kinds : goal.returns-in_err-claim-clause-kinds
 returns-in_err-claim-clause-kinds c = kind_passed c.from_residual.result c.in_err-claim.field-0.0 c.from_residual.ensures.1 c.in_err-claim.ensures.kinds
@@ -137,10 +137,10 @@ pub returns-in_err-claim-clause-grows : goal.returns-in_err-claim-clause-grows
 returns-in_err-claim-clause-grows c = omega (arith, c.loop-link.invariant.counted)
 
 pub returns-in_err-push-clause-found : goal.returns-in_err-push-clause-found
-returns-in_err-push-clause-found c = no_value _ c.from_residual-in_err-push.result OutOfMemory c.from_residual-in_err-push.ensures.1
+returns-in_err-push-clause-found c = IfOk-from_err c.from_residual-in_err-push.result _ c.from_residual-in_err-push.ensures.0
 
 pub returns-in_err-push-clause-exact : goal.returns-in_err-push-clause-exact
-returns-in_err-push-clause-exact c = no_value _ c.from_residual-in_err-push.result OutOfMemory c.from_residual-in_err-push.ensures.1
+returns-in_err-push-clause-exact c = IfOk-from_err c.from_residual-in_err-push.result _ c.from_residual-in_err-push.ensures.0
 
 pub returns-in_err-push-clause-kinds : goal.returns-in_err-push-clause-kinds
 returns-in_err-push-clause-kinds c = kind_passed c.from_residual-in_err-push.result OutOfMemory c.from_residual-in_err-push.ensures.1 (inr refl)
