@@ -1,14 +1,9 @@
--- An error that is passed on: there is no value beside it, and its kind stays.
+-- An error that is passed on keeps its kind.
 use Rattle.std.proofs.Common.{◌≡◌, ◌∙◌, ap, Result, Ok, Err, ◌⊎◌, inl, inr}
-use Rattle.std.specs.Prelude.{IfOk, IsErrAnd}
+use Rattle.std.specs.Prelude.{IsErrAnd}
 use Rattle.msi_text_base.specs.declared.errors.ErrorKind.{ErrorKind}
 use Rattle.msi_text_base.specs.declared.errors.ErrorKind.TheVariants.{InvalidData, OutOfMemory}
 use Rattle.msi_container_chains.specs.Outcomes.{ViewIsUnlessMemory, FailsByData}
-
--- there is no value
-pub no_value : {X : Type 0} (P : X → Type 0) (r : Result X ErrorKind) (kind : ErrorKind) → IsErrAnd r (λ e. e ≡ kind) → IfOk r P
-no_value P (Ok x) kind d = absurd d
-no_value P (Err e) kind d = tt
 
 -- it is for the bytes or for memory, as it was
 pub kind_passed : {X : Type 0} (r : Result X ErrorKind) (kind : ErrorKind) → IsErrAnd r (λ e. e ≡ kind) → (kind ≡ InvalidData) ⊎ (kind ≡ OutOfMemory) → FailsByData r

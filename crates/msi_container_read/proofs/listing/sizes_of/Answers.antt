@@ -2,13 +2,13 @@ use Rattle.std.proofs.Common.{◌≡◌, ℕ, List, Bool, refl, get_or, arith, �
 use Rattle.std.specs.BTreeSet.{contains}
 use Rattle.std.specs.FinMap.{from_entries, contains_key}
 use Rattle.std.proofs.lemmas.List.{take_all}
-use Rattle.std.proofs.lemmas.Result.{err_from_is_err_and}
+use Rattle.std.proofs.lemmas.Result.{IfOk-from_err, err_from_is_err_and}
 use Rattle.msi_container_format.specs.Names.{name_cmp}
 use Rattle.msi_container_format.specs.Container.{name, size}
 use Rattle.msi_container_read.proofs.MapNamesLemmas.{begun_none, begun_more, begun_all, taken_clash, held_clash}
 use Rattle.msi_container_read.proofs.NamedSizesLemmas.{length-named_sizes, from_named_sizes_more}
 use Rattle.msi_container_read.proofs.SharedNamesLemmas.{refused}
-use Rattle.msi_container_read.proofs.PassedLemmas.{no_value, kind_passed, kind_of}
+use Rattle.msi_container_read.proofs.PassedLemmas.{kind_passed, kind_of}
 use Rattle.msi_container_read.proofs.listing.sizes_of.Goals as goal
 
 pub loop-entry-init : goal.loop-entry-init
@@ -77,28 +77,28 @@ returns-clause-names c =
     (λ q. contains_key l.sizes q) l.entry-index (omega arith) c.in_ok-taken.ensures.names c.in_ok-taken.ensures.known l.invariant.names
 
 pub returns-in_err-taken-clause-ok : goal.returns-in_err-taken-clause-ok
-returns-in_err-taken-clause-ok c = no_value _ c.from_residual.result c.in_err-taken.field-0.0 c.from_residual.ensures.1
+returns-in_err-taken-clause-ok c = IfOk-from_err c.from_residual.result _ c.from_residual.ensures.0
 
 pub returns-in_err-taken-clause-names : goal.returns-in_err-taken-clause-names
-returns-in_err-taken-clause-names c = no_value _ c.from_residual.result c.in_err-taken.field-0.0 c.from_residual.ensures.1
+returns-in_err-taken-clause-names c = IfOk-from_err c.from_residual.result _ c.from_residual.ensures.0
 
 pub returns-in_err-taken-clause-kinds : goal.returns-in_err-taken-clause-kinds
 returns-in_err-taken-clause-kinds c = kind_passed c.from_residual.result c.in_err-taken.field-0.0 c.from_residual.ensures.1 c.in_err-taken.ensures.kinds
 
 pub returns-in_err-name-clause-ok : goal.returns-in_err-name-clause-ok
-returns-in_err-name-clause-ok c = no_value _ c.from_residual-in_err-name.result c.in_err-name.field-0.0 c.from_residual-in_err-name.ensures.1
+returns-in_err-name-clause-ok c = IfOk-from_err c.from_residual-in_err-name.result _ c.from_residual-in_err-name.ensures.0
 
 pub returns-in_err-name-clause-names : goal.returns-in_err-name-clause-names
-returns-in_err-name-clause-names c = no_value _ c.from_residual-in_err-name.result c.in_err-name.field-0.0 c.from_residual-in_err-name.ensures.1
+returns-in_err-name-clause-names c = IfOk-from_err c.from_residual-in_err-name.result _ c.from_residual-in_err-name.ensures.0
 
 pub returns-in_err-name-clause-kinds : goal.returns-in_err-name-clause-kinds
 returns-in_err-name-clause-kinds c = kind_passed c.from_residual-in_err-name.result c.in_err-name.field-0.0 c.from_residual-in_err-name.ensures.1 (inl (kind_of c.in_err-name.field-0.0 _ c.in_err-name.ensures.kinds))
 
 pub returns-in_err-insert_size-clause-ok : goal.returns-in_err-insert_size-clause-ok
-returns-in_err-insert_size-clause-ok c = no_value _ c.from_residual-in_err-insert_size.result c.in_err-insert_size.field-0.0 c.from_residual-in_err-insert_size.ensures.1
+returns-in_err-insert_size-clause-ok c = IfOk-from_err c.from_residual-in_err-insert_size.result _ c.from_residual-in_err-insert_size.ensures.0
 
 pub returns-in_err-insert_size-clause-names : goal.returns-in_err-insert_size-clause-names
-returns-in_err-insert_size-clause-names c = no_value _ c.from_residual-in_err-insert_size.result c.in_err-insert_size.field-0.0 c.from_residual-in_err-insert_size.ensures.1
+returns-in_err-insert_size-clause-names c = IfOk-from_err c.from_residual-in_err-insert_size.result _ c.from_residual-in_err-insert_size.ensures.0
 
 pub returns-in_err-insert_size-clause-kinds : goal.returns-in_err-insert_size-clause-kinds
 returns-in_err-insert_size-clause-kinds c = kind_passed c.from_residual-in_err-insert_size.result c.in_err-insert_size.field-0.0 c.from_residual-in_err-insert_size.ensures.1 c.in_err-insert_size.ensures.kinds

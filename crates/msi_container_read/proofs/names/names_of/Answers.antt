@@ -1,9 +1,10 @@
 use Rattle.std.proofs.Common.{sym, ◌∙◌, arith, below_more, refl, inl, inr}
+use Rattle.std.proofs.lemmas.Result.{IfOk-from_err}
 use Rattle.std.proofs.lemmas.Bool.{not-true, not-false}
 use Rattle.msi_container_format.specs.Container.{name}
 use Rattle.msi_container_read.proofs.OwnNameLemmas.{known_more, known_has_place, own_more, known_all}
 use Rattle.msi_text_base.specs.declared.errors.ErrorKind.TheVariants.{OutOfMemory}
-use Rattle.msi_container_read.proofs.PassedLemmas.{no_value, kind_passed, memory_is_valid, kind_of}
+use Rattle.msi_container_read.proofs.PassedLemmas.{kind_passed, memory_is_valid, kind_of}
 use Rattle.msi_container_read.proofs.names.names_of.Goals as goal
 
 -- the set has the name, so an entry before this one has it too
@@ -43,19 +44,19 @@ returns-clause-known c = λ q.
     ∙ known_all (name c.args.directory.now.bytes.now c.args.directory.now.sectors.now) c.args.entries.now c.loop-entry.entry-index q (omega arith)
 
 pub returns-in_err-name-clause-names : goal.returns-in_err-name-clause-names
-returns-in_err-name-clause-names c = no_value _ c.from_residual.result c.in_err-name.field-0.0 c.from_residual.ensures.1
+returns-in_err-name-clause-names c = IfOk-from_err c.from_residual.result _ c.from_residual.ensures.0
 
 pub returns-in_err-name-clause-known : goal.returns-in_err-name-clause-known
-returns-in_err-name-clause-known c = no_value _ c.from_residual.result c.in_err-name.field-0.0 c.from_residual.ensures.1
+returns-in_err-name-clause-known c = IfOk-from_err c.from_residual.result _ c.from_residual.ensures.0
 
 pub returns-in_err-name-clause-kinds : goal.returns-in_err-name-clause-kinds
 returns-in_err-name-clause-kinds c = kind_passed c.from_residual.result c.in_err-name.field-0.0 c.from_residual.ensures.1 (inl (kind_of c.in_err-name.field-0.0 _ c.in_err-name.ensures.kinds))
 
 pub returns-in_err-insert-clause-names : goal.returns-in_err-insert-clause-names
-returns-in_err-insert-clause-names c = no_value _ c.from_residual-in_err-insert.result OutOfMemory c.from_residual-in_err-insert.ensures.1
+returns-in_err-insert-clause-names c = IfOk-from_err c.from_residual-in_err-insert.result _ c.from_residual-in_err-insert.ensures.0
 
 pub returns-in_err-insert-clause-known : goal.returns-in_err-insert-clause-known
-returns-in_err-insert-clause-known c = no_value _ c.from_residual-in_err-insert.result OutOfMemory c.from_residual-in_err-insert.ensures.1
+returns-in_err-insert-clause-known c = IfOk-from_err c.from_residual-in_err-insert.result _ c.from_residual-in_err-insert.ensures.0
 
 pub returns-in_err-insert-clause-kinds : goal.returns-in_err-insert-clause-kinds
 returns-in_err-insert-clause-kinds c = kind_passed c.from_residual-in_err-insert.result OutOfMemory c.from_residual-in_err-insert.ensures.1 (inr refl)

@@ -1,18 +1,19 @@
 use Rattle.std.proofs.Common.{refl, inr, sym}
+use Rattle.std.proofs.lemmas.Result.{IfOk-from_err}
 use Rattle.msi_container_format.specs.Container.{has_storage, streams_among}
 use Rattle.msi_container_read.specs.Reading.{storages_among}
-use Rattle.msi_container_read.proofs.PassedLemmas.{no_value, kind_passed, memory_viewed, kind_of}
+use Rattle.msi_container_read.proofs.PassedLemmas.{kind_passed, memory_viewed, kind_of}
 use Rattle.msi_container_read.proofs.OutlineLemmas.{made_of, both_are}
 use Rattle.msi_container_read.proofs.reading.read_entries.Goals as goal
 
 pub returns-in_err-entries-clause-found : goal.returns-in_err-entries-clause-found
-returns-in_err-entries-clause-found c = no_value _ c.from_residual.result c.in_err-entries.field-0.0 c.from_residual.ensures.1
+returns-in_err-entries-clause-found c = IfOk-from_err c.from_residual.result _ c.from_residual.ensures.0
 
 pub returns-in_err-entries-clause-storages : goal.returns-in_err-entries-clause-storages
-returns-in_err-entries-clause-storages c = no_value _ c.from_residual.result c.in_err-entries.field-0.0 c.from_residual.ensures.1
+returns-in_err-entries-clause-storages c = IfOk-from_err c.from_residual.result _ c.from_residual.ensures.0
 
 pub returns-in_err-entries-clause-below : goal.returns-in_err-entries-clause-below
-returns-in_err-entries-clause-below c = no_value _ c.from_residual.result c.in_err-entries.field-0.0 c.from_residual.ensures.1
+returns-in_err-entries-clause-below c = IfOk-from_err c.from_residual.result _ c.from_residual.ensures.0
 
 pub returns-in_err-entries-clause-kinds : goal.returns-in_err-entries-clause-kinds
 returns-in_err-entries-clause-kinds c = kind_passed c.from_residual.result c.in_err-entries.field-0.0 c.from_residual.ensures.1 c.in_err-entries.ensures.kinds
@@ -21,13 +22,13 @@ pub returns-in_err-entries-clause-only : goal.returns-in_err-entries-clause-only
 returns-in_err-entries-clause-only c = λ tree listing. memory_viewed _ c.from_residual.result _ c.in_err-entries.field-0.0 c.from_residual.ensures.1 (c.in_err-entries.ensures.only tree listing)
 
 pub returns-in_err-storages-clause-found : goal.returns-in_err-storages-clause-found
-returns-in_err-storages-clause-found c = no_value _ c.from_residual-in_err-storages.result c.in_err-storages.field-0.0 c.from_residual-in_err-storages.ensures.1
+returns-in_err-storages-clause-found c = IfOk-from_err c.from_residual-in_err-storages.result _ c.from_residual-in_err-storages.ensures.0
 
 pub returns-in_err-storages-clause-storages : goal.returns-in_err-storages-clause-storages
-returns-in_err-storages-clause-storages c = no_value _ c.from_residual-in_err-storages.result c.in_err-storages.field-0.0 c.from_residual-in_err-storages.ensures.1
+returns-in_err-storages-clause-storages c = IfOk-from_err c.from_residual-in_err-storages.result _ c.from_residual-in_err-storages.ensures.0
 
 pub returns-in_err-storages-clause-below : goal.returns-in_err-storages-clause-below
-returns-in_err-storages-clause-below c = no_value _ c.from_residual-in_err-storages.result c.in_err-storages.field-0.0 c.from_residual-in_err-storages.ensures.1
+returns-in_err-storages-clause-below c = IfOk-from_err c.from_residual-in_err-storages.result _ c.from_residual-in_err-storages.ensures.0
 
 pub returns-in_err-storages-clause-kinds : goal.returns-in_err-storages-clause-kinds
 returns-in_err-storages-clause-kinds c = kind_passed c.from_residual-in_err-storages.result c.in_err-storages.field-0.0 c.from_residual-in_err-storages.ensures.1 (inr (kind_of c.in_err-storages.field-0.0 _ (c.in_err-storages.ensures.memory refl)))
@@ -36,13 +37,13 @@ pub returns-in_err-storages-clause-only : goal.returns-in_err-storages-clause-on
 returns-in_err-storages-clause-only c = λ tree listing. memory_viewed _ c.from_residual-in_err-storages.result _ c.in_err-storages.field-0.0 c.from_residual-in_err-storages.ensures.1 (kind_of c.in_err-storages.field-0.0 _ (c.in_err-storages.ensures.memory refl))
 
 pub returns-in_err-streams-clause-found : goal.returns-in_err-streams-clause-found
-returns-in_err-streams-clause-found c = no_value _ c.from_residual-in_err-streams.result c.in_err-streams.field-0.0 c.from_residual-in_err-streams.ensures.1
+returns-in_err-streams-clause-found c = IfOk-from_err c.from_residual-in_err-streams.result _ c.from_residual-in_err-streams.ensures.0
 
 pub returns-in_err-streams-clause-storages : goal.returns-in_err-streams-clause-storages
-returns-in_err-streams-clause-storages c = no_value _ c.from_residual-in_err-streams.result c.in_err-streams.field-0.0 c.from_residual-in_err-streams.ensures.1
+returns-in_err-streams-clause-storages c = IfOk-from_err c.from_residual-in_err-streams.result _ c.from_residual-in_err-streams.ensures.0
 
 pub returns-in_err-streams-clause-below : goal.returns-in_err-streams-clause-below
-returns-in_err-streams-clause-below c = no_value _ c.from_residual-in_err-streams.result c.in_err-streams.field-0.0 c.from_residual-in_err-streams.ensures.1
+returns-in_err-streams-clause-below c = IfOk-from_err c.from_residual-in_err-streams.result _ c.from_residual-in_err-streams.ensures.0
 
 pub returns-in_err-streams-clause-kinds : goal.returns-in_err-streams-clause-kinds
 returns-in_err-streams-clause-kinds c = kind_passed c.from_residual-in_err-streams.result c.in_err-streams.field-0.0 c.from_residual-in_err-streams.ensures.1 (inr (kind_of c.in_err-streams.field-0.0 _ (c.in_err-streams.ensures.memory refl)))

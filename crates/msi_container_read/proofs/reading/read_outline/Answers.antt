@@ -1,5 +1,5 @@
 use Rattle.std.proofs.Common.{◌≡◌, ℕ, List, vec_len, ◌∙◌, ap, refl, inr}
-use Rattle.std.proofs.lemmas.Result.{err_from_is_err_and}
+use Rattle.std.proofs.lemmas.Result.{IfOk-from_err, err_from_is_err_and}
 use Rattle.msi_text_base.specs.declared.errors.ErrorKind.TheVariants.{OutOfMemory}
 use Rattle.msi_container_read.specs.Reading.{views}
 use Rattle.msi_container_read.proofs.ListingLemmas.{some_size, covered}
@@ -7,25 +7,25 @@ use Rattle.msi_container_read.proofs.PlanPartsLemmas.{plan_of, start_of, memory_
 use Rattle.msi_container_read.proofs.OutlineLemmas.{grown, grown_twice, steps_twice, few_of, regular_of, room_of, started_late}
 use Rattle.msi_container_read.proofs.OutlineLemmas.{limits_are, entries_seen, started, listing_seen, mini_seen, chained_seen, sorted_seen}
 use Rattle.msi_container_read.proofs.OutlineLemmas.{found_plan, found_outline, found_steps, below_seen, within_claims, within_all}
-use Rattle.msi_container_read.proofs.PassedLemmas.{no_value, kind_passed, memory_viewed}
+use Rattle.msi_container_read.proofs.PassedLemmas.{kind_passed, memory_viewed}
 use Rattle.msi_container_read.proofs.reading.read_outline.Goals as goal
 
 -- MEMORY IS REFUSED
 
 pub returns-in_err-claims-clause-found : goal.returns-in_err-claims-clause-found
-returns-in_err-claims-clause-found c = no_value _ c.from_residual.result OutOfMemory c.from_residual.ensures.1
+returns-in_err-claims-clause-found c = IfOk-from_err c.from_residual.result _ c.from_residual.ensures.0
 
 pub returns-in_err-claims-clause-only : goal.returns-in_err-claims-clause-only
 returns-in_err-claims-clause-only c = λ plan h. memory_viewed _ c.from_residual.result _ OutOfMemory c.from_residual.ensures.1 refl
 
 pub returns-in_err-claims-clause-storages : goal.returns-in_err-claims-clause-storages
-returns-in_err-claims-clause-storages c = no_value _ c.from_residual.result OutOfMemory c.from_residual.ensures.1
+returns-in_err-claims-clause-storages c = IfOk-from_err c.from_residual.result _ c.from_residual.ensures.0
 
 pub returns-in_err-claims-clause-below : goal.returns-in_err-claims-clause-below
-returns-in_err-claims-clause-below c = no_value _ c.from_residual.result OutOfMemory c.from_residual.ensures.1
+returns-in_err-claims-clause-below c = IfOk-from_err c.from_residual.result _ c.from_residual.ensures.0
 
 pub returns-in_err-claims-clause-covered : goal.returns-in_err-claims-clause-covered
-returns-in_err-claims-clause-covered c = no_value _ c.from_residual.result OutOfMemory c.from_residual.ensures.1
+returns-in_err-claims-clause-covered c = IfOk-from_err c.from_residual.result _ c.from_residual.ensures.0
 
 pub returns-in_err-claims-clause-kinds : goal.returns-in_err-claims-clause-kinds
 returns-in_err-claims-clause-kinds c = kind_passed c.from_residual.result OutOfMemory c.from_residual.ensures.1 (inr refl)
@@ -33,16 +33,16 @@ returns-in_err-claims-clause-kinds c = kind_passed c.from_residual.result OutOfM
 -- THE START
 
 pub returns-in_err-start-clause-found : goal.returns-in_err-start-clause-found
-returns-in_err-start-clause-found c = no_value _ c.from_residual-in_err-start.result c.in_err-start.field-0.0 c.from_residual-in_err-start.ensures.1
+returns-in_err-start-clause-found c = IfOk-from_err c.from_residual-in_err-start.result _ c.from_residual-in_err-start.ensures.0
 
 pub returns-in_err-start-clause-storages : goal.returns-in_err-start-clause-storages
-returns-in_err-start-clause-storages c = no_value _ c.from_residual-in_err-start.result c.in_err-start.field-0.0 c.from_residual-in_err-start.ensures.1
+returns-in_err-start-clause-storages c = IfOk-from_err c.from_residual-in_err-start.result _ c.from_residual-in_err-start.ensures.0
 
 pub returns-in_err-start-clause-below : goal.returns-in_err-start-clause-below
-returns-in_err-start-clause-below c = no_value _ c.from_residual-in_err-start.result c.in_err-start.field-0.0 c.from_residual-in_err-start.ensures.1
+returns-in_err-start-clause-below c = IfOk-from_err c.from_residual-in_err-start.result _ c.from_residual-in_err-start.ensures.0
 
 pub returns-in_err-start-clause-covered : goal.returns-in_err-start-clause-covered
-returns-in_err-start-clause-covered c = no_value _ c.from_residual-in_err-start.result c.in_err-start.field-0.0 c.from_residual-in_err-start.ensures.1
+returns-in_err-start-clause-covered c = IfOk-from_err c.from_residual-in_err-start.result _ c.from_residual-in_err-start.ensures.0
 
 pub returns-in_err-start-clause-kinds : goal.returns-in_err-start-clause-kinds
 returns-in_err-start-clause-kinds c = kind_passed c.from_residual-in_err-start.result c.in_err-start.field-0.0 c.from_residual-in_err-start.ensures.1 c.in_err-start.ensures.kinds
@@ -61,16 +61,16 @@ returns-in_err-start-clause-bounded c =
 -- THE ENTRIES
 
 pub returns-in_err-entries-clause-found : goal.returns-in_err-entries-clause-found
-returns-in_err-entries-clause-found c = no_value _ c.from_residual-in_err-entries.result c.in_err-entries.field-0.0 c.from_residual-in_err-entries.ensures.1
+returns-in_err-entries-clause-found c = IfOk-from_err c.from_residual-in_err-entries.result _ c.from_residual-in_err-entries.ensures.0
 
 pub returns-in_err-entries-clause-storages : goal.returns-in_err-entries-clause-storages
-returns-in_err-entries-clause-storages c = no_value _ c.from_residual-in_err-entries.result c.in_err-entries.field-0.0 c.from_residual-in_err-entries.ensures.1
+returns-in_err-entries-clause-storages c = IfOk-from_err c.from_residual-in_err-entries.result _ c.from_residual-in_err-entries.ensures.0
 
 pub returns-in_err-entries-clause-below : goal.returns-in_err-entries-clause-below
-returns-in_err-entries-clause-below c = no_value _ c.from_residual-in_err-entries.result c.in_err-entries.field-0.0 c.from_residual-in_err-entries.ensures.1
+returns-in_err-entries-clause-below c = IfOk-from_err c.from_residual-in_err-entries.result _ c.from_residual-in_err-entries.ensures.0
 
 pub returns-in_err-entries-clause-covered : goal.returns-in_err-entries-clause-covered
-returns-in_err-entries-clause-covered c = no_value _ c.from_residual-in_err-entries.result c.in_err-entries.field-0.0 c.from_residual-in_err-entries.ensures.1
+returns-in_err-entries-clause-covered c = IfOk-from_err c.from_residual-in_err-entries.result _ c.from_residual-in_err-entries.ensures.0
 
 pub returns-in_err-entries-clause-kinds : goal.returns-in_err-entries-clause-kinds
 returns-in_err-entries-clause-kinds c = kind_passed c.from_residual-in_err-entries.result c.in_err-entries.field-0.0 c.from_residual-in_err-entries.ensures.1 c.in_err-entries.ensures.kinds
@@ -94,16 +94,16 @@ returns-in_err-entries-clause-bounded c =
 -- THE MINI STREAM
 
 pub returns-in_err-mini-clause-found : goal.returns-in_err-mini-clause-found
-returns-in_err-mini-clause-found c = no_value _ c.from_residual-in_err-mini.result c.in_err-mini.field-0.0 c.from_residual-in_err-mini.ensures.1
+returns-in_err-mini-clause-found c = IfOk-from_err c.from_residual-in_err-mini.result _ c.from_residual-in_err-mini.ensures.0
 
 pub returns-in_err-mini-clause-storages : goal.returns-in_err-mini-clause-storages
-returns-in_err-mini-clause-storages c = no_value _ c.from_residual-in_err-mini.result c.in_err-mini.field-0.0 c.from_residual-in_err-mini.ensures.1
+returns-in_err-mini-clause-storages c = IfOk-from_err c.from_residual-in_err-mini.result _ c.from_residual-in_err-mini.ensures.0
 
 pub returns-in_err-mini-clause-below : goal.returns-in_err-mini-clause-below
-returns-in_err-mini-clause-below c = no_value _ c.from_residual-in_err-mini.result c.in_err-mini.field-0.0 c.from_residual-in_err-mini.ensures.1
+returns-in_err-mini-clause-below c = IfOk-from_err c.from_residual-in_err-mini.result _ c.from_residual-in_err-mini.ensures.0
 
 pub returns-in_err-mini-clause-covered : goal.returns-in_err-mini-clause-covered
-returns-in_err-mini-clause-covered c = no_value _ c.from_residual-in_err-mini.result c.in_err-mini.field-0.0 c.from_residual-in_err-mini.ensures.1
+returns-in_err-mini-clause-covered c = IfOk-from_err c.from_residual-in_err-mini.result _ c.from_residual-in_err-mini.ensures.0
 
 pub returns-in_err-mini-clause-kinds : goal.returns-in_err-mini-clause-kinds
 returns-in_err-mini-clause-kinds c = kind_passed c.from_residual-in_err-mini.result c.in_err-mini.field-0.0 c.from_residual-in_err-mini.ensures.1 c.in_err-mini.ensures.kinds
@@ -139,16 +139,16 @@ returns-in_err-mini-clause-grows c = grown _ _ _ c.in_ok-start.ensures.grows c.i
 -- THE CHAINS
 
 pub returns-in_err-chains-clause-found : goal.returns-in_err-chains-clause-found
-returns-in_err-chains-clause-found c = no_value _ c.from_residual-in_err-chains.result c.in_err-chains.field-0.0 c.from_residual-in_err-chains.ensures.1
+returns-in_err-chains-clause-found c = IfOk-from_err c.from_residual-in_err-chains.result _ c.from_residual-in_err-chains.ensures.0
 
 pub returns-in_err-chains-clause-storages : goal.returns-in_err-chains-clause-storages
-returns-in_err-chains-clause-storages c = no_value _ c.from_residual-in_err-chains.result c.in_err-chains.field-0.0 c.from_residual-in_err-chains.ensures.1
+returns-in_err-chains-clause-storages c = IfOk-from_err c.from_residual-in_err-chains.result _ c.from_residual-in_err-chains.ensures.0
 
 pub returns-in_err-chains-clause-below : goal.returns-in_err-chains-clause-below
-returns-in_err-chains-clause-below c = no_value _ c.from_residual-in_err-chains.result c.in_err-chains.field-0.0 c.from_residual-in_err-chains.ensures.1
+returns-in_err-chains-clause-below c = IfOk-from_err c.from_residual-in_err-chains.result _ c.from_residual-in_err-chains.ensures.0
 
 pub returns-in_err-chains-clause-covered : goal.returns-in_err-chains-clause-covered
-returns-in_err-chains-clause-covered c = no_value _ c.from_residual-in_err-chains.result c.in_err-chains.field-0.0 c.from_residual-in_err-chains.ensures.1
+returns-in_err-chains-clause-covered c = IfOk-from_err c.from_residual-in_err-chains.result _ c.from_residual-in_err-chains.ensures.0
 
 pub returns-in_err-chains-clause-kinds : goal.returns-in_err-chains-clause-kinds
 returns-in_err-chains-clause-kinds c = kind_passed c.from_residual-in_err-chains.result c.in_err-chains.field-0.0 c.from_residual-in_err-chains.ensures.1 c.in_err-chains.ensures.kinds

@@ -1,11 +1,11 @@
 use Rattle.std.proofs.Common.{arith, ◌≡◌, ℕ, List, [], ◌++◌, length, vec_len, ◌∙◌, sym, ap, refl, length-append}
-use Rattle.std.proofs.lemmas.Result.{err_from_is_err_and}
+use Rattle.std.proofs.lemmas.Result.{IfOk-from_err, err_from_is_err_and}
 use Rattle.msi_container_chains.specs.Claims.{CanClaim}
 use Rattle.msi_container_format.specs.Container.{IsWholeChain, successor, fat_of}
 use Rattle.msi_container_read.specs.Reading.{IsStart}
 use Rattle.msi_container_read.proofs.PlanPartsLemmas.{claim_front, claim_back, claimed_room, few_claimed}
 use Rattle.msi_container_read.proofs.RoomLemmas.{bounded_from_none, unmoved_from_none}
-use Rattle.msi_container_read.proofs.PassedLemmas.{no_value, kind_passed}
+use Rattle.msi_container_read.proofs.PassedLemmas.{kind_passed}
 use Rattle.msi_container_read.proofs.reading.read_start.Goals as goal
 
 -- what each part of a start can claim
@@ -132,46 +132,46 @@ pub returns-clause-grows : goal.returns-clause-grows
 returns-clause-grows c = c.in_ok-directory.ensures.grows
 
 pub returns-in_err-check_header-clause-found : goal.returns-in_err-check_header-clause-found
-returns-in_err-check_header-clause-found c = no_value _ c.from_residual.result c.in_err-check_header.field-0.0 c.from_residual.ensures.1
+returns-in_err-check_header-clause-found c = IfOk-from_err c.from_residual.result _ c.from_residual.ensures.0
 
 pub returns-in_err-check_header-clause-few : goal.returns-in_err-check_header-clause-few
-returns-in_err-check_header-clause-few c = no_value _ c.from_residual.result c.in_err-check_header.field-0.0 c.from_residual.ensures.1
+returns-in_err-check_header-clause-few c = IfOk-from_err c.from_residual.result _ c.from_residual.ensures.0
 
 pub returns-in_err-check_header-clause-exact : goal.returns-in_err-check_header-clause-exact
-returns-in_err-check_header-clause-exact c = no_value _ c.from_residual.result c.in_err-check_header.field-0.0 c.from_residual.ensures.1
+returns-in_err-check_header-clause-exact c = IfOk-from_err c.from_residual.result _ c.from_residual.ensures.0
 
 pub returns-in_err-difat-clause-found : goal.returns-in_err-difat-clause-found
-returns-in_err-difat-clause-found c = no_value _ c.from_residual-in_err-difat.result c.in_err-difat.field-0.0 c.from_residual-in_err-difat.ensures.1
+returns-in_err-difat-clause-found c = IfOk-from_err c.from_residual-in_err-difat.result _ c.from_residual-in_err-difat.ensures.0
 
 pub returns-in_err-difat-clause-few : goal.returns-in_err-difat-clause-few
-returns-in_err-difat-clause-few c = no_value _ c.from_residual-in_err-difat.result c.in_err-difat.field-0.0 c.from_residual-in_err-difat.ensures.1
+returns-in_err-difat-clause-few c = IfOk-from_err c.from_residual-in_err-difat.result _ c.from_residual-in_err-difat.ensures.0
 
 pub returns-in_err-difat-clause-exact : goal.returns-in_err-difat-clause-exact
-returns-in_err-difat-clause-exact c = no_value _ c.from_residual-in_err-difat.result c.in_err-difat.field-0.0 c.from_residual-in_err-difat.ensures.1
+returns-in_err-difat-clause-exact c = IfOk-from_err c.from_residual-in_err-difat.result _ c.from_residual-in_err-difat.ensures.0
 
 pub returns-in_err-difat-clause-kinds : goal.returns-in_err-difat-clause-kinds
 returns-in_err-difat-clause-kinds c = kind_passed c.from_residual-in_err-difat.result c.in_err-difat.field-0.0 c.from_residual-in_err-difat.ensures.1 c.in_err-difat.ensures.kinds
 
 pub returns-in_err-fat-clause-found : goal.returns-in_err-fat-clause-found
-returns-in_err-fat-clause-found c = no_value _ c.from_residual-in_err-fat.result c.in_err-fat.field-0.0 c.from_residual-in_err-fat.ensures.1
+returns-in_err-fat-clause-found c = IfOk-from_err c.from_residual-in_err-fat.result _ c.from_residual-in_err-fat.ensures.0
 
 pub returns-in_err-fat-clause-few : goal.returns-in_err-fat-clause-few
-returns-in_err-fat-clause-few c = no_value _ c.from_residual-in_err-fat.result c.in_err-fat.field-0.0 c.from_residual-in_err-fat.ensures.1
+returns-in_err-fat-clause-few c = IfOk-from_err c.from_residual-in_err-fat.result _ c.from_residual-in_err-fat.ensures.0
 
 pub returns-in_err-fat-clause-exact : goal.returns-in_err-fat-clause-exact
-returns-in_err-fat-clause-exact c = no_value _ c.from_residual-in_err-fat.result c.in_err-fat.field-0.0 c.from_residual-in_err-fat.ensures.1
+returns-in_err-fat-clause-exact c = IfOk-from_err c.from_residual-in_err-fat.result _ c.from_residual-in_err-fat.ensures.0
 
 pub returns-in_err-fat-clause-kinds : goal.returns-in_err-fat-clause-kinds
 returns-in_err-fat-clause-kinds c = kind_passed c.from_residual-in_err-fat.result c.in_err-fat.field-0.0 c.from_residual-in_err-fat.ensures.1 c.in_err-fat.ensures.kinds
 
 pub returns-in_err-directory-clause-found : goal.returns-in_err-directory-clause-found
-returns-in_err-directory-clause-found c = no_value _ c.from_residual-in_err-directory.result c.in_err-directory.field-0.0 c.from_residual-in_err-directory.ensures.1
+returns-in_err-directory-clause-found c = IfOk-from_err c.from_residual-in_err-directory.result _ c.from_residual-in_err-directory.ensures.0
 
 pub returns-in_err-directory-clause-few : goal.returns-in_err-directory-clause-few
-returns-in_err-directory-clause-few c = no_value _ c.from_residual-in_err-directory.result c.in_err-directory.field-0.0 c.from_residual-in_err-directory.ensures.1
+returns-in_err-directory-clause-few c = IfOk-from_err c.from_residual-in_err-directory.result _ c.from_residual-in_err-directory.ensures.0
 
 pub returns-in_err-directory-clause-exact : goal.returns-in_err-directory-clause-exact
-returns-in_err-directory-clause-exact c = no_value _ c.from_residual-in_err-directory.result c.in_err-directory.field-0.0 c.from_residual-in_err-directory.ensures.1
+returns-in_err-directory-clause-exact c = IfOk-from_err c.from_residual-in_err-directory.result _ c.from_residual-in_err-directory.ensures.0
 
 pub returns-in_err-directory-clause-kinds : goal.returns-in_err-directory-clause-kinds
 returns-in_err-directory-clause-kinds c = kind_passed c.from_residual-in_err-directory.result c.in_err-directory.field-0.0 c.from_residual-in_err-directory.ensures.1 c.in_err-directory.ensures.kinds

@@ -4,7 +4,7 @@ use Rattle.std.specs.FinMap.{from_entries, contains_key}
 use Rattle.std.specs.Slice.Iter.{iter_rest}
 use Rattle.std.specs.Iterator.Adapters.{zip_first, zip_second}
 use Rattle.std.proofs.lemmas.List.{length-map, length_push, get_or-map, take_all}
-use Rattle.std.proofs.lemmas.Result.{err_from_is_err_and}
+use Rattle.std.proofs.lemmas.Result.{IfOk-from_err, err_from_is_err_and}
 use Rattle.std.proofs.lemmas.Slice.Zip.{zip_turn, zip_end, AllZip-long}
 use Rattle.msi_container_format.specs.Names.{name_cmp}
 use Rattle.msi_container_format.specs.Container.{name, stream_bytes, HasName}
@@ -13,7 +13,7 @@ use Rattle.msi_container_read.proofs.ListLemmas.{paired_at, below_at}
 use Rattle.msi_container_read.proofs.MapNamesLemmas.{begun_none, begun_more, begun_all, taken_clash, held_clash}
 use Rattle.msi_container_read.proofs.SharedNamesLemmas.{refused}
 use Rattle.msi_container_read.proofs.NamedBytesLemmas.{length-named_bytes, from_named_bytes_more}
-use Rattle.msi_container_read.proofs.PassedLemmas.{no_value, kind_passed, memory_is_valid, kind_of}
+use Rattle.msi_container_read.proofs.PassedLemmas.{kind_passed, memory_is_valid, kind_of}
 use Rattle.msi_container_read.proofs.streams.collect.Goals as goal
 
 -- what a vector holds
@@ -163,28 +163,28 @@ stream_of-requires-clause-below c =
     below_at _ entries (length l.yielded) c.in-Some.entry.now c.requires.below turn.0 (turn.2 0)
 
 pub returns-in_err-taken-clause-ok : goal.returns-in_err-taken-clause-ok
-returns-in_err-taken-clause-ok c = no_value _ c.from_residual.result c.in_err-taken.field-0.0 c.from_residual.ensures.1
+returns-in_err-taken-clause-ok c = IfOk-from_err c.from_residual.result _ c.from_residual.ensures.0
 
 pub returns-in_err-taken-clause-names : goal.returns-in_err-taken-clause-names
-returns-in_err-taken-clause-names c = no_value _ c.from_residual.result c.in_err-taken.field-0.0 c.from_residual.ensures.1
+returns-in_err-taken-clause-names c = IfOk-from_err c.from_residual.result _ c.from_residual.ensures.0
 
 pub returns-in_err-taken-clause-kinds : goal.returns-in_err-taken-clause-kinds
 returns-in_err-taken-clause-kinds c = kind_passed c.from_residual.result c.in_err-taken.field-0.0 c.from_residual.ensures.1 c.in_err-taken.ensures.kinds
 
 pub returns-in_err-name-clause-ok : goal.returns-in_err-name-clause-ok
-returns-in_err-name-clause-ok c = no_value _ c.from_residual-in_err-name.result c.in_err-name.field-0.0 c.from_residual-in_err-name.ensures.1
+returns-in_err-name-clause-ok c = IfOk-from_err c.from_residual-in_err-name.result _ c.from_residual-in_err-name.ensures.0
 
 pub returns-in_err-name-clause-names : goal.returns-in_err-name-clause-names
-returns-in_err-name-clause-names c = no_value _ c.from_residual-in_err-name.result c.in_err-name.field-0.0 c.from_residual-in_err-name.ensures.1
+returns-in_err-name-clause-names c = IfOk-from_err c.from_residual-in_err-name.result _ c.from_residual-in_err-name.ensures.0
 
 pub returns-in_err-name-clause-kinds : goal.returns-in_err-name-clause-kinds
 returns-in_err-name-clause-kinds c = kind_passed c.from_residual-in_err-name.result c.in_err-name.field-0.0 c.from_residual-in_err-name.ensures.1 (inl (kind_of c.in_err-name.field-0.0 _ c.in_err-name.ensures.kinds))
 
 pub returns-in_err-held-clause-ok : goal.returns-in_err-held-clause-ok
-returns-in_err-held-clause-ok c = no_value _ c.from_residual-in_err-held.result c.in_err-held.field-0.0 c.from_residual-in_err-held.ensures.1
+returns-in_err-held-clause-ok c = IfOk-from_err c.from_residual-in_err-held.result _ c.from_residual-in_err-held.ensures.0
 
 pub returns-in_err-held-clause-names : goal.returns-in_err-held-clause-names
-returns-in_err-held-clause-names c = no_value _ c.from_residual-in_err-held.result c.in_err-held.field-0.0 c.from_residual-in_err-held.ensures.1
+returns-in_err-held-clause-names c = IfOk-from_err c.from_residual-in_err-held.result _ c.from_residual-in_err-held.ensures.0
 
 pub returns-in_err-held-clause-kinds : goal.returns-in_err-held-clause-kinds
 returns-in_err-held-clause-kinds c = kind_passed c.from_residual-in_err-held.result c.in_err-held.field-0.0 c.from_residual-in_err-held.ensures.1 (inr (kind_of c.in_err-held.field-0.0 _ (c.in_err-held.ensures.memory refl)))
@@ -193,10 +193,10 @@ pub returns-in_err-held-clause-invalid : goal.returns-in_err-held-clause-invalid
 returns-in_err-held-clause-invalid c = λ broken have. memory_is_valid c.from_residual-in_err-held.result c.in_err-held.field-0.0 c.from_residual-in_err-held.ensures.1 (kind_of c.in_err-held.field-0.0 _ (c.in_err-held.ensures.memory refl)) broken
 
 pub returns-in_err-insert_stream-clause-ok : goal.returns-in_err-insert_stream-clause-ok
-returns-in_err-insert_stream-clause-ok c = no_value _ c.from_residual-in_err-insert_stream.result c.in_err-insert_stream.field-0.0 c.from_residual-in_err-insert_stream.ensures.1
+returns-in_err-insert_stream-clause-ok c = IfOk-from_err c.from_residual-in_err-insert_stream.result _ c.from_residual-in_err-insert_stream.ensures.0
 
 pub returns-in_err-insert_stream-clause-names : goal.returns-in_err-insert_stream-clause-names
-returns-in_err-insert_stream-clause-names c = no_value _ c.from_residual-in_err-insert_stream.result c.in_err-insert_stream.field-0.0 c.from_residual-in_err-insert_stream.ensures.1
+returns-in_err-insert_stream-clause-names c = IfOk-from_err c.from_residual-in_err-insert_stream.result _ c.from_residual-in_err-insert_stream.ensures.0
 
 pub returns-in_err-insert_stream-clause-kinds : goal.returns-in_err-insert_stream-clause-kinds
 returns-in_err-insert_stream-clause-kinds c = kind_passed c.from_residual-in_err-insert_stream.result c.in_err-insert_stream.field-0.0 c.from_residual-in_err-insert_stream.ensures.1 c.in_err-insert_stream.ensures.kinds

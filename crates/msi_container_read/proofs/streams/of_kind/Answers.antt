@@ -1,11 +1,12 @@
 use Rattle.std.proofs.Common.{ℕ, ◌<◌, Bool, List, Vec, Global, eqb, get_or, take, sym, ap, ◌∙◌, refl}
+use Rattle.std.proofs.lemmas.Result.{IfOk-from_err}
 use Rattle.std.proofs.lemmas.Bool.{eq-eqb, ne_eqb}
 use Rattle.std.proofs.lemmas.List.Elements.{All-filter, All-from_get_or, All-same, All-take}
 use Rattle.msi_container_format.specs.Container as container
 use Rattle.msi_container_read.proofs.KindLemmas.{kept_one, kept_none}
 use Rattle.msi_container_read.proofs.streams.of_kind.Goals.{then-kind+in_ok-push, else-kind}
 use Rattle.msi_text_base.specs.declared.errors.ErrorKind.TheVariants.{OutOfMemory}
-use Rattle.msi_container_read.proofs.PassedLemmas.{no_value, refused_memory}
+use Rattle.msi_container_read.proofs.PassedLemmas.{refused_memory}
 use Rattle.msi_container_read.proofs.streams.of_kind.Goals as goal
 
 -- what a vector holds
@@ -36,10 +37,10 @@ loop-entry-preserved c =
     ]
 
 pub returns-in_err-push-clause-ok : goal.returns-in_err-push-clause-ok
-returns-in_err-push-clause-ok c = no_value _ c.from_residual.result OutOfMemory c.from_residual.ensures.1
+returns-in_err-push-clause-ok c = IfOk-from_err c.from_residual.result _ c.from_residual.ensures.0
 
 pub returns-in_err-push-clause-below : goal.returns-in_err-push-clause-below
-returns-in_err-push-clause-below c = no_value _ c.from_residual.result OutOfMemory c.from_residual.ensures.1
+returns-in_err-push-clause-below c = IfOk-from_err c.from_residual.result _ c.from_residual.ensures.0
 
 pub returns-in_err-push-clause-memory : goal.returns-in_err-push-clause-memory
 returns-in_err-push-clause-memory c = λ _. refused_memory c.from_residual.result OutOfMemory c.from_residual.ensures.1 refl
