@@ -63,3 +63,9 @@ returns-in_err-insert-clause-kinds c = kind_passed c.from_residual-in_err-insert
 
 pub returns-in_err-insert-clause-invalid : goal.returns-in_err-insert-clause-invalid
 returns-in_err-insert-clause-invalid c = λ broken have. memory_is_valid c.from_residual-in_err-insert.result OutOfMemory c.from_residual-in_err-insert.ensures.1 refl broken
+
+pub name-requires : goal.name-requires
+name-requires c = c.requires c.loop-entry.entry-index c.loop-entry-test.true
+
+pub returns-in_err-name-clause-invalid : goal.returns-in_err-name-clause-invalid
+returns-in_err-name-clause-invalid c = λ broken have. c.in_err-name.ensures.invalid (have.named c.loop-entry.entry-index c.loop-entry-test.true)

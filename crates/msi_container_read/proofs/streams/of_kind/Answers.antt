@@ -1,6 +1,7 @@
-use Rattle.std.proofs.Common.{ℕ, ◌<◌, Bool, List, Vec, Global, eqb, get_or, take, sym, ap, ◌∙◌, refl}
+use Rattle.std.proofs.Common.{ℕ, ◌<◌, Bool, List, Vec, Global, eqb, get_or, take, sym, ap, ◌∙◌, refl, filter, arith}
 use Rattle.std.proofs.lemmas.Result.{IfOk-from_err}
-use Rattle.std.proofs.lemmas.Bool.{eq-eqb, ne_eqb}
+use Rattle.std.proofs.lemmas.Bool.{eq-eqb, ne_eqb, false≢true}
+use Rattle.std.proofs.lemmas.List.{take_all}
 use Rattle.std.proofs.lemmas.List.Elements.{All-filter, All-from_get_or, All-same, All-take}
 use Rattle.msi_container_format.specs.Container as container
 use Rattle.msi_container_read.proofs.KindLemmas.{kept_one, kept_none}
@@ -47,3 +48,14 @@ returns-in_err-push-clause-memory c = λ _. refused_memory c.from_residual.resul
 
 pub kind-requires : goal.kind-requires
 kind-requires c = c.requires c.loop-entry.entry-index c.loop-entry-test.true
+
+pub loop-entry-init : goal.loop-entry-init
+loop-entry-init c = c.new-found.ensures.items
+
+pub returns-clause-ok : goal.returns-clause-ok
+returns-clause-ok c =
+    let is_of_kind : ℕ → Bool = λ k. eqb (container.kind c.args.directory.now.bytes.now c.args.directory.now.sectors.now k) c.args.kind in
+    c.loop-entry.invariant ∙ ap (filter is_of_kind) (take_all _ _ (omega arith))
+
+pub returns-clause-memory : goal.returns-clause-memory
+returns-clause-memory c = λ h. absurd (false≢true h)
