@@ -1,7 +1,7 @@
 //! The tables of the pages.
 
 ghost use Rattle.std.specs.Prelude.{◌≡◌};
-ghost use Rattle.msi_text_pages.specs.Tables.{page_text};
+ghost use Rattle.msi_text_pages.specs.Tables.{page_text, windows_932, windows_936, windows_949, windows_950};
 
 pub(crate) mod single_bytes;
 pub(crate) mod windows_932;
@@ -19,10 +19,10 @@ pub(crate) fn page_text(page: Page) -> &'static str
 {
     match page {
         Page::Windows874 => single_bytes::WINDOWS_874,
-        Page::Windows932 => windows_932::WINDOWS_932,
-        Page::Windows936 => windows_936::WINDOWS_936,
-        Page::Windows949 => windows_949::WINDOWS_949,
-        Page::Windows950 => windows_950::WINDOWS_950,
+        Page::Windows932 => windows_932_text(),
+        Page::Windows936 => windows_936_text(),
+        Page::Windows949 => windows_949_text(),
+        Page::Windows950 => windows_950_text(),
         Page::Windows1250 => single_bytes::WINDOWS_1250,
         Page::Windows1251 => single_bytes::WINDOWS_1251,
         Page::Windows1253 => single_bytes::WINDOWS_1253,
@@ -41,4 +41,34 @@ pub(crate) fn page_text(page: Page) -> &'static str
         Page::Iso88598 => single_bytes::ISO_8859_8,
         Page::Iso88599 => single_bytes::ISO_8859_9,
     }
+}
+
+// A function for each large table: the proof of what names one goes through all of it.
+
+#[tactic(auto, unfolding(crate::specs::Tables::windows_932))]
+fn windows_932_text() -> &'static str
+    ensures { result.now ≡ windows_932 }
+{
+    windows_932::WINDOWS_932
+}
+
+#[tactic(auto, unfolding(crate::specs::Tables::windows_936))]
+fn windows_936_text() -> &'static str
+    ensures { result.now ≡ windows_936 }
+{
+    windows_936::WINDOWS_936
+}
+
+#[tactic(auto, unfolding(crate::specs::Tables::windows_949))]
+fn windows_949_text() -> &'static str
+    ensures { result.now ≡ windows_949 }
+{
+    windows_949::WINDOWS_949
+}
+
+#[tactic(auto, unfolding(crate::specs::Tables::windows_950))]
+fn windows_950_text() -> &'static str
+    ensures { result.now ≡ windows_950 }
+{
+    windows_950::WINDOWS_950
 }
