@@ -3,6 +3,7 @@ pub mod PoolRows
 pub mod ForgottenLemmas
 pub mod PoolWritingLemmas
 pub mod PoolReadBackLemmas
+pub mod PoolPiecesLemmas
 pub mod ReadTextsLemmas
 pub mod ReadStreamLemmas
 pub mod ReadFaultLemmas

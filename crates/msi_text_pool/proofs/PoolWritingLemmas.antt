@@ -9,7 +9,7 @@ use Rattle.msi_text_base.specs.declared.codepage.CodePage.{CodePage}
 use Rattle.msi_text_base.specs.Lists.{all_present}
 use Rattle.msi_text_base.specs.Pages.{bytes_in, page_id}
 use Rattle.msi_text_base.proofs.BoolLemmas.{yes_is_no}
-use Rattle.msi_text_pool_base.specs.Pool.{Place, Pool, place_bytes, plain_entries, pool_stream, data_stream, header_of}
+use Rattle.msi_text_pool_base.specs.Pool.{Entry, Place, Pool, place_bytes, plain_entry, plain_entries, pool_stream, data_stream, header_of}
 use Rattle.msi_text_pool.specs.PoolWriting.{is_refused_spelling, has_refused_text, is_refused, piece_of, entry_in}
 
 -- bytes that can be told are there
@@ -30,6 +30,17 @@ told_few (Some bytes) told = ltb-true (length bytes) (2 ^ 32) (not-false _ told)
 -- a free place has no bytes
 pub free_piece : (page : CodePage) (p : Place) → p.count ≡ 0 → piece_of page p ≡ []
 free_piece page p free = ap (λ b. unwrap_or (cond b (Some []) (bytes_in page p.text)) []) (eq-eqb p.count 0 free)
+
+-- its length, as it is asked of the bytes
+pub len_told : (o : Option (List ℕ)) (l : Option ℕ) (len : ℕ) → l ≡ option_map length o → len ≡ unwrap_or l 0 → len ≡ length (unwrap_or o [])
+len_told None l len l_is is = is ∙ ap (λ (x : Option ℕ). unwrap_or x 0) l_is
+len_told (Some bytes) l len l_is is = is ∙ ap (λ (x : Option ℕ). unwrap_or x 0) l_is
+
+-- the entry of a place, by its length and count
+pub entry_told : (page : CodePage) (p : Place) (e : Entry) → e.len ≡ length (piece_of page p) → e.count ≡ p.count → plain_entry e ≡ entry_in page p
+entry_told page p e len_is count_is =
+    ap (λ (len : ℕ). plain_entry (record { len = len; count = e.count })) len_is
+    ∙ ap (λ (count : ℕ). plain_entry (record { len = length (piece_of page p); count = count })) count_is
 
 pub pieces_told : (page : CodePage) (places : List Place) → has_refused_text page places ≡ false → all_present (map (place_bytes page) places) ≡ Some (map (piece_of page) places)
 pieces_told page [] told = refl

@@ -1,4 +1,5 @@
 -- The words of this crate.
 pub mod PoolWriting
 pub mod PoolLaws
+pub mod PoolPieces
 pub mod References

@@ -8,6 +8,7 @@ ghost use Rattle.msi_text_pool_base.specs.Pool.{CountsFit, IsPoolStream, PoolStr
 ghost use Rattle.msi_text_pool_base.specs.Pool.{newly_indexed, pool_with};
 ghost use Rattle.msi_text_places.specs.JoinedTexts.{IsJoined, places_joined};
 ghost use Rattle.msi_text_pool_base.specs.PoolReading.{IsPut, place_in_front, header_in};
+ghost use Rattle.msi_text_pool.specs.PoolPieces.{IsPiecePut};
 ghost use Rattle.msi_text_base.specs.Results.{FailsAs, Gives, IsStreamFault, IsUnlessFault, IsUnlessMemory};
 
 use crate::reasons;
@@ -216,12 +217,28 @@ fn push_text<'a>(
         return Err(Error::new(ErrorKind::InvalidData, reasons::POOL_DATA));
     }
     let (piece, rest) = bytes.split_at(len);
+    push_piece(alloc, texts, codepage, piece, entry.count())?;
+    Ok(rest)
+}
+
+/// Puts the text that the bytes encode behind the others.
+fn push_piece(
+    alloc: Global,
+    texts: &mut JoinedTexts,
+    codepage: CodePage,
+    piece: &[u8],
+    count: u16,
+) -> Result<(), Error>
+    requires { IsJoined texts.old }
+    ensures joined { OnOk result (IsJoined texts.new) }
+    ensures ok { OnOk result
+        (IsPiecePut codepage piece.now count (places_joined texts.old) (places_joined texts.new)) }
+    ensures err { IfErr result (λ kind. FailsAs kind (text_in codepage piece.now)) }
+{
     if let CodePage::Utf8 = codepage {
         let text = piece.to_str_lossy(alloc)?;
-        texts.push(text.as_ref(), entry.count())?;
-    } else {
-        let text = codepage.decode(alloc, piece)?;
-        texts.push(text.as_str(), entry.count())?;
+        return texts.push(text.as_ref(), count);
     }
-    Ok(rest)
+    let text = codepage.decode(alloc, piece)?;
+    texts.push(text.as_str(), count)
 }
