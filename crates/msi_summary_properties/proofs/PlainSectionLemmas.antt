@@ -4,7 +4,7 @@ use Rattle.std.specs.Prelude.{is_some, not, option_map, option_and_then, unwrap_
 use Rattle.std.specs.List.{flat_map}
 use Rattle.std.specs.Int.{w32, to_le_bytes}
 use Rattle.std.proofs.lemmas.Bool.{and_parts, not-false, ltb-true, ltb-false, lt-ltb, le-ltb}
-use Rattle.std.proofs.lemmas.List.{length-append, length-map, length-replicate}
+use Rattle.std.proofs.lemmas.List.{append-nil, length-append, length-map, length-replicate}
 use Rattle.std.proofs.lemmas.List.Folds.{flat_map-map}
 use Rattle.msi_text_base.specs.declared.codepage.CodePage.{CodePage}
 use Rattle.msi_text_base.specs.declared.errors.ErrorKind.{ErrorKind}
@@ -124,6 +124,52 @@ value_untold page size all here rest id v is sizes carried untold =
     ∙ ap (λ b. b && ltb (size + 8 * length here + length (joined_pieces page here)) (2 ^ 32)) (sym carried)
     ∙ ap (λ es. is_carried page es && ltb (size + 8 * length es + length (joined_pieces page es)) (2 ^ 32)) is
     ∙ first_untold page size (id, v) rest (value_bytes page v) refl untold
+
+-- a loop over the values: what holds of those that are left holds behind the first of them
+module _ (page : CodePage) (here rest : List (ℕ × PropertyValue)) (id : ℕ) (v : PropertyValue) (is : here ≡ (id, v) ∷ rest) where
+  pub carried_rest : is_carried page here ≡ true → is_carried page rest ≡ true
+  carried_rest carried = (carried_first page (id, v) rest (ap (is_carried page) (sym is) ∙ carried)).1
+
+  pub room_rest : length (joined_pieces page here) < 2 ^ 32 → length (joined_pieces page rest) < 2 ^ 32
+  room_rest room =
+      let all : length (joined_pieces page ((id, v) ∷ rest)) < 2 ^ 32 = subst (λ (es : List (ℕ × PropertyValue)). length (joined_pieces page es) < 2 ^ 32) is room in
+      let long = length-values page (id, v) rest in
+      omega arith
+
+  pub written_rest : (old new whole : List ℕ) → old ++ joined_pieces page here ≡ whole → new ≡ old ++ piece_in page v → new ++ joined_pieces page rest ≡ whole
+  written_rest old new whole written pushed =
+      ap (λ (bytes : List ℕ). bytes ++ joined_pieces page rest) pushed
+      ∙ append_assoc old (piece_in page v) (joined_pieces page rest)
+      ∙ ap (λ (es : List (ℕ × PropertyValue)). old ++ joined_pieces page es) (sym is) ∙ written
+
+  pub sized_rest : (size next len whole : ℕ) → size + 8 * length here + length (joined_pieces page here) ≡ whole → len ≡ length (piece_in page v) → next ≡ size + (8 + len)
+      → next + 8 * length rest + length (joined_pieces page rest) ≡ whole
+  sized_rest size next len whole sizes len_is next_is =
+      let all : size + 8 * length ((id, v) ∷ rest) + length (joined_pieces page ((id, v) ∷ rest)) ≡ whole =
+      ap (λ (es : List (ℕ × PropertyValue)). size + 8 * length es + length (joined_pieces page es)) (sym is) ∙ sizes in
+      let long = length-values page (id, v) rest in
+      omega arith
+
+  pub carried_too : (b : Bool) → is_carried page here ≡ b → is_some (value_bytes page v) ≡ true → is_carried page rest ≡ b
+  carried_too b carried there =
+      ap (λ (x : Bool). x && is_carried page rest) (sym there) ∙ ap (is_carried page) (sym is) ∙ carried
+
+-- and none is left at the end
+module _ (page : CodePage) (here all : List (ℕ × PropertyValue)) (is : here ≡ []) where
+  pub written_all : (held whole : List ℕ) → held ++ joined_pieces page here ≡ whole → held ≡ whole
+  written_all held whole written =
+      sym (append-nil held) ∙ ap (λ (es : List (ℕ × PropertyValue)). held ++ joined_pieces page es) (sym is) ∙ written
+
+  pub sized_all : (size whole : ℕ) → size + 8 * length here + length (joined_pieces page here) ≡ whole → size ≡ whole
+  sized_all size whole sizes =
+      let none : size + 8 * 0 + 0 ≡ whole = ap (λ (es : List (ℕ × PropertyValue)). size + 8 * length es + length (joined_pieces page es)) (sym is) ∙ sizes in
+      omega arith
+
+  pub accepted_all : (size : ℕ) → size + 8 * length here + length (joined_pieces page here) ≡ section_size page all → size < 2 ^ 32
+      → is_carried page here ≡ is_carried page all → can_write page all ≡ true
+  accepted_all size sizes few carried =
+      ap (λ (b : Bool). b && ltb (section_size page all) (2 ^ 32)) (sym carried ∙ ap (is_carried page) is)
+      ∙ ap (λ (n : ℕ). ltb n (2 ^ 32)) (sym (sized_all size (section_size page all) sizes)) ∙ lt-ltb size (2 ^ 32) few
 
 pub told_parts : (page : CodePage) (es : List (ℕ × PropertyValue)) → can_write page es ≡ true → (is_carried page es ≡ true) × (section_size page es < 2 ^ 32)
 told_parts page es told = let parts = and_parts (is_carried page es) (ltb (section_size page es) (2 ^ 32)) told in (parts.0, ltb-true _ _ parts.1)
