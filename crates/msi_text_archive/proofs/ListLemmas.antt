@@ -123,3 +123,30 @@ module _ {C F X Y : Type 0} (view : F → X) (f : C → X → Option Y) (cs : Li
   pub pairs_ended : length cs ≤ i → whole ≡ Some front
   pairs_ended past =
       sym so_far ∙ ap (λ us. pairs us (drop i xs)) (drop_all i cs past) ∙ ap (pairs []) (drop_all i xs (omega arith)) ∙ ap Some (append-nil front)
+
+-- the same where the elements of both lists are viewed
+module _ {E F C X Y : Type 0} (left : E → C) (view : F → X) (f : C → X → Option Y) (es : List E) (xs : List F) (whole : Option (List Y)) (front : List Y) (i : ℕ)
+    (so_far : with_front front (each_pair f (map left (drop i es)) (map view (drop i xs))) ≡ whole) (same : length es ≡ length xs) where
+  abbrev both : List E → List F → Option (List Y)
+  both us vs = with_front front (each_pair f (map left us) (map view vs))
+
+  cut_both : (c : E) (d : F) → i < length es → both (drop i es) (drop i xs) ≡ both (get_or es i c ∷ drop (i + 1) es) (get_or xs i d ∷ drop (i + 1) xs)
+  cut_both c d within =
+      ap (λ us. both us (drop i xs)) (drop_more es i c within)
+      ∙ ap (both (get_or es i c ∷ drop (i + 1) es)) (drop_more xs i d (omega arith))
+
+  pub both_more : (c : E) (d : F) (y : Y) (more : List Y) → i < length es → f (left (get_or es i c)) (view (get_or xs i d)) ≡ Some y → more ≡ front ++ y ∷ []
+      → with_front more (each_pair f (map left (drop (i + 1) es)) (map view (drop (i + 1) xs))) ≡ whole
+  both_more c d y more within e pushed =
+      ap (λ ys. with_front ys (each_pair f (map left (drop (i + 1) es)) (map view (drop (i + 1) xs)))) pushed
+      ∙ sym (front_more front (f (left (get_or es i c)) (view (get_or xs i d))) y (each_pair f (map left (drop (i + 1) es)) (map view (drop (i + 1) xs))) e)
+      ∙ sym (cut_both c d within) ∙ so_far
+
+  pub both_stopped : (c : E) (d : F) → i < length es → f (left (get_or es i c)) (view (get_or xs i d)) ≡ None → whole ≡ None
+  both_stopped c d within e =
+      sym so_far ∙ cut_both c d within
+      ∙ front_stopped front (f (left (get_or es i c)) (view (get_or xs i d))) (each_pair f (map left (drop (i + 1) es)) (map view (drop (i + 1) xs))) e
+
+  pub both_ended : length es ≤ i → whole ≡ Some front
+  both_ended past =
+      sym so_far ∙ ap (λ us. both us (drop i xs)) (drop_all i es past) ∙ ap (both []) (drop_all i xs (omega arith)) ∙ ap Some (append-nil front)
