@@ -3,7 +3,7 @@ use Rattle.std.specs.Prelude.{◌≡◌, ℕ, true, false, List, [], ◌∷◌, 
 use Rattle.msi_text_base.specs.declared.errors.ErrorKind.{ErrorKind}
 use Rattle.msi_text_base.specs.declared.errors.ErrorKind.TheVariants.{AlreadyExists, InvalidInput}
 use Rattle.msi_text_pool_base.specs.Pool.{Place, pool_stream}
-use Rattle.msi_text_places.specs.FirstFit.{taken}
+use Rattle.msi_text_pool_base.specs.FirstFit.{taken}
 use Rattle.msi_table_values.specs.declared.value.Value.{Value}
 use Rattle.msi_table_values.specs.declared.value.Value.TheVariants.{Int, Str}
 use Rattle.msi_table_values.specs.declared.column.ColumnType.TheVariants.{Int16, Int32}

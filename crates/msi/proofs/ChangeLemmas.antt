@@ -5,7 +5,7 @@ use Rattle.msi_text_base.specs.declared.errors.ErrorKind.{ErrorKind}
 use Rattle.msi_text_base.specs.declared.errors.ErrorKind.TheVariants.{InvalidData, InvalidInput}
 use Rattle.msi_table_values.specs.Columns.{ColumnDef}
 use Rattle.msi_query.specs.Queries.{InsertQuery, UpdateQuery, DeleteQuery}
-use Rattle.msi_text.specs.Refusals.{AnswersFirst, Refusals, IsRefusal, unless_refused, ◌>>=◌}
+use Rattle.msi_text_base.specs.Refusals.{AnswersFirst, Refusals, IsRefusal, unless_refused, ◌>>=◌}
 use Rattle.msi_database_changes.specs.Changes.{Change, sound_refusal}
 use Rattle.msi_database_changes.specs.Create.{create_table}
 use Rattle.msi_database_changes.specs.Database.{Database, is_sound}

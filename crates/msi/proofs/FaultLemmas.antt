@@ -4,7 +4,7 @@ use Rattle.std.specs.Prelude.{IfErr, IsErrAnd}
 use Rattle.msi_text_base.specs.declared.errors.ErrorKind.{ErrorKind}
 use Rattle.msi_text_base.specs.declared.errors.ErrorKind.TheVariants.{AlreadyExists, InvalidData, InvalidInput, Io, NotFound, OutOfMemory}
 use Rattle.msi_container_device.specs.Faults.{is_io}
-use Rattle.msi_text.specs.Refusals.{IsRefusal, or_refused}
+use Rattle.msi_text_base.specs.Refusals.{IsRefusal, or_refused}
 use Rattle.msi_database_storage.specs.Streams.{Streams}
 use Rattle.msi.specs.Flushing.{is_fault}
 use Rattle.msi.proofs.FlushStepLemmas.{only_input}

@@ -4,7 +4,7 @@ use Rattle.std.specs.Prelude.{IfErr, IfOk, IsErrOf, IsTrue, ◌↔◌, if◌then
 use Rattle.std.specs.FinMap.{entries}
 use Rattle.msi_text_base.specs.declared.errors.ErrorKind.{ErrorKind}
 use Rattle.msi_text_base.specs.declared.errors.ErrorKind.TheVariants.{InvalidInput, OutOfMemory}
-use Rattle.msi_text.specs.Refusals.{IsRefusal, or_refused, ◌>>=◌}
+use Rattle.msi_text_base.specs.Refusals.{IsRefusal, or_refused, ◌>>=◌}
 use Rattle.msi_container_format.specs.Streams as maps
 use Rattle.msi_container_format.specs.declared.contents.Contents.{Contents}
 use Rattle.msi_container_write.specs.Layout.{layout, refuses}

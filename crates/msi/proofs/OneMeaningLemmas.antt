@@ -13,7 +13,7 @@ use Rattle.msi_summary.specs.Summary.{SpellsSummary}
 use Rattle.msi_summary_properties.proofs.ReadBackLemmas.{only_one_set}
 use Rattle.msi_table_values.specs.declared.value.ValueRef.{ValueRef}
 use Rattle.msi_table_values.specs.Columns.{ColumnDef}
-use Rattle.msi_query_joins.specs.Rows.{TableCells}
+use Rattle.msi_table_values.specs.TableCells.{TableCells}
 use Rattle.msi_container_format.specs.declared.contents.Contents.{Contents}
 use Rattle.msi_database_schema.specs.Keys.{table_key, summary_key, string_pool_name, string_data_name}
 use Rattle.msi_database_schema.specs.System.{validation_name, validation_columns}

@@ -3,7 +3,7 @@ use Rattle.std.proofs.Common.{◌≡◌, ◌≢◌, ℕ, ◌≤◌, true, false,
 use Rattle.std.specs.Str.{IsUtf8}
 use Rattle.std.proofs.lemmas.Bool.{true≢false, or_parts, and_from, lt-ltb, le-leb, leb-true, not-false}
 use Rattle.std.proofs.lemmas.Bool.Decides.{nat_tests}
-use Rattle.msi_text_places.specs.FirstFit.{most_places}
+use Rattle.msi_text_pool_base.specs.FirstFit.{most_places}
 use Rattle.msi_text_base.specs.declared.codepage.CodePage.{CodePage}
 use Rattle.msi_text_base.specs.declared.errors.ErrorKind.TheVariants.{InvalidData}
 use Rattle.msi_text_pool_base.specs.Pool as pools

@@ -4,7 +4,7 @@ use Rattle.std.specs.FinMap.{entries-from_sorted}
 use Rattle.std.specs.List.{AllByRecursion}
 use Rattle.msi_text_base.specs.declared.errors.ErrorKind.{ErrorKind}
 use Rattle.msi_text_base.specs.declared.errors.ErrorKind.TheVariants.{InvalidInput}
-use Rattle.msi_text.specs.Refusals.{unless_refused, or_refused, ◌>>=◌}
+use Rattle.msi_text_base.specs.Refusals.{unless_refused, or_refused, ◌>>=◌}
 use Rattle.msi_container_format.specs.Names.{name_cmp}
 use Rattle.msi_container_write.specs.Image.{least_total}
 use Rattle.msi_container_write.specs.Layout.{refuses, taken_by}

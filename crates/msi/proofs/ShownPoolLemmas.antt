@@ -4,7 +4,7 @@ use Rattle.std.specs.Prelude.{slice_get, option_map, if◌then◌else◌}
 use Rattle.std.specs.Option.{option_map_or}
 use Rattle.std.specs.List.{AllByRecursion, enumerate_from}
 use Rattle.msi_text_pool_base.specs.Pool.{Pool, Place, forgotten}
-use Rattle.msi_text_places.specs.FirstFitLaws.{text_at}
+use Rattle.msi_text_pool_base.specs.FirstFitLaws.{text_at}
 use Rattle.msi_table_values.specs.declared.value.ValueRef.{ValueRef}
 use Rattle.msi_table_values.specs.declared.value.ValueRef.TheVariants as cell
 use Rattle.msi_table_values.specs.declared.value.Value.TheVariants as value

@@ -16,9 +16,9 @@ pub use Rattle.msi_database_schema.specs.System
 pub use Rattle.msi_database_schema.specs.Schema
 pub use Rattle.msi_database_schema.specs.RowOrders
 pub use Rattle.msi_database_schema.specs.Description
-pub use Rattle.msi_database_cells.specs.Texts
-pub use Rattle.msi_database_cells.specs.KeySets
-pub use Rattle.msi_database_cells.specs.Setting
+pub use Rattle.msi_database.specs.Texts
+pub use Rattle.msi_database.specs.KeySets
+pub use Rattle.msi_database.specs.Setting
 pub use Rattle.msi_database_changes.specs.Database
 pub use Rattle.msi_database_changes.specs.Changes
 pub use Rattle.msi_database_changes.specs.Insert

@@ -17,9 +17,9 @@ pub use Rattle.msi_text_base.specs.PageTables
 pub use Rattle.msi_text_base.specs.Pages
 pub use Rattle.msi_text_base.specs.Faults
 pub use Rattle.msi_text_pool_base.specs.Pool
-pub use Rattle.msi_text_places.specs.FirstFit
-pub use Rattle.msi_text_places.specs.FirstFitLaws
+pub use Rattle.msi_text_pool_base.specs.FirstFit
+pub use Rattle.msi_text_pool_base.specs.FirstFitLaws
 pub use Rattle.msi_text_pool.specs.PoolWriting
 pub use Rattle.msi_text_pool.specs.PoolLaws
 pub use Rattle.msi_text_pool_base.specs.PoolReading
-pub use Rattle.msi_text_pool.specs.References
+pub use Rattle.msi_text_pool_base.specs.References

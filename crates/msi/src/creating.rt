@@ -12,7 +12,7 @@ use msi_container_device::Device;
 use msi_database::Database;
 use msi_streams::OpenStream;
 use msi_summary::parts::new_summary;
-use msi_text::errors::Error;
+use msi_text_base::errors::Error;
 use std::alloc::Global;
 
 impl<F: Device + Drop> Package<F> {

@@ -6,7 +6,7 @@ ghost use Rattle.msi.specs.Opening.{OpensSource};
 
 use crate::package::Package;
 use msi_container_device::{Buffered, Metered};
-use msi_text::errors::Error;
+use msi_text_base::errors::Error;
 use std::fs::{self, OpenOptions};
 use std::io::{Read, Seek, Write};
 use std::path::AsPath;

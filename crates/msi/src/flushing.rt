@@ -21,7 +21,7 @@ use msi_database::Database;
 use msi_database::parts::{put_back_stream, replace_stream};
 use msi_streams::parts::{contents_under, renewed_streams};
 use msi_summary::SummaryInfo;
-use msi_text::errors::Error;
+use msi_text_base::errors::Error;
 use std::alloc::Global;
 use std::vec::IntoIter;
 

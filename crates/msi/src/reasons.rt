@@ -1,6 +1,6 @@
 //! Why a call is refused: a sentence for each rule.
 
-use msi_text::Reason;
+use msi_text_base::errors::Reason;
 
 pub(crate) const STORAGES: Reason = Reason(
     "the package has storages below its root, and is only read",

@@ -5,7 +5,7 @@ ghost use Rattle.std.specs.Borrow.{sem};
 ghost use Rattle.std.specs.FinMap as finite;
 ghost use Rattle.std.specs.Option.{option_copied};
 ghost use Rattle.msi_text_base.specs.declared.errors.ErrorKind.TheVariants.{InvalidInput, NotFound, OutOfMemory};
-ghost use Rattle.msi_text.specs.Refusals.{first_refusal, unless_refused};
+ghost use Rattle.msi_text_base.specs.Refusals.{first_refusal, unless_refused};
 ghost use Rattle.msi_database_schema.specs.Keys.{is_stream_name, signature_key as signature_of, stream_key};
 ghost use Rattle.msi_database_storage.specs.Streams.{has_stream_at, stream_at, without_stream};
 ghost use Rattle.msi_streams.specs.Cursor.{at_start};
@@ -24,7 +24,7 @@ use msi_database::parts::{remove_stream, replace_stream};
 use msi_database_schema::names::{signature_ex_key, signature_key};
 use msi_streams::parts::{accepted_key, checked_key};
 use msi_streams::{OpenStream, StreamReader, StreamWriter, Streams};
-use msi_text::errors::{Error, ErrorKind};
+use msi_text_base::errors::{Error, ErrorKind};
 
 impl<F: Source> Package<F> {
     /// Returns whether there is a stream of this name. It takes no memory.

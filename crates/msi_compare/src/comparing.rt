@@ -8,8 +8,8 @@ ghost use Rattle.msi_compare.specs.Differences.{of_new as of_new_row, of_old as 
 
 use crate::index::index_of;
 use crate::keys::Key;
-use msi_table::column::Column;
-use msi_table::value::Value;
+use msi_table_values::column::Column;
+use msi_table_values::value::Value;
 use msi_text_base::errors::Error;
 use msi_text_base::text::Items;
 use std::alloc::Global;

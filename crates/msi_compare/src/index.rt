@@ -5,8 +5,8 @@ ghost use Rattle.msi_text_base.specs.Results.{OnlyMemory};
 ghost use Rattle.msi_compare.specs.Differences.{IsIndex};
 
 use crate::keys::Key;
-use msi_table::column::Column;
-use msi_table::value::Value;
+use msi_table_values::column::Column;
+use msi_table_values::value::Value;
 use msi_text_base::errors::Error;
 use msi_text_base::text::Items;
 use std::alloc::Global;

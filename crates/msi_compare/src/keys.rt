@@ -10,8 +10,8 @@ ghost use Rattle.msi_table_values.specs.OrderLaws.{value_cmp-total};
 ghost use Rattle.msi_table_values.specs.Values.{value_cmp};
 ghost use Rattle.msi_table_order.specs.KeyOrder.{key_of};
 
-use msi_table::column::Column;
-use msi_table::value::Value;
+use msi_table_values::column::Column;
+use msi_table_values::value::Value;
 use msi_text_base::errors::Error;
 use std::alloc::Global;
 use std::cmp::Ordering;

@@ -8,7 +8,7 @@ use Rattle.msi_text_base.specs.Results.{OnlyMemory}
 use Rattle.msi_text_pool_base.specs.Pool.{Pool}
 use Rattle.msi_table_values.specs.declared.value.ValueRef.{ValueRef}
 use Rattle.msi_table.specs.Tables.{TableDef}
-use Rattle.msi_text.specs.Refusals.{IsRefusal, or_refused}
+use Rattle.msi_text_base.specs.Refusals.{IsRefusal, or_refused}
 use Rattle.msi_database_changes.specs.Database.{is_sound, table_at}
 use Rattle.msi_database_changes.specs.Insert.{table_with}
 use Rattle.msi_database_storage.specs.Streams.{Streams, stored_rows}

@@ -9,7 +9,7 @@ use Rattle.msi_container_format.specs.Names.{is_name_length}
 use Rattle.msi_table_values.specs.declared.value.ValueRef.{ValueRef}
 use Rattle.msi_table_values.specs.Columns.{types_of}
 use Rattle.msi_table_values.specs.Fitting.{FitsRow}
-use Rattle.msi_query_joins.specs.Rows.{TableCells}
+use Rattle.msi_table_values.specs.TableCells.{TableCells}
 use Rattle.msi_database_schema.specs.Keys.{is_table_name}
 use Rattle.msi_database_schema.specs.System.{validation_name, validation_columns}
 use Rattle.msi_database_schema.specs.Schema.{schema_of}

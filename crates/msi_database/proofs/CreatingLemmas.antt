@@ -7,7 +7,7 @@ use Rattle.msi_text_base.specs.declared.errors.ErrorKind.{ErrorKind}
 use Rattle.msi_table_values.specs.declared.column.ColumnType.{ColumnType}
 use Rattle.msi_table_values.specs.declared.column.ColumnType.TheVariants as coltype
 use Rattle.msi_table_values.specs.Columns.{ColumnDef, HasShortLength}
-use Rattle.msi_text.specs.Refusals.{Refusals, unless_refused}
+use Rattle.msi_text_base.specs.Refusals.{Refusals, unless_refused}
 use Rattle.msi_database_schema.specs.Description.{have_short_lengths, is_short}
 use Rattle.msi_database_changes.proofs.RefusedLemmas.{first_refused, front_holds, refused_first}
 

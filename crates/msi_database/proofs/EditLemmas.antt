@@ -12,7 +12,7 @@ use Rattle.msi_table.specs.Cells.{table_bytes}
 use Rattle.msi_table_order.specs.StoredOrder.{row_cmp, in_stored_order}
 use Rattle.msi_table_order.proofs.RowOrderLemmas.{row_cmp-weak}
 use Rattle.msi_table_order.proofs.StableSortLemmas.{length_sorted}
-use Rattle.msi_query_joins.specs.Rows.{TableCells}
+use Rattle.msi_table_values.specs.TableCells.{TableCells}
 use Rattle.msi_database_schema.specs.Keys.{is_table_name, table_key}
 use Rattle.msi_database_schema.specs.System.{tables_name, columns_name, validation_name}
 use Rattle.msi_database_schema.proofs.RowOrderLemmas.{names_total}

@@ -16,8 +16,8 @@ use Rattle.msi_table_values.specs.declared.value.Value.TheVariants.{Str}
 use Rattle.msi_table_values.specs.declared.value.ValueRef.{ValueRef}
 use Rattle.msi_table_values.specs.Columns.{ColumnDef, types_of}
 use Rattle.msi_table.specs.Tables.{TableDef, CanStore}
-use Rattle.msi_text.specs.Refusals.{IsRefusal, or_refused}
-use Rattle.msi_query_joins.specs.Rows.{TableCells}
+use Rattle.msi_text_base.specs.Refusals.{IsRefusal, or_refused}
+use Rattle.msi_table_values.specs.TableCells.{TableCells}
 use Rattle.msi_database_schema.specs.Description.{column_rows, validation_rows}
 use Rattle.msi_database_schema.specs.Keys.{table_key}
 use Rattle.msi_database_schema.specs.System.{columns_name, tables_name, validation_name}

@@ -5,7 +5,7 @@ use Rattle.std.proofs.lemmas.List.{nil_from_length}
 use Rattle.msi_container_format.specs.Names.{name_cmp}
 use Rattle.msi_container_format.specs.Streams as maps
 use Rattle.std.proofs.lemmas.Bool.{leb-true}
-use Rattle.msi_text_places.specs.FirstFit.{most_places}
+use Rattle.msi_text_pool_base.specs.FirstFit.{most_places}
 use Rattle.msi_text_pool_base.specs.Pool.{Pool}
 use Rattle.msi_database_cells.specs.Texts.{settled}
 use Rattle.msi_table_values.specs.Columns.{ColumnDef}

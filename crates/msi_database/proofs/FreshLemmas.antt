@@ -4,7 +4,7 @@ use Rattle.std.specs.List.{list_all}
 use Rattle.std.proofs.lemmas.Bool.{and_parts, ltb-true, eqb-true}
 use Rattle.msi_text_base.specs.Lists.{numbers_below}
 use Rattle.msi_text_base.proofs.ListLemmas.{each_number}
-use Rattle.msi_text_places.specs.FirstFit.{count_of}
+use Rattle.msi_text_pool_base.specs.FirstFit.{count_of}
 use Rattle.msi_text_pool_base.specs.Pool.{Place, CountsFit, PlacesWritten}
 use Rattle.msi_table_values.specs.Columns.{types_of}
 use Rattle.msi_database_schema.specs.System.{validation_columns}

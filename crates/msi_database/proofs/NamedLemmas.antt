@@ -10,7 +10,7 @@ use Rattle.std.proofs.lemmas.List.Folds.{list_any-append}
 use Rattle.std.proofs.lemmas.Option.{same_Some}
 use Rattle.msi_text_base.specs.Lists.{list_cmp}
 use Rattle.msi_table_values.specs.declared.value.ValueRef.{ValueRef}
-use Rattle.msi_query_joins.specs.Rows.{TableCells}
+use Rattle.msi_table_values.specs.TableCells.{TableCells}
 use Rattle.msi_database_schema.specs.Keys.{table_key}
 use Rattle.msi_database_schema.specs.System.{validation_name, validation_columns}
 use Rattle.msi_database_schema.proofs.RowOrderLemmas.{names_total}

@@ -5,7 +5,7 @@ use Rattle.std.specs.Option.{option_map_or}
 use Rattle.std.proofs.lemmas.List.Sums.{sum_by_more}
 use Rattle.std.proofs.lemmas.Option.{same_Some, slice_get-get_or}
 use Rattle.msi_text_pool_base.specs.Pool.{Place, Pool}
-use Rattle.msi_text_places.specs.FirstFitLaws.{text_at}
+use Rattle.msi_text_pool_base.specs.FirstFitLaws.{text_at}
 use Rattle.msi_table_values.specs.declared.value.ValueRef.{ValueRef}
 use Rattle.msi_table_values.specs.Columns.{ColumnDef}
 use Rattle.msi_table.specs.Tables.{TableDef}

@@ -7,7 +7,7 @@ use Rattle.std.proofs.lemmas.Bool.{and_parts, leb-true, eqb-false, true≢false}
 use Rattle.std.proofs.lemmas.List.Sums.{length-filter}
 use Rattle.msi_container_format.specs.Names.{name_cmp}
 use Rattle.msi_text_base.specs.Lists.{numbers_from}
-use Rattle.msi_text_places.specs.FirstFit.{count_of}
+use Rattle.msi_text_pool_base.specs.FirstFit.{count_of}
 use Rattle.msi_text_pool_base.specs.Pool.{Pool, Place, CountsFit, PlacesWritten, forgotten, with_named_texts}
 use Rattle.msi_table_values.specs.declared.value.ValueRef.{ValueRef}
 use Rattle.msi_table.specs.Tables.{TableDef}

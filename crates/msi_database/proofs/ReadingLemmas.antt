@@ -21,7 +21,7 @@ use Rattle.msi_table_values.specs.CellValues.{value_of_cell, row_values}
 use Rattle.msi_table_values.specs.Columns.{ColumnDef, greatest_16, types_of}
 use Rattle.msi_table.specs.Tables.{TableDef}
 use Rattle.msi_table_values.specs.Fitting.{FitsColumn, FitsRow, FitsTable}
-use Rattle.msi_text.specs.Refusals.{IsRefusal, or_refused}
+use Rattle.msi_text_base.specs.Refusals.{IsRefusal, or_refused}
 use Rattle.msi_database_schema.specs.RowOrders.{rows_of}
 use Rattle.msi_table_values.specs.Values.{is_null, is_text}
 use Rattle.msi_database_schema.specs.Schema.{SchemaRows, by_name, columns_of, listed_names, has_long_number, has_null, has_odd_name, is_faulty, is_of_16_bits, number_of, schema_of, table_with, tables_of}

@@ -9,8 +9,8 @@ use Rattle.msi_table_values.specs.declared.value.Value.TheVariants.{Str}
 use Rattle.msi_table_values.specs.declared.value.ValueRef.{ValueRef}
 use Rattle.msi_table_values.specs.Columns.{ColumnDef}
 use Rattle.msi_query.specs.Queries.{InsertQuery}
-use Rattle.msi_text.specs.Refusals.{Refusals, IsRefusal, first_refusal, or_refused, unless_refused, ◌>>=◌}
-use Rattle.msi_query_joins.specs.Rows.{TableCells}
+use Rattle.msi_text_base.specs.Refusals.{Refusals, IsRefusal, first_refusal, or_refused, unless_refused, ◌>>=◌}
+use Rattle.msi_table_values.specs.TableCells.{TableCells}
 use Rattle.msi_database_schema.specs.Keys.{is_table_name}
 use Rattle.msi_database_schema.specs.System.{is_system_table, tables_name, columns_name, validation_name}
 use Rattle.msi_database_schema.specs.Description.{column_rows, validation_rows}
@@ -21,7 +21,7 @@ use Rattle.msi_table_order.specs.KeyOrder.{in_key_order}
 use Rattle.msi_database_changes.specs.Insert.{cells_added, insert_at_width, rows_inserted, rows_added, row_refusals}
 use Rattle.msi_database_changes.specs.Create.{create_at_width, table_refusals, with_new_table}
 use Rattle.msi_database_changes.specs.Drop.{drop_table, rows_forgotten, table_released}
-use Rattle.msi_text.proofs.RefusalLemmas.{goes_on-Err, unless-Err}
+use Rattle.msi_text_base.proofs.RefusalLemmas.{goes_on-Err, unless-Err}
 use Rattle.msi_database.proofs.MadeLemmas.{goes_on, found}
 
 -- STEPS

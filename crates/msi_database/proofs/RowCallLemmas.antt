@@ -4,7 +4,7 @@ use Rattle.std.specs.Prelude.{MatchOption}
 use Rattle.std.proofs.lemmas.Option.{same_Some}
 use Rattle.std.proofs.lemmas.Bool.{leb-true}
 use Rattle.msi_text_base.specs.declared.errors.ErrorKind.{ErrorKind}
-use Rattle.msi_text_places.specs.FirstFit.{most_places}
+use Rattle.msi_text_pool_base.specs.FirstFit.{most_places}
 use Rattle.msi_text_pool_base.specs.Pool.{Place, Pool}
 use Rattle.msi_table_values.specs.declared.value.ValueRef.{ValueRef}
 use Rattle.msi_table_values.specs.declared.value.Value.{Value}
@@ -14,8 +14,8 @@ use Rattle.msi_table.specs.Tables.{TableDef}
 use Rattle.msi_table_values.specs.Fitting.{FitsTable}
 use Rattle.msi_query.specs.Queries.{InsertQuery, UpdateQuery, DeleteQuery}
 use Rattle.msi_query_expressions.specs.Conditions.{meets}
-use Rattle.msi_text.specs.Refusals.{first_refusal, unless_refused}
-use Rattle.msi_query_joins.specs.Rows.{TableCells}
+use Rattle.msi_text_base.specs.Refusals.{first_refusal, unless_refused}
+use Rattle.msi_table_values.specs.TableCells.{TableCells}
 use Rattle.msi_query_joins.specs.Selection.{has_columns, condition_names}
 use Rattle.msi_database_schema.specs.Keys.{is_table_name, table_key}
 use Rattle.msi_database_schema.specs.System.{is_system_table}

@@ -6,15 +6,15 @@ use Rattle.std.proofs.lemmas.Bool.{true≢false, false_from_ne_true, leb-true}
 use Rattle.std.proofs.lemmas.Slice.Eq.{bytes_eq-Decides}
 use Rattle.msi_text_base.specs.Lists.{list_cmp}
 use Rattle.msi_text_pool_base.specs.Pool.{Place}
-use Rattle.msi_text_places.specs.FirstFit.{most_places}
-use Rattle.msi_text_places.proofs.TakenLemmas.{taken_takes}
+use Rattle.msi_text_pool_base.specs.FirstFit.{most_places}
+use Rattle.msi_text_pool_base.proofs.TakenLemmas.{taken_takes}
 use Rattle.msi_table_values.specs.declared.value.ValueRef.{ValueRef}
 use Rattle.msi_table_values.specs.Columns.{types_of}
 use Rattle.msi_table_values.specs.Fitting.{FitsTable}
 use Rattle.msi_table_values.specs.CellValues.{row_values}
 use Rattle.msi_table_order.specs.StoredOrder.{in_stored_order}
 use Rattle.msi_query.specs.Queries.{InsertQuery, UpdateQuery, DeleteQuery}
-use Rattle.msi_query_joins.specs.Rows.{TableCells}
+use Rattle.msi_table_values.specs.TableCells.{TableCells}
 use Rattle.msi_database_schema.specs.Keys.{is_table_name}
 use Rattle.msi_database_schema.specs.System.{validation_name}
 use Rattle.msi_database_schema.specs.Schema.{schema_of}

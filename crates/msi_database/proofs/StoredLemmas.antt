@@ -12,7 +12,7 @@ use Rattle.msi_table_values.specs.Columns.{ColumnDef, types_of}
 use Rattle.msi_table.specs.Cells.{rows_in, table_bytes, widths}
 use Rattle.msi_table_values.specs.Fitting.{FitsTable}
 use Rattle.msi_table.proofs.ReadBackLemmas.{rows_in-table_bytes}
-use Rattle.msi_query_joins.specs.Rows.{TableCells}
+use Rattle.msi_table_values.specs.TableCells.{TableCells}
 use Rattle.msi_database_schema.specs.Keys.{is_table_name, table_key, summary_key, string_pool_name, string_data_name}
 use Rattle.msi_database_changes.specs.Database.{Database, Tables, table_at}
 use Rattle.msi_database_changes.proofs.TracksLemmas.{TableFits}

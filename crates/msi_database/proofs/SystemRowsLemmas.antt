@@ -4,8 +4,8 @@ use Rattle.msi_text_base.specs.declared.errors.ErrorKind.{ErrorKind}
 use Rattle.msi_table_values.specs.declared.value.Value.{Value}
 use Rattle.msi_table_values.specs.declared.value.ValueRef.{ValueRef}
 use Rattle.msi_table_values.specs.Columns.{ColumnDef}
-use Rattle.msi_text.specs.Refusals.{IsRefusal, ◌>>=◌}
-use Rattle.msi_text.proofs.RefusalLemmas.{goes_on-Err}
+use Rattle.msi_text_base.specs.Refusals.{IsRefusal, ◌>>=◌}
+use Rattle.msi_text_base.proofs.RefusalLemmas.{goes_on-Err}
 use Rattle.msi_database_cells.specs.Texts.{PoolInUse}
 use Rattle.msi_database_changes.specs.Database.{Database}
 use Rattle.msi_database_schema.specs.Description.{column_rows, tables_row, validation_rows}

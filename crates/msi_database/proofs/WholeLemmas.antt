@@ -15,10 +15,11 @@ use Rattle.msi_table_values.specs.Fitting.{FitsRow, FitsTable}
 use Rattle.msi_table.specs.Rows.{AreAsWide}
 use Rattle.msi_table_values.proofs.ColumnTypesLemmas.{length-types_of}
 use Rattle.msi_table_values.proofs.FittingLemmas.{fits_length}
-use Rattle.msi_text.specs.Refusals.{AnswersWith, IsRefusal, or_refused, refusal_of, ◌>>=◌}
-use Rattle.msi_query_joins.specs.Rows.{TableCells, RelationCells, columns_read, whole_table}
+use Rattle.msi_text_base.specs.Refusals.{AnswersWith, IsRefusal, or_refused, refusal_of, ◌>>=◌}
+use Rattle.msi_table_values.specs.TableCells.{TableCells}
+use Rattle.msi_query_joins.specs.Rows.{RelationCells, columns_read, whole_table}
 use Rattle.msi_query_rows.specs.Width.{AreWide}
-use Rattle.msi_text.proofs.RefusalLemmas.{goes_on-Err}
+use Rattle.msi_text_base.proofs.RefusalLemmas.{goes_on-Err}
 use Rattle.msi_database_changes.specs.Database.{table_at, Tables}
 use Rattle.msi_database_storage.specs.Streams.{Streams, stored_rows}
 use Rattle.msi_database_storage.specs.Kept.{Kept, table_kept, table_kept_at, database_kept, AreAsLong}

@@ -5,8 +5,8 @@ use Rattle.std.proofs.lemmas.Option.{none-some}
 use Rattle.msi_text_base.specs.declared.errors.ErrorKind.{ErrorKind}
 use Rattle.msi_text_pool_base.specs.Pool.{Pool}
 use Rattle.msi_table.specs.Tables.{TableDef, long_table_of}
-use Rattle.msi_text.specs.Refusals.{IsRefusal}
-use Rattle.msi_query_joins.specs.Rows.{TableCells}
+use Rattle.msi_text_base.specs.Refusals.{IsRefusal}
+use Rattle.msi_table_values.specs.TableCells.{TableCells}
 use Rattle.std.proofs.Common.{ℕ, List}
 use Rattle.msi_database_cells.specs.Texts.{UsedPool}
 use Rattle.msi_database_changes.specs.Database.{Database, is_sound, table_at}

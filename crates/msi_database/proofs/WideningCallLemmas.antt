@@ -6,7 +6,7 @@ use Rattle.msi_container_format.specs.Streams as maps
 use Rattle.msi_container_format.proofs.NamesLemmas.{names_total as key_names_total}
 use Rattle.msi_text_base.specs.declared.errors.ErrorKind.{ErrorKind}
 use Rattle.msi_text_base.specs.declared.errors.ErrorKind.TheVariants.{InvalidData, OutOfMemory}
-use Rattle.msi_text.specs.Refusals.{IsRefusal, or_refused}
+use Rattle.msi_text_base.specs.Refusals.{IsRefusal, or_refused}
 use Rattle.msi_table.specs.Cells.{table_bytes}
 use Rattle.msi_database_schema.specs.System.{validation_columns, validation_name}
 use Rattle.std.proofs.lemmas.List.{get_or-map, length-map, take_more}
@@ -19,7 +19,7 @@ use Rattle.msi_text_pool_base.specs.Pool.{Pool}
 use Rattle.msi_table_order.proofs.SortedRowsLemmas.{all_at}
 use Rattle.msi_table_values.specs.Columns.{ColumnDef, types_of}
 use Rattle.msi_table_values.specs.Fitting.{FitsTable}
-use Rattle.msi_query_joins.specs.Rows.{TableCells}
+use Rattle.msi_table_values.specs.TableCells.{TableCells}
 use Rattle.msi_container_format.specs.Names.{is_name_length}
 use Rattle.msi_database_schema.specs.Keys.{is_table_name, table_key}
 use Rattle.msi_database_changes.specs.Database.{Database, Tables, has_table, is_sound, table_at}

@@ -8,7 +8,7 @@ use Rattle.msi_table_values.specs.declared.value.ValueRef.{ValueRef}
 use Rattle.msi_table_values.specs.Columns.{ColumnDef, types_of}
 use Rattle.msi_table_values.specs.Fitting.{FitsTable}
 use Rattle.msi_table.specs.Tables.{TableDef}
-use Rattle.msi_text.specs.Refusals.{Refusals, or_refused, unless_refused, ◌>>=◌}
+use Rattle.msi_text_base.specs.Refusals.{Refusals, or_refused, unless_refused, ◌>>=◌}
 use Rattle.msi_database_schema.specs.Description.{column_rows, tables_row, validation_rows}
 use Rattle.msi_database_schema.specs.Keys.{table_key}
 use Rattle.msi_database_schema.specs.System.{tables_name, columns_name, validation_name}

@@ -19,9 +19,10 @@ pub use Rattle.msi_container_format.specs.Names
 pub use Rattle.msi_table_values.specs.declared.value.Value
 pub use Rattle.msi_table_values.specs.Columns
 pub use Rattle.msi_table_values.specs.Values
+pub use Rattle.msi_table_values.specs.TableCells
 pub use Rattle.msi_table.specs.Tables
 pub use Rattle.msi_table.specs.Rows
-pub use Rattle.msi_text.specs.Refusals
+pub use Rattle.msi_text_base.specs.Refusals
 pub use Rattle.msi_query_joins.specs.Selection
 pub use Rattle.msi_query_joins.specs.Rows as SelectedRows
 pub use Rattle.msi_database_schema.specs.Keys

@@ -6,7 +6,7 @@ use Rattle.msi_text_base.specs.declared.errors.ErrorKind.{ErrorKind}
 use Rattle.msi_text_base.specs.declared.errors.ErrorKind.TheVariants.{InvalidData, NotFound}
 use Rattle.msi_table_values.specs.declared.value.ValueRef.{ValueRef}
 use Rattle.msi_table.specs.Tables.{TableDef}
-use Rattle.msi_text.specs.Refusals.{or_refused, ◌>>=◌}
+use Rattle.msi_text_base.specs.Refusals.{or_refused, ◌>>=◌}
 use Rattle.msi_database_schema.specs.Keys.{table_key}
 use Rattle.msi_database_changes.specs.Database.{Database, table_at}
 use Rattle.msi_database_storage.specs.Kept.{Kept, table_kept_at}

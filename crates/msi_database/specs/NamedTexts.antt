@@ -2,7 +2,7 @@
 use Rattle.std.specs.Prelude.{◌≤◌, ◌==◌, ℕ, ◌+◌, ◌*◌, List, length, IfSome}
 use Rattle.std.specs.List.{count_by, sum_by}
 use Rattle.msi_text_pool_base.specs.Pool.{Place, Pool}
-use Rattle.msi_text_places.specs.FirstFitLaws.{text_at}
+use Rattle.msi_text_pool_base.specs.FirstFitLaws.{text_at}
 use Rattle.msi_table_values.specs.declared.value.ValueRef.{ValueRef}
 use Rattle.msi_table_values.specs.declared.value.ValueRef.TheVariants as cell
 use Rattle.msi_table_values.specs.Columns.{ColumnDef}

@@ -4,7 +4,7 @@ ghost use Rattle.std.specs.Prelude.{◌≡◌, ◌∷◌, [], false, IfErr, IfOk
 ghost use Rattle.std.specs.Prelude.{option_copied, true};
 ghost use Rattle.msi_text_base.specs.Results.{OnlyMemory};
 ghost use Rattle.msi_text_pool_base.specs.Pool.{unindexed};
-ghost use Rattle.msi_text.specs.Refusals.{IsRefusal, first_refusal, unless_refused};
+ghost use Rattle.msi_text_base.specs.Refusals.{IsRefusal, first_refusal, unless_refused};
 ghost use Rattle.msi_database_changes.specs.Changes.{absent_refusals, barred_refusals};
 ghost use Rattle.msi_database_changes.specs.Database.{is_sound as is_sound_one, table_at};
 ghost use Rattle.msi_container_format.specs.Names.{is_name_length};
@@ -24,11 +24,12 @@ use crate::reasons;
 use msi_database_cells::texts::PoolInUse;
 use msi_database_storage::listing::copies_without;
 use msi_database_storage::parts::{Stored, store_all, stored_rows, stream_of};
+use msi_table::Table;
 use msi_table::parts::long_table;
-use msi_table::{Table, ValueRef};
-use msi_text::errors::{Error, ErrorKind};
+use msi_table_values::value::ValueRef;
 use msi_text::stringpool::StringPool;
-use msi_text::text::Items;
+use msi_text_base::errors::{Error, ErrorKind};
+use msi_text_base::text::Items;
 
 /// A table's stream to be stored, over this database or over a wider one, the pool after the change of its rows, and
 /// whether a text was taken of the pool or given back.

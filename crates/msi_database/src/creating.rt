@@ -4,7 +4,7 @@ ghost use Rattle.std.specs.Prelude.{◌≡◌, ◌≤◌, IfErr, IfOk, IsTrue, O
 ghost use Rattle.msi_text_pool_base.specs.Pool.{unindexed};
 ghost use Rattle.msi_text_base.specs.Results.{OnlyMemory};
 ghost use Rattle.msi_table.specs.Tables.{most_columns};
-ghost use Rattle.msi_text.specs.Refusals.{AnswersFirst, IsRefusal, unless_refused};
+ghost use Rattle.msi_text_base.specs.Refusals.{AnswersFirst, IsRefusal, unless_refused};
 ghost use Rattle.msi_database_schema.specs.Description.{have_short_lengths};
 ghost use Rattle.msi_database_schema.specs.Keys.{is_table_name as is_name_of_table};
 ghost use Rattle.msi_database_changes.specs.Create as creates;
@@ -30,10 +30,11 @@ use msi_database_schema::parts::{column_rows, named_table, short_table_key};
 use msi_database_schema::system::{COLUMNS, TABLES, VALIDATION};
 use msi_database_storage::listing::copies_with;
 use msi_database_storage::parts::{Stored, stream_of};
-use msi_table::column::Column;
-use msi_table::{Table, Value, ValueRef};
-use msi_text::errors::{Error, ErrorKind};
-use msi_text::text::Items;
+use msi_table::Table;
+use msi_table_values::column::Column;
+use msi_table_values::value::{Value, ValueRef};
+use msi_text_base::errors::{Error, ErrorKind};
+use msi_text_base::text::Items;
 use std::marker::Model;
 
 /// What creating a table makes, and whether it took a text of the pool.

@@ -4,7 +4,7 @@ ghost use Rattle.std.specs.Prelude.{◌≡◌, Err, IfErr, IfOk, Ok, OnErr, OnOk
 ghost use Rattle.std.specs.FinMap.{entries};
 ghost use Rattle.msi_text_pool_base.specs.Pool.{unindexed};
 ghost use Rattle.msi_table.specs.Rows.{AreAsWide};
-ghost use Rattle.msi_text.specs.Refusals.{AnswersWith, IsRefusal, refusal_of, unless_refused};
+ghost use Rattle.msi_text_base.specs.Refusals.{AnswersWith, IsRefusal, refusal_of, unless_refused};
 ghost use Rattle.msi_query_joins.specs.Rows.{columns_read, relation_values, whole_table};
 ghost use Rattle.msi_query_joins.specs.Selection.{early_refusal, relation_of};
 ghost use Rattle.msi_database_changes.specs.Changes.{sound_refusal};
@@ -23,12 +23,12 @@ use msi_database_storage::parts::{is_readable, stored_rows};
 use msi_query::Select;
 use msi_query_rows::{Relation, Tables, select};
 use msi_table::Table;
-use msi_table::column::Column;
-use msi_table::parts::copied_columns;
-use msi_text::codepage::CodePage;
-use msi_text::errors::{Error, ErrorKind};
+use msi_table_values::column::Column;
+use msi_table_values::parts::copied_columns;
 use msi_text::stringpool::StringPool;
-use msi_text::text::{IntoText, Items};
+use msi_text_base::codepage::CodePage;
+use msi_text_base::errors::{Error, ErrorKind};
+use msi_text_base::text::{IntoText, Items};
 use std::alloc::Global;
 use std::marker::Model;
 

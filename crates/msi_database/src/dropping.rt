@@ -3,7 +3,7 @@
 ghost use Rattle.std.specs.Prelude.{◌≡◌, ◌++◌, IfErr, IfOk, None, OnErr, OnOk, Some, false, true};
 ghost use Rattle.msi_text_base.specs.Results.{OnlyMemory};
 ghost use Rattle.msi_text_pool_base.specs.Pool.{unindexed};
-ghost use Rattle.msi_text.specs.Refusals.{AnswersFirst, IsRefusal, first_refusal, unless_refused};
+ghost use Rattle.msi_text_base.specs.Refusals.{AnswersFirst, IsRefusal, first_refusal, unless_refused};
 ghost use Rattle.msi_database_schema.specs.Keys.{is_table_name as is_of_table};
 ghost use Rattle.msi_database_schema.specs.System.{is_system_table as is_of_system};
 ghost use Rattle.msi_database_changes.specs.Database.{is_sound as is_sound_one};
@@ -25,7 +25,7 @@ use msi_database_schema::names::is_table_name;
 use msi_database_schema::system::{COLUMNS, TABLES, VALIDATION, is_system_table};
 use msi_database_storage::parts::{Stored, stream_of};
 use msi_table::Table;
-use msi_text::errors::{Error, ErrorKind};
+use msi_text_base::errors::{Error, ErrorKind};
 
 /// A drop that goes on: the pool, and the streams to be stored.
 #[derive(Drop)]

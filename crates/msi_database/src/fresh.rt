@@ -21,12 +21,12 @@ use msi_database_schema::system::{
 };
 use msi_database_storage::parts::{Stored, store_all, stream_of};
 use msi_table::Table;
-use msi_table::column::Column;
-use msi_table::value::{Value, ValueRef};
-use msi_text::codepage::CodePage;
-use msi_text::errors::Error;
+use msi_table_values::column::Column;
+use msi_table_values::value::{Value, ValueRef};
 use msi_text::stringpool::StringPool;
-use msi_text::text::Items;
+use msi_text_base::codepage::CodePage;
+use msi_text_base::errors::Error;
+use msi_text_base::text::Items;
 use std::alloc::Global;
 
 /// The tables of a new database.

@@ -11,7 +11,7 @@ use crate::database::Database;
 use msi_container_format::contents::Bytes;
 use msi_container_format::name::Name;
 use msi_container_format::parts::put_back;
-use msi_text::errors::Error;
+use msi_text_base::errors::Error;
 
 /// Tells that a name has the length of one, which its units do.
 fn know_length(name: &Name)

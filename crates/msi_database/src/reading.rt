@@ -6,7 +6,7 @@ ghost use Rattle.msi_text_base.specs.declared.errors.ErrorKind.TheVariants.{Inva
 ghost use Rattle.msi_text_base.specs.Results.{OnlyMemory};
 ghost use Rattle.msi_table.specs.Tables.{most_columns};
 ghost use Rattle.msi_text_pool_base.specs.Pool.{unindexed};
-ghost use Rattle.msi_text.specs.Refusals.{IsRefusal, or_refused};
+ghost use Rattle.msi_text_base.specs.Refusals.{IsRefusal, or_refused};
 ghost use Rattle.msi_database_schema.specs.System.{validation_columns as columns_of_validation, validation_name};
 ghost use Rattle.msi_database_storage.specs.Kept.{AreAsLong, Kept, schema_listed, table_kept_at};
 ghost use Rattle.msi_database_storage.specs.StreamNames.{HaveShortNames, HoldBytes};
@@ -26,11 +26,12 @@ use msi_database_schema::system::{
 };
 use msi_database_storage::listing::table_named;
 use msi_database_storage::parts::{are_sound, stored_rows, tables_census, with_named_texts};
-use msi_table::column::Column;
-use msi_table::{Table, ValueRef};
-use msi_text::errors::{Error, ErrorKind};
+use msi_table::Table;
+use msi_table_values::column::Column;
+use msi_table_values::value::ValueRef;
 use msi_text::stringpool::StringPool;
-use msi_text::text::Items;
+use msi_text_base::errors::{Error, ErrorKind};
+use msi_text_base::text::Items;
 use std::alloc::Global;
 
 /// A byte is below 256.

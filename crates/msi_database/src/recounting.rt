@@ -3,9 +3,9 @@
 ghost use Rattle.std.specs.Prelude.{◌≡◌, IfErr, IfOk, None, Ok, OnErr, OnOk, length, true};
 ghost use Rattle.msi_text_base.specs.Results.{OnlyMemory};
 ghost use Rattle.msi_text_base.specs.declared.errors.ErrorKind.TheVariants.{InvalidData};
-ghost use Rattle.msi_text_places.specs.Recounting.{AreCounts};
+ghost use Rattle.msi_text_pool_base.specs.Recounting.{AreCounts};
 ghost use Rattle.msi_table.specs.Census.{IsCensus};
-ghost use Rattle.msi_text.specs.Refusals.{AnswersFirst, IsRefusal, first_refusal, unless_refused};
+ghost use Rattle.msi_text_base.specs.Refusals.{AnswersFirst, IsRefusal, first_refusal, unless_refused};
 ghost use Rattle.msi_database_schema.specs.Schema.{table_with};
 ghost use Rattle.msi_database_schema.specs.System.{validation_columns as columns_of_validation, validation_name};
 ghost use Rattle.msi_database_changes.specs.Database.{is_sound, named_numbers};
@@ -22,11 +22,10 @@ use msi_database_storage::parts::{
     are_sound_tables, cells_census, counts_fit, fits_width, is_standard,
 };
 use msi_table::Table;
-use msi_table::column::Column;
 use msi_table::parts::Census;
-use msi_text::Reason;
-use msi_text::errors::{Error, ErrorKind};
+use msi_table_values::column::Column;
 use msi_text::parts::set_counts;
+use msi_text_base::errors::{Error, ErrorKind, Reason};
 
 /// `InvalidData`, for people with this reason.
 fn invalid(reason: Reason) -> Error

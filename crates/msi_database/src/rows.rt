@@ -4,7 +4,7 @@ ghost use Rattle.std.specs.Prelude.{◌≡◌, IfErr, IfOk, None, OnErr, OnOk, S
 ghost use Rattle.std.specs.List.{list_all};
 ghost use Rattle.msi_text_base.specs.Results.{OnlyMemory};
 ghost use Rattle.msi_text_pool_base.specs.Pool.{unindexed};
-ghost use Rattle.msi_text.specs.Refusals.{AnswersFirst, IsRefusal, first_refusal};
+ghost use Rattle.msi_text_base.specs.Refusals.{AnswersFirst, IsRefusal, first_refusal};
 ghost use Rattle.msi_query_joins.specs.Selection.{condition_names, has_columns};
 ghost use Rattle.msi_database_schema.specs.System.{is_system_table as is_of_system};
 ghost use Rattle.msi_database_changes.specs.Database.{is_sound as is_sound_one};
@@ -30,9 +30,10 @@ use msi_query::parts::{
     update_parts,
 };
 use msi_query::{Delete, Insert, Update};
-use msi_table::{Table, Value};
-use msi_text::errors::Error;
-use msi_text::text::Items;
+use msi_table::Table;
+use msi_table_values::value::Value;
+use msi_text_base::errors::Error;
+use msi_text_base::text::Items;
 use std::alloc::Global;
 
 /// The column of `_Validation` that may be set.

@@ -5,7 +5,7 @@ ghost use Rattle.std.specs.FinMap.{entries};
 ghost use Rattle.std.specs.List.{fold};
 ghost use Rattle.msi_container_format.specs.Names.{is_name_length};
 ghost use Rattle.msi_text_base.specs.Results.{OnlyMemory};
-ghost use Rattle.msi_query_joins.specs.Rows.{TableCells};
+ghost use Rattle.msi_table_values.specs.TableCells.{TableCells};
 ghost use Rattle.msi_table.specs.Tables.{CanStore, long_table_of};
 ghost use Rattle.msi_database_schema.specs.Keys.{table_key as key_of};
 ghost use Rattle.msi_database_changes.specs.Database.{is_sound as is_sound_one};
@@ -18,10 +18,11 @@ use msi_container_format::contents::{Bytes, StreamMap};
 use msi_database_schema::parts::{named_table, short_table_key};
 use msi_database_schema::system::{VALIDATION, validation_columns};
 use msi_database_storage::parts::{copied_streams, stored_rows};
+use msi_table::Table;
 use msi_table::parts::{long_table, write_long_rows};
-use msi_table::{Table, ValueRef};
-use msi_text::errors::Error;
-use msi_text::text::Items;
+use msi_table_values::value::ValueRef;
+use msi_text_base::errors::Error;
+use msi_text_base::text::Items;
 use std::alloc::Global;
 
 /// Copies of tables with long references.

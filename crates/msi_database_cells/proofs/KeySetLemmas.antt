@@ -11,7 +11,7 @@ use Rattle.msi_text_base.specs.declared.errors.ErrorKind.{ErrorKind}
 use Rattle.msi_text_base.specs.declared.errors.ErrorKind.TheVariants.{AlreadyExists, InvalidInput}
 use Rattle.msi_text_base.specs.Lists.{has_pair}
 use Rattle.msi_text_base.proofs.BoolLemmas.{or_first, first_or_second}
-use Rattle.msi_text.specs.Refusals.{IsRefusal, Refusals, first_refusal, unless, unless_refused}
+use Rattle.msi_text_base.specs.Refusals.{IsRefusal, Refusals, first_refusal, unless, unless_refused}
 use Rattle.msi_table_values.specs.declared.value.Value.{Value}
 use Rattle.msi_table_values.specs.Columns.{ColumnDef}
 use Rattle.msi_table_values.specs.Values.{value_cmp}

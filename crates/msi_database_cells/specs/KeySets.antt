@@ -6,7 +6,7 @@ use Rattle.std.specs.List.{list_any}
 use Rattle.msi_text_base.specs.declared.errors.ErrorKind.TheVariants.{AlreadyExists, InvalidData, InvalidInput}
 use Rattle.msi_text_base.specs.Lists.{has_pair}
 use Rattle.msi_text_pool_base.specs.Pool.{Place}
-use Rattle.msi_text.specs.Refusals.{Refusals}
+use Rattle.msi_text_base.specs.Refusals.{Refusals}
 use Rattle.msi_table_values.specs.declared.value.Value.{Value}
 use Rattle.msi_table_values.specs.declared.value.ValueRef.{ValueRef}
 use Rattle.msi_table_values.specs.CellValues.{row_values}

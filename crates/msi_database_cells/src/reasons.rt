@@ -1,6 +1,6 @@
 //! Why new rows are refused for their keys: a sentence for each rule.
 
-use msi_text::Reason;
+use msi_text_base::errors::Reason;
 
 pub(crate) const KEY_SHARED: Reason = Reason("two rows of the table share a key");
 

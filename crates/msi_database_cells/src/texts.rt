@@ -2,20 +2,20 @@
 
 ghost use Rattle.std.specs.Prelude.{◌≡◌, false, Some, IfOk, IfErr, OnOk, length, true, unwrap_or};
 ghost use Rattle.std.specs.List.{fold};
-ghost use Rattle.msi_text_places.specs.FirstFit.{given_back};
+ghost use Rattle.msi_text_pool_base.specs.FirstFit.{given_back};
 ghost use Rattle.msi_text_pool_base.specs.Pool.{unindexed};
 ghost use Rattle.msi_text_base.specs.Results.{OnlyMemory};
 ghost use Rattle.msi_text_base.specs.declared.errors.ErrorKind.TheVariants.{InvalidInput};
-ghost use Rattle.msi_text.specs.Refusals.{IsRefusal, or_refused};
+ghost use Rattle.msi_text_base.specs.Refusals.{IsRefusal, or_refused};
 ghost use Rattle.msi_table_values.specs.Refusals.{FailsWith};
 ghost use Rattle.msi_database_cells.specs.Texts.{cell_put, cell_released, in_turn, in_use, rows_put, rows_released};
 ghost use Rattle.msi_database_cells.specs.Texts.{settled, widens};
 
-use msi_table::value::{Value, ValueRef};
-use msi_text::errors::{Error, ErrorKind};
-use msi_text::parts::{incref_widening, most_places};
-use msi_text::stringpool::{StringPool, StringRef};
-use msi_text::text::Items;
+use msi_table_values::value::{Value, ValueRef};
+use msi_text_base::errors::{Error, ErrorKind};
+use msi_text_base::text::Items;
+use msi_text_pool::parts::{incref_widening, most_places};
+use msi_text_pool::stringpool::{StringPool, StringRef};
 use std::alloc::Global;
 use std::marker::Model;
 
@@ -32,7 +32,7 @@ pub struct PoolInUse {
 impl Model for PoolInUse {
     ghost use Rattle.std.specs.Prelude.{◌≡◌};
     ghost use Rattle.msi_database_cells.specs.Texts.{UsedPool};
-    ghost use Rattle.msi_text_places.specs.FirstFit.{is_long_with};
+    ghost use Rattle.msi_text_pool_base.specs.FirstFit.{is_long_with};
 
     ghost Value = { UsedPool };
 

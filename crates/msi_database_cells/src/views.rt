@@ -7,10 +7,10 @@ ghost use Rattle.msi_table_values.specs.CellValues.{row_values};
 ghost use Rattle.msi_table_values.specs.Values.{value_cmp};
 ghost use Rattle.msi_database_cells.specs.Views.{seen_row};
 
-use msi_table::parts::ValueView;
-use msi_table::value::{Value, ValueRef};
-use msi_text::errors::Error;
-use msi_text::stringpool::StringPool;
+use msi_table_values::parts::ValueView;
+use msi_table_values::value::{Value, ValueRef};
+use msi_text_base::errors::Error;
+use msi_text_pool::stringpool::StringPool;
 use std::alloc::Global;
 use std::cmp::Ordering;
 

@@ -18,9 +18,9 @@ use Rattle.msi_table_values.specs.declared.column.ColumnType.{ColumnType}
 use Rattle.msi_table_values.specs.declared.column.ColumnType.TheVariants as coltype
 use Rattle.msi_table_values.specs.Columns.{ColumnDef, HasShortLength, IsPlainIfBinary}
 use Rattle.msi_table_values.specs.OrderLaws.{value_cmp-total}
-use Rattle.msi_text.specs.Refusals.{Refusals, first_refusal}
+use Rattle.msi_text_base.specs.Refusals.{Refusals, first_refusal}
 use Rattle.msi_database_changes.specs.Database.{Database, are_alike, rows_of, same_bool}
-use Rattle.msi_query_joins.specs.Rows.{TableCells}
+use Rattle.msi_table_values.specs.TableCells.{TableCells}
 use Rattle.msi_table_order.specs.KeyOrder.{key_of, same_key}
 use Rattle.msi_database_schema.specs.Keys.{is_pool_name, is_table_name}
 use Rattle.msi_database_schema.specs.System.{validation_columns}

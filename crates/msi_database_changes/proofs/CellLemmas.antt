@@ -4,8 +4,8 @@ use Rattle.std.specs.Prelude.{⊤, unwrap_or}
 use Rattle.std.proofs.lemmas.Bool.Decides.{nat_tests}
 use Rattle.std.proofs.lemmas.Option.{same_Some}
 use Rattle.msi_text_pool_base.specs.Pool.{Place}
-use Rattle.msi_text_places.specs.FirstFit.{most_places, taken, given_back, lowered}
-use Rattle.msi_text_places.specs.FirstFitLaws.{TakenPlacesHoldTheirText, GivenBackTakesOne}
+use Rattle.msi_text_pool_base.specs.FirstFit.{most_places, taken, given_back, lowered}
+use Rattle.msi_text_pool_base.specs.FirstFitLaws.{TakenPlacesHoldTheirText, GivenBackTakesOne}
 use Rattle.msi_table_values.specs.declared.value.Value.{Value}
 use Rattle.msi_table_values.specs.declared.value.Value.TheVariants.{Null, Int, Str, Binary}
 use Rattle.msi_table_values.specs.declared.value.ValueRef.{ValueRef}

@@ -3,18 +3,18 @@ use Rattle.std.proofs.Common.{◌≡◌, ℕ, ◌+◌, ◌<◌, ◌≤◌, true,
 use Rattle.std.proofs.lemmas.Bool.{and_parts, not-false}
 use Rattle.std.proofs.lemmas.List.{length-map}
 use Rattle.std.proofs.lemmas.Bool.Decides.{nat_tests}
-use Rattle.msi_text_places.specs.FirstFit.{most_places}
-use Rattle.msi_text_places.specs.FirstFitLaws.{TakenPlacesHoldTheirText, GivenBackTakesOne}
+use Rattle.msi_text_pool_base.specs.FirstFit.{most_places}
+use Rattle.msi_text_pool_base.specs.FirstFitLaws.{TakenPlacesHoldTheirText, GivenBackTakesOne}
 use Rattle.msi_text_base.specs.declared.errors.ErrorKind.TheVariants.{InvalidInput}
 use Rattle.msi_table_values.specs.declared.value.Value.{Value}
 use Rattle.msi_table_values.specs.declared.value.Value.TheVariants.{Str}
 use Rattle.msi_table_values.specs.Columns.{ColumnDef}
-use Rattle.msi_text.specs.Refusals.{first_refusal}
+use Rattle.msi_text_base.specs.Refusals.{first_refusal}
 use Rattle.msi_database_schema.specs.Keys.{is_table_name}
 use Rattle.msi_table_order.specs.KeyOrder.{in_key_order}
 use Rattle.msi_database_schema.specs.System.{columns_name, tables_name, validation_name}
 use Rattle.msi_database_changes.specs.Database.{Database, rows_of, is_sound}
-use Rattle.msi_query_joins.specs.Rows.{TableCells}
+use Rattle.msi_table_values.specs.TableCells.{TableCells}
 use Rattle.msi_database_changes.specs.Changes.{Change, no_change, pool_of}
 use Rattle.msi_database_changes.specs.Insert.{row_refusals}
 use Rattle.msi_database_changes.specs.Create.{table_refusals}

@@ -16,7 +16,7 @@ use Rattle.msi_table_values.specs.CellValues.{row_values}
 use Rattle.msi_query_joins.specs.Selection.{TableValues}
 use Rattle.msi_table_order.specs.KeyOrder.{key_of, same_key}
 use Rattle.msi_database_changes.specs.Database.{Database, table_at}
-use Rattle.msi_query_joins.specs.Rows.{TableCells}
+use Rattle.msi_table_values.specs.TableCells.{TableCells}
 use Rattle.msi_database_changes.specs.Laws.{rows_at, KeysAreDistinct}
 use Rattle.msi_database_changes.proofs.TurnLemmas.{TextsStay}
 use Rattle.msi_database_cells.proofs.KeyPairLemmas.{same_key_turned, pair-sorted}

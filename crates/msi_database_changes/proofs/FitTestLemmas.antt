@@ -13,7 +13,7 @@ use Rattle.msi_table_values.specs.Fitting.{FitsColumn, FitsRow, FitsTable, refer
 use Rattle.msi_table_values.specs.ValidValues.{fits_type}
 use Rattle.msi_table_values.proofs.StoredValuesLemmas.{fits_int, fits_null, fits_stream}
 use Rattle.msi_database_changes.specs.Database.{Database}
-use Rattle.msi_query_joins.specs.Rows.{TableCells}
+use Rattle.msi_table_values.specs.TableCells.{TableCells}
 use Rattle.msi_database_schema.specs.System.{validation_columns}
 use Rattle.msi_database_changes.proofs.StoredLemmas.{found_passes}
 use Rattle.msi_database_changes.proofs.PutFitsLemmas.{fits_text}

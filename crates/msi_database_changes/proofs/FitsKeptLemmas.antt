@@ -8,8 +8,8 @@ use Rattle.std.specs.FinMap.Entries.{find-put}
 use Rattle.std.proofs.lemmas.Bool.{cases_Bool}
 use Rattle.std.proofs.lemmas.Bool.Decides.{nat_tests}
 use Rattle.std.proofs.lemmas.Option.{same_Some}
-use Rattle.msi_text_places.specs.FirstFit.{most_places}
-use Rattle.msi_text_places.specs.FirstFitLaws.{TakenPlacesHoldTheirText, GivenBackTakesOne}
+use Rattle.msi_text_pool_base.specs.FirstFit.{most_places}
+use Rattle.msi_text_pool_base.specs.FirstFitLaws.{TakenPlacesHoldTheirText, GivenBackTakesOne}
 use Rattle.msi_text_base.specs.Lists.{list_cmp}
 use Rattle.msi_table_values.specs.declared.value.ValueRef.{ValueRef}
 use Rattle.msi_table_values.specs.Columns.{ColumnDef, types_of}
@@ -17,7 +17,7 @@ use Rattle.msi_table_values.specs.Fitting.{FitsRow, FitsTable}
 use Rattle.msi_table_order.specs.StoredOrder.{in_stored_order}
 use Rattle.msi_table_values.specs.CellValues.{row_values}
 use Rattle.msi_table_order.proofs.SortedFitsLemmas.{sorted_fits}
-use Rattle.msi_query_joins.specs.Rows.{TableCells}
+use Rattle.msi_table_values.specs.TableCells.{TableCells}
 use Rattle.msi_database_schema.specs.Keys.{is_table_name}
 use Rattle.msi_database_schema.specs.System.{columns_name, tables_name, validation_columns, validation_name}
 use Rattle.std.specs.Str.{chars}

@@ -5,7 +5,7 @@ use Rattle.std.proofs.lemmas.Bool.Decides.{nat_tests}
 use Rattle.msi_text_base.specs.declared.errors.ErrorKind.{ErrorKind}
 use Rattle.msi_text_base.specs.declared.errors.ErrorKind.TheVariants.{InvalidInput}
 use Rattle.msi_text_pool_base.specs.Pool.{Place}
-use Rattle.msi_text.specs.Refusals.{Refusals, IsRefusal, first_refusal, unless_refused}
+use Rattle.msi_text_base.specs.Refusals.{Refusals, IsRefusal, first_refusal, unless_refused}
 use Rattle.msi_table_values.specs.declared.value.Value.{Value}
 use Rattle.msi_table_values.specs.declared.value.ValueRef.{ValueRef}
 use Rattle.msi_table_values.specs.Columns.{ColumnDef}

@@ -4,7 +4,7 @@ use Rattle.std.specs.List.{list_all}
 use Rattle.std.specs.Option.{option_map_or}
 use Rattle.std.proofs.lemmas.Bool.{cases_Bool, or_parts, and_parts}
 use Rattle.std.proofs.lemmas.Option.{none-some, same_Some}
-use Rattle.msi_text_places.specs.FirstFitLaws.{TakenPlacesHoldTheirText, GivenBackTakesOne}
+use Rattle.msi_text_pool_base.specs.FirstFitLaws.{TakenPlacesHoldTheirText, GivenBackTakesOne}
 use Rattle.msi_text_base.specs.Lists.{has_pair}
 use Rattle.msi_table_values.specs.declared.value.Value.{Value}
 use Rattle.msi_table_values.specs.declared.value.ValueRef.{ValueRef}
@@ -16,7 +16,7 @@ use Rattle.msi_query.specs.Queries.{UpdateQuery, DeleteQuery}
 use Rattle.msi_query_expressions.specs.Conditions.{meets}
 use Rattle.msi_table_order.specs.KeyOrder.{key_of, same_key}
 use Rattle.msi_database_changes.specs.Database.{Database, table_at, rows_of, is_sound}
-use Rattle.msi_query_joins.specs.Rows.{TableCells}
+use Rattle.msi_table_values.specs.TableCells.{TableCells}
 use Rattle.msi_database_changes.specs.Changes.{Change, no_change, pool_of}
 use Rattle.msi_database_cells.specs.Texts.{PoolInUse, rows_released}
 use Rattle.msi_database_cells.specs.Setting.{index_of, values_set}

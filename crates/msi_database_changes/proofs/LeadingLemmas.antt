@@ -22,7 +22,7 @@ use Rattle.msi_table_order.specs.SortedRows.{HoldsNumbers}
 use Rattle.msi_table_order.specs.SortedRows as sorted
 use Rattle.msi_table_order.specs.StoredOrder.{in_stored_order, row_cmp}
 use Rattle.msi_table_values.specs.Values.{value_cmp}
-use Rattle.msi_query_joins.specs.Rows.{TableCells}
+use Rattle.msi_table_values.specs.TableCells.{TableCells}
 use Rattle.msi_database_changes.specs.Database.{Database, table_at, rows_of}
 use Rattle.msi_database_changes.specs.Changes.{Change, no_change, pool_of, with_stored}
 use Rattle.msi_database_cells.specs.Texts.{PoolInUse, rows_released}
@@ -32,7 +32,7 @@ use Rattle.msi_database_changes.specs.Laws.{rows_at, RowsFit, LeadingNumbersAsce
 use Rattle.msi_database_changes.specs.Widening.{widened}
 use Rattle.msi_database_changes.proofs.AtWidthLemmas.{change_at, fits_widened, sound_widened, IsChangeAtWidth, inserted, updated, deleted}
 use Rattle.msi_database_changes.proofs.FitsKeptLemmas.{change_fits}
-use Rattle.msi_text_places.specs.FirstFitLaws.{TakenPlacesHoldTheirText, GivenBackTakesOne}
+use Rattle.msi_text_pool_base.specs.FirstFitLaws.{TakenPlacesHoldTheirText, GivenBackTakesOne}
 use Rattle.msi_table_order.proofs.StableSortLemmas.{sort_moves}
 use Rattle.msi_database_changes.proofs.DescribingLemmas.{rows_at_is}
 use Rattle.msi_database_changes.proofs.KindsKeptLemmas.{all_permuted}

@@ -6,8 +6,8 @@ use Rattle.std.specs.List.{AllByRecursion}
 use Rattle.std.proofs.lemmas.Bool.{true≢false}
 use Rattle.std.proofs.lemmas.Option.{same_Some, option_and_then_some}
 use Rattle.msi_text_pool_base.specs.Pool.{Place, PlacesWritten}
-use Rattle.msi_text_places.specs.FirstFit.{count_of, taken, given_back}
-use Rattle.msi_text_places.specs.FirstFitLaws.{TakenPlacesHoldTheirText, GivenBackTakesOne, Takes, GivesBack, count_at, text_at, place_at}
+use Rattle.msi_text_pool_base.specs.FirstFit.{count_of, taken, given_back}
+use Rattle.msi_text_pool_base.specs.FirstFitLaws.{TakenPlacesHoldTheirText, GivenBackTakesOne, Takes, GivesBack, count_at, text_at, place_at}
 use Rattle.msi_table_values.specs.declared.value.Value.{Value}
 use Rattle.msi_table_values.specs.declared.value.Value.TheVariants.{Null, Int, Str, Binary}
 use Rattle.msi_table_values.specs.declared.value.ValueRef.{ValueRef}

@@ -3,14 +3,14 @@ use Rattle.std.proofs.Common.{◌≡◌, ℕ, Bool, true, List, [], ◌∷◌, m
 use Rattle.std.specs.Prelude.{IsSomeAnd, unwrap_or}
 use Rattle.std.specs.List.{AllByRecursion}
 use Rattle.msi_text_base.proofs.OptionLemmas.{map_some}
-use Rattle.msi_text_places.specs.FirstFitLaws.{TakenPlacesHoldTheirText, GivenBackTakesOne}
-use Rattle.msi_text.specs.Refusals.{first_refusal}
+use Rattle.msi_text_pool_base.specs.FirstFitLaws.{TakenPlacesHoldTheirText, GivenBackTakesOne}
+use Rattle.msi_text_base.specs.Refusals.{first_refusal}
 use Rattle.msi_table_values.specs.declared.column.ColumnType.{ColumnType}
 use Rattle.msi_table_values.specs.declared.value.ValueRef.{ValueRef}
 use Rattle.msi_table_values.specs.Columns.{ColumnDef, types_of}
 use Rattle.msi_table_values.specs.Fitting.{FitsRow, FitsTable}
 use Rattle.msi_table_values.specs.CellValues.{row_values}
-use Rattle.msi_query_joins.specs.Rows.{TableCells}
+use Rattle.msi_table_values.specs.TableCells.{TableCells}
 use Rattle.msi_database_schema.specs.Schema.{SchemaRows, schema_of}
 use Rattle.msi_database_schema.specs.System.{columns_name, columns_columns, validation_name, validation_columns}
 use Rattle.msi_database_schema.proofs.OrderlessLemmas.{HasKinds}

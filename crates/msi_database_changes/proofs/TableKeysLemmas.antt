@@ -5,14 +5,15 @@ use Rattle.std.specs.Cmp.Lexicographic.{nat_list_cmp_total, bytes_decides}
 use Rattle.std.specs.FinMap.Entries.{find-put}
 use Rattle.std.proofs.lemmas.Bool.{cases_Bool, not-false}
 use Rattle.std.proofs.lemmas.Option.{none-some}
-use Rattle.msi_text_places.specs.FirstFitLaws.{TakenPlacesHoldTheirText, GivenBackTakesOne}
+use Rattle.msi_text_pool_base.specs.FirstFitLaws.{TakenPlacesHoldTheirText, GivenBackTakesOne}
 use Rattle.msi_text_base.specs.Lists.{list_cmp, has_pair}
 use Rattle.msi_text_pool_base.specs.Pool.{Place}
 use Rattle.msi_table_values.specs.declared.value.Value.{Value}
 use Rattle.msi_table_values.specs.declared.value.Value.TheVariants.{Str}
 use Rattle.msi_table_values.specs.declared.value.ValueRef.{ValueRef}
 use Rattle.msi_table_values.specs.Columns.{ColumnDef}
-use Rattle.msi_query_joins.specs.Rows.{TableCells, table_values}
+use Rattle.msi_table_values.specs.TableCells.{TableCells}
+use Rattle.msi_query_joins.specs.Rows.{table_values}
 use Rattle.msi_database_schema.specs.Description.{column_rows, validation_rows}
 use Rattle.msi_database_schema.specs.System.{columns_name, tables_name, validation_name}
 use Rattle.msi_database_changes.specs.Database.{Database, table_at, with_table, is_sound}

@@ -13,7 +13,7 @@ use Rattle.msi_table_values.specs.declared.value.ValueRef.{ValueRef}
 use Rattle.msi_table_values.specs.declared.value.ValueRef.TheVariants as cell
 use Rattle.msi_table.specs.Census.{number_of_cell, numbers_of_rows}
 use Rattle.msi_database_changes.specs.Database.{Database, Tables, rows_of, cells_naming}
-use Rattle.msi_query_joins.specs.Rows.{TableCells}
+use Rattle.msi_table_values.specs.TableCells.{TableCells}
 use Rattle.msi_database_schema.proofs.AccountLemmas.{Uses, once}
 use Rattle.msi_database_changes.proofs.TurnLemmas.{total}
 use Rattle.msi_database_changes.proofs.RowsLemmas.{row_uses, rows_uses}

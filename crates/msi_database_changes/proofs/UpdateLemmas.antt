@@ -10,7 +10,7 @@ use Rattle.std.proofs.lemmas.Option.{slice_get_within}
 use Rattle.msi_text_base.specs.declared.errors.ErrorKind.{ErrorKind}
 use Rattle.msi_text_base.specs.declared.errors.ErrorKind.TheVariants.{InvalidData, InvalidInput, NotFound, AlreadyExists}
 use Rattle.msi_text_pool_base.specs.Pool.{Place}
-use Rattle.msi_text_places.specs.FirstFitLaws.{TakenPlacesHoldTheirText, GivenBackTakesOne}
+use Rattle.msi_text_pool_base.specs.FirstFitLaws.{TakenPlacesHoldTheirText, GivenBackTakesOne}
 use Rattle.msi_text_base.specs.Lists.{has_pair}
 use Rattle.msi_table_values.specs.declared.value.Value.{Value}
 use Rattle.msi_table_values.specs.declared.value.ValueRef.{ValueRef}
@@ -21,10 +21,10 @@ use Rattle.msi_table_values.specs.ValidValues.{is_valid_value}
 use Rattle.msi_query.specs.Queries.{UpdateQuery}
 use Rattle.msi_query_expressions.specs.Conditions.{meets}
 use Rattle.msi_query_joins.specs.Selection.{has_columns, condition_names}
-use Rattle.msi_text.specs.Refusals.{Refusals, unless_refused, or_refused, ◌>>=◌}
+use Rattle.msi_text_base.specs.Refusals.{Refusals, unless_refused, or_refused, ◌>>=◌}
 use Rattle.msi_table_order.specs.KeyOrder.{key_of, same_key}
 use Rattle.msi_database_changes.specs.Database.{Database, table_at, rows_of, is_sound, CountsAreExact}
-use Rattle.msi_query_joins.specs.Rows.{TableCells}
+use Rattle.msi_table_values.specs.TableCells.{TableCells}
 use Rattle.msi_database_changes.specs.Changes.{Change, no_change, pool_of, with_stored, sound_refusal}
 use Rattle.msi_database_cells.specs.Texts.{PoolInUse, in_turn}
 use Rattle.msi_database_changes.specs.Update.{set_is_valid, sets_key, values_after, keys_collide, update_refusals, row_updated, rows_updated, is_update_barred, update_at_width}

@@ -3,8 +3,8 @@ use Rattle.std.proofs.Common.{◌≡◌, Bool, true, false, List, [], ◌∷◌,
 use Rattle.std.specs.List.{AllByRecursion}
 use Rattle.std.proofs.lemmas.Option.{same_Some}
 use Rattle.msi_text_pool_base.specs.Pool.{Place}
-use Rattle.msi_text_places.specs.FirstFit.{most_places}
-use Rattle.msi_text_places.specs.FirstFitLaws.{TakenPlacesHoldTheirText, GivenBackTakesOne}
+use Rattle.msi_text_pool_base.specs.FirstFit.{most_places}
+use Rattle.msi_text_pool_base.specs.FirstFitLaws.{TakenPlacesHoldTheirText, GivenBackTakesOne}
 use Rattle.msi_table_values.specs.declared.value.Value.{Value}
 use Rattle.msi_table_values.specs.declared.value.ValueRef.{ValueRef}
 use Rattle.msi_table_values.specs.Columns.{ColumnDef}

@@ -12,7 +12,8 @@ use Rattle.msi_table_values.specs.declared.value.ValueRef.{ValueRef}
 use Rattle.msi_table_values.specs.CellValues.{row_values}
 use Rattle.msi_query_joins.specs.Selection.{TableValues}
 use Rattle.msi_database_changes.specs.Database.{Database, table_at, rows_of}
-use Rattle.msi_query_joins.specs.Rows.{TableCells, table_values}
+use Rattle.msi_table_values.specs.TableCells.{TableCells}
+use Rattle.msi_query_joins.specs.Rows.{table_values}
 use Rattle.msi_database_cells.specs.Texts.{cell_put, in_turn}
 use Rattle.msi_database_changes.specs.Laws.{rows_at, OthersStay}
 use Rattle.msi_database_changes.proofs.TurnLemmas.{TextsStay, news_stay}

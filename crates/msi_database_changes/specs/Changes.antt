@@ -2,8 +2,8 @@
 use Rattle.std.specs.Prelude.{ℕ, Bool, true, false, not, List, [], ◌∷◌, ◌++◌, Option, Some, None}
 use Rattle.msi_text_base.specs.declared.errors.ErrorKind.TheVariants.{InvalidData, InvalidInput, NotFound}
 use Rattle.msi_database_cells.specs.Texts.{PoolInUse}
-use Rattle.msi_text.specs.Refusals.{Refusals}
-use Rattle.msi_query_joins.specs.Rows.{TableCells}
+use Rattle.msi_text_base.specs.Refusals.{Refusals}
+use Rattle.msi_table_values.specs.TableCells.{TableCells}
 use Rattle.msi_table_values.specs.declared.value.ValueRef.{ValueRef}
 use Rattle.msi_table_values.specs.Columns.{ColumnDef}
 use Rattle.msi_table_order.specs.StoredOrder.{in_stored_order}

@@ -6,7 +6,7 @@ use Rattle.msi_text_base.specs.declared.errors.ErrorKind.{ErrorKind}
 use Rattle.msi_text_base.specs.declared.errors.ErrorKind.TheVariants.{AlreadyExists, InvalidInput, NotFound}
 use Rattle.msi_text.specs.CategoryRules.{is_identifier}
 use Rattle.msi_text_base.specs.Lists.{has_pair}
-use Rattle.msi_text.specs.Refusals.{Refusals, unless_refused, ◌>>=◌}
+use Rattle.msi_text_base.specs.Refusals.{Refusals, unless_refused, ◌>>=◌}
 use Rattle.msi_table_values.specs.declared.value.Value.{Value}
 use Rattle.msi_table_values.specs.declared.value.Value.TheVariants.{Str}
 use Rattle.msi_table_values.specs.declared.column.ColumnType.{ColumnType}

@@ -5,7 +5,7 @@ use Rattle.std.specs.List.{fold}
 use Rattle.msi_text_base.specs.declared.errors.ErrorKind.{ErrorKind}
 use Rattle.msi_text_base.specs.declared.errors.ErrorKind.TheVariants.{InvalidInput, NotFound}
 use Rattle.msi_text_pool_base.specs.Pool.{Place}
-use Rattle.msi_text.specs.Refusals.{Refusals, unless_refused, or_refused, ◌>>=◌}
+use Rattle.msi_text_base.specs.Refusals.{Refusals, unless_refused, or_refused, ◌>>=◌}
 use Rattle.msi_table_values.specs.declared.value.Value.TheVariants.{Str}
 use Rattle.msi_table_values.specs.declared.value.ValueRef.{ValueRef}
 use Rattle.msi_table_values.specs.CellValues.{row_values}
@@ -13,7 +13,7 @@ use Rattle.msi_table_order.specs.KeyOrder.{same_key}
 use Rattle.msi_database_schema.specs.Keys.{is_table_name}
 use Rattle.msi_database_schema.specs.System.{tables_name, columns_name, validation_name, is_system_table}
 use Rattle.msi_database_changes.specs.Database.{Database, table_at, without_table, with_places, rows_of}
-use Rattle.msi_query_joins.specs.Rows.{TableCells}
+use Rattle.msi_table_values.specs.TableCells.{TableCells}
 use Rattle.msi_database_changes.specs.Changes.{Change, no_change, pool_of, with_stored, barred_refusals, missing_or}
 use Rattle.msi_database_cells.specs.Texts.{rows_released}
 

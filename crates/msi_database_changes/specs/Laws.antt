@@ -5,7 +5,7 @@ use Rattle.std.specs.FinMap.{put}
 use Rattle.std.specs.List.Sorted.{IsSortedByKey}
 use Rattle.std.specs.Ordering.{eq_by_cmp}
 use Rattle.std.specs.List.{sum_by, AllByRecursion}
-use Rattle.msi_text_places.specs.FirstFitLaws.{text_at}
+use Rattle.msi_text_pool_base.specs.FirstFitLaws.{text_at}
 use Rattle.msi_text_base.specs.Lists.{has_pair, list_cmp}
 use Rattle.msi_table_values.specs.declared.value.Value.{Value}
 use Rattle.msi_table_values.specs.declared.value.Value.TheVariants.{Null}
@@ -21,7 +21,7 @@ use Rattle.msi_query_expressions.specs.Conditions.{meets}
 use Rattle.msi_table_order.specs.KeyOrder.{key_of, same_key}
 use Rattle.msi_database_changes.specs.Database.{Database, CountsAreExact, values_of, is_sound, is_well_formed, table_at}
 use Rattle.msi_database_changes.specs.Database.{has_table, named_numbers, columns_by_name}
-use Rattle.msi_query_joins.specs.Rows.{TableCells}
+use Rattle.msi_table_values.specs.TableCells.{TableCells}
 use Rattle.msi_database_changes.specs.Changes.{Change}
 use Rattle.msi_database_changes.specs.Insert.{insert_rows}
 use Rattle.msi_database_changes.specs.Update.{update_rows, values_after}

@@ -3,9 +3,9 @@
 ghost use Rattle.std.specs.Prelude.{◌≡◌, option_copied};
 ghost use Rattle.msi_query_joins.specs.Selection.{condition_names, has_columns};
 
-use msi_query::expr::Expr;
-use msi_query::parts::knows_names;
-use msi_table::column::Column;
+use msi_query_expressions::expr::Expr;
+use msi_query_expressions::parts::knows_names;
+use msi_table_values::column::Column;
 
 /// Whether each name in a condition is that of a column.
 pub(crate) fn knows_condition(columns: &[Column], condition: Option<&Expr>) -> bool

@@ -5,16 +5,15 @@ ghost use Rattle.std.specs.List.{AllByRecursion, list_all, list_any};
 ghost use Rattle.msi_text.specs.CategoryRules.{is_identifier};
 ghost use Rattle.msi_text_base.specs.declared.errors.ErrorKind.TheVariants.{InvalidInput};
 ghost use Rattle.msi_text_base.specs.Lists.{has_pair};
-ghost use Rattle.msi_text.specs.Refusals.{unless_refused};
+ghost use Rattle.msi_text_base.specs.Refusals.{unless_refused};
 ghost use Rattle.msi_table_values.specs.Columns.{HasShortLength};
 ghost use Rattle.msi_database_changes.specs.Create.{column_refusals, columns_are_named, is_binary, is_too_long};
 
 use crate::reasons;
-use msi_table::column::{Column, ColumnType};
-use msi_text::Reason;
+use msi_table_values::column::{Column, ColumnType};
 use msi_text::category::Category;
-use msi_text::errors::{Error, ErrorKind};
-use msi_text::text::Text;
+use msi_text_base::errors::{Error, ErrorKind, Reason};
+use msi_text_base::text::Text;
 
 /// The most columns that a table may be created with.
 const MOST_COLUMNS: usize = 32;

@@ -3,7 +3,7 @@
 ghost use Rattle.std.specs.Prelude.{◌≡◌, ◌∷◌, [], not, true, false, IfOk, OnOk};
 ghost use Rattle.msi_text_base.specs.Results.{OnlyMemory};
 ghost use Rattle.msi_text_base.specs.declared.errors.ErrorKind.TheVariants.{InvalidInput};
-ghost use Rattle.msi_text.specs.Refusals.{unless_refused};
+ghost use Rattle.msi_text_base.specs.Refusals.{unless_refused};
 ghost use Rattle.msi_query_joins.specs.Selection.{condition_names, has_columns};
 ghost use Rattle.msi_database_changes.specs.Delete.{rows_meeting};
 ghost use Rattle.msi_database_changes.specs.Insert.{table_with};
@@ -12,12 +12,13 @@ ghost use Rattle.msi_database_cells.specs.Texts.{in_use, rows_released};
 use crate::conditions::knows_condition;
 use crate::reasons;
 use msi_database_cells::texts::PoolInUse;
-use msi_query::parts::{DeleteParts, RowFilter};
-use msi_table::column::Column;
-use msi_table::value::ValueRef;
-use msi_text::errors::{Error, ErrorKind};
+use msi_query::parts::DeleteParts;
+use msi_query_expressions::parts::RowFilter;
+use msi_table_values::column::Column;
+use msi_table_values::value::ValueRef;
 use msi_text::stringpool::StringPool;
-use msi_text::text::Items;
+use msi_text_base::errors::{Error, ErrorKind};
+use msi_text_base::text::Items;
 use std::alloc::Global;
 
 /// Refuses a delete from a table of these columns.

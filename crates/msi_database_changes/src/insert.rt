@@ -2,7 +2,7 @@
 
 ghost use Rattle.std.specs.Prelude.{◌≡◌, Some, None, IfOk, IfErr, OnOk, true};
 ghost use Rattle.msi_text_base.specs.declared.errors.ErrorKind.TheVariants.{InvalidInput};
-ghost use Rattle.msi_text.specs.Refusals.{IsRefusal, first_refusal, or_refused, unless_refused};
+ghost use Rattle.msi_text_base.specs.Refusals.{IsRefusal, first_refusal, or_refused, unless_refused};
 ghost use Rattle.msi_database_changes.specs.Insert.{cells_added, misfit_refusals, row_fits as fits_columns};
 ghost use Rattle.msi_database_changes.specs.Insert.{row_refusals, table_with};
 ghost use Rattle.msi_database_cells.specs.Texts.{in_use};
@@ -11,12 +11,13 @@ use crate::reasons;
 use msi_database_cells::keys::refuse_clashes;
 use msi_database_cells::texts::PoolInUse;
 use msi_query::parts::NewRow;
-use msi_table::column::Column;
-use msi_table::parts::{MAX_ROWS, sort_by_keys};
-use msi_table::value::{Value, ValueRef};
-use msi_text::errors::{Error, ErrorKind};
+use msi_table_order::order::sort_by_keys;
+use msi_table_values::column::Column;
+use msi_table_values::parts::MAX_ROWS;
+use msi_table_values::value::{Value, ValueRef};
 use msi_text::stringpool::StringPool;
-use msi_text::text::Items;
+use msi_text_base::errors::{Error, ErrorKind};
+use msi_text_base::text::Items;
 use std::alloc::Global;
 
 /// Whether a row has a value for each column, which the column takes.

@@ -1,6 +1,6 @@
 //! Why a change is refused: a sentence for each rule.
 
-use msi_text::Reason;
+use msi_text_base::errors::Reason;
 
 pub(crate) const NEW_VALUE: Reason = Reason(
     "a column that is to be set isn't there, or doesn't take its new value",

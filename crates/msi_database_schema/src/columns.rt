@@ -20,12 +20,12 @@ ghost use Rattle.msi_database_schema.specs.System.{is_schema_table};
 use crate::orders::{count_about, find_by_number, find_by_texts};
 use crate::reasons;
 use crate::rows::{SchemaRow, is_null_at, number_at, text_at, view_at};
-use msi_table::column::{Column, ColumnBuilder};
-use msi_table::parts::{ValueView, column_of_bits};
 use msi_table::table::MAX_COLUMNS;
+use msi_table_values::column::{Column, ColumnBuilder};
+use msi_table_values::parts::{ValueView, column_of_bits};
 use msi_text::category::Category;
-use msi_text::errors::{Error, ErrorKind};
-use msi_text::text::Items;
+use msi_text_base::errors::{Error, ErrorKind};
+use msi_text_base::text::Items;
 use std::alloc::{AllocError, Global};
 
 /// Lets a column take null where a row of `_Validation` says `Y`.

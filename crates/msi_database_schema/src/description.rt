@@ -12,11 +12,11 @@ ghost use Rattle.msi_database_schema.specs.Description.{joined_values, tables_ro
 ghost use Rattle.msi_database_schema.specs.Description.{validation_row as validating_row};
 ghost use Rattle.msi_database_schema.specs.Description.{validation_rows as validating_rows};
 
-use msi_table::column::{Column, ColumnType};
-use msi_table::parts::type_bits;
-use msi_table::value::Value;
-use msi_text::errors::Error;
-use msi_text::text::{IntoText, Items, Text};
+use msi_table_values::column::{Column, ColumnType};
+use msi_table_values::parts::type_bits;
+use msi_table_values::value::Value;
+use msi_text_base::errors::Error;
+use msi_text_base::text::{IntoText, Items, Text};
 use std::alloc::Global;
 
 /// Returns whether the bits of a column's type hold the length of its texts: it is below 256.

@@ -19,7 +19,7 @@ use crate::names::is_pool_name;
 use crate::orders::{find_by_texts, has_repeat, sort_by_texts};
 use crate::rows::{SchemaRow, holds_null, is_null_at, is_text_at, number_at, text_at};
 use crate::system::is_schema_table;
-use msi_text::errors::Error;
+use msi_text_base::errors::Error;
 
 /// Whether a number takes at most 16 bits.
 fn is_of_16_bits(number: i32) -> bool

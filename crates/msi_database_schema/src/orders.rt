@@ -12,7 +12,7 @@ ghost use Rattle.msi_database_schema.specs.RowOrders.{texts_at, texts_cmp};
 ghost use Rattle.msi_database_schema.specs.Schema.{has_number, is_about as is_of_table, share_key, text_at as text_in};
 
 use crate::rows::{SchemaRow, compare_at, number_at, text_at};
-use msi_text::errors::Error;
+use msi_text_base::errors::Error;
 use std::cmp::Ordering;
 
 /// How a row's table and its text at a place stand to two texts.

@@ -11,11 +11,11 @@ ghost use Rattle.msi_database_schema.specs.Schema.{table_with};
 
 use crate::{description, names, schema};
 use msi_container_format::name::Name;
-use msi_table::column::Column;
 use msi_table::table::Table;
-use msi_table::value::Value;
-use msi_text::errors::Error;
-use msi_text::text::Items;
+use msi_table_values::column::Column;
+use msi_table_values::value::Value;
+use msi_text_base::errors::Error;
+use msi_text_base::text::Items;
 use std::alloc::Global;
 
 /// Returns a table of a name and columns, which are at most 32767.

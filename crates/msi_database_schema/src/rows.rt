@@ -8,11 +8,11 @@ ghost use Rattle.msi_table_values.specs.Values.{value_cmp, is_null, is_text};
 ghost use Rattle.msi_table_values.specs.Views.{seen_value};
 ghost use Rattle.msi_database_schema.specs.Schema.{number_of, text_at as text_in, value_at};
 
-use msi_table::parts::ValueView;
-use msi_table::value::{Value, ValueRef};
-use msi_text::errors::Error;
+use msi_table_values::parts::ValueView;
+use msi_table_values::value::{Value, ValueRef};
 use msi_text::stringpool::StringPool;
-use msi_text::text::Items;
+use msi_text_base::errors::Error;
+use msi_text_base::text::Items;
 use std::alloc::Global;
 use std::cmp::Ordering;
 use std::marker::Model;

@@ -19,13 +19,13 @@ use crate::orders::{sort_by_numbers, sort_by_texts};
 use crate::reasons;
 use crate::rows::{SchemaRow, rows_of_cells, rows_of_values, text_at};
 use crate::system::{COLUMNS, TABLES, columns_columns, tables_columns};
-use msi_table::column::Column;
 use msi_table::parts::table;
 use msi_table::table::Table;
-use msi_table::value::{Value, ValueRef};
-use msi_text::errors::{Error, ErrorKind};
+use msi_table_values::column::Column;
+use msi_table_values::value::{Value, ValueRef};
 use msi_text::stringpool::StringPool;
-use msi_text::text::{IntoText, Items};
+use msi_text_base::errors::{Error, ErrorKind};
+use msi_text_base::text::{IntoText, Items};
 use std::alloc::Global;
 use std::marker::Model;
 

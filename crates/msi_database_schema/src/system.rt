@@ -12,10 +12,10 @@ ghost use Rattle.msi_database_schema.specs.System.{of_category, one_of, plain_co
 ghost use Rattle.msi_database_schema.specs.System.{tables_columns as columns_of_tables};
 ghost use Rattle.msi_database_schema.specs.System.{validation_columns as columns_of_validation};
 
-use msi_table::column::Column;
+use msi_table_values::column::Column;
 use msi_text::category::Category;
-use msi_text::errors::Error;
-use msi_text::text::Items;
+use msi_text_base::errors::Error;
+use msi_text_base::text::Items;
 use std::alloc::Global;
 
 /// The table that lists tables.

@@ -9,7 +9,7 @@ use Rattle.std.proofs.lemmas.List.{ext_get_or}
 use Rattle.std.proofs.lemmas.List.Folds.{list_all-map}
 use Rattle.msi_text_base.specs.Lists.{numbers_from}
 use Rattle.msi_text_base.proofs.ListLemmas.{each_number}
-use Rattle.msi_text_places.specs.Recounting.{AreCounts}
+use Rattle.msi_text_pool_base.specs.Recounting.{AreCounts}
 use Rattle.msi_table_values.specs.declared.value.ValueRef.{ValueRef}
 use Rattle.msi_table.specs.Tables.{rows_spelled, TableDef}
 use Rattle.msi_table.specs.Census.{CensusDef, CountsMore, IsCensus, most_counted, numbers_of_rows}

@@ -11,14 +11,14 @@ use Rattle.std.proofs.lemmas.List.Folds.{list_all-append, list_all-map, list_all
 use Rattle.msi_text_base.specs.Lists.{numbers_from, tabulated}
 use Rattle.msi_text_base.proofs.ListLemmas.{each_number}
 use Rattle.msi_text_pool_base.specs.Pool.{Place, Pool}
-use Rattle.msi_text_places.specs.FirstFit.{count_of}
-use Rattle.msi_text_places.specs.FirstFitLaws.{count_at}
+use Rattle.msi_text_pool_base.specs.FirstFit.{count_of}
+use Rattle.msi_text_pool_base.specs.FirstFitLaws.{count_at}
 use Rattle.msi_table_values.specs.Columns.{ColumnDef}
 use Rattle.msi_table.specs.Census.{CensusDef, IsCensus}
 use Rattle.msi_table.specs.Tables.{TableDef}
 use Rattle.msi_table.proofs.CensusLemmas.{counted_past, counted_within}
 use Rattle.msi_table.proofs.PlacesLemmas.{tabulated_more}
-use Rattle.msi_query_joins.specs.Rows.{TableCells}
+use Rattle.msi_table_values.specs.TableCells.{TableCells}
 use Rattle.msi_database_schema.specs.System.{validation_columns, validation_name}
 use Rattle.msi_database_changes.specs.Database.{Database, are_alike, counts_suffice, is_readable_table, is_sound, names_stay_in_pool, pool_fits_width, tables_are_readable, validation_is_standard}
 use Rattle.msi_database_storage.specs.Streams.{Streams}

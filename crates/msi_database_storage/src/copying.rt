@@ -4,7 +4,7 @@ ghost use Rattle.std.specs.Prelude.{◌≡◌, IfOk};
 ghost use Rattle.msi_text_base.specs.Results.{OnlyMemory};
 
 use msi_container_format::contents::{Bytes, StreamMap};
-use msi_text::errors::Error;
+use msi_text_base::errors::Error;
 use std::alloc::{AllocError, Global};
 
 /// Returns a copy of bytes. The only error is that memory was refused.

@@ -3,17 +3,18 @@
 ghost use Rattle.std.specs.Prelude.{◌≡◌, [], IfErr, IfOk, Some, is_some, unwrap_or};
 ghost use Rattle.std.specs.FinMap.{entries};
 ghost use Rattle.msi_text_base.specs.declared.errors.ErrorKind.TheVariants.{InvalidData};
-ghost use Rattle.msi_text.specs.Refusals.{IsRefusal, or_refused};
+ghost use Rattle.msi_text_base.specs.Refusals.{IsRefusal, or_refused};
 ghost use Rattle.msi_database_schema.specs.Keys.{table_key as key_of};
 ghost use Rattle.msi_database_storage.specs.StreamNames.{HaveShortNames};
 ghost use Rattle.msi_database_storage.specs.Streams.{stored_rows as rows_stored, stream_at};
 
 use msi_container_format::contents::StreamMap;
 use msi_database_schema::names::table_key;
+use msi_table::Table;
 use msi_table::parts::{can_read_rows, read_rows};
-use msi_table::{Table, ValueRef};
-use msi_text::errors::Error;
-use msi_text::text::Items;
+use msi_table_values::value::ValueRef;
+use msi_text_base::errors::Error;
+use msi_text_base::text::Items;
 use std::alloc::Global;
 
 /// The bytes of a table's stream; none where there is no stream.

@@ -8,8 +8,8 @@ ghost use Rattle.msi_text_base.specs.Results.{OnlyMemory};
 ghost use Rattle.msi_database_storage.specs.Kept.{table_kept_at, with_table_kept, without_table_kept};
 
 use msi_table::Table;
-use msi_text::errors::Error;
-use msi_text::text::Items;
+use msi_text_base::errors::Error;
+use msi_text_base::text::Items;
 use std::alloc::Global;
 
 /// Returns the table of this name among these.

@@ -12,12 +12,13 @@ ghost use Rattle.msi_database_storage.specs.StreamNames.{HaveShortNames};
 
 use crate::decoding::stream_bytes;
 use msi_container_format::contents::StreamMap;
+use msi_table::Table;
 use msi_table::parts::Census;
-use msi_table::{Table, ValueRef};
-use msi_text::errors::Error;
-use msi_text::parts::{forget_texts, free_places_are_empty};
-use msi_text::stringpool::StringPool;
-use msi_text::text::Items;
+use msi_table_values::value::ValueRef;
+use msi_text_base::errors::Error;
+use msi_text_base::text::Items;
+use msi_text_pool::parts::{forget_texts, free_places_are_empty};
+use msi_text_pool::stringpool::StringPool;
 use std::alloc::Global;
 
 /// Returns the census of the cells of tables, for a pool of so many places. It makes no row. A table that can't be

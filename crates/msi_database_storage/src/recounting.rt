@@ -3,7 +3,7 @@
 ghost use Rattle.std.specs.Prelude.{◌≡◌, ◌↔◌, IfOk, IsTrue};
 ghost use Rattle.std.specs.FinMap.{entries};
 ghost use Rattle.msi_text_base.specs.Results.{OnlyMemory};
-ghost use Rattle.msi_text_places.specs.Recounting.{AreCounts};
+ghost use Rattle.msi_text_pool_base.specs.Recounting.{AreCounts};
 ghost use Rattle.msi_text_pool_base.specs.Pool.{Pool};
 ghost use Rattle.msi_table.specs.Census.{CountsMore, IsCensus, numbers_of_rows};
 ghost use Rattle.msi_database_schema.specs.Schema.{table_with};
@@ -19,7 +19,7 @@ use msi_container_format::contents::StreamMap;
 use msi_database_schema::system::VALIDATION;
 use msi_table::Table;
 use msi_table::parts::Census;
-use msi_text::errors::Error;
+use msi_text_base::errors::Error;
 use std::alloc::Global;
 
 /// The most cells that may name a place.

@@ -4,7 +4,7 @@ ghost use Rattle.std.specs.Prelude.{◌≡◌, ◌&&◌, ℕ, Bool, List, bytes_
 ghost use Rattle.std.specs.FinMap.{entries};
 ghost use Rattle.std.specs.List.{list_all};
 ghost use Rattle.std.specs.Option as options;
-ghost use Rattle.msi_text_places.specs.FirstFit.{most_places as most_of};
+ghost use Rattle.msi_text_pool_base.specs.FirstFit.{most_places as most_of};
 ghost use Rattle.msi_text_pool_base.specs.Pool.{unindexed};
 ghost use Rattle.msi_table.specs.Census.{IsCensus};
 ghost use Rattle.msi_database_schema.specs.System.{validation_columns, validation_name};
@@ -20,10 +20,10 @@ use msi_container_format::contents::StreamMap;
 use msi_database_schema::names::is_table_name;
 use msi_database_schema::system::VALIDATION;
 use msi_table::Table;
-use msi_table::column::{Column, ColumnType};
 use msi_table::parts::Census;
-use msi_text::parts::{most_places, string_ref};
-use msi_text::stringpool::StringPool;
+use msi_table_values::column::{Column, ColumnType};
+use msi_text_pool::parts::{most_places, string_ref};
+use msi_text_pool::stringpool::StringPool;
 
 /// Returns whether the pool has no more places than its references can name.
 pub fn fits_width(pool: &StringPool) -> bool

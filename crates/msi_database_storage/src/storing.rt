@@ -13,10 +13,11 @@ use msi_container_format::contents::{Bytes, StreamMap};
 use msi_container_format::name::Name;
 use msi_container_format::parts::put_back;
 use msi_database_schema::parts::short_table_key;
+use msi_table::Table;
 use msi_table::parts::write_rows;
-use msi_table::{Table, ValueRef};
-use msi_text::errors::Error;
-use msi_text::text::Items;
+use msi_table_values::value::ValueRef;
+use msi_text_base::errors::Error;
+use msi_text_base::text::Items;
 use std::alloc::Global;
 use std::vec::IntoIter;
 

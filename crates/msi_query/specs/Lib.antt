@@ -8,10 +8,10 @@ pub mod Utf8Queries
 pub use Rattle.msi_text_base.specs.declared.errors.ErrorKind
 pub use Rattle.msi_table_values.specs.declared.value.Value
 pub use Rattle.msi_table_values.specs.CellValues
-pub use Rattle.msi_query_operators.specs.declared.operators.UnaryOp
-pub use Rattle.msi_query_operators.specs.declared.operators.BinaryOp
-pub use Rattle.msi_query_operators.specs.OperatorValues
-pub use Rattle.msi_query_operators.specs.OperatorTexts
+pub use Rattle.msi_query_expressions.specs.UnaryOp
+pub use Rattle.msi_query_expressions.specs.BinaryOp
+pub use Rattle.msi_query_expressions.specs.OperatorValues
+pub use Rattle.msi_query_expressions.specs.OperatorTexts
 pub use Rattle.msi_query_expressions.specs.Expressions
 pub use Rattle.msi_query_expressions.specs.ExpressionCode
 pub use Rattle.msi_query_expressions.specs.Evaluation

@@ -15,7 +15,7 @@ pub(crate) mod update;
 pub use delete::Delete;
 pub use insert::Insert;
 use msi_query_expressions::Expr;
-use msi_text::errors::Error;
+use msi_text_base::errors::Error;
 pub use select::Select;
 use std::alloc::Global;
 pub use update::Update;

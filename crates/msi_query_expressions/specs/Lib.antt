@@ -11,3 +11,8 @@ pub mod RowFilters
 pub mod Printing
 pub mod Vocabulary
 pub mod Utf8Expressions
+-- The words of the crate below, which public clauses cite.
+pub use Rattle.msi_query_operators.specs.declared.operators.UnaryOp
+pub use Rattle.msi_query_operators.specs.declared.operators.BinaryOp
+pub use Rattle.msi_query_operators.specs.OperatorValues
+pub use Rattle.msi_query_operators.specs.OperatorTexts

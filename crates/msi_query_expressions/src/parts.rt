@@ -7,7 +7,7 @@ ghost use Rattle.msi_query_expressions.specs.Evaluation.{knows_names as knows_ea
 
 use crate::expr::Expr;
 pub use crate::expr::filter::RowFilter;
-use msi_table::column::Column;
+use msi_table_values::column::Column;
 
 /// Returns whether each name in a condition is that of a column. It takes no memory.
 pub fn knows_names(condition: &Expr, columns: &[Column]) -> bool

@@ -9,13 +9,9 @@ use Rattle.msi_table_values.specs.declared.value.ValueRef.TheVariants as cell
 use Rattle.msi_table_values.specs.declared.value.Value.{Value}
 use Rattle.msi_table_values.specs.Columns.{ColumnDef, column_index}
 use Rattle.msi_table_values.specs.CellValues.{row_values}
-use Rattle.msi_text.specs.Refusals.{or_refused, ◌>>=◌}
+use Rattle.msi_text_base.specs.Refusals.{or_refused, ◌>>=◌}
+use Rattle.msi_table_values.specs.TableCells.{TableCells}
 use Rattle.msi_query_joins.specs.Selection.{Relation, TableValues}
-
--- a table as it is kept; no rows where it can't be read
-pub record TableCells : Type 0 where
-  pub columns : List ColumnDef
-  pub rows : Option (List (List ValueRef))
 
 -- a relation as it is kept
 pub record RelationCells : Type 0 where

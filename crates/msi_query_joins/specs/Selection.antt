@@ -12,8 +12,8 @@ use Rattle.msi_query.specs.declared.query.JoinKind.TheVariants.{Inner, Left}
 use Rattle.msi_query_expressions.specs.Expressions.{Expression, names_in}
 use Rattle.msi_query_expressions.specs.Conditions.{meets, value_in}
 use Rattle.msi_query.specs.Queries.{Query, Clauses, table, join}
-use Rattle.msi_text.specs.Refusals.{Refusals, earlier, refusal_of, unless_refused, or_refused}
-use Rattle.msi_text.specs.Refusals.{◌>>=◌}
+use Rattle.msi_text_base.specs.Refusals.{Refusals, earlier, refusal_of, unless_refused, or_refused}
+use Rattle.msi_text_base.specs.Refusals.{◌>>=◌}
 
 -- a table as queries see it; no rows where it can't be read
 pub record TableValues : Type 0 where

@@ -8,12 +8,12 @@ ghost use Rattle.msi_query_joins.specs.Rows.{rows_values};
 ghost use Rattle.msi_query_joins.specs.Selection.{is_left as keeps_left, pairs_of, rows_of_row};
 
 use crate::rows::{pair, with_nulls};
-use msi_query::parts::RowFilter;
 use msi_query::query::JoinKind;
-use msi_table::value::ValueRef;
-use msi_text::errors::Error;
-use msi_text::stringpool::StringPool;
-use msi_text::text::Items;
+use msi_query_expressions::parts::RowFilter;
+use msi_table_values::value::ValueRef;
+use msi_text_base::errors::Error;
+use msi_text_base::text::Items;
+use msi_text_pool::stringpool::StringPool;
 use std::alloc::Global;
 
 /// Whether a join keeps a left row without a pair.

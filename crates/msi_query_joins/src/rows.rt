@@ -5,9 +5,9 @@ ghost use Rattle.msi_text_base.specs.Results.{OnlyMemory};
 ghost use Rattle.msi_table_values.specs.declared.value.ValueRef.TheVariants as cell;
 ghost use Rattle.msi_query_joins.specs.Rows.{cell_at, cells_at};
 
-use msi_table::value::ValueRef;
-use msi_text::errors::Error;
-use msi_text::text::Items;
+use msi_table_values::value::ValueRef;
+use msi_text_base::errors::Error;
+use msi_text_base::text::Items;
 use std::alloc::Global;
 
 /// The cell at a place of a row, or null.

@@ -8,7 +8,7 @@ ghost use Rattle.msi_table_values.specs.Views.{seen_value};
 
 use msi_table_values::parts::ValueView;
 use msi_table_values::value::Value;
-use msi_text::errors::Error;
+use msi_text_base::errors::Error;
 use std::alloc::Global;
 
 /// A value of a tree or a row, borrowed so that no text is copied, or one that was computed.

@@ -14,8 +14,8 @@ use crate::operands::Operand;
 use crate::operators::{BinaryOp, UnaryOp};
 use msi_table_values::parts::ValueView;
 use msi_table_values::value::Value;
-use msi_text::errors::Error;
-use msi_text::text::Text;
+use msi_text_base::errors::Error;
+use msi_text_base::text::Text;
 use std::alloc::Global;
 
 /// A number where there is one, else Null.

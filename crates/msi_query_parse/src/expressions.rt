@@ -7,7 +7,7 @@ ghost use Rattle.msi_query_parse.specs.Nests.{Nests};
 use crate::grammar::Grammar;
 use crate::names::column;
 use crate::operators::{binds, linked};
-use msi_query::Expr;
+use msi_query_expressions::expr::Expr;
 use msi_query_tokens::refusal::{Expected, ParseError};
 use msi_query_tokens::texts::{negative, positive, text};
 use msi_query_tokens::token::Kind;

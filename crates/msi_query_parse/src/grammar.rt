@@ -4,7 +4,7 @@ ghost use Rattle.msi_query_tokens.specs.Input.{Reads};
 ghost use Rattle.msi_query_parse.specs.Reading as spec;
 ghost use Rattle.msi_query_parse.specs.Nests.{Nests};
 
-use msi_query::Expr;
+use msi_query_expressions::expr::Expr;
 use msi_query_tokens::refusal::{Expected, ParseError};
 use msi_query_tokens::tokens::{MAX_HEIGHT, Tokens};
 use std::alloc::Global;

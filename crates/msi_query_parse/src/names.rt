@@ -8,7 +8,7 @@ use msi_query_tokens::refusal::{Expected, ParseError};
 use msi_query_tokens::texts::text;
 use msi_query_tokens::token::Kind;
 use msi_query_tokens::tokens::Tokens;
-use msi_text::{Items, Text};
+use msi_text_base::text::{Items, Text};
 use std::alloc::{AllocError, Global};
 
 /// Reads a name.

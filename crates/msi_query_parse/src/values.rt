@@ -8,8 +8,8 @@ use msi_query_tokens::refusal::{Expected, ParseError};
 use msi_query_tokens::texts::{negative, positive, text};
 use msi_query_tokens::token::Kind;
 use msi_query_tokens::tokens::Tokens;
-use msi_table::Value;
-use msi_text::Items;
+use msi_table_values::value::Value;
+use msi_text_base::text::Items;
 use std::alloc::{AllocError, Global};
 
 /// Reads the digits behind a minus.

@@ -10,10 +10,11 @@ use Rattle.msi_table_values.specs.Columns.{ColumnDef}
 use Rattle.msi_query_expressions.specs.Expressions.{Expression}
 use Rattle.msi_query.specs.declared.query.JoinKind.{JoinKind}
 use Rattle.msi_query.specs.Queries.{Clauses, Query, table, join}
-use Rattle.msi_text.specs.Refusals.{AnswersWith, IsRefusal, earlier, first_refusal, refusal_of, unless, unless_refused, or_refused, ◌>>=◌}
-use Rattle.msi_query_joins.specs.Rows.{RelationCells, TableCells, columns_read, rows_values, table_values, tables_values}
+use Rattle.msi_text_base.specs.Refusals.{AnswersWith, IsRefusal, earlier, first_refusal, refusal_of, unless, unless_refused, or_refused, ◌>>=◌}
+use Rattle.msi_table_values.specs.TableCells.{TableCells}
+use Rattle.msi_query_joins.specs.Rows.{RelationCells, columns_read, rows_values, table_values, tables_values}
 use Rattle.msi_query_joins.specs.Selection.{Relation, clause_refusals, early_refusal, is_table, joined_narrowed, narrowed, relation_of, selected}
-use Rattle.msi_text.proofs.RefusalLemmas.{err_passed}
+use Rattle.msi_text_base.proofs.RefusalLemmas.{err_passed}
 
 -- ONE TABLE
 

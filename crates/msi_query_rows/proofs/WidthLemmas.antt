@@ -20,8 +20,9 @@ use Rattle.msi_query.specs.declared.query.JoinKind.TheVariants.{Inner, Left}
 use Rattle.msi_query_expressions.specs.Expressions.{Expression, names_in}
 use Rattle.msi_query_expressions.specs.Conditions.{meets}
 use Rattle.msi_query.specs.Queries.{Clauses, Query, table, join}
-use Rattle.msi_text.specs.Refusals.{unless_refused, or_refused, ◌>>=◌}
-use Rattle.msi_query_joins.specs.Rows.{TableCells, RelationCells, relation_values, rows_values, table_values, tables_values}
+use Rattle.msi_text_base.specs.Refusals.{unless_refused, or_refused, ◌>>=◌}
+use Rattle.msi_table_values.specs.TableCells.{TableCells}
+use Rattle.msi_query_joins.specs.Rows.{RelationCells, relation_values, rows_values, table_values, tables_values}
 use Rattle.msi_query_joins.specs.Selection.{Relation, TableValues, condition_names, has_columns, is_left, joined, joined_columns, joined_narrowed, narrowed, nullable_if, or_nulls, pairs_of, prefixed, projected_row, relation_of, rows_of_row, selected}
 use Rattle.msi_query_rows.specs.Width.{AreWide, HasWidth, TablesAreWide, ValuesAreWide}
 

@@ -4,7 +4,7 @@ use Rattle.std.specs.List.{AllByRecursion}
 use Rattle.msi_table_values.specs.declared.value.ValueRef.{ValueRef}
 use Rattle.msi_table_values.specs.declared.value.Value.{Value}
 use Rattle.msi_table.specs.Rows.{AreAsWide}
-use Rattle.msi_query_joins.specs.Rows.{TableCells}
+use Rattle.msi_table_values.specs.TableCells.{TableCells}
 use Rattle.msi_query_joins.specs.Selection.{Relation, TableValues}
 
 abbrev pub HasWidth : {X : Type 0} → ℕ → List (List X) → Type 0

@@ -11,14 +11,14 @@ ghost use Rattle.msi_query_joins.specs.Selection.{condition_names, has_columns a
 ghost use Rattle.msi_query_joins.specs.Selection.{joined_columns as joined_by, nullable_if, prefixed as prefixed_by};
 
 use crate::relation::Relation;
-use msi_query::expr::Expr;
-use msi_query::parts::knows_names;
 use msi_query::query::JoinKind;
+use msi_query_expressions::expr::Expr;
+use msi_query_expressions::parts::knows_names;
 use msi_query_joins::parts::is_left;
-use msi_table::column::Column;
-use msi_table::parts::{column_index, has_column, nullable, renamed};
-use msi_text::errors::Error;
-use msi_text::text::{Items, Text};
+use msi_table_values::column::Column;
+use msi_table_values::parts::{column_index, has_column, nullable, renamed};
+use msi_text_base::errors::Error;
+use msi_text_base::text::{Items, Text};
 use std::alloc::Global;
 
 /// Whether each of the names is that of a column.

@@ -10,15 +10,15 @@ ghost use Rattle.msi_query_expressions.specs.Conditions.{meets};
 ghost use Rattle.msi_query_rows.specs.Index.{PassWithEqual, has_value, has_width as have_width, in_place_order};
 ghost use Rattle.msi_query_rows.specs.Index.{place_cmp, places_asked as asked, value_there};
 
-use msi_query::expr::Expr;
-use msi_query::parts::equated_places;
+use msi_query_expressions::expr::Expr;
+use msi_query_expressions::parts::equated_places;
 use msi_query_joins::parts::cell_of;
-use msi_table::column::Column;
-use msi_table::parts::compare_values;
-use msi_table::value::ValueRef;
-use msi_text::errors::Error;
-use msi_text::stringpool::StringPool;
-use msi_text::text::Items;
+use msi_table_values::column::Column;
+use msi_table_values::parts::compare_values;
+use msi_table_values::value::ValueRef;
+use msi_text_base::errors::Error;
+use msi_text_base::text::Items;
+use msi_text_pool::stringpool::StringPool;
 use std::cmp::Ordering;
 
 /// Whether each row has so many cells.

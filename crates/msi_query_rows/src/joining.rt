@@ -10,15 +10,15 @@ ghost use Rattle.msi_query_joins.specs.Selection.{rows_of_row};
 
 use crate::index::{places_asked, rows_with, sort_by_place};
 use crate::relation::Relation;
-use msi_query::expr::Expr;
-use msi_query::parts::RowFilter;
 use msi_query::query::JoinKind;
+use msi_query_expressions::expr::Expr;
+use msi_query_expressions::parts::RowFilter;
 use msi_query_joins::parts::{Join, add_row, cell_of};
-use msi_table::column::Column;
-use msi_table::value::ValueRef;
-use msi_text::errors::Error;
-use msi_text::stringpool::StringPool;
-use msi_text::text::Items;
+use msi_table_values::column::Column;
+use msi_table_values::value::ValueRef;
+use msi_text_base::errors::Error;
+use msi_text_base::text::Items;
+use msi_text_pool::stringpool::StringPool;
 use std::alloc::Global;
 
 /// The rows of a join, each left row beside all right ones.

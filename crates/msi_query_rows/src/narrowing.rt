@@ -3,21 +3,22 @@
 ghost use Rattle.std.specs.Prelude.{◌≡◌, map, filter, IfOk, IfErr, Ok, option_copied};
 ghost use Rattle.msi_text_base.specs.Results.{OnlyMemory};
 ghost use Rattle.msi_query_expressions.specs.Conditions.{meets};
-ghost use Rattle.msi_text.specs.Refusals.{IsRefusal, unless_refused};
+ghost use Rattle.msi_text_base.specs.Refusals.{IsRefusal, unless_refused};
 ghost use Rattle.msi_query_joins.specs.Rows.{cells_at, projected_cells, relation_values, rows_values};
 ghost use Rattle.msi_query_joins.specs.Selection.{clause_refusals, narrowed as narrowed_by, selected as selected_by};
 
 use crate::columns::{columns_of, has_columns, knows_condition, places_of};
 use crate::reasons;
 use crate::relation::Relation;
-use msi_query::expr::Expr;
-use msi_query::parts::{Clauses, RowFilter};
+use msi_query::parts::Clauses;
+use msi_query_expressions::expr::Expr;
+use msi_query_expressions::parts::RowFilter;
 use msi_query_joins::parts::projected_row;
-use msi_table::column::Column;
-use msi_table::value::ValueRef;
-use msi_text::errors::{Error, ErrorKind};
-use msi_text::stringpool::StringPool;
-use msi_text::text::{Items, Text};
+use msi_table_values::column::Column;
+use msi_table_values::value::ValueRef;
+use msi_text_base::errors::{Error, ErrorKind};
+use msi_text_base::text::{Items, Text};
+use msi_text_pool::stringpool::StringPool;
 use std::alloc::Global;
 
 /// The rows that a filter lets through.

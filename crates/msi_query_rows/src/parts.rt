@@ -6,8 +6,8 @@ ghost use Rattle.msi_table.specs.Rows.{AreAsWide};
 
 use crate::relation::Relation;
 use msi_table::row::Rows;
-use msi_text::errors::Error;
-use msi_text::stringpool::StringPool;
+use msi_text_base::errors::Error;
+use msi_text_pool::stringpool::StringPool;
 use std::alloc::Global;
 
 /// Returns a relation's rows as callers see them, over the pool of their texts. Each has to have a cell for each

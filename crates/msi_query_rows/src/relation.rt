@@ -4,13 +4,13 @@ ghost use Rattle.std.specs.Prelude.{◌≡◌, IfOk};
 ghost use Rattle.msi_text_base.specs.Results.{OnlyMemory};
 ghost use Rattle.msi_table.specs.Rows.{AreAsWide};
 
-use msi_table::column::Column;
 use msi_table::parts;
 use msi_table::row::Rows;
-use msi_table::value::ValueRef;
-use msi_text::errors::Error;
-use msi_text::stringpool::StringPool;
-use msi_text::text::{Items, Text};
+use msi_table_values::column::Column;
+use msi_table_values::value::ValueRef;
+use msi_text_base::errors::Error;
+use msi_text_base::text::{Items, Text};
+use msi_text_pool::stringpool::StringPool;
 use std::alloc::Global;
 use std::marker::Model;
 

@@ -3,7 +3,7 @@
 ghost use Rattle.std.specs.Prelude.{◌≡◌, IfOk, IfErr, Ok};
 ghost use Rattle.msi_table.specs.Rows.{AreAsWide};
 ghost use Rattle.msi_query.specs.QueryTrees.{query_of};
-ghost use Rattle.msi_text.specs.Refusals.{AnswersWith, IsRefusal, unless};
+ghost use Rattle.msi_text_base.specs.Refusals.{AnswersWith, IsRefusal, unless};
 ghost use Rattle.msi_query_joins.specs.Rows.{columns_read, relation_values, tables_values};
 ghost use Rattle.msi_query_joins.specs.Selection.{early_refusal, is_table as is_one_table, joined_narrowed};
 ghost use Rattle.msi_query_joins.specs.Selection.{relation_of};
@@ -14,20 +14,22 @@ use crate::joining::joined_rows;
 use crate::narrowing::{narrowed, refuse_unknown, selected};
 use crate::reasons;
 use crate::relation::Relation;
-use msi_query::expr::Expr;
-use msi_query::parts::{Clauses, SelectTree, knows_names, select_tree};
+use msi_query::parts::{Clauses, SelectTree, select_tree};
 use msi_query::query::{JoinKind, Select};
-use msi_table::column::Column;
-use msi_text::errors::{Error, ErrorKind};
-use msi_text::stringpool::StringPool;
-use msi_text::text::Text;
+use msi_query_expressions::expr::Expr;
+use msi_query_expressions::parts::knows_names;
+use msi_table_values::column::Column;
+use msi_text_base::errors::{Error, ErrorKind};
+use msi_text_base::text::Text;
+use msi_text_pool::stringpool::StringPool;
 use std::alloc::Global;
 
 /// Provides tables by name.
 pub trait Tables {
     ghost use Rattle.std.specs.Prelude.{ℕ, List, Option};
-    ghost use Rattle.msi_text.specs.Refusals.{AnswersWith, refusal_of};
-    ghost use Rattle.msi_query_joins.specs.Rows.{TableCells, columns_read, whole_table};
+    ghost use Rattle.msi_text_base.specs.Refusals.{AnswersWith, refusal_of};
+    ghost use Rattle.msi_table_values.specs.TableCells.{TableCells};
+    ghost use Rattle.msi_query_joins.specs.Rows.{columns_read, whole_table};
 
     /// The columns and the rows of the table of a name.
     ghost table: { Self → List ℕ → Option TableCells };

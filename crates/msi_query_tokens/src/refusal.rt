@@ -4,7 +4,7 @@ ghost use Rattle.std.specs.Prelude.{◌≡◌};
 ghost use Rattle.msi_text_base.specs.declared.errors.ErrorKind.TheVariants as kinds;
 ghost use Rattle.msi_query_tokens.specs.Refusals.{error_kind_of};
 
-use msi_text::errors::{Error, ErrorKind, Reason};
+use msi_text_base::errors::{Error, ErrorKind, Reason};
 use msi_text_base::reasons;
 use std::alloc::{AllocError, AllocFailed};
 use std::fmt;

@@ -10,3 +10,5 @@ pub mod StreamLemmas
 pub mod SummaryLemmas
 pub mod SentLemmas
 pub mod TakenLemmas
+pub mod StreamsLemmas
+pub mod PackageLemmas

@@ -7,7 +7,7 @@ use Rattle.std.specs.Ordering.{ordering_reverse}
 use Rattle.std.specs.FinMap.Entries.{by_order}
 use Rattle.msi_text_base.specs.declared.errors.ErrorKind.{ErrorKind}
 use Rattle.msi_text_base.specs.declared.errors.ErrorKind.TheVariants.{InvalidInput, NotFound}
-use Rattle.msi_text.specs.Refusals.{Refusals, first_refusal}
+use Rattle.msi_text_base.specs.Refusals.{Refusals, first_refusal}
 use Rattle.msi_container_format.specs.Names.{name_cmp}
 use Rattle.msi_container_format.proofs.NamesLemmas.{names_total}
 use Rattle.msi_database_schema.specs.Keys.{is_stream_name, stream_key}

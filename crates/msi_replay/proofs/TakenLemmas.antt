@@ -2,7 +2,7 @@
 use Rattle.std.proofs.Common.{◌≡◌, ℕ, true, false, Option, None, Result, Ok, Err, refl, sym, ap, subst, ◌∙◌}
 use Rattle.std.specs.Prelude.{IfErr, IsTrue, OnErr, OnOk}
 use Rattle.msi_text_base.specs.declared.errors.ErrorKind.{ErrorKind}
-use Rattle.msi_text.specs.Refusals.{Refusals, IsRefusal, first_refusal, unless_refused}
+use Rattle.msi_text_base.specs.Refusals.{Refusals, IsRefusal, first_refusal, unless_refused}
 use Rattle.msi_database_changes.specs.Changes.{Change}
 use Rattle.msi.specs.State.{State}
 use Rattle.msi.specs.Calls.{Call, Answer}

@@ -2,3 +2,4 @@
 pub mod Sent
 pub mod Told
 pub mod Taken
+pub mod PackageLaws

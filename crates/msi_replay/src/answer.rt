@@ -1,12 +1,13 @@
 //! The results of calls, as values.
 
 use msi::PackageType;
-use msi_table::{Column, Row, Table};
-use msi_text::codepage::CodePage;
-use msi_text::errors::ErrorKind;
+use msi_table::{Row, Table};
+use msi_table_values::column::Column;
 use msi_text::language::LanguageId;
-use msi_text::text::{Items, Text};
 use msi_text::timestamp::Timestamp;
+use msi_text_base::codepage::CodePage;
+use msi_text_base::errors::ErrorKind;
+use msi_text_base::text::{Items, Text};
 use uuid::Uuid;
 
 /// The result of a call on a summary.

@@ -14,8 +14,8 @@ use crate::call::{Change, SummaryCall};
 use crate::summary::{carry_out_all, discard_all};
 use msi::Package;
 use msi_container_device::Memory;
-use msi_text::errors::{Error, ErrorKind};
-use msi_text::text::Items;
+use msi_text_base::errors::{Error, ErrorKind};
+use msi_text_base::text::Items;
 use std::alloc::Global;
 
 /// The result of a change.

@@ -9,8 +9,8 @@ use crate::answer::Answer;
 use crate::changing::done;
 use msi::Package;
 use msi_container_device::Memory;
-use msi_text::errors::ErrorKind;
-use msi_text::text::Items;
+use msi_text_base::errors::ErrorKind;
+use msi_text_base::text::Items;
 
 /// Writes a package to its device.
 pub(crate) fn flush(target: &mut Package<Memory>) -> Result<Answer, ErrorKind>

@@ -1,10 +1,12 @@
-//! Makes a list of calls on a package, new or opened; its contract says what the resulting bytes mean.
+//! Makes a list of calls on a package, new or opened; its contract says what the resulting bytes mean. Its laws say
+//! what recoding leaves alike of whole packages.
 #![tactic(auto)]
 
 pub mod answer;
 pub mod call;
 mod changing;
 mod device;
+pub mod laws;
 mod looking;
 pub mod replaying;
 mod stream;

@@ -17,9 +17,10 @@ use crate::summary::ask_all;
 use msi::Package;
 use msi_container_device::Memory;
 use msi_query::Select;
-use msi_table::{Column, Row, Rows, Table};
-use msi_text::errors::{Error, ErrorKind};
-use msi_text::text::Items;
+use msi_table::{Row, Rows, Table};
+use msi_table_values::column::Column;
+use msi_text_base::errors::{Error, ErrorKind};
+use msi_text_base::text::Items;
 use std::alloc::Global;
 
 /// The table once more, where there is one.

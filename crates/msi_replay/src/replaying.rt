@@ -21,8 +21,8 @@ use crate::looking::{ask_summary, look_up, select};
 use crate::streaming::{read_stream, write_stream};
 use msi::{Package, PackageType};
 use msi_container_device::Memory;
-use msi_text::errors::{Error, ErrorKind};
-use msi_text::text::Items;
+use msi_text_base::errors::{Error, ErrorKind};
+use msi_text_base::text::Items;
 use std::alloc::Global;
 
 /// The results of calls, the bytes that the package was written as in the end, and whether its texts read back.

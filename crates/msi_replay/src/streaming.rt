@@ -14,8 +14,8 @@ use crate::stream::{read_all, write_all};
 use msi::Package;
 use msi_container_device::Memory;
 use msi_streams::Streams;
-use msi_text::errors::{Error, ErrorKind};
-use msi_text::text::{Items, Text};
+use msi_text_base::errors::{Error, ErrorKind};
+use msi_text_base::text::{Items, Text};
 use std::alloc::Global;
 
 /// All names, in order.

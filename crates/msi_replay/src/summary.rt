@@ -23,9 +23,9 @@ use crate::call::{
     Clearing, NumberProperty, Setting, SummaryCall, SummaryQuestion, TextProperty, TimeProperty,
 };
 use msi_summary::SummaryInfo;
-use msi_text::errors::{Error, ErrorKind};
-use msi_text::text::{IntoText, Items, Text};
 use msi_text::timestamp::Timestamp;
+use msi_text_base::errors::{Error, ErrorKind};
+use msi_text_base::text::{IntoText, Items, Text};
 use std::alloc::Global;
 
 /// A text of a summary.

@@ -4,7 +4,7 @@ ghost use Rattle.std.specs.Prelude.{◌≡◌};
 ghost use Rattle.std.specs.IoError.{error_kind};
 ghost use Rattle.msi_streams.specs.Refusals.{kind_named};
 
-use msi_text::errors::ErrorKind;
+use msi_text_base::errors::ErrorKind;
 use std::io;
 
 /// Returns the kind that has the name of an error's kind, and `Io` where none has. It takes no memory.

@@ -15,7 +15,7 @@ use msi_container_format::streamname::decode;
 use msi_database_schema::names::{
     document_summary_key, signature_ex_key, signature_key, summary_key,
 };
-use msi_text::errors::Error;
+use msi_text_base::errors::Error;
 use std::alloc::Global;
 use std::collections::btree_map;
 use std::marker::Model;

@@ -1,6 +1,6 @@
 //! Why streams are refused: a sentence for each rule.
 
-use msi_text::Reason;
+use msi_text_base::errors::Reason;
 
 pub(crate) const OUTSIDE: &str = "a seek before a stream's first byte, or past its end";
 

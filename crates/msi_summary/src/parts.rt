@@ -12,7 +12,7 @@ ghost use Rattle.msi_summary.specs.Summary.{new_summary, summary_format, SpellsS
 use crate::summary::SummaryInfo;
 use msi_summary_properties::PropertySet;
 use msi_summary_properties::parts::stream_of;
-use msi_text::errors::Error;
+use msi_text_base::errors::Error;
 use std::alloc::Global;
 
 /// Returns a new summary: a title, and nothing else but the page, UTF-8.

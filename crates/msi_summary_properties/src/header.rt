@@ -6,8 +6,8 @@ ghost use Rattle.msi_summary_properties.specs.Reading.{os_with_number, header_at
 
 use crate::propset::OperatingSystem;
 use crate::reasons::{self, PROPERTY_CUT};
-use msi_text::errors::{Error, ErrorKind};
-use msi_text::fields::{identifier_at, u16_at, u32_at};
+use msi_text_base::errors::{Error, ErrorKind};
+use msi_text_base::fields::{identifier_at, u16_at, u32_at};
 use std::alloc::Global;
 
 /// The mark that a stream begins with: the bytes `FE FF`.

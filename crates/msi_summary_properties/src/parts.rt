@@ -8,7 +8,7 @@ pub use crate::header::{Head, header_at, section_at};
 use crate::propset::{PropertySet, PropertyValue};
 pub use crate::values::value_at;
 pub use crate::writing::stream_of;
-use msi_text::errors::Error;
+use msi_text_base::errors::Error;
 use std::alloc::Global;
 use std::collections::BTreeMap;
 

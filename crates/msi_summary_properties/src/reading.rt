@@ -13,8 +13,8 @@ use crate::header::{header_at, section_at};
 use crate::propset::{PropertySet, PropertyValue, page_named};
 use crate::reasons;
 use crate::values::{value_at, value_within};
-use msi_text::codepage::CodePage;
-use msi_text::errors::{Error, ErrorKind};
+use msi_text_base::codepage::CodePage;
+use msi_text_base::errors::{Error, ErrorKind};
 use std::alloc::Global;
 use std::collections::BTreeMap;
 

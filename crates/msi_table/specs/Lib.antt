@@ -7,8 +7,8 @@ pub mod Census
 -- The words of the crates below, which public clauses cite.
 pub use Rattle.msi_text_base.specs.declared.errors.ErrorKind
 pub use Rattle.msi_text_base.specs.Results
-pub use Rattle.msi_text.specs.declared.category.Category
-pub use Rattle.msi_text.specs.Spellings
+pub use Rattle.msi_table_values.specs.Category
+pub use Rattle.msi_table_values.specs.Spellings
 pub use Rattle.msi_table_values.specs.declared.column.ColumnType
 pub use Rattle.msi_table_values.specs.declared.value.Value
 pub use Rattle.msi_table_values.specs.declared.value.ValueRef

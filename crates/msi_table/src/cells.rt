@@ -6,7 +6,8 @@ ghost use Rattle.msi_table.specs.Cells.{width as width_of, cell_of_number, cell_
 
 use msi_table_values::column::ColumnType;
 use msi_table_values::value::ValueRef;
-use msi_text::parts::{number_of, string_ref};
+use msi_text_base::parts::number_of;
+use msi_text_pool::parts::string_ref;
 
 /// How many bytes a cell of a column takes.
 pub(crate) fn width(long: bool, coltype: ColumnType) -> usize

@@ -13,9 +13,9 @@ use crate::rows::{are_rows, row_count};
 use crate::table::Table;
 use msi_table_values::column::{Column, ColumnType};
 use msi_table_values::value::ValueRef;
-use msi_text::errors::Error;
-use msi_text::parts::place_number;
-use msi_text::text::Items;
+use msi_text_base::errors::Error;
+use msi_text_base::text::Items;
+use msi_text_pool::parts::place_number;
 use std::alloc::Global;
 use std::marker::Model;
 

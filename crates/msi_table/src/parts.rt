@@ -23,9 +23,9 @@ pub use msi_table_values::parts::{
     has_column, nullable, renamed, type_bits,
 };
 use msi_table_values::value::{Value, ValueRef};
-use msi_text::errors::Error;
-use msi_text::stringpool::StringPool;
-use msi_text::text::{Items, Text};
+use msi_text_base::errors::Error;
+use msi_text_base::text::{Items, Text};
+use msi_text_pool::stringpool::StringPool;
 use std::alloc::Global;
 use std::rc::Rc;
 

@@ -13,8 +13,8 @@ use crate::reasons;
 use msi_table_values::column::Column;
 use msi_table_values::parts::MAX_ROWS;
 use msi_table_values::value::ValueRef;
-use msi_text::errors::{Error, ErrorKind};
-use msi_text::text::Items;
+use msi_text_base::errors::{Error, ErrorKind};
+use msi_text_base::text::Items;
 use std::alloc::Global;
 
 /// How many bytes a row takes.

@@ -7,8 +7,8 @@ ghost use Rattle.msi_table.specs.Tables.{long_table_of, most_columns, table_of};
 
 use msi_table_values::column::Column;
 use msi_table_values::parts::{column_index, copied_columns, has_column};
-use msi_text::errors::Error;
-use msi_text::text::{Items, Text};
+use msi_text_base::errors::Error;
+use msi_text_base::text::{Items, Text};
 use std::alloc::Global;
 use std::marker::Model;
 

@@ -12,9 +12,9 @@ ghost use Rattle.msi_table_values.specs.Values.{value_cmp};
 use msi_table_values::column::Column;
 use msi_table_values::parts::{compare_values, is_of_category_binary};
 use msi_table_values::value::ValueRef;
-use msi_text::errors::Error;
-use msi_text::stringpool::StringPool;
-use msi_text::text::Items;
+use msi_text_base::errors::Error;
+use msi_text_base::text::Items;
+use msi_text_pool::stringpool::StringPool;
 use std::alloc::AllocError;
 use std::cmp::Ordering;
 

@@ -10,3 +10,7 @@ pub mod CellOrder
 pub mod OrderLaws
 pub mod Fitting
 pub mod StoredValues
+pub mod TableCells
+-- The words of the crates below, which public clauses cite.
+pub use Rattle.msi_text.specs.declared.category.Category
+pub use Rattle.msi_text.specs.Spellings

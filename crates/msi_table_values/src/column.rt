@@ -9,8 +9,8 @@ ghost use Rattle.msi_table_values.specs.declared.column.ColumnType.TheVariants a
 
 use crate::texts::{copied_list, copied_texts};
 use msi_text::category::Category;
-use msi_text::errors::Error;
-use msi_text::text::{IntoText, Items, Text};
+use msi_text_base::errors::Error;
+use msi_text_base::text::{IntoText, Items, Text};
 use std::alloc::Global;
 use std::fmt;
 use std::marker::Model;

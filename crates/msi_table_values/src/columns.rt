@@ -5,8 +5,8 @@ ghost use Rattle.msi_text_base.specs.Results.{OnlyMemory};
 ghost use Rattle.msi_table_values.specs.Columns.{column_index as index_of, has_column as has_one};
 
 use crate::column::Column;
-use msi_text::errors::Error;
-use msi_text::text::Items;
+use msi_text_base::errors::Error;
+use msi_text_base::text::Items;
 use std::alloc::Global;
 
 /// Whether the column has this name.

@@ -7,10 +7,10 @@ ghost use Rattle.msi_text_base.specs.Results.{OnlyMemory};
 ghost use Rattle.msi_table_values.specs.declared.value.Value.TheVariants.{Int, Str};
 
 use crate::value::Value;
-use msi_text::errors::Error;
 use msi_text::language::LanguageId;
 use msi_text::parts::{braced_uuid, language_list, language_text};
-use msi_text::text::{IntoText, Text};
+use msi_text_base::errors::Error;
+use msi_text_base::text::{IntoText, Text};
 use std::alloc::Global;
 use uuid::Uuid;
 

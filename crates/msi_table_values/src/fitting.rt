@@ -9,7 +9,7 @@ use crate::valid_values::{fits_number, holds_streams};
 use crate::value::ValueRef;
 use msi_text::parts::place_number;
 use msi_text::stringpool::MAX_SHORT_PLACES;
-use msi_text::text::Items;
+use msi_text_base::text::Items;
 
 /// How many rows a table may have.
 pub const MAX_ROWS: usize = 65_536;

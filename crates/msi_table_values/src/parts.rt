@@ -14,8 +14,8 @@ pub use crate::fitting::{MAX_ROWS, fits_table};
 use crate::reasons;
 pub use crate::texts::copied_list;
 pub use crate::views::{ValueView, compare_values};
-use msi_text::errors::{Error, ErrorKind};
-use msi_text::text::IntoText;
+use msi_text_base::errors::{Error, ErrorKind};
+use msi_text_base::text::IntoText;
 use std::alloc::Global;
 
 /// The bits of a type without flags.

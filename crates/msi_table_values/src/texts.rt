@@ -3,8 +3,8 @@
 ghost use Rattle.std.specs.Prelude.{◌≡◌, IfOk, map};
 ghost use Rattle.msi_text_base.specs.Results.{OnlyMemory};
 
-use msi_text::errors::Error;
-use msi_text::text::{IntoText, Items, Text};
+use msi_text_base::errors::Error;
+use msi_text_base::text::{IntoText, Items, Text};
 use std::alloc::Global;
 
 /// Returns copies of the texts, in order.

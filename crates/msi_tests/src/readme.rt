@@ -1,7 +1,7 @@
 //! The library example of the README, to the letter, and a test that it works.
 
+use crate::shown::is_shown;
 use msi::{Column, Error, Insert, Memory, Package, PackageType, Select, Value};
-use msi_container_tests::shown::is_shown;
 use std::alloc::Global;
 
 /// The file of a package with a table of one row.

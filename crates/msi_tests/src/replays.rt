@@ -1,7 +1,7 @@
 //! A list of calls, one of each kind, on a new package, and again on what they leave.
 
+use crate::shown::is_shown;
 use msi::{Error, ErrorKind, IntoText, Items, PackageType, Select};
-use msi_container_tests::shown::is_shown;
 use msi_replay::{
     Answer, Call, Change, LookUp, ReaderCall, Replayed, SummaryCall, SummaryQuestion, WriterCall,
     replay, replay_over,

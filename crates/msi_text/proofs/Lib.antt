@@ -1,4 +1,3 @@
 -- The lemmas of this crate.
 pub mod LanguageRowsLemmas
 pub mod CategoryRulesLemmas
-pub mod RefusalLemmas

@@ -6,7 +6,6 @@ pub mod Times
 pub mod LanguageRows
 pub mod Languages
 pub mod Spellings
-pub mod Refusals
 -- The words of the crates below.
 pub use Rattle.msi_text_base.specs.declared.errors.ErrorKind
 pub use Rattle.msi_text_base.specs.declared.codepage.CodePage
@@ -17,10 +16,11 @@ pub use Rattle.msi_text_base.specs.Lists
 pub use Rattle.msi_text_base.specs.PageTables
 pub use Rattle.msi_text_base.specs.Pages
 pub use Rattle.msi_text_base.specs.Faults
-pub use Rattle.msi_text_pool_base.specs.Pool
-pub use Rattle.msi_text_places.specs.FirstFit
-pub use Rattle.msi_text_places.specs.FirstFitLaws
+pub use Rattle.msi_text_base.specs.Refusals
+pub use Rattle.msi_text_pool.specs.Pool
+pub use Rattle.msi_text_pool.specs.FirstFit
+pub use Rattle.msi_text_pool.specs.FirstFitLaws
 pub use Rattle.msi_text_pool.specs.PoolWriting
 pub use Rattle.msi_text_pool.specs.PoolLaws
-pub use Rattle.msi_text_pool_base.specs.PoolReading
+pub use Rattle.msi_text_pool.specs.PoolReading
 pub use Rattle.msi_text_pool.specs.References

@@ -6,7 +6,7 @@ ghost use Rattle.msi_text_base.specs.Results.{OnlyMemory};
 use crate::type_fields::TypeField;
 use msi_table_values::column::ColumnType;
 use msi_table_values::value::Value;
-use msi_text::text::{Items, Text};
+use msi_text_base::text::{Items, Text};
 use std::marker::Model;
 
 /// A column, as the first two lines of a text archive name it.

@@ -10,7 +10,7 @@ use crate::errors::{ArchiveError, Place, at, uneven};
 use crate::fields::{header_fields, text_at};
 use crate::reasons;
 use crate::type_fields::type_of;
-use msi_text::errors::ErrorKind;
+use msi_text_base::errors::ErrorKind;
 use std::alloc::Global;
 
 /// The column of a name and the type below it, which are the fields of this number.

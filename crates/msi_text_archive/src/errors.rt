@@ -4,7 +4,7 @@ ghost use Rattle.std.specs.Prelude.{◌≡◌, ◌≢◌};
 ghost use Rattle.msi_text_base.specs.declared.errors.ErrorKind.TheVariants.{OutOfMemory};
 ghost use Rattle.msi_text_archive.specs.Writing.{Checks};
 
-use msi_text::errors::{Error, ErrorKind, Reason};
+use msi_text_base::errors::{Error, ErrorKind, Reason};
 use std::alloc::{AllocError, AllocFailed};
 use std::fmt;
 use std::marker::Model;

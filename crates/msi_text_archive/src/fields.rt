@@ -12,8 +12,8 @@ use crate::errors::{ArchiveError, Place, at};
 use crate::reasons;
 use msi_table_values::column::ColumnType;
 use msi_table_values::value::Value;
-use msi_text::errors::{Error, ErrorKind};
-use msi_text::text::Text;
+use msi_text_base::errors::{Error, ErrorKind};
+use msi_text_base::text::Text;
 use std::alloc::{AllocError, Global};
 
 /// The fields of a line.

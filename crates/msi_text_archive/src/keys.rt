@@ -11,8 +11,8 @@ use crate::errors::{ArchiveError, Place};
 use crate::fields::text_at;
 use crate::reasons;
 use crate::type_fields::u16_of;
-use msi_text::errors::ErrorKind;
-use msi_text::text::{Items, Text};
+use msi_text_base::errors::ErrorKind;
+use msi_text_base::text::{Items, Text};
 use std::alloc::Global;
 use std::marker::Model;
 

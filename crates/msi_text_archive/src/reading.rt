@@ -15,8 +15,8 @@ use crate::fields::{cell_at, fields_of};
 use crate::keys::keys_of;
 use crate::reasons;
 use msi_table_values::value::Value;
-use msi_text::errors::ErrorKind;
-use msi_text::text::Items;
+use msi_text_base::errors::ErrorKind;
+use msi_text_base::text::Items;
 use std::alloc::{AllocError, Global};
 
 /// The lines of a text.

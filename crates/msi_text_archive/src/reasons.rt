@@ -1,6 +1,6 @@
 //! Why texts and archives are refused: a sentence for each rule.
 
-use msi_text::Reason;
+use msi_text_base::errors::Reason;
 
 pub(crate) const LINES_FEW: Reason = Reason(
     "the names of the columns, their types and the name of the table were expected",

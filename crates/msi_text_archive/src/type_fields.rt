@@ -8,7 +8,7 @@ ghost use Rattle.msi_text_archive.specs.TypeFields.{type_in, type_of_letter as t
 
 use crate::reasons;
 use msi_table_values::column::ColumnType;
-use msi_text::errors::{Error, ErrorKind};
+use msi_text_base::errors::{Error, ErrorKind};
 use std::marker::Model;
 
 /// What a field says of a column.

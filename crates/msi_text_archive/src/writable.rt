@@ -16,8 +16,8 @@ use crate::reasons;
 use crate::type_fields::u16_of;
 use msi_table_values::column::ColumnType;
 use msi_table_values::value::Value;
-use msi_text::errors::ErrorKind;
-use msi_text::text::{Items, Text};
+use msi_text_base::errors::ErrorKind;
+use msi_text_base::text::{Items, Text};
 
 /// Whether a text has a field.
 fn has_field(text: &str) -> bool

@@ -16,7 +16,7 @@ use crate::errors::ArchiveError;
 use crate::writable::{check_archive, check_row};
 use msi_table_values::column::ColumnType;
 use msi_table_values::value::Value;
-use msi_text::text::Items;
+use msi_text_base::text::Items;
 use std::alloc::{AllocError, Global};
 
 /// Writes the field of a value behind a text.

@@ -2,6 +2,8 @@
 pub mod BoolLemmas
 pub mod OptionLemmas
 pub mod ResultLemmas
+pub mod RefusalLemmas
+pub mod OrderingLemmas
 pub mod ListLemmas
 pub mod ReadFieldLemmas
 pub mod PageTablesLemmas

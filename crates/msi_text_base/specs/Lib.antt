@@ -6,3 +6,4 @@ pub mod Lists
 pub mod PageTables
 pub mod Pages
 pub mod Faults
+pub mod Refusals

@@ -10,13 +10,13 @@ use Rattle.std.proofs.lemmas.List.Sums.{position_or_len_is}
 use Rattle.msi_text_base.specs.declared.errors.ErrorKind.{ErrorKind}
 use Rattle.msi_text_base.specs.declared.errors.ErrorKind.TheVariants.{OutOfMemory, InvalidInput}
 use Rattle.msi_text_pool_base.specs.Pool.{Place}
-use Rattle.msi_text_places.specs.FirstFit.{is_fit, first_fit, taken, with_text_at, most_places}
-use Rattle.msi_text_places.proofs.CountLemmas.{taken_in_range}
-use Rattle.msi_text_places.proofs.TakenLemmas.{taken_takes}
+use Rattle.msi_text_pool_base.specs.FirstFit.{is_fit, first_fit, taken, with_text_at, most_places}
+use Rattle.msi_text_pool_base.proofs.CountLemmas.{taken_in_range}
+use Rattle.msi_text_pool_base.proofs.TakenLemmas.{taken_takes}
 use Rattle.msi_text_places.specs.declared.texts.Entry.{Entry}
 use Rattle.msi_text_pool_base.specs.PoolIndexes.{IsLeast, is_free, has_room_for, is_among, lesser, AreFree}
 use Rattle.msi_text_places.specs.TextIndexes.{is_entered, AreOpen}
-use Rattle.msi_text_places.proofs.FirstFitLemmas.{no_place}
+use Rattle.msi_text_pool_base.proofs.FirstFitLemmas.{no_place, most_places-few}
 
 fit_is : (text : List ℕ) (p : Place) → is_fit text p ≡ (is_free (Some p) || has_room_for text (Some p))
 fit_is text p = grind (arith, nat_tests, common_steps)
@@ -123,10 +123,6 @@ last_room long places text (Err e) f h = h ∙ sym (ap (λ b. if b then OutOfMem
       | inl less ↦ rw less refl
       | inr more ↦ rw more refl
     ])
-
-pub most_places-few : (long : Bool) → most_places long ≤ 16777215
-most_places-few true = omega arith
-most_places-few false = omega arith
 
 -- there are never more places than long references can name
 pub taken_most : (long : Bool) (before after : List Place) (text : List ℕ) (number : ℕ) → taken long before text ≡ Some (number, after)

@@ -7,7 +7,7 @@ use Rattle.std.proofs.lemmas.Bool.Decides.{nat_tests}
 use Rattle.std.proofs.lemmas.Slice.Eq.{bytes_eq-Decides}
 use Rattle.std.proofs.lemmas.Option.{slice_get_past, slice_get_within}
 use Rattle.msi_text_pool_base.specs.Pool.{Place, forgotten, without_unnamed_texts}
-use Rattle.msi_text_places.specs.FirstFit.{with_text_at}
+use Rattle.msi_text_pool_base.specs.FirstFit.{with_text_at}
 use Rattle.msi_text_places.specs.declared.texts.Entry.{Entry}
 use Rattle.msi_text_pool_base.specs.PoolIndexes.{is_free, has_room_for, is_among, AreFree}
 use Rattle.msi_text_places.specs.TextIndexes.{is_entered, is_same, AreOpen}

@@ -9,17 +9,10 @@ use Rattle.std.proofs.lemmas.Bool.Decides.{nat_tests}
 use Rattle.std.proofs.lemmas.Cmp.{nat_list_cmp_total, nat_list_eq_equiv, tied_itself}
 use Rattle.std.proofs.lemmas.Slice.Eq.{bytes_eq-Decides}
 use Rattle.std.proofs.lemmas.Map.Text.{is_eq-slice_cmp}
+use Rattle.msi_text_base.proofs.OrderingLemmas.{then_equal, nat_equal}
 use Rattle.msi_text_places.specs.declared.texts.Entry.{Entry}
 use Rattle.msi_text_pool_base.specs.PoolIndexes.{IsLeast}
 use Rattle.msi_text_places.specs.TextIndexes.{entry_cmp, is_entered, is_same}
-
-pub then_equal : (o p : Ordering) → is_eq (ordering_then o p) ≡ (is_eq o && is_eq p)
-then_equal Less p = refl
-then_equal Equal p = refl
-then_equal Greater p = refl
-
-pub nat_equal : (i j : ℕ) → is_eq (nat_cmp j i) ≡ (i == j)
-nat_equal i j = grind (arith, nat_tests)
 
 cond_or : (b x : Bool) → cond b true x ≡ (b || x)
 cond_or true x = refl

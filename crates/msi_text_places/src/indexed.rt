@@ -4,8 +4,8 @@ ghost use Rattle.std.specs.Prelude.{◌≡◌, ◌≢◌, ℕ, ◌+◌, ◌-◌,
 ghost use Rattle.std.specs.Prelude.{slice_get, Some, None, is_some, IfOk, IfErr, OnOk, OnErr, if◌then◌else◌};
 ghost use Rattle.std.specs.Prelude.{string_bytes, nat_lt, not, ◌==◌, ◌&&◌, ◌||◌};
 ghost use Rattle.msi_text_pool_base.specs.Pool.{without_unnamed_texts};
-ghost use Rattle.msi_text_places.specs.FirstFit.{taken, given_back, with_text_at, count_of, lowered};
-ghost use Rattle.msi_text_places.specs.FirstFit.{most_places as most_of};
+ghost use Rattle.msi_text_pool_base.specs.FirstFit.{taken, given_back, with_text_at, count_of, lowered};
+ghost use Rattle.msi_text_pool_base.specs.FirstFit.{most_places as most_of};
 ghost use Rattle.msi_text_base.specs.Results.{OnlyMemory};
 ghost use Rattle.msi_text_base.specs.declared.errors.ErrorKind.TheVariants.{InvalidData, InvalidInput, OutOfMemory};
 ghost use Rattle.msi_text_pool_base.specs.PoolIndexes.{AreFree, is_among, has_room_for, is_free, lesser as lesser_of};

@@ -4,9 +4,9 @@ ghost use Rattle.std.specs.Prelude.{◌≡◌, ◌+◌, ◌≤◌, ℕ, Some, is
 ghost use Rattle.std.specs.Prelude.{string_bytes, if◌then◌else◌};
 ghost use Rattle.std.specs.List.{list_any};
 ghost use Rattle.msi_text_pool_base.specs.Pool.{without_unnamed_texts};
-ghost use Rattle.msi_text_places.specs.FirstFit.{taken, given_back, is_fit};
+ghost use Rattle.msi_text_pool_base.specs.FirstFit.{taken, given_back, is_fit};
 ghost use Rattle.msi_text_places.specs.Indexing.{HasTrueIndexes, IsKept, places_of, operations_of};
-ghost use Rattle.msi_text_places.specs.Recounting.{AreCounts, many_recounted, with_counts};
+ghost use Rattle.msi_text_pool_base.specs.Recounting.{AreCounts, many_recounted, with_counts};
 ghost use Rattle.msi_text_base.specs.Results.{OnlyMemory};
 ghost use Rattle.msi_text_base.specs.declared.errors.ErrorKind.TheVariants.{InvalidData, InvalidInput, OutOfMemory};
 

@@ -4,7 +4,7 @@ ghost use Rattle.std.specs.Prelude.{◌≡◌, ◌+◌, ◌-◌, ◌<◌, ◌^�
 ghost use Rattle.std.specs.Prelude.{slice_get, vec_len, IsTrue, ◌↔◌, ◌≤◌, ◌==◌, not};
 ghost use Rattle.msi_text_pool_base.specs.Pool.{forgotten, without_unnamed_texts, PlacesWritten};
 ghost use Rattle.msi_text_base.specs.Results.{OnlyMemory};
-ghost use Rattle.msi_text_places.specs.Recounting.{AreCounts, many_recounted, with_count, with_counts};
+ghost use Rattle.msi_text_pool_base.specs.Recounting.{AreCounts, many_recounted, with_count, with_counts};
 
 use crate::shared::SharedText;
 use msi_text_base::errors::Error;

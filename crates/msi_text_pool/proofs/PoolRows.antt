@@ -2,8 +2,8 @@
 use Rattle.std.specs.Prelude.{◌≡◌, false, List, [], ◌∷◌, ℕ, Option, Some, None, refl, codes, option_and_then, option_map}
 use Rattle.msi_text_base.specs.declared.codepage.CodePage.TheVariants as page
 use Rattle.msi_text_pool_base.specs.Pool.{Pool, Place, pool_stream, data_stream, plain_entry}
-use Rattle.msi_text_places.specs.FirstFit.{taken, given_back}
-use Rattle.msi_text_places.specs.FirstFitLaws.{count_at, text_at}
+use Rattle.msi_text_pool_base.specs.FirstFit.{taken, given_back}
+use Rattle.msi_text_pool_base.specs.FirstFitLaws.{count_at, text_at}
 
 abbrev utf8_pool : List Place → Pool
 utf8_pool places = record { page = page.Utf8; long = false; places = places }

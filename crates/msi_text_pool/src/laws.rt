@@ -1,10 +1,10 @@
 //! Laws of the formats themselves: each is the contract of a function, mostly of one without a body.
 
-ghost use Rattle.msi_text_places.specs.FirstFitLaws.{TakenPlacesHoldTheirText, TakenPlacesStayInRange};
-ghost use Rattle.msi_text_places.specs.FirstFitLaws.{GivenBackTakesOne, GivenBackStaysInRange};
+ghost use Rattle.msi_text_pool_base.specs.FirstFitLaws.{TakenPlacesHoldTheirText, TakenPlacesStayInRange};
+ghost use Rattle.msi_text_pool_base.specs.FirstFitLaws.{GivenBackTakesOne, GivenBackStaysInRange};
 ghost use Rattle.msi_text_pool.specs.PoolLaws.{EmptyPlacesAreWritten, IsPoolInSteps, MarksStandForTests, OnePool};
 ghost use Rattle.msi_text_pool.specs.PoolLaws.{PoolsReadBack};
-ghost use Rattle.msi_text_pool.specs.References.{ReferencesComeBack};
+ghost use Rattle.msi_text_pool_base.specs.References.{ReferencesComeBack};
 ghost use Rattle.std.specs.Ordering.{nat_cmp};
 ghost use Rattle.std.specs.Prelude.{◌≡◌, ◌↔◌, IsTrue};
 ghost use Rattle.std.specs.declared.cmp.Ordering.TheVariants.{Equal};

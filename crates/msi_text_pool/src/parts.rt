@@ -3,8 +3,8 @@
 ghost use Rattle.std.specs.Prelude.{◌≡◌, ◌↔◌, ◌≤◌, length, IsTrue, IfOk, IfErr, OnOk, OnErr, Some, is_some, true};
 ghost use Rattle.std.specs.Prelude.{if◌then◌else◌, string_bytes};
 ghost use Rattle.msi_text_base.specs.declared.errors.ErrorKind.TheVariants.{InvalidInput, OutOfMemory};
-ghost use Rattle.msi_text_places.specs.FirstFit.{is_long_with, taken};
-ghost use Rattle.msi_text_places.specs.Recounting.{AreCounts, many_recounted, with_counts};
+ghost use Rattle.msi_text_pool_base.specs.FirstFit.{is_long_with, taken};
+ghost use Rattle.msi_text_pool_base.specs.Recounting.{AreCounts, many_recounted, with_counts};
 ghost use Rattle.msi_text_pool_base.specs.Pool.{CountsFit, PlacesWritten, unindexed, without_unnamed_texts};
 
 pub use crate::stringpool::reading::{pool_builder_of, pool_of};

@@ -2,3 +2,7 @@
 pub mod Pool
 pub mod PoolReading
 pub mod PoolIndexes
+pub mod FirstFit
+pub mod FirstFitLaws
+pub mod Recounting
+pub mod References

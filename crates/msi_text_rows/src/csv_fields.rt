@@ -7,7 +7,7 @@ ghost use Rattle.msi_text_rows.specs.CsvRows.{field_value, plain_in};
 
 use msi_table_values::column::ColumnType;
 use msi_table_values::value::Value;
-use msi_text::errors::Error;
+use msi_text_base::errors::Error;
 use std::alloc::Global;
 
 /// The number that a field is, if it is one of 32 bits.

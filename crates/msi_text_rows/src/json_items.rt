@@ -6,7 +6,7 @@ ghost use Rattle.msi_text_base.specs.Results.{OnlyMemory};
 ghost use Rattle.msi_text_rows.specs.JsonRows.{number_value as number_value_of, value_in};
 
 use msi_table_values::value::Value;
-use msi_text::errors::Error;
+use msi_text_base::errors::Error;
 use serde_json::Value as Json;
 use std::alloc::Global;
 

@@ -2,7 +2,7 @@
 
 use msi::{Package, PackageType};
 use msi_container_device::Buffered;
-use msi_text::Error;
+use msi_text_base::errors::Error;
 use std::fs::{self, OpenOptions};
 use std::io;
 

@@ -2,7 +2,7 @@
 
 use msi_container::compound::{self, Name};
 use msi_container::streamname;
-use msi_text::Error;
+use msi_text_base::errors::Error;
 use std::alloc::Global;
 use std::fs::{self, OpenFile};
 use std::io::{Read, Write};

@@ -1,6 +1,6 @@
 //! `recount FILE`.
 
-use msi_text::Error;
+use msi_text_base::errors::Error;
 use std::io::Write;
 
 /// Counts the cells of a package anew, writes the package, and prints how many texts got another count.

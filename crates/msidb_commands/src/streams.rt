@@ -5,7 +5,7 @@ use crate::packages;
 use msi::{Package, StreamReader};
 use msi_container_device::{Device, Source};
 use msi_streams::Streams;
-use msi_text::Error;
+use msi_text_base::errors::Error;
 use std::alloc::Global;
 use std::io::{self, Read, Write};
 

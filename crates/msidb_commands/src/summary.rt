@@ -2,7 +2,8 @@
 
 use crate::buffered::buffer;
 use msi_summary::SummaryInfo;
-use msi_text::{Error, Timestamp};
+use msi_text::Timestamp;
+use msi_text_base::errors::Error;
 use std::alloc::Global;
 use std::fmt::Display;
 use std::io::{self, Write};

@@ -4,8 +4,9 @@ use crate::buffered::buffer;
 use msi::{Package, Tables};
 use msi_container_device::Source;
 use msi_query::Select;
-use msi_table::{Column, Row};
-use msi_text::Error;
+use msi_table::Row;
+use msi_table_values::column::Column;
+use msi_text_base::errors::Error;
 use std::alloc::Global;
 use std::io::{self, Write};
 

@@ -12,7 +12,7 @@ ghost use Rattle.msidb_commands.specs.Wrapped.{wrapped};
 use msi_container::compound::{self, Buffered, Bytes, Contents, Device, Name, StreamMap};
 use msi_container::streamname;
 use msi_container_device::parts::fault;
-use msi_text::{Error, ErrorKind, Reason};
+use msi_text_base::errors::{Error, ErrorKind, Reason};
 use std::alloc::Global;
 use std::fs;
 use std::io::{Read, Write};

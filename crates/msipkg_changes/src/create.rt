@@ -1,7 +1,7 @@
 //! `new FILE`: a new package.
 
-use msipkg_output::msi::{CodePage, Package, PackageType};
-use msipkg_output::{Failure, Opened};
+use msipkg_files::output::msi::{CodePage, Package, PackageType};
+use msipkg_files::output::{Failure, Opened};
 
 /// Returns the kind of a name: `installer`, `patch` or `transform`.
 ///

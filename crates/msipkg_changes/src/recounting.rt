@@ -1,7 +1,7 @@
 //! The counts of a package's texts, where they are too low for a change.
 
-use msipkg_output::msi::{ErrorKind, Package};
-use msipkg_output::{Failure, Opened};
+use msipkg_files::output::msi::{ErrorKind, Package};
+use msipkg_files::output::{Failure, Opened};
 
 /// Returns the failure of a change, with the note that counting the package anew mends it, if that is so. The package
 /// is counted anew then.

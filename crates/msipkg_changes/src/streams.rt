@@ -1,9 +1,8 @@
 //! `add FILE NAME=PATH..` and `remove FILE NAME..`: streams of a package.
 
-use msipkg_output::msi::Package;
-use msipkg_output::{Failure, Opened, System};
+use msipkg_files::output::msi::Package;
+use msipkg_files::output::{Failure, Opened, System};
 use std::alloc::Global;
-use std::fs;
 use std::io::Write;
 
 /// Stores files as streams of a package, each given as `NAME=PATH`.
@@ -27,7 +26,7 @@ fn add_pair(rt: &System, package: &mut Package<Opened>, pair: &str) -> Result<()
     let Some((name, path)) = pair.split_once('=') else {
         return Err(Failure::rule("it isn't of the form NAME=PATH").at(rt.alloc(), "word", pair));
     };
-    match fs::read(rt, path) {
+    match rt.read(path) {
         Ok(bytes) => fill_named(rt.alloc(), package, name, bytes.as_slice()),
         Err(error) => Err(Failure::from(error).at(rt.alloc(), "file", path)),
     }

@@ -1,7 +1,7 @@
 //! A difference between two packages, as lines and as JSON.
 
-use msipkg_output::msi::Value;
-use msipkg_output::{JsonObject, Output, Style};
+use msipkg_files::output::msi::Value;
+use msipkg_files::output::{JsonObject, Output, Style};
 use std::alloc::Global;
 use std::fmt::{self, Display};
 

@@ -2,8 +2,8 @@
 
 use crate::difference::{Change, Content, Difference, Member};
 use crate::report::Report;
-use msipkg_output::msi::{Error, Package, SummaryInfo};
-use msipkg_output::{Opened, PROPERTIES, kind_name, property_text};
+use msipkg_files::output::msi::{Error, Package, SummaryInfo};
+use msipkg_files::output::{Opened, PROPERTIES, kind_name, property_text};
 
 /// Compares the kinds and the code pages.
 pub(crate) fn compare_kinds(old: &Package<Opened>, new: &Package<Opened>, report: &mut Report<'_>) {

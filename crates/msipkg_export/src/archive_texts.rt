@@ -2,8 +2,8 @@
 
 use crate::archive_parts::{archive_columns, key_names};
 use msi_text_archive::{Archive, ArchiveError, write, write_row};
-use msipkg_output::Failure;
-use msipkg_output::msi::{CodePage, Column, Error, IntoText, Items, Value};
+use msipkg_files::output::Failure;
+use msipkg_files::output::msi::{CodePage, Column, Error, IntoText, Items, Value};
 use std::alloc::{AllocError, Global};
 use std::borrow::CowSlice;
 

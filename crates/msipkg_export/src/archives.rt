@@ -5,9 +5,9 @@ use crate::other_archives::{
     PAGE, STREAMS, SUMMARY, page_archive, streams_archive, summary_archive,
 };
 use crate::table_archives::{StreamFile, TableArchive, table_archive};
+use msipkg_files::output::msi::{Package, Table};
+use msipkg_files::output::{Failure, Opened, System, at_file, chosen_tables, path_in};
 use msipkg_files::{Folder, SafeNames};
-use msipkg_output::msi::{Package, Table};
-use msipkg_output::{Failure, Opened, System, at_file, chosen_tables, path_in};
 use std::alloc::{AllocError, Global};
 use std::collections::BTreeSet;
 

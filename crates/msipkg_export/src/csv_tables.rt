@@ -2,11 +2,11 @@
 
 use crate::exporting::BARE;
 use crate::folders::make_folder;
-use msipkg_files::{Folder, SafeNames};
-use msipkg_output::msi::{Package, Table};
-use msipkg_output::{
+use msipkg_files::output::msi::{Package, Table};
+use msipkg_files::output::{
     Failure, Format, Opened, Output, Style, System, chosen_tables, rows_of, write_rows,
 };
+use msipkg_files::{Folder, SafeNames};
 use std::alloc::{AllocError, Global};
 
 /// Writes each of the tables to a file of a folder, which is named after the table. The folder is made where it isn't

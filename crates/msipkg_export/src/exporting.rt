@@ -4,11 +4,11 @@ use crate::archives::export_archives;
 use crate::csv_tables::{export_csv, write_csv};
 use crate::json_packages::write_package;
 use crate::table_archives::write_archive;
-use msipkg_files::{Folder, open_new, settle};
-use msipkg_output::msi::{Package, Table};
-use msipkg_output::{
+use msipkg_files::output::msi::{Package, Table};
+use msipkg_files::output::{
     Failure, Opened, Output, Shown, Style, System, at_file, is_list, rows_of, table_named,
 };
+use msipkg_files::{Folder, open_new, settle};
 use std::alloc::Global;
 
 /// How a file is written: as it is.

@@ -1,6 +1,6 @@
 //! The folders that an export makes.
 
-use msipkg_output::{Failure, System};
+use msipkg_files::output::{Failure, System};
 use std::fs;
 use std::io::ErrorKind;
 
@@ -12,7 +12,7 @@ const NO_FOLDER: &str = "it is no folder, but a file or a link";
 /// # Errors
 /// Fails as the call of the system does, at the folder's path.
 pub(crate) fn make_folder(rt: &System, path: &str) -> Result<(), Failure> {
-    match fs::create_dir_all(rt, path) {
+    match fs::create_dir_all(&rt.rt, path) {
         Ok(()) => Ok(()),
         Err(error) => Err(Failure::from(error).at(rt.alloc(), "folder", path)),
     }
@@ -32,7 +32,7 @@ pub(crate) fn make_inner_folder(rt: &System, path: &str) -> Result<(), Failure> 
 
 /// Makes a folder, or checks that it is there.
 fn make_or_check(rt: &System, path: &str) -> Result<(), Failure> {
-    match fs::create_dir(rt, path) {
+    match fs::create_dir(&rt.rt, path) {
         Ok(()) => Ok(()),
         Err(error) if error.kind() == ErrorKind::AlreadyExists => check_folder(rt, path),
         Err(error) => Err(Failure::from(error)),
@@ -41,7 +41,7 @@ fn make_or_check(rt: &System, path: &str) -> Result<(), Failure> {
 
 /// Refuses what isn't itself a folder.
 fn check_folder(rt: &System, path: &str) -> Result<(), Failure> {
-    if fs::symlink_metadata(rt, path)?.is_dir() {
+    if fs::symlink_metadata(&rt.rt, path)?.is_dir() {
         Ok(())
     } else {
         Err(Failure::rule(NO_FOLDER))

@@ -1,9 +1,9 @@
 //! Packages as JSON on one line: the summary, the tables with the types of their columns, and the streams.
 
 use base64::engine::general_purpose::STANDARD;
-use msipkg_output::json::{JsonObject, write_quoted, write_text};
-use msipkg_output::msi::{Error, Package, Rows, SummaryInfo, Table};
-use msipkg_output::{
+use msipkg_files::output::json::{JsonObject, write_quoted, write_text};
+use msipkg_files::output::msi::{Error, Package, Rows, SummaryInfo, Table};
+use msipkg_files::output::{
     Failure, JsonRow, Opened, Output, PROPERTIES, Style, chosen_tables, kind_name, property_text,
     put_columns, rows_of,
 };

@@ -4,8 +4,8 @@ use crate::archive_parts::text_value;
 use crate::archive_texts::{StoredText, text_of_rows};
 use crate::table_archives::{StreamFile, TableArchive};
 use msipkg_files::SafeNames;
-use msipkg_output::msi::{CodePage, Column, Error, Items, Package, SummaryInfo, Value};
-use msipkg_output::{Failure, Opened, PROPERTIES, property_text};
+use msipkg_files::output::msi::{CodePage, Column, Error, Items, Package, SummaryInfo, Value};
+use msipkg_files::output::{Failure, Opened, PROPERTIES, property_text};
 use std::alloc::{AllocError, Global};
 use std::collections::BTreeSet;
 

@@ -4,7 +4,6 @@ use crate::recoding::{PackageFile, Recoded, check_unnamed, recoded_by_page, reco
 use msipkg_output::msi::{Metered, Package, PackageType};
 use msipkg_output::{Carrier, Failure, Opened, Origin, Output, System};
 use std::alloc::Global;
-use std::fs;
 use std::io::Cursor;
 
 /// Returns the package of a file. If its texts are recoded, which has to be allowed where it is changed, `notes` gets a
@@ -33,7 +32,7 @@ pub fn open_package(
 
 /// The package of a file, as it is.
 fn open_as_it_is(rt: &System, path: &str) -> Result<Package<Opened>, Failure> {
-    let file = fs::open(rt, path)?;
+    let file = rt.open(path)?;
     open_from(rt.alloc(), Origin::File(file))
 }
 

@@ -5,7 +5,6 @@ use msi_recode::{TextPage, recode_contents};
 use msipkg_output::msi::compound::{self, Contents, StreamMap};
 use msipkg_output::{Cause, Failure, Output, Pages, Shown, System};
 use std::alloc::Global;
-use std::fs;
 use std::rc::Rc;
 
 /// The refusal of a change that would lose texts.
@@ -119,7 +118,7 @@ pub(crate) fn check_unnamed(rt: &System, file: &PackageFile<'_>) -> Result<(), F
     if matches!(file.purpose, Purpose::Look) {
         return Ok(());
     }
-    let bytes = Rc::new(rt.alloc(), fs::read(rt, file.path)?)?;
+    let bytes = Rc::new(rt.alloc(), rt.read(file.path)?)?;
     match compound::read_shared(rt.alloc(), bytes) {
         Ok(contents) => check_streams(rt.alloc(), &contents.streams),
         Err(_) => Ok(()),
@@ -158,7 +157,7 @@ pub(crate) fn recoded_instead(
 /// # Errors
 /// Fails if the file can't be read, and at a text that its page doesn't read.
 fn recode_file(rt: &System, file: &PackageFile<'_>) -> Result<Option<Recoded>, Failure> {
-    let bytes = Rc::new(rt.alloc(), fs::read(rt, file.path)?)?;
+    let bytes = Rc::new(rt.alloc(), rt.read(file.path)?)?;
     match compound::read_shared(rt.alloc(), bytes) {
         Ok(contents) => recoded_of(rt.alloc(), contents, file),
         Err(_) => Ok(None),

@@ -3,7 +3,7 @@
 
 use msipkg_output::{Failure, System, SystemFile};
 use std::alloc::{AllocError, Global};
-use std::fs::{self, OpenFile, OpenOptions, Permissions};
+use std::fs::{self, Permissions};
 use std::io::{self, Write};
 
 /// How many names beside a file are tried for its new bytes.
@@ -16,7 +16,7 @@ const TRIES: u32 = 100;
 /// Fails if it is no regular file, and as the calls of the system do. Then the old file is as it was, and no other is
 /// left beside it.
 pub fn replace_file(rt: &System, path: &str, bytes: &[u8]) -> Result<(), Failure> {
-    let target = fs::canonicalize(rt, path)?.into_string();
+    let target = fs::canonicalize(&rt.rt, path)?.into_string();
     let permissions = permissions_of(rt, target.as_str())?;
     let (made, file) = open_beside(rt, target.as_str())?;
     let written = write_synced(file, Some(permissions), bytes);
@@ -45,13 +45,13 @@ pub fn open_new(rt: &System, path: &str, is_forced: bool) -> Result<(String, Sys
         return open_beside(rt, path);
     }
     let made = String::from_str(rt.alloc(), path)?;
-    let file = new_file(rt, path)?;
+    let file = rt.create_new(path)?;
     Ok((made, file))
 }
 
 /// The permissions of a file.
 fn permissions_of(rt: &System, path: &str) -> Result<Permissions, Failure> {
-    let old = fs::metadata(rt, path)?;
+    let old = fs::metadata(&rt.rt, path)?;
     if !old.is_file() {
         return Err(Failure::rule("it is no regular file"));
     }
@@ -92,35 +92,27 @@ pub fn settle(
         Err(failure) => Err(failure),
     };
     if settled.is_err() {
-        let _ = fs::remove_file(rt, made);
+        let _ = fs::remove_file(&rt.rt, made);
     }
     settled
 }
 
 /// Gives a file another path.
 fn rename(rt: &System, made: &str, path: &str) -> Result<(), Failure> {
-    Ok(fs::rename(rt, made, path)?)
+    Ok(fs::rename(&rt.rt, made, path)?)
 }
 
 /// Opens a new file beside another, and returns its path too.
 fn open_beside(rt: &System, target: &str) -> Result<(String, SystemFile), Failure> {
     for number in 0..TRIES {
         let path = beside_path(rt.alloc(), target, number)?;
-        match new_file(rt, path.as_str()) {
+        match rt.create_new(path.as_str()) {
             Ok(file) => return Ok((path, file)),
             Err(error) if error.kind() == io::ErrorKind::AlreadyExists => {}
             Err(error) => return Err(Failure::from(error)),
         }
     }
     Err(Failure::rule("each name beside it that was tried is taken"))
-}
-
-/// Opens a new file.
-fn new_file(rt: &System, path: &str) -> io::Result<SystemFile> {
-    OpenOptions::new()
-        .write(true)
-        .create_new(true)
-        .open(rt, path)
 }
 
 /// The path of a new file beside another.

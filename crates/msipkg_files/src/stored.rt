@@ -6,7 +6,6 @@ use msipkg_output::msi::{Error, Package, streamname};
 use msipkg_output::{Failure, Opened, System};
 use std::alloc::Global;
 use std::collections::BTreeMap;
-use std::fs;
 
 /// The streams of a file by the texts of their names, however these are stored.
 pub struct StoredStreams {
@@ -45,7 +44,7 @@ pub fn stored_streams(
     if !has_hidden(package)? {
         return Ok(None);
     }
-    let bytes = fs::read(rt, file)?;
+    let bytes = rt.read(file)?;
     Ok(Some(streams_of(rt.alloc(), bytes.as_slice())?))
 }
 

@@ -1,7 +1,7 @@
 //! What the columns of a table take, as texts.
 
-use msipkg_output::msi::{Column, ColumnType};
-use msipkg_output::{ColumnTypeText, Style};
+use msipkg_files::output::msi::{Column, ColumnType};
+use msipkg_files::output::{ColumnTypeText, Style};
 use std::fmt;
 
 /// What is printed of a column.

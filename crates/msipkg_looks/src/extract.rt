@@ -1,9 +1,9 @@
 //! `extract FILE [NAME..] -o DIR`: the streams of a package as files of a folder. Whatever a stream's name is, nothing
 //! is written outside the folder.
 
+use msipkg_files::output::msi::Package;
+use msipkg_files::output::{Failure, Opened, Output, Shown, System};
 use msipkg_files::{Folder, SafeNames, StoredStreams, stored_streams, stream_bytes};
-use msipkg_output::msi::Package;
-use msipkg_output::{Failure, Opened, Output, Shown, System};
 use std::fs;
 
 /// What streams are taken from, and where their files go.
@@ -42,7 +42,7 @@ fn extract<'a>(
     names: &[&str],
     notes: &mut Output,
 ) -> Result<(), Failure> {
-    fs::create_dir_all(rt, folder.path)?;
+    fs::create_dir_all(&rt.rt, folder.path)?;
     let extraction = Extraction {
         rt,
         package,

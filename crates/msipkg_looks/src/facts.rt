@@ -1,7 +1,7 @@
 //! Facts of a package under their names, which print as lines or as JSON.
 
-use msipkg_output::msi::LanguageId;
-use msipkg_output::{JsonObject, Output, Style};
+use msipkg_files::output::msi::LanguageId;
+use msipkg_files::output::{JsonObject, Output, Style};
 use std::alloc::{AllocError, Global};
 use std::fmt::Display;
 

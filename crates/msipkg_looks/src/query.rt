@@ -1,7 +1,7 @@
 //! `query FILE TEXT`: the rows that a query selects.
 
-use msipkg_output::msi::{Package, Parse, Select};
-use msipkg_output::{Failure, Format, Opened, Output, Style, write_rows};
+use msipkg_files::output::msi::{Package, Parse, Select};
+use msipkg_files::output::{Failure, Format, Opened, Output, Style, write_rows};
 use std::alloc::Global;
 
 /// Fails if a text spells no query for rows, so that it is refused before a file is opened.

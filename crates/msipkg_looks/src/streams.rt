@@ -1,8 +1,8 @@
 //! `streams FILE`: the names of a package's streams, and how many bytes they have.
 
+use msipkg_files::output::msi::{Error, Package};
+use msipkg_files::output::{Failure, Grid, Opened, Output, Style, System};
 use msipkg_files::{StoredStreams, stored_streams, stream_bytes};
-use msipkg_output::msi::{Error, Package};
-use msipkg_output::{Failure, Grid, Opened, Output, Style, System};
 use std::alloc::Global;
 
 /// The heads of the columns that are printed.

@@ -1,8 +1,8 @@
 //! `summary FILE`: the properties of a package's summary.
 
 use crate::facts::Facts;
-use msipkg_output::msi::{SummaryInfo, Timestamp};
-use msipkg_output::{Output, Style, TimeText, UuidText};
+use msipkg_files::output::msi::{SummaryInfo, Timestamp};
+use msipkg_files::output::{Output, Style, TimeText, UuidText};
 use std::alloc::Global;
 
 /// Prints a line for each property of a file's summary that is there, or all of them as JSON on one line.

@@ -1,7 +1,7 @@
 //! `tables FILE`: the names of a package's tables, and how many rows they have.
 
-use msipkg_output::msi::{Error, Package, Select, Table};
-use msipkg_output::{Failure, Grid, Opened, Output, Style};
+use msipkg_files::output::msi::{Error, Package, Select, Table};
+use msipkg_files::output::{Failure, Grid, Opened, Output, Style};
 use std::alloc::Global;
 
 /// The heads of the columns that are printed.

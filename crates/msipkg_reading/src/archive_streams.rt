@@ -108,9 +108,9 @@ fn is_file_name(name: &str) -> bool {
 /// The bytes of a file that is no link, in a folder that is none, so that an archive gives no other files of the
 /// machine.
 fn read_plain(rt: &System, folder: &str, path: &str) -> Result<Vec<u8>, Failure> {
-    let is_folder = fs::symlink_metadata(rt, folder)?.is_dir();
-    if !is_folder || !fs::symlink_metadata(rt, path)?.is_file() {
+    let is_folder = fs::symlink_metadata(&rt.rt, folder)?.is_dir();
+    if !is_folder || !fs::symlink_metadata(&rt.rt, path)?.is_file() {
         return Err(Failure::rule("it is no regular file, or its folder or itself is a link"));
     }
-    Ok(fs::read(rt, path)?)
+    Ok(rt.read(path)?)
 }

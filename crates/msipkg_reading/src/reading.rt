@@ -5,7 +5,6 @@ use crate::csv_tables::read_csv;
 use crate::given::Given;
 use crate::json_packages::read_json;
 use msipkg_output::{Failure, System, at_file};
-use std::fs;
 use std::path::Path;
 
 /// Reads files, whose endings say what they are: `.idt` text archives, `.json` packages that `export` wrote, and `.csv`
@@ -24,7 +23,7 @@ pub fn read_files(rt: &System, paths: &[&str]) -> Result<Given, Failure> {
 
 /// Adds what a file gives.
 fn read_file(rt: &System, path: &str, given: &mut Given) -> Result<(), Failure> {
-    let bytes = fs::read(rt, path)?;
+    let bytes = rt.read(path)?;
     let name = Path::new(path);
     let ending = name.extension().unwrap_or("");
     if ending.eq_ignore_ascii_case("idt") {

@@ -3,7 +3,6 @@
 use crate::system::SystemFile;
 use std::alloc::{AllocError, Global};
 use std::fmt::Display;
-use std::fs::OpenFile;
 use std::io::{self, Write};
 use std::mem;
 use std::rt::{Stderr, Stdout};

@@ -1,11 +1,9 @@
 //! The system's files, with a line on standard error that says how far reading or writing one is.
 
 use crate::meter::Meter;
-use std::alloc::{AllocError, Allocator, Global};
-use std::fs::{File, Metadata, OpenFile, OpenOptions, Permissions};
-use std::io::{self, Read, Seek, SeekFrom, Write};
-use std::path::PathBuf;
-use std::rt::Files;
+use std::alloc::{AllocError, Global};
+use std::fs::{self, File, OpenFile, OpenOptions, Permissions};
+use std::io::{self, Read, Write};
 
 /// How many bytes are read or written between two looks at the clock.
 const PIECE: usize = 1024 * 1024;
@@ -17,68 +15,50 @@ pub struct System {
     pub is_shown: bool,
 }
 
-impl Alloc for System {
-    type A = Global;
-
-    fn alloc(&self) -> Global {
+impl System {
+    /// Returns the allocator.
+    pub fn alloc(&self) -> Global {
         self.rt.alloc()
     }
-}
 
-/// The calls on files are passed on to the system.
-impl Files for System {
-    type File = SystemFile;
+    /// Opens a file to read it.
+    ///
+    /// # Errors
+    /// Fails as the call of the system does.
+    pub fn open(&self, path: &str) -> io::Result<SystemFile> {
+        let file = fs::open(&self.rt, path)?;
+        Ok(self.watched(file))
+    }
 
-    type Dir = <HostRuntime as Files>::Dir;
+    /// Returns the bytes of a file.
+    ///
+    /// # Errors
+    /// Fails as the calls of the system do, and if memory is refused.
+    pub fn read(&self, path: &str) -> io::Result<Vec<u8>> {
+        let mut file = self.open(path)?;
+        let mut bytes = Vec::new(self.alloc());
+        file.read_to_end(&mut bytes)?;
+        Ok(bytes)
+    }
 
-    fn open_file(&self, how: &OpenOptions, path: &str) -> io::Result<SystemFile> {
-        let file = self.rt.open_file(how, path)?;
+    /// Opens a new file to write it.
+    ///
+    /// # Errors
+    /// Fails as the call of the system does, which it also does if something has the path already.
+    pub fn create_new(&self, path: &str) -> io::Result<SystemFile> {
+        let mut options = OpenOptions::new();
+        let file = options.write(true).create_new(true).open(&self.rt, path)?;
+        Ok(self.watched(file))
+    }
+
+    /// A file that was opened just now, watched where that is asked for and the system tells the time.
+    fn watched(&self, file: File) -> SystemFile {
         let meter = if self.is_shown {
             Meter::of(self.rt, &file).ok()
         } else {
             None
         };
-        Ok(SystemFile { file, meter })
-    }
-
-    fn open_dir(&self, path: &str) -> io::Result<Self::Dir> {
-        self.rt.open_dir(path)
-    }
-
-    fn metadata(&self, path: &str) -> io::Result<Metadata> {
-        self.rt.metadata(path)
-    }
-
-    fn symlink_metadata(&self, path: &str) -> io::Result<Metadata> {
-        self.rt.symlink_metadata(path)
-    }
-
-    fn copy(&self, from: &str, to: &str) -> io::Result<u64> {
-        self.rt.copy(from, to)
-    }
-
-    fn rename(&self, from: &str, to: &str) -> io::Result<()> {
-        self.rt.rename(from, to)
-    }
-
-    fn remove_file(&self, path: &str) -> io::Result<()> {
-        self.rt.remove_file(path)
-    }
-
-    fn create_dir(&self, path: &str) -> io::Result<()> {
-        self.rt.create_dir(path)
-    }
-
-    fn remove_dir(&self, path: &str) -> io::Result<()> {
-        self.rt.remove_dir(path)
-    }
-
-    fn remove_dir_all<B: Allocator>(&self, alloc: B, path: &str) -> io::Result<()> {
-        self.rt.remove_dir_all(alloc, path)
-    }
-
-    fn canonicalize<B: Allocator>(&self, alloc: B, path: &str) -> io::Result<PathBuf<B>> {
-        self.rt.canonicalize(alloc, path)
+        SystemFile { file, meter }
     }
 }
 
@@ -114,6 +94,22 @@ impl SystemFile {
             meter.count(bytes, word);
         }
     }
+
+    /// Gives the file these permissions.
+    ///
+    /// # Errors
+    /// Fails as the call of the system does.
+    pub fn set_permissions(&self, permissions: Permissions) -> io::Result<()> {
+        self.file.set_permissions(permissions)
+    }
+
+    /// Waits until the disk has what was written.
+    ///
+    /// # Errors
+    /// Fails as the call of the system does.
+    pub fn sync_all(&self) -> io::Result<()> {
+        self.file.sync_all()
+    }
 }
 
 impl Read for SystemFile {
@@ -145,33 +141,5 @@ impl Write for SystemFile {
             self.count(piece.len(), "written");
         }
         Ok(())
-    }
-}
-
-impl Seek for SystemFile {
-    fn seek(&mut self, to: SeekFrom) -> io::Result<u64> {
-        self.file.seek(to)
-    }
-}
-
-impl OpenFile for SystemFile {
-    fn metadata(&self) -> io::Result<Metadata> {
-        self.file.metadata()
-    }
-
-    fn set_len(&self, size: u64) -> io::Result<()> {
-        self.file.set_len(size)
-    }
-
-    fn sync_all(&self) -> io::Result<()> {
-        self.file.sync_all()
-    }
-
-    fn sync_data(&self) -> io::Result<()> {
-        self.file.sync_data()
-    }
-
-    fn set_permissions(&self, perm: Permissions) -> io::Result<()> {
-        self.file.set_permissions(perm)
     }
 }

@@ -5,7 +5,7 @@ use crate::commands::{self, Streams};
 use crate::looks::{self, Look};
 use crate::packages::{self, PackageCall};
 use crate::session::Session;
-use crate::{devices, summaries};
+use crate::{devices, recoding, summaries};
 use std::alloc::Global;
 use transcripts_queries::cells::{self, CellCall};
 use transcripts_queries::evaluation::{self, QueryCall};
@@ -43,6 +43,8 @@ enum Call {
     Pool,
     /// Makes a call on the property set.
     Properties,
+    /// Keeps streams in UTF-8.
+    Recode,
     /// Prints how many calls the device got that was closed last.
     Calls,
     /// Prints how many writes it got.
@@ -55,7 +57,7 @@ enum Call {
 }
 
 /// Each call by its name.
-static CALLS: [(&str, Call); 106] = [
+static CALLS: [(&str, Call); 112] = [
     ("device", Call::Package(PackageCall::Device)),
     ("create", Call::Package(PackageCall::Create)),
     ("open", Call::Package(PackageCall::Open)),
@@ -125,6 +127,8 @@ static CALLS: [(&str, Call); 106] = [
     ("msidb_moving", Call::Command(Streams::Moving)),
     ("decode", Call::Text(TextCall::Decode)),
     ("encode", Call::Text(TextCall::Encode)),
+    ("read_page", Call::Text(TextCall::ReadPage)),
+    ("write_page", Call::Text(TextCall::WritePage)),
     ("carries", Call::Text(TextCall::Carries)),
     ("page", Call::Text(TextCall::Page)),
     ("category", Call::Text(TextCall::Category)),
@@ -137,6 +141,7 @@ static CALLS: [(&str, Call); 106] = [
     ("print_error", Call::Text(TextCall::Error)),
     ("pool", Call::Pool),
     ("properties", Call::Properties),
+    ("recode", Call::Recode),
     ("calls", Call::Calls),
     ("writes", Call::Writes),
     ("print_value", Call::Cells(CellCall::PrintValue)),
@@ -149,6 +154,9 @@ static CALLS: [(&str, Call); 106] = [
     ("read_rows", Call::Cells(CellCall::ReadRows)),
     ("sort_rows", Call::Cells(CellCall::SortRows)),
     ("select_given", Call::Cells(CellCall::SelectGiven)),
+    ("differences", Call::Cells(CellCall::Differences)),
+    ("read_archive", Call::Cells(CellCall::ReadArchive)),
+    ("write_archive", Call::Cells(CellCall::WriteArchive)),
     ("column", Call::Table(TableCall::Column)),
     ("type_bits", Call::Table(TableCall::TypeBits)),
     ("column_of_bits", Call::Table(TableCall::ColumnOfBits)),
@@ -228,6 +236,7 @@ fn make_other(
         Call::Look(look) => return looks::print(alloc, session.package()?, look, words, answer),
         Call::Pool => return pools::make(alloc, &mut session.stock, words, answer),
         Call::Properties => return summaries::make(alloc, session, words, answer),
+        Call::Recode => return recoding::make(alloc, &mut session.stock.kept, words, answer),
         Call::OnDevice => return devices::make(alloc, session, words, answer),
         Call::Bytes(call) => {
             return containers::make(alloc, &mut session.stock.kept, call, words, answer);

@@ -1,7 +1,7 @@
 //! Calls that change a package.
 
 use msi::{Error, Package};
-use msi_container_tests::counting::Counting;
+use msi_tests::counting::Counting;
 use std::alloc::Global;
 use transcripts_queries::columns::columns;
 use transcripts_queries::queries::{delete, insert, update};

@@ -1,7 +1,7 @@
 //! Calls that look at a package.
 
 use msi::{Error, Package, Rows, Streams, Tables};
-use msi_container_tests::counting::Counting;
+use msi_tests::counting::Counting;
 use std::alloc::Global;
 use std::io::Read;
 use transcripts_queries::columns::print_columns;

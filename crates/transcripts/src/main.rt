@@ -13,6 +13,7 @@ mod devices;
 mod looks;
 mod packages;
 mod pictures;
+mod recoding;
 mod session;
 mod summaries;
 mod transcript;
@@ -23,12 +24,6 @@ use std::{env, fs};
 use transcripts_words::failure::Failure;
 use transcripts_words::lines::lines;
 use transcripts_words::reports::Report;
-
-/// Runs the tests that are functions, and returns whether all found what they look for.
-fn run_functions(rt: &HostRuntime) -> bool {
-    let are_shown = msi_container_tests::run(rt);
-    are_shown & msi_tests::run(rt)
-}
 
 /// Runs the transcript in a file, and returns whether each answer is as expected. A transcript without answers isn't.
 fn run_file(rt: &HostRuntime, file: &str, is_trial: bool) -> Result<bool, Failure> {
@@ -64,7 +59,7 @@ fn run(rt: &HostRuntime) -> Result<u8, Failure> {
     };
     let are_expected = match verb.as_str() {
         "check" => {
-            let are_shown = run_functions(rt);
+            let are_shown = msi_tests::run(rt);
             run_files(rt, files, false)? && are_shown
         }
         "trials" => run_files(rt, files, true)?,

@@ -2,7 +2,7 @@
 
 use crate::session::Session;
 use msi::{Error, Package, PackageType};
-use msi_container_tests::counting::Counting;
+use msi_tests::counting::Counting;
 use std::alloc::Global;
 use transcripts_words::failure::Failure;
 use transcripts_words::kept::pieces;

@@ -2,7 +2,7 @@
 
 use crate::session::Session;
 use msi::{Package, Select, Streams, Table};
-use msi_container_tests::counting::Counting;
+use msi_tests::counting::Counting;
 use std::alloc::Global;
 use std::io::Read;
 use transcripts_queries::queries::print_rows;

@@ -1,7 +1,7 @@
 //! What the calls of a transcript work on.
 
 use msi::Package;
-use msi_container_tests::counting::Counting;
+use msi_tests::counting::Counting;
 use std::alloc::Global;
 use std::io;
 use transcripts_texts::stock::Stock;

@@ -1,6 +1,6 @@
 -- Tables that are given with a call, as queries see them.
 use Rattle.std.specs.Prelude.{Some}
-use Rattle.msi_query_joins.specs.Rows.{TableCells}
+use Rattle.msi_table_values.specs.TableCells.{TableCells}
 use Rattle.transcripts_queries.specs.declared.given.Kept.{Kept}
 
 -- a table's columns and rows

@@ -1,11 +1,20 @@
 //! Calls on values, and on rows of cells.
 
+use crate::archives::{read_archive, write_archive};
 use crate::columns::columns;
 use crate::given::select_given;
 use crate::values::{rows, value};
-use msi_table::parts::{self, fits_table, sort_by_keys};
-use msi_table::{Column, Table, Value, ValueRef};
-use msi_text::{CodePage, Error, IntoText, Items, LanguageId, StringPool};
+use msi_compare::differences;
+use msi_table::Table;
+use msi_table::parts::{self, fits_table};
+use msi_table_order::order::sort_by_keys;
+use msi_table_values::column::Column;
+use msi_table_values::value::{Value, ValueRef};
+use msi_text::LanguageId;
+use msi_text::stringpool::StringPool;
+use msi_text_base::codepage::CodePage;
+use msi_text_base::errors::Error;
+use msi_text_base::text::{IntoText, Items};
 use std::alloc::Global;
 use transcripts_texts::summary::{languages, uuid};
 use transcripts_words::answers::Answer;
@@ -36,6 +45,12 @@ pub enum CellCall {
     SortRows,
     /// Prints what a query selects from two tables.
     SelectGiven,
+    /// Prints the differences between the rows of two tables.
+    Differences,
+    /// Prints the text archive that a text means.
+    ReadArchive,
+    /// Prints the text of a text archive.
+    WriteArchive,
 }
 
 /// Makes a call on values or rows of cells, and prints its answer. Fails if the call is refused, and if memory runs
@@ -59,6 +74,9 @@ pub fn make(
         CellCall::ReadRows => return read_rows(alloc, kept, answer, words),
         CellCall::SelectGiven => select_given(alloc, answer, words)?,
         CellCall::SortRows => sort_rows(alloc, answer, words)?,
+        CellCall::Differences => print_differences(alloc, answer, words)?,
+        CellCall::ReadArchive => read_archive(alloc, answer, words),
+        CellCall::WriteArchive => write_archive(alloc, answer, words)?,
     }
     Ok(())
 }
@@ -195,7 +213,7 @@ pub(crate) fn row_cells(
 }
 
 /// Reads rows, and returns their cells, whose texts the pool takes.
-fn cells(
+pub(crate) fn cells(
     alloc: Global,
     pool: &mut StringPool,
     words: &mut Words,
@@ -229,7 +247,7 @@ pub(crate) fn print_cells(
 }
 
 /// Prints the values of a row.
-fn print_values(answer: &mut Answer, values: &[Value]) {
+pub(crate) fn print_values(answer: &mut Answer, values: &[Value]) {
     let mut before = "";
     for value in values {
         write!(answer, "{before}{value}");
@@ -293,4 +311,25 @@ fn print_sorted(
 ) -> Result<(), Error> {
     sort_by_keys(columns, pool, &mut rows)?;
     print_cells(alloc, answer, pool, rows.as_slice())
+}
+
+/// Prints the differences between the rows of two tables, each as a line.
+fn print_differences(alloc: Global, answer: &mut Answer, words: &mut Words) -> Result<(), Error> {
+    let columns = columns(alloc, words)?;
+    let old = rows_of_values(alloc, words)?;
+    words.expect("and");
+    let new = rows_of_values(alloc, words)?;
+    for difference in differences(alloc, columns.as_slice(), old.as_slice(), new.as_slice())? {
+        writeln!(answer, "{difference:?}");
+    }
+    Ok(())
+}
+
+/// Reads rows of values.
+pub(crate) fn rows_of_values(alloc: Global, words: &mut Words) -> Result<Vec<Items<Value>>, Error> {
+    let mut all = Vec::new(alloc);
+    for row in rows(alloc, words)? {
+        all.push(Items::from_vec(row))?;
+    }
+    Ok(all)
 }

@@ -1,7 +1,7 @@
 //! Reads columns, and prints them.
 
-use msi_table::{Column, ColumnBuilder};
-use msi_text::Error;
+use msi_table_values::column::{Column, ColumnBuilder};
+use msi_text_base::errors::Error;
 use std::alloc::Global;
 use transcripts_texts::texts::category;
 use transcripts_words::answers::Answer;
@@ -162,7 +162,7 @@ pub(crate) fn print_column(answer: &mut Answer, column: &Column) {
 }
 
 /// Prints the word of a flag that is set.
-fn print_flag(answer: &mut Answer, is_set: bool, word: &str) {
+pub(crate) fn print_flag(answer: &mut Answer, is_set: bool, word: &str) {
     if is_set {
         answer.push_str(word);
     }

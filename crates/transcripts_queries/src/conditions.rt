@@ -1,8 +1,8 @@
 //! Reads expressions, such as `Number > 1 AND Word = "Two"`, in which blanks stand around each operator.
 
-use msi_query::Expr;
+use msi_query_expressions::expr::Expr;
 use msi_query_parse::{Parse, ParseError};
-use msi_text::Error;
+use msi_text_base::errors::Error;
 use std::alloc::{AllocError, Global};
 use transcripts_words::tokens::{Mark, Token};
 use transcripts_words::words::Words;

@@ -4,17 +4,19 @@ ghost use Rattle.std.specs.Prelude.{◌≡◌, IfOk, Ok, Some, bytes_eq, codes, 
 ghost use Rattle.msi_text_base.specs.Results.{OnlyMemory};
 ghost use Rattle.transcripts_queries.specs.Given.{cells_of};
 
-use crate::cells::{print_cells, row_cells};
+use crate::cells::{cells, print_cells};
 use crate::columns::columns;
 use crate::queries::{print_names, select};
-use crate::values::row;
 use msi_query_rows::{Relation, Tables};
-use msi_table::parts::copied_columns;
-use msi_table::{Column, ValueRef};
-use msi_text::{CodePage, Error, IntoText, Items, StringPool};
+use msi_table_values::column::Column;
+use msi_table_values::parts::copied_columns;
+use msi_table_values::value::ValueRef;
+use msi_text::stringpool::StringPool;
+use msi_text_base::codepage::CodePage;
+use msi_text_base::errors::Error;
+use msi_text_base::text::{IntoText, Items};
 use std::alloc::Global;
 use transcripts_words::answers::Answer;
-use transcripts_words::tokens::{Mark, Token};
 use transcripts_words::words::Words;
 
 /// The columns and the rows of a table.
@@ -87,26 +89,10 @@ impl Tables for Both {
     }
 }
 
-/// Reads rows of cells, whose texts the pool takes.
-fn read_rows(
-    alloc: Global,
-    pool: &mut StringPool,
-    words: &mut Words,
-) -> Result<Vec<Items<ValueRef>>, Error> {
-    let mut rows = Vec::new(alloc);
-    for _ in 0..words.len() {
-        if !matches!(words.peek(), Some(Token::Mark(Mark::Open))) {
-            break;
-        }
-        rows.push(row_cells(alloc, pool, row(alloc, words, 0)?)?)?;
-    }
-    Ok(rows)
-}
-
 /// Reads the columns and the rows of a table, whose texts the pool takes.
 fn read_table(alloc: Global, pool: &mut StringPool, words: &mut Words) -> Result<Kept, Error> {
     let columns = Items::from_vec(columns(alloc, words)?);
-    let rows = read_rows(alloc, pool, words)?;
+    let rows = cells(alloc, pool, words)?;
     Ok(Kept { columns, rows })
 }
 

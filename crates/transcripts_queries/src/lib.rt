@@ -1,6 +1,7 @@
 //! The calls of transcripts on values, columns, rows and queries, which need no package.
 #![tactic(auto)]
 
+mod archives;
 pub mod cells;
 pub mod columns;
 pub mod conditions;

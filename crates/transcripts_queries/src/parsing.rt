@@ -1,6 +1,6 @@
 //! Reads queries and expressions from texts, and prints what was read as the library does.
 
-use msi_query::Expr;
+use msi_query_expressions::expr::Expr;
 use msi_query_parse::{Parse, ParseError, Statement};
 use std::alloc::{AllocError, Global};
 use transcripts_words::answers::Answer;

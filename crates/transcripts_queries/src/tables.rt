@@ -3,9 +3,10 @@
 use crate::cells::table;
 use crate::columns::{column, print_column, print_columns};
 use crate::values::value;
-use msi_table::parts::{column_index, column_of_bits, nullable, renamed, type_bits};
-use msi_table::{Column, ColumnType, Table};
-use msi_text::Error;
+use msi_table::Table;
+use msi_table_values::column::{Column, ColumnType};
+use msi_table_values::parts::{column_index, column_of_bits, nullable, renamed, type_bits};
+use msi_text_base::errors::Error;
 use std::alloc::Global;
 use transcripts_words::answers::Answer;
 use transcripts_words::failure::Failure;

@@ -1,9 +1,9 @@
 //! Reads values and rows.
 
-use msi_table::Value;
-use msi_text::Error;
+use msi_table_values::value::Value;
+use msi_text_base::errors::Error;
 use std::alloc::{AllocError, Global};
-use transcripts_words::tokens::Token;
+use transcripts_words::tokens::{Mark, Token};
 use transcripts_words::words::Words;
 
 /// A value that a word stands for.
@@ -75,14 +75,15 @@ pub(crate) fn row(alloc: Global, words: &mut Words, number: i32) -> Result<Vec<V
     Ok(values)
 }
 
-/// Reads rows: `(1, "One") (2, "Two")`, or one for each of some numbers: `for 0..50 (number, letter)`.
+/// Reads rows up to what is none: `(1, "One") (2, "Two")`, or one for each of some numbers:
+/// `for 0..50 (number, letter)`.
 pub(crate) fn rows(alloc: Global, words: &mut Words) -> Result<Vec<Vec<Value>>, Error> {
     if words.takes("for") {
         return numbered_rows(alloc, words);
     }
     let mut rows = Vec::new(alloc);
     for _ in 0..words.len() {
-        if words.len() == 0 {
+        if !matches!(words.peek(), Some(Token::Mark(Mark::Open))) {
             break;
         }
         rows.push(row(alloc, words, 0)?)?;

@@ -3,7 +3,8 @@
 use crate::stock::Stock;
 use crate::texts::codepage;
 use msi_text::parts::{forget_texts, incref_widening, string_ref};
-use msi_text::{Error, StringPool, StringPoolBuilder, StringRef};
+use msi_text::stringpool::{StringPool, StringPoolBuilder, StringRef};
+use msi_text_base::errors::Error;
 use std::alloc::{AllocError, Global};
 use transcripts_words::answers::Answer;
 use transcripts_words::failure::Failure;

@@ -2,8 +2,10 @@
 
 use crate::stock::Stock;
 use crate::texts::codepage;
-use msi_summary::{OperatingSystem, PropertySet, PropertyValue};
-use msi_text::{Error, IntoText, Timestamp};
+use msi_summary_properties::propset::{OperatingSystem, PropertySet, PropertyValue};
+use msi_text::Timestamp;
+use msi_text_base::errors::Error;
+use msi_text_base::text::IntoText;
 use std::alloc::Global;
 use transcripts_words::answers::Answer;
 use transcripts_words::failure::Failure;

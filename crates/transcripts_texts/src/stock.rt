@@ -1,7 +1,7 @@
 //! What calls that need no package work on.
 
-use msi_summary::PropertySet;
-use msi_text::StringPool;
+use msi_summary_properties::propset::PropertySet;
+use msi_text::stringpool::StringPool;
 use std::alloc::Global;
 use transcripts_words::failure::Failure;
 use transcripts_words::kept::Kept;

@@ -2,7 +2,8 @@
 
 use crate::texts::codepage;
 use msi_summary::SummaryInfo;
-use msi_text::{Error, LanguageId, Timestamp};
+use msi_text::{LanguageId, Timestamp};
+use msi_text_base::errors::Error;
 use std::alloc::{AllocError, Global};
 use transcripts_words::answers::Answer;
 use transcripts_words::failure::Failure;

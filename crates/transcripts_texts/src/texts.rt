@@ -1,7 +1,10 @@
 //! Calls on code pages, categories, languages, times and errors, which need no package.
 
 use msi_text::reasons::{MEMORY, PAGE_BYTE};
-use msi_text::{Category, CodePage, Error, ErrorKind, LanguageId, Reason, Timestamp};
+use msi_text::{Category, LanguageId, Timestamp};
+use msi_text_base::codepage::CodePage;
+use msi_text_base::errors::{Error, ErrorKind, Reason};
+use msi_text_pages::Page;
 use std::alloc::Global;
 use std::fmt;
 use transcripts_words::answers::Answer;
@@ -16,6 +19,10 @@ pub enum TextCall {
     Decode,
     /// Prints the bytes of a text in a code page.
     Encode,
+    /// Prints the text of bytes in a page with a table of its own.
+    ReadPage,
+    /// Prints the bytes of a text in such a page.
+    WritePage,
     /// Prints whether a code page can carry a text.
     Carries,
     /// Prints the id and the name of a code page.
@@ -49,6 +56,8 @@ pub fn print(
     match call {
         TextCall::Decode => decode(alloc, kept, words, answer),
         TextCall::Encode => encode(alloc, words, answer),
+        TextCall::ReadPage => read_page(alloc, kept, words, answer),
+        TextCall::WritePage => write_page(alloc, words, answer),
         TextCall::Language => language(words, answer),
         TextCall::ReadMoment => read_moment(alloc, kept, words, answer),
         TextCall::WriteMoment => write_moment(alloc, words, answer),
@@ -112,6 +121,47 @@ fn encode(alloc: Global, words: &mut Words, answer: &mut Answer) -> Result<(), F
     let bytes = page.encode(alloc, words.name())?;
     print_bytes(answer, bytes.as_slice());
     Ok(())
+}
+
+/// Reads the number of a page that has a table of its own.
+fn tabled_page(words: &mut Words) -> Page {
+    let page = Page::of(words.number());
+    words.spelled(page, Page::Windows932, "the page has no table of its own")
+}
+
+/// Prints the text of bytes in such a page, or how many of them stand before a sequence that stands for no character.
+fn read_page(
+    alloc: Global,
+    kept: &Kept,
+    words: &mut Words,
+    answer: &mut Answer,
+) -> Result<(), Failure> {
+    let decoder = tabled_page(words).decoder(alloc)?;
+    let bytes = pieces(alloc, kept, words)?;
+    match decoder.decode(alloc, bytes.as_slice()) {
+        Ok(text) => write!(answer, "{:?}", text.as_str()),
+        Err(error) => print_refusal(answer, &error, decoder.first_unmapped(bytes.as_slice())),
+    }
+    Ok(())
+}
+
+/// Prints the bytes of a text in such a page, or how many characters stand before one that the page lacks.
+fn write_page(alloc: Global, words: &mut Words, answer: &mut Answer) -> Result<(), Failure> {
+    let encoder = tabled_page(words).encoder(alloc)?;
+    let text = words.name();
+    match encoder.encode(alloc, text) {
+        Ok(bytes) => print_bytes(answer, bytes.as_slice()),
+        // What is refused isn't carried.
+        Err(_error) if encoder.carries(text) => answer.push_str("carried"),
+        Err(error) => print_refusal(answer, &error, encoder.first_missing(text)),
+    }
+    Ok(())
+}
+
+/// Prints the kind of an error, and the place where it is.
+fn print_refusal(answer: &mut Answer, error: &Error, place: Option<usize>) {
+    write!(answer, "{} at ", error.kind());
+    answer.push_option(place);
 }
 
 /// Reads the id of a page that may be unknown, or `default`.

@@ -132,6 +132,8 @@ impl Lexer {
                 Ok(())
             }
             'n' => self.push('\n', Place::Text),
+            'r' => self.push('\r', Place::Text),
+            't' => self.push('\t', Place::Text),
             '0' => self.push('\0', Place::Text),
             _ => self.push(c, Place::Text),
         }

@@ -6,8 +6,8 @@ ghost use Rattle.msi_query.specs.Queries.{narrowed as narrowed_by, no_clauses};
 
 use super::narrowed;
 use msi_query_expressions::Expr;
-use msi_text::errors::Error;
-use msi_text::text::{Items, Text};
+use msi_text_base::errors::Error;
+use msi_text_base::text::{Items, Text};
 use std::alloc::Global;
 use std::marker::Model;
 

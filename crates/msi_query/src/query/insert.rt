@@ -8,10 +8,10 @@ ghost use Rattle.msi_query.specs.Utf8Queries.{IsUtf8Insert};
 
 use super::printing::write_list;
 use super::texts::look_at_rows;
-use msi_table::value::Value;
-use msi_text::errors::Error;
-use msi_text::laws::texts_are_utf8;
-use msi_text::text::{IntoText, Items, Text};
+use msi_table_values::value::Value;
+use msi_text_base::errors::Error;
+use msi_text_base::laws::texts_are_utf8;
+use msi_text_base::text::{IntoText, Items, Text};
 use std::alloc::Global;
 use std::fmt;
 use std::marker::Model;

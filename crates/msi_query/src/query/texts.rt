@@ -13,8 +13,8 @@ use super::select::SelectTree;
 use super::update::Assignment;
 use msi_query_expressions::Expr;
 use msi_query_expressions::laws::expression_texts_are_utf8;
-use msi_table::laws::{listed_texts_are_utf8, listed_values_are_utf8, value_texts_are_utf8};
-use msi_text::laws::texts_are_utf8;
+use msi_table_values::laws::{listed_texts_are_utf8, listed_values_are_utf8, value_texts_are_utf8};
+use msi_text_base::laws::texts_are_utf8;
 
 /// Looks at each text of a condition, which is UTF-8.
 pub(crate) fn look_at_condition(condition: Option<&Expr>)

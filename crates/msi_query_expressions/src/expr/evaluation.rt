@@ -8,9 +8,9 @@ ghost use Rattle.msi_query_expressions.specs.Trees.{tree_has_sum, tree_value};
 use super::Tree;
 use super::column_values::ColumnValues;
 use msi_query_operators::parts::{Operand, binary_value, unary_value};
-use msi_table::parts::ValueView;
-use msi_table::value::Value;
-use msi_text::errors::Error;
+use msi_table_values::parts::ValueView;
+use msi_table_values::value::Value;
+use msi_text_base::errors::Error;
 use std::alloc::Global;
 
 /// The value where a row gives the values of columns. No text of the row is copied, but where texts are joined.

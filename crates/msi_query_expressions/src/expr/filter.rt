@@ -15,12 +15,12 @@ ghost use Rattle.msi_query_expressions.specs.Trees.{expression_of, tree_has_sum,
 use super::column_values::ColumnValues;
 use super::evaluation::operand_of;
 use super::{Expr, Tree};
-use msi_table::column::Column;
-use msi_table::parts::{ValueView, column_index};
-use msi_table::value::{Value, ValueRef};
-use msi_text::errors::Error;
+use msi_table_values::column::Column;
+use msi_table_values::parts::{ValueView, column_index};
+use msi_table_values::value::{Value, ValueRef};
 use msi_text::stringpool::StringPool;
-use msi_text::text::Text;
+use msi_text_base::errors::Error;
+use msi_text_base::text::Text;
 use std::alloc::Global;
 use std::marker::Model;
 

@@ -7,9 +7,9 @@ ghost use Rattle.msi_query_expressions.specs.Trees.{expression_of};
 
 use super::{BinaryOp, Tree, UnaryOp};
 use msi_query_operators::parts::{Operand, binary_value, unary_value};
-use msi_table::parts::ValueView;
-use msi_text::errors::Error;
-use msi_text::text::Text;
+use msi_table_values::parts::ValueView;
+use msi_text_base::errors::Error;
+use msi_text_base::text::Text;
 use std::alloc::Global;
 
 /// An operator over one tree; a literal folds.

@@ -9,10 +9,10 @@ ghost use Rattle.msi_query_expressions.specs.Names.{has_name};
 ghost use Rattle.msi_query_expressions.specs.Trees.{expression_of};
 
 use super::Tree;
-use msi_table::column::Column;
-use msi_table::parts::has_column;
-use msi_text::errors::Error;
-use msi_text::text::Text;
+use msi_table_values::column::Column;
+use msi_table_values::parts::has_column;
+use msi_text_base::errors::Error;
+use msi_text_base::text::Text;
 use std::collections::HashSet;
 
 /// Adds the names in a tree to a set.

@@ -8,8 +8,8 @@ ghost use Rattle.uuid.specs.Text.{parsed};
 
 use crate::summary::SummaryInfo;
 use msi_summary_properties::PropertyValue;
-use msi_text::errors::Error;
 use msi_text::parts::braced_uuid;
+use msi_text_base::errors::Error;
 use uuid::Uuid;
 
 const UUID: u32 = 9;

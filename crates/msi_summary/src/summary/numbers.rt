@@ -8,7 +8,7 @@ ghost use Rattle.msi_summary.specs.Summary.{number_with_id, number_id, with_numb
 ghost use Rattle.msi_summary.specs.Summary as property;
 
 use crate::summary::SummaryInfo;
-use msi_text::errors::Error;
+use msi_text_base::errors::Error;
 
 const PAGE_COUNT: u32 = 14;
 

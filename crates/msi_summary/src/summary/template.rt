@@ -10,10 +10,10 @@ ghost use Rattle.msi_summary.specs.Summary.{arch_of, is_comma, is_semicolon, lan
 ghost use Rattle.msi_summary.specs.Summary.{with_arch, with_languages, with_template};
 
 use crate::summary::SummaryInfo;
-use msi_text::errors::Error;
 use msi_text::language::LanguageId;
 use msi_text::parts::language_list;
-use msi_text::text::IntoText;
+use msi_text_base::errors::Error;
+use msi_text_base::text::IntoText;
 use std::alloc::Global;
 
 const TEMPLATE: u32 = 7;

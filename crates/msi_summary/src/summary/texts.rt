@@ -9,8 +9,8 @@ ghost use Rattle.msi_summary.specs.Summary.{text_with_id, text_id, with_text};
 ghost use Rattle.msi_summary.specs.Summary as property;
 
 use crate::summary::SummaryInfo;
-use msi_text::errors::Error;
-use msi_text::text::IntoText;
+use msi_text_base::errors::Error;
+use msi_text_base::text::IntoText;
 
 const TITLE: u32 = 2;
 

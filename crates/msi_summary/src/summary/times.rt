@@ -8,8 +8,8 @@ ghost use Rattle.msi_summary.specs.Summary.{time_with_id, time_id, with_time};
 ghost use Rattle.msi_summary.specs.Summary as property;
 
 use crate::summary::SummaryInfo;
-use msi_text::errors::Error;
 use msi_text::timestamp::Timestamp;
+use msi_text_base::errors::Error;
 
 const LAST_PRINTED: u32 = 11;
 

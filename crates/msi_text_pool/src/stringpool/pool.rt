@@ -5,9 +5,9 @@ ghost use Rattle.std.specs.Prelude.{true};
 ghost use Rattle.std.specs.Prelude.{string_bytes, ◌≤◌, vec_len};
 ghost use Rattle.std.specs.Option.{option_copied};
 ghost use Rattle.msi_text_pool_base.specs.Pool.{CountsFit, newly_indexed, unindexed, without_unnamed_texts};
-ghost use Rattle.msi_text_places.specs.FirstFit.{taken, given_back, is_long_with};
-ghost use Rattle.msi_text_places.specs.FirstFitLaws.{Holds, place_at, text_at, count_at};
-ghost use Rattle.msi_text_places.specs.Recounting.{AreCounts, many_recounted, with_counts};
+ghost use Rattle.msi_text_pool_base.specs.FirstFit.{taken, given_back, is_long_with};
+ghost use Rattle.msi_text_pool_base.specs.FirstFitLaws.{Holds, place_at, text_at, count_at};
+ghost use Rattle.msi_text_pool_base.specs.Recounting.{AreCounts, many_recounted, with_counts};
 ghost use Rattle.msi_text_base.specs.Results.{OnlyMemory};
 ghost use Rattle.msi_text_base.specs.declared.errors.ErrorKind.TheVariants.{InvalidData, InvalidInput, OutOfMemory};
 

@@ -4,7 +4,7 @@ ghost use Rattle.std.specs.Prelude.{◌≡◌, ◌⊎◌, ◌<◌, ◌≤◌, po
 ghost use Rattle.std.specs.Prelude.{IsErrOf};
 ghost use Rattle.std.specs.Io.KnownBytes.{Appends};
 ghost use Rattle.msi_text_base.specs.Faults.{AppendsPart, HasFewer};
-ghost use Rattle.msi_text_pool.specs.References.{ReadsReference, fits_reference, reference_bytes, reference_width};
+ghost use Rattle.msi_text_pool_base.specs.References.{ReadsReference, fits_reference, reference_bytes, reference_width};
 ghost use Rattle.msi_text_base.specs.declared.errors.ErrorKind.TheVariants.{InvalidData, InvalidInput, Io, OutOfMemory};
 
 use crate::reasons;

@@ -1,8 +1,8 @@
 //! Giving a package a summary.
 
 use crate::properties::{clear_property, set_property};
-use msipkg_output::msi::{Error, Package, SummaryInfo};
-use msipkg_output::{Failure, Opened, PROPERTIES};
+use msipkg_files::output::msi::{Error, Package, SummaryInfo};
+use msipkg_files::output::{Failure, Opened, PROPERTIES};
 use msipkg_reading::GivenProperty;
 use std::alloc::{AllocError, Global};
 

@@ -2,7 +2,7 @@ use Rattle.std.proofs.Common.{◌≡◌, Some, refl, rules, subst}
 use Rattle.std.specs.Vec.Iter.{into_iter_items}
 use Rattle.msi_text_base.specs.declared.errors.ErrorKind.TheVariants.{InvalidInput}
 use Rattle.msi_text_pool_base.specs.Pool.{Pool}
-use Rattle.msi_text.specs.Refusals.{IsRefusal, or_refused}
+use Rattle.msi_text_base.specs.Refusals.{IsRefusal, or_refused}
 use Rattle.msi_database_storage.specs.Streams.{Streams}
 use Rattle.msi_streams.specs.Renewing.{renewed_over, with_renewed}
 use Rattle.msi.specs.Flushing.{Overwrites, root_contents, told, unwritten_of}

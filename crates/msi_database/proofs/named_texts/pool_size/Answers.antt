@@ -1,5 +1,5 @@
 use Rattle.std.proofs.Common.{◌<◌, ◌+◌, ◌-◌, ◌^◌, ◌∙◌, List, ℕ, min, length, ap, arith}
-use Rattle.msi_text_places.specs.FirstFitLaws.{text_at}
+use Rattle.msi_text_pool_base.specs.FirstFitLaws.{text_at}
 use Rattle.msi_database.proofs.NamedTextsLemmas.{size_more}
 use Rattle.msi_database.proofs.named_texts.pool_size.Goals as goal
 

@@ -1,5 +1,5 @@
 use Rattle.std.proofs.Common.{◌≡◌, ◌∙◌, ◌+◌, ap, sym, length, arith, false, cond}
-use Rattle.msi_text_places.proofs.RecountingLemmas.{changed_before-more, set_before-more}
+use Rattle.msi_text_pool_base.proofs.RecountingLemmas.{changed_before-more, set_before-more}
 use Rattle.msi_text_places.proofs.places.set_counts.Goals as goal
 use Rattle.msi_text_places.proofs.places.set_counts.Goals.{then-set_count, else-set_count}
 

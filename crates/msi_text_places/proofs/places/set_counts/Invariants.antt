@@ -1,5 +1,5 @@
 use Rattle.std.proofs.Common.{◌≡◌}
-use Rattle.msi_text_places.proofs.RecountingLemmas.{changed_before, set_before}
+use Rattle.msi_text_pool_base.proofs.RecountingLemmas.{changed_before, set_before}
 use Rattle.msi_text_places.proofs.places.set_counts.Given as goal
 
 abbrev pub invariant-loop-i : goal.invariant-loop-i

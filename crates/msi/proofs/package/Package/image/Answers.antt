@@ -3,7 +3,7 @@ use Rattle.std.specs.Prelude.{IfErr, IfOk, Ok}
 use Rattle.msi_text_base.specs.declared.errors.ErrorKind.TheVariants.{InvalidInput}
 use Rattle.msi_text_pool_base.specs.Pool.{Pool}
 use Rattle.msi_container_write.specs.Borrowed.{contents_of}
-use Rattle.msi_text.specs.Refusals.{IsRefusal, or_refused}
+use Rattle.msi_text_base.specs.Refusals.{IsRefusal, or_refused}
 use Rattle.msi_database_storage.specs.Streams.{Streams}
 use Rattle.std.specs.FinMap.{entries}
 use Rattle.std.specs.Vec.Iter.{into_iter_items}

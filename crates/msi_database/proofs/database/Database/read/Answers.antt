@@ -4,7 +4,7 @@ use Rattle.std.specs.FinMap.{entries}
 use Rattle.msi_text_pool_base.specs.Pool.{Pool, unindexed}
 use Rattle.msi_table_values.specs.declared.value.ValueRef.{ValueRef}
 use Rattle.msi_table.specs.Tables.{TableDef}
-use Rattle.msi_text.proofs.RefusalLemmas.{err_passed}
+use Rattle.msi_text_base.proofs.RefusalLemmas.{err_passed}
 use Rattle.msi_table.specs.Census.{IsCensus}
 use Rattle.msi_database_schema.specs.System.{validation_name}
 use Rattle.msi_database_storage.specs.Kept.{AreAsLong, kept_of, table_kept, table_kept_at}

@@ -1,7 +1,7 @@
 use Rattle.std.proofs.Common.{◌≡◌, ap, sym, ◌∙◌, inr, Err, Some}
 use Rattle.msi_text_pool_base.specs.Pool.{unindexed}
 use Rattle.std.specs.FinMap.{entries}
-use Rattle.msi_text.proofs.RefusalLemmas.{err_passed}
+use Rattle.msi_text_base.proofs.RefusalLemmas.{err_passed}
 use Rattle.msi_database_storage.specs.Kept.{table_kept_at}
 use Rattle.msi_database.specs.Listed.{rows_at}
 use Rattle.msi_database.proofs.WholeLemmas.{read_errs, read_first, read_refused, relation_at, whole_ok, whole_refused}

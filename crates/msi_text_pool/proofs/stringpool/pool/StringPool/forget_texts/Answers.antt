@@ -1,7 +1,7 @@
 use Rattle.std.proofs.Common.{◌≡◌, ap, sym, ◌∙◌, subst, length, arith}
 use Rattle.msi_text_pool_base.specs.Pool.{CountsFit}
 use Rattle.msi_text_places.specs.Indexing.{places_of}
-use Rattle.msi_text_places.proofs.CountLemmas.{CountsFit-without}
+use Rattle.msi_text_pool_base.proofs.CountLemmas.{CountsFit-without}
 use Rattle.msi_text_places.proofs.PlaceIndexLemmas.{length-forgotten}
 use Rattle.msi_text_pool.proofs.stringpool.pool.StringPool.forget_texts.Goals as goal
 

@@ -1,8 +1,8 @@
 use Rattle.std.proofs.Common.{◌+◌, ap, option_map, string_bytes}
 use Rattle.msi_text_places.specs.Indexing.{places_of}
-use Rattle.msi_text_places.proofs.CountLemmas.{taken_in_range}
+use Rattle.msi_text_pool_base.proofs.CountLemmas.{taken_in_range}
 use Rattle.msi_text_places.proofs.IndexedFitLemmas.{taken_most}
-use Rattle.msi_text_places.proofs.TakenLemmas.{taken_takes}
+use Rattle.msi_text_pool_base.proofs.TakenLemmas.{taken_takes}
 use Rattle.msi_text_pool.proofs.stringpool.pool.StringPool.incref.Goals as goal
 
 pub invariant_of-self-2 : goal.invariant_of-self-2

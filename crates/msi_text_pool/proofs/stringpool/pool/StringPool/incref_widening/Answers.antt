@@ -1,6 +1,6 @@
 use Rattle.std.proofs.Common.{◌+◌, string_bytes, true}
 use Rattle.msi_text_places.specs.Indexing.{places_of}
-use Rattle.msi_text_places.proofs.CountLemmas.{taken_in_range}
+use Rattle.msi_text_pool_base.proofs.CountLemmas.{taken_in_range}
 use Rattle.msi_text_places.proofs.IndexedFitLemmas.{taken_most}
 use Rattle.msi_text_pool.proofs.stringpool.pool.StringPool.incref_widening.Goals as goal
 

@@ -1,7 +1,7 @@
 use Rattle.std.proofs.Common.{◌≡◌, ap, sym, ◌∙◌, subst, length, arith}
 use Rattle.msi_text_pool_base.specs.Pool.{CountsFit}
 use Rattle.msi_text_places.specs.Indexing.{places_of}
-use Rattle.msi_text_places.proofs.RecountingLemmas.{CountsFit-with_counts, length-with_counts}
+use Rattle.msi_text_pool_base.proofs.RecountingLemmas.{CountsFit-with_counts, length-with_counts}
 use Rattle.msi_text_pool.proofs.stringpool.pool.StringPool.set_counts.Goals as goal
 
 pub invariant_of-self : goal.invariant_of-self

@@ -7,9 +7,9 @@ use Rattle.std.specs.Option.{option_map_or}
 use Rattle.std.proofs.lemmas.List.Quantifiers.{position-Some}
 use Rattle.std.proofs.lemmas.Option.{cond_some, some_pair_parts, slice_get-get_or, slice_get_past, gets}
 use Rattle.msi_text_pool_base.specs.Pool.{Place}
-use Rattle.msi_text_places.specs.FirstFit.{is_fit, first_fit, count_of, with_text_at, most_places, taken}
-use Rattle.msi_text_places.specs.FirstFitLaws.{text_at, Takes}
-use Rattle.msi_text_places.proofs.FirstFitLemmas.{fit_has_room, no_place}
+use Rattle.msi_text_pool_base.specs.FirstFit.{is_fit, first_fit, count_of, with_text_at, most_places, taken}
+use Rattle.msi_text_pool_base.specs.FirstFitLaws.{text_at, Takes}
+use Rattle.msi_text_pool_base.proofs.FirstFitLemmas.{fit_has_room, no_place}
 
 -- the text of a place, if there is one
 abbrev text_of : Option Place → List ℕ

@@ -3,7 +3,7 @@ use Rattle.std.proofs.Common.{◌≡◌, ℕ, zero, suc, ◌+◌, ◌<◌, Bool,
 use Rattle.std.specs.Prelude.{zip, ◌==◌}
 use Rattle.std.proofs.lemmas.List.Sums.{sum_by-cons}
 use Rattle.msi_text_pool_base.specs.Pool.{CountsFit, Place}
-use Rattle.msi_text_places.specs.Recounting.{AreCounts, many_recounted, with_count, with_counts}
+use Rattle.msi_text_pool_base.specs.Recounting.{AreCounts, many_recounted, with_count, with_counts}
 
 -- the places when those before place i were set, and how many of those got another count
 abbrev pub set_before : List ℕ → List Place → ℕ → List Place

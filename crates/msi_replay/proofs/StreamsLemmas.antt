@@ -14,7 +14,7 @@ use Rattle.msi.specs.State.{names_of, others_among}
 use Rattle.msi.proofs.AgreementLemmas.{SameStream, SameTables}
 use Rattle.msi.proofs.OtherStreamLemmas.{others_put, owned_by_summary, owned_by_pool, owned_by_texts}
 use Rattle.msi_recode.specs.Recoding.{TextStreams, with_text_streams}
-use Rattle.msi_recode_laws.specs.PackageLaws.{HaveTableNames}
+use Rattle.msi_replay.specs.PackageLaws.{HaveTableNames}
 
 -- with the pool's first stream, with both, and with all three
 abbrev pub with_entries : TextStreams → Streams → Streams

@@ -22,8 +22,8 @@ use Rattle.msi_recode.specs.SummaryRecoding.{IsSummaryRecoded}
 use Rattle.msi_recode.specs.PoolRecoding.{AreRecoded}
 use Rattle.msi_recode.proofs.LawsLemmas as pools
 use Rattle.msi_recode.proofs.SummaryAlikeLemmas as summaries
-use Rattle.msi_recode_laws.specs.PackageLaws.{HaveTableNames, PackagesStayAlike, RecodedTextsAreRead, pool_in_utf8, database_in_utf8, in_utf8}
-use Rattle.msi_recode_laws.proofs.StreamsLemmas.{with_three, three_put, pool_put, data_put, summary_put, tables_stay, others_stay}
+use Rattle.msi_replay.specs.PackageLaws.{HaveTableNames, PackagesStayAlike, RecodedTextsAreRead, pool_in_utf8, database_in_utf8, in_utf8}
+use Rattle.msi_replay.proofs.StreamsLemmas.{with_three, three_put, pool_put, data_put, summary_put, tables_stay, others_stay}
 
 -- what stands at a name has what the bytes there have
 at_bytes : (P : List ℕ → Type 0) (o : Option (List ℕ)) (bytes : List ℕ) → o ≡ Some bytes → P bytes → IsSomeAnd o P

@@ -3,7 +3,7 @@ use Rattle.std.proofs.Common.{◌≡◌, ◌∷◌, Bool, true, false, Option, S
 use Rattle.std.specs.Prelude.{IsErrAnd, IfErr, IfSome}
 use Rattle.std.proofs.Common.{inl, inr}
 use Rattle.msi_text_base.specs.declared.errors.ErrorKind.{ErrorKind}
-use Rattle.msi_text.specs.Refusals.{AnswersFirst, Refusals, IsRefusal, first_refusal, unless, unless_refused, ◌>>=◌}
+use Rattle.msi_text_base.specs.Refusals.{AnswersFirst, Refusals, IsRefusal, first_refusal, unless, unless_refused, ◌>>=◌}
 
 unless-Ok : {A B : Type 0} (o : Option ErrorKind) (x y : A) (z : B) → unless o x ≡ Ok y → unless o z ≡ Ok z
 unless-Ok None x y z e = refl

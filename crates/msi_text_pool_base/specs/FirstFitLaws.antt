@@ -3,7 +3,7 @@ use Rattle.std.specs.Prelude.{◌≡◌, ◌≢◌, ℕ, ◌+◌, ◌-◌, ◌<�
 use Rattle.std.specs.Prelude.{slice_get}
 use Rattle.std.specs.Option.{option_map_or}
 use Rattle.msi_text_pool_base.specs.Pool.{Place, CountsFit}
-use Rattle.msi_text_places.specs.FirstFit.{count_of, most_places, taken, given_back}
+use Rattle.msi_text_pool_base.specs.FirstFit.{count_of, most_places, taken, given_back}
 
 -- the place of a number
 abbrev pub place_at : List Place → ℕ → Option Place

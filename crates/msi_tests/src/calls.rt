@@ -3,7 +3,7 @@
 use msi_container_device::faults::fault;
 use msi_container_device::parts::{read_all, write_all};
 use msi_container_device::{Device, Memory, Source};
-use msi_text::{Error, ErrorKind};
+use msi_text_base::{Error, ErrorKind};
 use std::alloc::Global;
 
 /// A call of a device, or of a function over one, with what it returns.

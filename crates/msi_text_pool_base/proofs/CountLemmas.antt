@@ -5,9 +5,9 @@ use Rattle.std.proofs.lemmas.Bool.{cases_Bool, ltb-true}
 use Rattle.std.proofs.lemmas.Option.{cond_some, same_Some, some_pair_parts}
 use Rattle.msi_text_base.proofs.OptionLemmas.{guard_passed}
 use Rattle.msi_text_pool_base.specs.Pool.{Place, CountsFit, without_unnamed_texts}
-use Rattle.msi_text_places.specs.FirstFit.{is_fit, count_of, first_fit, with_text_at, lowered, most_places}
-use Rattle.msi_text_places.specs.FirstFitLaws.{TakenPlacesStayInRange, GivenBackStaysInRange}
-use Rattle.msi_text_places.proofs.FirstFitLemmas.{first_fit-room}
+use Rattle.msi_text_pool_base.specs.FirstFit.{is_fit, count_of, first_fit, with_text_at, lowered, most_places}
+use Rattle.msi_text_pool_base.specs.FirstFitLaws.{TakenPlacesStayInRange, GivenBackStaysInRange}
+use Rattle.msi_text_pool_base.proofs.FirstFitLemmas.{first_fit-room}
 
 pub CountsFit-push : (places : List Place) (p : Place) → CountsFit places → p.count < 2 ^ 16 → CountsFit (places ++ p ∷ [])
 CountsFit-push [] p fit few = (few, tt)

@@ -1,6 +1,6 @@
-//! What follows from the definitions: each is the contract of a function without a body.
+//! What recoding leaves alike of whole packages: each law is the contract of a function without a body.
 
-ghost use Rattle.msi_recode_laws.specs.PackageLaws.{PackagesStayAlike, RecodedTextsAreRead};
+ghost use Rattle.msi_replay.specs.PackageLaws.{PackagesStayAlike, RecodedTextsAreRead};
 
 /// A file that is a package, and whose tables have names that tables may have, is one after it was recoded: with the
 /// same kind, tables, rows, streams, texts and properties. Its pool and its summary are in UTF-8.

@@ -1,4 +1,0 @@
-//! What recoding leaves alike of whole packages.
-#![tactic(auto)]
-
-pub mod laws;
