@@ -17,6 +17,7 @@ pub mod package;
 mod reasons;
 pub mod recounting;
 pub mod streams;
+pub mod uuids;
 mod writable;
 
 pub use files::{open, open_rw};
@@ -34,3 +35,4 @@ pub use msi_text::{
     StringPoolBuilder, StringRef, Text, Timestamp,
 };
 pub use package::Package;
+pub use uuids::{FromUuid, HasUuid};

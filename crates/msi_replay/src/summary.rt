@@ -22,6 +22,7 @@ use crate::answer::SummaryAnswer;
 use crate::call::{
     Clearing, NumberProperty, Setting, SummaryCall, SummaryQuestion, TextProperty, TimeProperty,
 };
+use msi::HasUuid;
 use msi_summary::SummaryInfo;
 use msi_text::timestamp::Timestamp;
 use msi_text_base::errors::{Error, ErrorKind};

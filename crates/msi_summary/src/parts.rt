@@ -10,6 +10,7 @@ ghost use Rattle.msi_summary_properties.specs.PropertyWriting.{is_refused};
 ghost use Rattle.msi_summary.specs.Summary.{new_summary, summary_format, SpellsSummary};
 
 use crate::summary::SummaryInfo;
+pub use crate::summary::identity::{set_uuid_text, uuid_text, without_braces};
 use msi_summary_properties::PropertySet;
 use msi_summary_properties::parts::stream_of;
 use msi_text_base::errors::Error;

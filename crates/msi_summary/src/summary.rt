@@ -10,7 +10,7 @@ ghost use Rattle.msi_summary_properties.specs.PropertyStream.{AreWritable, HaveU
 ghost use Rattle.msi_summary.specs.Summary.{new_summary, summary_format, number_with_id, text_with_id, time_with_id};
 ghost use Rattle.msi_summary.specs.Summary.{with_number, with_text, with_time};
 
-mod identity;
+pub(crate) mod identity;
 mod keywords;
 mod numbers;
 mod template;

@@ -2,17 +2,16 @@
 
 ghost use Rattle.std.specs.Prelude.{◌≡◌, pos, string_bytes, IfOk, if◌then◌else◌};
 ghost use Rattle.std.specs.Fmt.{decimal};
-ghost use Rattle.msi_text.specs.Spellings.{language_list_text, braced_uuid_text};
+ghost use Rattle.msi_text.specs.Spellings.{language_list_text};
 ghost use Rattle.msi_text_base.specs.Results.{OnlyMemory};
 ghost use Rattle.msi_table_values.specs.declared.value.Value.TheVariants.{Int, Str};
 
 use crate::value::Value;
 use msi_text::language::LanguageId;
-use msi_text::parts::{braced_uuid, language_list, language_text};
+use msi_text::parts::{language_list, language_text};
 use msi_text_base::errors::Error;
 use msi_text_base::text::{IntoText, Text};
 use std::alloc::Global;
-use uuid::Uuid;
 
 /// A truth as a value: the number 1 for true, and 0 for false.
 impl From<bool> for Value {
@@ -92,17 +91,5 @@ impl Value {
         ensures kind { OnlyMemory result }
     {
         Ok(Value::Str(language_list(alloc, languages)?))
-    }
-
-    /// Returns a UUID in braces and upper case (RFC 9562, section 4), as a text: a value for columns of the category
-    /// `Guid`.
-    ///
-    /// # Errors
-    /// Fails with `OutOfMemory`.
-    pub fn from_uuid(alloc: Global, uuid: Uuid) -> Result<Value, Error>
-        ensures ok { IfOk result (λ value. value ≡ Str (braced_uuid_text uuid)) }
-        ensures kind { OnlyMemory result }
-    {
-        Ok(Value::Str(braced_uuid(alloc, uuid)?))
     }
 }

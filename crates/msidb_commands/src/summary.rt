@@ -1,6 +1,7 @@
 //! `summary FILE`.
 
 use crate::buffered::buffer;
+use msi::HasUuid;
 use msi_summary::SummaryInfo;
 use msi_text::Timestamp;
 use msi_text_base::errors::Error;

@@ -1,7 +1,7 @@
 //! Facts of a package under their names, which print as lines or as JSON.
 
-use msipkg_files::output::msi::LanguageId;
-use msipkg_files::output::{JsonObject, Output, Style};
+use msipkg_files::output::msi::{LanguageId, SummaryInfo};
+use msipkg_files::output::{JsonObject, Output, Style, uuid_text};
 use std::alloc::{AllocError, Global};
 use std::fmt::Display;
 
@@ -9,6 +9,7 @@ use std::fmt::Display;
 ///
 /// Where memory is refused for a fact, that is kept, and said once the facts are printed.
 pub(crate) struct Facts {
+    alloc: Global,
     style: Style,
     text: FactsText,
     /// Whether memory was refused for what a fact was to say.
@@ -19,6 +20,7 @@ pub(crate) struct Facts {
 impl Drop for Facts {
     fn drop(self) {
         let Facts {
+            alloc: _,
             style: _,
             text: _,
             is_cut: _,
@@ -43,6 +45,7 @@ impl Facts {
             FactsText::Lines(Output::to_memory(alloc))
         };
         Facts {
+            alloc,
             style,
             text,
             is_cut: false,
@@ -65,6 +68,15 @@ impl Facts {
         match &mut self.text {
             FactsText::Json(object) => object.put_shown(name, value),
             FactsText::Lines(lines) => writeln!(lines, "{name}: {value}"),
+        }
+    }
+
+    /// Adds the UUID of a package, if there is one.
+    pub(crate) fn uuid(&mut self, summary: &SummaryInfo) {
+        match uuid_text(self.alloc, summary) {
+            Ok(Some(text)) => self.text("uuid", Some(text.as_str())),
+            Ok(None) => {}
+            Err(_) => self.refuse_memory(),
         }
     }
 
@@ -120,6 +132,7 @@ impl Facts {
     /// Prints the facts, or nothing of them where memory was refused, which the output is told.
     pub(crate) fn print(self, output: &mut Output) {
         let Facts {
+            alloc: _,
             style,
             text,
             is_cut,

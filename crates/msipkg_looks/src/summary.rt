@@ -2,7 +2,7 @@
 
 use crate::facts::Facts;
 use msipkg_files::output::msi::{SummaryInfo, Timestamp};
-use msipkg_files::output::{Output, Style, TimeText, UuidText};
+use msipkg_files::output::{Output, Style, TimeText};
 use std::alloc::Global;
 
 /// Prints a line for each property of a file's summary that is there, or all of them as JSON on one line.
@@ -49,9 +49,7 @@ fn add_keywords(summary: &SummaryInfo, facts: &mut Facts) {
 fn add_target(summary: &SummaryInfo, facts: &mut Facts) {
     facts.text("arch", summary.arch());
     add_languages(summary, facts);
-    if let Some(uuid) = summary.uuid() {
-        facts.shown("uuid", &UuidText(uuid));
-    }
+    facts.uuid(summary);
     facts.text("last_saved_by", summary.last_saved_by());
     facts.text("creating_application", summary.creating_application());
 }

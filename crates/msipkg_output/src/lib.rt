@@ -26,6 +26,6 @@ pub use msipkg_system::{Carrier, Opened, Origin, Output, System, SystemFile, pat
 pub use pages::Pages;
 pub use rows::{Format, write_rows};
 pub use style::Style;
-pub use summary_texts::{PROPERTIES, property_text};
+pub use summary_texts::{PROPERTIES, property_text, uuid_text};
 pub use tables::{chosen_tables, is_list, rows_of, table_named};
-pub use texts::{TimeText, UuidText, kind_name, push_key, stream_name};
+pub use texts::{TimeText, kind_name, push_key, stream_name};

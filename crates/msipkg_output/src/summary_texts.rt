@@ -1,8 +1,9 @@
 //! The properties of a summary as texts, as the installer's table `_SummaryInformation` has them.
 
-use crate::texts::{TimeText, UuidText};
-use msi::{Error, SummaryInfo, Timestamp};
+use crate::texts::TimeText;
+use msi::{Error, HasUuid, SummaryInfo, Timestamp};
 use std::alloc::{AllocError, Global};
+use uuid::Uuid;
 
 /// The properties in the order of their numbers, each with its name. The template is the architecture and the
 /// languages.
@@ -39,6 +40,7 @@ pub fn property_text(
     match id {
         5 => keywords_text(alloc, summary),
         7 => template_text(alloc, summary),
+        9 => Ok(uuid_text(alloc, summary)?),
         _ => Ok(plain_text(alloc, summary, id)?),
     }
 }
@@ -51,11 +53,23 @@ fn plain_text(alloc: Global, summary: &SummaryInfo, id: i32) -> Result<Option<St
     if let Some(number) = number_of(summary, id) {
         return Ok(Some(number.to_string(alloc)?));
     }
-    match (time_of(summary, id), summary.uuid()) {
-        (Some(time), _) => Ok(Some(installer_time(alloc, time)?)),
-        (None, Some(uuid)) if id == 9 => Ok(Some(UuidText(uuid).to_string(alloc)?)),
-        _ => Ok(None),
+    match time_of(summary, id) {
+        Some(time) => Ok(Some(installer_time(alloc, time)?)),
+        None => Ok(None),
     }
+}
+
+/// Returns the UUID of a summary as the installer writes it, in braces and capital letters, if it is there.
+///
+/// # Errors
+/// Fails if memory is refused.
+pub fn uuid_text(alloc: Global, summary: &SummaryInfo) -> Result<Option<String>, AllocError> {
+    let Some(uuid) = summary.uuid() else {
+        return Ok(None);
+    };
+    let mut room = Uuid::encode_buffer();
+    let text = String::from_str(alloc, uuid.braced().encode_upper(&mut room))?;
+    Ok(Some(text))
 }
 
 /// The property of a number, if it is a text that is there.

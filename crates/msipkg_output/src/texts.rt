@@ -3,7 +3,6 @@
 use msi::{PackageType, Row, Timestamp, Value};
 use std::alloc::{AllocError, Global};
 use std::fmt;
-use uuid::Uuid;
 
 /// Returns the name of a package's kind, as `new` takes it.
 pub fn kind_name(kind: PackageType) -> &'static str {
@@ -11,17 +10,6 @@ pub fn kind_name(kind: PackageType) -> &'static str {
         PackageType::Installer => "installer",
         PackageType::Patch => "patch",
         PackageType::Transform => "transform",
-    }
-}
-
-/// A UUID, which prints as the installer writes it: in braces and capital letters.
-#[derive(Clone, Copy)]
-pub struct UuidText(pub Uuid);
-
-impl fmt::Display for UuidText {
-    fn fmt<W: fmt::Write>(&self, f: &mut fmt::Formatter<W>) -> fmt::Result {
-        let mut room = Uuid::encode_buffer();
-        f.write_str(self.0.braced().encode_upper(&mut room))
     }
 }
 

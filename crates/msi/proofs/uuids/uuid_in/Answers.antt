@@ -2,7 +2,7 @@ use Rattle.std.proofs.Common.{◌≡◌, Option, Some, None, refl, ◌∙◌}
 use Rattle.std.specs.Prelude.{Result, Ok, Err, IsOk, IfOk, ◌↔◌}
 use Rattle.std.specs.Result.{result_ok}
 use Rattle.std.proofs.lemmas.Bool.{false≢true}
-use Rattle.msi_summary.proofs.summary.identity.uuid_in.Goals as goal
+use Rattle.msi.proofs.uuids.uuid_in.Goals as goal
 
 -- a parser that answers what there is answers nothing where there is nothing
 result_ok-is : {U E : Type 0} (r : Result U E) (o : Option U) → (IsOk r ↔ ((u : U) × (o ≡ Some u))) → IfOk r (λ u. Some u ≡ o) → result_ok r ≡ o
