@@ -5,8 +5,8 @@
 ghost use Rattle.std.specs.Prelude.{◌≡◌, ◌≤◌, ◌↔◌, false};
 ghost use Rattle.msidb_commands.specs.Commands.{fits_command};
 
-mod buffered;
 mod command;
+mod lines;
 mod packages;
 mod raw;
 mod recounting;

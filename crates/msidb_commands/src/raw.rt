@@ -1,5 +1,6 @@
 //! `raw FILE`: each stream of a container, with its kind and its number of bytes.
 
+use crate::lines::Lines;
 use msi_container::compound::{self, Name};
 use msi_container::streamname;
 use msi_text_base::errors::Error;
@@ -14,10 +15,7 @@ pub(crate) fn print_streams<O: Write>(
     output: &mut O,
 ) -> Result<(), Error> {
     let bytes = read_whole(rt, file)?;
-    let lines = list(rt.alloc(), bytes.as_slice())?;
-    output.write_all(lines.as_slice())?;
-    output.flush()?;
-    Ok(())
+    list(rt.alloc(), bytes.as_slice())?.end(output)
 }
 
 /// The bytes of a file. Its length is asked for first, so that the vector needn't grow while it is read.
@@ -31,9 +29,9 @@ fn read_whole(rt: &HostRuntime, path: &str) -> Result<Vec<u8>, Error> {
 }
 
 /// A line for each stream of a container.
-fn list(alloc: Global, file: &[u8]) -> Result<Vec<u8>, Error> {
+fn list(alloc: Global, file: &[u8]) -> Result<Lines, Error> {
     let listing = compound::list(alloc, file)?;
-    let mut lines = Vec::new(alloc);
+    let mut lines = Lines::new(alloc);
     for (name, size) in listing.sizes.iter() {
         add_line(alloc, &mut lines, name, *size)?;
     }
@@ -41,10 +39,10 @@ fn list(alloc: Global, file: &[u8]) -> Result<Vec<u8>, Error> {
 }
 
 /// Adds the line of a stream: its decoded name, `table` or `stream`, and its number of bytes.
-fn add_line(alloc: Global, lines: &mut Vec<u8>, name: &Name, size: u64) -> Result<(), Error> {
+fn add_line(alloc: Global, lines: &mut Lines, name: &Name, size: u64) -> Result<(), Error> {
     let encoded = name.to_text(alloc)?;
     let (name, is_table) = streamname::decode(alloc, encoded.as_str())?;
     let kind = if is_table { "table" } else { "stream" };
-    writeln!(lines, "{name}\t{kind}\t{size}")?;
+    writeln!(lines, "{name}\t{kind}\t{size}");
     Ok(())
 }

@@ -1,6 +1,6 @@
 //! `streams FILE`, `cat FILE NAME` and `put FILE NAME`.
 
-use crate::buffered::buffer;
+use crate::lines::Lines;
 use crate::packages;
 use msi::{Package, StreamReader};
 use msi_container_device::{Device, Source};
@@ -16,18 +16,17 @@ pub(crate) fn print_names<O: Write>(
     output: &mut O,
 ) -> Result<(), Error> {
     let package = msi::open(rt, file)?;
-    write_names(rt.alloc(), package.streams(), output)
+    lines_of(rt.alloc(), package.streams())?.end(output)
 }
 
-/// Writes names, each on a line.
-fn write_names<W: Write>(alloc: Global, names: Streams<'_>, output: &mut W) -> Result<(), Error> {
-    let mut lines = buffer(alloc, output)?;
+/// Returns names, each on a line.
+fn lines_of(alloc: Global, names: Streams<'_>) -> Result<Lines, Error> {
+    let mut lines = Lines::new(alloc);
     for name in names {
-        let name = name?;
-        writeln!(lines, "{name}")?;
+        lines.push_str(name?.as_str());
+        lines.push_str("\n");
     }
-    lines.flush()?;
-    Ok(())
+    Ok(lines)
 }
 
 /// Prints the bytes of a stream as they are.

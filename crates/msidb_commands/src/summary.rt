@@ -1,13 +1,13 @@
 //! `summary FILE`.
 
-use crate::buffered::buffer;
+use crate::lines::Lines;
 use msi::HasUuid;
 use msi_summary::SummaryInfo;
-use msi_text::Timestamp;
+use msi_text::{LanguageId, Timestamp};
 use msi_text_base::errors::Error;
 use std::alloc::Global;
 use std::fmt::Display;
-use std::io::{self, Write};
+use std::io::Write;
 
 /// Prints a line for each property of a package's summary that is there.
 pub(crate) fn print_summary<O: Write>(
@@ -16,69 +16,57 @@ pub(crate) fn print_summary<O: Write>(
     output: &mut O,
 ) -> Result<(), Error> {
     let package = msi::open(rt, file)?;
-    write_buffered(rt.alloc(), package.summary_info(), output)
+    lines_of(rt.alloc(), package.summary_info())?.end(output)
 }
 
-/// Writes a summary through a buffer.
-fn write_buffered<W: Write>(
-    alloc: Global,
-    summary: &SummaryInfo,
-    output: &mut W,
-) -> Result<(), Error> {
-    let mut lines = buffer(alloc, output)?;
-    write_summary(summary, &mut lines)?;
-    lines.flush()?;
-    Ok(())
-}
-
-/// Writes a line for each property that is there. The page always is.
-fn write_summary<W: Write>(summary: &SummaryInfo, lines: &mut W) -> Result<(), Error> {
-    let page = summary.codepage().id();
-    writeln!(lines, "codepage: {page}")?;
-    write_description(summary, lines)?;
-    write_target(summary, lines)?;
-    write_times(summary, lines)?;
-    write_numbers(summary, lines)?;
-    Ok(())
+/// Returns a line for each property that is there. The page always is.
+fn lines_of(alloc: Global, summary: &SummaryInfo) -> Result<Lines, Error> {
+    let mut lines = Lines::new(alloc);
+    write_description(summary, &mut lines)?;
+    write_target(summary, &mut lines)?;
+    write_times(summary, &mut lines);
+    write_numbers(summary, &mut lines);
+    Ok(lines)
 }
 
 /// Writes what the package is, and whose.
-fn write_description<W: Write>(summary: &SummaryInfo, lines: &mut W) -> Result<(), Error> {
-    write_value("title", summary.title(), lines)?;
-    write_value("subject", summary.subject(), lines)?;
-    write_value("author", summary.author(), lines)?;
-    write_list("keywords", summary.keywords()?.as_slice(), "; ", lines)?;
-    write_value("comments", summary.comments(), lines)?;
+fn write_description(summary: &SummaryInfo, lines: &mut Lines) -> Result<(), Error> {
+    write_value("codepage", Some(summary.codepage().id()), lines);
+    write_value("title", summary.title(), lines);
+    write_value("subject", summary.subject(), lines);
+    write_value("author", summary.author(), lines);
+    write_keywords(summary.keywords()?.as_slice(), lines);
+    write_value("comments", summary.comments(), lines);
     Ok(())
 }
 
 /// Writes what the package is for, and which one it is.
-fn write_target<W: Write>(summary: &SummaryInfo, lines: &mut W) -> Result<(), Error> {
-    write_value("arch", summary.arch(), lines)?;
-    write_list("languages", summary.languages()?.as_slice(), ",", lines)?;
-    write_value("last_saved_by", summary.last_saved_by(), lines)?;
-    write_value("uuid", summary.uuid(), lines)?;
+fn write_target(summary: &SummaryInfo, lines: &mut Lines) -> Result<(), Error> {
+    write_value("arch", summary.arch(), lines);
+    write_languages(summary.languages()?.as_slice(), lines);
+    write_value("last_saved_by", summary.last_saved_by(), lines);
+    write_value("uuid", summary.uuid(), lines);
     Ok(())
 }
 
 /// Writes when things were done to the package.
-fn write_times<W: Write>(summary: &SummaryInfo, lines: &mut W) -> io::Result<()> {
-    write_value("last_printed", ticks(summary.last_printed()), lines)?;
-    write_value("creation_time", ticks(summary.creation_time()), lines)?;
-    write_value("last_saved_time", ticks(summary.last_saved_time()), lines)
+fn write_times(summary: &SummaryInfo, lines: &mut Lines) {
+    write_value("last_printed", ticks(summary.last_printed()), lines);
+    write_value("creation_time", ticks(summary.creation_time()), lines);
+    write_value("last_saved_time", ticks(summary.last_saved_time()), lines);
 }
 
 /// Writes the numbers of the package, and what made it.
-fn write_numbers<W: Write>(summary: &SummaryInfo, lines: &mut W) -> io::Result<()> {
-    write_value("page_count", summary.page_count(), lines)?;
-    write_value("word_count", summary.word_count(), lines)?;
-    write_value("character_count", summary.character_count(), lines)?;
+fn write_numbers(summary: &SummaryInfo, lines: &mut Lines) {
+    write_value("page_count", summary.page_count(), lines);
+    write_value("word_count", summary.word_count(), lines);
+    write_value("character_count", summary.character_count(), lines);
     write_value(
         "creating_application",
         summary.creating_application(),
         lines,
-    )?;
-    write_value("doc_security", summary.doc_security(), lines)
+    );
+    write_value("doc_security", summary.doc_security(), lines);
 }
 
 /// The ticks of a time, if there is one.
@@ -87,30 +75,34 @@ fn ticks(time: Option<Timestamp>) -> Option<u64> {
 }
 
 /// Writes the line of a value, if there is one.
-fn write_value<T: Display + Copy, W: Write>(
-    name: &str,
-    value: Option<T>,
-    line: &mut W,
-) -> io::Result<()> {
-    match value {
-        Some(value) => writeln!(line, "{name}: {value}"),
-        None => Ok(()),
+fn write_value<T: Display + Copy>(name: &str, value: Option<T>, lines: &mut Lines) {
+    if let Some(value) = value {
+        writeln!(lines, "{name}: {value}");
     }
 }
 
-/// Writes the line of a list, unless it is empty.
-fn write_list<T: Display, W: Write>(
-    name: &str,
-    items: &[T],
-    separator: &str,
-    line: &mut W,
-) -> io::Result<()> {
-    let Some((first, others)) = items.split_first() else {
-        return Ok(());
-    };
-    write!(line, "{name}: {first}")?;
-    for item in others {
-        write!(line, "{separator}{item}")?;
+/// Writes the line of keywords, unless there are none.
+fn write_keywords(keywords: &[String], lines: &mut Lines) {
+    let mut before = "keywords: ";
+    for keyword in keywords {
+        lines.push_str(before);
+        lines.push_str(keyword.as_str());
+        before = "; ";
     }
-    writeln!(line)
+    end_list(keywords.is_empty(), lines);
+}
+
+/// Writes the line of languages, unless there are none.
+fn write_languages(languages: &[LanguageId], lines: &mut Lines) {
+    let mut before = "languages: ";
+    for language in languages {
+        write!(lines, "{before}{language}");
+        before = ",";
+    }
+    end_list(languages.is_empty(), lines);
+}
+
+/// Ends the line of a list, unless it is empty.
+fn end_list(is_empty: bool, lines: &mut Lines) {
+    lines.push_str(if is_empty { "" } else { "\n" });
 }

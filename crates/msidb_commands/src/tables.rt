@@ -1,14 +1,14 @@
 //! `tables FILE` and `rows FILE TABLE`.
 
-use crate::buffered::buffer;
+use crate::lines::Lines;
 use msi::{Package, Tables};
 use msi_container_device::Source;
 use msi_query::Select;
-use msi_table::Row;
+use msi_table::{Row, Rows};
 use msi_table_values::column::Column;
 use msi_text_base::errors::Error;
 use std::alloc::Global;
-use std::io::{self, Write};
+use std::io::Write;
 
 /// Prints the names of a package's tables, each on a line.
 pub(crate) fn print_tables<O: Write>(
@@ -17,17 +17,17 @@ pub(crate) fn print_tables<O: Write>(
     output: &mut O,
 ) -> Result<(), Error> {
     let package = msi::open(rt, file)?;
-    Ok(write_names(rt.alloc(), package.tables(), output)?)
+    lines_of(rt.alloc(), package.tables()).end(output)
 }
 
-/// Writes the names of tables, each on a line.
-fn write_names<W: Write>(alloc: Global, tables: Tables<'_>, output: &mut W) -> io::Result<()> {
-    let mut lines = buffer(alloc, output)?;
+/// Returns the names of tables, each on a line.
+fn lines_of(alloc: Global, tables: Tables<'_>) -> Lines {
+    let mut lines = Lines::new(alloc);
     for table in tables {
-        let name = table.name();
-        writeln!(lines, "{name}")?;
+        lines.push_str(table.name());
+        lines.push_str("\n");
     }
-    lines.flush()
+    lines
 }
 
 /// Prints the names of a table's columns on a line, and then each row on one of its own.
@@ -41,53 +41,49 @@ pub(crate) fn print_rows<O: Write>(
     write_table(rt.alloc(), &package, table, output)
 }
 
-/// Writes a table through a buffer.
+/// Writes the names of a table's columns and its rows.
 fn write_table<F: Source, W: Write>(
     alloc: Global,
     package: &Package<F>,
     table: &str,
     output: &mut W,
 ) -> Result<(), Error> {
-    let mut lines = buffer(alloc, output)?;
-    write_rows(alloc, package, table, &mut lines)?;
-    lines.flush()?;
-    Ok(())
+    let rows = package.select_rows(Select::table(alloc, table)?)?;
+    let mut lines = Lines::new(alloc);
+    write_columns(rows.columns(), &mut lines);
+    write_rows(rows, &mut lines, output)?;
+    lines.end(output)
 }
 
-/// Writes the names of a table's columns and its rows. Each row is written as it is made, so that one alone has its
-/// texts in memory of its own.
-fn write_rows<F: Source, W: Write>(
-    alloc: Global,
-    package: &Package<F>,
-    table: &str,
-    lines: &mut W,
-) -> Result<(), Error> {
-    let rows = package.select_rows(Select::table(alloc, table)?)?;
-    write_columns(rows.columns(), lines)?;
+/// Writes rows. Each is written as it is made, so that one alone has its texts in memory of its own.
+fn write_rows<W: Write>(rows: Rows<'_>, lines: &mut Lines, output: &mut W) -> Result<(), Error> {
     for row in rows {
-        write_row(&row?, lines)?;
+        write_row(&row?, lines);
+        if lines.are_many() {
+            lines.hand_on(output)?;
+        }
     }
     Ok(())
 }
 
 /// Writes the names of columns on a line, parted by tabs.
-fn write_columns<W: Write>(columns: &[Column], line: &mut W) -> io::Result<()> {
-    let mut separator = "";
+fn write_columns(columns: &[Column], lines: &mut Lines) {
+    let mut before = "";
     for column in columns {
-        let name = column.name();
-        write!(line, "{separator}{name}")?;
-        separator = "\t";
+        lines.push_str(before);
+        lines.push_str(column.name());
+        before = "\t";
     }
-    writeln!(line)
+    lines.push_str("\n");
 }
 
 /// Writes the values of a row on a line, parted by tabs.
-fn write_row<W: Write>(row: &Row, line: &mut W) -> io::Result<()> {
-    let mut separator = "";
+fn write_row(row: &Row, lines: &mut Lines) {
+    let mut before = "";
     for i in 0..row.len() {
-        let value = &row[i];
-        write!(line, "{separator}{value}")?;
-        separator = "\t";
+        lines.push_str(before);
+        write!(lines, "{}", &row[i]);
+        before = "\t";
     }
-    writeln!(line)
+    lines.push_str("\n");
 }
