@@ -23,7 +23,7 @@ pub(crate) fn make(
         return answer.check();
     }
     let tokens = tokens(rt.alloc(), rest)?;
-    let mut words = Words::new(tokens.as_slice());
+    let mut words = Words::new(rt.alloc(), tokens.as_slice());
     let outcome = make_call(rt, session, verb, &mut words, answer);
     words.check()?;
     outcome?;
@@ -39,14 +39,22 @@ fn make_call(
     words: &mut Words,
     answer: &mut Answer,
 ) -> Result<(), Failure> {
-    let alloc = rt.alloc();
     match verb {
         "device" | "create" | "open" | "image" | "into_reader" | "into_inner" => {
-            packages::make(alloc, session, verb, words)?;
+            packages::make(session, verb, words)?;
         }
-        "create_table" | "drop_table" | "fill" | "set_codepage" | "write_stream" | "remove_stream"
-        | "remove_digital_signature" | "summary_info_mut" | "set" | "clear" | "flush" => {
-            changes::make(alloc, session.package_mut()?, verb, words)?;
+        "create_table"
+        | "drop_table"
+        | "fill"
+        | "set_codepage"
+        | "write_stream"
+        | "remove_stream"
+        | "remove_digital_signature"
+        | "summary_info_mut"
+        | "set"
+        | "clear"
+        | "flush" => {
+            changes::make(session.package_mut()?, verb, words)?;
         }
         "recount" | "calls" | "writes" => return print_count(session, verb, answer),
         "save" | "load" => return files::make(rt, &mut session.kept, verb, words, answer),
@@ -54,9 +62,9 @@ fn make_call(
             return commands::make(rt, &session.kept, verb, words, answer);
         }
         _ if looks::VERBS.contains(&verb) => {
-            return looks::print(alloc, session.package()?, verb, words, answer);
+            return looks::print(session.package()?, verb, words, answer);
         }
-        _ => return calls::make(alloc, &mut session.kept, verb, words, answer),
+        _ => return calls::make(&mut session.kept, verb, words, answer),
     }
     answer.push_str("ok");
     Ok(())

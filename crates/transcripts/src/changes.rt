@@ -3,7 +3,6 @@
 use crate::summary;
 use msi::{Error, Insert, Package};
 use msi_tests::counting::Counting;
-use std::alloc::Global;
 use transcripts_values::columns::columns;
 use transcripts_values::texts::codepage;
 use transcripts_values::values::rows;
@@ -11,15 +10,14 @@ use transcripts_words::words::Words;
 
 /// Makes a change. Fails if the call is refused, and if memory runs out.
 pub(crate) fn make(
-    alloc: Global,
     package: &mut Package<Counting>,
     verb: &str,
     words: &mut Words,
 ) -> Result<(), Error> {
     match verb {
-        "create_table" => create_table(alloc, package, words),
-        "fill" => fill(alloc, package, words),
-        "set" => summary::set(alloc, package.summary_info_mut()?, words),
+        "create_table" => create_table(package, words),
+        "fill" => fill(package, words),
+        "set" => summary::set(package.summary_info_mut()?, words),
         "clear" => summary::clear(package.summary_info_mut()?, words),
         "drop_table" => package.drop_table(words.name()),
         "set_codepage" => package.set_database_codepage(codepage(words)),
@@ -31,19 +29,15 @@ pub(crate) fn make(
 }
 
 /// Creates a table.
-fn create_table(
-    alloc: Global,
-    package: &mut Package<Counting>,
-    words: &mut Words,
-) -> Result<(), Error> {
+fn create_table(package: &mut Package<Counting>, words: &mut Words) -> Result<(), Error> {
     let name = words.name();
-    package.create_table(name, columns(alloc, words)?)
+    package.create_table(name, columns(words)?)
 }
 
 /// Inserts a row for each number of a range.
-fn fill(alloc: Global, package: &mut Package<Counting>, words: &mut Words) -> Result<(), Error> {
-    let query = Insert::into(alloc, words.name())?;
-    package.insert_rows(query.rows(rows(alloc, words)?)?)
+fn fill(package: &mut Package<Counting>, words: &mut Words) -> Result<(), Error> {
+    let query = Insert::into(words.alloc, words.name())?;
+    package.insert_rows(query.rows(rows(words)?)?)
 }
 
 /// Opens a stream for writing, or borrows the summary for a change, and makes none.

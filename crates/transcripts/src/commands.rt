@@ -1,7 +1,7 @@
 //! Runs of the commands of `msidb`, on files.
 
 use msidb_commands::run;
-use std::alloc::{AllocError, Global};
+use std::alloc::AllocError;
 use std::io::{self, Read, Write};
 use std::{fs, str};
 use transcripts_words::answers::Answer;
@@ -66,9 +66,9 @@ pub(crate) fn make(
     answer: &mut Answer,
 ) -> Result<(), Failure> {
     let moved = moved_by(verb, words);
-    let command = command(rt.alloc(), words)?;
+    let command = command(words)?;
     let _ = words.takes("<");
-    let bytes = pieces(rt.alloc(), kept, words)?;
+    let bytes = pieces(kept, words)?;
     let input = Input {
         rt,
         bytes: bytes.as_slice(),
@@ -88,14 +88,14 @@ fn moved_by<'a>(verb: &str, words: &mut Words<'a>) -> Option<(&'a str, &'a str)>
 }
 
 /// The words of a command, as the program is handed them.
-fn command(alloc: Global, words: &mut Words) -> Result<Vec<String>, AllocError> {
-    let mut command = Vec::new(alloc);
+fn command(words: &mut Words) -> Result<Vec<String>, AllocError> {
+    let mut command = Vec::new(words.alloc);
     for _ in 0..words.len() {
         if words.peek_word() == Some("<") {
             break;
         }
         if let Some(Token::Word(word) | Token::Text(word)) = words.next_unmarked() {
-            command.push(String::from_str(alloc, word.as_str())?)?;
+            command.push(String::from_str(words.alloc, word.as_str())?)?;
         }
     }
     Ok(command)

@@ -1,6 +1,6 @@
 //! Calls on the reader or the writer of a stream, whose lines are indented below the call that opens the stream.
 
-use crate::session::Session;
+use crate::session::{NO_PACKAGE, Session};
 use msi::{StreamReader, StreamWriter};
 use std::alloc::Global;
 use std::io::{Read, Seek, SeekFrom, Write};
@@ -22,7 +22,7 @@ pub(crate) fn run(
     rest: &[Line],
 ) -> Result<(), Failure> {
     let tokens = tokens(rt.alloc(), line.text())?;
-    let mut words = Words::new(tokens.as_slice());
+    let mut words = Words::new(rt.alloc(), tokens.as_slice());
     let (verb, name) = (words.word(), words.name());
     words.end()?;
     match verb {
@@ -30,6 +30,19 @@ pub(crate) fn run(
         "read_stream" => read(rt, report, session, name, line, rest),
         _ => Err(Failure::Unreadable("no stream is open for the calls below")),
     }
+}
+
+/// Checks how a stream was opened.
+fn check(
+    rt: &HostRuntime,
+    report: &mut Report,
+    line: &Line,
+    rest: &[Line],
+    outcome: Result<(), Failure>,
+) -> Result<(), Failure> {
+    let mut answer = Answer::new(rt.alloc())?;
+    answer.push_str("ok");
+    report.check(rt, line, rest, outcome, &mut answer)
 }
 
 /// Opens a stream for writing, and makes the calls below.
@@ -42,34 +55,27 @@ fn write(
     rest: &[Line],
 ) -> Result<(), Failure> {
     let Some(package) = &mut session.package else {
-        return Err(Failure::Unreadable("there is no package"));
+        return Err(NO_PACKAGE);
     };
-    let mut answer = Answer::new(rt.alloc())?;
-    answer.push_str("ok");
-    match package.write_stream(name) {
-        Ok(stream) => {
-            report.check(rt, line, rest, Ok(()), &mut answer)?;
-            write_lines(rt, report, &session.kept, stream, rest)
-        }
-        Err(error) => report.check(rt, line, rest, Err(Failure::from(error)), &mut answer),
-    }
-}
-
-/// Makes the calls on a writer, and checks their answers.
-fn write_lines(
-    rt: &HostRuntime,
-    report: &mut Report,
-    kept: &Kept,
-    stream: StreamWriter,
-    rest: &[Line],
-) -> Result<(), Failure> {
+    let stream = match package.write_stream(name) {
+        Ok(stream) => stream,
+        Err(error) => return check(rt, report, line, rest, Err(Failure::from(error))),
+    };
+    check(rt, report, line, rest, Ok(()))?;
     for i in 0..rest.len() {
         if rest[i].is_call() {
             break;
         }
         if rest[i].is_cursor_call() {
             let mut answer = Answer::new(rt.alloc())?;
-            let outcome = write_line(rt, report, kept, &mut *stream, &rest[i], &mut answer);
+            let outcome = write_line(
+                rt,
+                report,
+                &session.kept,
+                &mut *stream,
+                &rest[i],
+                &mut answer,
+            );
             report.check(rt, &rest[i], &rest[i + 1..], outcome, &mut answer)?;
         }
     }
@@ -134,10 +140,10 @@ fn make_write(
     answer: &mut Answer,
 ) -> Result<(), Failure> {
     let tokens = tokens(alloc, text)?;
-    let mut words = Words::new(tokens.as_slice());
+    let mut words = Words::new(alloc, tokens.as_slice());
     match words.word() {
         "write" => {
-            let piece = pieces(alloc, kept, &mut words)?;
+            let piece = pieces(kept, &mut words)?;
             write!(answer, "{}", stream.write(piece.as_slice())?);
         }
         "seek" => write!(answer, "{}", stream.seek(target(&mut words))?),
@@ -160,24 +166,11 @@ fn read(
     line: &Line,
     rest: &[Line],
 ) -> Result<(), Failure> {
-    let mut answer = Answer::new(rt.alloc())?;
-    answer.push_str("ok");
-    match session.package()?.read_stream(name) {
-        Ok(stream) => {
-            report.check(rt, line, rest, Ok(()), &mut answer)?;
-            read_lines(rt, report, stream, rest)
-        }
-        Err(error) => report.check(rt, line, rest, Err(Failure::from(error)), &mut answer),
-    }
-}
-
-/// Makes the calls on a reader, and checks their answers.
-fn read_lines(
-    rt: &HostRuntime,
-    report: &mut Report,
-    mut stream: StreamReader,
-    rest: &[Line],
-) -> Result<(), Failure> {
+    let mut stream = match session.package()?.read_stream(name) {
+        Ok(stream) => stream,
+        Err(error) => return check(rt, report, line, rest, Err(Failure::from(error))),
+    };
+    check(rt, report, line, rest, Ok(()))?;
     for i in 0..rest.len() {
         if rest[i].is_call() {
             break;
@@ -200,7 +193,7 @@ fn make_read(
     answer: &mut Answer,
 ) -> Result<(), Failure> {
     let tokens = tokens(alloc, text)?;
-    let mut words = Words::new(tokens.as_slice());
+    let mut words = Words::new(alloc, tokens.as_slice());
     match words.word() {
         "read" => print_bytes(answer, read_piece(alloc, stream, words.count())?.as_slice()),
         "read_all" => print_bytes(answer, read_all(alloc, stream, words.count())?.as_slice()),

@@ -3,7 +3,6 @@
 use crate::summary;
 use msi::{Error, Package, Streams};
 use msi_tests::counting::Counting;
-use std::alloc::Global;
 use std::io::Read;
 use transcripts_values::columns::print_columns;
 use transcripts_words::answers::Answer;
@@ -29,7 +28,6 @@ pub(crate) static VERBS: [&str; 12] = [
 
 /// Prints the answer of a call that looks at a package. Fails if the call is refused, and if memory runs out.
 pub(crate) fn print(
-    alloc: Global,
     package: &Package<Counting>,
     verb: &str,
     words: &mut Words,
@@ -45,7 +43,7 @@ pub(crate) fn print(
         "columns" => print_table(answer, package, words.name()),
         "streams" => print_streams(answer, package.streams())?,
         "has_stream" => write!(answer, "{}", package.has_stream(words.name())),
-        "read_stream" => print_stream(alloc, answer, package, words.name())?,
+        "read_stream" => print_stream(answer, package, words)?,
         "has_digital_signature" => write!(answer, "{}", package.has_digital_signature()),
         _ => summary::print(answer, package.summary_info(), words)?,
     }
@@ -80,13 +78,12 @@ fn print_streams(answer: &mut Answer, streams: Streams) -> Result<(), Error> {
 
 /// Prints the bytes of a stream.
 fn print_stream(
-    alloc: Global,
     answer: &mut Answer,
     package: &Package<Counting>,
-    name: &str,
+    words: &mut Words,
 ) -> Result<(), Failure> {
-    let mut bytes = Vec::new(alloc);
-    package.read_stream(name)?.read_to_end(&mut bytes)?;
+    let mut bytes = Vec::new(words.alloc);
+    package.read_stream(words.name())?.read_to_end(&mut bytes)?;
     print_bytes(answer, bytes.as_slice());
     Ok(())
 }

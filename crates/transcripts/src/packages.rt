@@ -3,29 +3,23 @@
 use crate::session::Session;
 use msi::{Error, Package, PackageType};
 use msi_tests::counting::Counting;
-use std::alloc::Global;
 use transcripts_words::failure::Failure;
 use transcripts_words::kept::pieces;
 use transcripts_words::words::Words;
 
 /// Makes a call that makes a package or ends one, or says what the next device does. Fails if the call is refused, and
 /// if memory runs out.
-pub(crate) fn make(
-    alloc: Global,
-    session: &mut Session,
-    verb: &str,
-    words: &mut Words,
-) -> Result<(), Failure> {
+pub(crate) fn make(session: &mut Session, verb: &str, words: &mut Words) -> Result<(), Failure> {
     match verb {
         "device" => {
-            session.behave(alloc, words);
+            session.behave(words);
             Ok(())
         }
-        "create" => create(alloc, session, words),
-        "open" => open(alloc, session, words),
+        "create" => create(session, words),
+        "open" => open(session, words),
         _ => {
             let name = words.name();
-            session.kept.reserve(alloc, name)?;
+            session.kept.reserve(words.alloc, name)?;
             keep(session, verb, name, words)
         }
     }
@@ -45,31 +39,26 @@ fn package_type(words: &mut Words) -> PackageType {
 }
 
 /// Creates a package, over bytes that the device has already.
-fn create(alloc: Global, session: &mut Session, words: &mut Words) -> Result<(), Failure> {
+fn create(session: &mut Session, words: &mut Words) -> Result<(), Failure> {
     let kind = package_type(words);
     let _ = words.takes("over");
-    let bytes = pieces(alloc, &session.kept, words)?;
-    let device = session.device(alloc, bytes);
-    session.package = Some(Package::create(alloc, kind, device)?);
+    let bytes = pieces(&session.kept, words)?;
+    let device = session.device(words.alloc, bytes);
+    session.package = Some(Package::create(words.alloc, kind, device)?);
     Ok(())
 }
 
 /// Opens the package in bytes that are kept.
-fn open(alloc: Global, session: &mut Session, words: &mut Words) -> Result<(), Failure> {
-    let bytes = Vec::from_slice(alloc, session.kept.bytes(words.name())?)?;
-    let device = session.device(alloc, bytes);
-    session.package = Some(Package::open(alloc, device)?);
+fn open(session: &mut Session, words: &mut Words) -> Result<(), Failure> {
+    let bytes = Vec::from_slice(words.alloc, session.kept.bytes(words.name())?)?;
+    let device = session.device(words.alloc, bytes);
+    session.package = Some(Package::open(words.alloc, device)?);
     Ok(())
 }
 
 /// Keeps the bytes that a flush would write over so many; or takes the package apart, written or not, and keeps the
 /// bytes of its device.
-fn keep(
-    session: &mut Session,
-    verb: &str,
-    name: &str,
-    words: &mut Words,
-) -> Result<(), Failure> {
+fn keep(session: &mut Session, verb: &str, name: &str, words: &mut Words) -> Result<(), Failure> {
     if verb == "image" {
         let bytes = session.package()?.image(words.count() as u64)?;
         session.kept.keep(name, bytes);

@@ -36,7 +36,7 @@ impl Drop for Session {
 }
 
 /// The failure of a call that needs a package.
-const NO_PACKAGE: Failure = Failure::Unreadable("there is no package");
+pub(crate) const NO_PACKAGE: Failure = Failure::Unreadable("there is no package");
 
 /// Returns a device over no bytes, which takes and gives all, and never fails.
 fn plain(alloc: Global) -> Counting {
@@ -85,8 +85,8 @@ impl Session {
     }
 
     /// Reads what the next device does: `most 512 most_read 7 failing 12 lasts interrupted`.
-    pub(crate) fn behave(&mut self, alloc: Global, words: &mut Words) {
-        self.next = plain(alloc);
+    pub(crate) fn behave(&mut self, words: &mut Words) {
+        self.next = plain(words.alloc);
         for _ in 0..words.len() {
             if words.len() == 0 {
                 break;

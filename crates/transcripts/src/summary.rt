@@ -1,7 +1,7 @@
 //! Calls on the summary. A property is named as its getter.
 
 use msi::{Error, SummaryInfo};
-use std::alloc::{AllocError, Global};
+use std::alloc::AllocError;
 use transcripts_values::texts::{codepage, ticks};
 use transcripts_values::values::{languages, uuid};
 use transcripts_words::answers::Answer;
@@ -9,7 +9,11 @@ use transcripts_words::failure::Failure;
 use transcripts_words::words::Words;
 
 /// Prints the property that comes next. Fails if memory runs out.
-pub(crate) fn print(answer: &mut Answer, summary: &SummaryInfo, words: &mut Words) -> Result<(), Failure> {
+pub(crate) fn print(
+    answer: &mut Answer,
+    summary: &SummaryInfo,
+    words: &mut Words,
+) -> Result<(), Failure> {
     match words.word() {
         "title" => print_text(answer, summary.title()),
         "subject" => print_text(answer, summary.subject()),
@@ -81,7 +85,7 @@ fn print_languages(answer: &mut Answer, summary: &SummaryInfo) -> Result<(), Err
 }
 
 /// Sets the property that comes next to what is behind. Fails if the value is refused, and if memory runs out.
-pub(crate) fn set(alloc: Global, summary: &mut SummaryInfo, words: &mut Words) -> Result<(), Error> {
+pub(crate) fn set(summary: &mut SummaryInfo, words: &mut Words) -> Result<(), Error> {
     match words.word() {
         "title" => summary.set_title(words.name()),
         "subject" => summary.set_subject(words.name()),
@@ -92,8 +96,8 @@ pub(crate) fn set(alloc: Global, summary: &mut SummaryInfo, words: &mut Words) -
         "arch" => summary.set_arch(words.name()),
         "codepage" => summary.set_codepage(codepage(words)),
         "uuid" => summary.set_uuid(uuid(words)),
-        "languages" => summary.set_languages(languages(alloc, words)?.as_slice()),
-        "keywords" => summary.set_keywords(names(alloc, words)?.as_slice()),
+        "languages" => summary.set_languages(languages(words)?.as_slice()),
+        "keywords" => summary.set_keywords(names(words)?.as_slice()),
         property => set_number(summary, property, words),
     }
 }
@@ -119,10 +123,10 @@ fn set_number(summary: &mut SummaryInfo, property: &str, words: &mut Words) -> R
 }
 
 /// Returns the names that are left.
-fn names(alloc: Global, words: &mut Words) -> Result<Vec<String>, AllocError> {
-    let mut names = Vec::new(alloc);
+fn names(words: &mut Words) -> Result<Vec<String>, AllocError> {
+    let mut names = Vec::new(words.alloc);
     for _ in 0..words.len() {
-        names.push(String::from_str(alloc, words.name())?)?;
+        names.push(String::from_str(words.alloc, words.name())?)?;
     }
     Ok(names)
 }

@@ -3,19 +3,18 @@
 use crate::texts::category;
 use msi_table_values::column::{Column, ColumnBuilder};
 use msi_text_base::errors::Error;
-use std::alloc::Global;
 use transcripts_words::answers::Answer;
 use transcripts_words::words::Words;
 
 /// Reads the columns of a table: `(Number key int16, Word nullable string 50)`. Fails if memory runs out.
-pub fn columns(alloc: Global, words: &mut Words) -> Result<Vec<Column>, Error> {
-    let mut columns = Vec::new(alloc);
+pub fn columns(words: &mut Words) -> Result<Vec<Column>, Error> {
+    let mut columns = Vec::new(words.alloc);
     let mut goes_on = words.begins_list();
     for _ in 0..words.len() {
         if !goes_on {
             break;
         }
-        columns.push(column(alloc, words)?)?;
+        columns.push(column(words)?)?;
         goes_on = words.goes_on();
     }
     Ok(columns)
@@ -33,14 +32,14 @@ static KINDS: [&str; 7] = [
 ];
 
 /// Reads a column: its name, its options, and last its type. They are named after the calls of a builder.
-pub(crate) fn column(alloc: Global, words: &mut Words) -> Result<Column, Error> {
-    let mut builder = Column::build(alloc, words.name())?;
+pub(crate) fn column(words: &mut Words) -> Result<Column, Error> {
+    let mut builder = Column::build(words.alloc, words.name())?;
     for _ in 0..words.len() {
         let word = words.word();
         if KINDS.contains(&word) {
             return Ok(of_kind(builder, words, word));
         }
-        builder = with_option(alloc, builder, words, word)?;
+        builder = with_option(builder, words, word)?;
     }
     words.refuse("a column has no type");
     Ok(builder.int16())
@@ -61,7 +60,6 @@ fn of_kind(builder: ColumnBuilder, words: &mut Words, kind: &str) -> Column {
 
 /// Makes a call of a builder.
 fn with_option(
-    alloc: Global,
     builder: ColumnBuilder,
     words: &mut Words,
     option: &str,
@@ -73,7 +71,7 @@ fn with_option(
         "range" => Ok(builder.range(words.number(), words.number())),
         "foreign_key" => builder.foreign_key(words.name(), words.number()),
         "category" => Ok(builder.category(category(words))),
-        "enum_values" => builder.enum_values(names(alloc, words)?.as_slice()),
+        "enum_values" => builder.enum_values(names(words)?.as_slice()),
         _ => {
             words.refuse("a column has no such option");
             Ok(builder)
@@ -82,8 +80,8 @@ fn with_option(
 }
 
 /// Reads names: `("a", "b")`.
-fn names<'a>(alloc: Global, words: &mut Words<'a>) -> Result<Vec<&'a str>, Error> {
-    let mut names = Vec::new(alloc);
+fn names<'a>(words: &mut Words<'a>) -> Result<Vec<&'a str>, Error> {
+    let mut names = Vec::new(words.alloc);
     let mut goes_on = words.begins_list();
     for _ in 0..words.len() {
         if !goes_on {

@@ -2,7 +2,7 @@
 
 use msi_query_expressions::expr::Expr;
 use msi_query_parse::{Parse, ParseError, Statement};
-use std::alloc::{AllocError, Global};
+use std::alloc::AllocError;
 use transcripts_words::answers::Answer;
 use transcripts_words::failure::Failure;
 use transcripts_words::words::Words;
@@ -17,8 +17,8 @@ pub fn print_refusal(refusal: ParseError, answer: &mut Answer) -> Result<(), Fai
 }
 
 /// Reads a query, and prints it.
-pub(crate) fn print_query(alloc: Global, text: &str, answer: &mut Answer) -> Result<(), Failure> {
-    match Statement::parse(alloc, text) {
+pub(crate) fn print_query(words: &mut Words, answer: &mut Answer) -> Result<(), Failure> {
+    match Statement::parse(words.alloc, words.name()) {
         Ok(query) => write!(answer, "{query}"),
         Err(refusal) => return print_refusal(refusal, answer),
     }
@@ -26,12 +26,8 @@ pub(crate) fn print_query(alloc: Global, text: &str, answer: &mut Answer) -> Res
 }
 
 /// Reads an expression, and prints it.
-pub(crate) fn print_expression(
-    alloc: Global,
-    text: &str,
-    answer: &mut Answer,
-) -> Result<(), Failure> {
-    match Expr::parse(alloc, text) {
+pub(crate) fn print_expression(words: &mut Words, answer: &mut Answer) -> Result<(), Failure> {
+    match Expr::parse(words.alloc, words.name()) {
         Ok(expression) => write!(answer, "{expression}"),
         Err(refusal) => return print_refusal(refusal, answer),
     }
@@ -47,17 +43,13 @@ fn add_times(all: &mut String, text: &str, times: usize) -> Result<(), AllocErro
 }
 
 /// Reads a text with so many others before and behind it, and prints whether it spells an expression.
-pub(crate) fn print_nested(
-    alloc: Global,
-    words: &mut Words,
-    answer: &mut Answer,
-) -> Result<(), Failure> {
+pub(crate) fn print_nested(words: &mut Words, answer: &mut Answer) -> Result<(), Failure> {
     let count = words.count();
-    let mut text = String::new(alloc);
+    let mut text = String::new(words.alloc);
     add_times(&mut text, words.name(), count)?;
     add_times(&mut text, words.name(), 1)?;
     add_times(&mut text, words.name(), count)?;
-    match Expr::parse(alloc, text.as_str()) {
+    match Expr::parse(words.alloc, text.as_str()) {
         Ok(_expression) => answer.push_str("ok"),
         Err(refusal) => return print_refusal(refusal, answer),
     }

@@ -4,7 +4,6 @@ use msi_text::{Category, LanguageId, Timestamp};
 use msi_text_base::codepage::CodePage;
 use msi_text_base::errors::Error;
 use msi_text_pages::Page;
-use std::alloc::Global;
 use transcripts_words::answers::Answer;
 use transcripts_words::failure::Failure;
 use transcripts_words::kept::{Kept, pieces, print_bytes};
@@ -17,23 +16,18 @@ pub fn codepage(words: &mut Words) -> CodePage {
 }
 
 /// Prints the text of bytes in a code page.
-pub(crate) fn decode(
-    alloc: Global,
-    kept: &Kept,
-    words: &mut Words,
-    answer: &mut Answer,
-) -> Result<(), Failure> {
+pub(crate) fn decode(kept: &Kept, words: &mut Words, answer: &mut Answer) -> Result<(), Failure> {
     let page = codepage(words);
-    let bytes = pieces(alloc, kept, words)?;
-    let text = page.decode(alloc, bytes.as_slice())?;
+    let bytes = pieces(kept, words)?;
+    let text = page.decode(words.alloc, bytes.as_slice())?;
     write!(answer, "{:?}", text.as_str());
     Ok(())
 }
 
 /// Prints the bytes of a text in a code page.
-pub(crate) fn encode(alloc: Global, words: &mut Words, answer: &mut Answer) -> Result<(), Failure> {
+pub(crate) fn encode(words: &mut Words, answer: &mut Answer) -> Result<(), Failure> {
     let page = codepage(words);
-    let bytes = page.encode(alloc, words.name())?;
+    let bytes = page.encode(words.alloc, words.name())?;
     print_bytes(answer, bytes.as_slice());
     Ok(())
 }
@@ -46,14 +40,13 @@ fn tabled_page(words: &mut Words) -> Page {
 
 /// Prints the text of bytes in such a page, or how many of them stand before a sequence that stands for no character.
 pub(crate) fn read_page(
-    alloc: Global,
     kept: &Kept,
     words: &mut Words,
     answer: &mut Answer,
 ) -> Result<(), Failure> {
-    let decoder = tabled_page(words).decoder(alloc)?;
-    let bytes = pieces(alloc, kept, words)?;
-    match decoder.decode(alloc, bytes.as_slice()) {
+    let decoder = tabled_page(words).decoder(words.alloc)?;
+    let bytes = pieces(kept, words)?;
+    match decoder.decode(words.alloc, bytes.as_slice()) {
         Ok(text) => write!(answer, "{:?}", text.as_str()),
         Err(error) => print_refusal(answer, &error, decoder.first_unmapped(bytes.as_slice())),
     }
@@ -61,14 +54,10 @@ pub(crate) fn read_page(
 }
 
 /// Prints the bytes of a text in such a page, or how many characters stand before one that the page lacks.
-pub(crate) fn write_page(
-    alloc: Global,
-    words: &mut Words,
-    answer: &mut Answer,
-) -> Result<(), Failure> {
-    let encoder = tabled_page(words).encoder(alloc)?;
+pub(crate) fn write_page(words: &mut Words, answer: &mut Answer) -> Result<(), Failure> {
+    let encoder = tabled_page(words).encoder(words.alloc)?;
     let text = words.name();
-    match encoder.encode(alloc, text) {
+    match encoder.encode(words.alloc, text) {
         Ok(bytes) => print_bytes(answer, bytes.as_slice()),
         // What is refused isn't carried.
         Err(_error) if encoder.carries(text) => answer.push_str("carried"),
@@ -175,24 +164,19 @@ pub fn ticks(words: &mut Words) -> Timestamp {
 
 /// Prints the ticks that bytes hold.
 pub(crate) fn read_moment(
-    alloc: Global,
     kept: &Kept,
     words: &mut Words,
     answer: &mut Answer,
 ) -> Result<(), Failure> {
-    let bytes = pieces(alloc, kept, words)?;
+    let bytes = pieces(kept, words)?;
     let moment = Timestamp::read_from(&mut bytes.as_slice())?;
     write!(answer, "{}", moment.ticks());
     Ok(())
 }
 
 /// Prints the bytes of ticks.
-pub(crate) fn write_moment(
-    alloc: Global,
-    words: &mut Words,
-    answer: &mut Answer,
-) -> Result<(), Failure> {
-    let mut bytes = Vec::new(alloc);
+pub(crate) fn write_moment(words: &mut Words, answer: &mut Answer) -> Result<(), Failure> {
+    let mut bytes = Vec::new(words.alloc);
     ticks(words).write_to(&mut bytes)?;
     print_bytes(answer, bytes.as_slice());
     Ok(())

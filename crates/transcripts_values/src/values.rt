@@ -13,16 +13,16 @@ use uuid::Uuid;
 
 /// Reads a value of the row of a number: `NULL`, `BINARY_STREAM`, a number, a text; or `number`, which is the row's
 /// number, `digits`, the text of that, and `letter`, one of 21,000 letters for it.
-fn value(alloc: Global, words: &mut Words, number: i32) -> Result<Value, Error> {
+fn value(words: &mut Words, number: i32) -> Result<Value, Error> {
     if let Some(Token::Text(_)) = words.peek() {
-        return Value::from_text(alloc, words.name());
+        return Value::from_text(words.alloc, words.name());
     }
     match words.word() {
         "NULL" => Ok(Value::Null),
         "BINARY_STREAM" => Ok(Value::Binary),
         "number" => Ok(Value::Int(number)),
-        "digits" => Ok(Value::from(format!(in alloc; "{number}")?)),
-        "letter" => Ok(Value::from(letter(alloc, number)?)),
+        "digits" => Ok(Value::from(format!(in words.alloc; "{number}")?)),
+        "letter" => Ok(Value::from(letter(words.alloc, number)?)),
         word => {
             let number = word.parse::<i32>().ok();
             Ok(Value::Int(words.spelled(number, 0, "a value is missing")))
@@ -37,42 +37,37 @@ fn letter(alloc: Global, number: i32) -> Result<String, AllocError> {
 }
 
 /// Reads the values of a row: `(1, "One", NULL)`.
-fn row(alloc: Global, words: &mut Words, number: i32) -> Result<Vec<Value>, Error> {
-    let mut values = Vec::new(alloc);
+fn row(words: &mut Words, number: i32) -> Result<Vec<Value>, Error> {
+    let mut values = Vec::new(words.alloc);
     let mut goes_on = words.begins_list();
     for _ in 0..words.len() {
         if !goes_on {
             break;
         }
-        values.push(value(alloc, words, number)?)?;
+        values.push(value(words, number)?)?;
         goes_on = words.goes_on();
     }
     Ok(values)
 }
 
 /// Reads a row for each number of a range: `0..50 (number, letter)`. Fails if memory runs out.
-pub fn rows(alloc: Global, words: &mut Words) -> Result<Vec<Vec<Value>>, Error> {
+pub fn rows(words: &mut Words) -> Result<Vec<Vec<Value>>, Error> {
     let (from, to) = words.word().split_once("..").unwrap_or(("", ""));
     let from = words.spelled(from.parse::<i32>().ok(), 0, "a range is missing");
     let to = words.spelled(to.parse::<i32>().ok(), 0, "a range is missing");
     let template = *words;
-    let mut rows = Vec::new(alloc);
+    let mut rows = Vec::new(words.alloc);
     for number in from..to {
         *words = template;
-        rows.push(row(alloc, words, number)?)?;
+        rows.push(row(words, number)?)?;
     }
     Ok(rows)
 }
 
 /// Prints a value plainly; in a width of 3 and of 8, to the left, to the right, and in the middle; or cut, in a width
 /// and in none.
-pub(crate) fn print(
-    alloc: Global,
-    verb: &str,
-    words: &mut Words,
-    answer: &mut Answer,
-) -> Result<(), Failure> {
-    let value = value(alloc, words, 0)?;
+pub(crate) fn print(verb: &str, words: &mut Words, answer: &mut Answer) -> Result<(), Failure> {
+    let value = value(words, 0)?;
     match verb {
         "print_aligned" => write!(
             answer,
@@ -85,17 +80,17 @@ pub(crate) fn print(
 }
 
 /// Reads what a value is made of: the type, and what is given of it.
-fn made(alloc: Global, words: &mut Words) -> Result<Value, Error> {
+fn made(words: &mut Words) -> Result<Value, Error> {
     match words.word() {
         "bool" => Ok(Value::from(words.word() == "true")),
         "i16" => Ok(Value::from(words.number() as i16)),
         "u16" => Ok(Value::from(words.number() as u16)),
         "i32" => Ok(Value::from(words.number())),
-        "string" => Ok(Value::from(String::from_str(alloc, words.name())?)),
-        "text" => Value::from_text(alloc, words.name()),
-        "uuid" => Value::from_uuid(alloc, uuid(words)),
-        "language" => Value::from_language(alloc, LanguageId::from_id(words.number() as u16)),
-        "languages" => Value::from_languages(alloc, languages(alloc, words)?.as_slice()),
+        "string" => Ok(Value::from(String::from_str(words.alloc, words.name())?)),
+        "text" => Value::from_text(words.alloc, words.name()),
+        "uuid" => Value::from_uuid(words.alloc, uuid(words)),
+        "language" => Value::from_language(words.alloc, LanguageId::from_id(words.number() as u16)),
+        "languages" => Value::from_languages(words.alloc, languages(words)?.as_slice()),
         _ => {
             words.refuse("a value isn't made of that");
             Ok(Value::Null)
@@ -104,23 +99,15 @@ fn made(alloc: Global, words: &mut Words) -> Result<Value, Error> {
 }
 
 /// Prints the value that is made of something else.
-pub(crate) fn print_made(
-    alloc: Global,
-    words: &mut Words,
-    answer: &mut Answer,
-) -> Result<(), Failure> {
-    write!(answer, "{}", made(alloc, words)?);
+pub(crate) fn print_made(words: &mut Words, answer: &mut Answer) -> Result<(), Failure> {
+    write!(answer, "{}", made(words)?);
     Ok(())
 }
 
 /// Prints how a copy of a value stands to another value.
-pub(crate) fn compare(
-    alloc: Global,
-    words: &mut Words,
-    answer: &mut Answer,
-) -> Result<(), Failure> {
-    let copy = value(alloc, words, 0)?.clone(alloc)?;
-    let other = value(alloc, words, 0)?;
+pub(crate) fn compare(words: &mut Words, answer: &mut Answer) -> Result<(), Failure> {
+    let copy = value(words, 0)?.clone(words.alloc)?;
+    let other = value(words, 0)?;
     answer.push_str(if copy == other {
         "equal"
     } else if copy < other {
@@ -132,13 +119,9 @@ pub(crate) fn compare(
 }
 
 /// Prints whether a column takes a value.
-pub(crate) fn print_takes(
-    alloc: Global,
-    words: &mut Words,
-    answer: &mut Answer,
-) -> Result<(), Failure> {
-    let column = column(alloc, words)?;
-    let value = value(alloc, words, 0)?;
+pub(crate) fn print_takes(words: &mut Words, answer: &mut Answer) -> Result<(), Failure> {
+    let column = column(words)?;
+    let value = value(words, 0)?;
     write!(answer, "{}", column.is_valid_value(&value));
     Ok(())
 }
@@ -150,8 +133,8 @@ pub fn uuid(words: &mut Words) -> Uuid {
 }
 
 /// Returns the languages of the numbers that are left. Fails if memory runs out.
-pub fn languages(alloc: Global, words: &mut Words) -> Result<Vec<LanguageId>, AllocError> {
-    let mut languages = Vec::new(alloc);
+pub fn languages(words: &mut Words) -> Result<Vec<LanguageId>, AllocError> {
+    let mut languages = Vec::new(words.alloc);
     for _ in 0..words.len() {
         languages.push(LanguageId::from_id(words.number() as u16))?;
     }

@@ -5,12 +5,10 @@ use crate::contents::{changed, print_names, print_read, refused_beginnings, writ
 use crate::failure::Failure;
 use crate::kept::{Kept, pieces, print_bytes, ranged};
 use crate::words::Words;
-use std::alloc::Global;
 
 /// Makes a call on bytes that are kept, whose name comes first, and prints its answer. Fails if there is no such call,
 /// if the bytes are no compound file where the call needs one, and if memory runs out.
 pub fn make(
-    alloc: Global,
     kept: &mut Kept,
     verb: &str,
     words: &mut Words,
@@ -19,49 +17,42 @@ pub fn make(
     match verb {
         "bytes" | "write_container" | "set_clsid" | "set_raw" | "remove_raw" => {
             let name = words.name();
-            let bytes = bytes_of(alloc, kept, verb, name, words)?;
-            kept.reserve(alloc, name)?;
+            let bytes = bytes_of(kept, verb, name, words)?;
+            kept.reserve(words.alloc, name)?;
             kept.keep(name, bytes);
             answer.push_str("ok");
             Ok(())
         }
-        "show" | "size" | "number" | "same" | "raw_streams" | "read_container"
-        | "refused_beginnings" => look(alloc, kept, verb, words, answer),
+        "show"
+        | "size"
+        | "number"
+        | "same"
+        | "raw_streams"
+        | "read_container"
+        | "refused_beginnings" => look(kept, verb, words, answer),
         _ => Err(Failure::Unreadable("there is no such call")),
     }
 }
 
 /// Returns the bytes that a call keeps under a name.
-fn bytes_of(
-    alloc: Global,
-    kept: &Kept,
-    verb: &str,
-    name: &str,
-    words: &mut Words,
-) -> Result<Vec<u8>, Failure> {
+fn bytes_of(kept: &Kept, verb: &str, name: &str, words: &mut Words) -> Result<Vec<u8>, Failure> {
     match verb {
-        "bytes" => pieces(alloc, kept, words),
-        "write_container" => Ok(written(alloc, words)?),
-        _ => changed(alloc, kept, verb, kept.bytes(name)?, words),
+        "bytes" => pieces(kept, words),
+        "write_container" => Ok(written(words)?),
+        _ => changed(kept, verb, kept.bytes(name)?, words),
     }
 }
 
 /// Prints the answer of a call that looks at bytes.
-fn look(
-    alloc: Global,
-    kept: &Kept,
-    verb: &str,
-    words: &mut Words,
-    answer: &mut Answer,
-) -> Result<(), Failure> {
+fn look(kept: &Kept, verb: &str, words: &mut Words, answer: &mut Answer) -> Result<(), Failure> {
     let bytes = kept.bytes(words.name())?;
     match verb {
         "show" => return print_range(answer, bytes, words),
         "same" => write!(answer, "{}", bytes == kept.bytes(words.name())?),
         "number" => return print_number(answer, bytes, words.count()),
-        "raw_streams" => return print_names(alloc, answer, bytes),
-        "read_container" => return print_read(alloc, answer, bytes, words),
-        "refused_beginnings" => write!(answer, "{}", refused_beginnings(alloc, bytes)),
+        "raw_streams" => return print_names(words.alloc, answer, bytes),
+        "read_container" => return print_read(answer, bytes, words),
+        "refused_beginnings" => write!(answer, "{}", refused_beginnings(words.alloc, bytes)),
         _ => write!(answer, "{}", bytes.len()),
     }
     Ok(())

@@ -17,25 +17,25 @@ const INSTALLER: [u8; 16] = [
 /// Returns the file of an installer package with streams of some names and lengths: `(a 64) (b 0)`, and in front of
 /// them `over 10000` for a longer file that they stand over, and `storages` if it has some. Fails if they can't be
 /// written, and if memory runs out.
-pub(crate) fn written(alloc: Global, words: &mut Words) -> Result<Vec<u8>, Error> {
+pub(crate) fn written(words: &mut Words) -> Result<Vec<u8>, Error> {
     let over = words.count_behind("over", 0) as u64;
     let has_storages = words.takes("storages");
-    let streams = streams(alloc, words)?;
+    let streams = streams(words)?;
     let contents = Contents {
         clsid: INSTALLER,
         streams,
         has_storages,
     };
-    compound::write(alloc, &contents, over)
+    compound::write(words.alloc, &contents, over)
 }
 
 /// Reads streams.
-fn streams(alloc: Global, words: &mut Words) -> Result<StreamMap, Error> {
-    let mut streams = StreamMap::new(alloc);
+fn streams(words: &mut Words) -> Result<StreamMap, Error> {
+    let mut streams = StreamMap::new(words.alloc);
     for _ in 0..words.len() {
         if words.takes_mark('(') {
             let name = Name::new(words.name())?;
-            let bytes = content(alloc, words.count())?;
+            let bytes = content(words.alloc, words.count())?;
             streams.insert(name, Bytes::from_vec(bytes))?;
             let _ = words.goes_on();
         }
@@ -76,11 +76,11 @@ pub(crate) fn stream_of_table(
 }
 
 /// Reads a stream's name in the container: a text is that name, and a word is the name of a table.
-fn key(alloc: Global, words: &mut Words) -> Result<Name, Error> {
+fn key(words: &mut Words) -> Result<Name, Error> {
     match words.peek_word() {
         Some(table) => {
             let _ = words.next();
-            table_key(alloc, table)
+            table_key(words.alloc, table)
         }
         None => Name::new(words.name()),
     }
@@ -88,25 +88,24 @@ fn key(alloc: Global, words: &mut Words) -> Result<Name, Error> {
 
 /// Returns a container with a stream that is set or removed, or another CLSID.
 pub(crate) fn changed(
-    alloc: Global,
     kept: &Kept,
     verb: &str,
     bytes: &[u8],
     words: &mut Words,
 ) -> Result<Vec<u8>, Failure> {
-    let mut contents = compound::read(alloc, bytes)?;
+    let mut contents = compound::read(words.alloc, bytes)?;
     match verb {
-        "set_clsid" => set_clsid(&mut contents, pieces(alloc, kept, words)?.as_slice()),
+        "set_clsid" => set_clsid(&mut contents, pieces(kept, words)?.as_slice()),
         "remove_raw" => {
-            contents.streams.remove(&key(alloc, words)?);
+            contents.streams.remove(&key(words)?);
         }
         _ => {
-            let key = key(alloc, words)?;
-            let bytes = Bytes::from_vec(pieces(alloc, kept, words)?);
+            let key = key(words)?;
+            let bytes = Bytes::from_vec(pieces(kept, words)?);
             contents.streams.insert(key, bytes)?;
         }
     }
-    Ok(compound::write(alloc, &contents, 0)?)
+    Ok(compound::write(words.alloc, &contents, 0)?)
 }
 
 /// Sets the root's CLSID.
@@ -119,14 +118,13 @@ fn set_clsid(contents: &mut Contents, clsid: &[u8]) {
 /// Prints what a file holds, and how many steps it takes to read. Fails if they are more than stand behind `within`, if
 /// the bytes are no compound file, and if memory runs out.
 pub(crate) fn print_read(
-    alloc: Global,
     answer: &mut Answer,
     bytes: &[u8],
     words: &mut Words,
 ) -> Result<(), Failure> {
     let most = words.count_behind("within", usize::MAX);
     let mut steps = Steps::new();
-    let outcome = compound::read_counted(alloc, bytes, &mut steps);
+    let outcome = compound::read_counted(words.alloc, bytes, &mut steps);
     if steps.count() > most as u64 {
         return Err(Failure::Unreadable("there are more steps"));
     }
@@ -134,7 +132,7 @@ pub(crate) fn print_read(
     if contents.streams.is_empty() {
         answer.push_str("no streams\n");
     }
-    print_streams(alloc, answer, &contents.streams)?;
+    print_streams(words.alloc, answer, &contents.streams)?;
     let storages = if contents.has_storages { "" } else { "no " };
     write!(answer, "{storages}storages, CLSID ");
     print_few(answer, &contents.clsid, 16);

@@ -56,13 +56,13 @@ impl Kept {
 /// Reads pieces up to a mark or the line's end: bytes as hexadecimal digits, texts, bytes that are kept, `@NAME`, and
 /// the stream of a table in them, `@NAME/TABLE`; of these a part, `@NAME:0..512`. With `*3` behind it a piece stands
 /// there three times. Fails at what is no piece, at a name or a table that has no bytes, and if memory runs out.
-pub fn pieces(alloc: Global, kept: &Kept, words: &mut Words) -> Result<Vec<u8>, Failure> {
-    let mut all = Vec::new(alloc);
+pub fn pieces(kept: &Kept, words: &mut Words) -> Result<Vec<u8>, Failure> {
+    let mut all = Vec::new(words.alloc);
     for _ in 0..words.len() {
         let Some(piece) = words.next_unmarked() else {
             break;
         };
-        add_times(alloc, &mut all, kept, piece, times(words))?;
+        add_times(words.alloc, &mut all, kept, piece, times(words))?;
     }
     Ok(all)
 }

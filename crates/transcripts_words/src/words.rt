@@ -2,6 +2,7 @@
 
 use crate::failure::Failure;
 use crate::tokens::Token;
+use std::alloc::Global;
 
 /// The tokens of a line that are still to be read.
 ///
@@ -10,6 +11,8 @@ use crate::tokens::Token;
 /// asks once, by `check` or `end`.
 #[derive(Clone, Copy)]
 pub struct Words<'a> {
+    /// Where calls take memory.
+    pub alloc: Global,
     tokens: &'a [Token],
     /// The first reason why the line can't be read, if there is one.
     refusal: Option<&'static str>,
@@ -17,8 +20,9 @@ pub struct Words<'a> {
 
 impl<'a> Words<'a> {
     /// Returns the words of a line, of which none is read yet.
-    pub fn new(tokens: &'a [Token]) -> Words<'a> {
+    pub fn new(alloc: Global, tokens: &'a [Token]) -> Words<'a> {
         Words {
+            alloc,
             tokens,
             refusal: None,
         }
