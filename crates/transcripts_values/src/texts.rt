@@ -109,9 +109,16 @@ fn page(words: &mut Words) -> Option<CodePage> {
     CodePage::from_id(words.number())
 }
 
-/// Reads a number of 16 bits.
-fn short(words: &mut Words) -> u16 {
-    words.number() as u16
+/// Reads a number of 16 bits without a sign.
+pub(crate) fn short(words: &mut Words) -> u16 {
+    let number = words.word().parse::<u16>().ok();
+    words.spelled(number, 0, "a number is missing")
+}
+
+/// Reads a number of 32 bits without a sign.
+fn long(words: &mut Words) -> u32 {
+    let number = words.word().parse::<u32>().ok();
+    words.spelled(number, 0, "a number is missing")
 }
 
 /// Reads a language, which is given as its parts, an id of 32 bits, a tag, an id or a number.
@@ -121,7 +128,7 @@ fn language(words: &mut Words) -> LanguageId {
             let primary = short(words);
             LanguageId::new(primary, short(words))
         }
-        "lcid" => LanguageId::from_lcid(words.number() as u32),
+        "lcid" => LanguageId::from_lcid(long(words)),
         "tag" => LanguageId::from_tag(words.name()),
         "id" => LanguageId::from_id(short(words)),
         "number" => LanguageId::from(short(words)),
@@ -152,7 +159,7 @@ pub(crate) fn convert(verb: &str, words: &mut Words, answer: &mut Answer) -> Res
     }
     let seconds = words.word().parse::<i64>().ok();
     let seconds = words.spelled(seconds, 0, "a number is missing");
-    let moment = Timestamp::from_unix(seconds, words.count() as u32);
+    let moment = Timestamp::from_unix(seconds, long(words));
     write!(answer, "{}", moment.ticks());
     Ok(())
 }

@@ -1,6 +1,7 @@
 //! Reads values and rows, and makes calls on values.
 
 use crate::columns::column;
+use crate::texts::short;
 use msi_table_values::value::Value;
 use msi_text::LanguageId;
 use msi_text_base::errors::Error;
@@ -83,13 +84,16 @@ pub(crate) fn print(verb: &str, words: &mut Words, answer: &mut Answer) -> Resul
 fn made(words: &mut Words) -> Result<Value, Error> {
     match words.word() {
         "bool" => Ok(Value::from(words.word() == "true")),
-        "i16" => Ok(Value::from(words.number() as i16)),
-        "u16" => Ok(Value::from(words.number() as u16)),
+        "i16" => {
+            let number = words.word().parse::<i16>().ok();
+            Ok(Value::from(words.spelled(number, 0, "a number is missing")))
+        }
+        "u16" => Ok(Value::from(short(words))),
         "i32" => Ok(Value::from(words.number())),
         "string" => Ok(Value::from(String::from_str(words.alloc, words.name())?)),
         "text" => Value::from_text(words.alloc, words.name()),
         "uuid" => Value::from_uuid(words.alloc, uuid(words)),
-        "language" => Value::from_language(words.alloc, LanguageId::from_id(words.number() as u16)),
+        "language" => Value::from_language(words.alloc, LanguageId::from_id(short(words))),
         "languages" => Value::from_languages(words.alloc, languages(words)?.as_slice()),
         _ => {
             words.refuse("a value isn't made of that");
@@ -136,7 +140,7 @@ pub fn uuid(words: &mut Words) -> Uuid {
 pub fn languages(words: &mut Words) -> Result<Vec<LanguageId>, AllocError> {
     let mut languages = Vec::new(words.alloc);
     for _ in 0..words.len() {
-        languages.push(LanguageId::from_id(words.number() as u16))?;
+        languages.push(LanguageId::from_id(short(words)))?;
     }
     Ok(languages)
 }
