@@ -1,6 +1,6 @@
-//! Tests that no transcript of `crates/transcripts` can express: of devices, the examples of the README, the code of
-//! the guide, packages in files, and lists of calls. The program `transcripts` runs them, and takes from here a device
-//! that counts its calls.
+//! Tests that no transcript of `crates/transcripts` can express: of devices, string pools and property sets of no
+//! package, the examples of the README, the code of the guide, packages in files, and lists of calls. The program
+//! `transcripts` runs them, and takes from here a device that counts its calls.
 #![tactic(auto)]
 
 mod calls;
@@ -8,6 +8,7 @@ pub mod counting;
 mod devices;
 mod files;
 mod guide;
+mod parts;
 mod printing;
 mod readme;
 mod replays;
@@ -22,6 +23,16 @@ pub fn run(rt: &HostRuntime) -> bool {
     are_shown &= readme::the_example_makes_a_package_with_a_row(rt);
     are_shown &= is_shown(rt, &"printing", printing::rows_of_a_file_are_printed(rt));
     are_shown &= is_shown(rt, &"the guide", guide::follow(rt).map(|()| true));
+    are_shown &= is_shown(
+        rt,
+        &"pools",
+        parts::a_pool_is_written_and_read_back(rt.alloc()),
+    );
+    are_shown &= is_shown(
+        rt,
+        &"sets",
+        parts::a_set_is_written_and_read_back(rt.alloc()),
+    );
     are_shown &= is_shown(rt, &"files", files::opening_leaves_the_file_as_it_was(rt));
     are_shown & replays::a_list_of_calls_is_answered(rt)
 }

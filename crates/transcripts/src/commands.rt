@@ -1,7 +1,7 @@
 //! Runs of the commands of `msidb`, on files.
 
 use msidb_commands::run;
-use std::alloc::{AllocError, Global};
+use std::alloc::AllocError;
 use std::io::{self, Read, Write};
 use std::{fs, str};
 use transcripts_words::answers::Answer;
@@ -9,19 +9,6 @@ use transcripts_words::failure::Failure;
 use transcripts_words::kept::{Kept, pieces, print_bytes};
 use transcripts_words::tokens::Token;
 use transcripts_words::words::Words;
-
-/// How the standard streams of a run behave.
-#[derive(Clone, Copy)]
-pub(crate) enum Streams {
-    /// As they should.
-    Sound,
-    /// Standard input can't be read, and standard output takes nothing.
-    Broken,
-    /// Standard output can't be flushed, and nothing of it is kept.
-    Unflushed,
-    /// Standard input is empty, and moves a file onto another path when it is read.
-    Moving,
-}
 
 /// The most bytes of a text that is printed as it is.
 const MOST: usize = 1024;
@@ -44,36 +31,29 @@ impl Read for Input<'_> {
     }
 }
 
-/// A standard output.
+/// A standard output: that of `msidb_unflushed` can't be flushed, and keeps nothing; those of `msidb_broken` and
+/// `msidb_moving` take nothing.
 #[derive(Drop)]
-struct Output {
+struct Output<'a> {
     bytes: Vec<u8>,
-    streams: Streams,
+    verb: &'a str,
 }
 
-impl Write for Output {
+impl Write for Output<'_> {
     fn write(&mut self, bytes: &[u8]) -> io::Result<usize> {
-        match self.streams {
-            Streams::Sound => self.bytes.write(bytes),
-            Streams::Unflushed => Ok(bytes.len()),
+        match self.verb {
+            "msidb" => self.bytes.write(bytes),
+            "msidb_unflushed" => Ok(bytes.len()),
             _ => Ok(0),
         }
     }
 
     fn flush(&mut self) -> io::Result<()> {
-        match self.streams {
-            Streams::Unflushed => Err(io::Error::from(io::ErrorKind::BrokenPipe)),
-            _ => Ok(()),
+        if self.verb == "msidb_unflushed" {
+            return Err(io::Error::from(io::ErrorKind::BrokenPipe));
         }
+        Ok(())
     }
-}
-
-/// Keeps the bytes of a file: `load NAME PATH`.
-pub(crate) fn load(rt: &HostRuntime, kept: &mut Kept, words: &mut Words) -> Result<(), Failure> {
-    let name = words.name();
-    kept.reserve(rt.alloc(), name)?;
-    kept.keep(name, fs::read(rt, words.name())?);
-    Ok(())
 }
 
 /// Runs a command, whose standard input stands behind `<`, and prints what it prints, its line of errors, and the
@@ -81,41 +61,41 @@ pub(crate) fn load(rt: &HostRuntime, kept: &mut Kept, words: &mut Words) -> Resu
 pub(crate) fn make(
     rt: &HostRuntime,
     kept: &Kept,
-    streams: Streams,
+    verb: &str,
     words: &mut Words,
     answer: &mut Answer,
 ) -> Result<(), Failure> {
-    let moved = moved_by(streams, words);
-    let command = command(rt.alloc(), words)?;
+    let moved = moved_by(verb, words);
+    let command = command(words)?;
     let _ = words.takes("<");
-    let bytes = pieces(rt.alloc(), kept, words)?;
+    let bytes = pieces(kept, words)?;
     let input = Input {
         rt,
         bytes: bytes.as_slice(),
         moved,
     };
-    run_on(rt, command.as_slice(), input, streams, answer);
+    run_on(rt, command.as_slice(), input, verb, answer);
     Ok(())
 }
 
 /// What standard input moves.
-fn moved_by<'a>(streams: Streams, words: &mut Words<'a>) -> Option<(&'a str, &'a str)> {
-    match streams {
-        Streams::Broken => Some(("", "")),
-        Streams::Moving => Some((words.name(), words.name())),
+fn moved_by<'a>(verb: &str, words: &mut Words<'a>) -> Option<(&'a str, &'a str)> {
+    match verb {
+        "msidb_broken" => Some(("", "")),
+        "msidb_moving" => Some((words.name(), words.name())),
         _ => None,
     }
 }
 
 /// The words of a command, as the program is handed them.
-fn command(alloc: Global, words: &mut Words) -> Result<Vec<String>, AllocError> {
-    let mut command = Vec::new(alloc);
+fn command(words: &mut Words) -> Result<Vec<String>, AllocError> {
+    let mut command = Vec::new(words.alloc);
     for _ in 0..words.len() {
         if words.peek_word() == Some("<") {
             break;
         }
         if let Some(Token::Word(word) | Token::Text(word)) = words.next_unmarked() {
-            command.push(String::from_str(alloc, word.as_str())?)?;
+            command.push(String::from_str(words.alloc, word.as_str())?)?;
         }
     }
     Ok(command)
@@ -126,13 +106,13 @@ fn run_on(
     rt: &HostRuntime,
     command: &[String],
     mut input: Input<'_>,
-    streams: Streams,
+    verb: &str,
     answer: &mut Answer,
 ) {
     let before = file_of(rt, command);
     let mut output = Output {
         bytes: Vec::new(rt.alloc()),
-        streams,
+        verb,
     };
     let mut errors = Vec::new(rt.alloc());
     let status = run(rt, command, &mut input, &mut output, &mut errors);

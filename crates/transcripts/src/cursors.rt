@@ -1,6 +1,6 @@
 //! Calls on the reader or the writer of a stream, whose lines are indented below the call that opens the stream.
 
-use crate::session::Session;
+use crate::session::{NO_PACKAGE, Session};
 use msi::{StreamReader, StreamWriter};
 use std::alloc::Global;
 use std::io::{Read, Seek, SeekFrom, Write};
@@ -12,9 +12,41 @@ use transcripts_words::reports::Report;
 use transcripts_words::tokens::tokens;
 use transcripts_words::words::Words;
 
-/// Opens a stream for writing, and makes the calls below. Fails if there is no package, if memory runs out, and if
-/// nothing can be printed.
-pub(crate) fn write(
+/// Opens a stream, and makes the calls below. Fails if the line opens none, if there is no package, if memory runs out,
+/// and if nothing can be printed.
+pub(crate) fn run(
+    rt: &HostRuntime,
+    report: &mut Report,
+    session: &mut Session,
+    line: &Line,
+    rest: &[Line],
+) -> Result<(), Failure> {
+    let tokens = tokens(rt.alloc(), line.text())?;
+    let mut words = Words::new(rt.alloc(), tokens.as_slice());
+    let (verb, name) = (words.word(), words.name());
+    words.end()?;
+    match verb {
+        "write_stream" => write(rt, report, session, name, line, rest),
+        "read_stream" => read(rt, report, session, name, line, rest),
+        _ => Err(Failure::Unreadable("no stream is open for the calls below")),
+    }
+}
+
+/// Checks how a stream was opened.
+fn check(
+    rt: &HostRuntime,
+    report: &mut Report,
+    line: &Line,
+    rest: &[Line],
+    outcome: Result<(), Failure>,
+) -> Result<(), Failure> {
+    let mut answer = Answer::new(rt.alloc())?;
+    answer.push_str("ok");
+    report.check(rt, line, rest, outcome, &mut answer)
+}
+
+/// Opens a stream for writing, and makes the calls below.
+fn write(
     rt: &HostRuntime,
     report: &mut Report,
     session: &mut Session,
@@ -23,56 +55,48 @@ pub(crate) fn write(
     rest: &[Line],
 ) -> Result<(), Failure> {
     let Some(package) = &mut session.package else {
-        return Err(Failure::Unreadable("there is no package"));
+        return Err(NO_PACKAGE);
     };
-    let mut answer = Answer::new(rt.alloc())?;
-    answer.push_str("ok");
-    match package.write_stream(name) {
-        Ok(stream) => {
-            report.check(rt, line, rest, Ok(()), &mut answer)?;
-            write_lines(rt, report, &session.stock.kept, stream, rest)
-        }
-        Err(error) => report.check(rt, line, rest, Err(Failure::from(error)), &mut answer),
-    }
-}
-
-/// Makes the calls on a writer.
-fn write_lines(
-    rt: &HostRuntime,
-    report: &mut Report,
-    kept: &Kept,
-    stream: StreamWriter,
-    rest: &[Line],
-) -> Result<(), Failure> {
+    let stream = match package.write_stream(name) {
+        Ok(stream) => stream,
+        Err(error) => return check(rt, report, line, rest, Err(Failure::from(error))),
+    };
+    check(rt, report, line, rest, Ok(()))?;
     for i in 0..rest.len() {
         if rest[i].is_call() {
             break;
         }
         if rest[i].is_cursor_call() {
-            write_line(rt, report, kept, &mut *stream, &rest[i], &rest[i + 1..])?;
+            let mut answer = Answer::new(rt.alloc())?;
+            let outcome = write_line(
+                rt,
+                report,
+                &session.kept,
+                &mut *stream,
+                &rest[i],
+                &mut answer,
+            );
+            report.check(rt, &rest[i], &rest[i + 1..], outcome, &mut answer)?;
         }
     }
     Ok(())
 }
 
-/// Makes a call on a writer, and checks its answer.
+/// Makes a call on a writer.
 fn write_line(
     rt: &HostRuntime,
-    report: &mut Report,
+    report: &Report,
     kept: &Kept,
     stream: StreamWriter,
     line: &Line,
-    rest: &[Line],
+    answer: &mut Answer,
 ) -> Result<(), Failure> {
-    let mut answer = Answer::new(rt.alloc())?;
-    let tokens = tokens(rt.alloc(), line.text())?;
-    let mut words = Words::new(tokens.as_slice());
-    let outcome = if words.takes("try") && report.is_trial() {
-        try_call(rt, kept, stream, words, &mut answer)
-    } else {
-        make_write(rt.alloc(), kept, stream, &mut words, &mut answer)
-    };
-    report.check(rt, line, rest, outcome, &mut answer)
+    let text = line.text().trim_start();
+    match text.strip_prefix("try ") {
+        Some(text) if report.is_trial() => try_call(rt, kept, stream, text, answer),
+        Some(text) => make_write(rt.alloc(), kept, stream, text, answer),
+        None => make_write(rt.alloc(), kept, stream, text, answer),
+    }
 }
 
 /// Makes a call on a writer that may be refused memory. Such a call is made again, where the bytes and the position
@@ -81,12 +105,12 @@ fn try_call(
     rt: &HostRuntime,
     kept: &Kept,
     stream: StreamWriter,
-    words: Words,
+    text: &str,
     answer: &mut Answer,
 ) -> Result<(), Failure> {
     let before = picture(rt.alloc(), &mut *stream)?;
     print!(rt; "[")?;
-    let outcome = make_write(rt.alloc(), kept, &mut *stream, &mut { words }, answer);
+    let outcome = make_write(rt.alloc(), kept, &mut *stream, text, answer);
     println!(rt; "]")?;
     match outcome {
         Err(failure) if failure.is_memory() => {}
@@ -96,7 +120,7 @@ fn try_call(
         return Err(Failure::CHANGED);
     }
     answer.clear();
-    make_write(rt.alloc(), kept, stream, &mut { words }, answer)
+    make_write(rt.alloc(), kept, stream, text, answer)
 }
 
 /// Returns the bytes and the position of a writer.
@@ -107,17 +131,22 @@ fn picture(alloc: Global, stream: StreamWriter) -> Result<Vec<u8>, Failure> {
     Ok(bytes)
 }
 
-/// Makes a call on a writer: `write PIECES`, `seek start 4`, `flush`.
+/// Makes a call on a writer: `write PIECES`, which prints how many bytes were taken, `seek start 4`, `flush`.
 fn make_write(
     alloc: Global,
     kept: &Kept,
     stream: StreamWriter,
-    words: &mut Words,
+    text: &str,
     answer: &mut Answer,
 ) -> Result<(), Failure> {
+    let tokens = tokens(alloc, text)?;
+    let mut words = Words::new(alloc, tokens.as_slice());
     match words.word() {
-        "write" => write_pieces(alloc, kept, stream, words, answer)?,
-        "seek" => write!(answer, "{}", stream.seek(target(words))?),
+        "write" => {
+            let piece = pieces(kept, &mut words)?;
+            write!(answer, "{}", stream.write(piece.as_slice())?);
+        }
+        "seek" => write!(answer, "{}", stream.seek(target(&mut words))?),
         "flush" => {
             stream.flush()?;
             answer.push_str("ok");
@@ -128,22 +157,8 @@ fn make_write(
     answer.check()
 }
 
-/// Writes pieces, and prints how many bytes were taken.
-fn write_pieces(
-    alloc: Global,
-    kept: &Kept,
-    stream: StreamWriter,
-    words: &mut Words,
-    answer: &mut Answer,
-) -> Result<(), Failure> {
-    let piece = pieces(alloc, kept, words)?;
-    write!(answer, "{}", stream.write(piece.as_slice())?);
-    Ok(())
-}
-
-/// Opens a stream for reading, and makes the calls below. Fails if there is no package, if memory runs out, and if
-/// nothing can be printed.
-pub(crate) fn read(
+/// Opens a stream for reading, and makes the calls below.
+fn read(
     rt: &HostRuntime,
     report: &mut Report,
     session: &Session,
@@ -151,31 +166,18 @@ pub(crate) fn read(
     line: &Line,
     rest: &[Line],
 ) -> Result<(), Failure> {
-    let mut answer = Answer::new(rt.alloc())?;
-    answer.push_str("ok");
-    match session.package()?.read_stream(name) {
-        Ok(stream) => {
-            report.check(rt, line, rest, Ok(()), &mut answer)?;
-            read_lines(rt, report, stream, rest)
-        }
-        Err(error) => report.check(rt, line, rest, Err(Failure::from(error)), &mut answer),
-    }
-}
-
-/// Makes the calls on a reader.
-fn read_lines(
-    rt: &HostRuntime,
-    report: &mut Report,
-    mut stream: StreamReader,
-    rest: &[Line],
-) -> Result<(), Failure> {
+    let mut stream = match session.package()?.read_stream(name) {
+        Ok(stream) => stream,
+        Err(error) => return check(rt, report, line, rest, Err(Failure::from(error))),
+    };
+    check(rt, report, line, rest, Ok(()))?;
     for i in 0..rest.len() {
         if rest[i].is_call() {
             break;
         }
         if rest[i].is_cursor_call() {
             let mut answer = Answer::new(rt.alloc())?;
-            let outcome = read_line(rt.alloc(), &mut stream, &rest[i], &mut answer);
+            let outcome = make_read(rt.alloc(), &mut stream, rest[i].text(), &mut answer);
             report.check(rt, &rest[i], &rest[i + 1..], outcome, &mut answer)?;
         }
     }
@@ -184,28 +186,18 @@ fn read_lines(
 
 /// Makes a call on a reader: `read 10`; `read_all 10`, which reads to the end by pieces of so many bytes; or
 /// `seek end -2`.
-fn read_line(
-    alloc: Global,
-    stream: &mut StreamReader,
-    line: &Line,
-    answer: &mut Answer,
-) -> Result<(), Failure> {
-    let tokens = tokens(alloc, line.text())?;
-    let mut words = Words::new(tokens.as_slice());
-    make_read(alloc, stream, &mut words, answer)
-}
-
-/// Makes a call on a reader.
 fn make_read(
     alloc: Global,
     stream: &mut StreamReader,
-    words: &mut Words,
+    text: &str,
     answer: &mut Answer,
 ) -> Result<(), Failure> {
+    let tokens = tokens(alloc, text)?;
+    let mut words = Words::new(alloc, tokens.as_slice());
     match words.word() {
         "read" => print_bytes(answer, read_piece(alloc, stream, words.count())?.as_slice()),
         "read_all" => print_bytes(answer, read_all(alloc, stream, words.count())?.as_slice()),
-        "seek" => write!(answer, "{}", stream.seek(target(words))?),
+        "seek" => write!(answer, "{}", stream.seek(target(&mut words))?),
         _ => words.refuse("a reader has no such call"),
     }
     words.end()?;
@@ -236,21 +228,17 @@ fn read_all(alloc: Global, stream: &mut StreamReader, len: usize) -> Result<Vec<
 /// Reads where a seek goes: `start 4`, `current -1` or `end -2`.
 fn target(words: &mut Words) -> SeekFrom {
     let from = words.word();
-    let offset = words.word();
-    let target = match from {
-        "start" => offset
-            .parse::<u64>()
-            .ok()
-            .map(|place| SeekFrom::Start(place)),
-        "current" => offset
-            .parse::<i64>()
-            .ok()
-            .map(|offset| SeekFrom::Current(offset)),
-        "end" => offset
-            .parse::<i64>()
-            .ok()
-            .map(|offset| SeekFrom::End(offset)),
-        _ => None,
-    };
-    words.spelled(target, SeekFrom::Start(0), "a seek goes nowhere")
+    if from == "start" {
+        return SeekFrom::Start(words.count() as u64);
+    }
+    let offset = words.word().parse::<i64>().ok();
+    let offset = words.spelled(offset, 0, "a number is missing");
+    match from {
+        "current" => SeekFrom::Current(offset),
+        "end" => SeekFrom::End(offset),
+        _ => {
+            words.refuse("a seek goes nowhere");
+            SeekFrom::Start(0)
+        }
+    }
 }

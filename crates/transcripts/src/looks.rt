@@ -1,98 +1,58 @@
 //! Calls that look at a package.
 
-use msi::{Error, Package, Rows, Streams, Tables};
+use crate::summary;
+use msi::{Error, Package, Streams};
 use msi_tests::counting::Counting;
-use std::alloc::Global;
 use std::io::Read;
-use transcripts_queries::columns::print_columns;
-use transcripts_queries::conditions::expression;
-use transcripts_queries::evaluation::{print_values, print_worths};
-use transcripts_queries::queries::{print_names, print_rows, select};
-use transcripts_texts::summary;
+use transcripts_values::columns::print_columns;
 use transcripts_words::answers::Answer;
 use transcripts_words::failure::Failure;
 use transcripts_words::kept::print_bytes;
 use transcripts_words::words::Words;
 
-/// A call that looks at a package.
-#[derive(Clone, Copy)]
-pub(crate) enum Look {
-    /// Prints what the package is for.
-    PackageType,
-    /// Prints the id of the database's code page.
-    Codepage,
-    /// Prints whether the package can be changed.
-    IsWritable,
-    /// Prints whether the device has failed.
-    DeviceFailed,
-    /// Prints the names of the tables.
-    Tables,
-    /// Prints whether there is a table.
-    HasTable,
-    /// Prints the columns of a table.
-    Columns,
-    /// Prints the names of the streams.
-    Streams,
-    /// Prints whether there is a stream.
-    HasStream,
-    /// Prints the bytes of a stream.
-    ReadStream,
-    /// Prints whether there is a digital signature.
-    HasSignature,
-    /// Prints a property of the summary.
-    Summary,
-    /// Prints the rows that a query selects.
-    Select,
-    /// Prints the names of their columns.
-    Names,
-    /// Prints how many they are.
-    Count,
-    /// Prints what an expression is worth on each row of a query.
-    Evaluate,
-    /// Prints the values of a column in the rows of a query.
-    Values,
-}
+/// The names of these calls.
+pub(crate) static VERBS: [&str; 12] = [
+    "package_type",
+    "codepage",
+    "is_writable",
+    "device_failed",
+    "tables",
+    "has_table",
+    "columns",
+    "streams",
+    "has_stream",
+    "read_stream",
+    "has_digital_signature",
+    "summary",
+];
 
 /// Prints the answer of a call that looks at a package. Fails if the call is refused, and if memory runs out.
 pub(crate) fn print(
-    alloc: Global,
     package: &Package<Counting>,
-    look: Look,
+    verb: &str,
     words: &mut Words,
     answer: &mut Answer,
 ) -> Result<(), Failure> {
-    match look {
-        Look::Tables => print_tables(answer, package.tables()),
-        Look::Columns => print_table(answer, package, words.name()),
-        Look::Streams => print_streams(answer, package.streams())?,
-        Look::ReadStream => return print_stream(alloc, answer, package, words.name()),
-        Look::Summary => return summary::print(answer, package.summary_info(), words),
-        Look::Select | Look::Names | Look::Count => {
-            return print_query(alloc, answer, package, look, words);
-        }
-        Look::Evaluate => evaluate(alloc, answer, package, words)?,
-        Look::Values => return print_column_values(alloc, answer, package, words),
-        Look::PackageType => write!(answer, "{:?}", package.package_type()),
-        Look::Codepage => write!(answer, "{}", package.database_codepage().id()),
-        _ => write!(answer, "{}", is_so(package, look, words)),
+    match verb {
+        "package_type" => write!(answer, "{:?}", package.package_type()),
+        "codepage" => write!(answer, "{}", package.database_codepage().id()),
+        "is_writable" => write!(answer, "{}", package.is_writable()),
+        "device_failed" => write!(answer, "{}", package.device_failed()),
+        "tables" => print_tables(answer, package),
+        "has_table" => write!(answer, "{}", package.has_table(words.name())),
+        "columns" => print_table(answer, package, words.name()),
+        "streams" => print_streams(answer, package.streams())?,
+        "has_stream" => write!(answer, "{}", package.has_stream(words.name())),
+        "read_stream" => print_stream(answer, package, words)?,
+        "has_digital_signature" => write!(answer, "{}", package.has_digital_signature()),
+        _ => summary::print(answer, package.summary_info(), words)?,
     }
     Ok(())
 }
 
-/// Returns whether something is so.
-fn is_so(package: &Package<Counting>, look: Look, words: &mut Words) -> bool {
-    match look {
-        Look::IsWritable => package.is_writable(),
-        Look::DeviceFailed => package.device_failed(),
-        Look::HasTable => package.has_table(words.name()),
-        Look::HasStream => package.has_stream(words.name()),
-        _ => package.has_digital_signature(),
-    }
-}
-
 /// Prints the names of tables, each as a line.
-fn print_tables(answer: &mut Answer, tables: Tables) {
-    for table in tables {
+fn print_tables(answer: &mut Answer, package: &Package<Counting>) {
+    for table in package.tables() {
         writeln!(answer, "{}", table.name());
     }
 }
@@ -118,62 +78,12 @@ fn print_streams(answer: &mut Answer, streams: Streams) -> Result<(), Error> {
 
 /// Prints the bytes of a stream.
 fn print_stream(
-    alloc: Global,
     answer: &mut Answer,
     package: &Package<Counting>,
-    name: &str,
+    words: &mut Words,
 ) -> Result<(), Failure> {
-    let mut bytes = Vec::new(alloc);
-    package.read_stream(name)?.read_to_end(&mut bytes)?;
+    let mut bytes = Vec::new(words.alloc);
+    package.read_stream(words.name())?.read_to_end(&mut bytes)?;
     print_bytes(answer, bytes.as_slice());
     Ok(())
-}
-
-/// Reads a query, and returns the rows that it selects.
-fn selected<'a>(
-    alloc: Global,
-    package: &'a Package<Counting>,
-    words: &mut Words,
-) -> Result<Rows<'a>, Error> {
-    package.select_rows(select(alloc, words)?)
-}
-
-/// Prints what a query selects.
-fn print_query(
-    alloc: Global,
-    answer: &mut Answer,
-    package: &Package<Counting>,
-    look: Look,
-    words: &mut Words,
-) -> Result<(), Failure> {
-    let rows = selected(alloc, package, words)?;
-    match look {
-        Look::Names => print_names(answer, rows.columns()),
-        Look::Count => write!(answer, "{}", rows.len()),
-        _ => return print_rows(answer, rows),
-    }
-    Ok(())
-}
-
-/// Prints what an expression is worth on each row of a query: `Number + 1 on Numbers`.
-fn evaluate(
-    alloc: Global,
-    answer: &mut Answer,
-    package: &Package<Counting>,
-    words: &mut Words,
-) -> Result<(), Error> {
-    let expression = expression(alloc, words)?;
-    words.expect("on");
-    print_worths(alloc, answer, &expression, selected(alloc, package, words)?)
-}
-
-/// Prints the values of a column in the rows of a query: `Number of Numbers`.
-fn print_column_values(
-    alloc: Global,
-    answer: &mut Answer,
-    package: &Package<Counting>,
-    words: &mut Words,
-) -> Result<(), Failure> {
-    let name = words.name();
-    print_values(alloc, answer, name, selected(alloc, package, words)?)
 }

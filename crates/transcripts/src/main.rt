@@ -9,13 +9,12 @@ mod calls;
 mod changes;
 mod commands;
 mod cursors;
-mod devices;
 mod looks;
 mod packages;
 mod pictures;
-mod recoding;
 mod session;
-mod summaries;
+mod statements;
+mod summary;
 mod transcript;
 mod trials;
 

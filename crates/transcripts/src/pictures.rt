@@ -5,7 +5,7 @@ use msi::{Package, Select, Streams, Table};
 use msi_tests::counting::Counting;
 use std::alloc::Global;
 use std::io::Read;
-use transcripts_queries::queries::print_rows;
+use transcripts_values::rows::print_rows;
 use transcripts_words::answers::Answer;
 use transcripts_words::failure::Failure;
 

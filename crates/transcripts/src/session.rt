@@ -1,56 +1,55 @@
 //! What the calls of a transcript work on.
 
-use msi::Package;
+use msi::{Memory, Package};
 use msi_tests::counting::Counting;
 use std::alloc::Global;
-use std::io;
-use transcripts_texts::stock::Stock;
+use std::{io, mem};
 use transcripts_words::failure::Failure;
+use transcripts_words::kept::Kept;
 use transcripts_words::words::Words;
 
-/// What the next device does.
-#[derive(Clone, Copy)]
-struct Behaviour {
-    most: usize,
-    most_read: usize,
-    failing: usize,
-    lasts: bool,
-    fault: io::ErrorKind,
-}
-
-/// The behaviour of a device that takes and gives all, and never fails.
-const PLAIN: Behaviour = Behaviour {
-    most: usize::MAX,
-    most_read: usize::MAX,
-    failing: 0,
-    lasts: false,
-    fault: io::ErrorKind::BrokenPipe,
-};
-
-/// A package, the bytes of earlier ones, and what else calls need that no package has.
-#[derive(Drop)]
+/// A package, and bytes by name, as those of earlier ones.
 pub(crate) struct Session {
     /// The package, if there is one.
     pub(crate) package: Option<Package<Counting>>,
-    /// What calls that need no package work on.
-    pub(crate) stock: Stock,
-    behaviour: Behaviour,
+    /// The bytes.
+    pub(crate) kept: Kept,
+    /// The next device, over no bytes yet.
+    next: Counting,
     /// How many calls the device of the last package got that was closed.
     pub(crate) calls: usize,
     /// How many of them were writes.
     pub(crate) writes: usize,
 }
 
+/// Written out, so that a function that owns one calls one drop.
+impl Drop for Session {
+    fn drop(self) {
+        let Session {
+            package: _,
+            kept: _,
+            next: _,
+            calls: _,
+            writes: _,
+        } = self;
+    }
+}
+
 /// The failure of a call that needs a package.
-const NO_PACKAGE: Failure = Failure::Unreadable("there is no package");
+pub(crate) const NO_PACKAGE: Failure = Failure::Unreadable("there is no package");
+
+/// Returns a device over no bytes, which takes and gives all, and never fails.
+fn plain(alloc: Global) -> Counting {
+    Counting::new(Vec::new(alloc), usize::MAX, 0)
+}
 
 impl Session {
-    /// Returns a session without a package, and with nothing in stock.
+    /// Returns a session without a package or bytes.
     pub(crate) fn new(alloc: Global) -> Session {
         Session {
             package: None,
-            stock: Stock::new(alloc),
-            behaviour: PLAIN,
+            kept: Kept::new(alloc),
+            next: plain(alloc),
             calls: 0,
             writes: 0,
         }
@@ -72,19 +71,9 @@ impl Session {
     }
 
     /// Returns a device over these bytes. The one behind it is plain again.
-    pub(crate) fn device(&mut self, bytes: Vec<u8>) -> Counting {
-        let Behaviour {
-            most,
-            most_read,
-            failing,
-            lasts,
-            fault,
-        } = self.behaviour;
-        self.behaviour = PLAIN;
-        let mut device = Counting::new(bytes, most, failing);
-        device.most_read = most_read;
-        device.lasts = lasts;
-        device.fault = fault;
+    pub(crate) fn device(&mut self, alloc: Global, bytes: Vec<u8>) -> Counting {
+        let mut device = mem::replace(&mut self.next, plain(alloc));
+        device.memory = Memory::from_vec(bytes);
         device
     }
 
@@ -92,22 +81,22 @@ impl Session {
     pub(crate) fn close(&mut self, name: &str, device: Counting) {
         self.calls = device.calls;
         self.writes = device.writes;
-        self.stock.kept.keep(name, device.memory.into_vec());
+        self.kept.keep(name, device.memory.into_vec());
     }
 
     /// Reads what the next device does: `most 512 most_read 7 failing 12 lasts interrupted`.
     pub(crate) fn behave(&mut self, words: &mut Words) {
-        self.behaviour = PLAIN;
+        self.next = plain(words.alloc);
         for _ in 0..words.len() {
             if words.len() == 0 {
                 break;
             }
             match words.word() {
-                "most" => self.behaviour.most = words.count(),
-                "most_read" => self.behaviour.most_read = words.count(),
-                "failing" => self.behaviour.failing = words.count(),
-                "lasts" => self.behaviour.lasts = true,
-                "interrupted" => self.behaviour.fault = io::ErrorKind::Interrupted,
+                "most" => self.next.most = words.count(),
+                "most_read" => self.next.most_read = words.count(),
+                "failing" => self.next.failing = words.count(),
+                "lasts" => self.next.lasts = true,
+                "interrupted" => self.next.fault = io::ErrorKind::Interrupted,
                 _ => words.refuse("a device has no such behaviour"),
             }
         }

@@ -6,8 +6,6 @@ use transcripts_words::answers::Answer;
 use transcripts_words::failure::Failure;
 use transcripts_words::lines::Line;
 use transcripts_words::reports::Report;
-use transcripts_words::tokens::tokens;
-use transcripts_words::words::Words;
 
 /// Makes the calls of a transcript, in order.
 pub(crate) fn run(rt: &HostRuntime, report: &mut Report, lines: &[Line]) -> Result<(), Failure> {
@@ -28,21 +26,16 @@ fn run_line(
     line: &Line,
     rest: &[Line],
 ) -> Result<(), Failure> {
-    if !is_stream(rest) {
-        let mut answer = Answer::new(rt.alloc())?;
-        let outcome = make(rt, report.is_trial(), session, line, &mut answer);
-        return report.check(rt, line, rest, outcome, &mut answer);
+    if is_stream(rest) {
+        return cursors::run(rt, report, session, line, rest);
     }
-    let tokens = tokens(rt.alloc(), line.text())?;
-    let mut words = Words::new(tokens.as_slice());
-    let verb = words.word();
-    let name = words.name();
-    words.end()?;
-    match verb {
-        "write_stream" => cursors::write(rt, report, session, name, line, rest),
-        "read_stream" => cursors::read(rt, report, session, name, line, rest),
-        _ => Err(Failure::Unreadable("no stream is open for the calls below")),
-    }
+    let mut answer = Answer::new(rt.alloc())?;
+    let outcome = match line.text().strip_prefix("try ") {
+        Some(text) if report.is_trial() => trials::make(rt, session, text, &mut answer),
+        Some(text) => calls::make(rt, session, text, &mut answer),
+        None => calls::make(rt, session, line.text(), &mut answer),
+    };
+    report.check(rt, line, rest, outcome, &mut answer)
 }
 
 /// Returns whether calls on a stream come next.
@@ -54,20 +47,4 @@ fn is_stream(rest: &[Line]) -> bool {
         Some(line) => line.is_cursor_call(),
         None => false,
     }
-}
-
-/// Makes the call of a line, and prints its answer.
-fn make(
-    rt: &HostRuntime,
-    is_trial: bool,
-    session: &mut Session,
-    line: &Line,
-    answer: &mut Answer,
-) -> Result<(), Failure> {
-    let tokens = tokens(rt.alloc(), line.text())?;
-    let mut words = Words::new(tokens.as_slice());
-    if words.takes("try") && is_trial {
-        return trials::make(rt, session, words, answer);
-    }
-    calls::make(rt, session, &mut words, answer)
 }

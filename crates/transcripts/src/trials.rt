@@ -6,18 +6,17 @@ use crate::pictures::picture;
 use crate::session::Session;
 use transcripts_words::answers::Answer;
 use transcripts_words::failure::Failure;
-use transcripts_words::words::Words;
 
 /// Makes a call, again if it is refused memory. The package has to answer then what it did before.
 pub(crate) fn make(
     rt: &HostRuntime,
     session: &mut Session,
-    words: Words,
+    text: &str,
     answer: &mut Answer,
 ) -> Result<(), Failure> {
     let before = picture(rt.alloc(), session)?;
     print!(rt; "[")?;
-    let outcome = calls::make(rt, session, &mut { words }, answer);
+    let outcome = calls::make(rt, session, text, answer);
     println!(rt; "]")?;
     match outcome {
         Err(failure) if failure.is_memory() => {}
@@ -27,5 +26,5 @@ pub(crate) fn make(
         return Err(Failure::CHANGED);
     }
     answer.clear();
-    calls::make(rt, session, &mut { words }, answer)
+    calls::make(rt, session, text, answer)
 }

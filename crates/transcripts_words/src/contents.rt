@@ -1,50 +1,46 @@
-//! The contents of compound files: made of a call's words, written, and printed.
+//! The contents of compound files: made of a call's words, changed, and printed.
 
 use crate::answers::Answer;
 use crate::failure::Failure;
-use crate::kept::print_few;
-use crate::tokens::Mark;
+use crate::kept::{Kept, pieces, print_few};
 use crate::words::Words;
-use msi_container::compound::{self, Bytes, Contents, Memory, Name, Steps, StreamMap};
+use msi_container::compound::{self, Bytes, Contents, Name, Steps, StreamMap};
+use msi_container::streamname;
 use msi_text_base::{Error, ErrorKind};
 use std::alloc::{AllocError, Global};
-use std::rc::Rc;
 
 /// The CLSID of an installer package.
 const INSTALLER: [u8; 16] = [
     0x84, 0x10, 0x0C, 0, 0, 0, 0, 0, 0xC0, 0, 0, 0, 0, 0, 0, 0x46,
 ];
 
-/// Reads the contents of an installer package: the names and lengths of its streams, as `(a 64) (b 0)`, and in front of
-/// them `storages` if it has some. Fails at a name that no stream has, and if memory runs out.
-pub(crate) fn contents(alloc: Global, words: &mut Words) -> Result<Contents, Error> {
+/// Returns the file of an installer package with streams of some names and lengths: `(a 64) (b 0)`, and in front of
+/// them `over 10000` for a longer file that they stand over, and `storages` if it has some. Fails if they can't be
+/// written, and if memory runs out.
+pub(crate) fn written(words: &mut Words) -> Result<Vec<u8>, Error> {
+    let over = words.count_behind("over", 0) as u64;
     let has_storages = words.takes("storages");
-    let streams = streams(alloc, words)?;
-    Ok(Contents {
+    let streams = streams(words)?;
+    let contents = Contents {
         clsid: INSTALLER,
         streams,
         has_storages,
-    })
+    };
+    compound::write(words.alloc, &contents, over)
 }
 
 /// Reads streams.
-fn streams(alloc: Global, words: &mut Words) -> Result<StreamMap, Error> {
-    let mut streams = StreamMap::new(alloc);
+fn streams(words: &mut Words) -> Result<StreamMap, Error> {
+    let mut streams = StreamMap::new(words.alloc);
     for _ in 0..words.len() {
-        if words.takes_mark(Mark::Open) {
-            add_stream(alloc, &mut streams, words)?;
+        if words.takes_mark('(') {
+            let name = Name::new(words.name())?;
+            let bytes = content(words.alloc, words.count())?;
+            streams.insert(name, Bytes::from_vec(bytes))?;
+            let _ = words.goes_on();
         }
     }
     Ok(streams)
-}
-
-/// Reads a stream behind its parenthesis.
-fn add_stream(alloc: Global, streams: &mut StreamMap, words: &mut Words) -> Result<(), Error> {
-    let name = Name::new(words.name())?;
-    let bytes = content(alloc, words.count())?;
-    let _ = words.goes_on();
-    streams.insert(name, Bytes::from_vec(bytes))?;
-    Ok(())
 }
 
 /// Returns so many bytes: those from 1 to 251 in turn.
@@ -56,59 +52,111 @@ fn content(alloc: Global, len: usize) -> Result<Vec<u8>, AllocError> {
     Ok(bytes)
 }
 
-/// Returns the file of contents, which stand over a longer one if a length does: `over 10000 (a 64)`. Fails if they
-/// can't be written, if a device takes other bytes, and if memory runs out.
-pub(crate) fn written(alloc: Global, words: &mut Words) -> Result<Vec<u8>, Failure> {
-    let over = words.count_behind("over", 0) as u64;
-    let contents = contents(alloc, words)?;
-    written_twice(alloc, &contents, over)
-}
-
-/// Returns the file of contents, if a device takes the same bytes.
-fn written_twice(alloc: Global, contents: &Contents, over: u64) -> Result<Vec<u8>, Failure> {
-    let image = compound::write(alloc, contents, over)?;
-    let taken = taken(alloc, contents, over)?;
-    if image.as_slice() == taken.as_slice() {
-        return Ok(taken);
+/// Returns the name that the stream of a table has in a container. That of the summary has a table's name, too.
+fn table_key(alloc: Global, table: &str) -> Result<Name, Error> {
+    if table == "_SummaryInformation" {
+        return Name::new(streamname::SUMMARY_INFO_STREAM_NAME);
     }
-    Err(Failure::Unreadable("a device takes other bytes"))
+    let name = streamname::encode(alloc, table, true)?;
+    Name::new(name.as_str())
 }
 
-/// Returns what a device takes where contents are written to it.
-fn taken(alloc: Global, contents: &Contents, over: u64) -> Result<Vec<u8>, Error> {
-    let mut device = Memory::from_vec(Vec::new(alloc));
-    compound::write_to(alloc, contents, over, &mut device)?;
-    Ok(device.into_vec())
+/// Returns the bytes of the stream of a table in a container.
+pub(crate) fn stream_of_table(
+    alloc: Global,
+    bytes: &[u8],
+    table: &str,
+) -> Result<Vec<u8>, Failure> {
+    let key = table_key(alloc, table)?;
+    let contents = compound::read(alloc, bytes)?;
+    match contents.streams.get(&key) {
+        Some(stream) => Ok(Vec::from_slice(alloc, stream.as_slice())?),
+        None => Err(Failure::Unreadable("the table has no stream")),
+    }
+}
+
+/// Reads a stream's name in the container: a text is that name, and a word is the name of a table.
+fn key(words: &mut Words) -> Result<Name, Error> {
+    match words.peek_word() {
+        Some(table) => {
+            let _ = words.next();
+            table_key(words.alloc, table)
+        }
+        None => Name::new(words.name()),
+    }
+}
+
+/// Returns a container with a stream that is set or removed, or another CLSID.
+pub(crate) fn changed(
+    kept: &Kept,
+    verb: &str,
+    bytes: &[u8],
+    words: &mut Words,
+) -> Result<Vec<u8>, Failure> {
+    let mut contents = compound::read(words.alloc, bytes)?;
+    match verb {
+        "set_clsid" => set_clsid(&mut contents, pieces(kept, words)?.as_slice()),
+        "remove_raw" => {
+            contents.streams.remove(&key(words)?);
+        }
+        _ => {
+            let key = key(words)?;
+            let bytes = Bytes::from_vec(pieces(kept, words)?);
+            contents.streams.insert(key, bytes)?;
+        }
+    }
+    Ok(compound::write(words.alloc, &contents, 0)?)
+}
+
+/// Sets the root's CLSID.
+fn set_clsid(contents: &mut Contents, clsid: &[u8]) {
+    for (old, new) in contents.clsid.iter_mut().zip(clsid) {
+        *old = *new;
+    }
 }
 
 /// Prints what a file holds, and how many steps it takes to read. Fails if they are more than stand behind `within`, if
 /// the bytes are no compound file, and if memory runs out.
 pub(crate) fn print_read(
-    alloc: Global,
     answer: &mut Answer,
     bytes: &[u8],
     words: &mut Words,
 ) -> Result<(), Failure> {
     let most = words.count_behind("within", usize::MAX);
     let mut steps = Steps::new();
-    let outcome = compound::read_counted(alloc, bytes, &mut steps);
+    let outcome = compound::read_counted(words.alloc, bytes, &mut steps);
     if steps.count() > most as u64 {
         return Err(Failure::Unreadable("there are more steps"));
     }
-    print_contents(alloc, answer, &outcome?)?;
+    let contents = outcome?;
+    if contents.streams.is_empty() {
+        answer.push_str("no streams\n");
+    }
+    print_streams(words.alloc, answer, &contents.streams)?;
+    let storages = if contents.has_storages { "" } else { "no " };
+    write!(answer, "{storages}storages, CLSID ");
+    print_few(answer, &contents.clsid, 16);
     write!(answer, ", steps: {}", steps.count());
     Ok(())
 }
 
-/// Prints what a file holds whose bytes the streams share. Fails if they are no compound file, and if memory runs out.
-pub(crate) fn print_shared(
-    alloc: Global,
-    answer: &mut Answer,
-    bytes: &[u8],
-) -> Result<(), Failure> {
-    let bytes = Vec::from_slice(alloc, bytes)?;
-    let contents = compound::read_shared(alloc, Rc::new(alloc, bytes)?)?;
-    print_contents(alloc, answer, &contents)
+/// Prints the name and the bytes of each stream as a line; of more than 16 bytes their number and their checksum.
+fn print_streams(alloc: Global, answer: &mut Answer, streams: &StreamMap) -> Result<(), Error> {
+    for (name, bytes) in streams.iter() {
+        write!(answer, "{:?} ", name.to_text(alloc)?.as_str());
+        print_few(answer, bytes.as_slice(), 16);
+        answer.push_str("\n");
+    }
+    Ok(())
+}
+
+/// Prints the names of a container's streams, each as a line.
+pub(crate) fn print_names(alloc: Global, answer: &mut Answer, bytes: &[u8]) -> Result<(), Failure> {
+    let contents = compound::read(alloc, bytes)?;
+    for (name, _) in contents.streams.iter() {
+        writeln!(answer, "{:?}", name.to_text(alloc)?.as_str());
+    }
+    Ok(())
 }
 
 /// Returns how many beginnings of a file are refused as invalid, from the empty one on.
@@ -127,60 +175,4 @@ fn is_invalid(alloc: Global, bytes: &[u8]) -> bool {
         Ok(_contents) => false,
         Err(error) => error.kind() == ErrorKind::InvalidData,
     }
-}
-
-/// The most bytes of a stream that are spelled.
-const FEW: usize = 16;
-
-/// Prints the name and the bytes of each stream as a line, then whether there are storages, and the CLSID.
-fn print_contents(alloc: Global, answer: &mut Answer, contents: &Contents) -> Result<(), Failure> {
-    if contents.streams.is_empty() {
-        answer.push_str("no streams\n");
-    }
-    for (name, bytes) in contents.streams.iter() {
-        print_name(alloc, answer, name, " ")?;
-        print_few(answer, bytes.as_slice(), FEW);
-        answer.push_str("\n");
-    }
-    print_storages(answer, contents.has_storages);
-    answer.push_str(", CLSID ");
-    print_few(answer, &contents.clsid, FEW);
-    Ok(())
-}
-
-/// Prints the length of each stream of a file as a line, and whether there are storages. Fails if the bytes are no
-/// compound file, and if memory runs out.
-pub(crate) fn print_listed(
-    alloc: Global,
-    answer: &mut Answer,
-    bytes: &[u8],
-) -> Result<(), Failure> {
-    let listing = compound::list(alloc, bytes)?;
-    for (name, len) in listing.sizes.iter() {
-        print_name(alloc, answer, name, " ")?;
-        writeln!(answer, "{len}");
-    }
-    print_storages(answer, listing.has_storages);
-    Ok(())
-}
-
-/// Prints the name of a stream, and what comes behind. Fails if memory runs out.
-pub(crate) fn print_name(
-    alloc: Global,
-    answer: &mut Answer,
-    name: &Name,
-    behind: &str,
-) -> Result<(), Failure> {
-    let name = name.to_text(alloc)?;
-    write!(answer, "{:?}{behind}", name.as_str());
-    Ok(())
-}
-
-/// Prints whether there are storages.
-fn print_storages(answer: &mut Answer, has_storages: bool) {
-    answer.push_str(if has_storages {
-        "storages"
-    } else {
-        "no storages"
-    });
 }

@@ -1,7 +1,7 @@
 //! Bytes that are kept by name, and pieces of bytes.
 
 use crate::answers::Answer;
-use crate::containers::add_table;
+use crate::contents::stream_of_table;
 use crate::failure::Failure;
 use crate::tokens::Token;
 use crate::words::Words;
@@ -9,9 +9,15 @@ use std::alloc::Global;
 use std::collections::BTreeMap;
 
 /// Bytes by name, as those of a device that a package was written to.
-#[derive(Drop)]
 pub struct Kept {
     named: BTreeMap<String, Vec<u8>>,
+}
+
+/// Written out, so that a function that owns one calls one drop.
+impl Drop for Kept {
+    fn drop(self) {
+        let Kept { named: _ } = self;
+    }
 }
 
 impl Kept {
@@ -50,19 +56,19 @@ impl Kept {
 /// Reads pieces up to a mark or the line's end: bytes as hexadecimal digits, texts, bytes that are kept, `@NAME`, and
 /// the stream of a table in them, `@NAME/TABLE`; of these a part, `@NAME:0..512`. With `*3` behind it a piece stands
 /// there three times. Fails at what is no piece, at a name or a table that has no bytes, and if memory runs out.
-pub fn pieces(alloc: Global, kept: &Kept, words: &mut Words) -> Result<Vec<u8>, Failure> {
-    let mut all = Vec::new(alloc);
+pub fn pieces(kept: &Kept, words: &mut Words) -> Result<Vec<u8>, Failure> {
+    let mut all = Vec::new(words.alloc);
     for _ in 0..words.len() {
         let Some(piece) = words.next_unmarked() else {
             break;
         };
-        add_times(alloc, &mut all, kept, piece, times(words))?;
+        add_times(words.alloc, &mut all, kept, piece, times(words))?;
     }
     Ok(all)
 }
 
 /// Reads how many times a piece stands there.
-pub(crate) fn times(words: &mut Words) -> usize {
+fn times(words: &mut Words) -> usize {
     match words.peek_word().and_then(|word| word.strip_prefix('*')) {
         Some(count) => {
             let _ = words.next();
@@ -101,36 +107,23 @@ fn add_piece(alloc: Global, all: &mut Vec<u8>, kept: &Kept, piece: &Token) -> Re
 /// Adds bytes that are kept, the stream of a table in them, or a part of either.
 fn add_kept(alloc: Global, all: &mut Vec<u8>, kept: &Kept, name: &str) -> Result<(), Failure> {
     let (name, range) = name.split_once(':').unwrap_or((name, "0.."));
-    match name.split_once('/') {
-        Some((name, table)) => add_table(alloc, all, kept.bytes(name)?, table, range),
-        None => add_range(all, kept.bytes(name)?, range),
-    }
-}
-
-/// Adds the bytes in a range.
-pub(crate) fn add_range(all: &mut Vec<u8>, bytes: &[u8], range: &str) -> Result<(), Failure> {
-    Ok(all.extend_from_slice(ranged(bytes, range)?)?)
+    let Some((name, table)) = name.split_once('/') else {
+        return Ok(all.extend_from_slice(ranged(kept.bytes(name)?, range)?)?);
+    };
+    let stream = stream_of_table(alloc, kept.bytes(name)?, table)?;
+    Ok(all.extend_from_slice(ranged(stream.as_slice(), range)?)?)
 }
 
 /// Returns the bytes in a range, such as `0..512` or `512..`.
 pub(crate) fn ranged<'a>(bytes: &'a [u8], range: &str) -> Result<&'a [u8], Failure> {
-    let Some((from, to)) = range.split_once("..") else {
-        return Err(Failure::Unreadable("a range has two dots"));
-    };
-    let front = if to.is_empty() {
-        bytes
+    let (from, to) = range.split_once("..").unwrap_or((range, range));
+    let to = if to.is_empty() {
+        bytes.len()
     } else {
-        up_to(bytes, place(to))?
+        place(to)
     };
-    front
-        .get(place(from)..)
-        .ok_or(Failure::Unreadable("the range is past the end"))
-}
-
-/// Returns the bytes in front of a place.
-fn up_to(bytes: &[u8], end: usize) -> Result<&[u8], Failure> {
     bytes
-        .get(..end)
+        .get(place(from)..to)
         .ok_or(Failure::Unreadable("the range is past the end"))
 }
 
@@ -158,12 +151,9 @@ fn add_digits(all: &mut Vec<u8>, word: &str) -> Result<(), Failure> {
     }
 }
 
-/// The most bytes that an answer spells.
-const MOST: usize = 256;
-
-/// Prints bytes, or their number and their Adler-32 checksum if they are many.
+/// Prints bytes, or their number and their Adler-32 checksum if they are more than 256.
 pub fn print_bytes(answer: &mut Answer, bytes: &[u8]) {
-    print_few(answer, bytes, MOST);
+    print_few(answer, bytes, 256);
 }
 
 /// Prints bytes, or their number and their checksum if they are more than so many.

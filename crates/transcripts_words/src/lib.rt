@@ -4,12 +4,10 @@
 pub mod answers;
 pub mod containers;
 mod contents;
-pub mod devices;
 pub mod failure;
 pub mod files;
 pub mod kept;
 pub mod lines;
 pub mod reports;
-pub mod stream_names;
 pub mod tokens;
 pub mod words;

@@ -4,26 +4,15 @@ use crate::failure::Failure;
 use std::alloc::{AllocError, Global};
 use std::mem;
 
-/// A character that stands for itself.
-#[derive(Clone, Copy, PartialEq, Eq)]
-pub enum Mark {
-    /// An opening parenthesis.
-    Open,
-    /// A closing parenthesis.
-    Close,
-    /// A comma.
-    Comma,
-}
-
 /// A piece of a line.
 #[derive(Drop)]
 pub enum Token {
-    /// Characters between blanks: a name, a number, an operator.
+    /// Characters between blanks: a name or a number.
     Word(String),
     /// A text that stands in quotes, without its escapes.
     Text(String),
-    /// A parenthesis or a comma.
-    Mark(Mark),
+    /// A parenthesis or a comma, which stands for itself.
+    Mark(char),
 }
 
 /// What the characters that were read last belong to.
@@ -34,10 +23,8 @@ enum Place {
     Text,
     /// Behind a backslash.
     Escape,
-    /// In the number of a character, behind `\u`.
-    Code,
-    /// Behind an escape that names no character, whatever comes next.
-    Nowhere,
+    /// In the number of a character, behind `\u`, of which so much was read.
+    Code(u32),
 }
 
 /// The tokens that were read, and the one that is being read.
@@ -46,27 +33,16 @@ struct Lexer {
     tokens: Vec<Token>,
     place: Place,
     pending: String,
-    code: u32,
 }
 
 impl Lexer {
-    fn new(alloc: Global) -> Lexer {
-        Lexer {
-            tokens: Vec::new(alloc),
-            place: Place::Blank,
-            pending: String::new(alloc),
-            code: 0,
-        }
-    }
-
     /// Reads a character.
     fn read(&mut self, alloc: Global, c: char) -> Result<(), AllocError> {
         match self.place {
             Place::Blank | Place::Word => self.read_plain(alloc, c),
             Place::Text => self.read_quoted(alloc, c),
             Place::Escape => self.read_escaped(c),
-            Place::Code => self.read_digit(c),
-            Place::Nowhere => Ok(()),
+            Place::Code(code) => self.read_code(code, c),
         }
     }
 
@@ -76,49 +52,37 @@ impl Lexer {
         self.pending.push(c)
     }
 
-    /// Returns what was read of a word or a text.
-    fn take(&mut self, alloc: Global) -> String {
-        mem::replace(&mut self.pending, String::new(alloc))
+    /// Ends the word or the text that is being read, if there is one.
+    fn end(&mut self, alloc: Global, next: Place) -> Result<(), AllocError> {
+        let text = mem::replace(&mut self.pending, String::new(alloc));
+        match mem::replace(&mut self.place, next) {
+            Place::Word => self.tokens.push(Token::Word(text))?,
+            Place::Text => self.tokens.push(Token::Text(text))?,
+            _ => {}
+        }
+        Ok(())
     }
 
     /// Reads a character outside of quotes.
     fn read_plain(&mut self, alloc: Global, c: char) -> Result<(), AllocError> {
         match c {
-            ' ' => self.end_word(alloc, Place::Blank),
-            '"' => self.end_word(alloc, Place::Text),
-            '(' => self.push_mark(alloc, Mark::Open),
-            ')' => self.push_mark(alloc, Mark::Close),
-            ',' => self.push_mark(alloc, Mark::Comma),
+            ' ' => self.end(alloc, Place::Blank),
+            '"' => self.end(alloc, Place::Text),
+            '(' | ')' | ',' => {
+                self.end(alloc, Place::Blank)?;
+                self.tokens.push(Token::Mark(c))?;
+                Ok(())
+            }
             _ => self.push(c, Place::Word),
         }
-    }
-
-    /// Ends the word that is being read, if there is one.
-    fn end_word(&mut self, alloc: Global, next: Place) -> Result<(), AllocError> {
-        let place = mem::replace(&mut self.place, next);
-        if let Place::Word = place {
-            let word = self.take(alloc);
-            self.tokens.push(Token::Word(word))?;
-        }
-        Ok(())
-    }
-
-    fn push_mark(&mut self, alloc: Global, mark: Mark) -> Result<(), AllocError> {
-        self.end_word(alloc, Place::Blank)?;
-        self.tokens.push(Token::Mark(mark))?;
-        Ok(())
     }
 
     /// Reads a character inside of quotes.
     fn read_quoted(&mut self, alloc: Global, c: char) -> Result<(), AllocError> {
         match c {
             '\\' => self.place = Place::Escape,
-            '"' => {
-                self.place = Place::Blank;
-                let text = self.take(alloc);
-                self.tokens.push(Token::Text(text))?;
-            }
-            _ => self.pending.push(c)?,
+            '"' => return self.end(alloc, Place::Blank),
+            _ => return self.push(c, Place::Text),
         }
         Ok(())
     }
@@ -126,46 +90,43 @@ impl Lexer {
     /// Reads the character behind a backslash.
     fn read_escaped(&mut self, c: char) -> Result<(), AllocError> {
         match c {
-            'u' => {
-                self.place = Place::Code;
-                self.code = 0;
-                Ok(())
-            }
-            'n' => self.push('\n', Place::Text),
-            'r' => self.push('\r', Place::Text),
-            't' => self.push('\t', Place::Text),
-            '0' => self.push('\0', Place::Text),
-            _ => self.push(c, Place::Text),
+            'u' => self.place = Place::Code(0),
+            'n' => return self.push('\n', Place::Text),
+            'r' => return self.push('\r', Place::Text),
+            't' => return self.push('\t', Place::Text),
+            '0' => return self.push('\0', Place::Text),
+            _ => return self.push(c, Place::Text),
         }
+        Ok(())
     }
 
-    /// Reads a character of `{4E00}`, which stands behind `\u`.
-    fn read_digit(&mut self, c: char) -> Result<(), AllocError> {
-        match c {
-            '{' => {}
-            '}' => match char::from_u32(self.code) {
-                Some(c) => return self.push(c, Place::Text),
-                None => self.place = Place::Nowhere,
-            },
-            _ => {
-                let digit = c.to_digit(16).unwrap_or(u32::MAX);
-                self.code = self.code.saturating_mul(16).saturating_add(digit);
+    /// Reads a character of `{4E00}`, which stands behind `\u`. A number of no character means U+FFFD.
+    fn read_code(&mut self, code: u32, c: char) -> Result<(), AllocError> {
+        match c.to_digit(16) {
+            Some(digit) => self.place = Place::Code(code.saturating_mul(16).saturating_add(digit)),
+            None if c == '}' => {
+                let c = char::from_u32(code).unwrap_or('\u{FFFD}');
+                return self.push(c, Place::Text);
             }
+            None => {}
         }
         Ok(())
     }
 }
 
-/// Returns the tokens of a line. Fails if a text has no end or an escape names no character, and if memory runs out.
+/// Returns the tokens of a line. Fails if a text has no end, and if memory runs out.
 pub fn tokens(alloc: Global, line: &str) -> Result<Vec<Token>, Failure> {
-    let mut lexer = Lexer::new(alloc);
+    let mut lexer = Lexer {
+        tokens: Vec::new(alloc),
+        place: Place::Blank,
+        pending: String::new(alloc),
+    };
     for c in line.chars() {
         lexer.read(alloc, c)?;
     }
     lexer.read(alloc, ' ')?;
     match lexer.place {
         Place::Blank => Ok(lexer.tokens),
-        Place::Nowhere => Err(Failure::Unreadable("an escape names no character")),
         _ => Err(Failure::Unreadable("a text has no end")),
     }
 }

@@ -1,7 +1,8 @@
 //! Reads a call, token by token.
 
 use crate::failure::Failure;
-use crate::tokens::{Mark, Token};
+use crate::tokens::Token;
+use std::alloc::Global;
 
 /// The tokens of a line that are still to be read.
 ///
@@ -10,6 +11,8 @@ use crate::tokens::{Mark, Token};
 /// asks once, by `check` or `end`.
 #[derive(Clone, Copy)]
 pub struct Words<'a> {
+    /// Where calls take memory.
+    pub alloc: Global,
     tokens: &'a [Token],
     /// The first reason why the line can't be read, if there is one.
     refusal: Option<&'static str>,
@@ -17,8 +20,9 @@ pub struct Words<'a> {
 
 impl<'a> Words<'a> {
     /// Returns the words of a line, of which none is read yet.
-    pub fn new(tokens: &'a [Token]) -> Words<'a> {
+    pub fn new(alloc: Global, tokens: &'a [Token]) -> Words<'a> {
         Words {
+            alloc,
             tokens,
             refusal: None,
         }
@@ -108,29 +112,6 @@ impl<'a> Words<'a> {
         self.spelled(count, 0, "a count is missing")
     }
 
-    /// Reads a number of 16 bits without a sign, or 0 if none comes next.
-    pub fn short(&mut self) -> u16 {
-        let number = self.word().parse::<u16>().ok();
-        self.spelled(number, 0, "a number is missing")
-    }
-
-    /// Reads a number of 32 bits without a sign, or 0 if none comes next.
-    pub fn long(&mut self) -> u32 {
-        let number = self.word().parse::<u32>().ok();
-        self.spelled(number, 0, "a number is missing")
-    }
-
-    /// Reads a word, and returns what stands beside it in a table, if it is there.
-    pub fn one_of<T: Copy>(&mut self, table: &[(&str, T)]) -> Option<T> {
-        let word = self.word();
-        for (known, value) in table {
-            if *known == word {
-                return Some(*value);
-            }
-        }
-        None
-    }
-
     /// Goes past a word if it comes next, and returns whether it does.
     pub fn takes(&mut self, word: &str) -> bool {
         let is_next = self.peek_word() == Some(word);
@@ -156,7 +137,7 @@ impl<'a> Words<'a> {
     }
 
     /// Goes past a mark if it comes next, and returns whether it does.
-    pub fn takes_mark(&mut self, mark: Mark) -> bool {
+    pub fn takes_mark(&mut self, mark: char) -> bool {
         let is_next = matches!(self.peek(), Some(Token::Mark(next)) if *next == mark);
         if is_next {
             let _ = self.next();
@@ -167,18 +148,18 @@ impl<'a> Words<'a> {
     /// Goes past an opening parenthesis, and returns whether a list begins with it that isn't empty. Goes past an empty
     /// one.
     pub fn begins_list(&mut self) -> bool {
-        if !self.takes_mark(Mark::Open) {
+        if !self.takes_mark('(') {
             self.refuse("an opening parenthesis is missing");
             return false;
         }
-        !self.takes_mark(Mark::Close)
+        !self.takes_mark(')')
     }
 
     /// Goes past what stands behind an item of a list, and returns whether the list goes on.
     pub fn goes_on(&mut self) -> bool {
         match self.next() {
-            Some(Token::Mark(Mark::Comma)) => true,
-            Some(Token::Mark(Mark::Close)) => false,
+            Some(Token::Mark(',')) => true,
+            Some(Token::Mark(')')) => false,
             _ => {
                 self.refuse("a list has no end");
                 false

@@ -1,0 +1,37 @@
+//! The calls that need no package, by their names.
+
+use crate::{parsing, texts, values};
+use transcripts_words::answers::Answer;
+use transcripts_words::containers;
+use transcripts_words::failure::Failure;
+use transcripts_words::kept::Kept;
+use transcripts_words::words::Words;
+
+/// Makes a call that needs no package, and prints its answer. Fails if there is no such call, if it is refused, and if
+/// memory runs out.
+pub fn make(
+    kept: &mut Kept,
+    verb: &str,
+    words: &mut Words,
+    answer: &mut Answer,
+) -> Result<(), Failure> {
+    match verb {
+        "decode" => texts::decode(kept, words, answer),
+        "encode" => texts::encode(words, answer),
+        "read_page" => texts::read_page(kept, words, answer),
+        "write_page" => texts::write_page(words, answer),
+        "carries" | "page" | "category" => texts::print_fact(verb, words, answer),
+        "language" => texts::print_language(words, answer),
+        "moment_from_unix" | "moment_to_unix" => texts::convert(verb, words, answer),
+        "read_moment" => texts::read_moment(kept, words, answer),
+        "write_moment" => texts::write_moment(words, answer),
+        "print_value" | "print_aligned" | "print_cut" => values::print(verb, words, answer),
+        "value_from" => values::print_made(words, answer),
+        "compare" => values::compare(words, answer),
+        "takes" => values::print_takes(words, answer),
+        "parse_query" => parsing::print_query(words, answer),
+        "parse_expression" => parsing::print_expression(words, answer),
+        "parse_nested" => parsing::print_nested(words, answer),
+        _ => containers::make(kept, verb, words, answer),
+    }
+}

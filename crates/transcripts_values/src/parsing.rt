@@ -1,0 +1,57 @@
+//! Reads queries and expressions from texts, and prints what was read as the library does.
+
+use msi_query_expressions::expr::Expr;
+use msi_query_parse::{Parse, ParseError, Statement};
+use std::alloc::AllocError;
+use transcripts_words::answers::Answer;
+use transcripts_words::failure::Failure;
+use transcripts_words::words::Words;
+
+/// Prints where a text is refused, and what was expected there. Fails if memory ran out.
+pub fn print_refusal(refusal: ParseError, answer: &mut Answer) -> Result<(), Failure> {
+    if let ParseError::OutOfMemory = refusal {
+        return Err(Failure::MEMORY);
+    }
+    write!(answer, "{refusal}");
+    Ok(())
+}
+
+/// Reads a query, and prints it.
+pub(crate) fn print_query(words: &mut Words, answer: &mut Answer) -> Result<(), Failure> {
+    match Statement::parse(words.alloc, words.name()) {
+        Ok(query) => write!(answer, "{query}"),
+        Err(refusal) => return print_refusal(refusal, answer),
+    }
+    Ok(())
+}
+
+/// Reads an expression, and prints it.
+pub(crate) fn print_expression(words: &mut Words, answer: &mut Answer) -> Result<(), Failure> {
+    match Expr::parse(words.alloc, words.name()) {
+        Ok(expression) => write!(answer, "{expression}"),
+        Err(refusal) => return print_refusal(refusal, answer),
+    }
+    Ok(())
+}
+
+/// Adds a text so many times.
+fn add_times(all: &mut String, text: &str, times: usize) -> Result<(), AllocError> {
+    for _ in 0..times {
+        all.push_str(text)?;
+    }
+    Ok(())
+}
+
+/// Reads a text with so many others before and behind it, and prints whether it spells an expression.
+pub(crate) fn print_nested(words: &mut Words, answer: &mut Answer) -> Result<(), Failure> {
+    let count = words.count();
+    let mut text = String::new(words.alloc);
+    add_times(&mut text, words.name(), count)?;
+    add_times(&mut text, words.name(), 1)?;
+    add_times(&mut text, words.name(), count)?;
+    match Expr::parse(words.alloc, text.as_str()) {
+        Ok(_expression) => answer.push_str("ok"),
+        Err(refusal) => return print_refusal(refusal, answer),
+    }
+    Ok(())
+}
