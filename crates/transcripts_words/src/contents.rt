@@ -94,8 +94,19 @@ pub(crate) fn changed(
     words: &mut Words,
 ) -> Result<Vec<u8>, Failure> {
     let mut contents = compound::read(words.alloc, bytes)?;
+    change(kept, verb, &mut contents, words)?;
+    Ok(compound::write(words.alloc, &contents, 0)?)
+}
+
+/// Changes contents.
+fn change(
+    kept: &Kept,
+    verb: &str,
+    contents: &mut Contents,
+    words: &mut Words,
+) -> Result<(), Failure> {
     match verb {
-        "set_clsid" => set_clsid(&mut contents, pieces(kept, words)?.as_slice()),
+        "set_clsid" => set_clsid(contents, pieces(kept, words)?.as_slice()),
         "remove_raw" => {
             contents.streams.remove(&key(words)?);
         }
@@ -105,7 +116,7 @@ pub(crate) fn changed(
             contents.streams.insert(key, bytes)?;
         }
     }
-    Ok(compound::write(words.alloc, &contents, 0)?)
+    Ok(())
 }
 
 /// Sets the root's CLSID.

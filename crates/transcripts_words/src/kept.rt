@@ -108,10 +108,15 @@ fn add_piece(alloc: Global, all: &mut Vec<u8>, kept: &Kept, piece: &Token) -> Re
 fn add_kept(alloc: Global, all: &mut Vec<u8>, kept: &Kept, name: &str) -> Result<(), Failure> {
     let (name, range) = name.split_once(':').unwrap_or((name, "0.."));
     let Some((name, table)) = name.split_once('/') else {
-        return Ok(all.extend_from_slice(ranged(kept.bytes(name)?, range)?)?);
+        return add_range(all, kept.bytes(name)?, range);
     };
     let stream = stream_of_table(alloc, kept.bytes(name)?, table)?;
-    Ok(all.extend_from_slice(ranged(stream.as_slice(), range)?)?)
+    add_range(all, stream.as_slice(), range)
+}
+
+/// Adds the bytes in a range.
+fn add_range(all: &mut Vec<u8>, bytes: &[u8], range: &str) -> Result<(), Failure> {
+    Ok(all.extend_from_slice(ranged(bytes, range)?)?)
 }
 
 /// Returns the bytes in a range, such as `0..512` or `512..`.

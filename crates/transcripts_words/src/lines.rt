@@ -5,11 +5,17 @@ use std::alloc::Global;
 use std::mem;
 
 /// A line, and its number in the file.
-#[derive(Drop)]
 pub struct Line {
     /// The number, from 1 on; lines of a block keep theirs each time that they are repeated.
     pub number: usize,
     text: String,
+}
+
+/// Written out, so that a function that owns one calls one drop.
+impl Drop for Line {
+    fn drop(self) {
+        let Line { number: _, text: _ } = self;
+    }
 }
 
 impl Line {
@@ -46,13 +52,23 @@ impl Line {
 }
 
 /// What was read of a transcript.
-#[derive(Drop)]
 struct Reader {
     lines: Vec<Line>,
     /// The rows behind `foreach`, as long as the lines of its block are read.
     rows: Vec<String>,
     /// These lines.
     block: Vec<Line>,
+}
+
+/// Written out, so that a function that owns one calls one drop.
+impl Drop for Reader {
+    fn drop(self) {
+        let Reader {
+            lines: _,
+            rows: _,
+            block: _,
+        } = self;
+    }
 }
 
 impl Reader {
@@ -72,6 +88,20 @@ impl Reader {
             self.block.push(line)?;
         }
         Ok(())
+    }
+
+    /// Returns the lines. Fails if a block has no end.
+    fn into_lines(self) -> Result<Vec<Line>, Failure> {
+        let Reader {
+            lines,
+            rows,
+            block: _,
+        } = self;
+        if rows.is_empty() {
+            Ok(lines)
+        } else {
+            Err(Failure::Unreadable("a block has no end"))
+        }
     }
 
     /// Repeats the lines of a block, once for each of its rows.
@@ -143,8 +173,5 @@ pub fn lines(alloc: Global, text: &str) -> Result<Vec<Line>, Failure> {
     for (i, line) in text.lines().enumerate() {
         reader.read(alloc, i.saturating_add(1), line)?;
     }
-    if reader.rows.is_empty() {
-        return Ok(reader.lines);
-    }
-    Err(Failure::Unreadable("a block has no end"))
+    reader.into_lines()
 }

@@ -64,28 +64,50 @@ impl<'a> Report<'a> {
         answer: &str,
     ) -> Result<(), Failure> {
         self.differing = self.differing.saturating_add(1);
-        println!(rt; "{}:{}: {}", self.file, line.number, line.text())?;
-        for line in expected {
-            println!(rt; "- {}", line.expected())?;
-        }
-        for line in answer.lines() {
-            println!(rt; "+ {line}")?;
-        }
+        let mut text = Answer::new(rt.alloc())?;
+        let (number, call) = (line.number, line.text());
+        writeln!(text, "{}:{number}: {call}", self.file);
+        add_lines(expected, answer, &mut text);
+        text.check()?;
+        print!(rt; "{}", text.as_str())?;
         Ok(())
     }
 }
 
+/// Adds the lines that were expected, and those of an answer.
+fn add_lines(expected: &[Line], answer: &str, text: &mut Answer) {
+    for line in expected {
+        add_line("- ", line.expected(), text);
+    }
+    for line in answer.lines() {
+        add_line("+ ", line, text);
+    }
+}
+
+/// Adds a line behind a mark.
+fn add_line(mark: &str, line: &str, text: &mut Answer) {
+    text.push_str(mark);
+    text.push_str(line);
+    text.push_str("\n");
+}
+
 /// Returns the lines with answers that come first.
 fn expected(rest: &[Line]) -> &[Line] {
-    let count = rest.iter().take_while(|line| line.is_answer()).count();
-    rest.get(..count).unwrap_or(&[])
+    for i in 0..rest.len() {
+        if !rest[i].is_answer() {
+            return &rest[..i];
+        }
+    }
+    rest
 }
 
 /// Returns whether these lines expect an answer.
 fn are_lines(expected: &[Line], answer: &str) -> bool {
-    answer.lines().count() == expected.len()
-        && expected
-            .iter()
-            .zip(answer.lines())
-            .all(|(line, found)| line.expected() == found)
+    let mut found = answer.lines();
+    for line in expected {
+        if found.next() != Some(line.expected()) {
+            return false;
+        }
+    }
+    found.next().is_none()
 }
