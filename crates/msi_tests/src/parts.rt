@@ -21,15 +21,7 @@ fn pool(alloc: Global) -> Result<StringPool, Error> {
     pool.clone()
 }
 
-/// Whether a reference of two bytes that ends early is refused as invalid.
-fn refuses_cut_reference() -> bool {
-    match StringRef::read(&mut [1].as_slice(), false) {
-        Ok(_reference) => false,
-        Err(error) => error.kind() == ErrorKind::InvalidData,
-    }
-}
-
-/// Whether a pool is that pool.
+/// Whether a pool is that pool, and a reference of two bytes that ends early is refused as invalid.
 fn is_pool(alloc: Global, pool: &StringPool) -> Result<bool, Error> {
     let Some(first) = StringRef::read(&mut [1, 0, 0].as_slice(), pool.long_string_refs())? else {
         return Ok(false);
@@ -37,8 +29,10 @@ fn is_pool(alloc: Global, pool: &StringPool) -> Result<bool, Error> {
     let mut bytes = Vec::new(alloc);
     StringRef::write(&mut bytes, Some(first), true)?;
     let is_named = pool.get(first) == "Foo" && pool.refcount(first) == 2 && first.number() == 1;
-    let is_new = pool.num_strings() == 2 && pool.operations() == 0 && refuses_cut_reference();
-    Ok(is_named && is_new && bytes.as_slice() == [1, 0, 0].as_slice())
+    let is_new = pool.num_strings() == 2 && pool.operations() == 0;
+    let cut = StringRef::read(&mut [1].as_slice(), false);
+    let is_refused = matches!(cut, Err(error) if error.kind() == ErrorKind::InvalidData);
+    Ok(is_named && is_new && is_refused && bytes.as_slice() == [1, 0, 0].as_slice())
 }
 
 /// Checks that a pool takes texts and gives them back, is written as is expected, and is read back.
@@ -48,10 +42,8 @@ pub(crate) fn a_pool_is_written_and_read_back(alloc: Global) -> Result<bool, Err
     pool.write_pool(&mut entries)?;
     let mut texts = Vec::new(alloc);
     pool.write_data(&mut texts)?;
-    let read = StringPoolBuilder::read_from_pool(alloc, ENTRIES)?.build_from_data(
-        alloc,
-        b"Foo".as_slice(),
-    )?;
+    let builder = StringPoolBuilder::read_from_pool(alloc, ENTRIES)?;
+    let read = builder.build_from_data(alloc, b"Foo".as_slice())?;
     let is_written = entries.as_slice() == ENTRIES && texts.as_slice() == b"Foo".as_slice();
     let is_page = read.codepage() == CodePage::Windows1252 && read.is_writable();
     Ok(is_written && is_page && is_pool(alloc, &pool)? && is_pool(alloc, &read)?)

@@ -130,10 +130,7 @@ fn run_on(
 
 /// The bytes of a command's file, or none where it can't be read.
 fn file_of(rt: &HostRuntime, command: &[String]) -> Vec<u8> {
-    let path = match command.get(1) {
-        Some(path) => path.as_str(),
-        None => "",
-    };
+    let path = command.get(1).map_or("", |path| path.as_str());
     fs::read(rt, path).unwrap_or(Vec::new(rt.alloc()))
 }
 

@@ -30,11 +30,7 @@ fn run_file(rt: &HostRuntime, file: &str, is_trial: bool) -> Result<bool, Failur
     let lines = lines(rt.alloc(), text.as_str())?;
     let mut report = Report::new(file, is_trial);
     transcript::run(rt, &mut report, lines.as_slice())?;
-    let Report {
-        answers,
-        differing,
-        ..
-    } = report;
+    let (answers, differing) = (report.answers, report.differing);
     if !is_trial {
         eprintln!(rt; "{file}: {answers} answers, {differing} differ")?;
     }

@@ -40,11 +40,10 @@ fn run_line(
 
 /// Returns whether calls on a stream come next.
 fn is_stream(rest: &[Line]) -> bool {
-    match rest
-        .iter()
-        .find(|line| line.is_call() || line.is_cursor_call())
-    {
-        Some(line) => line.is_cursor_call(),
-        None => false,
+    for line in rest {
+        if line.is_call() || line.is_cursor_call() {
+            return line.is_cursor_call();
+        }
     }
+    false
 }

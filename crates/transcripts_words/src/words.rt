@@ -129,13 +129,6 @@ impl<'a> Words<'a> {
         otherwise
     }
 
-    /// Goes past a word that has to come next.
-    pub fn expect(&mut self, word: &str) {
-        if !self.takes(word) {
-            self.refuse("a word is missing");
-        }
-    }
-
     /// Goes past a mark if it comes next, and returns whether it does.
     pub fn takes_mark(&mut self, mark: char) -> bool {
         let is_next = matches!(self.peek(), Some(Token::Mark(next)) if *next == mark);
