@@ -12,51 +12,101 @@ const ENTRIES: &[u8] = &[0xE4, 4, 0, 0x80, 3, 0, 2, 0, 0, 0, 0, 0];
 /// Returns that pool, made by calls.
 fn pool(alloc: Global) -> Result<StringPool, Error> {
     let mut pool = StringPool::new(alloc, CodePage::Utf8);
-    pool.incref(String::from_str(alloc, "Foo")?)?;
-    let second = pool.incref(String::from_str(alloc, "Quux")?)?;
-    pool.incref(String::from_str(alloc, "Foo")?)?;
-    pool.decref(second)?;
-    pool.set_codepage(CodePage::Windows1252);
-    pool.widen();
+    fill(alloc, &mut pool)?;
     pool.clone()
 }
 
-/// Whether a pool is that pool, and a reference of two bytes that ends early is refused as invalid.
-fn is_pool(alloc: Global, pool: &StringPool) -> Result<bool, Error> {
-    let Some(first) = StringRef::read(&mut [1, 0, 0].as_slice(), pool.long_string_refs())? else {
-        return Ok(false);
-    };
+/// Fills a pool.
+fn fill(alloc: Global, pool: &mut StringPool) -> Result<(), Error> {
+    take(alloc, pool, "Foo")?;
+    let second = take(alloc, pool, "Quux")?;
+    take(alloc, pool, "Foo")?;
+    pool.set_codepage(CodePage::Windows1252);
+    pool.widen();
+    pool.decref(second)
+}
+
+/// Has a pool take a text.
+fn take(alloc: Global, pool: &mut StringPool, text: &str) -> Result<StringRef, Error> {
+    pool.incref(String::from_str(alloc, text)?)
+}
+
+/// Whether a pool is that pool.
+fn is_pool(pool: &StringPool) -> Result<bool, Error> {
+    match StringRef::read(&mut [1, 0, 0].as_slice(), pool.long_string_refs())? {
+        Some(first) => Ok(is_named(pool, first) && is_new(pool)),
+        None => Ok(false),
+    }
+}
+
+/// Whether the first of two places has the text and the count that it should.
+fn is_named(pool: &StringPool, first: StringRef) -> bool {
+    let is_first = first.number() == 1 && pool.num_strings() == 2;
+    is_first && pool.get(first) == "Foo" && pool.refcount(first) == 2
+}
+
+/// Whether a pool has the page that it should, and no operation behind it.
+fn is_new(pool: &StringPool) -> bool {
+    let is_page = pool.codepage() == CodePage::Windows1252 && pool.is_writable();
+    is_page && pool.operations() == 0
+}
+
+/// Whether the streams of a pool are those of that pool.
+fn is_written(alloc: Global, pool: &StringPool) -> Result<bool, Error> {
     let mut bytes = Vec::new(alloc);
-    StringRef::write(&mut bytes, Some(first), true)?;
-    let is_named = pool.get(first) == "Foo" && pool.refcount(first) == 2 && first.number() == 1;
-    let is_new = pool.num_strings() == 2 && pool.operations() == 0;
-    let cut = StringRef::read(&mut [1].as_slice(), false);
-    let is_refused = matches!(cut, Err(error) if error.kind() == ErrorKind::InvalidData);
-    Ok(is_named && is_new && is_refused && bytes.as_slice() == [1, 0, 0].as_slice())
+    pool.write_pool(&mut bytes)?;
+    let are_entries = bytes.as_slice() == ENTRIES;
+    bytes.clear();
+    pool.write_data(&mut bytes)?;
+    Ok(are_entries && bytes.as_slice() == b"Foo".as_slice())
+}
+
+/// Whether that pool is made by calls, and written.
+fn is_made(alloc: Global) -> Result<bool, Error> {
+    let pool = pool(alloc)?;
+    Ok(is_pool(&pool)? && is_written(alloc, &pool)?)
+}
+
+/// Whether that pool is read.
+fn is_read(alloc: Global) -> Result<bool, Error> {
+    let builder = StringPoolBuilder::read_from_pool(alloc, ENTRIES)?;
+    is_pool(&builder.build_from_data(alloc, b"Foo".as_slice())?)
+}
+
+/// Whether a reference of two bytes that ends early is refused as invalid, and one of three bytes is written.
+fn are_references(alloc: Global) -> Result<bool, Error> {
+    let mut bytes = Vec::new(alloc);
+    StringRef::write(
+        &mut bytes,
+        StringRef::read(&mut [5, 0].as_slice(), false)?,
+        true,
+    )?;
+    let is_refused = match StringRef::read(&mut [1].as_slice(), false) {
+        Ok(_) => false,
+        Err(error) => error.kind() == ErrorKind::InvalidData,
+    };
+    Ok(is_refused && bytes.as_slice() == [5, 0, 0].as_slice())
 }
 
 /// Checks that a pool takes texts and gives them back, is written as is expected, and is read back.
 pub(crate) fn a_pool_is_written_and_read_back(alloc: Global) -> Result<bool, Error> {
-    let pool = pool(alloc)?;
-    let mut entries = Vec::new(alloc);
-    pool.write_pool(&mut entries)?;
-    let mut texts = Vec::new(alloc);
-    pool.write_data(&mut texts)?;
-    let builder = StringPoolBuilder::read_from_pool(alloc, ENTRIES)?;
-    let read = builder.build_from_data(alloc, b"Foo".as_slice())?;
-    let is_written = entries.as_slice() == ENTRIES && texts.as_slice() == b"Foo".as_slice();
-    let is_page = read.codepage() == CodePage::Windows1252 && read.is_writable();
-    Ok(is_written && is_page && is_pool(alloc, &pool)? && is_pool(alloc, &read)?)
+    Ok(is_made(alloc)? && is_read(alloc)? && are_references(alloc)?)
 }
 
 /// Returns a set with its page and a count of pages, made by calls.
 fn set(alloc: Global) -> Result<PropertySet, Error> {
     let mut set = PropertySet::new(alloc, OperatingSystem::Win32, 10, [7; 16]);
+    fill_set(&mut set)?;
+    Ok(set)
+}
+
+/// Fills a set.
+fn fill_set(set: &mut PropertySet) -> Result<(), Error> {
     set.set_codepage(CodePage::Windows1252)?;
     set.set(14, PropertyValue::I4(-70000))?;
     set.set(15, PropertyValue::Null)?;
     set.remove(15);
-    Ok(set)
+    Ok(())
 }
 
 /// The section of that set: the page, and the count.
@@ -67,12 +117,15 @@ const SECTION: &[u8] = &[
 
 /// Checks that a set takes properties and gives them back, is written as is expected, and is read back.
 pub(crate) fn a_set_is_written_and_read_back(alloc: Global) -> Result<bool, Error> {
-    let set = set(alloc)?;
     let mut bytes = Vec::new(alloc);
-    set.write(&mut bytes)?;
-    let read = PropertySet::read(alloc, bytes.as_slice())?;
-    let is_value = matches!(read.get(14), Some(PropertyValue::I4(-70000)));
-    let is_page = read.codepage() == CodePage::Windows1252 && read.is_writable();
-    let is_format = *read.format_identifier() == [7; 16] && read.get(15).is_none();
-    Ok(is_value && is_page && is_format && bytes.ends_with(SECTION))
+    set(alloc)?.write(&mut bytes)?;
+    let is_set = is_set(&PropertySet::read(alloc, bytes.as_slice())?);
+    Ok(is_set && bytes.ends_with(SECTION))
+}
+
+/// Whether a set is that set.
+fn is_set(set: &PropertySet) -> bool {
+    let is_value = matches!(set.get(14), Some(PropertyValue::I4(-70000)));
+    let is_page = set.codepage() == CodePage::Windows1252 && set.is_writable();
+    is_value && is_page && *set.format_identifier() == [7; 16] && set.get(15).is_none()
 }
