@@ -39,36 +39,29 @@ fn make_call(
     words: &mut Words,
     answer: &mut Answer,
 ) -> Result<(), Failure> {
-    match verb {
-        "device" | "create" | "open" | "image" | "into_reader" | "into_inner" => {
-            packages::make(session, verb, words)?;
-        }
-        "create_table"
-        | "drop_table"
-        | "fill"
-        | "set_codepage"
-        | "write_stream"
-        | "remove_stream"
-        | "remove_digital_signature"
-        | "summary_info_mut"
-        | "set"
-        | "clear"
-        | "flush" => {
-            changes::make(session.package_mut()?, verb, words)?;
-        }
-        "recount" | "calls" | "writes" => return print_count(session, verb, answer),
-        "value_from_uuid" => return summary::print_uuid_value(words, answer),
-        "save" | "load" => return files::make(rt, &mut session.kept, verb, words, answer),
-        "msidb" | "msidb_broken" | "msidb_unflushed" | "msidb_moving" => {
-            return commands::make(rt, &session.kept, verb, words, answer);
-        }
-        _ if looks::VERBS.contains(&verb) => {
-            return looks::print(session.package()?, verb, words, answer);
-        }
-        _ => return calls::make(&mut session.kept, verb, words, answer),
+    if packages::VERBS.contains(&verb) || changes::VERBS.contains(&verb) {
+        make_silent(session, verb, words)?;
+        answer.push_str("ok");
+        return Ok(());
     }
-    answer.push_str("ok");
-    Ok(())
+    if looks::VERBS.contains(&verb) {
+        return looks::print(session.package()?, verb, words, answer);
+    }
+    match verb {
+        "recount" | "calls" | "writes" => print_count(session, verb, answer),
+        "value_from_uuid" => summary::print_uuid_value(words, answer),
+        "save" | "load" => files::make(rt, &mut session.kept, verb, words, answer),
+        _ if verb.starts_with("msidb") => commands::make(rt, &session.kept, verb, words, answer),
+        _ => calls::make(&mut session.kept, verb, words, answer),
+    }
+}
+
+/// Makes a call that prints nothing of its own.
+fn make_silent(session: &mut Session, verb: &str, words: &mut Words) -> Result<(), Failure> {
+    if packages::VERBS.contains(&verb) {
+        return packages::make(session, verb, words);
+    }
+    Ok(changes::make(session.package_mut()?, verb, words)?)
 }
 
 /// Counts the cells of a package anew, and prints how many counts changed; or how many calls or writes the device got

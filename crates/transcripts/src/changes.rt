@@ -8,6 +8,21 @@ use transcripts_values::texts::codepage;
 use transcripts_values::values::rows;
 use transcripts_words::words::Words;
 
+/// The names of these calls.
+pub(crate) static VERBS: [&str; 11] = [
+    "create_table",
+    "drop_table",
+    "fill",
+    "set_codepage",
+    "write_stream",
+    "remove_stream",
+    "remove_digital_signature",
+    "summary_info_mut",
+    "set",
+    "clear",
+    "flush",
+];
+
 /// Makes a change. Fails if the call is refused, and if memory runs out.
 pub(crate) fn make(
     package: &mut Package<Counting>,

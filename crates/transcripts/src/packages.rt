@@ -7,6 +7,16 @@ use transcripts_words::failure::Failure;
 use transcripts_words::kept::pieces;
 use transcripts_words::words::Words;
 
+/// The names of these calls.
+pub(crate) static VERBS: [&str; 6] = [
+    "device",
+    "create",
+    "open",
+    "image",
+    "into_reader",
+    "into_inner",
+];
+
 /// Makes a call that makes a package or ends one, or says what the next device does. Fails if the call is refused, and
 /// if memory runs out.
 pub(crate) fn make(session: &mut Session, verb: &str, words: &mut Words) -> Result<(), Failure> {
