@@ -59,7 +59,7 @@ fn put_stream(
     grid: &mut Grid,
 ) -> Result<(), Error> {
     let bytes = stream_bytes(package, stored, name)?;
-    grid.put(&style.show(name));
+    grid.put_text(style, name);
     grid.put(&bytes.len());
     Ok(())
 }

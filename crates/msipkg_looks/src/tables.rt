@@ -47,7 +47,7 @@ fn put_table(
     table: &Table,
     grid: &mut Grid,
 ) {
-    grid.put(&style.show(table.name()));
+    grid.put_text(style, table.name());
     match count_rows(alloc, package, table.name()) {
         Ok(count) => grid.put(&count),
         Err(_) => grid.push("?"),

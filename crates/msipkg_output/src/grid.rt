@@ -1,5 +1,6 @@
 //! Tables whose columns are aligned with spaces.
 
+use crate::escape::Shown;
 use crate::style::Style;
 use msipkg_system::Output;
 use std::alloc::{AllocError, Global};
@@ -7,6 +8,9 @@ use std::fmt::Display;
 
 /// How many characters are written at a time.
 const PIECE: usize = 64;
+
+/// How many spaces stand between two columns.
+const GAP: usize = 2;
 
 /// What columns are filled up with.
 static SPACES: [u8; PIECE] = [b' '; PIECE];
@@ -75,6 +79,15 @@ impl Grid {
     pub fn put<D: Display>(&mut self, value: &D) {
         let done = write!(self.texts, "{value}");
         self.end_text(done);
+    }
+
+    /// Puts a text, as the style has it, as the next one of a row.
+    pub fn put_text(&mut self, style: Style, text: &str) {
+        if style.is_escaped {
+            self.put(&Shown::escaped(text));
+        } else {
+            self.push(text);
+        }
     }
 
     /// Puts the next text of a row.
@@ -150,8 +163,8 @@ impl Grid {
             output.push_bytes(self.bytes_of(start, row[i].end));
             start = row[i].end;
             if i + 1 < row.len() {
-                write_filled(&SPACES, widths[i].saturating_sub(row[i].width), output);
-                output.push_str("  ");
+                let missing = widths[i].saturating_sub(row[i].width);
+                write_filled(&SPACES, missing.saturating_add(GAP), output);
             }
         }
         output.push_str("\n");

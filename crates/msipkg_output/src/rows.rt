@@ -93,7 +93,7 @@ fn write_grid(printer: &Printer, rows: Rows<'_>, output: &mut Output) -> Result<
 /// Puts the names of columns.
 fn put_names(printer: &Printer, columns: &[Column], grid: &mut Grid) {
     for column in columns {
-        grid.put(&printer.style.show(column.name()));
+        grid.put_text(printer.style, column.name());
     }
 }
 
@@ -117,7 +117,7 @@ fn put_value(printer: &Printer, value: &Value, grid: &mut Grid) {
     match value {
         Value::Null => grid.push(""),
         Value::Int(number) => grid.put(number),
-        Value::Str(text) => grid.put(&printer.style.show(text.as_str())),
+        Value::Str(text) => grid.put_text(printer.style, text.as_str()),
         Value::Binary => grid.push(STREAM),
     }
 }
@@ -254,7 +254,8 @@ fn write_row(printer: &Printer, is_first: bool, row: &Row, output: &mut Output) 
         output.push_str(before);
         before = between;
         if has_lines {
-            write!(output, "{} = ", printer.style.show(row.columns()[i].name()));
+            printer.style.print(row.columns()[i].name(), output);
+            output.push_str(" = ");
         }
         write_value(printer, &row[i], output);
     }
@@ -266,7 +267,7 @@ fn write_value(printer: &Printer, value: &Value, output: &mut Output) {
     match value {
         Value::Null => {}
         Value::Int(number) => write!(output, "{number}"),
-        Value::Str(text) => write!(output, "{}", printer.style.show(text.as_str())),
+        Value::Str(text) => printer.style.print(text.as_str(), output),
         Value::Binary => output.push_str(STREAM),
     }
 }

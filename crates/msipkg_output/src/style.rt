@@ -1,6 +1,7 @@
 //! Where the output goes, and whether its texts are escaped.
 
 use crate::escape::Shown;
+use msipkg_system::Output;
 
 /// How texts are printed.
 #[derive(Clone, Copy)]
@@ -18,6 +19,15 @@ impl Style {
             Shown::escaped(text)
         } else {
             Shown::raw(text)
+        }
+    }
+
+    /// Prints a text.
+    pub fn print(self, text: &str, output: &mut Output) {
+        if self.is_escaped {
+            write!(output, "{}", Shown::escaped(text));
+        } else {
+            output.push_str(text);
         }
     }
 }
