@@ -51,7 +51,9 @@ fn make_call(
         "recount" | "calls" | "writes" => print_count(session, verb, answer),
         "value_from_uuid" => summary::print_uuid_value(words, answer),
         "save" | "load" => files::make(rt, &mut session.kept, verb, words, answer),
-        _ if verb.starts_with("msidb") => commands::make(rt, &session.kept, verb, words, answer),
+        _ if commands::VERBS.contains(&verb) => {
+            commands::make(rt, &session.kept, verb, words, answer)
+        }
         _ => calls::make(&mut session.kept, verb, words, answer),
     }
 }

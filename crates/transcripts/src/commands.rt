@@ -10,6 +10,9 @@ use transcripts_words::kept::{Kept, pieces, print_bytes};
 use transcripts_words::tokens::Token;
 use transcripts_words::words::Words;
 
+/// The names of these calls.
+pub(crate) static VERBS: [&str; 4] = ["msidb", "msidb_broken", "msidb_unflushed", "msidb_moving"];
+
 /// The most bytes of a text that is printed as it is.
 const MOST: usize = 1024;
 
