@@ -9,7 +9,6 @@ pub mod Runs
 pub mod Whole
 pub mod Laws
 pub mod Writable
-pub mod Selected
 pub mod Lending
 pub mod Flushing
 pub mod Opening

@@ -10,7 +10,7 @@ ghost use Rattle.msi_database_changes.specs.Database.{has_table as has_one, is_s
 ghost use Rattle.msi_database.specs.Keeping.{IsKeptDatabase};
 ghost use Rattle.msi_database.specs.Listed.{table_def_at, tables_listed};
 ghost use Rattle.msi.specs.Lending.{LendsSummary};
-ghost use Rattle.msi.specs.Selected.{Selects};
+ghost use Rattle.msi_query_joins.specs.Selected.{Selects};
 ghost use Rattle.msi.specs.State.{parts_of};
 ghost use Rattle.msi.specs.Steps.{storage_refusal};
 ghost use Rattle.msi.specs.Whole.{IsOpen, with_open, with_state};
@@ -21,7 +21,7 @@ use crate::reasons;
 use msi_container_device::Source;
 use msi_container_format::name::Name;
 use msi_database::Database;
-use msi_database::parts::{into_rows, put_back_stream};
+use msi_database::parts::put_back_stream;
 use msi_query::Select;
 use msi_streams::OpenStream;
 use msi_summary::SummaryInfo;
@@ -185,8 +185,7 @@ impl<F: Source> Package<F> {
         ensures early { let d = self.now.state.kept.database in
             AnswersWith (early_refusal (columns_read (λ q. table_at q d)) query) result }
     {
-        let relation = self.database.select(self.alloc, &query)?;
-        into_rows(self.alloc, relation, self.database.pool())
+        self.database.select_rows(self.alloc, &query)
     }
 
     /// Refuses a change of a package with storages below its root.

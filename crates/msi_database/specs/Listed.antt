@@ -1,16 +1,11 @@
 -- Tables by their columns, as a database lists them.
-use Rattle.std.specs.Prelude.{◌≡◌, ℕ, true, List, length, map, Option, Some, option_map, Result}
+use Rattle.std.specs.Prelude.{◌≡◌, ℕ, true, List, length, map, Option, Some, option_map}
 use Rattle.msi_container_format.specs.Names.{is_name_length}
 use Rattle.msi_text_base.specs.declared.codepage.CodePage.{CodePage}
-use Rattle.msi_text_base.specs.declared.errors.ErrorKind.{ErrorKind}
-use Rattle.msi_text_base.specs.declared.errors.ErrorKind.TheVariants.{InvalidData, NotFound}
-use Rattle.msi_table_values.specs.declared.value.ValueRef.{ValueRef}
 use Rattle.msi_table.specs.Tables.{TableDef}
-use Rattle.msi_text_base.specs.Refusals.{or_refused, ◌>>=◌}
 use Rattle.msi_database_schema.specs.Keys.{table_key}
 use Rattle.msi_database_changes.specs.Database.{Database, table_at}
-use Rattle.msi_database_storage.specs.Kept.{Kept, table_kept_at}
-use Rattle.msi_database_storage.specs.Streams.{Streams, stored_rows}
+use Rattle.msi_database_storage.specs.Kept.{Kept}
 
 -- the table of a name, and all of them in their order
 abbrev pub table_def_at : List ℕ → Database → Option TableDef
@@ -19,11 +14,6 @@ table_def_at name d =
 
 abbrev pub tables_listed : Database → List TableDef
 tables_listed d = map (λ t. record { name = t.0; columns = t.1.columns; long = d.pool.long }) d.tables
-
--- the rows of the table of a name among these, or their refusal
-abbrev pub rows_at : List TableDef → Streams → List ℕ → Result (List (List ValueRef)) ErrorKind
-rows_at tables streams name = or_refused NotFound (table_kept_at name tables) >>=
-    λ t. or_refused InvalidData (stored_rows streams t.long t.columns t.name)
 
 -- a kept database with another page
 abbrev pub with_page : CodePage → Kept → Kept

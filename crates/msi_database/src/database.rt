@@ -1,60 +1,32 @@
 //! A database: tables over one pool of texts, whose rows stand in the streams of a container.
 
-ghost use Rattle.std.specs.Prelude.{◌≡◌, Err, IfErr, IfOk, Ok, OnErr, OnOk, Some, is_some, option_copied, true};
+ghost use Rattle.std.specs.Prelude.{◌≡◌, Err, IfErr, IfOk, Ok, OnErr, OnOk, option_copied};
 ghost use Rattle.std.specs.FinMap.{entries};
 ghost use Rattle.msi_text_pool_base.specs.Pool.{unindexed};
-ghost use Rattle.msi_table.specs.Rows.{AreAsWide};
-ghost use Rattle.msi_text_base.specs.Refusals.{AnswersWith, IsRefusal, refusal_of, unless_refused};
-ghost use Rattle.msi_query_joins.specs.Rows.{columns_read, relation_values, whole_table};
+ghost use Rattle.msi_text_base.specs.Refusals.{AnswersWith, IsRefusal, unless_refused};
+ghost use Rattle.msi_query_joins.specs.Rows.{cells_of, columns_read, whole_table};
 ghost use Rattle.msi_query_joins.specs.Selection.{early_refusal, relation_of};
+ghost use Rattle.msi_query_joins.specs.Selected.{Selects};
 ghost use Rattle.msi_database_changes.specs.Changes.{sound_refusal};
 ghost use Rattle.msi_database_changes.specs.Database.{has_table as has_one, is_sound as is_sound_one, table_at};
 ghost use Rattle.msi_database_changes.specs.Database.{values_of};
-ghost use Rattle.msi_database_storage.specs.Kept.{table_kept_at};
-ghost use Rattle.msi_database_storage.specs.StreamNames.{HaveShortNames};
-ghost use Rattle.msi_database_storage.specs.Streams.{stored_rows as rows_stored};
 ghost use Rattle.msi_database.specs.Keeping.{IsKeptDatabase};
-ghost use Rattle.msi_database.specs.Listed.{rows_at, table_def_at, tables_listed, with_page};
+ghost use Rattle.msi_database.specs.Listed.{table_def_at, tables_listed, with_page};
 
 use crate::reasons;
 use msi_container_format::contents::StreamMap;
 use msi_database_storage::listing::table_named;
-use msi_database_storage::parts::{is_readable, stored_rows};
+use msi_database_storage::parts::table_rows;
 use msi_query::Select;
-use msi_query_rows::{Relation, Tables, select};
-use msi_table::Table;
-use msi_table_values::column::Column;
-use msi_table_values::parts::copied_columns;
+use msi_query_rows::{Tables, select_rows};
+use msi_table::parts::StoredRows;
+use msi_table::{Rows, Table};
 use msi_text::stringpool::StringPool;
 use msi_text_base::codepage::CodePage;
 use msi_text_base::errors::{Error, ErrorKind};
-use msi_text_base::text::{IntoText, Items};
+use msi_text_base::text::Items;
 use std::alloc::Global;
 use std::marker::Model;
-
-/// The table of a name among these, if its stream can be read. The streams' names are a container's.
-///
-/// # Errors
-/// `NotFound` where there is none; `InvalidData` where it can't be read.
-fn readable_table<'a>(
-    tables: &'a [Table],
-    streams: &StreamMap,
-    name: &str,
-) -> Result<&'a Table, Error>
-    requires { HaveShortNames (entries streams.now) }
-    ensures found { IfOk result (λ table. table_kept_at name.now tables.now ≡ Some table.now) }
-    ensures readable { IfOk result (λ table.
-        is_some (rows_stored (entries streams.now) table.now.long table.now.columns table.now.name) ≡ true) }
-    ensures kind { IfErr result (λ kind. rows_at tables.now (entries streams.now) name.now ≡ Err kind) }
-{
-    let Some(table) = table_named(tables, name) else {
-        return Err(Error::new(ErrorKind::NotFound, reasons::NO_TABLE));
-    };
-    if !is_readable(streams, table) {
-        return Err(Error::new(ErrorKind::InvalidData, reasons::UNREADABLE));
-    }
-    Ok(table)
-}
 
 /// A database in its container. It has all streams of the container's root, and touches only those of tables.
 pub struct Database {
@@ -175,50 +147,38 @@ impl Database {
         Ok(())
     }
 
-    /// The columns of the table of a name.
+    /// The columns and the rows of the table of a name, where they stand in its stream. It takes no memory.
     ///
     /// # Errors
     /// `NotFound` where there is none; `InvalidData` where it can't be read.
-    fn columns_of(&self, name: &str) -> Result<&[Column], Error>
-        ensures ok { IfOk result (λ columns. columns_read (λ q. table_at q self.now.database) name.now
-            ≡ Ok columns.now) }
-        ensures kind { IfErr result (λ kind. columns_read (λ q. table_at q self.now.database) name.now ≡ Err kind) }
+    fn rows_of(&self, name: &str) -> Result<StoredRows<'_>, Error>
+        ensures ok { IfOk result (λ stored.
+            whole_table (λ q. table_at q self.now.database) name.now ≡ Ok (cells_of name.now stored)) }
+        ensures kind { IfErr result (λ kind. whole_table (λ q. table_at q self.now.database) name.now ≡ Err kind) }
     {
-        let table = readable_table(self.tables.as_slice(), &self.streams, name)?;
-        Ok(table.columns())
+        let Some(table) = table_named(self.tables.as_slice(), name) else {
+            return Err(Error::new(ErrorKind::NotFound, reasons::NO_TABLE));
+        };
+        match table_rows(&self.streams, table) {
+            Some(stored) => Ok(stored),
+            None => Err(Error::new(ErrorKind::InvalidData, reasons::UNREADABLE)),
+        }
     }
 
-    /// The columns and the rows of the table of a name.
-    ///
-    /// # Errors
-    /// `NotFound` where there is none; `InvalidData` where it can't be read; `OutOfMemory`.
-    fn whole(&self, alloc: Global, name: &str) -> Result<Relation, Error>
-        ensures ok { IfOk result (λ relation. whole_table (λ q. table_at q self.now.database) name.now ≡ Ok relation) }
-        ensures kind { IfErr result (IsRefusal (whole_table (λ q. table_at q self.now.database) name.now)) }
-        ensures early { AnswersWith (refusal_of (whole_table (λ q. table_at q self.now.database) name.now)) result }
-    {
-        let table = readable_table(self.tables.as_slice(), &self.streams, name)?;
-        let rows = stored_rows(alloc, &self.streams, table)?;
-        let columns = copied_columns(alloc, table.columns())?;
-        Ok(Relation::new(name.into_text(alloc)?, columns, rows))
-    }
-
-    /// Returns the rows that a query selects.
+    /// Returns the rows that a query selects. Those of a query for one table are decoded as they are asked for.
     ///
     /// # Errors
     /// Fails with the first of these that applies, for a join those of the left query, then those of the right:
     /// `NotFound` if a table isn't there, `InvalidData` if it can't be read; then `InvalidInput` if a column isn't
     /// there, in a join's condition, then one that is selected, then in the condition. If none applies, it fails with
     /// `OutOfMemory`, which may also come in place of what is refused from the first join's own columns on.
-    pub fn select(&self, alloc: Global, query: &Select) -> Result<Relation, Error>
-        ensures ok { IfOk result (λ relation. relation_of (values_of self.now.database) query.now
-            ≡ Ok (relation_values self.now.database.pool.places relation)) }
-        ensures wide { IfOk result (λ relation. AreAsWide relation.columns relation.rows) }
+    pub fn select_rows(&self, alloc: Global, query: &Select) -> Result<Rows<'_>, Error>
+        ensures ok { IfOk result (Selects (relation_of (values_of self.now.database) query.now)) }
         ensures kind { IfErr result (IsRefusal (relation_of (values_of self.now.database) query.now)) }
         ensures early { let d = self.now.database in
             AnswersWith (early_refusal (columns_read (λ q. table_at q d)) query.now) result }
     {
-        select(alloc, &self.pool, self, query)
+        select_rows(alloc, &self.pool, self, query)
     }
 }
 
@@ -227,11 +187,7 @@ impl Tables for Database {
 
     ghost table = { λ d name. table_at name d.database };
 
-    fn columns(&self, name: &str) -> Result<&[Column], Error> {
-        self.columns_of(name)
-    }
-
-    fn find(&self, alloc: Global, name: &str) -> Result<Relation, Error> {
-        self.whole(alloc, name)
+    fn stored(&self, name: &str) -> Result<StoredRows<'_>, Error> {
+        self.rows_of(name)
     }
 }

@@ -9,7 +9,6 @@ ghost use Rattle.msi_database.specs.Others.{IsOther, with_streams};
 use crate::database::Database;
 use msi_container_format::contents::Bytes;
 use msi_container_format::name::Name;
-pub use msi_query_rows::parts::into_rows;
 use msi_text_base::errors::Error;
 
 /// Stores a stream under a name that is no table's, and returns the bytes of the one that was there. Replacing one

@@ -1,9 +1,10 @@
 //! Rows of tables, read from the streams of a container.
 
-ghost use Rattle.std.specs.Prelude.{◌≡◌, [], IfErr, IfOk, Some, is_some, unwrap_or};
+ghost use Rattle.std.specs.Prelude.{◌≡◌, [], IfErr, IfOk, Some, is_some, option_map, unwrap_or};
 ghost use Rattle.std.specs.FinMap.{entries};
 ghost use Rattle.msi_text_base.specs.declared.errors.ErrorKind.TheVariants.{InvalidData};
 ghost use Rattle.msi_text_base.specs.Refusals.{IsRefusal, or_refused};
+ghost use Rattle.msi_table.specs.Rows.{table_rows as rows_with};
 ghost use Rattle.msi_database_schema.specs.Keys.{table_key as key_of};
 ghost use Rattle.msi_database_storage.specs.StreamNames.{HaveShortNames};
 ghost use Rattle.msi_database_storage.specs.Streams.{stored_rows as rows_stored, stream_at};
@@ -11,7 +12,7 @@ ghost use Rattle.msi_database_storage.specs.Streams.{stored_rows as rows_stored,
 use msi_container_format::contents::StreamMap;
 use msi_database_schema::names::table_key;
 use msi_table::Table;
-use msi_table::parts::{can_read_rows, read_rows};
+use msi_table::parts::{StoredRows, can_read_rows, read_rows, rows_in_place};
 use msi_table_values::value::ValueRef;
 use msi_text_base::errors::Error;
 use msi_text_base::text::Items;
@@ -58,4 +59,14 @@ pub fn stored_rows(
 {
     let bytes = stream_bytes(streams, table.name());
     read_rows(alloc, table, bytes)
+}
+
+/// Returns the columns of a table, and its rows where they stand in its stream, if that can be read. A table without a
+/// stream has no rows. The streams' names are a container's, as each `Name` is. It takes no memory.
+pub fn table_rows<'a>(streams: &'a StreamMap, table: &'a Table) -> Option<StoredRows<'a>>
+    requires { HaveShortNames (entries streams.now) }
+    ensures { let t = table.now in result
+        ≡ option_map (rows_with t.columns) (rows_stored (entries streams.now) t.long t.columns t.name) }
+{
+    rows_in_place(table, stream_bytes(streams, table.name()))
 }

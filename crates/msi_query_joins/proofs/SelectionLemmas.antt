@@ -19,7 +19,8 @@ use Rattle.msi_query_expressions.specs.Expressions.{Expression}
 use Rattle.msi_query_expressions.specs.Conditions.{meets, value_in}
 use Rattle.msi_query.specs.Queries.{Clauses}
 use Rattle.msi_query_joins.specs.Selection.{is_left, or_nulls, projected_row, selected}
-use Rattle.msi_query_joins.specs.Rows.{RelationCells, cell_at, cells_at, column_at, projected_cells, relation_values, rows_values}
+use Rattle.msi_table.specs.Rows.{cell_at, cells_at}
+use Rattle.msi_query_joins.specs.Rows.{RelationCells, column_at, projected_cells, relation_values, rows_values}
 
 -- a column that is kept
 pub column_kept : (columns kept new : List ColumnDef) (places : List (Option ℕ)) (i : ℕ) (d : Option ℕ) (c : ColumnDef) → i < length places → column_at columns (get_or places i d) ≡ Some c
@@ -62,7 +63,7 @@ columns_projected columns [] = refl
 columns_projected columns (n ∷ ns) = ap (λ cs. cons_option (column_at columns (column_index n columns)) cs) (columns_projected columns ns)
 
 -- a relation of which some columns are kept
-projected_is : (places : List Place) (c : Clauses) (r new : RelationCells) (kept : List (List ValueRef)) → (length c.columns == 0) ≡ false
+pub projected_is : (places : List Place) (c : Clauses) (r new : RelationCells) (kept : List (List ValueRef)) → (length c.columns == 0) ≡ false
     → rows_values places kept ≡ filter (meets r.columns c.condition) (rows_values places r.rows) → new ≡ projected_cells c.columns r.columns kept
     → relation_values places new ≡ selected c (relation_values places r)
 projected_is places c r new kept some k e =

@@ -11,6 +11,7 @@ use Rattle.msi_table_values.specs.Columns.{ColumnDef, column_index}
 use Rattle.msi_table_values.specs.CellValues.{row_values}
 use Rattle.msi_text_base.specs.Refusals.{or_refused, ◌>>=◌}
 use Rattle.msi_table_values.specs.TableCells.{TableCells}
+use Rattle.msi_table.specs.Rows.{TableRows, cells_at}
 use Rattle.msi_query_joins.specs.Selection.{Relation, TableValues}
 
 -- a relation as it is kept
@@ -38,18 +39,15 @@ whole_table tables name = or_refused NotFound (tables name) >>=
     λ t. or_refused InvalidData t.rows >>=
     λ rows. Ok (record { name = name; columns = t.columns; rows = rows })
 
+-- a whole table of its columns and rows
+abbrev pub cells_of : List ℕ → TableRows → RelationCells
+cells_of name t = record { name = name; columns = t.columns; rows = t.rows }
+
 -- the columns of a table that can be read, or its refusal
 abbrev pub columns_read : (List ℕ → Option TableCells) → List ℕ → Result (List ColumnDef) ErrorKind
 columns_read tables name = or_refused NotFound (tables name) >>=
     λ t. or_refused InvalidData t.rows >>=
     λ rows. Ok t.columns
-
--- the cell at a place, if any, else null
-abbrev pub cell_at : List ValueRef → Option ℕ → ValueRef
-cell_at row place = unwrap_or (option_and_then (slice_get row) place) cell.Null
-
-abbrev pub cells_at : List (Option ℕ) → List ValueRef → List ValueRef
-cells_at places row = map (cell_at row) places
 
 -- the column at a place, if any
 abbrev pub column_at : List ColumnDef → Option ℕ → Option ColumnDef

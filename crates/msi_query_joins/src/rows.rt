@@ -3,41 +3,11 @@
 ghost use Rattle.std.specs.Prelude.{◌≡◌, ◌++◌, IfOk, replicate};
 ghost use Rattle.msi_text_base.specs.Results.{OnlyMemory};
 ghost use Rattle.msi_table_values.specs.declared.value.ValueRef.TheVariants as cell;
-ghost use Rattle.msi_query_joins.specs.Rows.{cell_at, cells_at};
 
 use msi_table_values::value::ValueRef;
 use msi_text_base::errors::Error;
 use msi_text_base::text::Items;
 use std::alloc::Global;
-
-/// The cell at a place of a row, or null.
-pub fn cell_of(row: &[ValueRef], place: Option<usize>) -> ValueRef
-    ensures { result ≡ cell_at row.now place }
-{
-    match place {
-        Some(place) if place < row.len() => row[place],
-        _ => ValueRef::Null,
-    }
-}
-
-/// The cells at the places of a row, in the places' order.
-///
-/// # Errors
-/// `OutOfMemory`.
-pub fn projected_row(
-    alloc: Global,
-    places: &[Option<usize>],
-    row: &[ValueRef],
-) -> Result<Items<ValueRef>, Error>
-    ensures ok { IfOk result (λ cells. cells ≡ cells_at places.now row.now) }
-    ensures kind { OnlyMemory result }
-{
-    let mut cells = Vec::with_capacity(alloc, places.len())?;
-    for place in places {
-        cells.push(cell_of(row, *place))?;
-    }
-    Ok(Items::from_vec(cells))
-}
 
 /// One row behind another.
 ///

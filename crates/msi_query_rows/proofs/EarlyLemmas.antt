@@ -12,7 +12,7 @@ use Rattle.msi_query.specs.declared.query.JoinKind.{JoinKind}
 use Rattle.msi_query.specs.Queries.{Clauses, Query, table, join}
 use Rattle.msi_text_base.specs.Refusals.{AnswersWith, IsRefusal, earlier, first_refusal, refusal_of, unless, unless_refused, or_refused, ◌>>=◌}
 use Rattle.msi_table_values.specs.TableCells.{TableCells}
-use Rattle.msi_query_joins.specs.Rows.{RelationCells, columns_read, rows_values, table_values, tables_values}
+use Rattle.msi_query_joins.specs.Rows.{columns_read, rows_values, table_values, tables_values}
 use Rattle.msi_query_joins.specs.Selection.{Relation, clause_refusals, early_refusal, is_table, joined_narrowed, narrowed, relation_of, selected}
 use Rattle.msi_text_base.proofs.RefusalLemmas.{err_passed}
 
@@ -136,7 +136,7 @@ early_is_answer places tables (join kind l r on c) k e =
     (λ m h. early_is_answer places tables l m h) (λ t h. one_table_passes places tables l t h) (λ m h. early_is_answer places tables r m h) e
 
 -- so a call that is refused early is refused as it is to be
-pub refused_early : (places : List Place) (tables : List ℕ → Option TableCells) (q : Query) (k : ErrorKind) (s : Result (Unit {0}) ErrorKind) (r : Result RelationCells ErrorKind)
+pub refused_early : {A : Type 0} (places : List Place) (tables : List ℕ → Option TableCells) (q : Query) (k : ErrorKind) (s : Result (Unit {0}) ErrorKind) (r : Result A ErrorKind)
     → s ≡ unless (early_refusal (columns_read tables) q) tt → s ≡ Err k → IsErrAnd r (λ e. e ≡ k) → IfErr r (IsRefusal (relation_of (tables_values places tables) q))
 refused_early places tables q k s r e w d =
     err_passed r k (relation_of (tables_values places tables) q) d (inr (early_is_answer places tables q k (some_of (early_refusal (columns_read tables) q) k s e w)))

@@ -26,7 +26,8 @@ use Rattle.msi_query_expressions.specs.Conditions.{RowFilterDef, meets, value_at
 use Rattle.msi_query_expressions.specs.Equated.{PassesWithEqual}
 use Rattle.msi_query_expressions.specs.Expressions.{Expression}
 use Rattle.msi_query_rows.specs.Index.{PassWithEqual, has_value, has_width, in_place_order, place_cmp, value_there}
-use Rattle.msi_query_joins.specs.Rows.{cell_at, rows_values}
+use Rattle.msi_table.specs.Rows.{cell_at}
+use Rattle.msi_query_joins.specs.Rows.{rows_values}
 use Rattle.msi_query_joins.specs.Selection.{or_nulls, pairs_of, rows_of_row}
 use Rattle.msi_query_joins.proofs.SelectionLemmas.{value_of_place}
 

@@ -2,6 +2,7 @@
 pub mod WholeTableLemmas
 pub mod JoinLemmas
 pub mod WidthLemmas
+pub mod PickingLemmas
 pub mod IndexLemmas
 pub mod EarlyLemmas
 pub mod RefusedLemmas

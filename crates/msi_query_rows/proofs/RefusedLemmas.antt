@@ -56,7 +56,7 @@ clauses_refuse places tables q name c relation k is e (inl m) = inl m
 clauses_refuse places tables q name c relation k is e (inr h) =
     inr (ap (relation_of (tables_values places tables)) is ∙ table_goes_on places tables name (narrowed c) ∙ ap (λ r. r >>= λ r. narrowed c (relation_values places r)) e ∙ h)
 
-pub table_fails : (places : List Place) (tables : List ℕ → Option TableCells) (q : Query) (name : List ℕ) (c : Clauses) (relation : RelationCells) (answer : Result RelationCells ErrorKind) → q ≡ table name c
+pub table_fails : {A : Type 0} (places : List Place) (tables : List ℕ → Option TableCells) (q : Query) (name : List ℕ) (c : Clauses) (relation : RelationCells) (answer : Result A ErrorKind) → q ≡ table name c
     → whole_table tables name ≡ Ok relation → IfErr answer (IsRefusal (narrowed c (relation_values places relation))) → IfErr answer (IsRefusal (relation_of (tables_values places tables) q))
 table_fails places tables q name c relation (Ok kept) is e h = tt
 table_fails places tables q name c relation (Err k) is e h = clauses_refuse places tables q name c relation k is e h

@@ -24,7 +24,7 @@ use Rattle.msi_text_base.specs.Refusals.{unless_refused, or_refused, ◌>>=◌}
 use Rattle.msi_table_values.specs.TableCells.{TableCells}
 use Rattle.msi_query_joins.specs.Rows.{RelationCells, relation_values, rows_values, table_values, tables_values}
 use Rattle.msi_query_joins.specs.Selection.{Relation, TableValues, condition_names, has_columns, is_left, joined, joined_columns, joined_narrowed, narrowed, nullable_if, or_nulls, pairs_of, prefixed, projected_row, relation_of, rows_of_row, selected}
-use Rattle.msi_query_rows.specs.Width.{AreWide, HasWidth, TablesAreWide, ValuesAreWide}
+use Rattle.msi_query_rows.specs.Width.{HasWidth, ValuesAreWide}
 
 -- rows of cells are as wide as the rows that they stand for
 pub wide_values : (places : List Place) (n : ℕ) (rows : List (List ValueRef)) → HasWidth n rows → HasWidth n (rows_values places rows)
@@ -132,43 +132,19 @@ join_wide kind on c l r k w v e =
     (selected c (joined kind on l r)) k e in
     subst ValuesAreWide g.1 (selected_wide c (joined kind on l r) (not-false (has_columns columns c.columns) g.0) (joined_wide kind on l r w v))
 
-table_wide : (name : List ℕ) (c : Clauses) (columns : List ColumnDef) (rows : Option (List (List Value))) (k : Relation) → ((rs : List (List Value)) → rows ≡ Some rs → HasWidth (length columns) rs)
-    → (or_refused InvalidData rows >>= λ rows. narrowed c (record { name = name; columns = columns; rows = rows })) ≡ Ok k → ValuesAreWide k
-table_wide name c columns None k w e = cc
-table_wide name c columns (Some rows) k w e = narrowed_wide c (record { name = name; columns = columns; rows = rows }) k (w rows refl) e
+-- so the cells of what clauses keep are as many as its columns
+pub narrowed_is_wide : (places : List Place) (c : Clauses) (relation : RelationCells) (answer : Result RelationCells ErrorKind) → HasWidth (length relation.columns) relation.rows
+    → IfOk answer (λ kept. narrowed c (relation_values places relation) ≡ Ok (relation_values places kept)) → IfOk answer (λ kept. HasWidth (length kept.columns) kept.rows)
+narrowed_is_wide places c relation (Ok kept) w e =
+    wide_cells places (length kept.columns) kept.rows
+    (narrowed_wide c (relation_values places relation) (relation_values places kept) (wide_values places (length relation.columns) relation.rows w) e)
+narrowed_is_wide places c relation (Err k) w e = tt
 
-found_wide : (name : List ℕ) (c : Clauses) (found : Option TableValues) (k : Relation) → ((t : TableValues) → found ≡ Some t → (rs : List (List Value)) → t.rows ≡ Some rs → HasWidth (length t.columns) rs)
-    → (or_refused NotFound found >>= λ t. or_refused InvalidData t.rows >>= λ rows. narrowed c (record { name = name; columns = t.columns; rows = rows })) ≡ Ok k → ValuesAreWide k
-found_wide name c None k w e = cc
-found_wide name c (Some t) k w e = table_wide name c t.columns t.rows k (w t refl) e
-
-sides_wide : (kind : JoinKind) (on : Expression) (c : Clauses) (left right : Result Relation ErrorKind) (k : Relation) → ((l : Relation) → left ≡ Ok l → ValuesAreWide l) → ((r : Relation) → right ≡ Ok r → ValuesAreWide r)
-    → (left >>= λ l. right >>= λ r. joined_narrowed kind on c l r) ≡ Ok k → ValuesAreWide k
-sides_wide kind on c (Err x) right k w v e = cc
-sides_wide kind on c (Ok l) (Err x) k w v e = cc
-sides_wide kind on c (Ok l) (Ok r) k w v e = join_wide kind on c l r k (w l refl) (v r refl) e
-
-pub relation_wide : (tables : List ℕ → Option TableValues) (q : Query) (k : Relation) → TablesAreWide tables → relation_of tables q ≡ Ok k → ValuesAreWide k
-relation_wide tables (table name c) k w e = found_wide name c (tables name) k (w name) e
-relation_wide tables (join kind l r on c) k w e =
-    sides_wide kind on c (relation_of tables l) (relation_of tables r) k (λ s h. relation_wide tables l s w h) (λ s h. relation_wide tables r s w h) e
-
-rows_found : (places : List Place) (columns : List ColumnDef) (rows : Option (List (List ValueRef))) (t : TableValues) → ((rs : List (List ValueRef)) → rows ≡ Some rs → HasWidth (length columns) rs)
-    → table_values places (record { columns = columns; rows = rows }) ≡ t → (rs : List (List Value)) → t.rows ≡ Some rs → HasWidth (length t.columns) rs
-rows_found places columns None t w e rs f = cc (ap (λ (u : TableValues). u.rows) e)
-rows_found places columns (Some cells) t w e rs f =
-    let same : Some (rows_values places cells) ≡ Some rs = ap (λ (u : TableValues). u.rows) e ∙ f in
-    let here : rows_values places cells ≡ rs = cc in
-    subst (λ n. HasWidth n rs) (ap (λ (u : TableValues). length u.columns) e) (subst (HasWidth (length columns)) here (wide_values places (length columns) cells (w cells refl)))
-
-cells_found : (places : List Place) (o : Option TableCells) → ((t : TableCells) → o ≡ Some t → (rows : List (List ValueRef)) → t.rows ≡ Some rows → HasWidth (length t.columns) rows)
-    → (t : TableValues) → option_map (table_values places) o ≡ Some t → (rs : List (List Value)) → t.rows ≡ Some rs → HasWidth (length t.columns) rs
-cells_found places None w t e rs f = cc
-cells_found places (Some s) w t e rs f = rows_found places s.columns s.rows t (w s refl) (cc) rs f
-
--- what is selected of wide tables is wide
-pub answer_wide : (places : List Place) (tables : List ℕ → Option TableCells) (q : Query) (answer : Result RelationCells ErrorKind) → IfOk answer (λ r. relation_of (tables_values places tables) q ≡ Ok (relation_values places r))
-    → IfOk answer (λ r. AreWide tables → HasWidth (length r.columns) r.rows)
-answer_wide places tables q (Err k) e = e
-answer_wide places tables q (Ok r) e =
-    λ w. wide_cells places (length r.columns) r.rows (relation_wide (tables_values places tables) q (relation_values places r) (λ name. cells_found places (tables name) (w name)) e)
+-- and those of what they keep of a join
+pub join_is_wide : (places : List Place) (kind : JoinKind) (on : Expression) (c : Clauses) (l r : RelationCells) (answer : Result RelationCells ErrorKind) → HasWidth (length l.columns) l.rows → HasWidth (length r.columns) r.rows
+    → IfOk answer (λ kept. joined_narrowed kind on c (relation_values places l) (relation_values places r) ≡ Ok (relation_values places kept)) → IfOk answer (λ kept. HasWidth (length kept.columns) kept.rows)
+join_is_wide places kind on c l r (Ok kept) w v e =
+    wide_cells places (length kept.columns) kept.rows
+    (join_wide kind on c (relation_values places l) (relation_values places r) (relation_values places kept)
+    (wide_values places (length l.columns) l.rows w) (wide_values places (length r.columns) r.rows v) e)
+join_is_wide places kind on c l r (Err k) w v e = tt

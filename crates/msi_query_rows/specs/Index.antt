@@ -13,7 +13,7 @@ use Rattle.msi_table_values.specs.Values.{value_cmp}
 use Rattle.msi_query_expressions.specs.Conditions.{value_at_place}
 use Rattle.msi_query_expressions.specs.Equated.{equated}
 use Rattle.msi_query_expressions.specs.Expressions.{Expression}
-use Rattle.msi_query_joins.specs.Rows.{cell_at}
+use Rattle.msi_table.specs.Rows.{cell_at}
 
 -- the value at a place of a row of cells, or null
 abbrev pub value_there : List Place → ℕ → List ValueRef → Value

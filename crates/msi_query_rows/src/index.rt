@@ -12,7 +12,7 @@ ghost use Rattle.msi_query_rows.specs.Index.{place_cmp, places_asked as asked, v
 
 use msi_query_expressions::expr::Expr;
 use msi_query_expressions::parts::equated_places;
-use msi_query_joins::parts::cell_of;
+use msi_table::parts::cell_of;
 use msi_table_values::column::Column;
 use msi_table_values::parts::compare_values;
 use msi_table_values::value::ValueRef;

@@ -5,10 +5,9 @@ mod columns;
 mod index;
 mod joining;
 mod narrowing;
-pub mod parts;
+mod picking;
 mod reasons;
-pub mod relation;
+mod relation;
 pub mod selection;
 
-pub use relation::Relation;
-pub use selection::{Tables, select};
+pub use selection::{Tables, select_rows};

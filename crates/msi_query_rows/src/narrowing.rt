@@ -4,7 +4,8 @@ ghost use Rattle.std.specs.Prelude.{◌≡◌, map, filter, IfOk, IfErr, Ok, opt
 ghost use Rattle.msi_text_base.specs.Results.{OnlyMemory};
 ghost use Rattle.msi_query_expressions.specs.Conditions.{meets};
 ghost use Rattle.msi_text_base.specs.Refusals.{IsRefusal, unless_refused};
-ghost use Rattle.msi_query_joins.specs.Rows.{cells_at, projected_cells, relation_values, rows_values};
+ghost use Rattle.msi_table.specs.Rows.{cells_at};
+ghost use Rattle.msi_query_joins.specs.Rows.{projected_cells, relation_values, rows_values};
 ghost use Rattle.msi_query_joins.specs.Selection.{clause_refusals, narrowed as narrowed_by, selected as selected_by};
 
 use crate::columns::{columns_of, has_columns, knows_condition, places_of};
@@ -13,7 +14,7 @@ use crate::relation::Relation;
 use msi_query::parts::Clauses;
 use msi_query_expressions::expr::Expr;
 use msi_query_expressions::parts::RowFilter;
-use msi_query_joins::parts::projected_row;
+use msi_table::parts::projected_row;
 use msi_table_values::column::Column;
 use msi_table_values::value::ValueRef;
 use msi_text_base::errors::{Error, ErrorKind};

@@ -15,10 +15,10 @@ use std::alloc::Global;
 use std::marker::Model;
 
 /// A name, columns, and rows of cells, whose texts are in a pool. Contracts see the cells.
-pub struct Relation {
-    pub(crate) name: Text,
-    pub(crate) columns: Items<Column>,
-    pub(crate) rows: Vec<Items<ValueRef>>,
+pub(crate) struct Relation {
+    name: Text,
+    columns: Items<Column>,
+    rows: Vec<Items<ValueRef>>,
 }
 
 /// Written out, so that a function that owns one calls one drop, and its proof doesn't go through those of the parts.
@@ -41,8 +41,8 @@ impl Model for Relation {
 }
 
 impl Relation {
-    /// Returns the relation of a name, columns and rows. The name is empty but for a whole table.
-    pub fn new(name: Text, columns: Items<Column>, rows: Vec<Items<ValueRef>>) -> Relation
+    /// The relation of a name, columns and rows. The name is empty but for a whole table.
+    pub(crate) fn new(name: Text, columns: Items<Column>, rows: Vec<Items<ValueRef>>) -> Relation
         ensures { result ≡ record { name = name; columns = columns; rows = rows.items } }
     {
         Relation {
@@ -52,22 +52,22 @@ impl Relation {
         }
     }
 
-    /// Returns the name.
-    pub fn name(&self) -> &str
+    /// The name.
+    pub(crate) fn name(&self) -> &str
         ensures { result.now ≡ self.now.name }
     {
         self.name.as_str()
     }
 
-    /// Returns the columns.
-    pub fn columns(&self) -> &[Column]
+    /// The columns.
+    pub(crate) fn columns(&self) -> &[Column]
         ensures { result.now ≡ self.now.columns }
     {
         self.columns.as_slice()
     }
 
-    /// Returns the rows.
-    pub fn rows(&self) -> &[Items<ValueRef>]
+    /// The rows.
+    pub(crate) fn rows(&self) -> &[Items<ValueRef>]
         ensures { result.now ≡ self.now.rows }
     {
         self.rows.as_slice()

@@ -4,53 +4,74 @@ ghost use Rattle.std.specs.Prelude.{◌≡◌, IfOk, IfErr, Ok};
 ghost use Rattle.msi_table.specs.Rows.{AreAsWide};
 ghost use Rattle.msi_query.specs.QueryTrees.{query_of};
 ghost use Rattle.msi_text_base.specs.Refusals.{AnswersWith, IsRefusal, unless};
-ghost use Rattle.msi_query_joins.specs.Rows.{columns_read, relation_values, tables_values};
+ghost use Rattle.msi_query.specs.Queries.{table};
+ghost use Rattle.msi_query_joins.specs.Rows.{columns_read, relation_values, tables_values, whole_table};
 ghost use Rattle.msi_query_joins.specs.Selection.{early_refusal, is_table as is_one_table, joined_narrowed};
 ghost use Rattle.msi_query_joins.specs.Selection.{relation_of};
-ghost use Rattle.msi_query_rows.specs.Width.{AreWide};
+ghost use Rattle.msi_query_joins.specs.Selected.{Selects};
 
 use crate::columns::joined_columns;
 use crate::joining::joined_rows;
 use crate::narrowing::{narrowed, refuse_unknown, selected};
+use crate::picking::narrowed_rows;
 use crate::reasons;
 use crate::relation::Relation;
 use msi_query::parts::{Clauses, SelectTree, select_tree};
 use msi_query::query::{JoinKind, Select};
 use msi_query_expressions::expr::Expr;
 use msi_query_expressions::parts::knows_names;
+use msi_table::parts::StoredRows;
+use msi_table::row::Rows;
 use msi_table_values::column::Column;
+use msi_table_values::parts::copied_columns;
 use msi_text_base::errors::{Error, ErrorKind};
-use msi_text_base::text::Text;
+use msi_text_base::text::{IntoText, Text};
 use msi_text_pool::stringpool::StringPool;
 use std::alloc::Global;
 
 /// Provides tables by name.
 pub trait Tables {
     ghost use Rattle.std.specs.Prelude.{ℕ, List, Option};
-    ghost use Rattle.msi_text_base.specs.Refusals.{AnswersWith, refusal_of};
     ghost use Rattle.msi_table_values.specs.TableCells.{TableCells};
-    ghost use Rattle.msi_query_joins.specs.Rows.{columns_read, whole_table};
+    ghost use Rattle.msi_query_joins.specs.Rows.{cells_of, whole_table};
 
     /// The columns and the rows of the table of a name.
     ghost table: { Self → List ℕ → Option TableCells };
 
-    /// Returns the columns of the table of a name. It takes no memory.
+    /// Returns the columns and the rows of the table of a name. It takes no memory.
     ///
     /// # Errors
     /// Fails with `NotFound` if there is none, or with `InvalidData` if it can't be read.
-    fn columns(&self, name: &str) -> Result<&[Column], Error>
-        ensures ok { IfOk result (λ columns. columns_read (table self.now) name.now ≡ Ok columns.now) }
-        ensures kind { IfErr result (λ kind. columns_read (table self.now) name.now ≡ Err kind) };
+    fn stored(&self, name: &str) -> Result<StoredRows<'_>, Error>
+        ensures ok { IfOk result (λ stored. whole_table (table self.now) name.now ≡ Ok (cells_of name.now stored)) }
+        ensures kind { IfErr result (λ kind. whole_table (table self.now) name.now ≡ Err kind) };
+}
 
-    /// Returns the whole table of a name.
-    ///
-    /// # Errors
-    /// Fails with `NotFound` if there is none, with `InvalidData` if it can't be read, or otherwise with
-    /// `OutOfMemory`, which never comes in place of the others.
-    fn find(&self, alloc: Global, name: &str) -> Result<Relation, Error>
-        ensures ok { IfOk result (λ relation. whole_table (table self.now) name.now ≡ Ok relation) }
-        ensures kind { IfErr result (IsRefusal (whole_table (table self.now) name.now)) }
-        ensures early { AnswersWith (refusal_of (whole_table (table self.now) name.now)) result };
+/// The columns of the table of a name. It takes no memory.
+///
+/// # Errors
+/// `NotFound` where there is none, `InvalidData` where it can't be read.
+fn columns_of<'a, T: Tables>(tables: &'a T, name: &str) -> Result<&'a [Column], Error>
+    ensures ok { IfOk result (λ columns. columns_read (T.table tables.now) name.now ≡ Ok columns.now) }
+    ensures kind { IfErr result (λ kind. columns_read (T.table tables.now) name.now ≡ Err kind) }
+{
+    let stored = tables.stored(name)?;
+    Ok(stored.columns())
+}
+
+/// The whole table of a name.
+///
+/// # Errors
+/// `NotFound` where there is none, `InvalidData` where it can't be read; `OutOfMemory`.
+fn whole<T: Tables>(alloc: Global, tables: &T, name: &str) -> Result<Relation, Error>
+    ensures ok { IfOk result (λ relation. whole_table (T.table tables.now) name.now ≡ Ok relation) }
+    ensures wide { IfOk result (λ relation. AreAsWide relation.columns relation.rows) }
+    ensures kind { IfErr result (IsRefusal (whole_table (T.table tables.now) name.now)) }
+{
+    let stored = tables.stored(name)?;
+    let rows = stored.all(alloc)?;
+    let columns = copied_columns(alloc, stored.columns())?;
+    Ok(Relation::new(name.into_text(alloc)?, columns, rows))
 }
 
 /// What clauses keep of a join of two relations under a condition.
@@ -100,7 +121,7 @@ fn refuse_early<T: Tables>(tables: &T, tree: &SelectTree) -> Result<(), Error>
 {
     match tree {
         SelectTree::Table { name, clauses } => {
-            refuse_unknown(tables.columns(name.as_str())?, clauses)
+            refuse_unknown(columns_of(tables, name.as_str())?, clauses)
         }
         SelectTree::Join { left, right, .. } => {
             refuse_early(tables, left)?;
@@ -125,12 +146,13 @@ fn relation_of_tree<T: Tables>(
     ensures ok { let values = tables_values pool.now.places (T.table tables.now) in
         IfOk result (λ relation. relation_of values (query_of tree.now)
         ≡ Ok (relation_values pool.now.places relation)) }
+    ensures wide { IfOk result (λ relation. AreAsWide relation.columns relation.rows) }
     ensures kind { let values = tables_values pool.now.places (T.table tables.now) in
         IfErr result (IsRefusal (relation_of values (query_of tree.now))) }
 {
     match tree {
         SelectTree::Table { name, clauses } => {
-            let relation = tables.find(alloc, name.as_str())?;
+            let relation = whole(alloc, tables, name.as_str())?;
             narrowed(alloc, pool, clauses, relation)
         }
         SelectTree::Join {
@@ -147,28 +169,72 @@ fn relation_of_tree<T: Tables>(
     }
 }
 
-/// Returns the rows that a query selects from tables, whose texts are in a pool. Joins go down by recursion, so how
-/// deep they may nest is bounded by the stack alone.
+/// The rows that a query for one table selects: they stay in the table's stream.
+///
+/// # Errors
+/// `NotFound`, `InvalidData` or `InvalidInput` as the query is refused; `OutOfMemory`.
+fn table_rows<'a, T: Tables>(
+    alloc: Global,
+    pool: &'a StringPool,
+    tables: &'a T,
+    name: &str,
+    clauses: &Clauses,
+) -> Result<Rows<'a>, Error>
+    ensures ok { let values = tables_values pool.now.places (T.table tables.now) in
+        IfOk result (Selects (relation_of values (table name.now clauses.now))) }
+    ensures kind { let values = tables_values pool.now.places (T.table tables.now) in
+        IfErr result (IsRefusal (relation_of values (table name.now clauses.now))) }
+{
+    let stored = tables.stored(name)?;
+    narrowed_rows(alloc, pool, clauses, stored)
+}
+
+/// The rows that the tree of a query gives, made one beside the other.
+///
+/// # Errors
+/// `NotFound`, `InvalidData` or `InvalidInput` as the query is refused; `OutOfMemory`.
+fn tree_rows<'a, T: Tables>(
+    alloc: Global,
+    pool: &'a StringPool,
+    tables: &T,
+    tree: &SelectTree,
+) -> Result<Rows<'a>, Error>
+    ensures ok { let values = tables_values pool.now.places (T.table tables.now) in
+        IfOk result (Selects (relation_of values (query_of tree.now))) }
+    ensures kind { let values = tables_values pool.now.places (T.table tables.now) in
+        IfErr result (IsRefusal (relation_of values (query_of tree.now))) }
+{
+    let relation = relation_of_tree(alloc, pool, tables, tree)?;
+    relation.into_rows(alloc, pool)
+}
+
+/// Returns the rows that a query selects from tables, whose texts are in a pool. Those of a query for one table are
+/// decoded as they are asked for; those of a join are made first. Joins go down by recursion, so how deep they may
+/// nest is bounded by the stack alone.
 ///
 /// # Errors
 /// Fails with the first of these that applies, for a join those of the left query, then those of the right:
 /// `NotFound` if a table isn't there, `InvalidData` if it can't be read; then `InvalidInput` if a column isn't there,
 /// in a join's condition, then one that is selected, then in the condition. If none applies, it fails with
 /// `OutOfMemory`, which may also come in place of what is refused from the first join's own columns on.
-pub fn select<T: Tables>(
+pub fn select_rows<'a, T: Tables>(
     alloc: Global,
-    pool: &StringPool,
-    tables: &T,
+    pool: &'a StringPool,
+    tables: &'a T,
     query: &Select,
-) -> Result<Relation, Error>
+) -> Result<Rows<'a>, Error>
     ensures ok { let values = tables_values pool.now.places (T.table tables.now) in
-        IfOk result (λ relation. relation_of values query.now ≡ Ok (relation_values pool.now.places relation)) }
-    ensures wide { IfOk result (λ relation. AreWide (T.table tables.now) → AreAsWide relation.columns relation.rows) }
+        IfOk result (Selects (relation_of values query.now)) }
     ensures kind { let values = tables_values pool.now.places (T.table tables.now) in
         IfErr result (IsRefusal (relation_of values query.now)) }
     ensures early { AnswersWith (early_refusal (columns_read (T.table tables.now)) query.now) result }
 {
     let tree = select_tree(query);
     refuse_early(tables, tree)?;
-    relation_of_tree(alloc, pool, tables, tree)
+    match tree {
+        SelectTree::Table { name, clauses } => {
+            table_rows(alloc, pool, tables, name.as_str(), clauses)
+        }
+        SelectTree::Join { .. } => tree_rows(alloc, pool, tables, tree),
+    }
 }

@@ -6,5 +6,6 @@ pub mod PlacesLemmas
 pub mod ReadRowsLemmas
 pub mod ColumnLemmas
 pub mod CensusLemmas
+pub mod GivenLemmas
 pub mod LongRowsLemmas
 pub mod WorkedRows

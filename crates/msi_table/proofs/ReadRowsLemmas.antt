@@ -14,7 +14,7 @@ use Rattle.msi_table_values.specs.declared.column.ColumnType.{ColumnType}
 use Rattle.msi_table_values.specs.declared.column.ColumnType.TheVariants as coltype
 use Rattle.msi_table_values.specs.declared.value.ValueRef.TheVariants as cell
 use Rattle.msi_table.specs.Cells.{width, row_count, cell_in, cell_of_number, cell_at, cell_place, row_in}
-use Rattle.msi_table_values.specs.Columns.{types_of}
+use Rattle.msi_table_values.specs.Columns.{ColumnDef, types_of}
 use Rattle.msi_table_values.specs.Fitting.{FitsColumn, FitsRow, FitsTable}
 use Rattle.msi_table.specs.Rows.{AreAsWide}
 use Rattle.msi_table.specs.Tables.{ReadRowsFit}
@@ -106,13 +106,19 @@ module _ (long : Bool) (types : List ColumnType) (bytes : List ℕ) (h : AreByte
   row_fits i = fits_by_cells long types (row_in long types bytes i) (length-tabulated (length types) (cell_at long types bytes i))
       (λ j l. rw (tabulated_at (cell_at long types bytes i) (length types) j l) (cell_at_fits i j l))
 
+-- rows that are read are as wide as the columns
+pub read_wide : (long : Bool) (columns : List ColumnDef) (bytes : List ℕ) (count : ℕ) → AreAsWide columns (tabulated count (row_in long (types_of columns) bytes))
+read_wide long columns bytes count =
+    let types : List ColumnType = types_of columns in
+    all_mapped (λ row. length row ≡ length columns) (row_in long types bytes)
+    (λ i. length-tabulated (length types) (cell_at long types bytes i) ∙ length-types_of columns) (numbers_from 0 count)
+
 pub read_fits : ReadRowsFit
 read_fits long columns bytes rows e =
     let types : List ColumnType = types_of columns in
     let count : ℕ = row_count long types bytes in
     let is = cond_some (nat_le count 65536) (tabulated count (row_in long types bytes)) rows e in (
-      subst (AreAsWide columns) is.1
-          (all_mapped (λ row. length row ≡ length columns) (row_in long types bytes) (λ i. length-tabulated (length types) (cell_at long types bytes i) ∙ length-types_of columns) (numbers_from 0 count)),
+      subst (AreAsWide columns) is.1 (read_wide long columns bytes count),
       λ some h. subst (FitsTable long types) is.1 (record {
         some_column = omega (arith, length-types_of columns, some);
         few_rows = let few : count ≤ 65536 = grind (arith, nat_tests, is) in omega (arith, length-tabulated count (row_in long types bytes), few);

@@ -2,6 +2,7 @@
 pub mod Cells
 pub mod Tables
 pub mod Rows
+pub mod Sources
 pub mod Utf8Rows
 pub mod Census
 -- The words of the crates below, which public clauses cite.

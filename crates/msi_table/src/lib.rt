@@ -5,9 +5,11 @@ mod cells;
 mod census;
 pub mod laws;
 pub mod parts;
+mod picked;
 mod reasons;
 pub mod row;
 mod rows;
+mod stored;
 pub mod table;
 mod writing;
 

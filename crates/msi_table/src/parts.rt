@@ -1,6 +1,7 @@
 //! What the crates above need beyond the surface.
 
-ghost use Rattle.std.specs.Prelude.{◌≡◌, ◌<◌, ◌↔◌, IfOk, IsTrue, Some, is_some, length, option_copied, true};
+ghost use Rattle.std.specs.Prelude.{◌≡◌, ◌<◌, ◌↔◌, IfOk, IsTrue, Some, is_some, length, option_copied, option_map};
+ghost use Rattle.std.specs.Prelude.{true};
 ghost use Rattle.msi_text_base.specs.Results.{OnlyMemory};
 ghost use Rattle.msi_text_base.specs.declared.errors.ErrorKind.TheVariants.{InvalidData};
 ghost use Rattle.msi_table_values.specs.Refusals.{FailsWith};
@@ -8,11 +9,13 @@ ghost use Rattle.msi_table_values.specs.CellValues.{row_values};
 ghost use Rattle.msi_table_values.specs.Columns.{has_column as has_one, types_of};
 ghost use Rattle.msi_table.specs.Cells.{table_bytes};
 ghost use Rattle.msi_table.specs.Tables.{CanStore, long_table_of, rows_spelled, stored_bytes, table_of};
-ghost use Rattle.msi_table.specs.Rows.{AreAsWide, value_named as value_in_row};
+ghost use Rattle.msi_table.specs.Rows.{AreAsWide, AreRowNumbers, rows_picked, table_rows, value_named as value_in_row};
 ghost use Rattle.msi_table_order.specs.StoredOrder.{in_stored_order};
 
 pub use crate::census::Census;
+pub use crate::picked::{PickedRows, cell_of, projected_row};
 use crate::row::{Row, Rows, values_of};
+pub use crate::stored::StoredRows;
 use crate::table::Table;
 use crate::{rows as reading, writing};
 pub use msi_table_order::order::sort_by_keys;
@@ -158,5 +161,36 @@ pub fn rows<'a>(
         rows ≡ record { columns = columns; places = pool.now.places; rows = cells.items }) }
     ensures kind { OnlyMemory result }
 {
-    Rows::new(alloc, pool, columns, cells)
+    Rows::of_cells(alloc, pool, columns, cells)
+}
+
+/// Returns rows that are picked of a table's stream, and have a cell for each column, over the pool of their texts.
+/// Each is decoded when it is asked for.
+///
+/// # Errors
+/// Fails with `OutOfMemory`.
+pub fn rows_of_picked<'a>(
+    alloc: Global,
+    pool: &'a StringPool,
+    columns: Items<Column>,
+    picked: PickedRows<'a>,
+) -> Result<Rows<'a>, Error>
+    requires numbers { AreRowNumbers (length picked.stored.rows) picked.numbers }
+    requires wide { AreAsWide columns (rows_picked picked.numbers picked.places picked.stored.rows) }
+    ensures ok { IfOk result (λ rows. rows ≡ record {
+      columns = columns;
+      places = pool.now.places;
+      rows = rows_picked picked.entry.numbers picked.entry.places picked.entry.stored.rows;
+    }) }
+    ensures kind { OnlyMemory result }
+{
+    Rows::of_picked(alloc, pool, columns, picked)
+}
+
+/// Returns the rows that the bytes of a table's stream encode, and that stay there, if they are at most 65536; bytes
+/// past the last whole row are ignored. It takes no memory.
+pub fn rows_in_place<'a>(table: &'a Table, bytes: &'a [u8]) -> Option<StoredRows<'a>>
+    ensures { result ≡ option_map (table_rows table.now.columns) (rows_spelled table.now bytes.now) }
+{
+    StoredRows::of_stream(table, bytes)
 }

@@ -4,9 +4,11 @@ ghost use Rattle.std.specs.Prelude.{◌≡◌, ◌<◌, ◌==◌, IsTrue, IfOk, 
 ghost use Rattle.std.specs.Iterator.{at_most};
 ghost use Rattle.msi_text_base.specs.Results.{OnlyMemory};
 ghost use Rattle.msi_table_values.specs.Columns.{has_column as has_one};
-ghost use Rattle.msi_table.specs.Rows.{AreAsWide, GivesRow, value_named};
+ghost use Rattle.msi_table.specs.Rows.{AreAsWide, AreRowNumbers, GivesRow, IsRowAt, rows_picked, value_named};
+ghost use Rattle.msi_table.specs.Sources.{HasRowNumbers, rows_of_source};
 ghost use Rattle.msi_table_values.specs.CellValues.{row_values};
 
+use crate::picked::PickedRows;
 use msi_table_values::column::Column;
 use msi_table_values::parts::{column_index, has_column};
 use msi_table_values::value::{Value, ValueRef};
@@ -199,12 +201,59 @@ fn row_of(
     Ok(Row::new(columns.clone()?, values))
 }
 
+/// Where rows come from.
+#[derive(Drop)]
+enum Source<'a> {
+    /// They were made, as those of a join are.
+    Made(Vec<Items<ValueRef>>),
+    /// They stand in a table's stream, and are decoded one by one.
+    Stored(PickedRows<'a>),
+}
+
+impl<'a> Source<'a> {
+    /// How many rows there are.
+    fn len(&self) -> usize
+        ensures { result ≡ length (rows_of_source self.now) }
+    {
+        match self {
+            Source::Made(rows) => rows.len(),
+            Source::Stored(picked) => picked.len(),
+        }
+    }
+
+    /// The row at a place, which has a cell for each column.
+    ///
+    /// # Errors
+    /// `OutOfMemory`.
+    fn row(
+        &self,
+        alloc: Global,
+        pool: &StringPool,
+        columns: &Rc<Items<Column>>,
+        at: usize,
+    ) -> Result<Row, Error>
+        requires numbers { HasRowNumbers self.now }
+        requires inside { at < length (rows_of_source self.now) }
+        requires wide { AreAsWide columns.now.value (rows_of_source self.now) }
+        ensures ok { IfOk result (IsRowAt columns.now.value pool.now.places (rows_of_source self.now) at) }
+        ensures kind { OnlyMemory result }
+    {
+        match self {
+            Source::Made(rows) => row_of(alloc, pool, columns, rows[at].as_slice()),
+            Source::Stored(picked) => {
+                let cells = picked.row(alloc, at)?;
+                row_of(alloc, pool, columns, cells.as_slice())
+            }
+        }
+    }
+}
+
 /// Rows, each of which is returned once. After `OutOfMemory` none is left.
 pub struct Rows<'a> {
     alloc: Global,
     pool: &'a StringPool,
     columns: Rc<Items<Column>>,
-    rows: Vec<Items<ValueRef>>,
+    source: Source<'a>,
     given: usize,
 }
 
@@ -215,25 +264,26 @@ impl Drop for Rows<'_> {
             alloc: _,
             pool: _,
             columns: _,
-            rows: _,
+            source: _,
             given: _,
         } = self;
     }
 }
 
 impl<'a> Model for Rows<'a> {
-    ghost use Rattle.std.specs.Prelude.{◌≤◌, drop, vec_len};
+    ghost use Rattle.std.specs.Prelude.{drop};
     ghost use Rattle.msi_table.specs.Rows.{AreAsWide, RowsDef};
+    ghost use Rattle.msi_table.specs.Sources.{HasRowNumbers, rows_of_source};
 
     ghost Value = { RowsDef };
 
     ghost view = { λ r. record {
       columns = r.columns.value;
       places = r.pool.now.places;
-      rows = drop r.given r.rows.items;
+      rows = drop r.given (rows_of_source r.source);
     } };
 
-    ghost invariant = { λ r. AreAsWide r.columns.value r.rows.items };
+    ghost invariant = { λ r. HasRowNumbers r.source × AreAsWide r.columns.value (rows_of_source r.source) };
 }
 
 impl<'a> Rows<'a> {
@@ -241,7 +291,7 @@ impl<'a> Rows<'a> {
     ///
     /// # Errors
     /// `OutOfMemory`.
-    pub(crate) fn new(
+    pub(crate) fn of_cells(
         alloc: Global,
         pool: &'a StringPool,
         columns: Items<Column>,
@@ -252,12 +302,53 @@ impl<'a> Rows<'a> {
             given ≡ record { columns = columns; places = pool.now.places; rows = rows.items }) }
         ensures kind { OnlyMemory result }
     {
+        Rows::from_source(alloc, pool, columns, Source::Made(rows))
+    }
+
+    /// Rows of a table's stream that have a cell for each column.
+    ///
+    /// # Errors
+    /// `OutOfMemory`.
+    pub(crate) fn of_picked(
+        alloc: Global,
+        pool: &'a StringPool,
+        columns: Items<Column>,
+        picked: PickedRows<'a>,
+    ) -> Result<Rows<'a>, Error>
+        requires numbers { AreRowNumbers (length picked.stored.rows) picked.numbers }
+        requires wide { AreAsWide columns (rows_picked picked.numbers picked.places picked.stored.rows) }
+        ensures ok { IfOk result (λ given. given ≡ record {
+          columns = columns;
+          places = pool.now.places;
+          rows = rows_picked picked.entry.numbers picked.entry.places picked.entry.stored.rows;
+        }) }
+        ensures kind { OnlyMemory result }
+    {
+        Rows::from_source(alloc, pool, columns, Source::Stored(picked))
+    }
+
+    /// Rows of a source that have a cell for each column.
+    ///
+    /// # Errors
+    /// `OutOfMemory`.
+    fn from_source(
+        alloc: Global,
+        pool: &'a StringPool,
+        columns: Items<Column>,
+        source: Source<'a>,
+    ) -> Result<Rows<'a>, Error>
+        requires numbers { HasRowNumbers source }
+        requires wide { AreAsWide columns (rows_of_source source) }
+        ensures ok { IfOk result (λ given.
+            given ≡ record { columns = columns; places = pool.now.places; rows = rows_of_source source.entry }) }
+        ensures kind { OnlyMemory result }
+    {
         let columns = Rc::new(alloc, columns)?;
         Ok(Rows {
             alloc,
             pool,
             columns,
-            rows,
+            source,
             given: 0,
         })
     }
@@ -273,7 +364,7 @@ impl<'a> Rows<'a> {
     pub fn len(&self) -> usize
         ensures { result ≡ length self.now.rows }
     {
-        self.rows.len().saturating_sub(self.given)
+        self.source.len().saturating_sub(self.given)
     }
 }
 
@@ -286,17 +377,17 @@ impl<'a> Iterator for Rows<'a> {
     ghost remaining = { λ rows. at_most (length rows.rows) };
 
     fn next(&mut self) -> Option<Result<Row, Error>> {
-        if self.given >= self.rows.len() {
+        let count = self.source.len();
+        if self.given >= count {
             return None;
         }
-        let cells = self.rows[self.given].as_slice();
-        match row_of(self.alloc, self.pool, &self.columns, cells) {
+        match self.source.row(self.alloc, self.pool, &self.columns, self.given) {
             Ok(row) => {
                 self.given += 1;
                 Some(Ok(row))
             }
             Err(error) => {
-                self.given = self.rows.len();
+                self.given = count;
                 Some(Err(error))
             }
         }

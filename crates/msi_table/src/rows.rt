@@ -1,6 +1,7 @@
 //! The rows of a table's stream.
 
 ghost use Rattle.std.specs.Prelude.{◌≡◌, ◌<◌, ◌≤◌, is_some, length, sum, IfOk, Some};
+ghost use Rattle.msi_text_base.specs.Lists.{tabulated};
 ghost use Rattle.msi_text_base.specs.Results.{OnlyMemory};
 ghost use Rattle.msi_text_base.specs.declared.errors.ErrorKind.TheVariants.{InvalidData};
 ghost use Rattle.msi_table.specs.Cells.{widths, row_count as count_of, row_in, rows_in};
@@ -50,7 +51,7 @@ pub(crate) fn are_rows(long: bool, columns: &[Column], bytes: &[u8]) -> bool
 }
 
 /// One row of so many.
-fn read_row(
+pub(crate) fn read_row(
     alloc: Global,
     long: bool,
     columns: &[Column],
@@ -75,6 +76,25 @@ fn read_row(
     Ok(Items::from_vec(row))
 }
 
+/// All rows of so many.
+pub(crate) fn read_all(
+    alloc: Global,
+    long: bool,
+    columns: &[Column],
+    bytes: &[u8],
+    count: usize,
+) -> Result<Vec<Items<ValueRef>>, Error>
+    requires { count ≡ count_of long (types_of columns.now) bytes.now }
+    ensures ok { IfOk result (λ rows. rows.items ≡ tabulated count (row_in long (types_of columns.now) bytes.now)) }
+    ensures kind { OnlyMemory result }
+{
+    let mut rows = Vec::with_capacity(alloc, count)?;
+    for i in 0..count {
+        rows.push(read_row(alloc, long, columns, bytes, count, i)?)?;
+    }
+    Ok(rows)
+}
+
 /// The rows that the bytes of a stream encode.
 pub(crate) fn read_rows(
     alloc: Global,
@@ -90,9 +110,5 @@ pub(crate) fn read_rows(
     if count > MAX_ROWS {
         return Err(Error::new(ErrorKind::InvalidData, reasons::ROWS_MANY));
     }
-    let mut rows = Vec::with_capacity(alloc, count)?;
-    for i in 0..count {
-        rows.push(read_row(alloc, long, columns, bytes, count, i)?)?;
-    }
-    Ok(rows)
+    read_all(alloc, long, columns, bytes, count)
 }

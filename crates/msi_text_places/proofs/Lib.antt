@@ -3,4 +3,5 @@ pub mod ForgettingLemmas
 pub mod TextIndexLemmas
 pub mod PlaceIndexLemmas
 pub mod IndexedFitLemmas
+pub mod PlaceLoopLemmas
 pub mod JoinedTextsLemmas

@@ -1,5 +1,5 @@
 -- What the order of the entries tells of the texts' places.
-use Rattle.std.proofs.Common.{◌≡◌, ℕ, ◌<◌, Bool, true, false, cond, not, ◌&&◌, ◌||◌, ◌==◌, List, ◌∷◌, Some, None, inl, inr, refl, sym, ap, ap₂, ◌∙◌, Ordering, Less, Equal, Greater, is_eq, is_gt, nat_cmp, bytes_eq, slice_get, IfSome, subst, true≢false, arith}
+use Rattle.std.proofs.Common.{◌≡◌, ℕ, ◌<◌, Bool, true, false, cond, not, ◌&&◌, ◌||◌, List, ◌∷◌, Some, None, inl, inr, refl, sym, ap, ap₂, ◌∙◌, Ordering, Less, Equal, Greater, is_eq, is_gt, nat_cmp, bytes_eq, slice_get, IfSome, subst, true≢false, arith}
 use Rattle.std.specs.Cmp.Lexicographic.{slice_cmp}
 use Rattle.std.specs.Ordering.{ordering_then, ordering_reverse}
 use Rattle.std.specs.List.{list_any}

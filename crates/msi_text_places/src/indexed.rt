@@ -36,21 +36,18 @@ pub struct IndexedPlaces {
 }
 
 impl IndexedPlaces {
-    /// The places, which are moved out, with indexes made of them. The only error is `OutOfMemory`; then the places
-    /// are as they were.
-    pub(crate) fn of(places: &mut Places) -> Result<IndexedPlaces, Error>
-        requires { length places.old ≤ 16777215 }
-        ensures ok { IfOk result (λ all. all.places ≡ places.old) }
+    /// The places with indexes made of them. The only error is `OutOfMemory`.
+    pub(crate) fn of(places: Places) -> Result<IndexedPlaces, Error>
+        requires { length places ≤ 16777215 }
+        ensures ok { IfOk result (λ all. all.places ≡ places) }
         ensures operations { IfOk result (λ all. all.operations ≡ 0) }
         ensures indexed { IfOk result (λ all. IsIndexed all) }
-        ensures err { OnErr result (places.new ≡ places.old) }
         ensures kind { OnlyMemory result }
     {
-        let alloc = places.allocator();
-        let (free, texts) = indexes_of(alloc, places.as_slice())?;
+        let (free, texts) = indexes_of(places.allocator(), places.as_slice())?;
         Ok(IndexedPlaces {
-            many: places.as_slice().len(),
-            places: mem::replace(places, Places::from_vec(Vec::new(alloc))),
+            many: places.len(),
+            places,
             free,
             texts,
             operations: Operations::new(),
@@ -82,10 +79,10 @@ impl IndexedPlaces {
     }
 
     /// The places, from number 1 on.
-    pub(crate) fn as_slice(&self) -> &[Place]
+    pub(crate) fn places(&self) -> &Places
         ensures { result.now ≡ self.now.places }
     {
-        self.places.as_slice()
+        &self.places
     }
 
     /// The places, which are moved out. None is left.
@@ -105,11 +102,6 @@ impl IndexedPlaces {
         ensures operations { self.new.operations ≡ self.old.operations }
     {
         self.places.forget_texts(is_named);
-    }
-
-    /// The allocator that the places keep.
-    pub(crate) fn allocator(&self) -> Global {
-        self.places.allocator()
     }
 
     /// Stores a text and returns its place, counted from 0: the first that is free or has the text and fewer than

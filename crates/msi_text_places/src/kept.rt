@@ -1,9 +1,10 @@
-//! The places of a pool, whose indexes are made at its first change: what only reads a pool makes none.
+//! The places of a pool: what only reads a pool keeps its texts as they were read, and indexes are made at the first
+//! change.
 
-ghost use Rattle.std.specs.Prelude.{◌≡◌, ◌+◌, ◌≤◌, ℕ, Some, is_some, IfOk, IfErr, OnOk, OnErr, true, false, length};
-ghost use Rattle.std.specs.Prelude.{string_bytes, if◌then◌else◌};
+ghost use Rattle.std.specs.Prelude.{◌≡◌, ◌+◌, ◌≤◌, ◌<◌, ◌↔◌, ℕ, Some, is_some, IfOk, IfErr, OnOk, OnErr, true, false};
+ghost use Rattle.std.specs.Prelude.{string_bytes, if◌then◌else◌, length, slice_get, IsTrue, []};
 ghost use Rattle.std.specs.List.{list_any};
-ghost use Rattle.msi_text_pool_base.specs.Pool.{without_unnamed_texts};
+ghost use Rattle.msi_text_pool_base.specs.Pool.{PlacesWritten, without_unnamed_texts};
 ghost use Rattle.msi_text_pool_base.specs.FirstFit.{taken, given_back, is_fit};
 ghost use Rattle.msi_text_places.specs.Indexing.{HasTrueIndexes, IsKept, places_of, operations_of};
 ghost use Rattle.msi_text_pool_base.specs.Recounting.{AreCounts, many_recounted, with_counts};
@@ -11,7 +12,8 @@ ghost use Rattle.msi_text_base.specs.Results.{OnlyMemory};
 ghost use Rattle.msi_text_base.specs.declared.errors.ErrorKind.TheVariants.{InvalidData, InvalidInput, OutOfMemory};
 
 use crate::indexed::{IndexedPlaces, MOST_CELLS, most_places};
-use crate::places::{Place, Places};
+use crate::joined::JoinedTexts;
+use crate::places::{PlaceRef, Places};
 use crate::reasons;
 use msi_text_base::errors::{Error, ErrorKind};
 use std::alloc::Global;
@@ -20,36 +22,44 @@ use std::alloc::Global;
 #[derive(Drop)]
 pub enum KeptPlaces {
     /// As they were read: no text was taken, and no place given back.
-    Read(Places),
+    Read(JoinedTexts),
+    /// Without indexes, since their counts were set after such a change.
+    Recounted(Places),
     /// With their indexes.
     Indexed(IndexedPlaces),
 }
 
 impl KeptPlaces {
-    /// The places of a vector, which is moved in, without indexes.
-    pub fn from_vec(places: Vec<Place>) -> KeptPlaces
-        ensures places { places_of result ≡ places.items }
-        ensures operations { operations_of result ≡ 0 }
-        ensures indexed { HasTrueIndexes result }
-    {
-        KeptPlaces::Read(Places::from_vec(places))
-    }
-
-    /// The places, from number 1 on.
-    pub fn places(&self) -> &[Place]
-        ensures { result.now ≡ places_of self.now }
+    /// How many places there are.
+    pub fn len(&self) -> usize
+        ensures { result ≡ length (places_of self.now) }
     {
         match self {
-            KeptPlaces::Read(places) => places.as_slice(),
-            KeptPlaces::Indexed(all) => all.as_slice(),
+            KeptPlaces::Read(texts) => texts.len(),
+            KeptPlaces::Recounted(places) => places.len(),
+            KeptPlaces::Indexed(all) => all.places().len(),
+        }
+    }
+
+    /// A place, counted from 0.
+    pub fn place(&self, at: usize) -> PlaceRef<'_>
+        requires indexed { HasTrueIndexes self.now }
+        requires place { at < length (places_of self.now) }
+        ensures { slice_get (places_of self.now) at ≡ Some result }
+    {
+        match self {
+            KeptPlaces::Read(texts) => texts.place(at),
+            KeptPlaces::Recounted(places) => places.place(at),
+            KeptPlaces::Indexed(all) => all.places().place(at),
         }
     }
 
     /// The allocator that the places keep.
     pub fn allocator(&self) -> Global {
         match self {
-            KeptPlaces::Read(places) => places.allocator(),
-            KeptPlaces::Indexed(all) => all.allocator(),
+            KeptPlaces::Read(texts) => texts.allocator(),
+            KeptPlaces::Recounted(places) => places.allocator(),
+            KeptPlaces::Indexed(all) => all.places().allocator(),
         }
     }
 
@@ -58,8 +68,8 @@ impl KeptPlaces {
         ensures { result ≡ operations_of self.now }
     {
         match self {
-            KeptPlaces::Read(_) => 0,
             KeptPlaces::Indexed(all) => all.operations(),
+            _ => 0,
         }
     }
 
@@ -72,9 +82,23 @@ impl KeptPlaces {
         ensures kind { OnlyMemory result }
     {
         Ok(match self {
-            KeptPlaces::Read(places) => KeptPlaces::Read(places.clone()?),
+            KeptPlaces::Read(texts) => KeptPlaces::Read(texts.clone()?),
+            KeptPlaces::Recounted(places) => KeptPlaces::Recounted(places.clone()?),
             KeptPlaces::Indexed(all) => KeptPlaces::Indexed(all.clone()?),
         })
+    }
+
+    /// The places, each with its text, to be changed. The only error is `OutOfMemory`.
+    fn to_places(&self) -> Result<Places, Error>
+        requires { HasTrueIndexes self.now }
+        ensures ok { IfOk result (λ places. places ≡ places_of self.now) }
+        ensures kind { OnlyMemory result }
+    {
+        match self {
+            KeptPlaces::Read(texts) => texts.to_places(),
+            KeptPlaces::Recounted(places) => places.clone(),
+            KeptPlaces::Indexed(all) => all.places().clone(),
+        }
     }
 
     /// Empties the texts of free places that aren't named.
@@ -86,7 +110,8 @@ impl KeptPlaces {
         ensures operations { operations_of self.new ≡ operations_of self.old }
     {
         match self {
-            KeptPlaces::Read(places) => places.forget_texts(is_named),
+            KeptPlaces::Read(texts) => texts.forget_texts(is_named),
+            KeptPlaces::Recounted(places) => places.forget_texts(is_named),
             KeptPlaces::Indexed(all) => all.forget_texts(is_named),
         }
     }
@@ -94,6 +119,7 @@ impl KeptPlaces {
     /// Sets the count of each place, and returns how many got another one. A place without cells loses its text. The
     /// indexes are made again at the next change, and there is no operation yet.
     pub fn set_counts(&mut self, counts: &[u32]) -> u32
+        requires indexed { HasTrueIndexes self.old }
         requires many { length counts.now ≡ length (places_of self.old) }
         requires counts { AreCounts counts.now }
         requires most { length (places_of self.old) ≤ 16777215 }
@@ -103,11 +129,12 @@ impl KeptPlaces {
         ensures operations { operations_of self.new ≡ 0 }
     {
         match self {
-            KeptPlaces::Read(places) => places.set_counts(counts),
+            KeptPlaces::Read(texts) => texts.set_counts(counts),
+            KeptPlaces::Recounted(places) => places.set_counts(counts),
             KeptPlaces::Indexed(all) => {
                 let mut places = all.take_places();
                 let changed = places.set_counts(counts);
-                *self = KeptPlaces::Read(places);
+                *self = KeptPlaces::Recounted(places);
                 changed
             }
         }
@@ -125,16 +152,16 @@ impl KeptPlaces {
         ensures most { operations_of self.new ≤ 8 }
         ensures least { OnOk result (1 ≤ operations_of self.new) }
     {
-        match self {
-            KeptPlaces::Read(places) => {
-                check_room(places.as_slice(), long, text.as_str())?;
-                let mut all = IndexedPlaces::of(places)?;
-                let taken = all.take(text, long);
-                *self = KeptPlaces::Indexed(all);
-                taken
-            }
-            KeptPlaces::Indexed(all) => all.take(text, long),
+        if let KeptPlaces::Indexed(all) = self {
+            return all.take(text, long);
         }
+        if !self.has_room(long, text.as_str()) {
+            return Err(Error::new(ErrorKind::InvalidInput, reasons::POOL_FULL));
+        }
+        let mut all = IndexedPlaces::of(self.to_places()?)?;
+        let taken = all.take(text, long);
+        *self = KeptPlaces::Indexed(all);
+        taken
     }
 
     /// Gives back the place of a number from 1 on, as `IndexedPlaces::give_back` does.
@@ -149,65 +176,78 @@ impl KeptPlaces {
         ensures most { operations_of self.new ≤ 8 }
         ensures least { OnOk result (1 ≤ operations_of self.new) }
     {
-        match self {
-            KeptPlaces::Read(places) => {
-                check_used(places.as_slice(), number)?;
-                let mut all = IndexedPlaces::of(places)?;
-                let given = all.give_back(number);
-                *self = KeptPlaces::Indexed(all);
-                given
-            }
-            KeptPlaces::Indexed(all) => all.give_back(number),
+        if let KeptPlaces::Indexed(all) = self {
+            return all.give_back(number);
         }
+        self.check_used(number)?;
+        let mut all = IndexedPlaces::of(self.to_places()?)?;
+        let given = all.give_back(number);
+        *self = KeptPlaces::Indexed(all);
+        given
     }
-}
 
-/// Fails with `InvalidInput` unless there is a place for a text. It makes no index, so it takes no memory.
-fn check_room(places: &[Place], long: bool, text: &str) -> Result<(), Error>
-    ensures ok { OnOk result (is_some (taken long places.now text.now) ≡ true) }
-    ensures err { OnErr result (is_some (taken long places.now text.now) ≡ false) }
-    ensures kind { IfErr result (λ kind. kind ≡ InvalidInput) }
-{
-    if has_room(places, long, text) {
+    /// Whether there is a place for a text: one may be added, or one fits. It makes no index, so it takes no memory.
+    fn has_room(&self, long: bool, text: &str) -> bool
+        requires { HasTrueIndexes self.now }
+        ensures { result ≡ is_some (taken long (places_of self.now) text.now) }
+    {
+        self.len() < most_places(long) || self.has_fit(text)
+    }
+
+    /// Whether a place fits a text.
+    fn has_fit(&self, text: &str) -> bool
+        requires { HasTrueIndexes self.now }
+        ensures { result ≡ list_any (is_fit text.now) (places_of self.now) }
+    {
+        for at in 0..self.len() {
+            if fits(&self.place(at), text) {
+                return true;
+            }
+        }
+        false
+    }
+
+    /// Fails with `InvalidData` past the end and for a free place.
+    fn check_used(&self, number: u32) -> Result<(), Error>
+        requires indexed { HasTrueIndexes self.now }
+        requires number { 1 ≤ number }
+        ensures ok { OnOk result (is_some (given_back (places_of self.now) number) ≡ true) }
+        ensures err { OnErr result (is_some (given_back (places_of self.now) number) ≡ false) }
+        ensures kind { IfErr result (λ kind. kind ≡ InvalidData) }
+    {
+        let at = number as usize - 1;
+        if at >= self.len() {
+            return Err(Error::new(ErrorKind::InvalidData, reasons::PLACE_UNKNOWN));
+        }
+        if self.place(at).count() == 0 {
+            return Err(Error::new(ErrorKind::InvalidData, reasons::PLACE_FREE));
+        }
         Ok(())
-    } else {
-        Err(Error::new(ErrorKind::InvalidInput, reasons::POOL_FULL))
     }
-}
 
-/// Whether there is a place for a text: one may be added, or one fits.
-fn has_room(places: &[Place], long: bool, text: &str) -> bool
-    ensures { result ≡ is_some (taken long places.now text.now) }
-{
-    places.len() < most_places(long) || has_fit(places, text)
-}
-
-/// Whether a place fits a text.
-fn has_fit(places: &[Place], text: &str) -> bool
-    ensures { result ≡ list_any (is_fit text.now) places.now }
-{
-    places.iter().any(|place| fits(place, text))
+    /// Whether each free place has the empty text.
+    pub fn are_written(&self) -> bool
+        requires { HasTrueIndexes self.now }
+        ensures { IsTrue result ↔ PlacesWritten (places_of self.now) }
+    {
+        let mut all = true;
+        for at in 0..self.len() {
+            all &= is_written(&self.place(at));
+        }
+        all
+    }
 }
 
 /// Whether a place is free, or has the text and fewer than 65535 cells.
-fn fits(place: &Place, text: &str) -> bool
+fn fits(place: &PlaceRef, text: &str) -> bool
     ensures { result ≡ is_fit text.now place.now }
 {
     place.count() == 0 || (place.text() == text && place.count() < MOST_CELLS)
 }
 
-/// Fails with `InvalidData` past the end and for a free place.
-fn check_used(places: &[Place], number: u32) -> Result<(), Error>
-    requires { 1 ≤ number }
-    ensures ok { OnOk result (is_some (given_back places.now number) ≡ true) }
-    ensures err { OnErr result (is_some (given_back places.now number) ≡ false) }
-    ensures kind { IfErr result (λ kind. kind ≡ InvalidData) }
+/// Whether a place is in use or has the empty text.
+fn is_written(place: &PlaceRef) -> bool
+    ensures { IsTrue result ↔ (place.now.count ≡ 0 → place.now.text ≡ []) }
 {
-    match places.get(number as usize - 1) {
-        None => Err(Error::new(ErrorKind::InvalidData, reasons::PLACE_UNKNOWN)),
-        Some(place) if place.count() == 0 => {
-            Err(Error::new(ErrorKind::InvalidData, reasons::PLACE_FREE))
-        }
-        Some(_) => Ok(()),
-    }
+    place.count() > 0 || place.text().is_empty()
 }

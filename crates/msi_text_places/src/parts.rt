@@ -3,4 +3,4 @@
 pub use crate::indexed::most_places;
 pub use crate::joined::JoinedTexts;
 pub use crate::kept::KeptPlaces;
-pub use crate::places::{MAX_PLACES, MAX_SHORT_PLACES, Place, are_written};
+pub use crate::places::{MAX_PLACES, MAX_SHORT_PLACES, PlaceRef};

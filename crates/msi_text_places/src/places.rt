@@ -2,7 +2,7 @@
 
 ghost use Rattle.std.specs.Prelude.{◌≡◌, ◌+◌, ◌-◌, ◌<◌, ◌^◌, ◌∷◌, ◌++◌, [], IfOk, OnOk, OnErr, Some, length, set};
 ghost use Rattle.std.specs.Prelude.{slice_get, vec_len, IsTrue, ◌↔◌, ◌≤◌, ◌==◌, not};
-ghost use Rattle.msi_text_pool_base.specs.Pool.{forgotten, without_unnamed_texts, PlacesWritten};
+ghost use Rattle.msi_text_pool_base.specs.Pool.{forgotten, without_unnamed_texts};
 ghost use Rattle.msi_text_base.specs.Results.{OnlyMemory};
 ghost use Rattle.msi_text_pool_base.specs.Recounting.{AreCounts, many_recounted, with_count, with_counts};
 
@@ -41,13 +41,6 @@ impl Place {
         Place { text, count }
     }
 
-    /// The text.
-    pub fn text(&self) -> &str
-        ensures { result.now ≡ self.now.text }
-    {
-        self.text.as_str()
-    }
-
     /// The text once more, which takes no memory for its bytes where it is shared.
     pub(crate) fn shared_text(&self) -> Result<SharedText, Error>
         ensures ok { IfOk result (λ text. text ≡ self.now.text) }
@@ -57,7 +50,7 @@ impl Place {
     }
 
     /// How many cells name the place.
-    pub fn count(&self) -> u16
+    pub(crate) fn count(&self) -> u16
         ensures { result ≡ self.now.count }
     {
         self.count
@@ -73,6 +66,44 @@ impl Clone for Place {
             text: self.text.clone()?,
             count: self.count,
         })
+    }
+}
+
+/// A text of the pool with the number of cells that name it, borrowed where it lies.
+#[derive(Drop)]
+pub struct PlaceRef<'a> {
+    text: &'a str,
+    count: u16,
+}
+
+impl<'a> Model for PlaceRef<'a> {
+    ghost use Rattle.msi_text_pool_base.specs.Pool as pools;
+
+    ghost Value = { pools.Place };
+
+    ghost view = { λ p. record { text = p.text.now; count = p.count } };
+}
+
+impl<'a> PlaceRef<'a> {
+    /// A place of this text that so many cells name.
+    pub(crate) fn new(text: &'a str, count: u16) -> PlaceRef<'a>
+        ensures { result ≡ record { text = text.now; count = count } }
+    {
+        PlaceRef { text, count }
+    }
+
+    /// The text.
+    pub fn text(&self) -> &'a str
+        ensures { result.now ≡ self.now.text }
+    {
+        self.text
+    }
+
+    /// How many cells name the place.
+    pub fn count(&self) -> u16
+        ensures { result ≡ self.now.count }
+    {
+        self.count
     }
 }
 
@@ -114,6 +145,22 @@ impl Places {
         ensures { result.now ≡ self.now }
     {
         self.items.as_slice()
+    }
+
+    /// How many places there are.
+    pub(crate) fn len(&self) -> usize
+        ensures { result ≡ length self.now }
+    {
+        self.items.len()
+    }
+
+    /// A place, counted from 0, which is no operation on the places.
+    pub(crate) fn place(&self, at: usize) -> PlaceRef<'_>
+        requires { at < length self.now }
+        ensures { slice_get self.now at ≡ Some result }
+    {
+        let place = &self.items[at];
+        PlaceRef::new(place.text.as_str(), place.count)
     }
 
     /// The allocator that the places keep.
@@ -227,22 +274,4 @@ fn forget_texts(places: &mut Vec<Place>, is_named: &[bool])
     for (i, named) in is_named.iter().enumerate() {
         forget_text(&mut places[i], *named, alloc);
     }
-}
-
-/// Whether a place is in use or has the empty text.
-fn is_written(place: &Place) -> bool
-    ensures { IsTrue result ↔ (place.now.count ≡ 0 → place.now.text ≡ []) }
-{
-    place.count > 0 || place.text().is_empty()
-}
-
-/// Whether each free place has the empty text.
-pub fn are_written(places: &[Place]) -> bool
-    ensures { IsTrue result ↔ PlacesWritten places.now }
-{
-    let mut all = true;
-    for place in places {
-        all &= is_written(place);
-    }
-    all
 }

@@ -1,15 +1,16 @@
 -- What is written of the places of a pool.
-use Rattle.std.proofs.Common.{◌≡◌, ℕ, ◌+◌, ◌^◌, ◌<◌, cond, true, false, List, [], ◌∷◌, ◌++◌, length, get_or, take, map, Option, Some, None, option_map, refl, sym, ap, ◌∙◌}
-use Rattle.std.specs.Prelude.{unwrap_or, option_and_then}
+use Rattle.std.proofs.Common.{◌≡◌, ℕ, ◌+◌, ◌^◌, ◌<◌, cond, true, false, List, [], ◌∷◌, ◌++◌, length, take, map, Option, Some, None, option_map, refl, sym, ap, ◌∙◌}
+use Rattle.std.specs.Prelude.{unwrap_or, option_and_then, slice_get}
 use Rattle.std.specs.List.{flat_map}
 use Rattle.std.proofs.lemmas.Bool.{not-false, false_from_ne_true, ltb-true, or_parts, eq-eqb}
-use Rattle.std.proofs.lemmas.List.{flat_map_more, take_more}
-use Rattle.std.proofs.lemmas.List.Folds.{flat_map-map, list_any_at}
+use Rattle.std.proofs.lemmas.List.{flat_map_more}
+use Rattle.std.proofs.lemmas.List.Folds.{flat_map-map}
 use Rattle.msi_text_base.specs.declared.codepage.CodePage.{CodePage}
 use Rattle.msi_text_base.specs.Lists.{all_present}
 use Rattle.msi_text_base.specs.Pages.{bytes_in, page_id}
 use Rattle.msi_text_base.proofs.BoolLemmas.{yes_is_no}
 use Rattle.msi_text_pool_base.specs.Pool.{Entry, Place, Pool, place_bytes, plain_entry, plain_entries, pool_stream, data_stream, header_of}
+use Rattle.msi_text_places.proofs.PlaceLoopLemmas.{one_passes, taken_more}
 use Rattle.msi_text_pool.specs.PoolWriting.{is_refused_spelling, has_refused_text, is_refused, piece_of, entry_in}
 
 -- bytes that can be told are there
@@ -65,55 +66,35 @@ data_stream_told pool told =
     ap (option_map (flat_map (λ piece. piece))) (pieces_told pool.page pool.places told)
     ∙ ap Some (flat_map-map (λ piece. piece) (piece_of pool.page) pool.places)
 
--- the pool of a page and places of which none is refused
-pub not_refused : (pool : Pool) (page : CodePage) (places : List Place) → page ≡ pool.page → places ≡ pool.places
-    → has_refused_text page places ≡ false → is_refused pool ≡ false
-not_refused pool page places page_is places_is told =
-    ap (λ p. has_refused_text p pool.places) (sym page_is) ∙ ap (has_refused_text page) (sym places_is) ∙ told
-
 -- bytes that were written of such a pool
-pub pool_written : (pool : Pool) (page : CodePage) (places : List Place) (header held : List ℕ)
-    → page ≡ pool.page
-    → places ≡ pool.places
-    → has_refused_text page places ≡ false
+pub pool_written : (pool : Pool) (header held : List ℕ)
+    → is_refused pool ≡ false
     → header ≡ header_of (page_id pool.page) pool.long
-    → held ≡ header ++ flat_map (entry_in page) places
+    → held ≡ header ++ flat_map (entry_in pool.page) pool.places
     → pool_stream pool ≡ Some held
-pool_written pool page places header held page_is places_is told header_is held_is =
-    let told_here = not_refused pool page places page_is places_is told in
-    pool_stream_told pool told_here
-    ∙ ap Some (sym (held_is
-    ∙ ap (λ bytes. bytes ++ flat_map (entry_in page) places) header_is
-    ∙ ap (λ p. header_of (page_id pool.page) pool.long ++ flat_map (entry_in p) places) page_is
-    ∙ ap (λ ps. header_of (page_id pool.page) pool.long ++ flat_map (entry_in pool.page) ps) places_is))
+pool_written pool header held told header_is held_is =
+    pool_stream_told pool told ∙ ap Some (sym (held_is ∙ ap (λ bytes. bytes ++ flat_map (entry_in pool.page) pool.places) header_is))
 
-pub data_written : (pool : Pool) (page : CodePage) (places : List Place) (start held : List ℕ)
-    → page ≡ pool.page
-    → places ≡ pool.places
-    → has_refused_text page places ≡ false
+pub data_written : (pool : Pool) (start held : List ℕ)
+    → is_refused pool ≡ false
     → start ≡ []
-    → held ≡ start ++ flat_map (piece_of page) places
+    → held ≡ start ++ flat_map (piece_of pool.page) pool.places
     → data_stream pool ≡ Some held
-data_written pool page places start held page_is places_is told start_is held_is =
-    let told_here = not_refused pool page places page_is places_is told in
-    data_stream_told pool told_here
-    ∙ ap Some (sym (held_is
-    ∙ ap (λ bytes. bytes ++ flat_map (piece_of page) places) start_is
-    ∙ ap (λ p. flat_map (piece_of p) places) page_is
-    ∙ ap (flat_map (piece_of pool.page)) places_is))
+data_written pool start held told start_is held_is =
+    data_stream_told pool told ∙ ap Some (sym (held_is ∙ ap (λ bytes. bytes ++ flat_map (piece_of pool.page) pool.places) start_is))
 
 -- ---- loops over the places
 
 -- none of the places is refused, so no one of them is
-pub told_at : (page : CodePage) (places : List Place) (i : ℕ) (p : Place) → has_refused_text page places ≡ false → i < length places → p ≡ get_or places i p
+pub told_at : (page : CodePage) (places : List Place) (i : ℕ) (p : Place) → has_refused_text page places ≡ false → slice_get places i ≡ Some p
     → is_refused_spelling (place_bytes page p) ≡ false
-told_at page places i p told within is =
+told_at page places i p told is =
     let refused = λ (q : Place). is_refused_spelling (place_bytes page q) in
-    false_from_ne_true (refused p) (λ t. yes_is_no (has_refused_text page places) (list_any_at refused places i p within (ap refused (sym is) ∙ t)) told)
+    false_from_ne_true (refused p) (λ t. yes_is_no (has_refused_text page places) (one_passes refused places i p is t) told)
 
 -- the bytes of one place more
-pub bytes_more : {X : Type 0} (f : X → List ℕ) (start now new : List ℕ) (xs : List X) (i : ℕ) (x : X) → i < length xs → x ≡ get_or xs i x
+pub bytes_more : {X : Type 0} (f : X → List ℕ) (start now new : List ℕ) (xs : List X) (i : ℕ) (x : X) → slice_get xs i ≡ Some x
     → now ≡ start ++ flat_map f (take i xs) → new ≡ now ++ f x → new ≡ start ++ flat_map f (take (i + 1) xs)
-bytes_more f start now new xs i x within is so_far pushed =
+bytes_more f start now new xs i x is so_far pushed =
     pushed ∙ ap (λ (l : List ℕ). l ++ f x) so_far ∙ flat_map_more f start (take i xs) x
-    ∙ ap (λ ys. start ++ flat_map f ys) (ap (λ y. take i xs ++ y ∷ []) is ∙ sym (take_more xs i x within))
+    ∙ ap (λ ys. start ++ flat_map f ys) (taken_more xs (take i xs) (take i xs ++ x ∷ []) i x is refl refl)

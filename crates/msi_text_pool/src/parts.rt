@@ -11,7 +11,6 @@ pub use crate::stringpool::reading::{pool_builder_of, pool_of};
 pub use crate::stringpool::writing::{data_stream_of, pool_stream_of};
 use crate::stringpool::{StringPool, StringRef};
 use msi_text_base::errors::Error;
-use msi_text_places::parts::are_written;
 pub use msi_text_places::parts::most_places;
 
 /// Returns the place of a number.
@@ -75,5 +74,5 @@ pub fn free_places_are_empty(pool: &StringPool) -> bool
     ensures many { length pool.now.places ≤ 16777215 }
     ensures counts { CountsFit pool.now.places }
 {
-    are_written(pool.places())
+    pool.free_places_are_empty()
 }

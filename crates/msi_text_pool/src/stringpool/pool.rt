@@ -1,10 +1,11 @@
 //! The string pool.
 
 ghost use Rattle.std.specs.Prelude.{◌≡◌, IfOk, IfErr, OnOk, OnErr, Some, is_some, if◌then◌else◌, [], false, length};
-ghost use Rattle.std.specs.Prelude.{true};
-ghost use Rattle.std.specs.Prelude.{string_bytes, ◌≤◌, vec_len};
-ghost use Rattle.std.specs.Option.{option_copied};
-ghost use Rattle.msi_text_pool_base.specs.Pool.{CountsFit, newly_indexed, unindexed, without_unnamed_texts};
+ghost use Rattle.std.specs.Prelude.{true, IsTrue, ◌↔◌, ◌<◌, slice_get};
+ghost use Rattle.std.specs.Prelude.{string_bytes, ◌≤◌};
+ghost use Rattle.msi_text_places.specs.JoinedTexts.{IsJoined, places_joined};
+ghost use Rattle.msi_text_pool_base.specs.Pool.{CountsFit, PlacesWritten, newly_indexed, unindexed};
+ghost use Rattle.msi_text_pool_base.specs.Pool.{without_unnamed_texts};
 ghost use Rattle.msi_text_pool_base.specs.FirstFit.{taken, given_back, is_long_with};
 ghost use Rattle.msi_text_pool_base.specs.FirstFitLaws.{Holds, place_at, text_at, count_at};
 ghost use Rattle.msi_text_pool_base.specs.Recounting.{AreCounts, many_recounted, with_counts};
@@ -14,7 +15,7 @@ ghost use Rattle.msi_text_base.specs.declared.errors.ErrorKind.TheVariants.{Inva
 use crate::stringpool::reference::StringRef;
 use msi_text_base::codepage::CodePage;
 use msi_text_base::errors::Error;
-use msi_text_places::parts::{KeptPlaces, MAX_SHORT_PLACES, Place};
+use msi_text_places::parts::{JoinedTexts, KeptPlaces, MAX_SHORT_PLACES, PlaceRef};
 use std::alloc::Global;
 use std::marker::Model;
 
@@ -64,20 +65,20 @@ impl StringPool {
         StringPool {
             codepage: page,
             long: false,
-            kept: KeptPlaces::from_vec(Vec::new(alloc)),
+            kept: KeptPlaces::Read(JoinedTexts::new(alloc)),
         }
     }
 
     /// A pool of its parts.
-    pub(crate) fn from_parts(codepage: CodePage, long: bool, places: Vec<Place>) -> StringPool
-        requires most { vec_len places ≤ 16777215 }
-        requires counts { CountsFit places.items }
-        ensures { result ≡ newly_indexed (record { page = codepage; long = long; places = places.items }) }
+    pub(crate) fn from_parts(codepage: CodePage, long: bool, texts: JoinedTexts) -> StringPool
+        requires joined { IsJoined texts }
+        requires most { length (places_joined texts) ≤ 16777215 }
+        ensures { result ≡ newly_indexed (record { page = codepage; long = long; places = places_joined texts }) }
     {
         StringPool {
             codepage,
             long,
-            kept: KeptPlaces::from_vec(places),
+            kept: KeptPlaces::Read(texts),
         }
     }
 
@@ -116,14 +117,27 @@ impl StringPool {
         ensures most { result ≤ 16777215 }
         ensures counts { CountsFit self.now.places }
     {
-        self.places().len() as u32
+        self.kept.len() as u32
+    }
+
+    /// A place, counted from 0.
+    pub(crate) fn place(&self, at: u32) -> PlaceRef<'_>
+        requires { at < length self.now.places }
+        ensures { slice_get self.now.places at ≡ Some result }
+    {
+        self.kept.place(at as usize)
     }
 
     /// The place of a reference, unless that leads past the end.
-    fn place_of(&self, reference: StringRef) -> Option<&Place>
-        ensures { option_copied result ≡ place_at self.now.places reference }
+    fn place_of(&self, reference: StringRef) -> Option<PlaceRef<'_>>
+        ensures { result ≡ place_at self.now.places reference }
     {
-        self.places().get(reference.to_number() as usize - 1)
+        let at = reference.to_number() - 1;
+        if at < self.num_strings() {
+            Some(self.place(at))
+        } else {
+            None
+        }
     }
 
     /// Returns the text of a place, which is empty past the end.
@@ -161,13 +175,13 @@ impl StringPool {
         })
     }
 
-    /// The places, from number 1 on.
-    pub(crate) fn places(&self) -> &[Place]
-        ensures places { result.now ≡ self.now.places }
-        ensures most { length self.now.places ≤ 16777215 }
+    /// Whether the text of each free place is empty.
+    pub(crate) fn free_places_are_empty(&self) -> bool
+        ensures exact { IsTrue result ↔ PlacesWritten self.now.places }
+        ensures many { length self.now.places ≤ 16777215 }
         ensures counts { CountsFit self.now.places }
     {
-        self.kept.places()
+        self.kept.are_written()
     }
 
     /// The allocator that the pool keeps.
@@ -221,7 +235,7 @@ impl StringPool {
         ensures page { self.new.page ≡ self.old.page }
     {
         let at = self.kept.take(text, true)?;
-        if self.kept.places().len() > MAX_SHORT_PLACES {
+        if self.kept.len() > MAX_SHORT_PLACES {
             self.long = true;
         }
         Ok(StringRef::from_number(at + 1))

@@ -4,7 +4,7 @@ ghost use Rattle.std.specs.Prelude.{◌≡◌, ◌⊎◌, ◌<◌, ◌^◌, List
 ghost use Rattle.msi_text_base.specs.declared.errors.ErrorKind.TheVariants.{Io, InvalidData, OutOfMemory};
 ghost use Rattle.msi_text_base.specs.Pages.{page_with_id, text_in};
 ghost use Rattle.msi_text_pool_base.specs.Pool as pools;
-ghost use Rattle.msi_text_pool_base.specs.Pool.{CountsFit, IsPoolStream, PoolStream, SpellsTexts};
+ghost use Rattle.msi_text_pool_base.specs.Pool.{IsPoolStream, PoolStream, SpellsTexts};
 ghost use Rattle.msi_text_pool_base.specs.Pool.{newly_indexed, pool_with};
 ghost use Rattle.msi_text_places.specs.JoinedTexts.{IsJoined, places_joined};
 ghost use Rattle.msi_text_pool_base.specs.PoolReading.{IsPut, place_in_front, header_in};
@@ -17,7 +17,7 @@ use bstr::ByteSlice;
 use msi_text_base::codepage::CodePage;
 use msi_text_base::errors::{Error, ErrorKind};
 use msi_text_base::fields::u32_at;
-use msi_text_places::parts::{JoinedTexts, MAX_PLACES, Place};
+use msi_text_places::parts::{JoinedTexts, MAX_PLACES};
 use msi_text_pool_base::parts::{Entry, entries_of};
 use std::alloc::Global;
 use std::io::Read;
@@ -136,8 +136,8 @@ pub fn pool_of(alloc: Global, stream: StringPoolBuilder, bytes: &[u8]) -> Result
         → IsUnlessMemory result (newly_indexed (pool_with stream places)) }
     ensures kinds { IfErr result (λ kind. (kind ≡ InvalidData) ⊎ (kind ≡ OutOfMemory)) }
 {
-    let places = places_of(alloc, stream.codepage, stream.entries.as_slice(), bytes)?;
-    Ok(StringPool::from_parts(stream.codepage, stream.long, places))
+    let texts = texts_of(alloc, stream.codepage, stream.entries.as_slice(), bytes)?;
+    Ok(StringPool::from_parts(stream.codepage, stream.long, texts))
 }
 
 /// The page of a header, and whether references are long.
@@ -159,22 +159,6 @@ fn known_page(id: u32) -> Result<CodePage, Error>
         Some(codepage) => Ok(codepage),
         None => Err(Error::new(ErrorKind::InvalidData, reasons::POOL_PAGE)),
     }
-}
-
-/// The places whose texts the bytes encode.
-fn places_of(
-    alloc: Global,
-    codepage: CodePage,
-    entries: &[Entry],
-    bytes: &[u8],
-) -> Result<Vec<Place>, Error>
-    ensures found { IfOk result (λ places. SpellsTexts codepage bytes.now entries.now places.items) }
-    ensures counts { IfOk result (λ places. CountsFit places.items) }
-    ensures only { (places : List pools.Place)
-        → SpellsTexts codepage bytes.now entries.now places → Gives (λ v. v.items) result (Some places) }
-    ensures kinds { IfErr result (λ kind. (kind ≡ InvalidData) ⊎ (kind ≡ OutOfMemory)) }
-{
-    texts_of(alloc, codepage, entries, bytes)?.into_places()
 }
 
 /// The texts that the bytes encode, for which as many bytes are asked as are there.

@@ -1,14 +1,15 @@
 //! Writing the pool's two streams.
 
-ghost use Rattle.std.specs.Prelude.{◌≡◌, ℕ, ◌+◌, ◌<◌, ◌^◌, ◌⊎◌, ◌↔◌, ◌++◌, List, [], IsTrue, false, length, OnErr};
+ghost use Rattle.std.specs.Prelude.{◌≡◌, ℕ, ◌+◌, ◌≤◌, ◌^◌, ◌⊎◌, ◌↔◌, ◌++◌, List, [], IsTrue, false, length, OnErr};
 ghost use Rattle.std.specs.Prelude.{OnOk, IfOk, IfErr, IsErrOf, Some, option_map, unwrap_or, is_some, if◌then◌else◌};
 ghost use Rattle.std.specs.List.{flat_map};
 ghost use Rattle.std.specs.Io.KnownBytes.{Appends};
 ghost use Rattle.msi_text_base.specs.Faults.{AppendsPart};
 ghost use Rattle.msi_text_base.specs.Pages.{page_id};
 ghost use Rattle.msi_text_pool_base.specs.Pool.{place_bytes, plain_entry, pool_stream, data_stream, unindexed};
+ghost use Rattle.msi_text_pool_base.specs.Pool.{CountsFit};
 ghost use Rattle.msi_text_pool.specs.PoolLaws.{ReadsBack};
-ghost use Rattle.msi_text_pool.specs.PoolWriting.{is_refused_spelling, has_refused_text, is_refused, piece_of};
+ghost use Rattle.msi_text_pool.specs.PoolWriting.{is_refused_spelling, is_refused, piece_of};
 ghost use Rattle.msi_text_pool.specs.PoolWriting.{entry_in};
 ghost use Rattle.msi_text_base.specs.Results.{OnlyMemory};
 ghost use Rattle.msi_text_base.specs.declared.errors.ErrorKind.TheVariants.{InvalidInput, Io, OutOfMemory};
@@ -20,7 +21,7 @@ use msi_text_base::errors::{Error, ErrorKind, Reason};
 use msi_text_base::fields::{push_u16, push_u32};
 use msi_text_base::parts::write_fully;
 use msi_text_base::reasons::PAGE_CHARACTER;
-use msi_text_places::parts::Place;
+use msi_text_places::parts::PlaceRef;
 use msi_text_pool_base::parts::encoded_len;
 use std::alloc::AllocError;
 use std::io::Write;
@@ -84,14 +85,12 @@ pub fn pool_stream_of(pool: &StringPool) -> Result<Vec<u8>, Error>
     ensures refused { IsErrOf result InvalidInput ↔ IsTrue (is_refused (unindexed pool.now)) }
     ensures kinds { IfErr result (λ kind. (kind ≡ InvalidInput) ⊎ (kind ≡ OutOfMemory)) }
 {
-    let page = pool.codepage();
-    let places = pool.places();
-    if let Some(reason) = refusal(page, places) {
+    if let Some(reason) = refusal(pool) {
         return Err(Error::new(ErrorKind::InvalidInput, reason));
     }
     let mut held = Vec::new(pool.allocator());
-    push_u32(&mut held, header(page, pool.long_string_refs()))?;
-    push_entries(&mut held, page, places)?;
+    push_u32(&mut held, header(pool.codepage(), pool.long_string_refs()))?;
+    push_entries(&mut held, pool)?;
     Ok(held)
 }
 
@@ -106,13 +105,11 @@ pub fn data_stream_of(pool: &StringPool) -> Result<Vec<u8>, Error>
     ensures refused { IsErrOf result InvalidInput ↔ IsTrue (is_refused (unindexed pool.now)) }
     ensures kinds { IfErr result (λ kind. (kind ≡ InvalidInput) ⊎ (kind ≡ OutOfMemory)) }
 {
-    let page = pool.codepage();
-    let places = pool.places();
-    if let Some(reason) = refusal(page, places) {
+    if let Some(reason) = refusal(pool) {
         return Err(Error::new(ErrorKind::InvalidInput, reason));
     }
     let mut held = Vec::new(pool.allocator());
-    push_texts(&mut held, page, places)?;
+    push_texts(&mut held, pool)?;
     Ok(held)
 }
 
@@ -125,11 +122,14 @@ fn header(page: CodePage, long: bool) -> u32
 }
 
 /// Why one of the places can't be written.
-fn refusal(page: CodePage, places: &[Place]) -> Option<Reason>
-    ensures { is_some result ≡ has_refused_text page places.now }
+fn refusal(pool: &StringPool) -> Option<Reason>
+    ensures refused { is_some result ≡ is_refused (unindexed pool.now) }
+    ensures many { length pool.now.places ≤ 16777215 }
+    ensures counts { CountsFit pool.now.places }
 {
-    for place in places {
-        let reason = place_refusal(page, place);
+    let page = pool.codepage();
+    for at in 0..pool.num_strings() {
+        let reason = place_refusal(page, &pool.place(at));
         if reason.is_some() {
             return reason;
         }
@@ -138,7 +138,7 @@ fn refusal(page: CodePage, places: &[Place]) -> Option<Reason>
 }
 
 /// Why a place can't be written.
-fn place_refusal(page: CodePage, place: &Place) -> Option<Reason>
+fn place_refusal(page: CodePage, place: &PlaceRef) -> Option<Reason>
     ensures { is_some result ≡ is_refused_spelling (place_bytes page place.now) }
 {
     match place_len(page, place) {
@@ -149,7 +149,7 @@ fn place_refusal(page: CodePage, place: &Place) -> Option<Reason>
 }
 
 /// How many bytes a place has in the data stream, where the page carries its text.
-fn place_len(page: CodePage, place: &Place) -> Option<usize>
+fn place_len(page: CodePage, place: &PlaceRef) -> Option<usize>
     ensures { result ≡ option_map length (place_bytes page place.now) }
 {
     if place.count() == 0 {
@@ -159,18 +159,20 @@ fn place_len(page: CodePage, place: &Place) -> Option<usize>
 }
 
 /// Adds the entries of the places.
-fn push_entries(held: &mut Vec<u8>, page: CodePage, places: &[Place]) -> Result<(), AllocError>
-    requires { has_refused_text page places.now ≡ false }
-    ensures { OnOk result (held.new.items ≡ held.old.items ++ flat_map (entry_in page) places.now) }
+fn push_entries(held: &mut Vec<u8>, pool: &StringPool) -> Result<(), AllocError>
+    requires { is_refused (unindexed pool.now) ≡ false }
+    ensures { OnOk result
+        (held.new.items ≡ held.old.items ++ flat_map (entry_in pool.now.page) pool.now.places) }
 {
-    for place in places {
-        push_place(held, page, place)?;
+    let page = pool.codepage();
+    for at in 0..pool.num_strings() {
+        push_place(held, page, &pool.place(at))?;
     }
     Ok(())
 }
 
 /// Adds the entry of a place.
-fn push_place(held: &mut Vec<u8>, page: CodePage, place: &Place) -> Result<(), AllocError>
+fn push_place(held: &mut Vec<u8>, page: CodePage, place: &PlaceRef) -> Result<(), AllocError>
     requires { is_refused_spelling (place_bytes page place.now) ≡ false }
     ensures { OnOk result (held.new.items ≡ held.old.items ++ entry_in page place.now) }
 {
@@ -193,19 +195,21 @@ fn push_entry(held: &mut Vec<u8>, len: u32, count: u16) -> Result<(), AllocError
 }
 
 /// Adds the bytes of the texts, one behind the other.
-fn push_texts(held: &mut Vec<u8>, page: CodePage, places: &[Place]) -> Result<(), Error>
-    requires { has_refused_text page places.now ≡ false }
-    ensures ok { OnOk result (held.new.items ≡ held.old.items ++ flat_map (piece_of page) places.now) }
+fn push_texts(held: &mut Vec<u8>, pool: &StringPool) -> Result<(), Error>
+    requires { is_refused (unindexed pool.now) ≡ false }
+    ensures ok { OnOk result
+        (held.new.items ≡ held.old.items ++ flat_map (piece_of pool.now.page) pool.now.places) }
     ensures kind { OnlyMemory result }
 {
-    for place in places {
-        push_text(held, page, place)?;
+    let page = pool.codepage();
+    for at in 0..pool.num_strings() {
+        push_text(held, page, &pool.place(at))?;
     }
     Ok(())
 }
 
 /// Adds the bytes of a place's text, and none of a free place.
-fn push_text(held: &mut Vec<u8>, page: CodePage, place: &Place) -> Result<(), Error>
+fn push_text(held: &mut Vec<u8>, page: CodePage, place: &PlaceRef) -> Result<(), Error>
     requires { is_refused_spelling (place_bytes page place.now) ≡ false }
     ensures ok { OnOk result (held.new.items ≡ held.old.items ++ piece_of page place.now) }
     ensures kind { OnlyMemory result }

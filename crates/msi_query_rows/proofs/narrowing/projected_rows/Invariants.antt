@@ -1,5 +1,5 @@
 use Rattle.std.proofs.Common.{◌≡◌, map, take}
-use Rattle.msi_query_joins.specs.Rows.{cells_at}
+use Rattle.msi_table.specs.Rows.{cells_at}
 use Rattle.msi_query_rows.proofs.narrowing.projected_rows.Given as goal
 
 abbrev pub invariant-loop-row : goal.invariant-loop-row

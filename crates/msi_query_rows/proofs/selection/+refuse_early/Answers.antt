@@ -4,15 +4,15 @@ use Rattle.msi_query_joins.specs.Rows.{columns_read}
 use Rattle.msi_query_rows.proofs.EarlyLemmas.{clauses_decide, join_behind, left_decides, right_decides, table_lacks}
 use Rattle.msi_query_rows.proofs.selection.+refuse_early.Goals as goal
 
-pub returns-in_err-columns-in-Table : goal.returns-in_err-columns-in-Table
-returns-in_err-columns-in-Table g t c =
+pub returns-in_err-columns_of-in-Table : goal.returns-in_err-columns_of-in-Table
+returns-in_err-columns_of-in-Table g t c =
     table_lacks (columns_read (g.T.Tables.table c.args.tables.now)) (query_of c.args.tree.now) c.as_str.result.now c.in-Table.clauses _ c.from_residual.result
-    (rw (c.in-Table.is, c.as_str.ensures) refl) c.in_err-columns-in-Table.ensures.kind c.from_residual.ensures.1
+    (rw (c.in-Table.is, c.as_str.ensures) refl) c.in_err-columns_of-in-Table.ensures.kind c.from_residual.ensures.1
 
-pub returns-in_ok-columns-in-Table : goal.returns-in_ok-columns-in-Table
-returns-in_ok-columns-in-Table g t c =
-    clauses_decide (columns_read (g.T.Tables.table c.args.tables.now)) (query_of c.args.tree.now) c.as_str.result.now c.in-Table.clauses c.in_ok-columns-in-Table.field-0.now
-    c.refuse_unknown.result (rw (c.in-Table.is, c.as_str.ensures) refl) c.in_ok-columns-in-Table.ensures.ok c.refuse_unknown.ensures
+pub returns-in_ok-columns_of-in-Table : goal.returns-in_ok-columns_of-in-Table
+returns-in_ok-columns_of-in-Table g t c =
+    clauses_decide (columns_read (g.T.Tables.table c.args.tables.now)) (query_of c.args.tree.now) c.as_str.result.now c.in-Table.clauses c.in_ok-columns_of-in-Table.field-0.now
+    c.refuse_unknown.result (rw (c.in-Table.is, c.as_str.ensures) refl) c.in_ok-columns_of-in-Table.ensures.ok c.refuse_unknown.ensures
 
 pub returns-in_err-refuse_early-in-Join : goal.returns-in_err-refuse_early-in-Join
 returns-in_err-refuse_early-in-Join g t c = let j = c.in-Join in

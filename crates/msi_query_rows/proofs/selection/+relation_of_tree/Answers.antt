@@ -4,6 +4,7 @@ use Rattle.msi_query_joins.specs.Rows.{tables_values}
 use Rattle.msi_query_rows.proofs.JoinLemmas.{join_answer, table_answer}
 use Rattle.msi_query_rows.proofs.RefusedLemmas.{join_fails, left_refused, no_value, right_refused, table_fails, table_refused}
 use Rattle.msi_text_base.proofs.RefusalLemmas.{err_passed}
+use Rattle.msi_query_rows.proofs.WidthLemmas.{join_is_wide, narrowed_is_wide}
 use Rattle.msi_query_rows.proofs.selection.+relation_of_tree.Goals as goal
 
 pub returns-in_ok-relation-in-Table-clause-ok : goal.returns-in_ok-relation-in-Table-clause-ok
@@ -48,3 +49,12 @@ returns-in_err-right-in-Join-clause-kind g t c = err_passed c.from_residual-in_e
 pub returns-in_ok-right-in-Join-clause-kind : goal.returns-in_ok-right-in-Join-clause-kind
 returns-in_ok-right-in-Join-clause-kind g t c = join_fails (tables_values c.args.pool.now.places (g.T.Tables.table c.args.tables.now)) (query_of c.args.tree.now) c.in-Join.kind (query_of c.deref.result.now) (query_of c.deref-in-Join.result.now) c.in-Join.on c.in-Join.clauses _ _ c.joined.result
     (rw (c.in-Join.is, c.deref.ensures, c.deref-in-Join.ensures) refl) c.in_ok-left-in-Join.ensures.ok c.in_ok-right-in-Join.ensures.ok c.joined.ensures.kind
+
+pub returns-in_ok-relation-in-Table-clause-wide : goal.returns-in_ok-relation-in-Table-clause-wide
+returns-in_ok-relation-in-Table-clause-wide g t c =
+    narrowed_is_wide c.args.pool.now.places c.in-Table.clauses c.in_ok-relation-in-Table.relation c.narrowed.result c.in_ok-relation-in-Table.ensures.wide c.narrowed.ensures.ok
+
+pub returns-in_ok-right-in-Join-clause-wide : goal.returns-in_ok-right-in-Join-clause-wide
+returns-in_ok-right-in-Join-clause-wide g t c =
+    join_is_wide c.args.pool.now.places c.in-Join.kind c.in-Join.on c.in-Join.clauses c.in_ok-left-in-Join.left c.in_ok-right-in-Join.right c.joined.result
+    c.in_ok-left-in-Join.ensures.wide c.in_ok-right-in-Join.ensures.wide c.joined.ensures.ok

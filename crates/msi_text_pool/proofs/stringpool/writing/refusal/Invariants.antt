@@ -2,5 +2,5 @@ use Rattle.std.proofs.Common.{◌≡◌, false, take}
 use Rattle.msi_text_pool.specs.PoolWriting.{has_refused_text}
 use Rattle.msi_text_pool.proofs.stringpool.writing.refusal.Given as goal
 
-abbrev pub invariant-loop-place : goal.invariant-loop-place
-invariant-loop-place l = has_refused_text l.page (take l.place-index l.places) ≡ false
+abbrev pub invariant-loop-at : goal.invariant-loop-at
+invariant-loop-at l = has_refused_text l.pool.page (take l.at l.pool.places) ≡ false

@@ -4,8 +4,8 @@ use Rattle.msi_text_pool_base.proofs.CountLemmas.{taken_in_range}
 use Rattle.msi_text_places.proofs.IndexedFitLemmas.{taken_most}
 use Rattle.msi_text_pool.proofs.stringpool.pool.StringPool.incref_widening.Goals as goal
 
-pub invariant_of-self-then-places-gt-MAX_SHORT_PLACES : goal.invariant_of-self-then-places-gt-MAX_SHORT_PLACES
-invariant_of-self-then-places-gt-MAX_SHORT_PLACES c =
+pub invariant_of-self-then-len-gt-MAX_SHORT_PLACES : goal.invariant_of-self-then-len-gt-MAX_SHORT_PLACES
+invariant_of-self-then-len-gt-MAX_SHORT_PLACES c =
     let before = places_of c.self.inside.kept in
     let after = places_of c.take.new.self in
     let text = string_bytes c.args.text in
@@ -16,8 +16,8 @@ invariant_of-self-then-places-gt-MAX_SHORT_PLACES c =
       few = c.take.ensures.most;
     }
 
-pub invariant_of-self-else-places-gt-MAX_SHORT_PLACES : goal.invariant_of-self-else-places-gt-MAX_SHORT_PLACES
-invariant_of-self-else-places-gt-MAX_SHORT_PLACES c =
+pub invariant_of-self-else-len-gt-MAX_SHORT_PLACES : goal.invariant_of-self-else-len-gt-MAX_SHORT_PLACES
+invariant_of-self-else-len-gt-MAX_SHORT_PLACES c =
     let before = places_of c.self.inside.kept in
     let after = places_of c.take.new.self in
     let text = string_bytes c.args.text in

@@ -1,0 +1,14 @@
+-- Which columns of a table a query picks.
+use Rattle.std.specs.Prelude.{ℕ, List, map, length, Option, Some, None, ◌==◌, if◌then◌else◌}
+use Rattle.std.specs.List.{filter_map}
+use Rattle.msi_table_values.specs.Columns.{ColumnDef, column_index}
+use Rattle.msi_query_joins.specs.Rows.{column_at}
+
+-- where the columns of the names stand; no names pick all
+abbrev pub places_picked : List (List ℕ) → List ColumnDef → Option (List (Option ℕ))
+places_picked names columns = if length names == 0 then None else Some (map (λ name. column_index name columns) names)
+
+-- the columns at the places, or all
+abbrev pub columns_picked : Option (List (Option ℕ)) → List ColumnDef → List ColumnDef
+columns_picked None columns = columns
+columns_picked (Some places) columns = filter_map (column_at columns) places

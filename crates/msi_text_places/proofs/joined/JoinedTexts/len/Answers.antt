@@ -1,0 +1,9 @@
+use Rattle.std.proofs.Common.{arith}
+use Rattle.std.specs.Prelude.{string_bytes}
+use Rattle.msi_text_places.proofs.JoinedTextsLemmas.{length-cut}
+use Rattle.msi_text_places.proofs.joined.JoinedTexts.len.Goals as goal
+
+pub returns : goal.returns
+returns c =
+    let texts = c.args.self.now in
+    omega (arith, c.len.ensures, texts.cuts.ok.0, length-cut (string_bytes texts.whole) 0 texts.cuts.items)
