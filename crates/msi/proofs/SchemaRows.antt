@@ -1,8 +1,8 @@
 -- Worked examples, by computation: what the streams describe is what the calls made, also for columns at the edges of their rules.
 use Rattle.std.specs.Prelude.{◌≡◌, ℕ, ℤ, Bool, true, false, not, bytes_eq, zip, ◌==◌, ◌&&◌, List, [], ◌∷◌, Option, Some, None, refl, codes, length, pos, negsuc}
-use Rattle.msi_text.specs.declared.category.Category.{Category}
-use Rattle.msi_text.specs.declared.category.Category.TheVariants as category
-use Rattle.msi_text.specs.Categories.{all_categories, category_name}
+use Rattle.msi_text_categories.specs.declared.category.Category.{Category}
+use Rattle.msi_text_categories.specs.declared.category.Category.TheVariants as category
+use Rattle.msi_text_categories.specs.Categories.{all_categories, category_name}
 use Rattle.std.specs.List.{list_all}
 use Rattle.std.specs.Option.{option_map_or}
 use Rattle.std.specs.Ordering.{int_cmp, is_eq}

@@ -1,12 +1,12 @@
 -- The words of texts, code pages and the string pool, which public clauses cite.
-pub use Rattle.msi_text.specs.Numerals
-pub use Rattle.msi_text.specs.Categories
-pub use Rattle.msi_text.specs.declared.category.Category
-pub use Rattle.msi_text.specs.CategoryRules
-pub use Rattle.msi_text.specs.Times
-pub use Rattle.msi_text.specs.LanguageRows
-pub use Rattle.msi_text.specs.Languages
-pub use Rattle.msi_text.specs.Spellings
+pub use Rattle.msi_text_categories.specs.Numerals
+pub use Rattle.msi_text_categories.specs.Categories
+pub use Rattle.msi_text_categories.specs.declared.category.Category
+pub use Rattle.msi_text_categories.specs.CategoryRules
+pub use Rattle.msi_text_categories.specs.Times
+pub use Rattle.msi_text_categories.specs.LanguageRows
+pub use Rattle.msi_text_categories.specs.Languages
+pub use Rattle.msi_text_categories.specs.Spellings
 pub use Rattle.msi_text_base.specs.declared.errors.ErrorKind
 pub use Rattle.msi_text_base.specs.declared.codepage.CodePage
 pub use Rattle.msi_text_base.specs.Errors

@@ -11,7 +11,7 @@ ghost use Rattle.msi.specs.Writable.{HasUtf8Pages, HasUtf8Texts};
 use crate::package::Package;
 use msi_container_device::Source;
 use msi_summary::SummaryInfo;
-use msi_text::stringpool::StringPool;
+use msi_text_pool::stringpool::StringPool;
 
 impl<F: Source> Package<F> {
     /// Returns whether each text of the database and of the summary reads back as it was, once it is written in its

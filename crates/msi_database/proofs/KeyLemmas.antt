@@ -8,7 +8,7 @@ use Rattle.std.proofs.lemmas.Bool.Decides.{nat_tests}
 use Rattle.std.proofs.lemmas.List.Folds.{list_all-append}
 use Rattle.std.proofs.lemmas.Slice.Eq.{bytes_eq-Decides}
 use Rattle.std.proofs.lemmas.Str.{chars-IsAscii}
-use Rattle.msi_text.specs.CategoryRules.{is_identifier, continues_name, starts_name}
+use Rattle.msi_text_categories.specs.CategoryRules.{is_identifier, continues_name, starts_name}
 use Rattle.msi_container_format.specs.Names.{utf16_units, is_name_length}
 use Rattle.msi_container_format.proofs.EncodedUnitsLemmas.{some_units}
 use Rattle.msi_container_format.specs.StreamNames.{value_of, packed, packed_pair, packed_single, is_marked, is_forbidden, table_mark, unpacked}

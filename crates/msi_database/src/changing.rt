@@ -27,9 +27,9 @@ use msi_database_storage::parts::{Stored, store_all, stored_rows, stream_of};
 use msi_table::Table;
 use msi_table::parts::long_table;
 use msi_table_values::value::ValueRef;
-use msi_text::stringpool::StringPool;
 use msi_text_base::errors::{Error, ErrorKind};
 use msi_text_base::text::Items;
+use msi_text_pool::stringpool::StringPool;
 
 /// A table's stream to be stored, over this database or over a wider one, the pool after the change of its rows, and
 /// whether a text was taken of the pool or given back.

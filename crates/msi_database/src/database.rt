@@ -21,10 +21,10 @@ use msi_query::Select;
 use msi_query_rows::{Tables, select_rows};
 use msi_table::parts::StoredRows;
 use msi_table::{Rows, Table};
-use msi_text::stringpool::StringPool;
 use msi_text_base::codepage::CodePage;
 use msi_text_base::errors::{Error, ErrorKind};
 use msi_text_base::text::Items;
+use msi_text_pool::stringpool::StringPool;
 use std::alloc::Global;
 use std::marker::Model;
 

@@ -23,10 +23,10 @@ use msi_database_storage::parts::{Stored, store_all, stream_of};
 use msi_table::Table;
 use msi_table_values::column::Column;
 use msi_table_values::value::{Value, ValueRef};
-use msi_text::stringpool::StringPool;
 use msi_text_base::codepage::CodePage;
 use msi_text_base::errors::Error;
 use msi_text_base::text::Items;
+use msi_text_pool::stringpool::StringPool;
 use std::alloc::Global;
 
 /// The tables of a new database.

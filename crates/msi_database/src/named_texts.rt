@@ -4,9 +4,9 @@ ghost use Rattle.std.specs.Prelude.{◌≡◌, ◌↔◌, ◌-◌, ◌≤◌, �
 ghost use Rattle.msi_database.specs.NamedTexts.{NameFewTexts, cell_cost, named_cost, pool_bytes, row_cost, text_cost};
 
 use msi_table_values::value::ValueRef;
-use msi_text::parts::string_ref;
-use msi_text::stringpool::StringPool;
 use msi_text_base::text::Items;
+use msi_text_pool::parts::string_ref;
+use msi_text_pool::stringpool::StringPool;
 
 /// How many bytes the texts of a pool have; the largest number where they have more.
 fn pool_size(pool: &StringPool) -> usize

@@ -29,9 +29,9 @@ use msi_database_storage::parts::{are_sound, stored_rows, tables_census, with_na
 use msi_table::Table;
 use msi_table_values::column::Column;
 use msi_table_values::value::ValueRef;
-use msi_text::stringpool::StringPool;
 use msi_text_base::errors::{Error, ErrorKind};
 use msi_text_base::text::Items;
+use msi_text_pool::stringpool::StringPool;
 use std::alloc::Global;
 
 /// A byte is below 256.

@@ -24,8 +24,8 @@ use msi_database_storage::parts::{
 use msi_table::Table;
 use msi_table::parts::Census;
 use msi_table_values::column::Column;
-use msi_text::parts::set_counts;
 use msi_text_base::errors::{Error, ErrorKind, Reason};
+use msi_text_pool::parts::set_counts;
 
 /// `InvalidData`, for people with this reason.
 fn invalid(reason: Reason) -> Error

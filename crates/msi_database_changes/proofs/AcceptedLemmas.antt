@@ -8,7 +8,7 @@ use Rattle.std.specs.Cmp.{tied_itself}
 use Rattle.std.specs.Cmp.Lexicographic.{lists_total}
 use Rattle.std.proofs.lemmas.Bool.Decides.{nat_tests}
 use Rattle.std.proofs.lemmas.Bool.{or_parts, and_parts, false_from_ne_true, not-false, not-true}
-use Rattle.msi_text.specs.CategoryRules.{is_identifier}
+use Rattle.msi_text_categories.specs.CategoryRules.{is_identifier}
 use Rattle.msi_text_base.specs.declared.errors.ErrorKind.TheVariants.{AlreadyExists, InvalidData, InvalidInput}
 use Rattle.msi_text_base.specs.Lists.{has_pair, list_cmp}
 use Rattle.msi_text_pool_base.specs.Pool.{Place}

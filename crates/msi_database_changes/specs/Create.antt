@@ -4,7 +4,7 @@ use Rattle.std.specs.Prelude.{nat_lt, nat_le, ◌==◌, ◌&&◌, ◌||◌, byte
 use Rattle.std.specs.List.{list_any, list_all}
 use Rattle.msi_text_base.specs.declared.errors.ErrorKind.{ErrorKind}
 use Rattle.msi_text_base.specs.declared.errors.ErrorKind.TheVariants.{AlreadyExists, InvalidInput, NotFound}
-use Rattle.msi_text.specs.CategoryRules.{is_identifier}
+use Rattle.msi_text_categories.specs.CategoryRules.{is_identifier}
 use Rattle.msi_text_base.specs.Lists.{has_pair}
 use Rattle.msi_text_base.specs.Refusals.{Refusals, unless_refused, ◌>>=◌}
 use Rattle.msi_table_values.specs.declared.value.Value.{Value}

@@ -2,7 +2,7 @@
 
 ghost use Rattle.std.specs.Prelude.{◌≡◌, ◌≤◌, ◌==◌, ◌&&◌, ◌||◌, OnOk, bytes_eq, length, Err};
 ghost use Rattle.std.specs.List.{AllByRecursion, list_all, list_any};
-ghost use Rattle.msi_text.specs.CategoryRules.{is_identifier};
+ghost use Rattle.msi_text_categories.specs.CategoryRules.{is_identifier};
 ghost use Rattle.msi_text_base.specs.declared.errors.ErrorKind.TheVariants.{InvalidInput};
 ghost use Rattle.msi_text_base.specs.Lists.{has_pair};
 ghost use Rattle.msi_text_base.specs.Refusals.{unless_refused};
@@ -11,9 +11,9 @@ ghost use Rattle.msi_database_changes.specs.Create.{column_refusals, columns_are
 
 use crate::reasons;
 use msi_table_values::column::{Column, ColumnType};
-use msi_text::category::Category;
 use msi_text_base::errors::{Error, ErrorKind, Reason};
 use msi_text_base::text::Text;
+use msi_text_categories::category::Category;
 
 /// The most columns that a table may be created with.
 const MOST_COLUMNS: usize = 32;

@@ -16,9 +16,9 @@ use msi_query::parts::DeleteParts;
 use msi_query_expressions::parts::RowFilter;
 use msi_table_values::column::Column;
 use msi_table_values::value::ValueRef;
-use msi_text::stringpool::StringPool;
 use msi_text_base::errors::{Error, ErrorKind};
 use msi_text_base::text::Items;
+use msi_text_pool::stringpool::StringPool;
 use std::alloc::Global;
 
 /// Refuses a delete from a table of these columns.

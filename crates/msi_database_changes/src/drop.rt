@@ -8,9 +8,9 @@ ghost use Rattle.msi_database_cells.specs.Texts.{in_use, rows_released};
 use msi_database_cells::texts::PoolInUse;
 use msi_table_values::parts::ValueView;
 use msi_table_values::value::ValueRef;
-use msi_text::stringpool::StringPool;
 use msi_text_base::errors::Error;
 use msi_text_base::text::Items;
+use msi_text_pool::stringpool::StringPool;
 use std::alloc::Global;
 
 /// Whether a row of a system table is about the table of a name: its first value is that name.

@@ -15,9 +15,9 @@ use msi_table_order::order::sort_by_keys;
 use msi_table_values::column::Column;
 use msi_table_values::parts::MAX_ROWS;
 use msi_table_values::value::{Value, ValueRef};
-use msi_text::stringpool::StringPool;
 use msi_text_base::errors::{Error, ErrorKind};
 use msi_text_base::text::Items;
+use msi_text_pool::stringpool::StringPool;
 use std::alloc::Global;
 
 /// Whether a row has a value for each column, which the column takes.

@@ -27,9 +27,9 @@ use msi_query_expressions::parts::RowFilter;
 use msi_table_values::column::Column;
 use msi_table_values::parts::column_index;
 use msi_table_values::value::ValueRef;
-use msi_text::stringpool::StringPool;
 use msi_text_base::errors::{Error, ErrorKind};
 use msi_text_base::text::Items;
+use msi_text_pool::stringpool::StringPool;
 use std::alloc::Global;
 use std::marker::Model;
 

@@ -7,9 +7,9 @@ use Rattle.std.proofs.lemmas.Int.{ints}
 use Rattle.std.proofs.lemmas.List.Elements.{All-cons, All-nil}
 use Rattle.std.proofs.lemmas.List.Splits.{slice_split_none, slice_split_at}
 use Rattle.std.proofs.lemmas.Bool.{or_parts}
-use Rattle.msi_text.specs.declared.category.Category.{Category}
-use Rattle.msi_text.specs.declared.category.Category.TheVariants as category
-use Rattle.msi_text.specs.Categories.{category_name}
+use Rattle.msi_text_categories.specs.declared.category.Category.{Category}
+use Rattle.msi_text_categories.specs.declared.category.Category.TheVariants as category
+use Rattle.msi_text_categories.specs.Categories.{category_name}
 use Rattle.msi_table_values.specs.declared.value.Value.{Value}
 use Rattle.msi_table_values.specs.declared.value.Value.TheVariants.{Int, Str}
 use Rattle.msi_table_values.specs.declared.column.ColumnType.{ColumnType}

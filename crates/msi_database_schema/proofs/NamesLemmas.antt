@@ -6,7 +6,7 @@ use Rattle.std.specs.Str.{IsAscii}
 use Rattle.std.proofs.lemmas.Bool.{and_parts, lt-ltb, ltb-true, or_from}
 use Rattle.std.proofs.lemmas.Bool.Decides.{nat_tests}
 use Rattle.std.proofs.lemmas.Str.{chars-IsAscii}
-use Rattle.msi_text.specs.CategoryRules.{continues_name, is_identifier, starts_name}
+use Rattle.msi_text_categories.specs.CategoryRules.{continues_name, is_identifier, starts_name}
 use Rattle.msi_container_format.specs.Names.{is_name_length, units_of, utf16_units}
 use Rattle.msi_container_format.specs.StreamNames.{encoded_units, is_forbidden, is_marked, is_valid_name}
 

@@ -8,9 +8,9 @@ use Rattle.msi_text_base.specs.Results.{FailsAs, Gives}
 use Rattle.msi_text_base.specs.declared.errors.ErrorKind.{ErrorKind}
 use Rattle.msi_text_base.specs.declared.errors.ErrorKind.TheVariants.{InvalidData}
 use Rattle.msi_text_base.specs.declared.errors.ErrorKind.TheVariants as kind
-use Rattle.msi_text.specs.declared.category.Category.{Category}
-use Rattle.msi_text.specs.declared.category.Category.TheVariants as category
-use Rattle.msi_text.specs.Categories.{all_categories, category_in, category_name, other_name}
+use Rattle.msi_text_categories.specs.declared.category.Category.{Category}
+use Rattle.msi_text_categories.specs.declared.category.Category.TheVariants as category
+use Rattle.msi_text_categories.specs.Categories.{all_categories, category_in, category_name, other_name}
 use Rattle.msi_table_values.specs.declared.value.Value.{Value}
 use Rattle.msi_table_values.specs.declared.column.ColumnType.{ColumnType}
 use Rattle.msi_table_values.specs.Columns.{ColumnDef, begun_column, column_of_bits, has_bit, type_of_bits, with_bits}

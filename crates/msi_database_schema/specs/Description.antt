@@ -2,7 +2,7 @@
 use Rattle.std.specs.Prelude.{if◌then◌else◌, ℕ, Bool, true, nat_lt, List, [], ◌∷◌, map, Option, Some, None, option_map}
 use Rattle.std.specs.Prelude.{codes, ℤ, pos}
 use Rattle.std.specs.List.{enumerate_from, join_with_byte, list_all}
-use Rattle.msi_text.specs.Categories.{category_name}
+use Rattle.msi_text_categories.specs.Categories.{category_name}
 use Rattle.msi_table_values.specs.declared.value.Value.{Value}
 use Rattle.msi_table_values.specs.declared.value.Value.TheVariants.{Null, Int, Str}
 use Rattle.msi_table_values.specs.declared.column.ColumnType.{ColumnType}

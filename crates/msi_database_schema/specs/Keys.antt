@@ -1,6 +1,6 @@
 -- The names of a package's streams in its container.
 use Rattle.std.specs.Prelude.{ℕ, Bool, true, false, not, List, ◌∷◌, nat_le, ◌&&◌, ◌||◌, chars, codes, bytes_eq}
-use Rattle.msi_text.specs.CategoryRules.{is_identifier}
+use Rattle.msi_text_categories.specs.CategoryRules.{is_identifier}
 use Rattle.msi_container_format.specs.Names.{utf16_units}
 use Rattle.msi_container_format.specs.StreamNames.{encoded_name, encoded_units, is_valid_name}
 

@@ -1,12 +1,12 @@
 -- The tables that describe tables (MSI SDK, "System tables").
 use Rattle.std.specs.Prelude.{ℕ, Bool, true, false, List, [], ◌∷◌, ◌++◌, map, Some, None, codes, ◌||◌, bytes_eq, ℤ, pos}
 use Rattle.std.specs.Prelude.{negsuc}
-use Rattle.msi_text.specs.declared.category.Category.{Category}
-use Rattle.msi_text.specs.Categories.{category_name, all_categories}
+use Rattle.msi_text_categories.specs.declared.category.Category.{Category}
+use Rattle.msi_text_categories.specs.Categories.{category_name, all_categories}
 use Rattle.msi_table_values.specs.declared.column.ColumnType.{ColumnType}
 use Rattle.msi_table_values.specs.declared.column.ColumnType.TheVariants.{Int16, Int32, Str}
 use Rattle.msi_table_values.specs.Columns.{ColumnDef}
-use Rattle.msi_text.specs.declared.category.Category.TheVariants as category
+use Rattle.msi_text_categories.specs.declared.category.Category.TheVariants as category
 
 abbrev pub tables_name : List ℕ
 tables_name = codes "_Tables"

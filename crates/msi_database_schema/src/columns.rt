@@ -23,9 +23,9 @@ use crate::rows::{SchemaRow, is_null_at, number_at, text_at, view_at};
 use msi_table::table::MAX_COLUMNS;
 use msi_table_values::column::{Column, ColumnBuilder};
 use msi_table_values::parts::{ValueView, column_of_bits};
-use msi_text::category::Category;
 use msi_text_base::errors::{Error, ErrorKind};
 use msi_text_base::text::Items;
+use msi_text_categories::category::Category;
 use std::alloc::{AllocError, Global};
 
 /// Lets a column take null where a row of `_Validation` says `Y`.

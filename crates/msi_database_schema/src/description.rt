@@ -1,7 +1,7 @@
 //! The rows that describe a table, in `_Tables`, `_Columns` and `_Validation` (MSI SDK, "System tables").
 
 ghost use Rattle.std.specs.Prelude.{◌≡◌, ◌≤◌, IfOk, IsTrue, codes, if◌then◌else◌, length, option_map};
-ghost use Rattle.msi_text.specs.Categories.{category_name};
+ghost use Rattle.msi_text_categories.specs.Categories.{category_name};
 ghost use Rattle.msi_text_base.specs.Results.{OnlyMemory};
 ghost use Rattle.msi_table_values.specs.Columns.{HasShortLength, type_bits as bits_of};
 ghost use Rattle.msi_table.specs.Tables.{most_columns};

@@ -1,7 +1,7 @@
 //! The names of a package's streams in its container, and which names tables and streams may have.
 
 ghost use Rattle.std.specs.Prelude.{◌≡◌, ◌&&◌, IsSome, IsTrue, chars, length, nat_le, true};
-ghost use Rattle.msi_text.specs.CategoryRules.{is_identifier};
+ghost use Rattle.msi_text_categories.specs.CategoryRules.{is_identifier};
 ghost use Rattle.msi_container_format.specs.Names.{is_name_length, named, units_of};
 ghost use Rattle.msi_container_format.specs.StreamNames.{encoded_units};
 ghost use Rattle.msi_database_schema.specs.Keys.{document_summary_key as document_summary_of};
@@ -16,7 +16,7 @@ use msi_container_format::streamname::{
     DIGITAL_SIGNATURE_STREAM_NAME, DOCUMENT_SUMMARY_INFO_STREAM_NAME,
     MSI_DIGITAL_SIGNATURE_EX_STREAM_NAME, SUMMARY_INFO_STREAM_NAME, is_valid,
 };
-use msi_text::category::Category;
+use msi_text_categories::category::Category;
 
 /// The table whose stream tells the pool's page and the lengths and counts of its texts.
 pub const STRING_POOL: &str = "_StringPool";

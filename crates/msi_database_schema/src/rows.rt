@@ -10,9 +10,9 @@ ghost use Rattle.msi_database_schema.specs.Schema.{number_of, text_at as text_in
 
 use msi_table_values::parts::ValueView;
 use msi_table_values::value::{Value, ValueRef};
-use msi_text::stringpool::StringPool;
 use msi_text_base::errors::Error;
 use msi_text_base::text::Items;
+use msi_text_pool::stringpool::StringPool;
 use std::alloc::Global;
 use std::cmp::Ordering;
 use std::marker::Model;

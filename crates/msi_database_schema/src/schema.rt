@@ -23,9 +23,9 @@ use msi_table::parts::table;
 use msi_table::table::Table;
 use msi_table_values::column::Column;
 use msi_table_values::value::{Value, ValueRef};
-use msi_text::stringpool::StringPool;
 use msi_text_base::errors::{Error, ErrorKind};
 use msi_text_base::text::{IntoText, Items};
+use msi_text_pool::stringpool::StringPool;
 use std::alloc::Global;
 use std::marker::Model;
 

@@ -1,9 +1,9 @@
 //! The three tables that describe tables (MSI SDK, "System tables"): their names and their columns.
 
 ghost use Rattle.std.specs.Prelude.{◌≡◌, IfOk, List, [], ◌∷◌, codes, map, negsuc, pos};
-ghost use Rattle.msi_text.specs.Categories.{all_categories, category_name};
+ghost use Rattle.msi_text_categories.specs.Categories.{all_categories, category_name};
 ghost use Rattle.msi_text_base.specs.Results.{OnlyMemory};
-ghost use Rattle.msi_text.specs.declared.category.Category.TheVariants as categories;
+ghost use Rattle.msi_text_categories.specs.declared.category.Category.TheVariants as categories;
 ghost use Rattle.msi_table_values.specs.declared.column.ColumnType.TheVariants as types;
 ghost use Rattle.msi_database_schema.specs.System.{columns_columns as columns_of_columns, describing_columns};
 ghost use Rattle.msi_database_schema.specs.System.{is_schema_table as is_of_schema, in_range};
@@ -13,9 +13,9 @@ ghost use Rattle.msi_database_schema.specs.System.{tables_columns as columns_of_
 ghost use Rattle.msi_database_schema.specs.System.{validation_columns as columns_of_validation};
 
 use msi_table_values::column::Column;
-use msi_text::category::Category;
 use msi_text_base::errors::Error;
 use msi_text_base::text::Items;
+use msi_text_categories::category::Category;
 use std::alloc::Global;
 
 /// The table that lists tables.

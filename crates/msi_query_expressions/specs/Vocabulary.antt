@@ -1,6 +1,6 @@
 -- No two expressions print alike, where columns are plain names and literal texts are ASCII.
 use Rattle.std.specs.Prelude.{◌≡◌, ℕ, Bool, true, not, List, ◌&&◌, ◌||◌, IsTrue, bytes_eq, codes}
-use Rattle.msi_text.specs.CategoryRules.{is_identifier}
+use Rattle.msi_text_categories.specs.CategoryRules.{is_identifier}
 use Rattle.msi_text_base.specs.Pages.{is_ascii}
 use Rattle.msi_table_values.specs.declared.value.Value.{Value}
 use Rattle.msi_table_values.specs.declared.value.Value.TheVariants.{Str}

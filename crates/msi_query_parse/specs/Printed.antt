@@ -2,7 +2,7 @@
 use Rattle.std.specs.Prelude.{◌≡◌, ℕ, Bool, true, List, map, Option, Some, None, option_map, ◌&&◌, nat_lt, nat_le}
 use Rattle.std.specs.Prelude.{if◌then◌else◌, IsTrue}
 use Rattle.std.specs.List.{list_all}
-use Rattle.msi_text.specs.CategoryRules.{is_identifier}
+use Rattle.msi_text_categories.specs.CategoryRules.{is_identifier}
 use Rattle.msi_query_operators.specs.declared.operators.BinaryOp.{BinaryOp}
 use Rattle.msi_query_operators.specs.declared.operators.BinaryOp.TheVariants as two
 use Rattle.msi_query_operators.specs.OperatorTexts.{op_level, right_level}

@@ -79,7 +79,7 @@ picked_is : (places : List Place) (c : Clauses) (name : List ℕ) (t : TableRows
     → relation_values places (picked_cells name c t numbers) ≡ selected c (relation_values places (cells_of name t))
 picked_is places c name t numbers k = ⊎_elim
     (λ all. rw all (ap (λ (rs : List (List Value)). let s : Relation = record { name = name; columns = t.columns; rows = rs } in s)
-        (ap (rows_values places) (map-id (rows_numbered numbers t.rows)) ∙ k)))
+    (ap (rows_values places) (map-id (rows_numbered numbers t.rows)) ∙ k)))
     (λ some. projected_is places c (cells_of name t) (picked_cells name c t numbers) (rows_numbered numbers t.rows) some k (rw some refl))
     (cases_Bool (length c.columns == 0))
 

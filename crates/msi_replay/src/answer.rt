@@ -1,10 +1,8 @@
 //! The results of calls, as values.
 
-use msi::PackageType;
+use msi::{LanguageId, PackageType, Timestamp};
 use msi_table::{Row, Table};
 use msi_table_values::column::Column;
-use msi_text::language::LanguageId;
-use msi_text::timestamp::Timestamp;
 use msi_text_base::codepage::CodePage;
 use msi_text_base::errors::ErrorKind;
 use msi_text_base::text::{Items, Text};

@@ -1,9 +1,8 @@
 //! Calls on a package, and on its borrowed summary and streams, as values.
 
+use msi::{LanguageId, Timestamp};
 use msi_query::{Delete, Insert, Select, Update};
 use msi_table_values::column::Column;
-use msi_text::language::LanguageId;
-use msi_text::timestamp::Timestamp;
 use msi_text_base::codepage::CodePage;
 use msi_text_base::text::{Items, Text};
 use std::io::SeekFrom;

@@ -22,9 +22,8 @@ use crate::answer::SummaryAnswer;
 use crate::call::{
     Clearing, NumberProperty, Setting, SummaryCall, SummaryQuestion, TextProperty, TimeProperty,
 };
-use msi::HasUuid;
+use msi::{HasUuid, Timestamp};
 use msi_summary::SummaryInfo;
-use msi_text::timestamp::Timestamp;
 use msi_text_base::errors::{Error, ErrorKind};
 use msi_text_base::text::{IntoText, Items, Text};
 use std::alloc::Global;

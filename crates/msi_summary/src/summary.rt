@@ -20,10 +20,10 @@ mod times;
 use crate::reasons;
 use msi_summary_properties::parts::{allocator, put};
 use msi_summary_properties::{OperatingSystem, PropertySet, PropertyValue};
-use msi_text::timestamp::Timestamp;
 use msi_text_base::codepage::CodePage;
 use msi_text_base::errors::{Error, ErrorKind};
 use msi_text_base::text::IntoText;
+use msi_text_categories::timestamp::Timestamp;
 use std::alloc::Global;
 use std::marker::Model;
 

@@ -12,10 +12,10 @@ ghost use Rattle.msi_summary_properties.specs.PropertyStream.{FitsValue};
 ghost use Rattle.msi_summary_properties.specs.PropertyLaws.{IsKept};
 
 use crate::reasons;
-use msi_text::timestamp::Timestamp;
 use msi_text_base::codepage::CodePage;
 use msi_text_base::errors::{Error, ErrorKind};
 use msi_text_base::text::Text;
+use msi_text_categories::timestamp::Timestamp;
 use std::alloc::Global;
 use std::collections::BTreeMap;
 use std::marker::Model;

@@ -8,11 +8,11 @@ ghost use Rattle.msi_summary_properties.specs.TextSizes.{text_size as size_of_te
 
 use crate::propset::PropertyValue;
 use crate::reasons::{self, PROPERTY_CUT};
-use msi_text::timestamp::Timestamp;
 use msi_text_base::codepage::CodePage;
 use msi_text_base::errors::{Error, ErrorKind};
 use msi_text_base::fields::{u8_at, u16_at, u32_at, u64_at};
 use msi_text_base::text::Text;
+use msi_text_categories::timestamp::Timestamp;
 use std::alloc::Global;
 
 /// The text that bytes read as.

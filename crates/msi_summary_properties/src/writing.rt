@@ -23,10 +23,10 @@ ghost use Rattle.msi_summary_properties.specs.PropertyWriting.{section_size, App
 use crate::header::MARK;
 use crate::propset::{OperatingSystem, PropertySet, PropertyValue};
 use crate::reasons;
-use msi_text::reasons::PAGE_CHARACTER;
 use msi_text_base::codepage::CodePage;
 use msi_text_base::errors::{Error, ErrorKind};
 use msi_text_base::fields::{push_u16, push_u32};
+use msi_text_base::reasons::PAGE_CHARACTER;
 use msi_text_pool_base::parts::encoded_len;
 use std::alloc::AllocError;
 use std::collections::BTreeMap;

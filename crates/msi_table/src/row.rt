@@ -381,7 +381,10 @@ impl<'a> Iterator for Rows<'a> {
         if self.given >= count {
             return None;
         }
-        match self.source.row(self.alloc, self.pool, &self.columns, self.given) {
+        match self
+            .source
+            .row(self.alloc, self.pool, &self.columns, self.given)
+        {
             Ok(row) => {
                 self.given += 1;
                 Some(Ok(row))

@@ -12,5 +12,5 @@ pub mod Fitting
 pub mod StoredValues
 pub mod TableCells
 -- The words of the crates below, which public clauses cite.
-pub use Rattle.msi_text.specs.declared.category.Category
-pub use Rattle.msi_text.specs.Spellings
+pub use Rattle.msi_text_categories.specs.declared.category.Category
+pub use Rattle.msi_text_categories.specs.Spellings

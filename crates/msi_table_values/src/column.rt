@@ -1,16 +1,16 @@
 //! Columns.
 
 ghost use Rattle.std.specs.Prelude.{◌≡◌, ◌≤◌, IfOk, Some, true, map, option_map, ◌||◌};
-ghost use Rattle.msi_text.specs.declared.category.Category.TheVariants as category_of;
+ghost use Rattle.msi_text_categories.specs.declared.category.Category.TheVariants as category_of;
 ghost use Rattle.msi_text_base.specs.Results.{OnlyMemory};
 ghost use Rattle.msi_table_values.specs.Columns.{begun_column, some_texts, type_name};
 ghost use Rattle.msi_table_values.specs.Columns.{is_of_category_binary as is_binary};
 ghost use Rattle.msi_table_values.specs.declared.column.ColumnType.TheVariants as type_of;
 
 use crate::texts::{copied_list, copied_texts};
-use msi_text::category::Category;
 use msi_text_base::errors::Error;
 use msi_text_base::text::{IntoText, Items, Text};
+use msi_text_categories::category::Category;
 use std::alloc::Global;
 use std::fmt;
 use std::marker::Model;

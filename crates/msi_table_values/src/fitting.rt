@@ -7,9 +7,9 @@ ghost use Rattle.msi_table_values.specs.Fitting.{FitsColumn, FitsRow, FitsTable}
 use crate::column::{Column, ColumnType};
 use crate::valid_values::{fits_number, holds_streams};
 use crate::value::ValueRef;
-use msi_text::parts::place_number;
-use msi_text::stringpool::MAX_SHORT_PLACES;
 use msi_text_base::text::Items;
+use msi_text_pool::parts::place_number;
+use msi_text_pool::stringpool::MAX_SHORT_PLACES;
 
 /// How many rows a table may have.
 pub const MAX_ROWS: usize = 65_536;

@@ -11,9 +11,9 @@ ghost use Rattle.msi_table_values.specs.Values.{ValuesAreOrdered};
 
 use crate::column::Column;
 use crate::value::Value;
-use msi_text::laws::{given_back_takes_one, taken_places_hold_their_text};
 use msi_text_base::laws::texts_are_utf8;
 use msi_text_base::text::Text;
+use msi_text_pool::laws::{given_back_takes_one, taken_places_hold_their_text};
 
 /// Values have a total order, in which only equal values tie.
 pub fn values_are_ordered()

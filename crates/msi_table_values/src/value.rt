@@ -15,10 +15,10 @@ ghost use Rattle.msi_table_values.specs.CellValues.{value_of_cell, cell_of_value
 ghost use Rattle.msi_table_values.specs.Refusals.{FailsWith};
 ghost use Rattle.msi_table_values.specs.OrderLaws.{value_cmp-total, value_eq-Decides, cell_cmp-total};
 
-use msi_text::parts::place_number;
-use msi_text::stringpool::{StringPool, StringRef};
 use msi_text_base::errors::Error;
 use msi_text_base::text::{IntoText, Text};
+use msi_text_pool::parts::place_number;
+use msi_text_pool::stringpool::{StringPool, StringRef};
 use std::alloc::Global;
 use std::cmp::Ordering;
 use std::fmt;

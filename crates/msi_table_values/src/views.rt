@@ -7,9 +7,9 @@ ghost use Rattle.msi_table_values.specs.Values.{value_cmp, is_text, is_true as c
 ghost use Rattle.msi_table_values.specs.Views.{seen_value};
 
 use crate::value::{Value, ValueRef};
-use msi_text::stringpool::StringPool;
 use msi_text_base::errors::Error;
 use msi_text_base::text::IntoText;
+use msi_text_pool::stringpool::StringPool;
 use std::alloc::Global;
 use std::cmp::Ordering;
 

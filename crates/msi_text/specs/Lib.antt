@@ -1,12 +1,12 @@
--- The words of this crate.
-pub mod Numerals
-pub mod Categories
-pub mod CategoryRules
-pub mod Times
-pub mod LanguageRows
-pub mod Languages
-pub mod Spellings
 -- The words of the crates below.
+pub use Rattle.msi_text_categories.specs.declared.category.Category
+pub use Rattle.msi_text_categories.specs.Numerals
+pub use Rattle.msi_text_categories.specs.Categories
+pub use Rattle.msi_text_categories.specs.CategoryRules
+pub use Rattle.msi_text_categories.specs.Times
+pub use Rattle.msi_text_categories.specs.LanguageRows
+pub use Rattle.msi_text_categories.specs.Languages
+pub use Rattle.msi_text_categories.specs.Spellings
 pub use Rattle.msi_text_base.specs.declared.errors.ErrorKind
 pub use Rattle.msi_text_base.specs.declared.codepage.CodePage
 pub use Rattle.msi_text_base.specs.Errors

@@ -2,21 +2,14 @@
 //! package.
 #![tactic(auto)]
 
-pub mod category;
-mod category_rules;
-pub mod language;
 pub mod laws;
 pub mod parts;
 pub mod reasons;
-mod spellings;
-pub mod timestamp;
 
-pub use category::Category;
-pub use language::LanguageId;
 pub use msi_text_base::codepage::CodePage;
 pub use msi_text_base::errors::{Error, ErrorKind, Reason};
 pub use msi_text_base::text::{IntoText, Items, Text};
 pub use msi_text_base::{codepage, errors, fields, text};
+pub use msi_text_categories::{Category, LanguageId, Timestamp, category, language, timestamp};
 pub use msi_text_pool::stringpool;
 pub use msi_text_pool::stringpool::{StringPool, StringPoolBuilder, StringRef};
-pub use timestamp::Timestamp;

@@ -3,7 +3,7 @@ use Rattle.std.proofs.Common.{◌≡◌, ℕ, List, [], ◌∷◌, ◌++◌, Opt
 use Rattle.std.specs.Prelude.{IfOk}
 use Rattle.std.specs.List.{AllZip}
 use Rattle.std.specs.Str.Lines.{lines}
-use Rattle.msi_text.specs.Numerals.{u16_in}
+use Rattle.msi_text_categories.specs.Numerals.{u16_in}
 use Rattle.msi_text_base.specs.Results.{◌>>=◌, Gives}
 use Rattle.msi_text_base.specs.declared.errors.ErrorKind.{ErrorKind}
 use Rattle.msi_text_base.proofs.OptionLemmas.{bind_some, none_is}

@@ -3,7 +3,7 @@ use Rattle.std.proofs.Common.{◌≡◌, ◌≢◌, ℕ, suc, ◌^◌, ◌<◌, 
 use Rattle.std.specs.List.{AllZip, list_all}
 use Rattle.std.proofs.lemmas.Bool.{and_from}
 use Rattle.std.proofs.lemmas.Bool.Decides.{Decides-ltb}
-use Rattle.msi_text.specs.Numerals.{u16_in}
+use Rattle.msi_text_categories.specs.Numerals.{u16_in}
 use Rattle.msi_table_values.specs.declared.value.Value.{Value}
 use Rattle.msi_text_archive.specs.Archives.{ArchiveColumnDef, ArchiveDef}
 use Rattle.msi_text_archive.specs.Fields.{fields, header_fields, text_in}

@@ -1,7 +1,7 @@
 -- The archive that a text means, computed.
 use Rattle.std.specs.Prelude.{ℕ, List, [], ◌∷◌, Option, Some, None}
 use Rattle.std.specs.Str.Lines.{lines}
-use Rattle.msi_text.specs.Numerals.{u16_in}
+use Rattle.msi_text_categories.specs.Numerals.{u16_in}
 use Rattle.msi_text_base.specs.Results.{◌>>=◌}
 use Rattle.msi_table_values.specs.declared.value.Value.{Value}
 use Rattle.msi_text_archive.specs.Archives.{ArchiveColumnDef, ArchiveDef, KeysDef}

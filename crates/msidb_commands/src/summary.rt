@@ -1,9 +1,8 @@
 //! `summary FILE`.
 
 use crate::lines::Lines;
-use msi::HasUuid;
+use msi::{HasUuid, LanguageId, Timestamp};
 use msi_summary::SummaryInfo;
-use msi_text::{LanguageId, Timestamp};
 use msi_text_base::errors::Error;
 use std::alloc::Global;
 use std::fmt::Display;

@@ -1,8 +1,8 @@
 //! Calls on code pages, categories, languages and times.
 
-use msi_text::{Category, LanguageId, Timestamp};
 use msi_text_base::codepage::CodePage;
 use msi_text_base::errors::Error;
+use msi_text_categories::{Category, LanguageId, Timestamp};
 use msi_text_pages::Page;
 use transcripts_words::answers::Answer;
 use transcripts_words::failure::Failure;

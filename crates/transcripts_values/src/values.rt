@@ -3,8 +3,8 @@
 use crate::columns::column;
 use crate::texts::short;
 use msi_table_values::value::Value;
-use msi_text::LanguageId;
 use msi_text_base::errors::Error;
+use msi_text_categories::LanguageId;
 use std::alloc::{AllocError, Global};
 use transcripts_words::answers::Answer;
 use transcripts_words::failure::Failure;

@@ -18,9 +18,9 @@ use super::{Expr, Tree};
 use msi_table_values::column::Column;
 use msi_table_values::parts::{ValueView, column_index};
 use msi_table_values::value::{Value, ValueRef};
-use msi_text::stringpool::StringPool;
 use msi_text_base::errors::Error;
 use msi_text_base::text::Text;
+use msi_text_pool::stringpool::StringPool;
 use std::alloc::Global;
 use std::marker::Model;
 

@@ -8,8 +8,8 @@ ghost use Rattle.msi_summary.specs.Summary.{time_with_id, time_id, with_time};
 ghost use Rattle.msi_summary.specs.Summary as property;
 
 use crate::summary::SummaryInfo;
-use msi_text::timestamp::Timestamp;
 use msi_text_base::errors::Error;
+use msi_text_categories::timestamp::Timestamp;
 
 const LAST_PRINTED: u32 = 11;
 

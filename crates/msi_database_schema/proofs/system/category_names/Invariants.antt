@@ -1,5 +1,5 @@
 use Rattle.std.proofs.Common.{◌≡◌, map, take}
-use Rattle.msi_text.specs.Categories.{category_name}
+use Rattle.msi_text_categories.specs.Categories.{category_name}
 use Rattle.msi_database_schema.proofs.system.category_names.Given as goal
 
 abbrev pub invariant-loop-category : goal.invariant-loop-category

@@ -24,7 +24,7 @@ loop-i-preserved c =
             inside = number_inside (length rows) c.loop-i.numbers.items c.if-branch.numbers.items c.loop-i.i (slice_get_within rows c.loop-i.i row at) more c.loop-i.invariant.inside;
           }
       | else-branch w ↦ rw w.numbers-is (record {
-          kept = number_passed places test rows c.loop-i.numbers.items c.loop-i.i row at (met ∙ w.if-branch.false) c.loop-i.invariant.kept;
-          inside = c.loop-i.invariant.inside;
-        })
+        kept = number_passed places test rows c.loop-i.numbers.items c.loop-i.i row at (met ∙ w.if-branch.false) c.loop-i.invariant.kept;
+        inside = c.loop-i.invariant.inside;
+      })
     ]
