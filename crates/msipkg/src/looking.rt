@@ -7,11 +7,11 @@ use msipkg_checks::print_check;
 use msipkg_files::{Folder, Purpose, open_package};
 use msipkg_looks::schema::Form;
 use msipkg_looks::{
-    check_query, extract_streams, print_info, print_query, print_schema, print_streams,
+    Format, check_query, extract_streams, print_info, print_query, print_schema, print_streams,
     print_summary, print_tables,
 };
 use msipkg_output::msi::Package;
-use msipkg_output::{Failure, Format, Opened, Output, System};
+use msipkg_output::{Failure, Opened, Output, RowFormat, System};
 use std::alloc::Global;
 
 /// Carries out a command that looks at the package of a file, and returns whether all is well: nothing was found to be
@@ -131,6 +131,6 @@ fn format_of(asked: &Asked<'_, '_>) -> Format {
     match Format::of_name(asked.text("format")) {
         Some(format) => format,
         None if asked.style.is_terminal => Format::Table,
-        None => Format::Tabs,
+        None => Format::Rows(RowFormat::Tabs),
     }
 }

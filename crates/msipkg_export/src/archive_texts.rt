@@ -44,7 +44,7 @@ impl StoredText {
     /// Fails with `InvalidInput` if the text can't be written in its code page, and with `OutOfMemory`.
     pub(crate) fn encoded(&self, alloc: Global) -> Result<CowSlice<'_, u8, Global>, Error> {
         match self.page {
-            None => Ok(CowSlice::Borrowed(self.text.as_bytes())),
+            None | Some(CodePage::Utf8) => Ok(CowSlice::Borrowed(self.text.as_bytes())),
             Some(page) => Ok(CowSlice::Owned(page.encode(alloc, self.text.as_str())?)),
         }
     }

@@ -2,11 +2,12 @@
 
 use crate::exporting::BARE;
 use crate::folders::make_folder;
-use msipkg_files::output::msi::{Package, Table};
+use msipkg_files::output::msi::{Package, Rows, Table};
 use msipkg_files::output::{
-    Failure, Format, Opened, Output, Style, System, chosen_tables, rows_of, write_rows,
+    Failure, Opened, Output, RowFormat, Style, System, at_file, chosen_tables, path_in, rows_of,
+    write_rows,
 };
-use msipkg_files::{Folder, SafeNames};
+use msipkg_files::{Folder, SafeNames, open_new, settle};
 use std::alloc::{AllocError, Global};
 
 /// Writes each of the tables to a file of a folder, which is named after the table. The folder is made where it isn't
@@ -48,22 +49,37 @@ fn export_table(
     folder: &Folder<'_>,
     given: &mut SafeNames,
 ) -> Result<(), Failure> {
-    let file = file_name(rt.alloc(), table, given)?;
-    let bytes = csv_bytes(rt.alloc(), package, table)?;
-    folder.write(rt, file.as_str(), bytes.as_slice())
+    let rows = rows_of(rt.alloc(), package, table.name())?;
+    let path = file_path(rt.alloc(), table, folder, given)?;
+    let written = write_file(rt, path.as_str(), folder.is_forced, rows);
+    at_file(rt.alloc(), path.as_str(), written)
 }
 
-/// The name of a table's file.
-fn file_name(alloc: Global, table: &Table, given: &mut SafeNames) -> Result<String, AllocError> {
+/// The path of a table's file.
+fn file_path(
+    alloc: Global,
+    table: &Table,
+    folder: &Folder<'_>,
+    given: &mut SafeNames,
+) -> Result<String, AllocError> {
     let safe = given.give(table.name())?;
-    format!(in alloc; "{safe}.csv")
+    let name = format!(in alloc; "{safe}.csv")?;
+    path_in(alloc, folder.path, name.as_str())
 }
 
-/// The bytes of a table's file.
-fn csv_bytes(alloc: Global, package: &Package<Opened>, table: &Table) -> Result<Vec<u8>, Failure> {
-    let mut output = Output::to_memory(alloc);
-    write_csv(alloc, BARE, package, table, &mut output)?;
-    Ok(output.into_bytes()?)
+/// Writes rows to a file, piece by piece.
+fn write_file(rt: &System, path: &str, is_forced: bool, rows: Rows<'_>) -> Result<(), Failure> {
+    let (made, new) = open_new(rt, path, is_forced)?;
+    let mut output = Output::to_file(rt.alloc(), new);
+    let written = write_synced(rt.alloc(), rows, &mut output);
+    drop(output);
+    settle(rt, written, made.as_str(), path)
+}
+
+/// Writes rows to a file, and waits until the disk has them.
+fn write_synced(alloc: Global, rows: Rows<'_>, output: &mut Output) -> Result<(), Failure> {
+    write_rows(alloc, BARE, RowFormat::Csv, rows, output)?;
+    Ok(output.end_synced()?)
 }
 
 /// Writes a table as `query` prints it.
@@ -78,5 +94,5 @@ pub(crate) fn write_csv(
     output: &mut Output,
 ) -> Result<(), Failure> {
     let rows = rows_of(alloc, package, table.name())?;
-    write_rows(alloc, style, Format::Csv, rows, output)
+    write_rows(alloc, style, RowFormat::Csv, rows, output)
 }

@@ -1,6 +1,7 @@
 //! What `msipkg` prints of packages without changing them.
 #![tactic(auto)]
 
+mod aligned;
 mod columns;
 pub mod extract;
 mod facts;
@@ -14,7 +15,7 @@ pub mod tables;
 
 pub use extract::extract_streams;
 pub use info::print_info;
-pub use query::{check_query, print_query};
+pub use query::{Format, check_query, print_query};
 pub use schema::print_schema;
 pub use streams::print_streams;
 pub use summary::print_summary;

@@ -1,16 +1,52 @@
 //! `query FILE TEXT`: the rows that a query selects.
 
-use msipkg_files::output::msi::{Package, Parse, Select};
-use msipkg_files::output::{Failure, Format, Opened, Output, Style, write_rows};
+use crate::aligned::{widths_of, write_aligned};
+use msipkg_files::output::msi::{Package, Parse, Rows, Select};
+use msipkg_files::output::{Failure, Opened, Output, RowFormat, Style, write_rows};
 use std::alloc::Global;
+
+/// How the rows of a query are printed.
+#[derive(Clone, Copy)]
+pub enum Format {
+    /// Aligned columns under their names.
+    Table,
+    /// One by one.
+    Rows(RowFormat),
+}
+
+/// The formats by their names.
+static FORMATS: [(&str, Format); 5] = [
+    ("table", Format::Table),
+    ("tabs", Format::Rows(RowFormat::Tabs)),
+    ("csv", Format::Rows(RowFormat::Csv)),
+    ("json", Format::Rows(RowFormat::Json)),
+    ("lines", Format::Rows(RowFormat::Lines)),
+];
+
+impl Format {
+    /// Returns the format of this name, as the command line has it.
+    pub fn of_name(name: &str) -> Option<Format> {
+        for (known, format) in &FORMATS {
+            if *known == name {
+                return Some(*format);
+            }
+        }
+        None
+    }
+}
 
 /// Fails if a text spells no query for rows, so that it is refused before a file is opened.
 ///
 /// # Errors
 /// Fails at the query.
 pub fn check_query(alloc: Global, text: &str) -> Result<(), Failure> {
-    drop(parsed(alloc, text)?);
-    Ok(())
+    match Select::parse(alloc, text) {
+        Ok(query) => {
+            drop(query);
+            Ok(())
+        }
+        Err(error) => Err(Failure::from(error).at(alloc, "query", text)),
+    }
 }
 
 /// Prints the rows that a query selects.
@@ -25,27 +61,36 @@ pub fn print_query(
     format: Format,
     output: &mut Output,
 ) -> Result<(), Failure> {
-    let query = parsed(alloc, text)?;
-    match write_selected(alloc, style, format, package, query, output) {
+    match write_selected(alloc, style, package, text, format, output) {
         Ok(()) => Ok(()),
         Err(failure) => Err(failure.at(alloc, "query", text)),
     }
-}
-
-/// The query that a text spells.
-fn parsed(alloc: Global, text: &str) -> Result<Select, Failure> {
-    Select::parse(alloc, text).map_err(|error| Failure::from(error).at(alloc, "query", text))
 }
 
 /// Writes the rows that a query selects.
 fn write_selected(
     alloc: Global,
     style: Style,
-    format: Format,
     package: &Package<Opened>,
-    query: Select,
+    text: &str,
+    format: Format,
     output: &mut Output,
 ) -> Result<(), Failure> {
-    let rows = package.select_rows(query)?;
-    write_rows(alloc, style, format, rows, output)
+    let rows = selected(alloc, package, text)?;
+    match format {
+        Format::Rows(format) => write_rows(alloc, style, format, rows, output),
+        Format::Table => {
+            let widths = widths_of(alloc, style, rows)?;
+            write_aligned(style, &widths, selected(alloc, package, text)?, output)
+        }
+    }
+}
+
+/// The rows that a query selects.
+fn selected<'a>(
+    alloc: Global,
+    package: &'a Package<Opened>,
+    text: &str,
+) -> Result<Rows<'a>, Failure> {
+    Ok(package.select_rows(Select::parse(alloc, text)?)?)
 }

@@ -1,6 +1,6 @@
 //! Texts that are safe on a terminal: what a terminal would obey or not show is printed as an escape.
 
-use std::fmt;
+use std::fmt::{self, Write};
 
 /// A text that prints as it is, or with escapes.
 #[derive(Clone, Copy)]
@@ -25,6 +25,17 @@ impl<'a> Shown<'a> {
             text,
             is_escaped: false,
         }
+    }
+
+    /// Returns how many characters it prints.
+    pub fn width(&self) -> usize {
+        if !self.is_escaped || is_plain(self.text) {
+            return count_characters(self.text.as_bytes());
+        }
+        let mut counter = Counter { count: 0 };
+        // Counting doesn't fail.
+        let _ = write!(counter, "{self}");
+        counter.count
     }
 }
 
@@ -56,6 +67,30 @@ fn write_escaped<W: fmt::Write>(c: char, f: &mut fmt::Formatter<W>) -> fmt::Resu
             }
         }
     }
+}
+
+/// What is printed, of which nothing is kept but the number of its characters.
+#[derive(Drop)]
+struct Counter {
+    count: usize,
+}
+
+impl Write for Counter {
+    fn write_str(&mut self, s: &str) -> fmt::Result {
+        self.count = self.count.saturating_add(count_characters(s.as_bytes()));
+        Ok(())
+    }
+}
+
+/// The number of a text's characters, each of which has one byte that doesn't go on with the one in front.
+pub(crate) fn count_characters(text: &[u8]) -> usize {
+    text.iter().filter(|byte| **byte & 0xC0 != 0x80).count()
+}
+
+/// Returns whether a text is printed as it is, with escapes too. Most texts are, and they are printed in one piece.
+pub(crate) fn is_plain(text: &str) -> bool {
+    text.bytes()
+        .all(|byte| matches!(byte, b' '..=b'~') && byte != b'\\')
 }
 
 /// Returns whether a terminal would obey a character, or not show it: control characters, marks of direction, and

@@ -1,22 +1,11 @@
 //! Tables whose columns are aligned with spaces.
 
-use crate::escape::Shown;
+use crate::escape::{Shown, count_characters, is_plain};
 use crate::style::Style;
+use crate::widths::Widths;
 use msipkg_system::Output;
 use std::alloc::{AllocError, Global};
 use std::fmt::Display;
-
-/// How many characters are written at a time.
-const PIECE: usize = 64;
-
-/// How many spaces stand between two columns.
-const GAP: usize = 2;
-
-/// What columns are filled up with.
-static SPACES: [u8; PIECE] = [b' '; PIECE];
-
-/// What the line under the head is made of.
-static DASHES: [u8; PIECE] = [b'-'; PIECE];
 
 /// Rows of texts under a head. Where memory is refused for one, that is kept, and the output gets it once the grid is
 /// printed.
@@ -83,7 +72,7 @@ impl Grid {
 
     /// Puts a text, as the style has it, as the next one of a row.
     pub fn put_text(&mut self, style: Style, text: &str) {
-        if style.is_escaped {
+        if style.is_escaped && !is_plain(text) {
             self.put(&Shown::escaped(text));
         } else {
             self.push(text);
@@ -100,7 +89,7 @@ impl Grid {
     fn end_text(&mut self, done: Result<(), AllocError>) {
         let start = end_of(self.cells.as_slice());
         let end = self.texts.len();
-        let width = width_of(self.bytes_of(start, end));
+        let width = count_characters(self.bytes_of(start, end));
         if done.is_err() || self.cells.push(Cell { end, width }).is_err() {
             self.is_cut = true;
         }
@@ -120,21 +109,21 @@ impl Grid {
 
     /// Writes the head, a line of dashes and the rows. Each column is as wide as its longest text, in characters, and
     /// the last one isn't filled up. Where memory was refused, the output gets that in their place.
-    pub fn write(&self, output: &mut Output) {
+    fn write(&self, output: &mut Output) {
         match self.widths() {
-            Ok(widths) => self.write_aligned(widths.as_slice(), output),
+            Ok(widths) => self.write_aligned(&widths, output),
             Err(error) => output.refuse_memory(error),
         }
     }
 
-    /// The width of each column, if all texts are there.
-    fn widths(&self) -> Result<Vec<usize>, AllocError> {
+    /// The widths of the columns, if all texts are there.
+    fn widths(&self) -> Result<Widths, AllocError> {
         if self.is_cut {
             return Err(AllocError);
         }
-        let mut widths = vec![in self.alloc; 0usize; self.width]?;
+        let mut widths = Widths::new(self.alloc, self.width)?;
         for row in self.cells.as_slice().chunks(self.width.max(1)) {
-            widen(widths.as_mut_slice(), row);
+            widen(&mut widths, row);
         }
         Ok(widths)
     }
@@ -145,27 +134,24 @@ impl Grid {
     }
 
     /// Writes the head, a line of dashes and the rows, the columns as wide as given.
-    fn write_aligned(&self, widths: &[usize], output: &mut Output) {
+    fn write_aligned(&self, widths: &Widths, output: &mut Output) {
         let mut start = 0;
         for (number, row) in self.cells.as_slice().chunks(self.width.max(1)).enumerate() {
             self.write_row(start, row, widths, output);
             if number == 0 {
-                write_dashes(widths, output);
+                widths.write_dashes(output);
             }
             start = end_of(row);
         }
     }
 
     /// Writes a row whose first text begins at a place, its texts filled up but for the last.
-    fn write_row(&self, start: usize, row: &[Cell], widths: &[usize], output: &mut Output) {
+    fn write_row(&self, start: usize, row: &[Cell], widths: &Widths, output: &mut Output) {
         let mut start = start;
-        for i in 0..row.len().min(widths.len()) {
-            output.push_bytes(self.bytes_of(start, row[i].end));
-            start = row[i].end;
-            if i + 1 < row.len() {
-                let missing = widths[i].saturating_sub(row[i].width);
-                write_filled(&SPACES, missing.saturating_add(GAP), output);
-            }
+        for (column, cell) in row.iter().enumerate() {
+            output.push_bytes(self.bytes_of(start, cell.end));
+            start = cell.end;
+            widths.fill_up(column, cell.width, output);
         }
         output.push_str("\n");
     }
@@ -202,33 +188,9 @@ fn end_of(cells: &[Cell]) -> usize {
     }
 }
 
-/// The width of a text in characters, each of which has one byte that doesn't go on with the one in front.
-fn width_of(text: &[u8]) -> usize {
-    text.iter().filter(|byte| **byte & 0xC0 != 0x80).count()
-}
-
 /// Makes columns wide enough for a row.
-fn widen(widths: &mut [usize], row: &[Cell]) {
-    for i in 0..widths.len().min(row.len()) {
-        widths[i] = widths[i].max(row[i].width);
+fn widen(widths: &mut Widths, row: &[Cell]) {
+    for (column, cell) in row.iter().enumerate() {
+        widths.widen(column, cell.width);
     }
-}
-
-/// Writes the line under the head.
-fn write_dashes(widths: &[usize], output: &mut Output) {
-    let mut before = "";
-    for width in widths {
-        output.push_str(before);
-        write_filled(&DASHES, *width, output);
-        before = "  ";
-    }
-    output.push_str("\n");
-}
-
-/// Writes so many of the same characters, by pieces.
-fn write_filled(piece: &[u8; PIECE], count: usize, output: &mut Output) {
-    for _ in 0..count / PIECE {
-        output.push_bytes(piece.as_slice());
-    }
-    output.push_bytes(piece.get(..count % PIECE).unwrap_or(&[]));
 }

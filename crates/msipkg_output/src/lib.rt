@@ -13,6 +13,8 @@ pub mod style;
 pub mod summary_texts;
 pub mod tables;
 pub mod texts;
+pub mod values;
+pub mod widths;
 
 // `msi` and `msipkg_system` are for the crates above, so that each has one way to them: the rt of some kits goes down
 // every path between two crates.
@@ -24,8 +26,10 @@ pub use json::{JsonObject, JsonRow};
 pub use msi;
 pub use msipkg_system::{Carrier, Opened, Origin, Output, System, SystemFile, path_in};
 pub use pages::Pages;
-pub use rows::{Format, write_rows};
+pub use rows::{RowFormat, write_rows};
 pub use style::Style;
 pub use summary_texts::{PROPERTIES, property_text, uuid_text};
 pub use tables::{chosen_tables, is_list, rows_of, table_named};
 pub use texts::{TimeText, kind_name, push_key, stream_name};
+pub use values::{value_width, write_value};
+pub use widths::Widths;

@@ -1,20 +1,18 @@
-//! The rows of a query, in the formats that `query` prints.
+//! Rows in the formats in which they are printed one by one.
 
 use crate::failure::Failure;
-use crate::grid::Grid;
 use crate::json::JsonRow;
 use crate::style::Style;
+use crate::values::{STREAM, write_value};
 use csv::Writer;
 use msi::{Column, Row, Rows, Value};
 use msi_text_rows::write_csv_row;
 use msipkg_system::Output;
 use std::alloc::Global;
 
-/// How rows are printed.
+/// How rows are printed one by one.
 #[derive(Clone, Copy)]
-pub enum Format {
-    /// Aligned columns under their names.
-    Table,
+pub enum RowFormat {
     /// A line for each row, its values parted by tabs, without the names of the columns.
     Tabs,
     /// Comma-separated values, the names of the columns first.
@@ -25,36 +23,12 @@ pub enum Format {
     Lines,
 }
 
-/// The formats by their names.
-static FORMATS: [(&str, Format); 5] = [
-    ("table", Format::Table),
-    ("tabs", Format::Tabs),
-    ("csv", Format::Csv),
-    ("json", Format::Json),
-    ("lines", Format::Lines),
-];
-
-impl Format {
-    /// Returns the format of this name, as the command line has it.
-    pub fn of_name(name: &str) -> Option<Format> {
-        for (known, format) in &FORMATS {
-            if *known == name {
-                return Some(*format);
-            }
-        }
-        None
-    }
-}
-
-/// What stands for a value of a stream: its bytes stand in a stream of the package.
-const STREAM: &str = "[stream]";
-
 /// How values are printed.
 #[derive(Clone, Copy)]
 struct Printer {
     alloc: Global,
     style: Style,
-    format: Format,
+    format: RowFormat,
 }
 
 /// Writes rows. Null prints as nothing, in JSON as `null`; a stream as `[stream]`, in JSON as `true`.
@@ -64,7 +38,7 @@ struct Printer {
 pub fn write_rows(
     alloc: Global,
     style: Style,
-    format: Format,
+    format: RowFormat,
     rows: Rows<'_>,
     output: &mut Output,
 ) -> Result<(), Failure> {
@@ -74,51 +48,9 @@ pub fn write_rows(
         format,
     };
     match format {
-        Format::Table => write_grid(&printer, rows, output),
-        Format::Csv => write_csv(&printer, rows, output),
-        Format::Json => write_json(&printer, rows, output),
-        Format::Tabs | Format::Lines => write_each(&printer, rows, output),
-    }
-}
-
-/// Writes rows under the names of their columns, all aligned.
-fn write_grid(printer: &Printer, rows: Rows<'_>, output: &mut Output) -> Result<(), Failure> {
-    let mut grid = Grid::new(printer.alloc, rows.columns().len());
-    put_names(printer, rows.columns(), &mut grid);
-    put_rows(printer, rows, &mut grid)?;
-    grid.write(output);
-    Ok(())
-}
-
-/// Puts the names of columns.
-fn put_names(printer: &Printer, columns: &[Column], grid: &mut Grid) {
-    for column in columns {
-        grid.put_text(printer.style, column.name());
-    }
-}
-
-/// Puts rows.
-fn put_rows(printer: &Printer, rows: Rows<'_>, grid: &mut Grid) -> Result<(), Failure> {
-    for row in rows {
-        put_row(printer, &row?, grid);
-    }
-    Ok(())
-}
-
-/// Puts the values of a row.
-fn put_row(printer: &Printer, row: &Row, grid: &mut Grid) {
-    for i in 0..row.len() {
-        put_value(printer, &row[i], grid);
-    }
-}
-
-/// Puts a value.
-fn put_value(printer: &Printer, value: &Value, grid: &mut Grid) {
-    match value {
-        Value::Null => grid.push(""),
-        Value::Int(number) => grid.put(number),
-        Value::Str(text) => grid.put_text(printer.style, text.as_str()),
-        Value::Binary => grid.push(STREAM),
+        RowFormat::Csv => write_csv(&printer, rows, output),
+        RowFormat::Json => write_json(&printer, rows, output),
+        RowFormat::Tabs | RowFormat::Lines => write_each(&printer, rows, output),
     }
 }
 
@@ -247,7 +179,7 @@ fn write_each(printer: &Printer, rows: Rows<'_>, output: &mut Output) -> Result<
 
 /// Writes a row, with its values on lines, behind an empty line unless it is the first, or parted by tabs.
 fn write_row(printer: &Printer, is_first: bool, row: &Row, output: &mut Output) {
-    let has_lines = matches!(printer.format, Format::Lines);
+    let has_lines = matches!(printer.format, RowFormat::Lines);
     let between = if has_lines { "\n" } else { "\t" };
     let mut before = if has_lines && !is_first { "\n" } else { "" };
     for i in 0..row.len() {
@@ -257,17 +189,7 @@ fn write_row(printer: &Printer, is_first: bool, row: &Row, output: &mut Output) 
             printer.style.print(row.columns()[i].name(), output);
             output.push_str(" = ");
         }
-        write_value(printer, &row[i], output);
+        write_value(printer.style, &row[i], output);
     }
     output.push_str("\n");
-}
-
-/// Writes a value.
-fn write_value(printer: &Printer, value: &Value, output: &mut Output) {
-    match value {
-        Value::Null => {}
-        Value::Int(number) => write!(output, "{number}"),
-        Value::Str(text) => printer.style.print(text.as_str(), output),
-        Value::Binary => output.push_str(STREAM),
-    }
 }

@@ -1,6 +1,6 @@
 //! Where the output goes, and whether its texts are escaped.
 
-use crate::escape::Shown;
+use crate::escape::{Shown, is_plain};
 use msipkg_system::Output;
 
 /// How texts are printed.
@@ -24,7 +24,7 @@ impl Style {
 
     /// Prints a text.
     pub fn print(self, text: &str, output: &mut Output) {
-        if self.is_escaped {
+        if self.is_escaped && !is_plain(text) {
             write!(output, "{}", Shown::escaped(text));
         } else {
             output.push_str(text);

@@ -1,0 +1,37 @@
+//! The values of rows as they are printed: null as nothing, and a stream as `[stream]`.
+
+use crate::style::Style;
+use msi::Value;
+use msipkg_system::Output;
+
+/// What stands for a value of a stream: its bytes stand in a stream of the package.
+pub(crate) const STREAM: &str = "[stream]";
+
+/// Writes a value.
+pub fn write_value(style: Style, value: &Value, output: &mut Output) {
+    match value {
+        Value::Null => {}
+        Value::Int(number) => write!(output, "{number}"),
+        Value::Str(text) => style.print(text.as_str(), output),
+        Value::Binary => output.push_str(STREAM),
+    }
+}
+
+/// Returns how many characters a value is written with.
+pub fn value_width(style: Style, value: &Value) -> usize {
+    match value {
+        Value::Null => 0,
+        Value::Int(number) => number_width(*number),
+        Value::Str(text) => style.show(text.as_str()).width(),
+        Value::Binary => STREAM.len(),
+    }
+}
+
+/// The number of a number's digits in decimal, and of its sign.
+fn number_width(number: i32) -> usize {
+    let sign = usize::from(number < 0);
+    match number.unsigned_abs().checked_ilog10() {
+        Some(log) => 1 + sign + log as usize,
+        None => 1,
+    }
+}
