@@ -8,7 +8,8 @@ use crate::words::{self, Verb};
 use clap::ArgMatches;
 use clap::error::ErrorKind;
 use msipkg_files::{PackageFile, Purpose};
-use msipkg_output::{Failure, Output, Shown, Style, System};
+use msipkg_output::{Failure, Output, System};
+use msipkg_texts::{Shown, Style};
 
 /// Runs a command over its arguments. What it prints is written when this returns. Returns the exit status: 0 on
 /// success; 1 on an error, which is written to `errors`; 2 with a hint there, if the arguments match no command.

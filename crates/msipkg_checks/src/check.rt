@@ -7,7 +7,8 @@ use crate::streams::check_streams;
 use crate::validation::check_validation;
 use crate::values::check_values;
 use msipkg_output::msi::Package;
-use msipkg_output::{Failure, Opened, Output, Style};
+use msipkg_output::{Failure, Opened, Output};
+use msipkg_texts::Style;
 use std::alloc::Global;
 
 /// Prints each error in a file's package on a line as it is found, or all of them as JSON on one line. Returns whether

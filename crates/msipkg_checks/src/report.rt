@@ -1,7 +1,7 @@
 //! The errors that a check finds in a package, each with its place.
 
-use msipkg_output::json::{self, JsonObject};
-use msipkg_output::{Failure, Output, Shown, Style};
+use msipkg_output::{Failure, Output};
+use msipkg_texts::{JsonObject, Shown, Style, write_quoted, write_text};
 use std::alloc::Global;
 use std::{fmt, mem};
 
@@ -89,7 +89,7 @@ impl<'a> Report<'a> {
         object.put_text("file", Some(self.file));
         object.open_list("errors");
         match object.begun() {
-            Ok(text) => json::write_text(self.style, text, self.output),
+            Ok(text) => write_text(self.style, text, self.output),
             Err(error) => self.output.refuse_memory(error),
         }
     }
@@ -132,7 +132,7 @@ impl<'a> Report<'a> {
     /// Prints why the check failed, as a text of JSON.
     fn put_failure(&mut self, failure: &Failure) {
         match failure.to_string(self.alloc) {
-            Ok(text) => json::write_quoted(self.alloc, self.style, text.as_str(), self.output),
+            Ok(text) => write_quoted(self.alloc, self.style, text.as_str(), self.output),
             Err(error) => self.output.refuse_memory(error),
         }
     }

@@ -3,8 +3,8 @@
 use crate::difference::{Change, Content, Difference, Member};
 use crate::report::Report;
 use msipkg_files::output::ColumnTypeText;
-use msipkg_files::output::json::quoted;
 use msipkg_files::output::msi::{Column, Table};
+use msipkg_texts::quoted;
 use std::alloc::{AllocError, Global};
 
 /// Compares the columns of two tables by their names.

@@ -6,7 +6,8 @@ use crate::streams::compare_streams;
 use crate::tables::compare_tables;
 use msipkg_files::StoredStreams;
 use msipkg_files::output::msi::Package;
-use msipkg_files::output::{Failure, Opened, Output, Style};
+use msipkg_files::output::{Failure, Opened, Output};
+use msipkg_texts::Style;
 use std::alloc::Global;
 
 /// A package that is compared.

@@ -1,7 +1,8 @@
 //! A difference between two packages, as lines and as JSON.
 
+use msipkg_files::output::Output;
 use msipkg_files::output::msi::Value;
-use msipkg_files::output::{JsonObject, Output, Style};
+use msipkg_texts::{JsonObject, Style};
 use std::alloc::Global;
 use std::fmt::{self, Display};
 

@@ -5,7 +5,8 @@ use crate::difference::{Change, Content, Difference, Member};
 use crate::report::Report;
 use msi_compare::{Difference as RowDifference, differences};
 use msipkg_files::output::msi::{Column, Error, Items, Package, Row, Rows, Select, Table, Value};
-use msipkg_files::output::{Failure, Opened, Shown, push_key};
+use msipkg_files::output::{Failure, Opened, push_key};
+use msipkg_texts::Shown;
 use std::alloc::{AllocError, Global};
 
 /// The rows of two tables, with the columns of the first.

@@ -4,10 +4,11 @@ use crate::exporting::BARE;
 use crate::folders::make_folder;
 use msipkg_files::output::msi::{Package, Rows, Table};
 use msipkg_files::output::{
-    Failure, Opened, Output, RowFormat, Style, System, at_file, chosen_tables, path_in, rows_of,
+    Failure, Opened, Output, RowFormat, System, at_file, chosen_tables, path_in, rows_of,
     write_rows,
 };
 use msipkg_files::{Folder, SafeNames, open_new, settle};
+use msipkg_texts::Style;
 use std::alloc::{AllocError, Global};
 
 /// Writes each of the tables to a file of a folder, which is named after the table. The folder is made where it isn't

@@ -6,9 +6,10 @@ use crate::json_packages::write_package;
 use crate::table_archives::write_archive;
 use msipkg_files::output::msi::{Package, Table};
 use msipkg_files::output::{
-    Failure, Opened, Output, Shown, Style, System, at_file, is_list, rows_of, table_named,
+    Failure, Opened, Output, System, at_file, is_list, rows_of, table_named,
 };
 use msipkg_files::{Folder, open_new, settle};
+use msipkg_texts::{Shown, Style};
 use std::alloc::Global;
 
 /// How a file is written: as it is.

@@ -1,12 +1,12 @@
 //! Packages as JSON on one line: the summary, the tables with the types of their columns, and the streams.
 
 use base64::engine::general_purpose::STANDARD;
-use msipkg_files::output::json::{JsonObject, write_quoted, write_text};
 use msipkg_files::output::msi::{Error, Package, Rows, SummaryInfo, Table};
 use msipkg_files::output::{
-    Failure, JsonRow, Opened, Output, PROPERTIES, Style, chosen_tables, kind_name, property_text,
+    Failure, JsonRow, Opened, Output, PROPERTIES, chosen_tables, kind_name, property_text,
     put_columns, rows_of,
 };
+use msipkg_texts::{JsonObject, Style, write_quoted, write_text};
 use std::alloc::{AllocError, Global};
 
 /// How many bytes of a stream are written at a time. Three of them are four signs, so that the pieces join.

@@ -4,7 +4,8 @@ use crate::archive_parts::text_value;
 use crate::archive_texts::{ArchiveText, StoredText};
 use msipkg_files::SafeNames;
 use msipkg_files::output::msi::{Error, Package, Row, Rows, Table, Value};
-use msipkg_files::output::{Failure, Opened, Output, Shown, Style, rows_of, stream_name};
+use msipkg_files::output::{Failure, Opened, Output, rows_of, stream_name};
+use msipkg_texts::{Shown, Style};
 use std::alloc::Global;
 
 /// A stream and the name of its file.

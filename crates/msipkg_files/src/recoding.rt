@@ -3,7 +3,8 @@
 use crate::named_pages::{NamedPages, has_unnamed_texts};
 use msi_recode::{TextPage, recode_contents};
 use msipkg_output::msi::compound::{self, Contents, StreamMap};
-use msipkg_output::{Cause, Failure, Output, Pages, Shown, System};
+use msipkg_output::{Cause, Failure, Output, Pages, System};
+use msipkg_texts::Shown;
 use std::alloc::Global;
 use std::rc::Rc;
 

@@ -2,7 +2,8 @@
 //! written, so that none of their texts is kept.
 
 use msipkg_files::output::msi::{Column, Row, Rows};
-use msipkg_files::output::{Failure, Output, Style, Widths, value_width, write_value};
+use msipkg_files::output::{Failure, Output, value_width, write_value};
+use msipkg_texts::{Style, Widths};
 use std::alloc::Global;
 
 /// Returns the widths of the columns of rows, as the style has them, and of their names.

@@ -1,7 +1,8 @@
 //! What the columns of a table take, as texts.
 
+use msipkg_files::output::ColumnTypeText;
 use msipkg_files::output::msi::{Column, ColumnType};
-use msipkg_files::output::{ColumnTypeText, Style};
+use msipkg_texts::Style;
 use std::fmt;
 
 /// What is printed of a column.

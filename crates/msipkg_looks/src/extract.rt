@@ -2,8 +2,9 @@
 //! is written outside the folder.
 
 use msipkg_files::output::msi::Package;
-use msipkg_files::output::{Failure, Opened, Output, Shown, System};
+use msipkg_files::output::{Failure, Opened, Output, System};
 use msipkg_files::{Folder, SafeNames, StoredStreams, stored_streams, stream_bytes};
+use msipkg_texts::Shown;
 use std::fs;
 
 /// What streams are taken from, and where their files go.

@@ -4,8 +4,9 @@ use crate::facts::Facts;
 use crate::summary::add_summary;
 use crate::tables::count_rows;
 use msipkg_files::output::msi::{Error, Package};
-use msipkg_files::output::{Failure, Opened, Output, Style, System, kind_name};
+use msipkg_files::output::{Failure, Opened, Output, System, kind_name};
 use msipkg_files::{StoredStreams, stored_streams, stream_bytes};
+use msipkg_texts::Style;
 use std::alloc::Global;
 
 /// Prints what a file's package is, as lines or as JSON on one line.

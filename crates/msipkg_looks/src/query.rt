@@ -2,7 +2,8 @@
 
 use crate::aligned::{widths_of, write_aligned};
 use msipkg_files::output::msi::{Package, Parse, Rows, Select};
-use msipkg_files::output::{Failure, Opened, Output, RowFormat, Style, write_rows};
+use msipkg_files::output::{Failure, Opened, Output, RowFormat, write_rows};
+use msipkg_texts::Style;
 use std::alloc::Global;
 
 /// How the rows of a query are printed.

@@ -3,7 +3,8 @@
 use crate::columns::{ColumnPart, Part};
 use crate::schema_json::schema_json;
 use msipkg_files::output::msi::{Column, Package, Table};
-use msipkg_files::output::{Failure, Grid, Opened, Output, Style, chosen_tables};
+use msipkg_files::output::{Failure, Opened, Output, chosen_tables};
+use msipkg_texts::{Grid, Style};
 use std::alloc::Global;
 
 /// What is printed of each column, under its head.

@@ -1,7 +1,8 @@
 //! The columns of tables as JSON.
 
 use msipkg_files::output::msi::Table;
-use msipkg_files::output::{JsonObject, put_columns};
+use msipkg_files::output::put_columns;
+use msipkg_texts::JsonObject;
 use std::alloc::Global;
 
 /// Returns the tables of a file as JSON. What a column doesn't have isn't there.

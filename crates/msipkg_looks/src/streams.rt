@@ -1,8 +1,9 @@
 //! `streams FILE`: the names of a package's streams, and how many bytes they have.
 
 use msipkg_files::output::msi::{Error, Package};
-use msipkg_files::output::{Failure, Grid, Opened, Output, Style, System};
+use msipkg_files::output::{Failure, Opened, Output, System};
 use msipkg_files::{StoredStreams, stored_streams, stream_bytes};
+use msipkg_texts::{Grid, Style};
 use std::alloc::Global;
 
 /// The heads of the columns that are printed.

@@ -2,7 +2,8 @@
 
 use crate::facts::Facts;
 use msipkg_files::output::msi::{SummaryInfo, Timestamp};
-use msipkg_files::output::{Output, Style, TimeText};
+use msipkg_files::output::{Output, TimeText};
+use msipkg_texts::Style;
 use std::alloc::Global;
 
 /// Prints a line for each property of a file's summary that is there, or all of them as JSON on one line.

@@ -1,7 +1,8 @@
 //! `tables FILE`: the names of a package's tables, and how many rows they have.
 
 use msipkg_files::output::msi::{Error, Package, Select, Table};
-use msipkg_files::output::{Failure, Grid, Opened, Output, Style};
+use msipkg_files::output::{Failure, Opened, Output};
+use msipkg_texts::{Grid, Style};
 use std::alloc::Global;
 
 /// The heads of the columns that are printed.

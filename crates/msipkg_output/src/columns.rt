@@ -1,7 +1,7 @@
 //! Columns as texts and as JSON.
 
-use crate::json::JsonObject;
 use msi::{Column, ColumnType};
+use msipkg_texts::JsonObject;
 use std::fmt;
 
 /// A column's type, which prints as the installer writes it: a letter and a length, as `s72`, `i2` or `v0`. A small

@@ -1,10 +1,9 @@
 //! Why a command failed, and where, for people to read.
 
-use crate::escape::Shown;
-use crate::json::JsonObject;
 use crate::pages::Pages;
 use msi::{Error, ErrorKind, ParseError};
 use msi_recode::RecodeError;
+use msipkg_texts::{JsonObject, Shown};
 use std::alloc::{AllocError, AllocFailed, Global};
 use std::fmt::Display;
 use std::{fmt, io};

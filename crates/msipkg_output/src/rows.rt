@@ -1,13 +1,13 @@
 //! Rows in the formats in which they are printed one by one.
 
 use crate::failure::Failure;
-use crate::json::JsonRow;
-use crate::style::Style;
+use crate::json_rows::JsonRow;
 use crate::values::{STREAM, write_value};
 use csv::Writer;
 use msi::{Column, Row, Rows, Value};
 use msi_text_rows::write_csv_row;
 use msipkg_system::Output;
+use msipkg_texts::Style;
 use std::alloc::Global;
 
 /// How rows are printed one by one.

@@ -1,8 +1,8 @@
 //! The values of rows as they are printed: null as nothing, and a stream as `[stream]`.
 
-use crate::style::Style;
 use msi::Value;
 use msipkg_system::Output;
+use msipkg_texts::Style;
 
 /// What stands for a value of a stream: its bytes stand in a stream of the package.
 pub(crate) const STREAM: &str = "[stream]";

@@ -2,13 +2,10 @@
 
 use crate::escape::is_hidden;
 use crate::style::Style;
-use msi::Row;
-use msi_text_rows::{JsonWriter, write_json_object, write_json_row};
 use msipkg_system::Output;
 use serde_json::Value;
 use std::alloc::{AllocError, Global};
 use std::fmt::Display;
-use std::str;
 
 /// An object that is being written. Lists and objects in it are opened and closed in turn. Where memory is refused for
 /// a part of it, that is kept, and who takes the text or prints it gets that in its place.
@@ -134,21 +131,6 @@ impl JsonObject {
         Ok(self.text.as_str())
     }
 
-    /// Returns the text of the whole object.
-    ///
-    /// # Errors
-    /// Fails if memory is refused, or was for a part.
-    pub fn finish(mut self) -> Result<String, AllocError> {
-        self.push("}");
-        let JsonObject {
-            alloc: _,
-            text,
-            is_first: _,
-            is_cut,
-        } = self;
-        if is_cut { Err(AllocError) } else { Ok(text) }
-    }
-
     /// Writes the whole object as `write_text` does. Where memory was refused, the output gets that in its place.
     pub fn print(self, style: Style, output: &mut Output) {
         match self.begun() {
@@ -211,69 +193,6 @@ impl JsonObject {
     }
 }
 
-/// The JSON of a row. The rows of a query are written to the same memory, one after another.
-pub struct JsonRow {
-    bytes: Vec<u8>,
-}
-
-/// Written out, so that a function that owns one calls one drop, and its proof doesn't go through those of the parts.
-impl Drop for JsonRow {
-    fn drop(self) {
-        let JsonRow { bytes: _ } = self;
-    }
-}
-
-impl JsonRow {
-    /// Returns the memory for rows, in which none is yet.
-    pub fn new(alloc: Global) -> JsonRow {
-        JsonRow {
-            bytes: Vec::new(alloc),
-        }
-    }
-
-    /// Returns the JSON of a row as an object, in the place of what was there.
-    ///
-    /// # Errors
-    /// Fails if memory is refused.
-    pub fn object(self, row: &Row) -> Result<JsonRow, AllocError> {
-        let mut writer = self.emptied();
-        write_json_object(&mut writer, row)?;
-        Ok(JsonRow {
-            bytes: writer.into_inner(),
-        })
-    }
-
-    /// Returns the JSON of a row as a list, in the place of what was there.
-    ///
-    /// # Errors
-    /// Fails if memory is refused.
-    pub fn list(self, row: &Row) -> Result<JsonRow, AllocError> {
-        let mut writer = self.emptied();
-        write_json_row(&mut writer, row)?;
-        Ok(JsonRow {
-            bytes: writer.into_inner(),
-        })
-    }
-
-    /// Writes the JSON as `write_text` does.
-    pub fn print(&self, style: Style, output: &mut Output) {
-        let bytes = self.bytes.as_slice();
-        if !style.is_escaped {
-            output.push_bytes(bytes);
-        } else if let Ok(text) = str::from_utf8(bytes) {
-            // What a writer has written is a text.
-            write_escaped(text, output);
-        }
-    }
-
-    /// A writer to the same memory.
-    fn emptied(self) -> JsonWriter {
-        let JsonRow { mut bytes } = self;
-        bytes.clear();
-        JsonWriter::new(bytes)
-    }
-}
-
 /// Returns a text as a JSON string, with its quotes.
 ///
 /// # Errors
@@ -299,14 +218,8 @@ fn is_plain(style: Style, byte: u8) -> bool {
     byte >= 0x20 && byte != b'"' && byte != b'\\' && (byte < 0x7F || !style.is_escaped)
 }
 
-/// Writes JSON on a line. If the style escapes, characters that a terminal would obey or not show are written as
-/// `\uXXXX`, which JSON reads as the same text.
-pub fn write_line(style: Style, json: &str, output: &mut Output) {
-    write_text(style, json, output);
-    output.push_str("\n");
-}
-
-/// Writes JSON as `write_line` does, without the end of the line.
+/// Writes JSON. If the style escapes, characters that a terminal would obey or not show are written as `\uXXXX`, which
+/// JSON reads as the same text.
 pub fn write_text(style: Style, json: &str, output: &mut Output) {
     if style.is_escaped {
         write_escaped(json, output);
