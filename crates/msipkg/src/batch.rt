@@ -1,8 +1,8 @@
 //! `batch`: commands of a text, a line each.
 
 use crate::commands::run;
-use crate::lines::words_of;
 use msipkg_output::{Output, System};
+use msipkg_words::words_of;
 use std::io;
 
 /// Runs the commands of standard input, a line each, and prints each line before what it prints. A line has the words

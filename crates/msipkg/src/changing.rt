@@ -1,14 +1,15 @@
 //! The commands that change packages.
 
 use crate::commands::Asked;
-use crate::words::Verb;
 use msipkg_changes::{
-    add_streams, carry_out_statements, check_statements, import_files, kind_of, page_of,
-    remove_streams, set_pages, set_properties, store,
+    add_streams, import_files, kind_of, noted, page_of, remove_streams, set_pages, set_properties,
+    store,
 };
 use msipkg_files::{Purpose, new_package, open_package, write_file, written};
 use msipkg_output::msi::{CodePage, Package};
 use msipkg_output::{Failure, Opened, Output, System};
+use msipkg_statements::{carry_out_statements, check_statements};
+use msipkg_words::Verb;
 use std::alloc::Global;
 
 /// Whether a command changes a package, and prints nothing.
@@ -82,11 +83,19 @@ fn apply(rt: &System, asked: &Asked<'_, '_>, package: &mut Package<Opened>) -> R
     match asked.verb {
         Verb::Add => add_streams(rt, package, asked.texts("NAME=PATH")),
         Verb::Remove => remove_streams(rt.alloc(), package, asked.texts("NAME")),
-        Verb::Exec => carry_out_statements(rt.alloc(), package, asked.texts("TEXT")),
+        Verb::Exec => execute(rt.alloc(), package, asked.texts("TEXT")),
         Verb::Import => import_files(rt, package, asked.texts("PATH")),
         _ => {
             let (set, cleared) = (asked.texts("set"), asked.texts("clear"));
             set_properties(rt.alloc(), package, set, cleared)
         }
+    }
+}
+
+/// Carries out statements. Their failure has the note that counting anew mends it, if that is so.
+fn execute(alloc: Global, package: &mut Package<Opened>, texts: &[&str]) -> Result<(), Failure> {
+    match carry_out_statements(alloc, package, texts) {
+        Ok(()) => Ok(()),
+        Err(failure) => Err(noted(package, failure)),
     }
 }

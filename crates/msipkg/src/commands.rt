@@ -4,12 +4,12 @@ use crate::changing::{self, is_change};
 use crate::exchanging::{compare, is_each};
 use crate::looking::look;
 use crate::several::print_each;
-use crate::words::{self, Verb};
 use clap::ArgMatches;
 use clap::error::ErrorKind;
 use msipkg_files::{PackageFile, Purpose};
 use msipkg_output::{Failure, Output, System};
 use msipkg_texts::{Shown, Style};
+use msipkg_words::{Verb, matches_of, verb_named};
 
 /// Runs a command over its arguments. What it prints is written when this returns. Returns the exit status: 0 on
 /// success; 1 on an error, which is written to `errors`; 2 with a hint there, if the arguments match no command.
@@ -20,7 +20,7 @@ pub(crate) fn run(
     output: &mut Output,
     errors: &mut Output,
 ) -> u8 {
-    match words::matches_of(rt.alloc(), words) {
+    match matches_of(rt.alloc(), words) {
         Ok(matches) => run_matched(rt, &matches, is_terminal, output, errors),
         Err(error) => show_parse(&error, output, errors),
     }
@@ -78,7 +78,7 @@ fn failure_status(verb: Verb) -> u8 {
 /// The command that the words ask for.
 fn asked_of<'a, 'b>(matches: &'b ArgMatches<'a>, is_terminal: bool) -> Option<Asked<'a, 'b>> {
     let (name, given) = matches.subcommand()?;
-    let verb = words::verb_named(name)?;
+    let verb = verb_named(name)?;
     let style = Style {
         is_terminal,
         is_escaped: is_terminal || given.get_flag("escape"),

@@ -1,12 +1,12 @@
 //! The commands that exchange packages with other files, and that compare them.
 
 use crate::commands::Asked;
-use crate::words::Verb;
 use msipkg_diff::{Compared, print_differences};
 use msipkg_export::{FileFormat, Target, export, export_line};
 use msipkg_files::{Purpose, open_package, stored_streams};
 use msipkg_output::msi::Package;
 use msipkg_output::{Failure, Opened, Output, System};
+use msipkg_words::Verb;
 
 /// Whether packages are exported as a line each.
 pub(crate) fn is_each(asked: &Asked<'_, '_>) -> bool {

@@ -2,7 +2,6 @@
 
 use crate::commands::Asked;
 use crate::exchanging::export_asked;
-use crate::words::Verb;
 use msipkg_checks::print_check;
 use msipkg_files::{Folder, Purpose, open_package};
 use msipkg_looks::schema::Form;
@@ -12,6 +11,7 @@ use msipkg_looks::{
 };
 use msipkg_output::msi::Package;
 use msipkg_output::{Failure, Opened, Output, RowFormat, System};
+use msipkg_words::Verb;
 use std::alloc::Global;
 
 /// Carries out a command that looks at the package of a file, and returns whether all is well: nothing was found to be

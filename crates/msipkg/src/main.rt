@@ -5,10 +5,8 @@ mod batch;
 mod changing;
 mod commands;
 mod exchanging;
-mod lines;
 mod looking;
 mod several;
-mod words;
 
 use msipkg_output::{Output, System};
 use std::io::IsTerminal;

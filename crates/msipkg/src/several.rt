@@ -3,11 +3,11 @@
 use crate::commands::{Asked, report};
 use crate::exchanging::is_each;
 use crate::looking::look;
-use crate::words::Verb;
 use msipkg_changes::store;
 use msipkg_files::{Purpose, open_package};
 use msipkg_output::{Failure, Output, System, failure_json};
 use msipkg_texts::Shown;
+use msipkg_words::Verb;
 use std::alloc::Global;
 
 /// Prints each file, and returns whether all is well. As JSON each file gives one line, with its error as `error`.

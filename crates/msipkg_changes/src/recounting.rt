@@ -5,7 +5,7 @@ use msipkg_files::output::{Failure, Opened};
 
 /// Returns the failure of a change, with the note that counting the package anew mends it, if that is so. The package
 /// is counted anew then.
-pub(crate) fn noted(package: &mut Package<Opened>, failure: Failure) -> Failure {
+pub fn noted(package: &mut Package<Opened>, failure: Failure) -> Failure {
     if failure.is_invalid_data() && is_mended_by_counting(package) {
         failure.mended_by_counting()
     } else {

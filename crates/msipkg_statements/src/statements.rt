@@ -2,9 +2,8 @@
 
 use crate::applied::{apply_definition, apply_statement};
 use crate::definition::{definition_of, is_definition};
-use crate::recounting::noted;
-use msipkg_files::output::msi::{Package, Parse, Statement};
-use msipkg_files::output::{Failure, Opened};
+use msipkg_output::msi::{Package, Parse, Statement};
+use msipkg_output::{Failure, Opened};
 use std::alloc::Global;
 
 /// Fails if one of the texts is no statement: an insert, an update, a delete or a change of tables.
@@ -31,7 +30,7 @@ pub fn carry_out_statements(
 ) -> Result<(), Failure> {
     for text in texts {
         if let Err(failure) = apply_text(alloc, package, text) {
-            return Err(noted(package, failure.at(alloc, "statement", text)));
+            return Err(failure.at(alloc, "statement", text));
         }
     }
     Ok(())

@@ -7,7 +7,7 @@ use std::mem;
 ///
 /// # Errors
 /// Fails if memory is refused.
-pub(crate) fn words_of(alloc: Global, line: &str) -> Result<Vec<String>, AllocError> {
+pub fn words_of(alloc: Global, line: &str) -> Result<Vec<String>, AllocError> {
     let mut splitter = Splitter {
         alloc,
         words: Vec::new(alloc),

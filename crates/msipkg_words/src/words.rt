@@ -5,7 +5,7 @@ use std::alloc::{AllocError, Global};
 
 /// A command of the program.
 #[derive(Clone, Copy)]
-pub(crate) enum Verb {
+pub enum Verb {
     Info,
     Tables,
     Schema,
@@ -383,12 +383,12 @@ fn commands() -> &'static [Row] {
 ///
 /// # Errors
 /// Fails if they match no command, and where they ask for help or the version, with the text for the user.
-pub(crate) fn matches_of<'a>(alloc: Global, words: &'a [String]) -> Result<ArgMatches<'a>, Error> {
+pub fn matches_of<'a>(alloc: Global, words: &'a [String]) -> Result<ArgMatches<'a>, Error> {
     program(alloc)?.try_get_matches_from(words)
 }
 
 /// Returns the command of a name.
-pub(crate) fn verb_named(name: &str) -> Option<Verb> {
+pub fn verb_named(name: &str) -> Option<Verb> {
     for row in commands() {
         if row.name == name {
             return Some(row.verb);

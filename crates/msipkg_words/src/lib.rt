@@ -1,0 +1,8 @@
+//! The words of `msipkg`'s command line: its commands with their arguments, and the words of a line of a batch.
+#![tactic(auto)]
+
+pub mod lines;
+pub mod words;
+
+pub use lines::words_of;
+pub use words::{Verb, matches_of, verb_named};
