@@ -6,7 +6,6 @@ pub mod RangeRows
 pub mod KeyNameLemmas
 pub mod OpenLemmas
 pub mod ChangeLemmas
-pub mod SelectLemmas
 pub mod StreamCallLemmas
 pub mod StreamNameLemmas
 pub mod StreamRefusalLemmas

@@ -13,7 +13,8 @@ use Rattle.msi_table_values.specs.Columns.{ColumnDef}
 use Rattle.msi_table.specs.Tables.{TableDef}
 use Rattle.msi_text_base.specs.Refusals.{or_refused, ◌>>=◌}
 use Rattle.msi_table_values.specs.TableCells.{TableCells}
-use Rattle.msi_query_joins.specs.Rows.{RelationCells, whole_table}
+use Rattle.msi_table.specs.Rows.{TableRows, table_rows}
+use Rattle.msi_query_joins.specs.Rows.{RelationCells, cells_of, whole_table}
 use Rattle.msi_database_changes.specs.Database.{table_at, Tables}
 use Rattle.msi_database_storage.specs.Streams.{Streams, stored_rows}
 use Rattle.msi_database_storage.specs.Kept.{table_kept, table_kept_at, database_kept, AreAsLong}
@@ -48,18 +49,29 @@ whole_none pool tables streams name e =
     ap (λ (o : Option TableCells). or_refused NotFound o >>= λ t. or_refused InvalidData t.rows >>= λ rows. Ok (relation_at name t.columns rows))
     (table_at_kept pool tables streams name ∙ ap (option_map (λ t. (table_kept streams pool.long t).1)) e)
 
-pub whole_ok : (pool : Pool) (tables : List TableDef) (streams : Streams) (name : List ℕ) (t : TableDef) (rows : List (List ValueRef)) → AreAsLong pool.long tables → table_kept_at name tables ≡ Some t
-    → stored_rows streams t.long t.columns t.name ≡ Some rows
-    → whole_table (λ q. table_at q (database_kept pool tables streams)) name ≡ Ok (relation_at name t.columns rows)
-whole_ok pool tables streams name t rows all e is = whole_kept pool tables streams name t all e
-    ∙ ap (λ (o : Option (List (List ValueRef))). or_refused InvalidData o >>= λ rows. Ok (relation_at name t.columns rows)) is
+in_place : (name : List ℕ) (columns : List ColumnDef) (o : Option (List (List ValueRef))) (stored : TableRows) → option_map (table_rows columns) o ≡ Some stored
+    → (or_refused InvalidData o >>= λ rows. Ok (relation_at name columns rows)) ≡ Ok (cells_of name stored)
+in_place name columns None stored e = cc
+in_place name columns (Some rows) stored e = let same : table_rows columns rows ≡ stored = cc in ap (λ t. Ok (cells_of name t)) same
+
+not_in_place : (name : List ℕ) (columns : List ColumnDef) (o : Option (List (List ValueRef))) → option_map (table_rows columns) o ≡ None
+    → (or_refused InvalidData o >>= λ rows. Ok (relation_at name columns rows)) ≡ Err InvalidData
+not_in_place name columns None e = refl
+not_in_place name columns (Some rows) e = cc
+
+-- where its rows stand
+pub whole_in_place : (pool : Pool) (tables : List TableDef) (streams : Streams) (name : List ℕ) (t : TableDef) (stored : TableRows) → AreAsLong pool.long tables → table_kept_at name tables ≡ Some t
+    → option_map (table_rows t.columns) (stored_rows streams t.long t.columns t.name) ≡ Some stored
+    → whole_table (λ q. table_at q (database_kept pool tables streams)) name ≡ Ok (cells_of name stored)
+whole_in_place pool tables streams name t stored all e is =
+    whole_kept pool tables streams name t all e ∙ in_place name t.columns (stored_rows streams t.long t.columns t.name) stored is
 
 -- and one that can't be read is refused
 pub whole_refused : (pool : Pool) (tables : List TableDef) (streams : Streams) (name : List ℕ) (t : TableDef) → AreAsLong pool.long tables → table_kept_at name tables ≡ Some t
-    → stored_rows streams t.long t.columns t.name ≡ None
+    → option_map (table_rows t.columns) (stored_rows streams t.long t.columns t.name) ≡ None
     → whole_table (λ q. table_at q (database_kept pool tables streams)) name ≡ Err InvalidData
-whole_refused pool tables streams name t all e is = whole_kept pool tables streams name t all e
-    ∙ ap (λ (o : Option (List (List ValueRef))). or_refused InvalidData o >>= λ rows. Ok (relation_at name t.columns rows)) is
+whole_refused pool tables streams name t all e is =
+    whole_kept pool tables streams name t all e ∙ not_in_place name t.columns (stored_rows streams t.long t.columns t.name) is
 
 -- an error that is passed on
 pub kind_passed : {A : Type 0} (P : ErrorKind → Type 0) (r : Result A ErrorKind) (kind : ErrorKind) → IsErrAnd r (λ e. e ≡ kind) → P kind → IfErr r P
