@@ -1,7 +1,7 @@
 //! Rows under the names of their columns, aligned. They are gone over twice, for the widths of the columns and to be
 //! written, so that none of their texts is kept.
 
-use msipkg_files::output::msi::{Column, Row, Rows};
+use msipkg_files::output::msi::{Column, Row, Rows, Value};
 use msipkg_files::output::{Failure, Output, value_width, write_value};
 use msipkg_texts::{Style, Widths};
 use std::alloc::Global;
@@ -29,7 +29,15 @@ fn widen_by_names(style: Style, columns: &[Column], widths: &mut Widths) {
 /// Makes columns wide enough for the values of a row.
 fn widen_by_row(style: Style, row: &Row, widths: &mut Widths) {
     for place in 0..row.len() {
-        widths.widen(place, value_width(style, &row[place]));
+        widen_by_value(style, place, &row[place], widths);
+    }
+}
+
+/// Makes the column at a place wide enough for a value.
+fn widen_by_value(style: Style, place: usize, value: &Value, widths: &mut Widths) {
+    match value {
+        Value::Str(text) => widths.widen_by_text(place, style, text.as_str()),
+        _ => widths.widen(place, value_width(style, value)),
     }
 }
 
@@ -65,12 +73,14 @@ fn write_names(style: Style, widths: &Widths, columns: &[Column], output: &mut O
     output.push_str("\n");
 }
 
-/// Writes the values of a row.
+/// Writes the values of a row. The last one isn't filled up, so its width isn't asked for.
 fn write_row(style: Style, widths: &Widths, row: &Row, output: &mut Output) {
     for place in 0..row.len() {
         let value = &row[place];
         write_value(style, value, output);
-        widths.fill_up(place, value_width(style, value), output);
+        if place + 1 < row.len() {
+            widths.fill_up(place, value_width(style, value), output);
+        }
     }
     output.push_str("\n");
 }

@@ -1,5 +1,6 @@
 //! The values of rows as they are printed: null as nothing, and a stream as `[stream]`.
 
+use itoa::Buffer;
 use msi::Value;
 use msipkg_system::Output;
 use msipkg_texts::Style;
@@ -11,10 +12,16 @@ pub(crate) const STREAM: &str = "[stream]";
 pub fn write_value(style: Style, value: &Value, output: &mut Output) {
     match value {
         Value::Null => {}
-        Value::Int(number) => write!(output, "{number}"),
+        Value::Int(number) => write_number(*number, output),
         Value::Str(text) => style.print(text.as_str(), output),
         Value::Binary => output.push_str(STREAM),
     }
+}
+
+/// Writes a number.
+fn write_number(number: i32, output: &mut Output) {
+    let mut buffer = Buffer::new();
+    output.push_str(buffer.format(number));
 }
 
 /// Returns how many characters a value is written with.

@@ -1,5 +1,6 @@
 //! The widths of columns that are aligned with spaces.
 
+use crate::style::Style;
 use msipkg_system::Output;
 use std::alloc::{AllocError, Global};
 
@@ -42,6 +43,16 @@ impl Widths {
     pub fn widen(&mut self, column: usize, width: usize) {
         if let Some(widest) = self.columns.get_mut(column) {
             *widest = width.max(*widest);
+        }
+    }
+
+    /// Makes the column at a place wide enough for a text as the style prints it. Without escapes a text has no more
+    /// characters than bytes, so most needn't be counted.
+    pub fn widen_by_text(&mut self, column: usize, style: Style, text: &str) {
+        if let Some(widest) = self.columns.get_mut(column)
+            && (style.is_escaped || text.len() > *widest)
+        {
+            *widest = style.show(text).width().max(*widest);
         }
     }
 
