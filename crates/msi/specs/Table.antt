@@ -5,12 +5,15 @@ pub use Rattle.msi_table_order.specs.KeyOrder
 pub use Rattle.msi_table.specs.Tables
 pub use Rattle.msi_table.specs.Rows
 pub use Rattle.msi_table_order.specs.SortedRows
-pub use Rattle.msi_table.specs.Utf8Rows
+pub use Rattle.msi_table.specs.Utf8Tables
+pub use Rattle.msi_table_rows.specs.Row
 pub use Rattle.msi_table_values.specs.declared.column.ColumnType
 pub use Rattle.msi_table_values.specs.declared.value.Value
 pub use Rattle.msi_table_values.specs.declared.value.ValueRef
+pub use Rattle.msi_table_values.specs.declared.views.ValueView
 pub use Rattle.msi_table_values.specs.Refusals
 pub use Rattle.msi_table_values.specs.Values
+pub use Rattle.msi_table_values.specs.Views
 pub use Rattle.msi_table_values.specs.Columns
 pub use Rattle.msi_table_values.specs.ValidValues
 pub use Rattle.msi_table_values.specs.CellValues

@@ -29,7 +29,9 @@ pub use msi_query::{Delete, Expr, Insert, Select, Update};
 pub use msi_query_parse::{Expected, Parse, ParseError, Refused, Statement};
 pub use msi_streams::{StreamReader, StreamWriter, Streams};
 pub use msi_summary::{OperatingSystem, PropertySet, PropertyValue, SummaryInfo};
-pub use msi_table::{Column, ColumnBuilder, ColumnType, Row, Rows, Table, Value, ValueRef};
+pub use msi_table::{
+    Column, ColumnBuilder, ColumnType, Row, Rows, Table, Value, ValueRef, ValueView,
+};
 pub use msi_text::{
     Category, CodePage, Error, ErrorKind, IntoText, Items, LanguageId, StringPool,
     StringPoolBuilder, StringRef, Text, Timestamp,

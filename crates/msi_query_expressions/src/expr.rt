@@ -26,7 +26,7 @@ use equated::equated_places;
 use evaluation::operand_of;
 use folding::{fold_binary, fold_unary};
 pub use msi_query_operators::operators::{BinaryOp, UnaryOp};
-use msi_table::row::Row;
+use msi_table_rows::row::Row;
 use msi_table_values::column::Column;
 use msi_table_values::value::Value;
 use msi_text_base::errors::Error;

@@ -4,7 +4,6 @@ pub mod PiecesLemmas
 pub mod ReadBackLemmas
 pub mod PlacesLemmas
 pub mod ReadRowsLemmas
-pub mod ColumnLemmas
 pub mod CensusLemmas
 pub mod GivenLemmas
 pub mod LongRowsLemmas

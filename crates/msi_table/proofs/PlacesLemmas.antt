@@ -1,5 +1,5 @@
 -- Where the cells of a table stand, and that they stand inside.
-use Rattle.std.proofs.Common.{◌≡◌, ℕ, ◌+◌, ◌*◌, ◌<◌, ◌≤◌, Bool, List, [], ◌∷◌, ◌++◌, length, take, drop, sym, ap, ◌∙◌, arith, map, sum, Some}
+use Rattle.std.proofs.Common.{◌≡◌, ℕ, zero, suc, refl, ◌+◌, ◌*◌, ◌<◌, ◌≤◌, Bool, List, [], ◌∷◌, ◌++◌, length, take, drop, sym, ap, ◌∙◌, arith, map, sum, Some}
 use Rattle.std.specs.Prelude.{slice_index_or}
 use Rattle.std.proofs.lemmas.List as lists
 use Rattle.std.proofs.lemmas.List.FromFn.{map-range_with_len_more}
@@ -85,6 +85,12 @@ width_more long columns total j w type d l t is s =
 
 pub tabulated_push : {X : Type 0} (xs ys : List X) (n : ℕ) (f : ℕ → X) (x : X) → ys ≡ xs ++ x ∷ [] → xs ≡ tabulated n f → x ≡ f n → ys ≡ tabulated (n + 1) f
 tabulated_push xs ys n f x e s is = let m = tabulated_more n f in cc
+
+-- the widths of the first columns
+pub first_widths : (long : Bool) (columns : List ColumnDef) (j : ℕ) → widths long (types_of (take j columns)) ≡ take j (widths long (types_of columns))
+first_widths long columns zero = refl
+first_widths long [] (suc j) = refl
+first_widths long (c ∷ cs) (suc j) = ap (λ ws. width long c.coltype ∷ ws) (first_widths long cs j)
 
 -- what is read at the place of a cell is the cell
 pub cell_read : (long : Bool) (columns : List ColumnDef) (bytes : List ℕ) (start n i j w : ℕ) (type : ColumnType) (d : ColumnDef) (x : ValueRef) → n ≡ row_count long (types_of columns) bytes → j < length columns

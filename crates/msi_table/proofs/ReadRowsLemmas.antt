@@ -1,12 +1,12 @@
 -- Rows that are read are as wide as the columns, and fit them.
-use Rattle.std.proofs.Common.{◌≡◌, ℕ, zero, suc, ◌^◌, ◌<◌, ◌≤◌, Bool, true, false, List, [], ◌∷◌, length, take, drop, ◌∙◌, subst, arith, ⊎_elim}
+use Rattle.std.proofs.Common.{◌≡◌, ℕ, zero, suc, ◌^◌, ◌<◌, ◌≤◌, Bool, true, false, List, [], ◌∷◌, length, take, drop, ◌⊎◌, Some, None, ap, ◌∙◌, subst, arith, ⊎_elim}
 use Rattle.std.proofs.lemmas.Bool.{cases_Bool}
 use Rattle.std.proofs.lemmas.Bool.Decides.{nat_tests}
 use Rattle.std.proofs.lemmas.Int.{ints}
 use Rattle.std.proofs.lemmas.List as lists
-use Rattle.std.proofs.lemmas.Option.{cond_some, slice_get-get_or}
+use Rattle.std.proofs.lemmas.Option.{cond_some, slice_get-get_or, slice_get_past}
 use Rattle.std.specs.List.{AllByRecursion}
-use Rattle.std.specs.Prelude.{slice_index, slice_index_or, All, nat_le, ◌==◌, if◌then◌else◌}
+use Rattle.std.specs.Prelude.{slice_get, slice_index, slice_index_or, All, nat_le, ◌==◌, if◌then◌else◌}
 use Rattle.msi_text_base.specs.Lists.{numbers_from, tabulated}
 use Rattle.msi_text_base.proofs.ListLemmas.{all_mapped, length-numbers_from, tabulated_at}
 use Rattle.msi_text_pool_base.specs.References.{number_of}
@@ -16,7 +16,7 @@ use Rattle.msi_table_values.specs.declared.value.ValueRef.TheVariants as cell
 use Rattle.msi_table.specs.Cells.{width, row_count, cell_in, cell_of_number, cell_at, cell_place, row_in}
 use Rattle.msi_table_values.specs.Columns.{ColumnDef, types_of}
 use Rattle.msi_table_values.specs.Fitting.{FitsColumn, FitsRow, FitsTable}
-use Rattle.msi_table.specs.Rows.{AreAsWide}
+use Rattle.msi_table.specs.Rows.{AreAsWide, cell_in_row}
 use Rattle.msi_table.specs.Tables.{ReadRowsFit}
 use Rattle.msi_table_values.proofs.FittingLemmas.{fits_by_cells}
 use Rattle.msi_table_values.proofs.ColumnTypesLemmas.{length-types_of}
@@ -125,3 +125,20 @@ read_fits long columns bytes rows e =
         each_row = all_mapped (FitsRow long types) (row_in long types bytes) (row_fits long types bytes (bytes_from bytes h)) (numbers_from 0 count);
       }),
     )
+
+-- a cell of the rows that are read
+pub cell_found : (long : Bool) (columns : List ColumnDef) (bytes : List ℕ) (n i j : ℕ) → i < n → j < length columns
+    → cell_in_row j (slice_get (tabulated n (row_in long (types_of columns) bytes)) i) ≡ Some (cell_at long (types_of columns) bytes i j)
+cell_found long columns bytes n i j h l =
+    let types : List ColumnType = types_of columns in
+    ap (cell_in_row j) (tabulated_at (row_in long types bytes) n i h)
+    ∙ tabulated_at (cell_at long types bytes i) (length types) j (omega (arith, length-types_of columns, l))
+
+pub cell_missing : (long : Bool) (columns : List ColumnDef) (bytes : List ℕ) (n i j : ℕ) → (n ≤ i) ⊎ ((i < n) × (length columns ≤ j))
+    → cell_in_row j (slice_get (tabulated n (row_in long (types_of columns) bytes)) i) ≡ None
+cell_missing long columns bytes n i j =
+    let types : List ColumnType = types_of columns in
+    ⊎_elim
+    (λ le. ap (cell_in_row j) (slice_get_past (tabulated n (row_in long types bytes)) i (omega (arith, length-tabulated n (row_in long types bytes), le))))
+    (λ w. ap (cell_in_row j) (tabulated_at (row_in long types bytes) n i w.0)
+    ∙ slice_get_past (row_in long types bytes i) j (omega (arith, length-tabulated (length types) (cell_at long types bytes i), length-types_of columns, w.1)))

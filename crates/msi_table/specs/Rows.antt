@@ -1,6 +1,6 @@
 -- Rows as callers see them, and what an iterator over them gives.
 use Rattle.std.specs.Prelude.{◌≡◌, ℕ, ◌<◌, List, [], ◌∷◌, length, map, Option, Some, None, option_and_then, slice_get}
-use Rattle.std.specs.Prelude.{slice_index_or, unwrap_or}
+use Rattle.std.specs.Prelude.{option_map, slice_index_or, unwrap_or}
 use Rattle.std.specs.declared.result.Result.{Result}
 use Rattle.std.specs.declared.result.Result.TheVariants.{Ok, Err}
 use Rattle.std.specs.List.{AllByRecursion}
@@ -10,16 +10,9 @@ use Rattle.msi_text_pool_base.specs.Pool.{Place}
 use Rattle.msi_table_values.specs.declared.value.Value.{Value}
 use Rattle.msi_table_values.specs.declared.value.ValueRef.{ValueRef}
 use Rattle.msi_table_values.specs.declared.value.ValueRef.TheVariants as cell
-use Rattle.msi_table_values.specs.Columns.{ColumnDef, column_index}
-use Rattle.msi_table_values.specs.CellValues.{row_values}
-
-pub record RowDef : Type 0 where
-  pub columns : List ColumnDef
-  pub values : List Value
-
--- the value of a column by its name; a repeated name means the first
-abbrev pub value_named : List ℕ → RowDef → Option Value
-value_named name row = option_and_then (slice_get row.values) (column_index name row.columns)
+use Rattle.msi_table_values.specs.Columns.{ColumnDef}
+use Rattle.msi_table_values.specs.CellValues.{row_values, value_of_cell}
+use Rattle.msi_table_rows.specs.Row.{RowDef}
 
 -- the columns of a table, and its rows
 pub record TableRows : Type 0 where
@@ -35,6 +28,10 @@ cell_at row place = unwrap_or (option_and_then (slice_get row) place) cell.Null
 
 abbrev pub cells_at : List (Option ℕ) → List ValueRef → List ValueRef
 cells_at places row = map (cell_at row) places
+
+-- the cell of a row in a column, where there is such a row, and such a column
+abbrev pub cell_in_row : ℕ → Option (List ValueRef) → Option ValueRef
+cell_in_row column row = option_and_then (λ cells. slice_get cells column) row
 
 -- the cells of a row that are picked: those at places, or all
 abbrev pub cells_picked : Option (List (Option ℕ)) → List ValueRef → List ValueRef
@@ -59,6 +56,10 @@ pub record RowsDef : Type 0 where
   pub columns : List ColumnDef
   pub places : List Place
   pub rows : List (List ValueRef)
+
+-- the value in a column of the row that is given next, where one is left
+abbrev pub value_next : ℕ → RowsDef → Option Value
+value_next column rows = option_map (value_of_cell rows.places) (cell_in_row column (slice_get rows.rows 0))
 
 -- each row has a cell for each column
 abbrev pub AreAsWide : List ColumnDef → List (List ValueRef) → Type 0

@@ -2,13 +2,13 @@
 //! is handed.
 
 ghost use Rattle.msi_table.specs.Tables.{ReadRowsFit};
-ghost use Rattle.msi_table.specs.Utf8Rows.{IsUtf8Row, IsUtf8Table};
+ghost use Rattle.msi_table.specs.Utf8Tables.{IsUtf8Table};
 
-use crate::row::Row;
 use crate::table::Table;
 pub use msi_table_order::laws::{
     leading_numbers_ascend, rows_are_sorted_by_keys, stored_rows_are_sorted,
 };
+pub use msi_table_rows::laws::row_texts_are_utf8;
 pub use msi_table_values::laws::{
     cells_are_ordered, column_texts_are_utf8, listed_columns_are_utf8, listed_texts_are_utf8,
     listed_values_are_utf8, removing_keeps_values, stored_values_come_back, storing_keeps_values,
@@ -26,12 +26,4 @@ pub fn table_texts_are_utf8(table: &Table)
 {
     let _name = table.name();
     listed_columns_are_utf8(table.columns());
-}
-
-/// Each text of a row is UTF-8: its values, and those of its columns.
-pub fn row_texts_are_utf8(row: &Row)
-    ensures { IsUtf8Row row.now }
-{
-    listed_columns_are_utf8(row.columns());
-    listed_values_are_utf8(row.values());
 }

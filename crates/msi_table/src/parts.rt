@@ -1,20 +1,20 @@
 //! What the crates above need beyond the surface.
 
-ghost use Rattle.std.specs.Prelude.{◌≡◌, ◌<◌, ◌↔◌, IfOk, IsTrue, Some, is_some, length, option_copied, option_map};
+ghost use Rattle.std.specs.Prelude.{◌≡◌, ◌<◌, ◌↔◌, IfOk, IsTrue, Some, is_some, length, option_map};
 ghost use Rattle.std.specs.Prelude.{true};
 ghost use Rattle.msi_text_base.specs.Results.{OnlyMemory};
 ghost use Rattle.msi_text_base.specs.declared.errors.ErrorKind.TheVariants.{InvalidData};
 ghost use Rattle.msi_table_values.specs.Refusals.{FailsWith};
 ghost use Rattle.msi_table_values.specs.CellValues.{row_values};
-ghost use Rattle.msi_table_values.specs.Columns.{has_column as has_one, types_of};
+ghost use Rattle.msi_table_values.specs.Columns.{types_of};
 ghost use Rattle.msi_table.specs.Cells.{table_bytes};
 ghost use Rattle.msi_table.specs.Tables.{CanStore, long_table_of, rows_spelled, stored_bytes, table_of};
-ghost use Rattle.msi_table.specs.Rows.{AreAsWide, AreRowNumbers, rows_picked, table_rows, value_named as value_in_row};
+ghost use Rattle.msi_table.specs.Rows.{AreAsWide, AreRowNumbers, rows_picked, table_rows};
 ghost use Rattle.msi_table_order.specs.StoredOrder.{in_stored_order};
 
 pub use crate::census::Census;
 pub use crate::picked::{PickedRows, cell_of, projected_row};
-use crate::row::{Row, Rows, values_of};
+use crate::row::{Rows, values_of};
 pub use crate::stored::StoredRows;
 use crate::table::Table;
 use crate::{rows as reading, writing};
@@ -30,7 +30,6 @@ use msi_text_base::errors::Error;
 use msi_text_base::text::{Items, Text};
 use msi_text_pool::stringpool::StringPool;
 use std::alloc::Global;
-use std::rc::Rc;
 
 /// Returns a table of its parts, if its columns are at most 32767: their numbers are stored in 16 bits. References to
 /// texts take three bytes if they are long, and otherwise two.
@@ -129,23 +128,6 @@ pub fn values(alloc: Global, pool: &StringPool, cells: &[ValueRef]) -> Result<It
     values_of(alloc, pool, cells)
 }
 
-/// Returns the value of the column of a name in a row, unless the row has no such column; of a repeated name the
-/// first.
-pub fn value_named<'a>(row: &'a Row, name: &str) -> Option<&'a Value>
-    ensures value { option_copied result ≡ value_in_row name.now row.now }
-    ensures found { is_some result ≡ has_one name.now row.now.columns }
-{
-    row.value_named(name)
-}
-
-/// Returns a row of a value for each column.
-pub fn row(columns: Rc<Items<Column>>, values: Items<Value>) -> Row
-    requires { length values ≡ length columns.value }
-    ensures { result ≡ record { columns = columns.value; values = values } }
-{
-    Row::new(columns, values)
-}
-
 /// Returns rows that have a cell for each column, over the pool of their texts.
 ///
 /// # Errors
@@ -165,7 +147,8 @@ pub fn rows<'a>(
 }
 
 /// Returns rows that are picked of a table's stream, and have a cell for each column, over the pool of their texts.
-/// Each is decoded when it is asked for.
+/// Each is decoded when it is asked for. The numbers that are picked have to be below that of the table's rows, and the
+/// columns as many as the places, or without places as the table's.
 ///
 /// # Errors
 /// Fails with `OutOfMemory`.

@@ -2,7 +2,7 @@
 
 ghost use Rattle.std.specs.Prelude.{◌≡◌, ◌<◌, IfOk, Some, length, slice_get, slice_index_or, [], option_map};
 ghost use Rattle.msi_text_base.specs.Results.{OnlyMemory};
-ghost use Rattle.msi_table.specs.Rows.{AreRowNumbers, cell_at, cells_at, rows_numbered, rows_picked};
+ghost use Rattle.msi_table.specs.Rows.{AreRowNumbers, cell_at, cell_in_row, cells_at, rows_numbered, rows_picked};
 
 use crate::stored::StoredRows;
 use msi_table_values::value::ValueRef;
@@ -43,6 +43,24 @@ impl<'a> PickedRows<'a> {
         match &self.numbers {
             Some(numbers) => numbers.as_slice()[at] as usize,
             None => at,
+        }
+    }
+
+    /// The cell that is picked of the row at a place, for a column. There is none past the last column.
+    pub(crate) fn cell(&self, at: usize, column: usize) -> Option<ValueRef>
+        requires inside { at < length (rows_picked self.now.numbers self.now.places self.now.stored.rows) }
+        requires numbers { AreRowNumbers (length self.now.stored.rows) self.now.numbers }
+        ensures { result ≡ cell_in_row column
+            (slice_get (rows_picked self.now.numbers self.now.places self.now.stored.rows) at) }
+    {
+        let row = self.number(at);
+        match &self.places {
+            Some(places) => match places.as_slice().get(column) {
+                Some(Some(place)) => Some(self.stored.cell(row, *place).unwrap_or(ValueRef::Null)),
+                Some(None) => Some(ValueRef::Null),
+                None => None,
+            },
+            None => self.stored.cell(row, column),
         }
     }
 

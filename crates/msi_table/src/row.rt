@@ -1,167 +1,26 @@
 //! Rows with their values.
 
-ghost use Rattle.std.specs.Prelude.{◌≡◌, ◌<◌, ◌==◌, IsTrue, IfOk, Some, is_some, length, slice_get, option_copied};
+ghost use Rattle.std.specs.Prelude.{◌≡◌, ◌<◌, IfOk, drop, length, option_map, slice_get};
 ghost use Rattle.std.specs.Iterator.{at_most};
 ghost use Rattle.msi_text_base.specs.Results.{OnlyMemory};
-ghost use Rattle.msi_table_values.specs.Columns.{has_column as has_one};
-ghost use Rattle.msi_table.specs.Rows.{AreAsWide, AreRowNumbers, GivesRow, IsRowAt, rows_picked, value_named};
+ghost use Rattle.msi_table.specs.Rows.{AreAsWide, AreRowNumbers, GivesRow, IsRowAt, cell_in_row, rows_picked};
+ghost use Rattle.msi_table.specs.Rows.{value_next};
 ghost use Rattle.msi_table.specs.Sources.{HasRowNumbers, rows_of_source};
 ghost use Rattle.msi_table_values.specs.CellValues.{row_values};
+ghost use Rattle.msi_table_values.specs.Views.{seen_value};
 
 use crate::picked::PickedRows;
+use msi_table_rows::parts::row;
+use msi_table_rows::row::Row;
 use msi_table_values::column::Column;
-use msi_table_values::parts::{column_index, has_column};
+use msi_table_values::parts::ValueView;
 use msi_table_values::value::{Value, ValueRef};
 use msi_text_base::errors::Error;
 use msi_text_base::text::Items;
 use msi_text_pool::stringpool::StringPool;
 use std::alloc::Global;
 use std::marker::Model;
-use std::ops::Index;
 use std::rc::Rc;
-
-/// A row: a value for each column.
-pub struct Row {
-    columns: Rc<Items<Column>>,
-    values: Items<Value>,
-}
-
-/// Written out, so that a function that owns one calls one drop, and its proof doesn't go through those of the parts.
-impl Drop for Row {
-    fn drop(self) {
-        let Row {
-            columns: _,
-            values: _,
-        } = self;
-    }
-}
-
-impl Model for Row {
-    ghost use Rattle.std.specs.Prelude.{◌≡◌, length};
-    ghost use Rattle.msi_table.specs.Rows.{RowDef};
-
-    ghost Value = { RowDef };
-
-    ghost view = { λ r. record { columns = r.columns.value; values = r.values } };
-
-    ghost invariant = { λ r. length r.values ≡ length r.columns.value };
-}
-
-impl Row {
-    /// A row of a value for each column.
-    pub(crate) fn new(columns: Rc<Items<Column>>, values: Items<Value>) -> Row
-        requires { length values ≡ length columns.value }
-        ensures { result ≡ record { columns = columns.value; values = values } }
-    {
-        Row { columns, values }
-    }
-
-    /// Returns how many values the row has.
-    pub fn len(&self) -> usize
-        ensures { result ≡ length self.now.values }
-    {
-        self.values.as_slice().len()
-    }
-
-    /// Returns whether the row has no value.
-    pub fn is_empty(&self) -> bool
-        ensures { result ≡ (length self.now.values == 0) }
-    {
-        self.len() == 0
-    }
-
-    /// Returns the columns of the row's values.
-    pub fn columns(&self) -> &[Column]
-        ensures columns { result.now ≡ self.now.columns }
-        ensures len { length self.now.columns ≡ length self.now.values }
-    {
-        self.columns.as_slice()
-    }
-
-    /// The row's values, in order.
-    pub(crate) fn values(&self) -> &[Value]
-        ensures { result.now ≡ self.now.values }
-    {
-        self.values.as_slice()
-    }
-
-    /// Returns a copy of the row.
-    ///
-    /// # Errors
-    /// Fails with `OutOfMemory`.
-    pub fn clone(&self, alloc: Global) -> Result<Row, Error>
-        ensures ok { IfOk result (λ row. row ≡ self.now) }
-        ensures kind { OnlyMemory result }
-    {
-        let values = copied_values(alloc, self.values.as_slice())?;
-        Ok(Row {
-            columns: self.columns.clone()?,
-            values,
-        })
-    }
-
-    /// Returns whether the row has a column of this name.
-    pub fn has_column(&self, name: &str) -> bool
-        ensures { result ≡ has_one name.now self.now.columns }
-    {
-        has_column(self.columns(), name)
-    }
-
-    /// The value of the column of a name, where it has one; of a repeated name the first.
-    pub(crate) fn value_named(&self, name: &str) -> Option<&Value>
-        ensures value { option_copied result ≡ value_named name.now self.now }
-        ensures found { is_some result ≡ has_one name.now self.now.columns }
-    {
-        match column_index(self.columns.as_slice(), name) {
-            Some(index) => self.values.as_slice().get(index),
-            None => None,
-        }
-    }
-}
-
-/// The value of the column at a place, from 0 on, which has to be below `len`.
-impl Index<usize> for Row {
-    type Output = Value;
-
-    ghost can_index = { λ row index. index < length row.values };
-
-    ghost index_gives = { λ row index value. slice_get row.values index ≡ Some value };
-
-    fn index(&self, index: usize) -> &Value {
-        &self.values.as_slice()[index]
-    }
-}
-
-/// The value of the column of a name, which has to be there (`has_column`); of a repeated name the first.
-impl<'a> Index<&'a str> for Row {
-    type Output = Value;
-
-    ghost can_index = { λ row name. IsTrue (has_one name.now row.columns) };
-
-    ghost index_gives = { λ row name value. value_named name.now row ≡ Some value };
-
-    fn index(&self, name: &'a str) -> &Value {
-        match self.value_named(name) {
-            Some(value) => value,
-            None => unreachable!(),
-        }
-    }
-}
-
-/// The values once more, in order.
-///
-/// # Errors
-/// `OutOfMemory`.
-fn copied_values(alloc: Global, values: &[Value]) -> Result<Items<Value>, Error>
-    ensures ok { IfOk result (λ copies. copies ≡ values.now) }
-    ensures kind { OnlyMemory result }
-{
-    let mut copies = Vec::new(alloc);
-    for value in values {
-        copies.push(value.clone(alloc)?)?;
-    }
-    Ok(Items::from_vec(copies))
-}
 
 /// The values of a row's cells.
 ///
@@ -175,7 +34,7 @@ pub(crate) fn values_of(
     ensures ok { IfOk result (λ values. values ≡ row_values pool.now.places cells.now) }
     ensures kind { OnlyMemory result }
 {
-    let mut values = Vec::new(alloc);
+    let mut values = Vec::with_capacity(alloc, cells.len())?;
     for cell in cells {
         values.push(cell.to_value(alloc, pool)?)?;
     }
@@ -198,7 +57,7 @@ fn row_of(
     ensures kind { OnlyMemory result }
 {
     let values = values_of(alloc, pool, cells)?;
-    Ok(Row::new(columns.clone()?, values))
+    Ok(row(columns.clone()?, values))
 }
 
 /// Where rows come from.
@@ -218,6 +77,18 @@ impl<'a> Source<'a> {
         match self {
             Source::Made(rows) => rows.len(),
             Source::Stored(picked) => picked.len(),
+        }
+    }
+
+    /// The cell of the row at a place, for a column. There is none past the last column.
+    fn cell(&self, at: usize, column: usize) -> Option<ValueRef>
+        requires numbers { HasRowNumbers self.now }
+        requires inside { at < length (rows_of_source self.now) }
+        ensures { result ≡ cell_in_row column (slice_get (rows_of_source self.now) at) }
+    {
+        match self {
+            Source::Made(rows) => rows[at].as_slice().get(column).copied(),
+            Source::Stored(picked) => picked.cell(at, column),
         }
     }
 
@@ -365,6 +236,28 @@ impl<'a> Rows<'a> {
         ensures { result ≡ length self.now.rows }
     {
         self.source.len().saturating_sub(self.given)
+    }
+
+    /// Returns the value of the next row in a column, counted from 0, without taking the row. Its text is borrowed
+    /// from where it lies, so this takes no memory. There is none if no row is left, or no column has the number.
+    pub fn peek(&self, column: usize) -> Option<ValueView<'_>>
+        ensures { option_map seen_value result ≡ value_next column self.now }
+    {
+        if self.given < self.source.len()
+            && let Some(cell) = self.source.cell(self.given, column)
+        {
+            return Some(ValueView::of_cell(self.pool, cell));
+        }
+        None
+    }
+
+    /// Passes over the next row, if one is left. It takes no memory.
+    pub fn pass(&mut self)
+        ensures { self.new ≡ record self.old { rows = drop 1 self.old.rows } }
+    {
+        if self.given < self.source.len() {
+            self.given += 1;
+        }
     }
 }
 

@@ -4,7 +4,7 @@ ghost use Rattle.std.specs.Prelude.{◌≡◌, ◌<◌, ◌≤◌, is_some, leng
 ghost use Rattle.msi_text_base.specs.Lists.{tabulated};
 ghost use Rattle.msi_text_base.specs.Results.{OnlyMemory};
 ghost use Rattle.msi_text_base.specs.declared.errors.ErrorKind.TheVariants.{InvalidData};
-ghost use Rattle.msi_table.specs.Cells.{widths, row_count as count_of, row_in, rows_in};
+ghost use Rattle.msi_table.specs.Cells.{cell_at, widths, row_count as count_of, row_in, rows_in};
 ghost use Rattle.msi_table.specs.Tables.{most_columns};
 ghost use Rattle.msi_table_values.specs.Columns.{types_of};
 ghost use Rattle.msi_table_values.specs.Refusals.{FailsWith};
@@ -48,6 +48,26 @@ pub(crate) fn are_rows(long: bool, columns: &[Column], bytes: &[u8]) -> bool
     ensures { result ≡ is_some (rows_in long (types_of columns.now) bytes.now) }
 {
     row_count(long, columns, bytes) <= MAX_ROWS
+}
+
+/// The cell of one row of so many, and of a column.
+pub(crate) fn read_one(
+    long: bool,
+    columns: &[Column],
+    bytes: &[u8],
+    count: usize,
+    i: usize,
+    j: usize,
+) -> ValueRef
+    requires many { length columns.now ≤ most_columns }
+    requires count { count ≡ count_of long (types_of columns.now) bytes.now }
+    requires row { i < count }
+    requires column { j < length columns.now }
+    ensures { result ≡ cell_at long (types_of columns.now) bytes.now i j }
+{
+    let coltype = columns[j].coltype();
+    let start = count * row_width(long, &columns[..j]);
+    read_cell(long, coltype, bytes, start + i * width(long, coltype))
 }
 
 /// One row of so many.

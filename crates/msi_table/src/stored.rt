@@ -2,10 +2,10 @@
 
 ghost use Rattle.std.specs.Prelude.{◌≡◌, ◌<◌, ◌≤◌, IfOk, Some, length, option_map, slice_get};
 ghost use Rattle.msi_text_base.specs.Results.{OnlyMemory};
-ghost use Rattle.msi_table.specs.Rows.{AreAsWide, table_rows};
+ghost use Rattle.msi_table.specs.Rows.{AreAsWide, cell_in_row, table_rows};
 ghost use Rattle.msi_table.specs.Tables.{rows_spelled};
 
-use crate::rows::{read_all, read_row, row_count};
+use crate::rows::{read_all, read_one, read_row, row_count};
 use crate::table::Table;
 use msi_table_values::column::Column;
 use msi_table_values::parts::MAX_ROWS;
@@ -73,7 +73,26 @@ impl<'a> StoredRows<'a> {
         self.count
     }
 
-    /// Returns the cells of a row, counted from 0: one for each column.
+    /// Returns a cell: that of a row and a column, both counted from 0. There is none past the last row or column.
+    pub(crate) fn cell(&self, row: usize, column: usize) -> Option<ValueRef>
+        ensures { result ≡ cell_in_row column (slice_get self.now.rows row) }
+    {
+        let columns = self.table.columns();
+        if row >= self.count || column >= columns.len() {
+            return None;
+        }
+        Some(read_one(
+            self.table.is_long(),
+            columns,
+            self.bytes,
+            self.count,
+            row,
+            column,
+        ))
+    }
+
+    /// Returns the cells of a row, one for each column. Its number, counted from 0, has to be below that of the rows
+    /// (`len`).
     ///
     /// # Errors
     /// Fails with `OutOfMemory`.

@@ -3,7 +3,7 @@
 
 use msi::{
     Column, Delete, Error, ErrorKind, Expr, Insert, LanguageId, Memory, Package, PackageType, Row,
-    Select, Update, Value,
+    Select, Update, Value, ValueView,
 };
 use std::alloc::Global;
 use std::io::{self, Read, Write};
@@ -28,6 +28,7 @@ fn change_package(rt: &HostRuntime, package: &mut Package<Memory>) -> Result<(),
     insert_rows(rt, package)?;
     change_rows(rt, package)?;
     select_rows(rt, package)?;
+    look_at_names(rt, package)?;
     join_tables(rt, package)?;
     put_and_take_stream(rt, package)?;
     set_summary(rt, package)
@@ -135,6 +136,20 @@ fn select_rows(rt: &HostRuntime, package: &Package<Memory>) -> Result<(), Error>
     for row in package.select_rows(low_levels(rt.alloc())?)? {
         print_title(rt, &row?)?;
     }
+    Ok(())
+}
+
+/// Prints how many bytes the longest name of a feature has.
+fn look_at_names(rt: &HostRuntime, package: &Package<Memory>) -> Result<(), Error> {
+    let mut longest = 0;
+    let mut rows = package.select_rows(Select::table(rt.alloc(), "Feature")?)?;
+    for _ in 0..rows.len() {
+        if let Some(ValueView::Str(name)) = rows.peek(0) {
+            longest = name.len().max(longest);
+        }
+        rows.pass();
+    }
+    println!(rt; "longest name: {longest} bytes")?;
     Ok(())
 }
 

@@ -1,10 +1,9 @@
 //! Tests that no transcript of `crates/transcripts` can express: of devices, string pools and property sets of no
 //! package, the examples of the README, the code of the guide, packages in files, and lists of calls. The program
-//! `transcripts` runs them, and takes from here a device that counts its calls.
+//! `transcripts` runs them.
 #![tactic(auto)]
 
 mod calls;
-pub mod counting;
 mod devices;
 mod files;
 mod guide;

@@ -9,7 +9,7 @@ ghost use Rattle.msi_text_rows.specs.CsvRows.{csv_line, value_field};
 
 use csv::{Error, Writer};
 use itoa::Buffer;
-use msi_table::row::Row;
+use msi_table_rows::row::Row;
 use msi_table_values::value::Value;
 use std::io::Write;
 

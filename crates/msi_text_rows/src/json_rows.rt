@@ -6,7 +6,7 @@ ghost use Rattle.json.specs.Written.{WritesFront};
 ghost use Rattle.msi_text_rows.specs.JsonRows.{names_of, object_json, row_json, value_json};
 
 use json::Writer;
-use msi_table::row::Row;
+use msi_table_rows::row::Row;
 use msi_table_values::value::Value;
 use std::alloc::AllocError;
 

@@ -1,8 +1,8 @@
 //! Calls with a statement, which the library reads.
 
+use crate::counting::Counting;
 use crate::session::Session;
 use msi::{Error, Expr, Package, Parse, Rows, Statement};
-use msi_tests::counting::Counting;
 use std::alloc::Global;
 use transcripts_values::parsing::print_refusal;
 use transcripts_values::rows::{print_names, print_rows, print_values, print_worths};

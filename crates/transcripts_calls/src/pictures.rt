@@ -1,8 +1,8 @@
 //! All that a package answers, as bytes to compare.
 
+use crate::counting::Counting;
 use crate::session::Session;
 use msi::{Package, Select, Streams, Table};
-use msi_tests::counting::Counting;
 use std::alloc::Global;
 use std::io::Read;
 use transcripts_values::rows::print_rows;

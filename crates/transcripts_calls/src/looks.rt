@@ -1,8 +1,8 @@
 //! Calls that look at a package.
 
+use crate::counting::Counting;
 use crate::summary;
 use msi::{Error, Package, Streams};
-use msi_tests::counting::Counting;
 use std::io::Read;
 use transcripts_values::columns::print_columns;
 use transcripts_words::answers::Answer;

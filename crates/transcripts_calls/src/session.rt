@@ -1,7 +1,7 @@
 //! What the calls of a transcript work on.
 
+use crate::counting::Counting;
 use msi::{Memory, Package};
-use msi_tests::counting::Counting;
 use std::alloc::Global;
 use std::{io, mem};
 use transcripts_words::failure::Failure;

@@ -1,8 +1,8 @@
 //! Calls that change a package.
 
+use crate::counting::Counting;
 use crate::summary;
 use msi::{Error, Insert, Package};
-use msi_tests::counting::Counting;
 use transcripts_values::columns::columns;
 use transcripts_values::texts::codepage;
 use transcripts_values::values::rows;

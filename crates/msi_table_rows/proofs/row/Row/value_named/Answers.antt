@@ -1,9 +1,9 @@
 use Rattle.std.proofs.Common.{◌≡◌, sym, ap, ◌∙◌, length}
 use Rattle.std.specs.Prelude.{is_some}
 use Rattle.msi_table_values.specs.Columns.{column_index}
-use Rattle.msi_table.specs.Rows.{RowDef}
-use Rattle.msi_table.proofs.ColumnLemmas.{column_found, value_inside}
-use Rattle.msi_table.proofs.row.Row.value_named.Goals as goal
+use Rattle.msi_table_rows.specs.Row.{RowDef}
+use Rattle.msi_table_rows.proofs.ColumnLemmas.{column_found, value_inside}
+use Rattle.msi_table_rows.proofs.row.Row.value_named.Goals as goal
 
 pub returns-in-Some-clause-found : goal.returns-in-Some-clause-found
 returns-in-Some-clause-found c =

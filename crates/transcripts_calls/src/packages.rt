@@ -1,8 +1,8 @@
 //! Calls that make a package, open one, write it or take it apart.
 
+use crate::counting::Counting;
 use crate::session::Session;
 use msi::{Error, Package, PackageType};
-use msi_tests::counting::Counting;
 use transcripts_words::failure::Failure;
 use transcripts_words::kept::pieces;
 use transcripts_words::words::Words;
