@@ -1,10 +1,9 @@
-//! Texts of places as they were read, one behind the other: 16 bytes a place say where its text ends.
+//! Texts of places as they were read, one behind the other: 12 bytes a place say where its text ends, and its count.
 
-ghost use Rattle.std.specs.Prelude.{◌≡◌, ◌≤◌, ◌<◌, ◌∷◌, ◌++◌, [], IfOk, OnOk, Some, length, take, not};
-ghost use Rattle.std.specs.Prelude.{slice_get, vec_len, ◌==◌, ◌&&◌, ◌||◌};
-ghost use Rattle.std.specs.Rc.{rc_str_bytes};
+ghost use Rattle.std.specs.Prelude.{◌≡◌, ◌≤◌, ◌<◌, ◌∷◌, ◌++◌, [], IfOk, OnOk, Some, length, not};
+ghost use Rattle.std.specs.Prelude.{slice_get, ◌==◌, ◌&&◌, ◌||◌};
 ghost use Rattle.msi_text_base.specs.Results.{OnlyMemory};
-ghost use Rattle.msi_text_places.specs.JoinedTexts.{IsCut, IsJoined, end_of, place_cut, places_joined};
+ghost use Rattle.msi_text_places.specs.JoinedTexts.{IsJoined, IsPlaceAt, places_joined};
 ghost use Rattle.msi_text_pool_base.specs.Pool.{without_unnamed_texts};
 ghost use Rattle.msi_text_pool_base.specs.Recounting.{AreCounts, many_recounted, with_counts};
 
@@ -15,62 +14,41 @@ use msi_text_base::errors::Error;
 use std::alloc::Global;
 use std::rc::RcStr;
 
-/// Where the text of a place ends, how many cells name the place, and whether it lost its text, which then still
-/// stands among the others.
+/// How many cells name a place, and whether it lost its text, which then still stands among the others.
 #[derive(Clone, Copy)]
-pub(crate) struct Cut {
-    end: usize,
-    count: u16,
+pub(crate) struct Count {
+    cells: u16,
     is_forgotten: bool,
 }
 
-impl Cut {
-    /// The place whose text begins where that of the place before it ends.
-    fn place(&self, whole: &RcStr, start: usize) -> Result<Place, Error>
-        requires { IsCut (rc_str_bytes whole.now) start self.now }
-        ensures ok { IfOk result (λ place. place ≡ place_cut (rc_str_bytes whole.now) start self.now) }
-        ensures kind { OnlyMemory result }
-    {
-        let end = if self.is_forgotten { start } else { self.end };
-        let piece = Piece::new(whole.clone()?, start, end);
-        Ok(Place::new(SharedText::from_piece(piece), self.count))
-    }
-
-    /// The same place, borrowed from where its text lies.
-    fn place_in<'a>(&self, whole: &'a str, start: usize) -> PlaceRef<'a>
-        requires { IsCut whole.now start self.now }
-        ensures { result ≡ place_cut whole.now start self.now }
-    {
-        let end = if self.is_forgotten { start } else { self.end };
-        PlaceRef::new(&whole[start..end], self.count)
-    }
-
+impl Count {
     /// Sets the count, and returns whether there was another one. Without cells the text is lost.
-    fn set_count(&mut self, count: u16) -> bool
-        ensures cut { self.new
-            ≡ record self.old { count = count; is_forgotten = (count == 0) || self.old.is_forgotten } }
-        ensures changed { result ≡ not (count == self.old.count) }
+    fn set_count(&mut self, cells: u16) -> bool
+        ensures count { self.new
+            ≡ record self.old { cells = cells; is_forgotten = (cells == 0) || self.old.is_forgotten } }
+        ensures changed { result ≡ not (cells == self.old.cells) }
     {
-        let is_changed = count != self.count;
-        self.is_forgotten = count == 0 || self.is_forgotten;
-        self.count = count;
+        let is_changed = cells != self.cells;
+        self.is_forgotten = cells == 0 || self.is_forgotten;
+        self.cells = cells;
         is_changed
     }
 
     /// The text of a free place is lost unless the place is named.
     fn forget_text(&mut self, named: bool)
         ensures { self.new
-            ≡ record self.old { is_forgotten = ((self.old.count == 0) && not named) || self.old.is_forgotten } }
+            ≡ record self.old { is_forgotten = ((self.old.cells == 0) && not named) || self.old.is_forgotten } }
     {
-        self.is_forgotten = (self.count == 0 && !named) || self.is_forgotten;
+        self.is_forgotten = (self.cells == 0 && !named) || self.is_forgotten;
     }
 }
 
-/// The texts of places, one behind the other, and where each ends.
+/// The texts of places, one behind the other, where each ends, and its count: two vectors, which need no padding.
 #[derive(Drop)]
 pub struct JoinedTexts {
     whole: String,
-    cuts: Vec<Cut>,
+    ends: Vec<usize>,
+    counts: Vec<Count>,
 }
 
 impl JoinedTexts {
@@ -81,7 +59,8 @@ impl JoinedTexts {
     {
         JoinedTexts {
             whole: String::new(alloc),
-            cuts: Vec::new(alloc),
+            ends: Vec::new(alloc),
+            counts: Vec::new(alloc),
         }
     }
 
@@ -93,7 +72,8 @@ impl JoinedTexts {
     {
         Ok(JoinedTexts {
             whole: String::with_capacity(alloc, bytes)?,
-            cuts: Vec::with_capacity(alloc, places)?,
+            ends: Vec::with_capacity(alloc, places)?,
+            counts: Vec::with_capacity(alloc, places)?,
         })
     }
 
@@ -106,10 +86,9 @@ impl JoinedTexts {
         ensures kind { OnlyMemory result }
     {
         self.whole.push_str(text)?;
-        let end = self.whole.as_str().len();
-        self.cuts.push(Cut {
-            end,
-            count,
+        self.ends.push(self.whole.as_str().len())?;
+        self.counts.push(Count {
+            cells: count,
             is_forgotten: false,
         })?;
         Ok(())
@@ -124,20 +103,21 @@ impl JoinedTexts {
     {
         Ok(JoinedTexts {
             whole: self.whole.clone()?,
-            cuts: self.cuts.clone()?,
+            ends: self.ends.clone()?,
+            counts: self.counts.clone()?,
         })
     }
 
     /// The allocator that the texts keep.
     pub(crate) fn allocator(&self) -> Global {
-        *self.cuts.allocator()
+        *self.counts.allocator()
     }
 
     /// How many places there are.
     pub(crate) fn len(&self) -> usize
         ensures { result ≡ length (places_joined self.now) }
     {
-        self.cuts.len()
+        self.counts.len()
     }
 
     /// A place, counted from 0.
@@ -146,15 +126,22 @@ impl JoinedTexts {
         requires place { at < length (places_joined self.now) }
         ensures { slice_get (places_joined self.now) at ≡ Some result }
     {
-        self.cuts[at].place_in(self.whole.as_str(), self.start(at))
+        let (start, end, count) = self.piece(at);
+        PlaceRef::new(&self.whole.as_str()[start..end], count)
     }
 
-    /// Where the text of a place begins: where that of the place before it ends.
-    fn start(&self, at: usize) -> usize
-        requires { at < vec_len self.now.cuts }
-        ensures { result ≡ end_of 0 (take at self.now.cuts.items) }
+    /// Where the text of a place begins and ends, and how many cells name the place. A forgotten text is empty.
+    fn piece(&self, at: usize) -> (usize, usize, u16)
+        requires joined { IsJoined self.now }
+        requires place { at < length (places_joined self.now) }
+        ensures { IsPlaceAt self.now at result.0 result.1 result.2 }
     {
-        if at == 0 { 0 } else { self.cuts[at - 1].end }
+        let start = if at == 0 { 0 } else { self.ends[at - 1] };
+        let count = self.counts[at];
+        if count.is_forgotten {
+            return (start, start, count.cells);
+        }
+        (start, self.ends[at], count.cells)
     }
 
     /// Sets the count of each place, and returns how many got another one. A place without cells loses its text.
@@ -169,7 +156,7 @@ impl JoinedTexts {
     {
         let mut changed = 0;
         for (i, count) in counts.iter().enumerate() {
-            if self.cuts[i].set_count(*count as u16) {
+            if self.counts[i].set_count(*count as u16) {
                 changed += 1;
             }
         }
@@ -184,7 +171,7 @@ impl JoinedTexts {
         ensures places { places_joined self.new ≡ without_unnamed_texts is_named.now (places_joined self.old) }
     {
         for (i, named) in is_named.iter().enumerate() {
-            self.cuts[i].forget_text(*named);
+            self.counts[i].forget_text(*named);
         }
     }
 
@@ -195,9 +182,11 @@ impl JoinedTexts {
         ensures kind { OnlyMemory result }
     {
         let whole = RcStr::from_string(self.whole.clone()?)?;
-        let mut places = Vec::with_capacity(self.allocator(), self.cuts.len())?;
-        for at in 0..self.cuts.len() {
-            places.push(self.cuts[at].place(&whole, self.start(at))?)?;
+        let mut places = Vec::with_capacity(self.allocator(), self.len())?;
+        for at in 0..self.len() {
+            let (start, end, count) = self.piece(at);
+            let text = SharedText::from_piece(Piece::new(whole.clone()?, start, end));
+            places.push(Place::new(text, count))?;
         }
         Ok(Places::from_vec(places))
     }

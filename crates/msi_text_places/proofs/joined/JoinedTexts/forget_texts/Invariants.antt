@@ -7,6 +7,6 @@ use Rattle.msi_text_places.proofs.joined.JoinedTexts.forget_texts.Given as goal
 abbrev pub invariant-loop-i : goal.invariant-loop-i
 invariant-loop-i l = record {
   joined : IsJoined l.self;
-  many : vec_len l.self.cuts ≡ vec_len l.initial.self.cuts;
+  many : vec_len l.self.counts ≡ vec_len l.initial.self.counts;
   places : places_joined l.self ≡ gone_through l.is_named (places_joined l.initial.self) l.i;
 }

@@ -1,15 +1,15 @@
-use Rattle.std.proofs.Common.{◌≡◌, ◌<◌, ◌+◌, ◌^◌, ap, sym, length, take, arith, ◌∙◌, false, cond}
+use Rattle.std.proofs.Common.{◌≡◌, ◌<◌, ◌+◌, ap, sym, length, take, get_or, arith, ◌∙◌, false, cond}
 use Rattle.std.specs.Prelude.{string_bytes}
 use Rattle.msi_text_pool_base.proofs.RecountingLemmas.{changed_before-more, set_before-more}
-use Rattle.msi_text_places.specs.JoinedTexts.{end_of, place_cut, places_joined}
-use Rattle.msi_text_places.proofs.JoinedTextsLemmas.{cut_counted, length-cut, place_set}
+use Rattle.msi_text_places.specs.JoinedTexts.{end_of, places_joined}
+use Rattle.msi_text_places.proofs.JoinedTextsLemmas.{cut_counted, length-cut, place_of, place_set}
 use Rattle.msi_text_places.proofs.joined.JoinedTexts.set_counts.Goals as goal
 use Rattle.msi_text_places.proofs.joined.JoinedTexts.set_counts.Goals.{then-set_count, else-set_count}
 
 pub index_mut-requires : goal.index_mut-requires
 index_mut-requires c =
     let texts = c.args.self.now in
-    omega (arith, c.loop-i-test.true, c.requires.many, length-cut (string_bytes texts.whole) 0 texts.cuts.items, texts.cuts.ok.0, c.loop-i.invariant.many)
+    omega (arith, c.loop-i-test.true, c.requires.many, length-cut (string_bytes texts.whole) 0 texts.ends.items texts.counts.items, texts.counts.ok.0, c.loop-i.invariant.many)
 
 pub overflow_add-changed : goal.overflow_add-changed
 overflow_add-changed c = omega (arith, c.loop-i.invariant.few, c.loop-i-test.true, c.requires.many, c.requires.most)
@@ -19,20 +19,20 @@ loop-i-preserved c =
     let texts = c.args.self.now in
     let now = c.loop-i.self in
     let whole = string_bytes now.whole in
+    let ends = now.ends.items in
     let i = c.loop-i.i in
     let old = c.index_mut.result.now in
     let new = c.set_count.new.self in
-    let place = place_cut whole (end_of 0 (take i now.cuts.items)) in
-    let inside : i < length now.cuts.items = omega (arith, c.loop-i-test.true, c.requires.many, length-cut (string_bytes texts.whole) 0 texts.cuts.items, texts.cuts.ok.0, now.cuts.ok.0, c.loop-i.invariant.many) in
-    let few : new.count < 2 ^ 16 = rw c.set_count.ensures.cut (c.requires.counts i 0 c.loop-i-test.true) in
-    let is = place_set whole now.cuts.items i old new inside c.index_mut.ensures.value (ap (λ x. x.end) c.set_count.ensures.cut) few c.loop-i.invariant.joined in
+    let place = place_of whole ends i in
+    let inside : i < length now.counts.items = omega (arith, c.loop-i-test.true, c.requires.many, length-cut (string_bytes texts.whole) 0 texts.ends.items texts.counts.items, texts.counts.ok.0, now.counts.ok.0, c.loop-i.invariant.many) in
+    let is = place_set whole ends now.counts.items i old new inside c.index_mut.ensures.value (λ _. rw c.set_count.ensures.count (c.requires.counts i 0 c.loop-i-test.true)) c.loop-i.invariant.joined in
     let more = changed_before-more c.args.counts.now (places_joined texts) (places_joined now) i 0 c.loop-i.changed (place old) c.set_count.result
     c.loop-i-test.true c.requires.many c.loop-i.invariant.places is.was c.set_count.ensures.changed c.loop-i.invariant.changed in
     record {
       joined = is.joined;
       many = c.loop-i.invariant.many;
       places = is.places ∙ set_before-more c.args.counts.now (places_joined texts) (places_joined now) i 0 (place old) (place new)
-          c.loop-i-test.true c.requires.many c.loop-i.invariant.places is.was (ap place c.set_count.ensures.cut ∙ cut_counted whole (end_of 0 (take i now.cuts.items)) _ old);
+          c.loop-i-test.true c.requires.many c.loop-i.invariant.places is.was (ap place c.set_count.ensures.count ∙ cut_counted whole (end_of 0 (take i ends)) (get_or ends i 0) _ old);
       few = elim c.if-set_count.branch [
         | then-set_count w ↦ omega (arith, w.changed-is, c.loop-i.invariant.few)
         | else-set_count w ↦ omega (arith, w.changed-is, c.loop-i.invariant.few)
