@@ -2,7 +2,7 @@
 
 use crate::reading::pass_over;
 use crate::report::{Place, Report};
-use msipkg_output::msi::{ColumnType, Package, Row, Rows, Select, Table, Value};
+use msipkg_output::msi::{ColumnType, Package, Rows, Select, Table, ValueView};
 use msipkg_output::{Failure, Opened, stream_name};
 use std::alloc::{AllocError, Global};
 use std::collections::BTreeSet;
@@ -116,32 +116,33 @@ fn has_stream_column(table: &Table) -> bool {
 fn add_row_names(
     alloc: Global,
     table: &Table,
-    rows: Rows<'_>,
+    mut rows: Rows<'_>,
     names: &mut BTreeSet<String>,
 ) -> Result<(), Failure> {
-    for row in rows {
-        add_row_name(alloc, table, &row?, names)?;
+    for _ in 0..rows.len() {
+        add_row_name(alloc, table, &rows, names)?;
+        rows.pass();
     }
     Ok(())
 }
 
-/// Adds the name of a row's stream, if it has one.
+/// Adds the name of the next row's stream, if it has one.
 fn add_row_name(
     alloc: Global,
     table: &Table,
-    row: &Row,
+    rows: &Rows<'_>,
     names: &mut BTreeSet<String>,
 ) -> Result<(), AllocError> {
-    if has_stream(row) {
-        names.insert(stream_name(alloc, table.name(), row)?)?;
+    if has_stream(rows) {
+        names.insert(stream_name(alloc, table.name(), rows)?)?;
     }
     Ok(())
 }
 
-/// Returns whether one of a row's values is a stream.
-fn has_stream(row: &Row) -> bool {
-    for i in 0..row.len() {
-        if matches!(&row[i], Value::Binary) {
+/// Returns whether one of the next row's values is a stream.
+fn has_stream(rows: &Rows<'_>) -> bool {
+    for place in 0..rows.columns().len() {
+        if matches!(rows.peek(place), Some(ValueView::Binary)) {
             return true;
         }
     }
@@ -164,28 +165,25 @@ fn add_cabinets(
 /// Adds the names behind a `#`.
 fn add_cabinet_names(
     alloc: Global,
-    rows: Rows<'_>,
+    mut rows: Rows<'_>,
     names: &mut BTreeSet<String>,
 ) -> Result<(), Failure> {
-    for row in rows {
-        add_cabinet_name(alloc, &row?, names)?;
+    for _ in 0..rows.len() {
+        add_cabinet_name(alloc, &rows, names)?;
+        rows.pass();
     }
     Ok(())
 }
 
-/// Adds the name behind a `#` in a row's only value, if there is one.
+/// Adds the name behind a `#` in the next row's only value, if there is one.
 fn add_cabinet_name(
     alloc: Global,
-    row: &Row,
+    rows: &Rows<'_>,
     names: &mut BTreeSet<String>,
 ) -> Result<(), AllocError> {
-    if row.is_empty() {
-        return Ok(());
-    }
-    let Value::Str(text) = &row[0] else {
-        return Ok(());
-    };
-    if let Some(name) = text.as_str().strip_prefix('#') {
+    if let Some(ValueView::Str(text)) = rows.peek(0)
+        && let Some(name) = text.strip_prefix('#')
+    {
         names.insert(String::from_str(alloc, name)?)?;
     }
     Ok(())

@@ -4,7 +4,9 @@ use crate::diff::Compared;
 use crate::difference::{Change, Content, Difference, Member};
 use crate::report::Report;
 use msi_compare::{Difference as RowDifference, differences};
-use msipkg_files::output::msi::{Column, Error, Items, Package, Row, Rows, Select, Table, Value};
+use msipkg_files::output::msi::{
+    Column, Error, Items, Package, Row, Rows, Select, Table, Value, ValueView,
+};
 use msipkg_files::output::{Failure, Opened, push_key};
 use msipkg_texts::Shown;
 use std::alloc::{AllocError, Global};
@@ -234,7 +236,7 @@ fn key_text(alloc: Global, columns: &[Column], row: &[Value]) -> Result<String, 
         if columns[i].is_primary_key() {
             text.push_str(before)?;
             before = "/";
-            push_key(&row[i], &mut text)?;
+            push_key(ValueView::of(&row[i]), &mut text)?;
         }
     }
     Ok(text)

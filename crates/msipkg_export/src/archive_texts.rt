@@ -1,9 +1,10 @@
-//! The texts of tables' archives, which are written row by row.
+//! The texts of tables' archives, which are written row by row, so that a table's aren't held at once.
 
 use crate::archive_parts::{archive_columns, key_names};
 use msi_text_archive::{Archive, ArchiveError, write, write_row};
-use msipkg_files::output::Failure;
 use msipkg_files::output::msi::{CodePage, Column, Error, IntoText, Items, Value};
+use msipkg_files::output::{Failure, Output};
+use msipkg_texts::{Shown, Style};
 use std::alloc::{AllocError, Global};
 use std::borrow::CowSlice;
 
@@ -13,7 +14,7 @@ const HEAD: usize = 3;
 /// The refusal of a text in a row: these characters stand for others there.
 const STAND_IN: &str = "no text archive has a text with a character 16, 17, 21, 24, 25 or 27";
 
-/// The text of an archive, with the code page in which it is stored.
+/// The text of an archive, or lines of it, with the code page in which it is stored.
 pub(crate) struct StoredText {
     /// The code page, or `None` where the text is ASCII, which every page has as it is.
     page: Option<CodePage>,
@@ -33,11 +34,6 @@ impl StoredText {
         StoredText { page: None, text }
     }
 
-    /// Returns the text.
-    pub(crate) fn as_str(&self) -> &str {
-        self.text.as_str()
-    }
-
     /// Returns the bytes of the text, as they are stored.
     ///
     /// # Errors
@@ -48,20 +44,24 @@ impl StoredText {
             Some(page) => Ok(CowSlice::Owned(page.encode(alloc, self.text.as_str())?)),
         }
     }
+
+    /// Writes the bytes of the text.
+    fn write(&self, alloc: Global, output: &mut Output) -> Result<(), Error> {
+        let bytes = self.encoded(alloc)?;
+        output.push_bytes(bytes.as_slice());
+        Ok(())
+    }
 }
 
 /// The text of a table's archive on its way, to which rows are added.
 pub(crate) struct ArchiveText<'a> {
     alloc: Global,
-    page: CodePage,
     table: &'a str,
     columns: &'a [Column],
-    /// The archive without its rows, which names the code page.
+    /// The archive without its rows.
     archive: Archive,
-    /// The text of that.
-    head: String,
-    /// The lines of the rows.
-    body: String,
+    /// The lines that aren't written yet.
+    lines: StoredText,
     /// The number of the last line.
     line: usize,
 }
@@ -71,38 +71,38 @@ impl Drop for ArchiveText<'_> {
     fn drop(self) {
         let ArchiveText {
             alloc: _,
-            page: _,
             table: _,
             columns: _,
             archive: _,
-            head: _,
-            body: _,
+            lines: _,
             line: _,
         } = self;
     }
 }
 
 impl<'a> ArchiveText<'a> {
-    /// Returns the text of a table without rows.
+    /// Returns the text of a table without rows. It names the code page only where one of its texts isn't ASCII, of
+    /// which `is_ascii` says whether those of the rows are.
     ///
     /// # Errors
     /// Fails at a name that no archive can have, and with `OutOfMemory`.
     pub(crate) fn new(
         alloc: Global,
         page: CodePage,
+        is_ascii: bool,
         table: &'a str,
         columns: &'a [Column],
     ) -> Result<ArchiveText<'a>, Failure> {
+        let is_bare = is_ascii && has_ascii_names(table, columns);
+        let page = if is_bare { None } else { Some(page) };
         let archive = archive_of(alloc, number_of(page), table, columns)?;
-        let head = text_of(alloc, table, columns, &archive)?;
+        let text = text_of(alloc, table, columns, &archive)?;
         Ok(ArchiveText {
             alloc,
-            page,
             table,
             columns,
             archive,
-            head,
-            body: String::new(alloc),
+            lines: StoredText { page, text },
             line: HEAD,
         })
     }
@@ -113,41 +113,57 @@ impl<'a> ArchiveText<'a> {
     /// Fails at a text that no archive can have, and with `OutOfMemory`.
     pub(crate) fn push(&mut self, row: &[Value]) -> Result<(), Failure> {
         self.line = self.line.saturating_add(1);
-        match write_row(&mut self.body, self.line, self.archive.columns(), row) {
+        match write_row(&mut self.lines.text, self.line, self.archive.columns(), row) {
             Ok(()) => Ok(()),
             Err(error) => Err(refusal(self.alloc, self.table, self.columns, &error)),
         }
     }
 
-    /// Returns the whole text. It names the code page only where one of its texts isn't ASCII.
+    /// Writes the lines that aren't written yet, as they are stored, or with escapes in their fields if the style
+    /// escapes.
     ///
     /// # Errors
-    /// Fails if the name of the table is read as that of a code page where none is named, and with `OutOfMemory`.
-    pub(crate) fn into_stored(self) -> Result<StoredText, Failure> {
+    /// Fails with `InvalidInput` if a text can't be written in the code page, and with `OutOfMemory`.
+    pub(crate) fn write_lines(&mut self, style: Style, output: &mut Output) -> Result<(), Error> {
+        if style.is_escaped {
+            write_shown(self.lines.text.as_str(), output);
+        } else {
+            self.lines.write(self.alloc, output)?;
+        }
+        self.lines.text.clear();
+        Ok(())
+    }
+
+    /// Returns the lines that aren't written yet.
+    fn into_lines(self) -> StoredText {
         let ArchiveText {
-            alloc,
-            page,
-            table,
-            columns,
+            alloc: _,
+            table: _,
+            columns: _,
             archive: _,
-            head,
-            body,
+            lines,
             line: _,
         } = self;
-        if !head.is_ascii() || !body.is_ascii() {
-            return Ok(stored(Some(page), head, body)?);
-        }
-        let unnumbered = archive_of(alloc, None, table, columns)?;
-        let head = text_of(alloc, table, columns, &unnumbered)?;
-        Ok(stored(None, head, body)?)
+        lines
     }
 }
 
-/// A text of a head and a body.
-fn stored(page: Option<CodePage>, head: String, body: String) -> Result<StoredText, AllocError> {
-    let mut text = body;
-    text.insert_str(0, head.as_str())?;
-    Ok(StoredText { page, text })
+/// Writes the lines of an archive with escapes.
+fn write_shown(text: &str, output: &mut Output) {
+    for line in text.lines() {
+        write_shown_line(line, output);
+    }
+}
+
+/// Writes the fields of a line with escapes.
+fn write_shown_line(line: &str, output: &mut Output) {
+    let mut before: &[u8] = b"";
+    for field in line.split('\t') {
+        output.push_bytes(before);
+        write!(output, "{}", Shown::escaped(field));
+        before = b"\t";
+    }
+    output.push_str("\n");
 }
 
 /// Returns the text of an archive of rows.
@@ -161,16 +177,28 @@ pub(crate) fn text_of_rows(
     columns: &[Column],
     rows: &[Items<Value>],
 ) -> Result<StoredText, Failure> {
-    let mut text = ArchiveText::new(alloc, page, table, columns)?;
+    let is_ascii = rows.iter().all(|row| has_ascii_texts(row.as_slice()));
+    let mut text = ArchiveText::new(alloc, page, is_ascii, table, columns)?;
     for row in rows {
         text.push(row.as_slice())?;
     }
-    text.into_stored()
+    Ok(text.into_lines())
+}
+
+/// Whether the texts of a row are ASCII.
+fn has_ascii_texts(row: &[Value]) -> bool {
+    row.iter()
+        .all(|value| value.as_str().unwrap_or("").is_ascii())
+}
+
+/// Whether the names of a table and its columns are ASCII.
+fn has_ascii_names(table: &str, columns: &[Column]) -> bool {
+    table.is_ascii() && columns.iter().all(|column| column.name().is_ascii())
 }
 
 /// The number of a code page.
-fn number_of(page: CodePage) -> Option<u16> {
-    u16::try_from(page.id()).ok()
+fn number_of(page: Option<CodePage>) -> Option<u16> {
+    u16::try_from(page?.id()).ok()
 }
 
 /// The archive of columns, without rows.

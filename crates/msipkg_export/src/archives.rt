@@ -1,13 +1,15 @@
 //! A folder of text archives: one for each table, and those of what isn't in a table, with the files of streams.
 
+use crate::archive_texts::StoredText;
+use crate::exporting::BARE;
 use crate::folders::{make_folder, make_inner_folder};
 use crate::other_archives::{
-    PAGE, STREAMS, SUMMARY, page_archive, streams_archive, summary_archive,
+    PAGE, STREAMS, SUMMARY, page_archive, stream_files, streams_archive, summary_archive,
 };
-use crate::table_archives::{StreamFile, TableArchive, table_archive};
+use crate::table_archives::{StreamFile, TableArchive};
 use msipkg_files::output::msi::{Package, Table};
-use msipkg_files::output::{Failure, Opened, System, at_file, chosen_tables, path_in};
-use msipkg_files::{Folder, SafeNames};
+use msipkg_files::output::{Failure, Opened, Output, System, at_file, chosen_tables, path_in};
+use msipkg_files::{Folder, SafeNames, open_new, settle};
 use std::alloc::{AllocError, Global};
 use std::collections::BTreeSet;
 
@@ -111,10 +113,56 @@ fn export_table(
     folder: &Folder<'_>,
     exported: &mut Exported,
 ) -> Result<(), Failure> {
-    let archive = table_archive(rt.alloc(), package, table)?;
     let safe = exported.given.give(table.name())?;
-    write_archive(rt, package, safe.as_str(), &archive, folder)?;
-    Ok(exported.add(archive.into_files())?)
+    let files = write_table(rt, package, table, safe.as_str(), folder)?;
+    write_streams(rt, package, safe.as_str(), files.as_slice(), folder)?;
+    Ok(exported.add(files)?)
+}
+
+/// Writes a table to its file, and returns the streams of its rows.
+fn write_table(
+    rt: &System,
+    package: &Package<Opened>,
+    table: &Table,
+    safe: &str,
+    folder: &Folder<'_>,
+) -> Result<Vec<StreamFile>, Failure> {
+    let mut archive = TableArchive::new(rt.alloc(), package, table)?;
+    write_archive(rt, &mut archive, safe, folder)?;
+    Ok(archive.into_files())
+}
+
+/// Writes the archive of a table to its file, which has this name and `.idt`.
+fn write_archive(
+    rt: &System,
+    archive: &mut TableArchive<'_>,
+    safe: &str,
+    folder: &Folder<'_>,
+) -> Result<(), Failure> {
+    let name = archive_name(rt.alloc(), safe)?;
+    let path = path_in(rt.alloc(), folder.path, name.as_str())?;
+    let written = write_file(rt, archive, path.as_str(), folder.is_forced);
+    at_file(rt.alloc(), path.as_str(), written)
+}
+
+/// Writes the archive of a table to a file, row by row.
+fn write_file(
+    rt: &System,
+    archive: &mut TableArchive<'_>,
+    path: &str,
+    is_forced: bool,
+) -> Result<(), Failure> {
+    let (made, new) = open_new(rt, path, is_forced)?;
+    let mut output = Output::to_file(rt.alloc(), new);
+    let written = write_synced(archive, &mut output);
+    drop(output);
+    settle(rt, written, made.as_str(), path)
+}
+
+/// Writes the archive of a table, and waits until the disk has it.
+fn write_synced(archive: &mut TableArchive<'_>, output: &mut Output) -> Result<(), Failure> {
+    archive.write(BARE, output)?;
+    Ok(output.end_synced()?)
 }
 
 /// Writes what isn't in a table: the code page, the summary, and the streams that no row has. Those of rows are
@@ -133,7 +181,7 @@ fn export_others(
 /// Writes the code page.
 fn export_page(rt: &System, package: &Package<Opened>, folder: &Folder<'_>) -> Result<(), Failure> {
     let page = page_archive(rt.alloc(), package.database_codepage())?;
-    write_archive(rt, package, PAGE, &page, folder)
+    write_text(rt, PAGE, &page, folder)
 }
 
 /// Writes the summary.
@@ -143,7 +191,7 @@ fn export_summary(
     folder: &Folder<'_>,
 ) -> Result<(), Failure> {
     let summary = summary_archive(rt.alloc(), package.summary_info())?;
-    write_archive(rt, package, SUMMARY, &summary, folder)
+    write_text(rt, SUMMARY, &summary, folder)
 }
 
 /// Writes the streams that no row has, if there are some.
@@ -153,42 +201,25 @@ fn export_streams(
     named: &BTreeSet<String>,
     folder: &Folder<'_>,
 ) -> Result<(), Failure> {
-    let streams = streams_archive(rt.alloc(), package, named)?;
-    if streams.files.is_empty() {
+    let files = stream_files(rt.alloc(), package, named)?;
+    if files.is_empty() {
         return Ok(());
     }
-    write_archive(rt, package, STREAMS, &streams, folder)
+    let page = package.database_codepage();
+    let streams = streams_archive(rt.alloc(), page, files.as_slice())?;
+    write_text(rt, STREAMS, &streams, folder)?;
+    write_streams(rt, package, STREAMS, files.as_slice(), folder)
 }
 
-/// Writes an archive to its file, which has this name and `.idt`, and its streams to files of the folder of this name.
-fn write_archive(
-    rt: &System,
-    package: &Package<Opened>,
-    safe: &str,
-    archive: &TableArchive,
-    folder: &Folder<'_>,
-) -> Result<(), Failure> {
-    write_text(rt, safe, archive, folder)?;
-    if archive.files.is_empty() {
-        return Ok(());
-    }
-    let path = path_in(rt.alloc(), folder.path, safe)?;
-    let inner = Folder {
-        path: path.as_str(),
-        is_forced: folder.is_forced,
-    };
-    write_streams(rt, package, archive.files.as_slice(), &inner)
-}
-
-/// Writes the text of an archive to its file.
+/// Writes the text of an archive to its file, which has this name and `.idt`.
 fn write_text(
     rt: &System,
     safe: &str,
-    archive: &TableArchive,
+    text: &StoredText,
     folder: &Folder<'_>,
 ) -> Result<(), Failure> {
     let name = archive_name(rt.alloc(), safe)?;
-    match archive.text.encoded(rt.alloc()) {
+    match text.encoded(rt.alloc()) {
         Ok(bytes) => folder.write(rt, name.as_str(), bytes.as_slice()),
         Err(error) => at_file(rt.alloc(), name.as_str(), Err(Failure::from(error))),
     }
@@ -199,16 +230,25 @@ fn archive_name(alloc: Global, safe: &str) -> Result<String, AllocError> {
     format!(in alloc; "{safe}.idt")
 }
 
-/// Makes an inner folder, and writes streams to files of it.
+/// Writes streams, if there are some, to files of an inner folder of this name.
 fn write_streams(
     rt: &System,
     package: &Package<Opened>,
+    safe: &str,
     files: &[StreamFile],
-    inner: &Folder<'_>,
+    folder: &Folder<'_>,
 ) -> Result<(), Failure> {
-    make_inner_folder(rt, inner.path)?;
+    if files.is_empty() {
+        return Ok(());
+    }
+    let path = path_in(rt.alloc(), folder.path, safe)?;
+    make_inner_folder(rt, path.as_str())?;
+    let inner = Folder {
+        path: path.as_str(),
+        is_forced: folder.is_forced,
+    };
     for file in files {
-        write_stream(rt, package, file, inner)?;
+        write_stream(rt, package, file, &inner)?;
     }
     Ok(())
 }

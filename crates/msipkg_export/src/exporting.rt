@@ -3,7 +3,7 @@
 use crate::archives::export_archives;
 use crate::csv_tables::{export_csv, write_csv};
 use crate::json_packages::write_package;
-use crate::table_archives::write_archive;
+use crate::table_archives::print_archive;
 use msipkg_files::output::msi::{Package, Table};
 use msipkg_files::output::{
     Failure, Opened, Output, System, at_file, is_list, rows_of, table_named,
@@ -101,7 +101,7 @@ fn print_package(
         }
         FileFormat::Idt => {
             let table = one_table(alloc, package, names)?;
-            write_archive(alloc, style, package, table, output)
+            print_archive(alloc, style, package, table, output)
         }
     }
 }

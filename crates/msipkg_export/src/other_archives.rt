@@ -2,7 +2,7 @@
 
 use crate::archive_parts::text_value;
 use crate::archive_texts::{StoredText, text_of_rows};
-use crate::table_archives::{StreamFile, TableArchive};
+use crate::table_archives::StreamFile;
 use msipkg_files::SafeNames;
 use msipkg_files::output::msi::{CodePage, Column, Error, Items, Package, SummaryInfo, Value};
 use msipkg_files::output::{Failure, Opened, PROPERTIES, property_text};
@@ -20,26 +20,17 @@ pub(crate) const STREAMS: &str = "_Streams";
 ///
 /// # Errors
 /// Fails if memory is refused.
-pub(crate) fn page_archive(alloc: Global, page: CodePage) -> Result<TableArchive, AllocError> {
+pub(crate) fn page_archive(alloc: Global, page: CodePage) -> Result<StoredText, AllocError> {
     let id = page.id();
     let text = format!(in alloc; "\r\n\r\n{id}\t{PAGE}\r\n")?;
-    Ok(TableArchive::new(StoredText::of_ascii(text), Vec::new(alloc)))
+    Ok(StoredText::of_ascii(text))
 }
 
 /// Returns the archive of the summary, in the summary's own code page.
 ///
 /// # Errors
 /// Fails at a text that no archive can have, and with `OutOfMemory`.
-pub(crate) fn summary_archive(
-    alloc: Global,
-    summary: &SummaryInfo,
-) -> Result<TableArchive, Failure> {
-    let text = summary_text(alloc, summary)?;
-    Ok(TableArchive::new(text, Vec::new(alloc)))
-}
-
-/// The text of the summary's archive.
-fn summary_text(alloc: Global, summary: &SummaryInfo) -> Result<StoredText, Failure> {
+pub(crate) fn summary_archive(alloc: Global, summary: &SummaryInfo) -> Result<StoredText, Failure> {
     let columns = summary_columns(alloc)?;
     let rows = summary_rows(alloc, summary)?;
     let page = summary.codepage();
@@ -70,23 +61,12 @@ fn property_row(alloc: Global, id: i32, text: &str) -> Result<Items<Value>, Erro
     Ok(Items::from_vec(vec![in alloc; Value::Int(id), value]?))
 }
 
-/// Returns the archive of the streams that no row has and that are found under their names. Those of rows are `named`.
+/// Returns the streams that no row has and that are found under their names, with the names of their files. Those of
+/// rows are `named`.
 ///
 /// # Errors
-/// Fails at a name that no archive can have, and with `OutOfMemory`.
-pub(crate) fn streams_archive(
-    alloc: Global,
-    package: &Package<Opened>,
-    named: &BTreeSet<String>,
-) -> Result<TableArchive, Failure> {
-    let page = package.database_codepage();
-    let files = stream_files(alloc, package, named)?;
-    let text = streams_text(alloc, page, files.as_slice())?;
-    Ok(TableArchive::new(text, files))
-}
-
-/// The streams that aren't named and are found under their names, with the names of their files.
-fn stream_files(
+/// Fails as reading the names does, and with `OutOfMemory`.
+pub(crate) fn stream_files(
     alloc: Global,
     package: &Package<Opened>,
     named: &BTreeSet<String>,
@@ -103,8 +83,11 @@ fn stream_files(
     Ok(files)
 }
 
-/// The text of the archive of streams.
-fn streams_text(
+/// Returns the archive of streams.
+///
+/// # Errors
+/// Fails at a name that no archive can have, and with `OutOfMemory`.
+pub(crate) fn streams_archive(
     alloc: Global,
     page: CodePage,
     files: &[StreamFile],

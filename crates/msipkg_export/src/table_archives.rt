@@ -1,11 +1,11 @@
 //! Tables as text archives, with the files of their rows' streams.
 
 use crate::archive_parts::text_value;
-use crate::archive_texts::{ArchiveText, StoredText};
+use crate::archive_texts::ArchiveText;
 use msipkg_files::SafeNames;
-use msipkg_files::output::msi::{Error, Package, Row, Rows, Table, Value};
+use msipkg_files::output::msi::{Error, Package, Rows, Table, Value, ValueView};
 use msipkg_files::output::{Failure, Opened, Output, rows_of, stream_name};
-use msipkg_texts::{Shown, Style};
+use msipkg_texts::Style;
 use std::alloc::Global;
 
 /// A stream and the name of its file.
@@ -31,39 +31,13 @@ impl StreamFile {
     }
 }
 
-/// A table as the text of an archive, with the files of its rows' streams.
-pub(crate) struct TableArchive {
-    /// The text.
-    pub(crate) text: StoredText,
-    /// The streams of the rows, whose values in the archive are the names of their files.
-    pub(crate) files: Vec<StreamFile>,
-}
-
-/// Written out, so that a function that owns one calls one drop, and its proof doesn't go through those of the parts.
-impl Drop for TableArchive {
-    fn drop(self) {
-        let TableArchive { text: _, files: _ } = self;
-    }
-}
-
-impl TableArchive {
-    /// Returns an archive of a text, and of the streams that it names.
-    pub(crate) fn new(text: StoredText, files: Vec<StreamFile>) -> TableArchive {
-        TableArchive { text, files }
-    }
-
-    /// Returns the streams of the rows.
-    pub(crate) fn into_files(self) -> Vec<StreamFile> {
-        let TableArchive { text: _, files } = self;
-        files
-    }
-}
-
-/// The rows of a table on their way into its archive, with the files of their streams.
-struct Gathering<'a> {
+/// A table on its way into its archive, with the files of its rows' streams.
+pub(crate) struct TableArchive<'a> {
     alloc: Global,
+    package: &'a Package<Opened>,
     table: &'a str,
     given: SafeNames,
+    /// The streams of the rows, whose values in the archive are the names of their files.
     files: Vec<StreamFile>,
     /// The values of a row, as an archive has them.
     row: Vec<Value>,
@@ -71,10 +45,11 @@ struct Gathering<'a> {
 }
 
 /// Written out, so that a function that owns one calls one drop, and its proof doesn't go through those of the parts.
-impl Drop for Gathering<'_> {
+impl Drop for TableArchive<'_> {
     fn drop(self) {
-        let Gathering {
+        let TableArchive {
             alloc: _,
+            package: _,
             table: _,
             given: _,
             files: _,
@@ -84,74 +59,83 @@ impl Drop for Gathering<'_> {
     }
 }
 
-/// Returns a table as the text of an archive.
-///
-/// # Errors
-/// Fails if the table can't be read, and at a text that no archive can have.
-pub(crate) fn table_archive(
-    alloc: Global,
-    package: &Package<Opened>,
-    table: &Table,
-) -> Result<TableArchive, Failure> {
-    let rows = rows_of(alloc, package, table.name())?;
-    let page = package.database_codepage();
-    let mut gathered = Gathering {
-        alloc,
-        table: table.name(),
-        given: SafeNames::new(alloc),
-        files: Vec::new(alloc),
-        row: Vec::new(alloc),
-        text: ArchiveText::new(alloc, page, table.name(), table.columns())?,
-    };
-    gathered.add_rows(rows)?;
-    gathered.into_archive()
-}
+impl<'a> TableArchive<'a> {
+    /// Returns the archive of a table, which is still to be written. Its rows are gone over here for whether the code
+    /// page is to be named, so that none of their lines is kept.
+    ///
+    /// # Errors
+    /// Fails if the table can't be read, and at a name that no archive can have.
+    pub(crate) fn new(
+        alloc: Global,
+        package: &'a Package<Opened>,
+        table: &'a Table,
+    ) -> Result<TableArchive<'a>, Failure> {
+        let is_ascii = have_ascii_texts(rows_of(alloc, package, table.name())?);
+        let page = package.database_codepage();
+        Ok(TableArchive {
+            alloc,
+            package,
+            table: table.name(),
+            given: SafeNames::new(alloc),
+            files: Vec::new(alloc),
+            row: Vec::new(alloc),
+            text: ArchiveText::new(alloc, page, is_ascii, table.name(), table.columns())?,
+        })
+    }
 
-impl Gathering<'_> {
-    /// The archive of the rows.
-    fn into_archive(self) -> Result<TableArchive, Failure> {
-        let Gathering {
+    /// Writes the archive row by row, in its code page. If the style escapes, it is the archive's text instead, with
+    /// escapes in its fields.
+    ///
+    /// # Errors
+    /// Fails if the table can't be read, at a text that no archive can have, and with `InvalidInput` if a text can't be
+    /// written in the code page.
+    pub(crate) fn write(&mut self, style: Style, output: &mut Output) -> Result<(), Failure> {
+        let mut rows = rows_of(self.alloc, self.package, self.table)?;
+        for _ in 0..rows.len() {
+            self.text.write_lines(style, output)?;
+            self.add_row(&rows)?;
+            rows.pass();
+        }
+        Ok(self.text.write_lines(style, output)?)
+    }
+
+    /// Returns the streams of the rows that were written.
+    pub(crate) fn into_files(self) -> Vec<StreamFile> {
+        let TableArchive {
             alloc: _,
+            package: _,
             table: _,
             given: _,
             files,
             row: _,
-            text,
+            text: _,
         } = self;
-        Ok(TableArchive::new(text.into_stored()?, files))
+        files
     }
 
-    /// Adds rows.
-    fn add_rows(&mut self, rows: Rows<'_>) -> Result<(), Failure> {
-        for row in rows {
-            self.add_row(&row?)?;
-        }
-        Ok(())
-    }
-
-    /// Adds a row.
-    fn add_row(&mut self, row: &Row) -> Result<(), Failure> {
+    /// Adds the next row.
+    fn add_row(&mut self, rows: &Rows<'_>) -> Result<(), Failure> {
         self.row.clear();
-        for i in 0..row.len() {
-            let value = self.value_of(row, &row[i])?;
+        for place in 0..rows.columns().len() {
+            let value = self.value_of(rows, place)?;
             self.row.push(value)?;
         }
         self.text.push(self.row.as_slice())
     }
 
-    /// The value of an archive for a value of a row.
-    fn value_of(&mut self, row: &Row, value: &Value) -> Result<Value, Error> {
-        match value {
-            Value::Null => Ok(Value::Null),
-            Value::Int(number) => Ok(Value::Int(*number)),
-            Value::Str(text) => text_value(self.alloc, text.as_str()),
-            Value::Binary => self.file_of(row),
+    /// The value of an archive for the value of the next row at a place.
+    fn value_of(&mut self, rows: &Rows<'_>, place: usize) -> Result<Value, Error> {
+        match rows.peek(place).unwrap_or(ValueView::Null) {
+            ValueView::Null => Ok(Value::Null),
+            ValueView::Int(number) => Ok(Value::Int(number)),
+            ValueView::Str(text) => text_value(self.alloc, text),
+            ValueView::Binary => self.file_of(rows),
         }
     }
 
-    /// The name of the file of a row's stream, as a value.
-    fn file_of(&mut self, row: &Row) -> Result<Value, Error> {
-        let stream = stream_name(self.alloc, self.table, row)?;
+    /// The name of the file of the next row's stream, as a value.
+    fn file_of(&mut self, rows: &Rows<'_>) -> Result<Value, Error> {
+        let stream = stream_name(self.alloc, self.table, rows)?;
         let file = self.given.give(stream.as_str())?;
         let value = Value::from_text(self.alloc, file.as_str())?;
         self.files.push(StreamFile { stream, file })?;
@@ -159,49 +143,40 @@ impl Gathering<'_> {
     }
 }
 
-/// Writes a table as the bytes of an archive, in the database's code page. If the style escapes, it is the archive's
-/// text instead, with escapes in its fields.
+/// Whether the texts of rows are ASCII. The names of their streams' files always are.
+fn have_ascii_texts(mut rows: Rows<'_>) -> bool {
+    for _ in 0..rows.len() {
+        if !has_ascii_texts(&rows) {
+            return false;
+        }
+        rows.pass();
+    }
+    true
+}
+
+/// Whether the texts of the next row are ASCII.
+fn has_ascii_texts(rows: &Rows<'_>) -> bool {
+    for place in 0..rows.columns().len() {
+        if let Some(ValueView::Str(text)) = rows.peek(place)
+            && !text.is_ascii()
+        {
+            return false;
+        }
+    }
+    true
+}
+
+/// Prints a table as an archive.
 ///
 /// # Errors
-/// Fails if the table can't be read, at a text that no archive can have, and with `InvalidInput` if a text can't be
-/// written in the code page.
-pub(crate) fn write_archive(
+/// Fails if the table can't be read, and as writing it does.
+pub(crate) fn print_archive(
     alloc: Global,
     style: Style,
     package: &Package<Opened>,
     table: &Table,
     output: &mut Output,
 ) -> Result<(), Failure> {
-    let archive = table_archive(alloc, package, table)?;
-    if style.is_escaped {
-        write_shown(archive.text.as_str(), output);
-        Ok(())
-    } else {
-        write_encoded(alloc, &archive.text, output)
-    }
-}
-
-/// Writes the bytes of an archive.
-fn write_encoded(alloc: Global, text: &StoredText, output: &mut Output) -> Result<(), Failure> {
-    let bytes = text.encoded(alloc)?;
-    output.push_bytes(bytes.as_slice());
-    Ok(())
-}
-
-/// Writes the lines of an archive with escapes.
-fn write_shown(text: &str, output: &mut Output) {
-    for line in text.lines() {
-        write_shown_line(line, output);
-    }
-}
-
-/// Writes the fields of a line with escapes.
-fn write_shown_line(line: &str, output: &mut Output) {
-    let mut before: &[u8] = b"";
-    for field in line.split('\t') {
-        output.push_bytes(before);
-        write!(output, "{}", Shown::escaped(field));
-        before = b"\t";
-    }
-    output.push_str("\n");
+    let mut archive = TableArchive::new(alloc, package, table)?;
+    archive.write(style, output)
 }

@@ -1,20 +1,25 @@
 //! Rows under the names of their columns, aligned. They are gone over twice, for the widths of the columns and to be
 //! written, so that none of their texts is kept.
 
-use msipkg_files::output::msi::{Column, Row, Rows, Value};
-use msipkg_files::output::{Failure, Output, value_width, write_value};
+use msipkg_files::output::msi::{Column, Rows, ValueView};
+use msipkg_files::output::{Output, value_width, write_value};
 use msipkg_texts::{Style, Widths};
-use std::alloc::Global;
+use std::alloc::{AllocError, Global};
 
 /// Returns the widths of the columns of rows, as the style has them, and of their names.
 ///
 /// # Errors
-/// Fails as reading a row does, and if memory is refused.
-pub(crate) fn widths_of(alloc: Global, style: Style, rows: Rows<'_>) -> Result<Widths, Failure> {
+/// Fails if memory is refused.
+pub(crate) fn widths_of(
+    alloc: Global,
+    style: Style,
+    mut rows: Rows<'_>,
+) -> Result<Widths, AllocError> {
     let mut widths = Widths::new(alloc, rows.columns().len())?;
     widen_by_names(style, rows.columns(), &mut widths);
-    for row in rows {
-        widen_by_row(style, &row?, &mut widths);
+    for _ in 0..rows.len() {
+        widen_by_row(style, &rows, &mut widths);
+        rows.pass();
     }
     Ok(widths)
 }
@@ -26,41 +31,34 @@ fn widen_by_names(style: Style, columns: &[Column], widths: &mut Widths) {
     }
 }
 
-/// Makes columns wide enough for the values of a row.
-fn widen_by_row(style: Style, row: &Row, widths: &mut Widths) {
-    for place in 0..row.len() {
-        widen_by_value(style, place, &row[place], widths);
-    }
-}
-
-/// Makes the column at a place wide enough for a value.
-fn widen_by_value(style: Style, place: usize, value: &Value, widths: &mut Widths) {
-    match value {
-        Value::Str(text) => widths.widen_by_text(place, style, text.as_str()),
-        _ => widths.widen(place, value_width(style, value)),
+/// Makes columns wide enough for the values of the next row.
+fn widen_by_row(style: Style, rows: &Rows<'_>, widths: &mut Widths) {
+    for place in 0..rows.columns().len() {
+        match rows.peek(place) {
+            Some(ValueView::Str(text)) => widths.widen_by_text(place, style, text),
+            Some(value) => widths.widen(place, value_width(style, value)),
+            None => {}
+        }
     }
 }
 
 /// Writes the names of columns, a line of dashes and rows, whose columns have these widths. Where there is no column,
 /// there is nothing to write.
-///
-/// # Errors
-/// Fails as reading a row does.
 pub(crate) fn write_aligned(
     style: Style,
     widths: &Widths,
-    rows: Rows<'_>,
+    mut rows: Rows<'_>,
     output: &mut Output,
-) -> Result<(), Failure> {
+) {
     if rows.columns().is_empty() {
-        return Ok(());
+        return;
     }
     write_names(style, widths, rows.columns(), output);
     widths.write_dashes(output);
-    for row in rows {
-        write_row(style, widths, &row?, output);
+    for _ in 0..rows.len() {
+        write_row(style, widths, &rows, output);
+        rows.pass();
     }
-    Ok(())
 }
 
 /// Writes the names of columns.
@@ -73,12 +71,13 @@ fn write_names(style: Style, widths: &Widths, columns: &[Column], output: &mut O
     output.push_str("\n");
 }
 
-/// Writes the values of a row. The last one isn't filled up, so its width isn't asked for.
-fn write_row(style: Style, widths: &Widths, row: &Row, output: &mut Output) {
-    for place in 0..row.len() {
-        let value = &row[place];
+/// Writes the values of the next row. The last one isn't filled up, so its width isn't asked for.
+fn write_row(style: Style, widths: &Widths, rows: &Rows<'_>, output: &mut Output) {
+    let count = rows.columns().len();
+    for place in 0..count {
+        let value = rows.peek(place).unwrap_or(ValueView::Null);
         write_value(style, value, output);
-        if place + 1 < row.len() {
+        if place + 1 < count {
             widths.fill_up(place, value_width(style, value), output);
         }
     }

@@ -82,7 +82,8 @@ fn write_selected(
         Format::Rows(format) => write_rows(alloc, style, format, rows, output),
         Format::Table => {
             let widths = widths_of(alloc, style, rows)?;
-            write_aligned(style, &widths, selected(alloc, package, text)?, output)
+            write_aligned(style, &widths, selected(alloc, package, text)?, output);
+            Ok(())
         }
     }
 }

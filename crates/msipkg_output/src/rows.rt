@@ -4,7 +4,7 @@ use crate::failure::Failure;
 use crate::json_rows::JsonRow;
 use crate::values::{STREAM, write_value};
 use csv::Writer;
-use msi::{Column, Row, Rows, Value};
+use msi::{Column, Row, Rows, Value, ValueView};
 use msi_text_rows::write_csv_row;
 use msipkg_system::Output;
 use msipkg_texts::Style;
@@ -34,7 +34,7 @@ struct Printer {
 /// Writes rows. Null prints as nothing, in JSON as `null`; a stream as `[stream]`, in JSON as `true`.
 ///
 /// # Errors
-/// Fails as reading a row does, and for CSV and JSON if memory is refused.
+/// Fails for CSV and JSON as reading a row does, and if memory is refused.
 pub fn write_rows(
     alloc: Global,
     style: Style,
@@ -50,7 +50,10 @@ pub fn write_rows(
     match format {
         RowFormat::Csv => write_csv(&printer, rows, output),
         RowFormat::Json => write_json(&printer, rows, output),
-        RowFormat::Tabs | RowFormat::Lines => write_each(&printer, rows, output),
+        RowFormat::Tabs | RowFormat::Lines => {
+            write_each(&printer, rows, output);
+            Ok(())
+        }
     }
 }
 
@@ -168,28 +171,27 @@ fn write_objects(printer: &Printer, rows: Rows<'_>, output: &mut Output) -> Resu
 }
 
 /// Writes rows one by one.
-fn write_each(printer: &Printer, rows: Rows<'_>, output: &mut Output) -> Result<(), Failure> {
-    let mut is_first = true;
-    for row in rows {
-        write_row(printer, is_first, &row?, output);
-        is_first = false;
+fn write_each(printer: &Printer, mut rows: Rows<'_>, output: &mut Output) {
+    for number in 0..rows.len() {
+        write_row(printer, number == 0, &rows, output);
+        rows.pass();
     }
-    Ok(())
 }
 
-/// Writes a row, with its values on lines, behind an empty line unless it is the first, or parted by tabs.
-fn write_row(printer: &Printer, is_first: bool, row: &Row, output: &mut Output) {
+/// Writes the next row, with its values on lines, behind an empty line unless it is the first, or parted by tabs.
+fn write_row(printer: &Printer, is_first: bool, rows: &Rows<'_>, output: &mut Output) {
     let has_lines = matches!(printer.format, RowFormat::Lines);
     let between = if has_lines { "\n" } else { "\t" };
     let mut before = if has_lines && !is_first { "\n" } else { "" };
-    for i in 0..row.len() {
+    for (place, column) in rows.columns().iter().enumerate() {
         output.push_str(before);
         before = between;
         if has_lines {
-            printer.style.print(row.columns()[i].name(), output);
+            printer.style.print(column.name(), output);
             output.push_str(" = ");
         }
-        write_value(printer.style, &row[i], output);
+        let value = rows.peek(place).unwrap_or(ValueView::Null);
+        write_value(printer.style, value, output);
     }
     output.push_str("\n");
 }

@@ -1,6 +1,6 @@
 //! Parts of packages as texts.
 
-use msi::{PackageType, Row, Timestamp, Value};
+use msi::{PackageType, Rows, Timestamp, ValueView};
 use std::alloc::{AllocError, Global};
 use std::fmt;
 
@@ -38,25 +38,24 @@ fn instant_of(time: Timestamp) -> Option<jiff::Timestamp> {
 ///
 /// # Errors
 /// Fails if memory is refused.
-pub fn push_key(value: &Value, text: &mut String) -> Result<(), AllocError> {
+pub fn push_key(value: ValueView<'_>, text: &mut String) -> Result<(), AllocError> {
     match value {
-        Value::Int(number) => text.write(*number),
-        Value::Str(value) => text.push_str(value.as_str()),
-        Value::Null | Value::Binary => Ok(()),
+        ValueView::Int(number) => text.write(number),
+        ValueView::Str(value) => text.push_str(value),
+        ValueView::Null | ValueView::Binary => Ok(()),
     }
 }
 
-/// Returns the name of a row's stream: its table and the values of its key, parted by dots, as `Icon.App`.
+/// Returns the name of the next row's stream: its table and the values of its key, parted by dots, as `Icon.App`.
 ///
 /// # Errors
 /// Fails if memory is refused.
-pub fn stream_name(alloc: Global, table: &str, row: &Row) -> Result<String, AllocError> {
-    let columns = row.columns();
+pub fn stream_name(alloc: Global, table: &str, rows: &Rows<'_>) -> Result<String, AllocError> {
     let mut name = String::from_str(alloc, table)?;
-    for i in 0..row.len().min(columns.len()) {
-        if columns[i].is_primary_key() {
+    for (place, column) in rows.columns().iter().enumerate() {
+        if column.is_primary_key() {
             name.push('.')?;
-            push_key(&row[i], &mut name)?;
+            push_key(rows.peek(place).unwrap_or(ValueView::Null), &mut name)?;
         }
     }
     Ok(name)

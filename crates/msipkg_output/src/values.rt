@@ -1,7 +1,7 @@
 //! The values of rows as they are printed: null as nothing, and a stream as `[stream]`.
 
 use itoa::Buffer;
-use msi::Value;
+use msi::ValueView;
 use msipkg_system::Output;
 use msipkg_texts::Style;
 
@@ -9,12 +9,12 @@ use msipkg_texts::Style;
 pub(crate) const STREAM: &str = "[stream]";
 
 /// Writes a value.
-pub fn write_value(style: Style, value: &Value, output: &mut Output) {
+pub fn write_value(style: Style, value: ValueView<'_>, output: &mut Output) {
     match value {
-        Value::Null => {}
-        Value::Int(number) => write_number(*number, output),
-        Value::Str(text) => style.print(text.as_str(), output),
-        Value::Binary => output.push_str(STREAM),
+        ValueView::Null => {}
+        ValueView::Int(number) => write_number(number, output),
+        ValueView::Str(text) => style.print(text, output),
+        ValueView::Binary => output.push_str(STREAM),
     }
 }
 
@@ -25,12 +25,12 @@ fn write_number(number: i32, output: &mut Output) {
 }
 
 /// Returns how many characters a value is written with.
-pub fn value_width(style: Style, value: &Value) -> usize {
+pub fn value_width(style: Style, value: ValueView<'_>) -> usize {
     match value {
-        Value::Null => 0,
-        Value::Int(number) => number_width(*number),
-        Value::Str(text) => style.show(text.as_str()).width(),
-        Value::Binary => STREAM.len(),
+        ValueView::Null => 0,
+        ValueView::Int(number) => number_width(number),
+        ValueView::Str(text) => style.show(text).width(),
+        ValueView::Binary => STREAM.len(),
     }
 }
 

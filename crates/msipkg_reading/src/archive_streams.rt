@@ -2,7 +2,7 @@
 
 use crate::given::{Given, GivenStream, GivenTable};
 use crate::places::at_part;
-use msipkg_output::msi::{ColumnType, Error, Value};
+use msipkg_output::msi::{ColumnType, Error, Value, ValueView};
 use msipkg_output::{Failure, System, path_in, push_key};
 use std::alloc::{AllocError, Global};
 use std::fs;
@@ -83,7 +83,7 @@ fn stream_name(alloc: Global, table: &GivenTable, row: &[Value]) -> Result<Strin
             if !name.is_empty() {
                 name.push('.')?;
             }
-            push_key(&row[i], &mut name)?;
+            push_key(ValueView::of(&row[i]), &mut name)?;
         }
     }
     Ok(name)
