@@ -9,7 +9,7 @@ use Rattle.msi_text_pool_base.specs.Recounting.{with_count}
 use Rattle.msi_text_pool_base.proofs.CountLemmas.{CountsFit-push}
 use Rattle.msi_text_places.specs.JoinedTexts.{AreCuts, IsAllCut, IsCut, IsJoined, IsPlaceAt, end_of, place_cut, places_cut, places_joined}
 use Rattle.msi_text_places.proofs.PlaceLoopLemmas.{got}
-use Rattle.msi_text_places.specs.declared.joined.Count.{Count}
+use Rattle.msi_text_places.specs.declared.count.Count.{Count}
 use Rattle.msi_text_places.specs.declared.joined.JoinedTexts.{JoinedTexts}
 
 boundary_stays : (whole more : List ℕ) (i : ℕ) → IsUtf8 whole → IsUtf8 more → IsCharBoundary whole i → IsCharBoundary (whole ++ more) i
@@ -147,32 +147,32 @@ cut_forgotten whole start end named count =
     ap (λ (text : List ℕ). record { text = text; count = count.cells }) (either ((count.cells == 0) && not named) count.is_forgotten (take (end - start) (drop start whole)))
 
 pub counted : (texts : JoinedTexts) (at : ℕ) → at < length (places_joined texts) → at < length texts.counts.items
-counted texts at lt = omega (arith, lt, length-cut (string_bytes texts.whole) 0 texts.ends.items texts.counts.items)
+counted texts at lt = omega (arith, lt, length-cut (string_bytes texts.whole) 0 texts.ends texts.counts.items)
 
-pub start_after : (texts : JoinedTexts) (at start : ℕ) → IsJoined texts → at ≢ 0 → at < length (places_joined texts) → start ≡ get_or texts.ends.items (at - 1) start → start ≡ end_of 0 (take at texts.ends.items)
+pub start_after : (texts : JoinedTexts) (at start : ℕ) → IsJoined texts → at ≢ 0 → at < length (places_joined texts) → start ≡ get_or texts.ends (at - 1) start → start ≡ end_of 0 (take at texts.ends)
 start_after texts at start h later lt is =
     let next : suc (at - 1) ≡ at = omega (arith, later) in
-    let inside : at - 1 < length texts.ends.items = omega (arith, later, counted texts at lt, h.many) in
-    get_or_read texts.ends.items (at - 1) start inside is 0 ∙ sym (end_before 0 texts.ends.items (at - 1) inside) ∙ ap (λ n. end_of 0 (take n texts.ends.items)) next
+    let inside : at - 1 < length texts.ends = omega (arith, later, counted texts at lt, h.many) in
+    get_or_read texts.ends (at - 1) start inside is 0 ∙ sym (end_before 0 texts.ends (at - 1) inside) ∙ ap (λ n. end_of 0 (take n texts.ends)) next
 
 -- the text of a place, which is empty where it was forgotten
-pub text_there : (texts : JoinedTexts) (at start end : ℕ) (count : Count) → IsJoined texts → at < length (places_joined texts) → start ≡ end_of 0 (take at texts.ends.items)
-    → end ≡ get_or texts.ends.items at end → count ≡ get_or texts.counts.items at count → count.is_forgotten ≡ false → IsPlaceAt texts at start end count.cells
+pub text_there : (texts : JoinedTexts) (at start end : ℕ) (count : Count) → IsJoined texts → at < length (places_joined texts) → start ≡ end_of 0 (take at texts.ends)
+    → end ≡ get_or texts.ends at end → count ≡ get_or texts.counts.items at count → count.is_forgotten ≡ false → IsPlaceAt texts at start end count.cells
 text_there texts at start end count h lt start_is end_is is has_text =
     let whole = string_bytes texts.whole in
-    let inside : at < length texts.ends.items = omega (arith, counted texts at lt, h.many) in
-    rw (start_is, get_or_read texts.ends.items at end inside end_is 0) (record {
-      cut = is_cut whole 0 texts.ends.items at h.are inside;
-      place = place_at whole 0 texts.ends.items texts.counts.items at count (counted texts at lt) h.many is ∙ rw has_text refl;
+    let inside : at < length texts.ends = omega (arith, counted texts at lt, h.many) in
+    rw (start_is, get_or_read texts.ends at end inside end_is 0) (record {
+      cut = is_cut whole 0 texts.ends at h.are inside;
+      place = place_at whole 0 texts.ends texts.counts.items at count (counted texts at lt) h.many is ∙ rw has_text refl;
     })
 
-pub none_there : (texts : JoinedTexts) (at start : ℕ) (count : Count) → IsJoined texts → at < length (places_joined texts) → start ≡ end_of 0 (take at texts.ends.items)
+pub none_there : (texts : JoinedTexts) (at start : ℕ) (count : Count) → IsJoined texts → at < length (places_joined texts) → start ≡ end_of 0 (take at texts.ends)
     → count ≡ get_or texts.counts.items at count → count.is_forgotten ≡ true → IsPlaceAt texts at start start count.cells
 none_there texts at start count h lt start_is is lost =
     let whole = string_bytes texts.whole in
     let none : start - start ≡ 0 = omega arith in
-    let begins = subst (IsCharBoundary whole) (sym start_is) (is_cut whole 0 texts.ends.items at h.are (omega (arith, counted texts at lt, h.many))).begins in
+    let begins = subst (IsCharBoundary whole) (sym start_is) (is_cut whole 0 texts.ends at h.are (omega (arith, counted texts at lt, h.many))).begins in
     record {
       cut = record { begins = begins; ends = begins; order = omega arith };
-      place = place_at whole 0 texts.ends.items texts.counts.items at count (counted texts at lt) h.many is ∙ rw (lost, none) refl;
+      place = place_at whole 0 texts.ends texts.counts.items at count (counted texts at lt) h.many is ∙ rw (lost, none) refl;
     }

@@ -5,3 +5,4 @@ pub mod PlaceIndexLemmas
 pub mod IndexedFitLemmas
 pub mod PlaceLoopLemmas
 pub mod JoinedTextsLemmas
+pub mod TextJoiningLemmas

@@ -3,7 +3,7 @@ use Rattle.std.specs.Prelude.{◌≡◌, ◌≤◌, ℕ, ◌-◌, List, [], ◌�
 use Rattle.std.specs.Prelude.{if◌then◌else◌, slice_get}
 use Rattle.std.specs.Str.{IsCharBoundary}
 use Rattle.msi_text_pool_base.specs.Pool.{CountsFit, Place}
-use Rattle.msi_text_places.specs.declared.joined.Count.{Count}
+use Rattle.msi_text_places.specs.declared.count.Count.{Count}
 use Rattle.msi_text_places.specs.declared.joined.JoinedTexts.{JoinedTexts}
 
 -- the place whose text begins and ends at a byte; a forgotten text is empty
@@ -44,10 +44,10 @@ pub record IsAllCut (whole ends : List ℕ) (counts : List Count) : Type 0 where
   pub fit : CountsFit (places_cut whole 0 ends counts)
 
 abbrev pub IsJoined : JoinedTexts → Type 0
-IsJoined texts = IsAllCut (string_bytes texts.whole) texts.ends.items texts.counts.items
+IsJoined texts = IsAllCut (string_bytes texts.whole) texts.ends texts.counts.items
 
 abbrev pub places_joined : JoinedTexts → List Place
-places_joined texts = places_cut (string_bytes texts.whole) 0 texts.ends.items texts.counts.items
+places_joined texts = places_cut (string_bytes texts.whole) 0 texts.ends texts.counts.items
 
 -- a place has the text from a byte on and before another, and the count
 pub record IsPlaceAt (texts : JoinedTexts) (at start end count : ℕ) : Type 0 where

@@ -1,53 +1,26 @@
-//! Texts of places as they were read, one behind the other: 12 bytes a place say where its text ends, and its count.
+//! Texts of places as they were read, one behind the other: 8 bytes a place say where its text ends, and its count.
 
-ghost use Rattle.std.specs.Prelude.{◌≡◌, ◌≤◌, ◌<◌, ◌∷◌, ◌++◌, [], IfOk, OnOk, Some, length, not};
-ghost use Rattle.std.specs.Prelude.{slice_get, ◌==◌, ◌&&◌, ◌||◌};
+ghost use Rattle.std.specs.Prelude.{◌≡◌, ◌≤◌, ◌<◌, [], IfOk, Some, length};
+ghost use Rattle.std.specs.Prelude.{slice_get, string_bytes};
 ghost use Rattle.msi_text_base.specs.Results.{OnlyMemory};
-ghost use Rattle.msi_text_places.specs.JoinedTexts.{IsJoined, IsPlaceAt, places_joined};
+ghost use Rattle.msi_text_places.specs.JoinedTexts.{IsAllCut, IsJoined, IsPlaceAt, places_cut, places_joined};
 ghost use Rattle.msi_text_pool_base.specs.Pool.{without_unnamed_texts};
 ghost use Rattle.msi_text_pool_base.specs.Recounting.{AreCounts, many_recounted, with_counts};
 
+use crate::count::Count;
 use crate::piece::Piece;
 use crate::places::{Place, PlaceRef, Places};
 use crate::shared::SharedText;
 use msi_text_base::errors::Error;
+use msi_text_pool_base::parts::Numbers;
 use std::alloc::Global;
 use std::rc::RcStr;
-
-/// How many cells name a place, and whether it lost its text, which then still stands among the others.
-#[derive(Clone, Copy)]
-pub(crate) struct Count {
-    cells: u16,
-    is_forgotten: bool,
-}
-
-impl Count {
-    /// Sets the count, and returns whether there was another one. Without cells the text is lost.
-    fn set_count(&mut self, cells: u16) -> bool
-        ensures count { self.new
-            ≡ record self.old { cells = cells; is_forgotten = (cells == 0) || self.old.is_forgotten } }
-        ensures changed { result ≡ not (cells == self.old.cells) }
-    {
-        let is_changed = cells != self.cells;
-        self.is_forgotten = cells == 0 || self.is_forgotten;
-        self.cells = cells;
-        is_changed
-    }
-
-    /// The text of a free place is lost unless the place is named.
-    fn forget_text(&mut self, named: bool)
-        ensures { self.new
-            ≡ record self.old { is_forgotten = ((self.old.cells == 0) && not named) || self.old.is_forgotten } }
-    {
-        self.is_forgotten = (self.cells == 0 && !named) || self.is_forgotten;
-    }
-}
 
 /// The texts of places, one behind the other, where each ends, and its count: two vectors, which need no padding.
 #[derive(Drop)]
 pub struct JoinedTexts {
     whole: String,
-    ends: Vec<usize>,
+    ends: Numbers,
     counts: Vec<Count>,
 }
 
@@ -59,39 +32,22 @@ impl JoinedTexts {
     {
         JoinedTexts {
             whole: String::new(alloc),
-            ends: Vec::new(alloc),
+            ends: Numbers::new(alloc),
             counts: Vec::new(alloc),
         }
     }
 
-    /// No text, with room for so many places, and for texts of so many bytes.
-    pub fn with_capacity(alloc: Global, places: usize, bytes: usize) -> Result<JoinedTexts, Error>
-        ensures joined { IfOk result (λ texts. IsJoined texts) }
-        ensures ok { IfOk result (λ texts. places_joined texts ≡ []) }
-        ensures kind { OnlyMemory result }
+    /// Texts that are cut at these ends.
+    pub(crate) fn from_parts(whole: String, ends: Numbers, counts: Vec<Count>) -> JoinedTexts
+        requires { IsAllCut (string_bytes whole) ends counts.items }
+        ensures joined { IsJoined result }
+        ensures places { places_joined result ≡ places_cut (string_bytes whole) 0 ends counts.items }
     {
-        Ok(JoinedTexts {
-            whole: String::with_capacity(alloc, bytes)?,
-            ends: Vec::with_capacity(alloc, places)?,
-            counts: Vec::with_capacity(alloc, places)?,
-        })
-    }
-
-    /// Puts the text of a place behind the others. The only error is `OutOfMemory`.
-    pub fn push(&mut self, text: &str, count: u16) -> Result<(), Error>
-        requires { IsJoined self.old }
-        ensures joined { OnOk result (IsJoined self.new) }
-        ensures ok { OnOk result
-            (places_joined self.new ≡ places_joined self.old ++ record { text = text.now; count = count } ∷ []) }
-        ensures kind { OnlyMemory result }
-    {
-        self.whole.push_str(text)?;
-        self.ends.push(self.whole.as_str().len())?;
-        self.counts.push(Count {
-            cells: count,
-            is_forgotten: false,
-        })?;
-        Ok(())
+        JoinedTexts {
+            whole,
+            ends,
+            counts,
+        }
     }
 
     /// The same texts once more. The only error is `OutOfMemory`.
@@ -136,12 +92,12 @@ impl JoinedTexts {
         requires place { at < length (places_joined self.now) }
         ensures { IsPlaceAt self.now at result.0 result.1 result.2 }
     {
-        let start = if at == 0 { 0 } else { self.ends[at - 1] };
+        let start = if at == 0 { 0 } else { self.ends.get(at - 1) };
         let count = self.counts[at];
-        if count.is_forgotten {
-            return (start, start, count.cells);
+        if count.is_forgotten() {
+            return (start, start, count.cells());
         }
-        (start, self.ends[at], count.cells)
+        (start, self.ends.get(at), count.cells())
     }
 
     /// Sets the count of each place, and returns how many got another one. A place without cells loses its text.

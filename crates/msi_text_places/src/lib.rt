@@ -2,8 +2,11 @@
 //! place back.
 #![tactic(auto)]
 
+mod count;
+mod entries;
 mod indexed;
 mod joined;
+mod joiner;
 mod kept;
 pub mod parts;
 mod piece;

@@ -1,8 +1,9 @@
 -- The texts of the data stream one after the other, as a loop reads them.
 use Rattle.std.proofs.Common.{◌≡◌, ℕ, suc, ◌+◌, ◌<◌, ◌≤◌, false, ltb, List, [], ◌∷◌, ◌++◌, length, get_or, take, drop, Some, None, refl, sym, ap, subst, ◌∙◌, append_assoc, arith}
-use Rattle.std.specs.Prelude.{option_map}
+use Rattle.std.specs.Prelude.{option_map, slice_get}
 use Rattle.std.proofs.lemmas.Bool.{ltb-false, le-ltb}
-use Rattle.std.proofs.lemmas.List.{append-nil, take_at, drop_at, take-append-drop, length-append, length-take, drop_all}
+use Rattle.std.proofs.lemmas.List.{append-nil, take_at, drop_at, take-append-drop, length-append, length-take}
+use Rattle.std.proofs.lemmas.Option.{none-some, same_Some}
 use Rattle.msi_text_base.specs.declared.codepage.CodePage.{CodePage}
 use Rattle.msi_text_base.specs.declared.errors.ErrorKind.{ErrorKind}
 use Rattle.msi_text_base.specs.declared.errors.ErrorKind.TheVariants as kind
@@ -10,7 +11,6 @@ use Rattle.msi_text_base.specs.Pages.{text_in}
 use Rattle.msi_text_pool_base.specs.Pool.{Entry, Place, SpellsTexts}
 use Rattle.msi_text_pool_base.specs.PoolReading.{place_with, place_in_front}
 use Rattle.msi_text_base.specs.Results.{FailsAs}
-use Rattle.msi_text_base.proofs.ListLemmas.{drop_next}
 use Rattle.msi_text_base.proofs.OptionLemmas.{map_some, guard_passed, given, some_is, not_given}
 
 -- bytes in front read as the text of the place
@@ -55,51 +55,59 @@ same_length page bytes [] (p ∷ ps) h = absurd h
 same_length page bytes (e ∷ es) [] h = absurd h
 same_length page bytes (e ∷ es) (p ∷ ps) (piece, others, parts, len, reads, count, more) = ap suc (same_length page others es ps more)
 
--- the bytes spell what the rest spells of the later entries, with these places in front
-pub record AreInFront (page : CodePage) (entries : List Entry) (bytes : List ℕ) (i : ℕ) (front : List Place) (rest : List ℕ) : Type 0 where
-  pub into : (ps : List Place) → SpellsTexts page rest (drop i entries) ps → SpellsTexts page bytes entries (front ++ ps)
-  pub back : (ps : List Place) → SpellsTexts page bytes entries ps → (others : List Place) × (ps ≡ front ++ others) × SpellsTexts page rest (drop i entries) others
+-- the bytes spell what the rest spells of the entries that are left, with these places in front
+pub record AreInFront (page : CodePage) (entries : List Entry) (bytes : List ℕ) (left : List Entry) (front : List Place) (rest : List ℕ) : Type 0 where
+  pub into : (ps : List Place) → SpellsTexts page rest left ps → SpellsTexts page bytes entries (front ++ ps)
+  pub back : (ps : List Place) → SpellsTexts page bytes entries ps → (others : List Place) × (ps ≡ front ++ others) × SpellsTexts page rest left others
 
-pub texts_start : (page : CodePage) (entries : List Entry) (bytes : List ℕ) → AreInFront page entries bytes 0 [] bytes
+pub texts_start : (page : CodePage) (entries : List Entry) (bytes : List ℕ) → AreInFront page entries bytes entries [] bytes
 texts_start page entries bytes = record { into = λ ps h. h; back = λ ps h. (ps, refl, h) }
 
-pub texts_next : (page : CodePage) (entries : List Entry) (bytes : List ℕ) (i : ℕ) (front : List Place) (old : List ℕ) (e : Entry) (p : Place) (rest : List ℕ)
-    → AreInFront page entries bytes i front old → i < length entries → e ≡ get_or entries i e → place_in_front page e old ≡ Some (p, rest) → AreInFront page entries bytes (i + 1) (front ++ p ∷ []) rest
-texts_next page entries bytes i front old e p rest so_far lt is h =
-    let these = drop_next entries i e lt is in
-    let f = place_found page e old p rest h in
+pub texts_next : (page : CodePage) (entries : List Entry) (bytes : List ℕ) (left : List Entry) (front : List Place) (old : List ℕ) (e : Entry) (p : Place) (rest : List ℕ)
+    → AreInFront page entries bytes left front old → slice_get left 0 ≡ Some e → place_in_front page e old ≡ Some (p, rest) → AreInFront page entries bytes (drop 1 left) (front ++ p ∷ []) rest
+texts_next page entries bytes [] front old e p rest so_far next h = absurd (none-some e next)
+texts_next page entries bytes (d ∷ ds) front old e p rest so_far next h =
+    let f = place_found page d old p rest (ap (λ (x : Entry). place_in_front page x old) (same_Some d e next) ∙ h) in
     record {
       into = λ ps spelled. subst (λ (x : List Place). SpellsTexts page bytes entries x) (sym (append_assoc front (p ∷ []) ps))
-          (so_far.into (p ∷ ps) (subst (λ (x : List Entry). SpellsTexts page old x (p ∷ ps)) (sym these) (f.piece, rest, f.parts, f.len, f.reads, f.count, spelled)));
+          (so_far.into (p ∷ ps) (f.piece, rest, f.parts, f.len, f.reads, f.count, spelled));
       back = λ ps spelled. (let b = so_far.back ps spelled in
-          let n = next_texts page old e (drop (i + 1) entries) p rest b.0 h (subst (λ (x : List Entry). SpellsTexts page old x b.0) these b.2) in
+          let n = next_texts page old d ds p rest b.0 (ap (λ (x : Entry). place_in_front page x old) (same_Some d e next) ∙ h) b.2 in
           (n.0, b.1 ∙ ap (λ (x : List Place). front ++ x) n.1 ∙ sym (append_assoc front (p ∷ []) n.0), n.2));
     }
 
-pub texts_done : (page : CodePage) (entries : List Entry) (bytes : List ℕ) (i : ℕ) (front : List Place) (rest : List ℕ) → AreInFront page entries bytes i front rest → length entries ≤ i → SpellsTexts page bytes entries front
-texts_done page entries bytes i front rest so_far le =
-    subst (λ (x : List Place). SpellsTexts page bytes entries x) (append-nil front) (so_far.into [] (subst (λ (x : List Entry). SpellsTexts page rest x []) (sym (drop_all i entries le)) tt))
+pub none_left : (left : List Entry) → slice_get left 0 ≡ None → left ≡ []
+none_left [] none = refl
+none_left (e ∷ es) none = absurd (none-some e (sym none))
 
-pub texts_only : (page : CodePage) (entries : List Entry) (bytes : List ℕ) (i : ℕ) (front : List Place) (rest : List ℕ) (ps : List Place) → AreInFront page entries bytes i front rest → length entries ≤ i → SpellsTexts page bytes entries ps → ps ≡ front
-texts_only page entries bytes i front rest ps so_far le spelled =
+pub texts_done : (page : CodePage) (entries : List Entry) (bytes : List ℕ) (left : List Entry) (front : List Place) (rest : List ℕ) → AreInFront page entries bytes left front rest → slice_get left 0 ≡ None → SpellsTexts page bytes entries front
+texts_done page entries bytes left front rest so_far none =
+    subst (λ (x : List Place). SpellsTexts page bytes entries x) (append-nil front) (so_far.into [] (subst (λ (x : List Entry). SpellsTexts page rest x []) (sym (none_left left none)) tt))
+
+pub texts_only : (page : CodePage) (entries : List Entry) (bytes : List ℕ) (left : List Entry) (front : List Place) (rest : List ℕ) (ps : List Place) → AreInFront page entries bytes left front rest → slice_get left 0 ≡ None → SpellsTexts page bytes entries ps → ps ≡ front
+texts_only page entries bytes left front rest ps so_far none spelled =
     let b = so_far.back ps spelled in
-    b.1 ∙ ap (λ (x : List Place). front ++ x) (last_texts b.0 (subst (λ (x : List Entry). SpellsTexts page rest x b.0) (drop_all i entries le) b.2)) ∙ append-nil front
+    b.1 ∙ ap (λ (x : List Place). front ++ x) (last_texts b.0 (subst (λ (x : List Entry). SpellsTexts page rest x b.0) (none_left left none) b.2)) ∙ append-nil front
   where
     last_texts : (others : List Place) → SpellsTexts page rest [] others → others ≡ []
     last_texts [] h = refl
     last_texts (q ∷ qs) h = absurd h
 
 -- a fault of the next place is one of the places
-pub texts_cut : (k : ErrorKind) (page : CodePage) (entries : List Entry) (bytes : List ℕ) (i : ℕ) (front : List Place) (old : List ℕ) (e : Entry) (ps : List Place)
-    → AreInFront page entries bytes i front old → i < length entries → e ≡ get_or entries i e → FailsAs k (place_in_front page e old) → SpellsTexts page bytes entries ps → FailsAs k (given ps)
-texts_cut kind.AlreadyExists page entries bytes i front old e ps so_far lt is h spelled = absurd h
-texts_cut kind.InvalidData page entries bytes i front old e ps so_far lt is h spelled =
+cut_here : (page : CodePage) (left : List Entry) (old : List ℕ) (e : Entry) (others : List Place) → slice_get left 0 ≡ Some e → place_in_front page e old ≡ None → SpellsTexts page old left others → ⊥
+cut_here page [] old e others next h spelled = absurd (none-some e next)
+cut_here page (d ∷ ds) old e others next h spelled = no_texts page old d ds others (ap (λ (x : Entry). place_in_front page x old) (same_Some d e next) ∙ h) spelled
+
+pub texts_cut : (k : ErrorKind) (page : CodePage) (entries : List Entry) (bytes : List ℕ) (left : List Entry) (front : List Place) (old : List ℕ) (e : Entry) (ps : List Place)
+    → AreInFront page entries bytes left front old → slice_get left 0 ≡ Some e → FailsAs k (place_in_front page e old) → SpellsTexts page bytes entries ps → FailsAs k (given ps)
+texts_cut kind.AlreadyExists page entries bytes left front old e ps so_far next h spelled = absurd h
+texts_cut kind.InvalidData page entries bytes left front old e ps so_far next h spelled =
     let b = so_far.back ps spelled in
-    absurd (no_texts page old e (drop (i + 1) entries) b.0 h (subst (λ (x : List Entry). SpellsTexts page old x b.0) (drop_next entries i e lt is) b.2))
-texts_cut kind.InvalidInput page entries bytes i front old e ps so_far lt is h spelled = absurd h
-texts_cut kind.NotFound page entries bytes i front old e ps so_far lt is h spelled = absurd h
-texts_cut kind.Io page entries bytes i front old e ps so_far lt is h spelled = absurd h
-texts_cut kind.OutOfMemory page entries bytes i front old e ps so_far lt is h spelled = tt
+    absurd (cut_here page left old e b.0 next h b.2)
+texts_cut kind.InvalidInput page entries bytes left front old e ps so_far next h spelled = absurd h
+texts_cut kind.NotFound page entries bytes left front old e ps so_far next h spelled = absurd h
+texts_cut kind.Io page entries bytes left front old e ps so_far next h spelled = absurd h
+texts_cut kind.OutOfMemory page entries bytes left front old e ps so_far next h spelled = tt
 
 pub one_texts : (page : CodePage) (bytes : List ℕ) (es : List Entry) (xs ys : List Place) → SpellsTexts page bytes es xs → SpellsTexts page bytes es ys → xs ≡ ys
 one_texts page bytes [] [] [] p q = refl

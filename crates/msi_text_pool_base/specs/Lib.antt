@@ -6,3 +6,4 @@ pub mod FirstFit
 pub mod FirstFitLaws
 pub mod Recounting
 pub mod References
+pub mod Numbers

@@ -29,6 +29,13 @@ impl Model for Entry {
 }
 
 impl Entry {
+    /// Returns an entry of a text of so many bytes, whose place so many cells name.
+    pub fn new(len: u32, count: u16) -> Entry
+        ensures { result ≡ record { len = len; count = count } }
+    {
+        Entry { len, count }
+    }
+
     /// Returns how many bytes the text has.
     pub fn len(&self) -> u32
         ensures { result ≡ self.now.len }
@@ -64,9 +71,12 @@ pub fn entries_of(alloc: Global, bytes: &[u8]) -> Result<Vec<Entry>, Error>
     Ok(entries)
 }
 
-/// The entry in front, and the bytes after it.
+/// Returns the entry in front, and the bytes after it.
+///
+/// # Errors
+/// Fails with `InvalidData` if the entry is cut.
 #[tactic(auto, unfolding(crate::specs::PoolReading::entry_at))]
-fn entry_of(bytes: &[u8]) -> Result<(Entry, &[u8]), Error>
+pub fn entry_of(bytes: &[u8]) -> Result<(Entry, &[u8]), Error>
     ensures { Gives (λ x. (x.0, x.1.now)) result (entry_at bytes.now) }
 {
     let (short, rest) = u16_at(bytes, reasons::POOL_CUT)?;

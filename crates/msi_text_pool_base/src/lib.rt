@@ -5,6 +5,7 @@
 mod entries;
 mod free;
 mod lengths;
+mod numbers;
 mod operations;
 pub mod parts;
 pub mod reasons;

@@ -1,12 +1,13 @@
 //! Reading the pool's two streams.
 
-ghost use Rattle.std.specs.Prelude.{◌≡◌, ◌⊎◌, ◌<◌, ◌^◌, List, IfOk, IfErr, IfSome, OnOk, Some};
+ghost use Rattle.std.specs.Prelude.{◌≡◌, ◌⊎◌, ◌<◌, ◌^◌, List, IfOk, IfErr, IfSome, OnOk, Some, drop, length, slice_get};
 ghost use Rattle.msi_text_base.specs.declared.errors.ErrorKind.TheVariants.{Io, InvalidData, OutOfMemory};
 ghost use Rattle.msi_text_base.specs.Pages.{page_with_id, text_in};
 ghost use Rattle.msi_text_pool_base.specs.Pool as pools;
 ghost use Rattle.msi_text_pool_base.specs.Pool.{IsPoolStream, PoolStream, SpellsTexts};
 ghost use Rattle.msi_text_pool_base.specs.Pool.{newly_indexed, pool_with};
 ghost use Rattle.msi_text_places.specs.JoinedTexts.{IsJoined, places_joined};
+ghost use Rattle.msi_text_places.specs.TextJoining.{IsJoining, entries_left, places_read};
 ghost use Rattle.msi_text_pool_base.specs.PoolReading.{IsPut, place_in_front, header_in};
 ghost use Rattle.msi_text_pool.specs.PoolPieces.{IsPiecePut};
 ghost use Rattle.msi_text_base.specs.Results.{FailsAs, Gives, IsStreamFault, IsUnlessFault, IsUnlessMemory};
@@ -17,8 +18,8 @@ use bstr::ByteSlice;
 use msi_text_base::codepage::CodePage;
 use msi_text_base::errors::{Error, ErrorKind};
 use msi_text_base::fields::u32_at;
-use msi_text_places::parts::{JoinedTexts, MAX_PLACES};
-use msi_text_pool_base::parts::{Entry, entries_of};
+use msi_text_places::parts::{Entries, JoinedTexts, MAX_PLACES, TextJoiner};
+use msi_text_pool_base::parts::Entry;
 use std::alloc::Global;
 use std::io::Read;
 use std::marker::Model;
@@ -28,18 +29,18 @@ use std::marker::Model;
 pub struct StringPoolBuilder {
     codepage: CodePage,
     long: bool,
-    entries: Vec<Entry>,
+    entries: Entries,
 }
 
 impl Model for StringPoolBuilder {
     ghost use Rattle.msi_text_pool_base.specs.Pool.{PoolStream};
-    ghost use Rattle.std.specs.Prelude.{◌≤◌, vec_len};
+    ghost use Rattle.std.specs.Prelude.{◌≤◌, length};
 
     ghost Value = { PoolStream };
 
-    ghost view = { λ b. record { page = b.codepage; long = b.long; entries = b.entries.items } };
+    ghost view = { λ b. record { page = b.codepage; long = b.long; entries = b.entries } };
 
-    ghost invariant = { λ b. vec_len b.entries ≤ 16777215 };
+    ghost invariant = { λ b. length b.entries ≤ 16777215 };
 }
 
 impl StringPoolBuilder {
@@ -111,7 +112,7 @@ pub fn pool_builder_of(alloc: Global, bytes: &[u8]) -> Result<StringPoolBuilder,
 {
     let (header, rest) = u32_at(bytes, reasons::POOL_CUT)?;
     let (codepage, long) = page_of(header)?;
-    let entries = entries_of(alloc, rest)?;
+    let entries = Entries::read(alloc, rest)?;
     if entries.len() > MAX_PLACES {
         return Err(Error::new(ErrorKind::InvalidData, reasons::POOL_PLACES));
     }
@@ -136,8 +137,13 @@ pub fn pool_of(alloc: Global, stream: StringPoolBuilder, bytes: &[u8]) -> Result
         → IsUnlessMemory result (newly_indexed (pool_with stream places)) }
     ensures kinds { IfErr result (λ kind. (kind ≡ InvalidData) ⊎ (kind ≡ OutOfMemory)) }
 {
-    let texts = texts_of(alloc, stream.codepage, stream.entries.as_slice(), bytes)?;
-    Ok(StringPool::from_parts(stream.codepage, stream.long, texts))
+    let StringPoolBuilder {
+        codepage,
+        long,
+        entries,
+    } = stream;
+    let texts = texts_of(alloc, codepage, entries, bytes)?;
+    Ok(StringPool::from_parts(codepage, long, texts))
 }
 
 /// The page of a header, and whether references are long.
@@ -165,64 +171,67 @@ fn known_page(id: u32) -> Result<CodePage, Error>
 fn texts_of(
     alloc: Global,
     codepage: CodePage,
-    entries: &[Entry],
+    entries: Entries,
     bytes: &[u8],
 ) -> Result<JoinedTexts, Error>
     ensures joined { IfOk result (λ texts. IsJoined texts) }
-    ensures found { IfOk result (λ texts. SpellsTexts codepage bytes.now entries.now (places_joined texts)) }
+    ensures found { IfOk result (λ texts. SpellsTexts codepage bytes.now entries (places_joined texts)) }
     ensures only { (places : List pools.Place)
-        → SpellsTexts codepage bytes.now entries.now places → Gives places_joined result (Some places) }
+        → SpellsTexts codepage bytes.now entries places → Gives places_joined result (Some places) }
     ensures kinds { IfErr result (λ kind. (kind ≡ InvalidData) ⊎ (kind ≡ OutOfMemory)) }
 {
-    let mut texts = JoinedTexts::with_capacity(alloc, entries.len(), bytes.len())?;
+    let mut joiner = TextJoiner::new(alloc, entries, bytes.len())?;
     let mut rest = bytes;
-    for entry in entries {
-        rest = push_text(alloc, &mut texts, codepage, entry, rest)?;
+    while let Some(entry) = joiner.next_entry() {
+        rest = push_text(alloc, &mut joiner, codepage, entry, rest)?;
     }
-    Ok(texts)
+    Ok(joiner.finish())
 }
 
 /// Puts the text that stands in front behind the others, and returns the bytes after it.
 fn push_text<'a>(
     alloc: Global,
-    texts: &mut JoinedTexts,
+    joiner: &mut TextJoiner,
     codepage: CodePage,
-    entry: &Entry,
+    entry: Entry,
     bytes: &'a [u8],
 ) -> Result<&'a [u8], Error>
-    requires { IsJoined texts.old }
-    ensures joined { OnOk result (IsJoined texts.new) }
+    requires joining { IsJoining joiner.old }
+    requires next { slice_get (entries_left joiner.old) 0 ≡ Some entry }
+    ensures joining { OnOk result (IsJoining joiner.new) }
     ensures ok { IfOk result (λ rest.
-        IsPut codepage entry.now bytes.now (places_joined texts.old) (places_joined texts.new) rest.now) }
-    ensures err { IfErr result (λ kind. FailsAs kind (place_in_front codepage entry.now bytes.now)) }
+        IsPut codepage entry bytes.now (places_read joiner.old) (places_read joiner.new) rest.now) }
+    ensures left { OnOk result (entries_left joiner.new ≡ drop 1 (entries_left joiner.old)) }
+    ensures err { IfErr result (λ kind. FailsAs kind (place_in_front codepage entry bytes.now)) }
 {
     let len = entry.len() as usize;
     if bytes.len() < len {
         return Err(Error::new(ErrorKind::InvalidData, reasons::POOL_DATA));
     }
     let (piece, rest) = bytes.split_at(len);
-    push_piece(alloc, texts, codepage, piece, entry.count())?;
+    push_piece(alloc, joiner, codepage, piece)?;
     Ok(rest)
 }
 
 /// Puts the text that the bytes encode behind the others.
 fn push_piece(
     alloc: Global,
-    texts: &mut JoinedTexts,
+    joiner: &mut TextJoiner,
     codepage: CodePage,
     piece: &[u8],
-    count: u16,
 ) -> Result<(), Error>
-    requires { IsJoined texts.old }
-    ensures joined { OnOk result (IsJoined texts.new) }
-    ensures ok { OnOk result
-        (IsPiecePut codepage piece.now count (places_joined texts.old) (places_joined texts.new)) }
+    requires joining { IsJoining joiner.old }
+    requires left { 0 < length (entries_left joiner.old) }
+    ensures joining { OnOk result (IsJoining joiner.new) }
+    ensures ok { (entry : pools.Entry) → slice_get (entries_left joiner.old) 0 ≡ Some entry → OnOk result
+        (IsPiecePut codepage piece.now entry.count (places_read joiner.old) (places_read joiner.new)) }
+    ensures left { OnOk result (entries_left joiner.new ≡ drop 1 (entries_left joiner.old)) }
     ensures err { IfErr result (λ kind. FailsAs kind (text_in codepage piece.now)) }
 {
     if let CodePage::Utf8 = codepage {
         let text = piece.to_str_lossy(alloc)?;
-        return texts.push(text.as_ref(), count);
+        return joiner.push(text.as_ref());
     }
     let text = codepage.decode(alloc, piece)?;
-    texts.push(text.as_str(), count)
+    joiner.push(text.as_str())
 }
