@@ -1,12 +1,12 @@
 -- Entries that are put behind others, and texts whose ends take the place of their lengths.
-use Rattle.std.proofs.Common.{◌≡◌, ℕ, zero, suc, ◌+◌, ◌<◌, ◌≤◌, ◌^◌, false, List, [], ◌∷◌, ◌++◌, length, get_or, set, take, drop, Some, None, Result, Ok, Err, refl, sym, ap, subst, ◌∙◌, arith}
-use Rattle.std.specs.Prelude.{IsUtf8, slice_get, string_bytes, OnOk}
-use Rattle.std.proofs.lemmas.List.{append-nil, drop-set-lt, length-drop, length-set, take-append-drop, take_more, take_more_set}
+use Rattle.std.proofs.Common.{◌≡◌, ℕ, zero, suc, ◌+◌, ◌<◌, ◌^◌, false, List, [], ◌∷◌, ◌++◌, length, get_or, set, take, drop, Some, refl, sym, ap, subst, ◌∙◌, arith}
+use Rattle.std.specs.Prelude.{IsUtf8, slice_get}
+use Rattle.std.proofs.lemmas.List.{append-nil, drop-set-lt, length-drop, take-append-drop, take_more, take_more_set}
 use Rattle.std.proofs.lemmas.Option.{same_Some}
 use Rattle.msi_text_base.proofs.ListLemmas.{drop_next}
 use Rattle.msi_text_pool_base.specs.Pool.{Entry, Place}
 use Rattle.msi_text_places.specs.JoinedTexts.{IsAllCut, places_cut}
-use Rattle.msi_text_places.specs.TextJoining.{AreUnread, IsJoining, entries_left, entries_with, places_read}
+use Rattle.msi_text_places.specs.TextJoining.{AreUnread, IsJoining, entries_left, entries_with}
 use Rattle.msi_text_places.specs.declared.count.Count.{Count}
 use Rattle.msi_text_places.specs.declared.joiner.TextJoiner.{TextJoiner}
 use Rattle.msi_text_places.proofs.JoinedTextsLemmas.{place_put, text_put}
