@@ -1,6 +1,6 @@
 -- What is selected of rows that are as wide as their columns is so too.
 use Rattle.std.proofs.Common.{◌≡◌, ℕ, ◌+◌, List, [], ◌∷◌, ◌++◌, length, map, filter, replicate, get_or, Bool, true, false, not, Option, Some, None, cond, suc, refl, ap, subst, sym, ◌∙◌, length-append}
-use Rattle.std.specs.Prelude.{Result, Ok, Err, IfOk, option_map, if◌then◌else◌, option_and_then, slice_get, is_some, bytes_eq, ◌==◌}
+use Rattle.std.specs.Prelude.{Result, Ok, Err, IfOk, if◌then◌else◌, option_and_then, slice_get, is_some, bytes_eq, ◌==◌}
 use Rattle.std.specs.List.{filter_map, flat_map, cons_option}
 use mathlib.Core.Bool.{true≢false}
 use Rattle.std.proofs.lemmas.List.{length-map, length-replicate}
@@ -8,7 +8,7 @@ use Rattle.std.proofs.lemmas.List.Quantifiers.{position-Some}
 use Rattle.std.proofs.lemmas.Option.{slice_get-get_or}
 use Rattle.std.proofs.lemmas.Bool.{and_parts, not-false}
 use Rattle.msi_text_base.specs.declared.errors.ErrorKind.{ErrorKind}
-use Rattle.msi_text_base.specs.declared.errors.ErrorKind.TheVariants.{InvalidData, InvalidInput, NotFound}
+use Rattle.msi_text_base.specs.declared.errors.ErrorKind.TheVariants.{InvalidInput}
 use Rattle.msi_text_pool_base.specs.Pool.{Place}
 use Rattle.msi_table_values.specs.declared.value.Value.{Value}
 use Rattle.msi_table_values.specs.declared.value.Value.TheVariants.{Null}
@@ -19,11 +19,10 @@ use Rattle.msi_query.specs.declared.query.JoinKind.{JoinKind}
 use Rattle.msi_query.specs.declared.query.JoinKind.TheVariants.{Inner, Left}
 use Rattle.msi_query_expressions.specs.Expressions.{Expression, names_in}
 use Rattle.msi_query_expressions.specs.Conditions.{meets}
-use Rattle.msi_query.specs.Queries.{Clauses, Query, table, join}
-use Rattle.msi_text_base.specs.Refusals.{unless_refused, or_refused, ◌>>=◌}
-use Rattle.msi_table_values.specs.TableCells.{TableCells}
-use Rattle.msi_query_joins.specs.Rows.{RelationCells, relation_values, rows_values, table_values, tables_values}
-use Rattle.msi_query_joins.specs.Selection.{Relation, TableValues, condition_names, has_columns, is_left, joined, joined_columns, joined_narrowed, narrowed, nullable_if, or_nulls, pairs_of, prefixed, projected_row, relation_of, rows_of_row, selected}
+use Rattle.msi_query.specs.Queries.{Clauses}
+use Rattle.msi_text_base.specs.Refusals.{unless_refused}
+use Rattle.msi_query_joins.specs.Rows.{RelationCells, relation_values, rows_values}
+use Rattle.msi_query_joins.specs.Selection.{Relation, condition_names, has_columns, is_left, joined, joined_columns, joined_narrowed, narrowed, nullable_if, or_nulls, pairs_of, prefixed, projected_row, rows_of_row, selected}
 use Rattle.msi_query_rows.specs.Width.{HasWidth, ValuesAreWide}
 
 -- rows of cells are as wide as the rows that they stand for

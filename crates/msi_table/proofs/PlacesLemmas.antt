@@ -33,17 +33,33 @@ sum_widths_within : (long : Bool) (types : List ColumnType) (j : ℕ) (d : Colum
     → sum (take j (widths long types)) + width long (slice_index_or types j d) ≤ sum (widths long types)
 sum_widths_within long types j d h = omega (arith, width_at long types j d h, sum_by_more_le (λ (x : ℕ). x) (widths long types) j 0 (omega (arith, lists.length-map types (width long))))
 
--- the columns up to this one take no more than all bytes
-pub column_inside : (long : Bool) (types : List ColumnType) (bytes : List ℕ) (n j : ℕ) (d : ColumnType) → n ≡ row_count long types bytes → j < length types
-    → n * sum (take j (widths long types)) + n * width long (slice_index_or types j d) ≤ length bytes
-column_inside long types bytes n j d e h =
+-- the columns up to this one take no more than all
+columns_within : (long : Bool) (types : List ColumnType) (n j : ℕ) (d : ColumnType) → j < length types
+    → n * sum (take j (widths long types)) + n * width long (slice_index_or types j d) ≤ n * sum (widths long types)
+columns_within long types n j d h =
     omega (
       arith,
       nat.mul-add n (sum (take j (widths long types))) (width long (slice_index_or types j d)),
       nat.mul-le-mul_left n (sum_widths_within long types j d h),
-      nat.div-mul-le_self (length bytes) (sum (widths long types)),
-      ap (λ m. m * sum (widths long types)) e,
     )
+
+-- and so no more than all bytes
+all_inside : (long : Bool) (types : List ColumnType) (bytes : List ℕ) (n : ℕ) → n ≡ row_count long types bytes → n * sum (widths long types) ≤ length bytes
+all_inside long types bytes n e = omega (arith, nat.div-mul-le_self (length bytes) (sum (widths long types)), ap (λ m. m * sum (widths long types)) e)
+
+pub column_inside : (long : Bool) (types : List ColumnType) (bytes : List ℕ) (n j : ℕ) (d : ColumnType) → n ≡ row_count long types bytes → j < length types
+    → n * sum (take j (widths long types)) + n * width long (slice_index_or types j d) ≤ length bytes
+column_inside long types bytes n j d e h = omega (arith, columns_within long types n j d h, all_inside long types bytes n e)
+
+-- where a column begins, and where it ends
+pub start_within : (long : Bool) (columns : List ColumnDef) (n j : ℕ) → j < length columns → n * sum (take j (widths long (types_of columns))) ≤ n * sum (widths long (types_of columns))
+start_within long columns n j l = omega (arith, columns_within long (types_of columns) n j coltype.Int16 (below_types columns j l))
+
+pub column_is_inside : (long : Bool) (columns : List ColumnDef) (start n j w : ℕ) (type : ColumnType) (d : ColumnDef) → j < length columns → type ≡ (slice_index_or columns j d).coltype → w ≡ width long type
+    → start ≡ n * sum (take j (widths long (types_of columns))) → start + n * w ≤ n * sum (widths long (types_of columns))
+column_is_inside long columns start n j w type d l t is s =
+    let at = is ∙ ap (width long) (type_at columns j type d l t) in
+    omega (arith, s, columns_within long (types_of columns) n j coltype.Int16 (below_types columns j l), ap (λ v. n * v) at)
 
 -- a cell stands inside its column
 cell_inside : (n i w : ℕ) → i < n → i * w + w ≤ n * w

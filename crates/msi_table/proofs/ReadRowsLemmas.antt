@@ -1,5 +1,5 @@
 -- Rows that are read are as wide as the columns, and fit them.
-use Rattle.std.proofs.Common.{◌≡◌, ℕ, zero, suc, ◌^◌, ◌<◌, ◌≤◌, Bool, true, false, List, [], ◌∷◌, length, take, drop, ◌⊎◌, Some, None, ap, ◌∙◌, subst, arith, ⊎_elim}
+use Rattle.std.proofs.Common.{◌≡◌, ℕ, zero, suc, ◌*◌, ◌^◌, ◌<◌, ◌≤◌, Bool, true, false, List, [], ◌∷◌, length, take, drop, sum, ◌⊎◌, Some, None, ap, ◌∙◌, subst, arith, ⊎_elim}
 use Rattle.std.proofs.lemmas.Bool.{cases_Bool}
 use Rattle.std.proofs.lemmas.Bool.Decides.{nat_tests}
 use Rattle.std.proofs.lemmas.Int.{ints}
@@ -13,13 +13,13 @@ use Rattle.msi_text_pool_base.specs.References.{number_of}
 use Rattle.msi_table_values.specs.declared.column.ColumnType.{ColumnType}
 use Rattle.msi_table_values.specs.declared.column.ColumnType.TheVariants as coltype
 use Rattle.msi_table_values.specs.declared.value.ValueRef.TheVariants as cell
-use Rattle.msi_table.specs.Cells.{width, row_count, cell_in, cell_of_number, cell_at, cell_place, row_in}
+use Rattle.msi_table.specs.Cells.{AreStarts, width, widths, row_count, cell_in, cell_of_number, cell_at, cell_place, row_in}
 use Rattle.msi_table_values.specs.Columns.{ColumnDef, types_of}
 use Rattle.msi_table_values.specs.Fitting.{FitsColumn, FitsRow, FitsTable}
 use Rattle.msi_table.specs.Rows.{AreAsWide, cell_in_row}
 use Rattle.msi_table.specs.Tables.{ReadRowsFit}
 use Rattle.msi_table_values.proofs.FittingLemmas.{fits_by_cells}
-use Rattle.msi_table_values.proofs.ColumnTypesLemmas.{length-types_of}
+use Rattle.msi_table_values.proofs.ColumnTypesLemmas.{below_types, length-types_of}
 use Rattle.msi_table_order.proofs.SortedRowsLemmas.{all_at}
 
 pub length-tabulated : {X : Type 0} (n : ℕ) (f : ℕ → X) → length (tabulated n f) ≡ n
@@ -125,6 +125,16 @@ read_fits long columns bytes rows e =
         each_row = all_mapped (FitsRow long types) (row_in long types bytes) (row_fits long types bytes (bytes_from bytes h)) (numbers_from 0 count);
       }),
     )
+
+-- where columns begin, one for each
+pub length-starts : (long : Bool) (columns : List ColumnDef) (n : ℕ) (starts : List ℕ) → AreStarts long (types_of columns) n starts → length starts ≡ length columns
+length-starts long columns n starts are =
+    ap length are ∙ length-tabulated (length (types_of columns)) (λ j. n * sum (take j (widths long (types_of columns)))) ∙ length-types_of columns
+
+pub start_noted : (long : Bool) (columns : List ColumnDef) (n j : ℕ) (starts : List ℕ) → j < length columns → AreStarts long (types_of columns) n starts
+    → slice_get starts j ≡ Some (n * sum (take j (widths long (types_of columns))))
+start_noted long columns n j starts l are =
+    ap (λ (s : List ℕ). slice_get s j) are ∙ tabulated_at (λ j. n * sum (take j (widths long (types_of columns)))) (length (types_of columns)) j (below_types columns j l)
 
 -- a cell of the rows that are read
 pub cell_found : (long : Bool) (columns : List ColumnDef) (bytes : List ℕ) (n i j : ℕ) → i < n → j < length columns

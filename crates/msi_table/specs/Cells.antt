@@ -1,5 +1,5 @@
 -- The streams of tables: cells by their positions.
-use Rattle.std.specs.Prelude.{ℕ, ◌+◌, ◌*◌, ◌/◌, Bool, true, false, List, [], ◌∷◌, ◌++◌, map, length, take, drop}
+use Rattle.std.specs.Prelude.{◌≡◌, ℕ, ◌+◌, ◌*◌, ◌/◌, Bool, true, false, List, [], ◌∷◌, ◌++◌, map, length, take, drop}
 use Rattle.std.specs.Prelude.{Option, Some, None}
 use Rattle.std.specs.Prelude.{◌^◌, nat_le, ◌==◌, if◌then◌else◌, pos, ◌+ℤ◌, ◌-ℤ◌, sum, slice_get}
 use Rattle.std.specs.Option as options
@@ -58,6 +58,10 @@ row_count long types bytes = length bytes / sum (widths long types)
 
 abbrev pub cell_place : Bool → List ColumnType → ℕ → ℕ → ColumnType → ℕ → ℕ
 cell_place long types n j type i = n * sum (take j (widths long types)) + i * width long type
+
+-- where the cells of each column begin, if there are n rows
+abbrev pub AreStarts : Bool → List ColumnType → ℕ → List ℕ → Type 0
+AreStarts long types n starts = starts ≡ tabulated (length types) (λ j. n * sum (take j (widths long types)))
 
 abbrev pub cell_at : Bool → List ColumnType → List ℕ → ℕ → ℕ → ValueRef
 cell_at long types bytes i j = options.option_map_or

@@ -1,6 +1,6 @@
 //! Rows of a table's stream that are picked, and which of their cells.
 
-ghost use Rattle.std.specs.Prelude.{◌≡◌, ◌<◌, IfOk, Some, length, slice_get, slice_index_or, [], option_map};
+ghost use Rattle.std.specs.Prelude.{◌≡◌, ◌<◌, IfOk, Some, length, slice_get};
 ghost use Rattle.msi_text_base.specs.Results.{OnlyMemory};
 ghost use Rattle.msi_table.specs.Rows.{AreRowNumbers, cell_at, cell_in_row, cells_at, rows_numbered, rows_picked};
 

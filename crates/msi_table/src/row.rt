@@ -195,6 +195,17 @@ impl<'a> Rows<'a> {
         }) }
         ensures kind { OnlyMemory result }
     {
+        let PickedRows {
+            stored,
+            numbers,
+            places,
+        } = picked;
+        let stored = stored.with_starts(alloc)?;
+        let picked = PickedRows {
+            stored,
+            numbers,
+            places,
+        };
         Rows::from_source(alloc, pool, columns, Source::Stored(picked))
     }
 

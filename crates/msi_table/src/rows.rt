@@ -1,10 +1,10 @@
 //! The rows of a table's stream.
 
-ghost use Rattle.std.specs.Prelude.{◌≡◌, ◌<◌, ◌≤◌, is_some, length, sum, IfOk, Some};
+ghost use Rattle.std.specs.Prelude.{◌≡◌, ◌*◌, ◌<◌, ◌≤◌, is_some, length, sum, take, IfOk, IfSome, Some};
 ghost use Rattle.msi_text_base.specs.Lists.{tabulated};
 ghost use Rattle.msi_text_base.specs.Results.{OnlyMemory};
 ghost use Rattle.msi_text_base.specs.declared.errors.ErrorKind.TheVariants.{InvalidData};
-ghost use Rattle.msi_table.specs.Cells.{cell_at, widths, row_count as count_of, row_in, rows_in};
+ghost use Rattle.msi_table.specs.Cells.{AreStarts, cell_at, widths, row_count as count_of, row_in, rows_in};
 ghost use Rattle.msi_table.specs.Tables.{most_columns};
 ghost use Rattle.msi_table_values.specs.Columns.{types_of};
 ghost use Rattle.msi_table_values.specs.Refusals.{FailsWith};
@@ -50,23 +50,66 @@ pub(crate) fn are_rows(long: bool, columns: &[Column], bytes: &[u8]) -> bool
     row_count(long, columns, bytes) <= MAX_ROWS
 }
 
-/// The cell of one row of so many, and of a column.
+/// Where the cells of each column begin, if there are so many rows.
+///
+/// # Errors
+/// `OutOfMemory`.
+pub(crate) fn column_starts(
+    alloc: Global,
+    long: bool,
+    columns: &[Column],
+    count: usize,
+) -> Result<Vec<usize>, Error>
+    requires fits { count * sum (widths long (types_of columns.now)) ≤ usize.MAX }
+    ensures ok { IfOk result (λ starts. AreStarts long (types_of columns.now) count starts.items) }
+    ensures kind { OnlyMemory result }
+{
+    let mut starts = Vec::with_capacity(alloc, columns.len())?;
+    let mut start = 0;
+    for column in columns {
+        starts.push(start)?;
+        start += count * width(long, column.coltype());
+    }
+    Ok(starts)
+}
+
+/// Where the cells of a column begin, if there are so many rows: as it was noted, and else by the widths of the columns
+/// before.
+pub(crate) fn column_start(
+    long: bool,
+    columns: &[Column],
+    count: usize,
+    starts: &Option<Vec<usize>>,
+    j: usize,
+) -> usize
+    requires many { length columns.now ≤ most_columns }
+    requires fits { count * sum (widths long (types_of columns.now)) ≤ usize.MAX }
+    requires column { j < length columns.now }
+    requires noted { IfSome starts.now (λ noted. AreStarts long (types_of columns.now) count noted.items) }
+    ensures { result ≡ count * sum (take j (widths long (types_of columns.now))) }
+{
+    match starts {
+        Some(noted) => noted[j],
+        None => count * row_width(long, &columns[..j]),
+    }
+}
+
+/// The cell of a row and a column, whose cells begin at `start`.
 pub(crate) fn read_one(
     long: bool,
     columns: &[Column],
     bytes: &[u8],
-    count: usize,
     i: usize,
     j: usize,
+    start: usize,
 ) -> ValueRef
-    requires many { length columns.now ≤ most_columns }
-    requires count { count ≡ count_of long (types_of columns.now) bytes.now }
-    requires row { i < count }
+    requires row { i < count_of long (types_of columns.now) bytes.now }
     requires column { j < length columns.now }
+    requires start { let types = types_of columns.now in
+        start ≡ count_of long types bytes.now * sum (take j (widths long types)) }
     ensures { result ≡ cell_at long (types_of columns.now) bytes.now i j }
 {
     let coltype = columns[j].coltype();
-    let start = count * row_width(long, &columns[..j]);
     read_cell(long, coltype, bytes, start + i * width(long, coltype))
 }
 

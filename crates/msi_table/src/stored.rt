@@ -5,7 +5,7 @@ ghost use Rattle.msi_text_base.specs.Results.{OnlyMemory};
 ghost use Rattle.msi_table.specs.Rows.{AreAsWide, cell_in_row, table_rows};
 ghost use Rattle.msi_table.specs.Tables.{rows_spelled};
 
-use crate::rows::{read_all, read_one, read_row, row_count};
+use crate::rows::{column_start, column_starts, read_all, read_one, read_row, row_count};
 use crate::table::Table;
 use msi_table_values::column::Column;
 use msi_table_values::parts::MAX_ROWS;
@@ -15,18 +15,20 @@ use msi_text_base::text::Items;
 use std::alloc::Global;
 use std::marker::Model;
 
-/// The columns of a table, and the rows that the bytes of its stream encode. It holds the bytes, and no cell.
+/// The columns of a table, and the rows that the bytes of its stream encode. It holds the bytes, and no cell. Where the
+/// cells of each column begin may be noted: then a cell is found without the widths of the columns before it.
 #[derive(Drop)]
 pub struct StoredRows<'a> {
     table: &'a Table,
     bytes: &'a [u8],
     count: usize,
+    starts: Option<Vec<usize>>,
 }
 
 impl<'a> Model for StoredRows<'a> {
-    ghost use Rattle.std.specs.Prelude.{◌≡◌, ◌≤◌};
+    ghost use Rattle.std.specs.Prelude.{◌≡◌, ◌≤◌, IfSome};
     ghost use Rattle.msi_text_base.specs.Lists.{tabulated};
-    ghost use Rattle.msi_table.specs.Cells.{row_count, row_in};
+    ghost use Rattle.msi_table.specs.Cells.{AreStarts, row_count, row_in};
     ghost use Rattle.msi_table.specs.Rows.{TableRows};
     ghost use Rattle.msi_table_values.specs.Columns.{types_of};
 
@@ -38,7 +40,8 @@ impl<'a> Model for StoredRows<'a> {
     } };
 
     ghost invariant = { λ s. let t = s.table.now in
-        (s.count ≡ row_count t.long (types_of t.columns) s.bytes.now) × (s.count ≤ 65536) };
+        (s.count ≡ row_count t.long (types_of t.columns) s.bytes.now) × (s.count ≤ 65536)
+        × IfSome s.starts (λ starts. AreStarts t.long (types_of t.columns) s.count starts.items) };
 }
 
 impl<'a> StoredRows<'a> {
@@ -54,6 +57,30 @@ impl<'a> StoredRows<'a> {
             table,
             bytes,
             count,
+            starts: None,
+        })
+    }
+
+    /// The same rows, which note where the cells of each column begin.
+    ///
+    /// # Errors
+    /// `OutOfMemory`.
+    pub(crate) fn with_starts(self, alloc: Global) -> Result<StoredRows<'a>, Error>
+        ensures ok { IfOk result (λ rows. rows ≡ self.entry) }
+        ensures kind { OnlyMemory result }
+    {
+        let StoredRows {
+            table,
+            bytes,
+            count,
+            starts: _,
+        } = self;
+        let starts = column_starts(alloc, table.is_long(), table.columns(), count)?;
+        Ok(StoredRows {
+            table,
+            bytes,
+            count,
+            starts: Some(starts),
         })
     }
 
@@ -81,14 +108,9 @@ impl<'a> StoredRows<'a> {
         if row >= self.count || column >= columns.len() {
             return None;
         }
-        Some(read_one(
-            self.table.is_long(),
-            columns,
-            self.bytes,
-            self.count,
-            row,
-            column,
-        ))
+        let long = self.table.is_long();
+        let start = column_start(long, columns, self.count, &self.starts, column);
+        Some(read_one(long, columns, self.bytes, row, column, start))
     }
 
     /// Returns the cells of a row, one for each column. Its number, counted from 0, has to be below that of the rows
