@@ -1,6 +1,6 @@
 -- Whole tables of a kept database.
 use Rattle.std.proofs.Common.{◌≡◌, ℕ, Bool, true, false, List, [], ◌∷◌, Option, Some, None, Result, Ok, Err, refl, sym, ap, subst, ◌∙◌, cond, option_map}
-use Rattle.std.specs.Prelude.{bytes_eq, is_some, IfErr, IfSome, IsErrAnd}
+use Rattle.std.specs.Prelude.{bytes_eq, IfErr, IsErrAnd}
 use Rattle.std.specs.List.{AllByRecursion}
 use Rattle.std.specs.FinMap.{find}
 use Rattle.std.specs.Ordering.{eq_by_cmp}
