@@ -1,20 +1,20 @@
 -- The places of a pool as they are read and written, and why they aren't.
-use Rattle.std.proofs.Common.{◌≡◌, ℕ, suc, ◌+◌, ◌^◌, ◌<◌, ◌≤◌, ◌++◌, Bool, true, false, true≢false, List, [], ◌∷◌, length, get_or, take, drop, Option, Some, None, inl, inr, refl, sym, ap, ◌∙◌, subst, append_assoc, arith}
+use Rattle.std.proofs.Common.{◌≡◌, ℕ, suc, ◌+◌, ◌^◌, ◌<◌, ◌≤◌, ◌++◌, Bool, true, false, List, [], ◌∷◌, length, get_or, take, drop, Option, Some, None, inl, inr, refl, sym, ap, ◌∙◌, subst, append_assoc, arith}
 use Rattle.std.specs.Prelude.{◌⊎◌, is_some, if◌then◌else◌, IsUtf8}
-use Rattle.std.proofs.lemmas.List.{append-nil, take_at, drop_at, take-append-drop, length-append, length-take}
+use Rattle.std.proofs.lemmas.List.{append-nil, take_at, take-append-drop, length-append, length-take}
 use Rattle.std.proofs.lemmas.Bool.{or_from}
 use Rattle.std.proofs.lemmas.Grind.{flat_map-append}
 use Rattle.msi_text_base.specs.declared.errors.ErrorKind.{ErrorKind}
 use Rattle.msi_text_base.specs.declared.errors.ErrorKind.TheVariants as kind
 use Rattle.msi_text_base.proofs.ListLemmas.{any_joined, all_joined}
 use Rattle.msi_text_base.proofs.OptionLemmas.{some_is, none_there, not_given}
-use Rattle.msi_text_pool_base.specs.Pool.{Entry, Place, header_of, plain_entry, HaveUtf8Texts, CountsFit}
+use Rattle.msi_text_pool_base.specs.Pool.{Entry, Place, header_of, plain_entry}
 use Rattle.msi_recode.specs.declared.page.TextPage.{TextPage}
 use Rattle.msi_recode.specs.declared.errors.RecodeError.{RecodeError}
 use Rattle.msi_recode.specs.declared.errors.RecodeError.TheVariants as error
 use Rattle.msi_recode.specs.Errors.{kind_of}
 use Rattle.msi_recode.specs.TextPages.{Reads, text_in}
-use Rattle.msi_recode.specs.PoolRecoding.{PoolHead, IsHead, SpellsTexts, HavePlaces, AreRecoded, CannotBeRecoded, TellsPlace, FailsAt, FailsInFront, entry_of, is_long, has_long, entries_written, texts_written}
+use Rattle.msi_recode.specs.PoolRecoding.{PoolHead, IsHead, SpellsTexts, AreRecoded, CannotBeRecoded, TellsPlace, FailsAt, FailsInFront, entry_of, is_long, has_long, entries_written, texts_written}
 use Rattle.msi_recode.specs.PoolReading.{IsFront, IsPut, AreWritten, ArePut, IsTextError, IsTextsError}
 use Rattle.msi_recode.proofs.TextsLemmas.{AreInFront, texts_fail, failing_is_long}
 use Rattle.msi_recode.proofs.WrittenLemmas.{streams_are_pool}
@@ -96,6 +96,17 @@ texts_error kind.InvalidInput page entries bytes i front old e so_far lt is h = 
 texts_error kind.NotFound page entries bytes i front old e so_far lt is h = absurd h
 texts_error kind.Io page entries bytes i front old e so_far lt is h = absurd h
 texts_error kind.OutOfMemory page entries bytes i front old e so_far lt is h = tt
+
+-- the texts aren't put for what they are, or for memory
+pub texts_kinds : (e : RecodeError) (page : TextPage) (bytes : List ℕ) (entries : List Entry) → IsTextsError page bytes entries e → (kind_of e ≡ kind.InvalidData) ⊎ (kind_of e ≡ kind.OutOfMemory)
+texts_kinds (error.Package k) page bytes entries h = absurd h
+texts_kinds (error.Property id k) page bytes entries h = absurd h
+texts_kinds (error.Place n kind.AlreadyExists) page bytes entries h = absurd h
+texts_kinds (error.Place n kind.InvalidData) page bytes entries h = inl refl
+texts_kinds (error.Place n kind.InvalidInput) page bytes entries h = absurd h
+texts_kinds (error.Place n kind.NotFound) page bytes entries h = absurd h
+texts_kinds (error.Place n kind.Io) page bytes entries h = absurd h
+texts_kinds (error.Place n kind.OutOfMemory) page bytes entries h = inr refl
 
 same_length : (page : TextPage) (bytes : List ℕ) (es : List Entry) (ps : List Place) → SpellsTexts page bytes es ps → length ps ≡ length es
 same_length page bytes [] [] h = refl

@@ -12,7 +12,7 @@ use crate::page::{TextPage, page_for};
 use crate::reasons;
 use msi_text_base::fields::u32_at;
 use msi_text_base::{Error, ErrorKind};
-use msi_text_pool_base::parts::{Entry, entries_of};
+use msi_text_places::parts::Entries;
 use std::alloc::Global;
 use std::marker::Model;
 
@@ -27,7 +27,7 @@ const MAX_PLACES: usize = 16777215;
 pub(crate) struct PoolHead {
     page: TextPage,
     long: bool,
-    entries: Vec<Entry>,
+    entries: Entries,
 }
 
 impl Model for PoolHead {
@@ -35,7 +35,7 @@ impl Model for PoolHead {
 
     ghost Value = { pools.PoolHead };
 
-    ghost view = { λ h. record { page = h.page; long = h.long; entries = h.entries.items } };
+    ghost view = { λ h. record { page = h.page; long = h.long; entries = h.entries } };
 }
 
 impl PoolHead {
@@ -55,7 +55,7 @@ impl PoolHead {
     {
         let (header, rest) = u32_at(bytes, reasons::POOL_CUT)?;
         let (page, long) = page_of(given, header)?;
-        let entries = entries_of(alloc, rest)?;
+        let entries = Entries::read(alloc, rest)?;
         if entries.len() > MAX_PLACES {
             return Err(Error::new(ErrorKind::InvalidData, reasons::POOL_PLACES));
         }
@@ -81,10 +81,10 @@ impl PoolHead {
     }
 
     /// Each text's length and count.
-    pub(crate) fn entries(&self) -> &[Entry]
+    pub(crate) fn entries(&self) -> &Entries
         ensures { result.now ≡ self.now.entries }
     {
-        self.entries.as_slice()
+        &self.entries
     }
 }
 

@@ -1,8 +1,7 @@
 //! The pool's two streams, with their texts in UTF-8.
 
-ghost use Rattle.std.specs.Prelude.{◌≡◌, ◌++◌, ◌⊎◌, ◌<◌, ◌^◌, [], length, IfOk, IfErr, OnOk, false, IsUtf8};
+ghost use Rattle.std.specs.Prelude.{◌≡◌, ◌++◌, ◌⊎◌, ◌<◌, [], IfOk, IfErr, OnOk, false};
 ghost use Rattle.msi_text_base.specs.declared.errors.ErrorKind.TheVariants.{InvalidData, OutOfMemory};
-ghost use Rattle.msi_text_pool_base.specs.Pool as pools;
 ghost use Rattle.msi_text_pool_base.specs.Pool.{header_of, plain_entry};
 ghost use Rattle.msi_recode.specs.Errors.{kind_of};
 ghost use Rattle.msi_recode.specs.PoolReading.{ArePut, IsPut, IsTextError, IsTextsError};
@@ -16,6 +15,7 @@ use crate::reader::TextReader;
 use crate::reasons;
 use msi_text_base::fields::{push_u16, push_u32};
 use msi_text_base::{Error, ErrorKind};
+use msi_text_places::parts::Entries;
 use msi_text_pool_base::parts::Entry;
 use std::alloc::{AllocError, Global};
 
@@ -84,7 +84,7 @@ impl RecodedPool {
         &mut self,
         alloc: Global,
         reader: &TextReader,
-        entries: &[Entry],
+        entries: &Entries,
         bytes: &[u8],
     ) -> Result<(), RecodeError>
         ensures ok { OnOk result (ArePut (page_of reader.now) bytes.now entries.now
@@ -92,13 +92,12 @@ impl RecodedPool {
         ensures err { IfErr result (λ error. IsTextsError (page_of reader.now) bytes.now entries.now error) }
     {
         let mut rest = bytes;
-        let mut index = 0;
-        for entry in entries {
-            match self.push_place(alloc, reader, entry, rest) {
+        for index in 0..entries.len() {
+            let entry = entries.entry(index);
+            match self.push_place(alloc, reader, &entry, rest) {
                 Ok(after) => rest = after,
                 Err(error) => return Err(RecodeError::Place(index, error)),
             }
-            index += 1;
         }
         Ok(())
     }

@@ -38,6 +38,20 @@ length-entries [] (c ∷ counts) h = absurd h
 length-entries (n ∷ lens) [] h = absurd h
 length-entries (n ∷ lens) (c ∷ counts) h = omega (arith, length-entries lens counts h.3)
 
+-- the length of a number, and the entry
+pub short_at : (lens : List ℕ) (counts : List Count) (at len : ℕ) → AreUnread lens counts → at < length counts → len ≡ get_or lens at len → len < 2 ^ 32
+short_at lens [] at len h lt len_is = absurd (omega (arith, lt))
+short_at [] (c ∷ counts) at len h lt len_is = absurd h
+short_at (n ∷ lens) (c ∷ counts) zero len h lt len_is = rw len_is h.0
+short_at (n ∷ lens) (c ∷ counts) (suc at) len h lt len_is = short_at lens counts at len h.3 (omega (arith, lt)) len_is
+
+pub entry_at : (lens : List ℕ) (counts : List Count) (at len : ℕ) (count : Count) → AreUnread lens counts → at < length counts → len ≡ get_or lens at len → count ≡ get_or counts at count
+    → slice_get (entries_with lens counts) at ≡ Some (record { len = len; count = count.cells })
+entry_at lens [] at len count h lt len_is count_is = absurd (omega (arith, lt))
+entry_at [] (c ∷ counts) at len count h lt len_is count_is = absurd h
+entry_at (n ∷ lens) (c ∷ counts) zero len count h lt len_is count_is = rw (len_is, count_is) refl
+entry_at (n ∷ lens) (c ∷ counts) (suc at) len count h lt len_is count_is = entry_at lens counts at len count h.3 (omega (arith, lt)) len_is count_is
+
 -- ---- the text that comes next
 
 -- there is one, and where its length and its count stand

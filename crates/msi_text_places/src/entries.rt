@@ -1,6 +1,6 @@
 //! The entries of a pool's stream, as they are kept until its texts are read.
 
-ghost use Rattle.std.specs.Prelude.{◌≡◌, ◌⊎◌, List, IfOk, IfErr, Some, length};
+ghost use Rattle.std.specs.Prelude.{◌≡◌, ◌<◌, ◌⊎◌, List, IfOk, IfErr, Some, length, slice_get};
 ghost use Rattle.msi_text_base.specs.declared.errors.ErrorKind.TheVariants.{InvalidData, OutOfMemory};
 ghost use Rattle.msi_text_base.specs.Results.{Gives};
 ghost use Rattle.msi_text_pool_base.specs.Pool as pools;
@@ -9,7 +9,7 @@ ghost use Rattle.msi_text_places.specs.TextJoining.{AreUnread, entries_with};
 
 use crate::count::Count;
 use msi_text_base::errors::Error;
-use msi_text_pool_base::parts::{Numbers, entry_of};
+use msi_text_pool_base::parts::{Entry, Numbers, entry_of};
 use std::alloc::Global;
 use std::marker::Model;
 
@@ -63,6 +63,15 @@ impl Entries {
         ensures { result ≡ length self.now }
     {
         self.counts.len()
+    }
+
+    /// Returns an entry, counted from 0.
+    pub fn entry(&self, at: usize) -> Entry
+        requires { at < length self.now }
+        ensures { slice_get self.now at ≡ Some result }
+    {
+        let len = self.lens.get(at) as u32;
+        Entry::new(len, self.counts[at].cells())
     }
 
     /// The lengths and the counts.

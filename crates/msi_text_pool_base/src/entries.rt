@@ -1,16 +1,12 @@
 //! The entries of the pool's stream, of which each tells of a place.
 
-ghost use Rattle.std.specs.Prelude.{◌≡◌, ◌⊎◌, List, IfOk, IfErr, Some};
+ghost use Rattle.std.specs.Prelude.{◌≡◌};
 ghost use Rattle.msi_text_base.specs.Results.{Gives};
-ghost use Rattle.msi_text_base.specs.declared.errors.ErrorKind.TheVariants.{InvalidData, OutOfMemory};
-ghost use Rattle.msi_text_pool_base.specs.Pool as pools;
-ghost use Rattle.msi_text_pool_base.specs.Pool.{SpellsEntries};
 ghost use Rattle.msi_text_pool_base.specs.PoolReading.{entry_at};
 
 use crate::reasons;
 use msi_text_base::errors::Error;
 use msi_text_base::fields::{u16_at, u32_at};
-use std::alloc::Global;
 use std::marker::Model;
 
 /// An entry of the pool's stream: how many bytes its text has in the data stream, and how many cells name the place.
@@ -49,26 +45,6 @@ impl Entry {
     {
         self.count
     }
-}
-
-/// Returns the entries that the bytes encode, of which each has at least four.
-///
-/// # Errors
-/// Fails with `InvalidData` if an entry is cut, and otherwise with `OutOfMemory`.
-pub fn entries_of(alloc: Global, bytes: &[u8]) -> Result<Vec<Entry>, Error>
-    ensures found { IfOk result (λ entries. SpellsEntries bytes.now entries.items) }
-    ensures only { (entries : List pools.Entry)
-        → SpellsEntries bytes.now entries → Gives (λ v. v.items) result (Some entries) }
-    ensures kinds { IfErr result (λ kind. (kind ≡ InvalidData) ⊎ (kind ≡ OutOfMemory)) }
-{
-    let mut entries = Vec::with_capacity(alloc, bytes.len() / 4)?;
-    let mut rest = bytes;
-    while rest.len() >= 2 {
-        let (entry, after) = entry_of(rest)?;
-        entries.push(entry)?;
-        rest = after;
-    }
-    Ok(entries)
 }
 
 /// Returns the entry in front, and the bytes after it.

@@ -1,6 +1,6 @@
 //! What the crates above need.
 
-pub use crate::entries::{Entry, entries_of, entry_of};
+pub use crate::entries::{Entry, entry_of};
 pub use crate::free::FreePlaces;
 pub use crate::lengths::encoded_len;
 pub use crate::numbers::Numbers;

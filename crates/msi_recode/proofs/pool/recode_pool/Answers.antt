@@ -1,13 +1,23 @@
-use Rattle.std.proofs.Common.{sym, ◌∙◌}
+use Rattle.std.proofs.Common.{◌∙◌}
 use Rattle.std.proofs.lemmas.Result.{err_from_is_err_and}
 use Rattle.msi_recode.specs.Readers.{page_of}
-use Rattle.msi_recode.proofs.RecodedLemmas.{recoded, no_head, texts_refused, place_told}
+use Rattle.msi_recode.proofs.RecodedLemmas.{recoded, no_head, texts_kinds, texts_refused, place_told}
 use Rattle.msi_recode.proofs.pool.recode_pool.Goals as goal
 
 pub returns-in_err-head-clause-refused : goal.returns-in_err-head-clause-refused
 returns-in_err-head-clause-refused c =
     let p = err_from_is_err_and c.from_residual.result c.from_residual.ensures.1 in
     rw (p.1, p.2) (no_head c.in_err-head.field-0.0 c.args.given c.args.pool_stream.now c.args.data_stream.now c.in_err-head.ensures.only)
+
+pub returns-in_err-reader-clause-refused : goal.returns-in_err-reader-clause-refused
+returns-in_err-reader-clause-refused c =
+    let p = err_from_is_err_and c.from_residual-in_err-reader.result c.from_residual-in_err-reader.ensures.1 in
+    rw (p.1, p.2, c.in_err-reader.ensures.kind) (λ is. cc)
+
+pub returns-in_err-push_places-clause-kinds : goal.returns-in_err-push_places-clause-kinds
+returns-in_err-push_places-clause-kinds c =
+    let p = err_from_is_err_and c.from_residual-in_err-push_places.result c.from_residual-in_err-push_places.ensures.1 in
+    rw (p.1, p.2) (texts_kinds c.in_err-push_places.field-0.0 (page_of c.in_ok-reader.reader) c.args.data_stream.now c.entries.result.now c.in_err-push_places.ensures.err)
 
 pub returns-in_err-push_places-clause-refused : goal.returns-in_err-push_places-clause-refused
 returns-in_err-push_places-clause-refused c =

@@ -21,15 +21,15 @@ returns-in_err-entries-clause-only c = λ head is.
 pub returns-then-len-gt-MAX_PLACES-clause-only : goal.returns-then-len-gt-MAX_PLACES-clause-only
 returns-then-len-gt-MAX_PLACES-clause-only c = λ head is.
     let entries = c.in_ok-entries.entries in
-    let many : 16777215 < length entries.items = omega (arith, entries.ok.0, c.len.ensures, c.if-len-gt-MAX_PLACES.true) in
-    absurd (too_many c.args.given c.args.bytes.now c.in_ok-header.header c.in_ok-header.rest.now entries.items head c.in_ok-header.ensures c.in_ok-entries.ensures.found many is)
+    let many : 16777215 < length entries = omega (arith, c.len.ensures, c.if-len-gt-MAX_PLACES.true) in
+    absurd (too_many c.args.given c.args.bytes.now c.in_ok-header.header c.in_ok-header.rest.now entries head c.in_ok-header.ensures c.in_ok-entries.ensures.found many is)
 
 pub returns-clause-found : goal.returns-clause-found
 returns-clause-found c =
     let entries = c.in_ok-entries.entries in
-    let few : length entries.items ≤ 16777215 = omega (arith, entries.ok.0, c.len.ensures, c.if-len-gt-MAX_PLACES.false) in
-    head_found c.args.given c.args.bytes.now c.in_ok-header.header c.in_ok-header.rest.now c.in_ok-page.page c.in_ok-page.long entries.items (λ i. omega (arith, c.type_inv.bytes i)) c.in_ok-header.ensures c.in_ok-page.ensures c.in_ok-entries.ensures.found few
+    let few : length entries ≤ 16777215 = omega (arith, c.len.ensures, c.if-len-gt-MAX_PLACES.false) in
+    head_found c.args.given c.args.bytes.now c.in_ok-header.header c.in_ok-header.rest.now c.in_ok-page.page c.in_ok-page.long entries (λ i. omega (arith, c.type_inv.bytes i)) c.in_ok-header.ensures c.in_ok-page.ensures c.in_ok-entries.ensures.found few
 
 pub returns-clause-only : goal.returns-clause-only
 returns-clause-only c = λ head is.
-    sym (head_only c.args.given c.args.bytes.now c.in_ok-header.header c.in_ok-header.rest.now c.in_ok-page.page c.in_ok-page.long c.in_ok-entries.entries.items head c.in_ok-header.ensures c.in_ok-page.ensures c.in_ok-entries.ensures.found is)
+    sym (head_only c.args.given c.args.bytes.now c.in_ok-header.header c.in_ok-header.rest.now c.in_ok-page.page c.in_ok-page.long c.in_ok-entries.entries head c.in_ok-header.ensures c.in_ok-page.ensures c.in_ok-entries.ensures.found is)

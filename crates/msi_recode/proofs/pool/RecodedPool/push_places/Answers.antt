@@ -1,33 +1,34 @@
-use Rattle.std.proofs.Common.{arith, sym, subst, ◌++◌, [], ◌∷◌, ℕ}
+use Rattle.std.proofs.Common.{arith, sym, ◌++◌, [], ◌∷◌}
+use Rattle.std.proofs.lemmas.Option.{get_or_from_slice_get, slice_get_within}
 use Rattle.msi_recode.specs.Readers.{page_of}
-use Rattle.msi_recode.specs.PoolReading.{IsTextsError}
-use Rattle.msi_recode.specs.declared.errors.RecodeError.TheVariants as error
 use Rattle.msi_recode.proofs.TextsLemmas.{texts_next, texts_done}
 use Rattle.msi_recode.proofs.RecodedLemmas.{texts_error, written_next}
 use Rattle.msi_recode.proofs.pool.RecodedPool.push_places.Goals as goal
 
 pub returns-in-Err-clause-err : goal.returns-in-Err-clause-err
 returns-in-Err-clause-err c =
-    let put = c.loop-entry.invariant.put in
-    let page = page_of c.args.reader.now in
-    subst (λ (n : ℕ). IsTextsError page c.args.bytes.now c.args.entries.now (error.Place n c.in-Err.error)) (sym c.loop-entry.invariant.counted)
-    (texts_error c.in-Err.error page c.args.entries.now c.args.bytes.now c.loop-entry.entry-index put.0 c.loop-entry.rest.now c.entry-item.result put.1 c.loop-entry-test.true c.entry-item.is c.in-Err.ensures.err)
+    let put = c.loop-index.invariant in
+    let entries = c.args.entries.now in
+    let index = c.loop-index.index in
+    let entry = c.entry-entry.result in
+    texts_error c.in-Err.error (page_of c.args.reader.now) entries c.args.bytes.now index put.0 c.loop-index.rest.now entry put.1
+    (slice_get_within entries index entry c.entry-entry.ensures) (sym (get_or_from_slice_get entries index entry entry c.entry-entry.ensures)) c.in-Err.ensures.err
 
-pub loop-entry-preserved : goal.loop-entry-preserved
-loop-entry-preserved c =
-    let put = c.loop-entry.invariant.put in
+pub loop-index-preserved : goal.loop-index-preserved
+loop-index-preserved c =
+    let put = c.loop-index.invariant in
     let page = page_of c.args.reader.now in
-    let next = c.in-Ok.ensures.ok in
-    record {
-      counted = omega (arith, c.loop-entry.invariant.counted);
-      put = (
-        put.0 ++ next.place ∷ [],
-        texts_next page c.args.entries.now c.args.bytes.now c.loop-entry.entry-index put.0 c.loop-entry.rest.now c.entry-item.result next.place c.in-Ok.after.now put.1 c.loop-entry-test.true c.entry-item.is next.front next.short,
-        written_next page c.entry-item.result c.loop-entry.rest.now c.in-Ok.after.now put.0 c.args.self.now.entries.items c.args.self.now.texts.items c.loop-entry.self.entries.items c.loop-entry.self.texts.items c.push_place.new.self.entries.items c.push_place.new.self.texts.items put.2 next,
-      );
-    }
+    let entries = c.args.entries.now in
+    let index = c.loop-index.index in
+    let entry = c.entry-entry.result in
+    let next = c.in-Ok.ensures.ok in (
+      put.0 ++ next.place ∷ [],
+      texts_next page entries c.args.bytes.now index put.0 c.loop-index.rest.now entry next.place c.in-Ok.after.now put.1
+          (slice_get_within entries index entry c.entry-entry.ensures) (sym (get_or_from_slice_get entries index entry entry c.entry-entry.ensures)) next.front next.short,
+      written_next page entry c.loop-index.rest.now c.in-Ok.after.now put.0 c.args.self.now.entries.items c.args.self.now.texts.items c.loop-index.self.entries.items c.loop-index.self.texts.items c.push_place.new.self.entries.items c.push_place.new.self.texts.items put.2 next,
+    )
 
 pub returns-clause-ok : goal.returns-clause-ok
 returns-clause-ok c =
-    let put = c.loop-entry.invariant.put in
-    (put.0, texts_done (page_of c.args.reader.now) c.args.entries.now c.args.bytes.now c.loop-entry.entry-index put.0 c.loop-entry.rest.now put.1 c.loop-entry-test.false, put.2)
+    let put = c.loop-index.invariant in
+    (put.0, texts_done (page_of c.args.reader.now) c.args.entries.now c.args.bytes.now c.loop-index.index put.0 c.loop-index.rest.now put.1 (omega (arith, c.loop-index-test.false, c.len-index-end.ensures)), put.2)

@@ -1,13 +1,10 @@
-use Rattle.std.proofs.Common.{◌≡◌, List}
+use Rattle.std.proofs.Common.{List}
 use Rattle.msi_text_pool_base.specs.Pool.{Place}
 use Rattle.msi_recode.specs.PoolReading.{AreWritten}
 use Rattle.msi_recode.specs.Readers.{page_of}
 use Rattle.msi_recode.proofs.TextsLemmas.{AreInFront}
 use Rattle.msi_recode.proofs.pool.RecodedPool.push_places.Given as goal
 
-abbrev pub invariant-loop-entry : goal.invariant-loop-entry
-invariant-loop-entry l = record {
-  counted : l.index ≡ l.entry-index;
-  put : (front : List Place) × AreInFront (page_of l.reader) l.entries l.bytes l.entry-index front l.rest
-      × AreWritten front l.fn.self.entries.items l.fn.self.texts.items l.self.entries.items l.self.texts.items;
-}
+abbrev pub invariant-loop-index : goal.invariant-loop-index
+invariant-loop-index l = (front : List Place) × AreInFront (page_of l.reader) l.entries l.bytes l.index front l.rest
+    × AreWritten front l.fn.self.entries.items l.fn.self.texts.items l.self.entries.items l.self.texts.items
