@@ -3,7 +3,7 @@
 use crate::archive_parts::text_value;
 use crate::archive_texts::ArchiveText;
 use msipkg_files::SafeNames;
-use msipkg_files::output::msi::{Error, Package, Rows, Table, Value, ValueView};
+use msipkg_files::output::msi::{ColumnType, Error, Package, Rows, Table, Value, ValueView};
 use msipkg_files::output::{Failure, Opened, Output, rows_of, stream_name};
 use msipkg_texts::Style;
 use std::alloc::Global;
@@ -156,8 +156,9 @@ fn have_ascii_texts(mut rows: Rows<'_>) -> bool {
 
 /// Whether the texts of the next row are ASCII.
 fn has_ascii_texts(rows: &Rows<'_>) -> bool {
-    for place in 0..rows.columns().len() {
-        if let Some(ValueView::Str(text)) = rows.peek(place)
+    for (place, column) in rows.columns().iter().enumerate() {
+        if matches!(column.coltype(), ColumnType::Str(_))
+            && let Some(ValueView::Str(text)) = rows.peek(place)
             && !text.is_ascii()
         {
             return false;

@@ -85,8 +85,10 @@ impl Output {
 
     /// Prints bytes.
     pub fn push_bytes(&mut self, bytes: &[u8]) {
-        let done = self.bytes.write_all(bytes);
-        self.pass_on(done);
+        match self.bytes.extend_from_slice(bytes) {
+            Ok(()) => self.pass_full(),
+            Err(error) => self.refuse_memory(error),
+        }
     }
 
     /// Notes that memory was refused for something that was to be printed. What was printed before is written.
@@ -158,11 +160,19 @@ impl Output {
 
     /// Writes what is collected, if it is enough, or if nothing comes behind it since something failed.
     fn pass_on(&mut self, done: io::Result<()>) {
-        let is_at_once = done.is_err() || matches!(self.sink, Sink::Messages(_));
-        if is_at_once || self.bytes.len() >= CAPACITY {
+        if done.is_err() {
+            self.write_out();
+            self.keep(done);
+        } else {
+            self.pass_full();
+        }
+    }
+
+    /// Writes what is collected, if it is enough.
+    fn pass_full(&mut self) {
+        if self.bytes.len() >= CAPACITY || matches!(self.sink, Sink::Messages(_)) {
             self.write_out();
         }
-        self.keep(done);
     }
 
     /// Writes what is collected, unless something failed: then it is dropped.
