@@ -3,10 +3,9 @@
 use crate::commands::{Asked, report};
 use crate::exchanging::is_each;
 use crate::looking::look;
-use msipkg_changes::store;
-use msipkg_files::{Purpose, open_package};
+use msipkg_changes::mend_counts;
+use msipkg_files::Purpose;
 use msipkg_output::{Failure, Output, System, failure_json};
-use msipkg_texts::Shown;
 use msipkg_words::Verb;
 use std::alloc::Global;
 
@@ -68,7 +67,8 @@ fn write_head(asked: &Asked<'_, '_>, file: &str, output: &mut Output) {
     }
 }
 
-/// Prints a file, whose counts may have to be mended first, and returns whether all is well.
+/// Prints a file, whose counts may have to be mended first, and returns whether all is well. That its texts are recoded
+/// isn't noted while its counts are mended: who looks at it afterwards is told where it still is so.
 fn print_one(
     rt: &System,
     asked: &Asked<'_, '_>,
@@ -77,33 +77,10 @@ fn print_one(
     errors: &mut Output,
 ) -> Result<bool, Failure> {
     if asked.given.get_flag("fix") {
-        fix(rt, asked, file, errors)?;
+        let purpose = asked.purpose_of_change(Purpose::RecodeSilently);
+        mend_counts(rt, &asked.package(file, purpose), errors)?;
     }
     look(rt, asked, file, output, errors)
-}
-
-/// Mends the counts of a file, and prints how many were wrong. That its texts are recoded isn't noted: who looks at it
-/// afterwards is told where it still is so.
-fn fix(rt: &System, asked: &Asked<'_, '_>, file: &str, errors: &mut Output) -> Result<(), Failure> {
-    let purpose = asked.purpose_of_change(Purpose::RecodeSilently);
-    let mut package = open_package(rt, &asked.package(file, purpose), errors)?;
-    match package.recount()? {
-        0 => Ok(()),
-        changed => {
-            store(rt, file, package, errors)?;
-            report_mended(file, changed, errors);
-            Ok(())
-        }
-    }
-}
-
-/// Writes how many counts of a file were wrong.
-fn report_mended(file: &str, changed: u32, errors: &mut Output) {
-    let file = Shown::escaped(file);
-    writeln!(
-        errors,
-        "msipkg: {file}: {changed} reference counts are mended"
-    );
 }
 
 /// Writes why a file failed: on `errors`, or as JSON on the output.

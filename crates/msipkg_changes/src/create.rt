@@ -1,13 +1,41 @@
 //! `new FILE`: a new package.
 
 use msipkg_files::output::msi::{CodePage, Package, PackageType};
-use msipkg_files::output::{Failure, Opened};
+use msipkg_files::output::{Failure, Opened, System};
+use msipkg_files::{new_package, write_file, written};
+use std::alloc::Global;
 
-/// Returns the kind of a name: `installer`, `patch` or `transform`.
+/// Makes a file with a new package of a kind, `installer`, `patch` or `transform`. Its texts are in the code page of a
+/// number, or in UTF-8 where none is given.
 ///
 /// # Errors
-/// Fails if there is none.
-pub fn kind_of(name: &str) -> Result<PackageType, Failure> {
+/// Fails if there is no such kind or no such page, if the file is there already and isn't to be replaced, and as the
+/// calls of the system do.
+pub fn create_file(
+    rt: &System,
+    path: &str,
+    kind: &str,
+    page: Option<&str>,
+    is_forced: bool,
+) -> Result<(), Failure> {
+    let bytes = new_bytes(rt.alloc(), kind, page)?;
+    write_file(rt, path, is_forced, bytes.as_slice())
+}
+
+/// The bytes of a new package.
+fn new_bytes(alloc: Global, kind: &str, page: Option<&str>) -> Result<Vec<u8>, Failure> {
+    let kind = kind_of(kind)?;
+    let page = match page {
+        Some(number) => page_of(number)?,
+        None => CodePage::Utf8,
+    };
+    let mut package = new_package(alloc, kind)?;
+    set_pages(&mut package, page)?;
+    written(package)
+}
+
+/// The kind of a name.
+fn kind_of(name: &str) -> Result<PackageType, Failure> {
     match name {
         "installer" => Ok(PackageType::Installer),
         "patch" => Ok(PackageType::Patch),
@@ -20,7 +48,7 @@ pub fn kind_of(name: &str) -> Result<PackageType, Failure> {
 ///
 /// # Errors
 /// Fails if there is none.
-pub fn page_of(number: &str) -> Result<CodePage, Failure> {
+pub(crate) fn page_of(number: &str) -> Result<CodePage, Failure> {
     let known = match number.parse::<i32>() {
         Ok(number) => CodePage::from_id(number),
         Err(_) => None,
@@ -32,10 +60,7 @@ pub fn page_of(number: &str) -> Result<CodePage, Failure> {
 }
 
 /// Sets the page of a package's database and of its summary.
-///
-/// # Errors
-/// Fails if a text can't be written in the page, and with `OutOfMemory`.
-pub fn set_pages(package: &mut Package<Opened>, page: CodePage) -> Result<(), Failure> {
+fn set_pages(package: &mut Package<Opened>, page: CodePage) -> Result<(), Failure> {
     package.set_database_codepage(page)?;
     Ok(package.summary_info_mut()?.set_codepage(page)?)
 }

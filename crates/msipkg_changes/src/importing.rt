@@ -22,7 +22,7 @@ use tables::apply_tables;
 /// # Errors
 /// Fails if a file can't be read, or isn't what its ending says, at its place there; and as the changes of the package
 /// do, at the table, the row and the column. Some are made then, so the package is to be dropped.
-pub fn import_files(
+pub(crate) fn import_files(
     rt: &System,
     package: &mut Package<Opened>,
     paths: &[&str],

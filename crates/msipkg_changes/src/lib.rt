@@ -1,17 +1,19 @@
-//! What `msipkg` changes in packages by other means than statements: streams, properties, pages, and what files give.
-//! Each change is made in memory, in a package that is lent, and then the file is replaced whole.
+//! How `msipkg` makes packages and changes them: their rows and tables by statements, what `import` takes from files,
+//! their streams, the properties of their summary and their counts.
 #![tactic(auto)]
 
+mod applied;
+pub mod change;
 pub mod create;
-pub mod importing;
-pub mod properties;
+mod definition;
+mod importing;
+mod properties;
 pub mod recounting;
-pub mod storing;
-pub mod streams;
+mod statements;
+mod storing;
+mod streams;
+mod tokens;
 
-pub use create::{kind_of, page_of, set_pages};
-pub use importing::import_files;
-pub use properties::set_properties;
-pub use recounting::noted;
-pub use storing::store;
-pub use streams::{add_streams, remove_streams};
+pub use change::{Change, change_file};
+pub use create::create_file;
+pub use recounting::mend_counts;

@@ -59,7 +59,7 @@ static PROPERTIES: [(&str, Property); 18] = [
 /// # Errors
 /// Fails at the first word for which there is no property of the name, or which doesn't take the value. Those in front
 /// of it are set.
-pub fn set_properties(
+pub(crate) fn set_properties(
     alloc: Global,
     package: &mut Package<Opened>,
     pairs: &[&str],

@@ -10,7 +10,7 @@ use msipkg_texts::Shown;
 ///
 /// # Errors
 /// Fails as `Package::flush` and the calls of the system do. Then the file is as it was.
-pub fn store(
+pub(crate) fn store(
     rt: &System,
     file: &str,
     package: Package<Opened>,

@@ -10,7 +10,7 @@ use std::io::Write;
 /// # Errors
 /// Fails at the first word that has no `=`, whose file can't be read, or whose name no stream may have. Those in front
 /// of it are stored.
-pub fn add_streams(
+pub(crate) fn add_streams(
     rt: &System,
     package: &mut Package<Opened>,
     pairs: &[&str],
@@ -58,7 +58,7 @@ pub(crate) fn fill_stream(
 ///
 /// # Errors
 /// Fails at the first stream that isn't there. Those in front of it are removed.
-pub fn remove_streams(
+pub(crate) fn remove_streams(
     alloc: Global,
     package: &mut Package<Opened>,
     names: &[&str],

@@ -6,17 +6,32 @@ use crate::report::Report;
 use crate::streams::check_streams;
 use crate::validation::check_validation;
 use crate::values::check_values;
-use msipkg_output::msi::Package;
-use msipkg_output::{Failure, Opened, Output};
+use msipkg_files::output::msi::Package;
+use msipkg_files::output::{Failure, Opened, Output, System};
+use msipkg_files::{PackageFile, open_package};
 use msipkg_texts::Style;
 use std::alloc::Global;
 
-/// Prints each error in a file's package on a line as it is found, or all of them as JSON on one line. Returns whether
-/// there is none.
+/// Prints each error in the package of a file on a line as it is found, or all of them as JSON on one line. Returns
+/// whether there is none.
 ///
 /// # Errors
-/// Fails if memory is refused for the check. Where that comes in the midst of JSON, the line says so instead.
-pub fn print_check(
+/// Fails as `open_package` does, and if memory is refused for the check. Where that comes in the midst of JSON, the
+/// line says so instead.
+pub fn check_file(
+    rt: &System,
+    style: Style,
+    file: &PackageFile<'_>,
+    is_json: bool,
+    output: &mut Output,
+    notes: &mut Output,
+) -> Result<bool, Failure> {
+    let mut package = open_package(rt, file, notes)?;
+    print_check(rt.alloc(), style, file.path, &mut package, is_json, output)
+}
+
+/// Prints the errors in a package, and returns whether there is none.
+fn print_check(
     alloc: Global,
     style: Style,
     file: &str,

@@ -11,4 +11,4 @@ mod streams;
 mod validation;
 mod values;
 
-pub use check::print_check;
+pub use check::check_file;

@@ -4,15 +4,15 @@ use crate::facts::{compare_kinds, compare_summaries};
 use crate::report::Report;
 use crate::streams::compare_streams;
 use crate::tables::compare_tables;
-use msipkg_files::StoredStreams;
 use msipkg_files::output::msi::Package;
-use msipkg_files::output::{Failure, Opened, Output};
+use msipkg_files::output::{Failure, Opened, Output, System};
+use msipkg_files::{PackageFile, StoredStreams, open_package, stored_streams};
 use msipkg_texts::Style;
 use std::alloc::Global;
 
 /// A package that is compared.
 #[derive(Clone, Copy)]
-pub struct Compared<'a> {
+pub(crate) struct Compared<'a> {
     /// The path of its file.
     pub(crate) file: &'a str,
     pub(crate) package: &'a Package<Opened>,
@@ -21,8 +21,7 @@ pub struct Compared<'a> {
 }
 
 impl<'a> Compared<'a> {
-    /// Returns the package of a file as one that is compared.
-    pub fn new(
+    fn new(
         file: &'a str,
         package: &'a Package<Opened>,
         stored: Option<&'a StoredStreams>,
@@ -35,13 +34,58 @@ impl<'a> Compared<'a> {
     }
 }
 
-/// Prints what differs between two packages: their kinds, code pages, summaries, tables, columns, rows by their keys,
-/// and streams. Returns whether nothing does.
+/// Prints what differs between the packages of two files: their kinds, code pages, summaries, tables, columns, rows by
+/// their keys, and streams. Returns whether nothing does.
 ///
 /// # Errors
-/// Fails if a table can't be read, and if memory is refused for comparing. The last member of JSON says so. If printing
-/// fails, the output keeps that; then what is returned may miss a difference.
-pub fn print_differences(
+/// Fails as `open_package` and `stored_streams` do, at its path where the new file isn't opened. Fails if a table can't
+/// be read, and if memory is refused for comparing; the last member of JSON says so. If printing fails, the output
+/// keeps that; then what is returned may miss a difference.
+pub fn compare_files(
+    rt: &System,
+    style: Style,
+    old: &PackageFile<'_>,
+    new: &PackageFile<'_>,
+    is_json: bool,
+    output: &mut Output,
+    notes: &mut Output,
+) -> Result<bool, Failure> {
+    let package = open_package(rt, old, notes)?;
+    let stored = stored_streams(rt, old.path, &package)?;
+    let old = Compared::new(old.path, &package, stored.as_ref());
+    compare_with(rt, style, &old, new, is_json, output, notes)
+}
+
+/// Compares a package with that of the new file.
+fn compare_with(
+    rt: &System,
+    style: Style,
+    old: &Compared<'_>,
+    new: &PackageFile<'_>,
+    is_json: bool,
+    output: &mut Output,
+    notes: &mut Output,
+) -> Result<bool, Failure> {
+    let package = open_new_file(rt, new, notes)?;
+    let stored = stored_streams(rt, new.path, &package)?;
+    let new = Compared::new(new.path, &package, stored.as_ref());
+    print_differences(rt.alloc(), style, old, &new, is_json, output)
+}
+
+/// The package of the new file, at which a failure is.
+fn open_new_file(
+    rt: &System,
+    file: &PackageFile<'_>,
+    notes: &mut Output,
+) -> Result<Package<Opened>, Failure> {
+    match open_package(rt, file, notes) {
+        Ok(package) => Ok(package),
+        Err(failure) => Err(failure.at(rt.alloc(), "file", file.path)),
+    }
+}
+
+/// Prints what differs between two packages, and returns whether nothing does.
+fn print_differences(
     alloc: Global,
     style: Style,
     old: &Compared<'_>,

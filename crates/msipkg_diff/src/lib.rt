@@ -10,4 +10,4 @@ mod rows;
 mod streams;
 mod tables;
 
-pub use diff::{Compared, print_differences};
+pub use diff::compare_files;

@@ -60,7 +60,7 @@ impl Exported {
 /// # Errors
 /// Fails if a table isn't there or can't be read, if a text can't stand in an archive, if a stream that a row has isn't
 /// there, if a file is there already and isn't to be replaced, and as the calls of the system do. Earlier files stay.
-pub fn export_archives(
+pub(crate) fn export_archives(
     rt: &System,
     package: &Package<Opened>,
     names: &[&str],

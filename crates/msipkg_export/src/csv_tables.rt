@@ -17,7 +17,7 @@ use std::alloc::{AllocError, Global};
 /// # Errors
 /// Fails if a table isn't there or can't be read, if a file is there already and isn't to be replaced, and as the calls
 /// of the system do. The files of earlier tables stay.
-pub fn export_csv(
+pub(crate) fn export_csv(
     rt: &System,
     package: &Package<Opened>,
     names: &[&str],

@@ -8,7 +8,7 @@ use msipkg_files::output::msi::{Package, Table};
 use msipkg_files::output::{
     Failure, Opened, Output, System, at_file, is_list, rows_of, table_named,
 };
-use msipkg_files::{Folder, open_new, settle};
+use msipkg_files::{Folder, PackageFile, open_new, open_package, settle};
 use msipkg_texts::{Shown, Style};
 use std::alloc::Global;
 
@@ -62,9 +62,22 @@ pub struct Target<'a> {
 /// exported.
 ///
 /// # Errors
-/// Fails if a table isn't there or can't be read, if a text can't stand in the format, if a file is there already and
-/// isn't to be replaced, and as the calls of the system do.
+/// Fails as `open_package` does, if a table isn't there or can't be read, if a text can't stand in the format, if a
+/// file is there already and isn't to be replaced, and as the calls of the system do.
 pub fn export(
+    rt: &System,
+    file: &PackageFile<'_>,
+    names: &[&str],
+    target: &Target<'_>,
+    output: &mut Output,
+    notes: &mut Output,
+) -> Result<(), Failure> {
+    let package = open_package(rt, file, notes)?;
+    export_package(rt, file.path, &package, names, target, output, notes)
+}
+
+/// Writes tables of a package, or the whole package where none is named.
+fn export_package(
     rt: &System,
     file: &str,
     package: &Package<Opened>,
@@ -191,18 +204,29 @@ fn note_stream(file: &str, stream: &str, notes: &mut Output) {
 /// their names, `notes` gets a line for each, since they aren't exported.
 ///
 /// # Errors
-/// Fails if a table can't be read, and then nothing is written.
+/// Fails as `open_package` does, and if a table can't be read, and then nothing is written.
 pub fn export_line(
+    rt: &System,
+    style: Style,
+    file: &PackageFile<'_>,
+    output: &mut Output,
+    notes: &mut Output,
+) -> Result<(), Failure> {
+    let package = open_package(rt, file, notes)?;
+    write_line(rt.alloc(), style, file.path, &package, output)?;
+    note_hidden(file.path, &package, notes)
+}
+
+/// Writes a package as a line of JSON, if its tables can all be read.
+fn write_line(
     alloc: Global,
     style: Style,
     file: &str,
     package: &Package<Opened>,
     output: &mut Output,
-    notes: &mut Output,
 ) -> Result<(), Failure> {
     check_tables(alloc, package)?;
-    write_package(alloc, style, file, package, &[], output)?;
-    note_hidden(file, package, notes)
+    write_package(alloc, style, file, package, &[], output)
 }
 
 /// Fails if a table can't be read.

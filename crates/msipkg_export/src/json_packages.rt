@@ -18,7 +18,7 @@ const PIECE: usize = 48 * 1024;
 ///
 /// # Errors
 /// Fails if a table isn't there or can't be read.
-pub fn write_package(
+pub(crate) fn write_package(
     alloc: Global,
     style: Style,
     file: &str,

@@ -4,12 +4,12 @@
 
 mod archive_parts;
 mod archive_texts;
-pub mod archives;
-pub mod csv_tables;
+mod archives;
+mod csv_tables;
 pub mod exporting;
 mod folders;
-pub mod json_packages;
+mod json_packages;
 mod other_archives;
-pub mod table_archives;
+mod table_archives;
 
 pub use exporting::{FileFormat, Target, export, export_line};

@@ -9,11 +9,11 @@ use msipkg_texts::Style;
 use std::alloc::Global;
 
 /// A stream and the name of its file.
-pub struct StreamFile {
+pub(crate) struct StreamFile {
     /// The name of the stream.
-    pub stream: String,
+    pub(crate) stream: String,
     /// The name of its file, which is safe.
-    pub file: String,
+    pub(crate) file: String,
 }
 
 /// Written out, so that a function that owns one calls one drop, and its proof doesn't go through those of the parts.

@@ -22,7 +22,7 @@ struct Extraction<'a> {
 /// # Errors
 /// Fails if a stream that is named isn't there, if a file is there already and isn't to be replaced, and as the calls
 /// of the system do. The files of earlier streams stay.
-pub fn extract_streams(
+pub(crate) fn extract_streams(
     rt: &System,
     file: &str,
     package: &Package<Opened>,

@@ -13,7 +13,7 @@ use std::alloc::Global;
 ///
 /// # Errors
 /// Fails if a stream can't be found in the file.
-pub fn print_info(
+pub(crate) fn print_info(
     rt: &System,
     style: Style,
     file: &str,

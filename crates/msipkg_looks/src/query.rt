@@ -40,7 +40,7 @@ impl Format {
 ///
 /// # Errors
 /// Fails at the query.
-pub fn check_query(alloc: Global, text: &str) -> Result<(), Failure> {
+pub(crate) fn check_query(alloc: Global, text: &str) -> Result<(), Failure> {
     match Select::parse(alloc, text) {
         Ok(query) => {
             drop(query);
@@ -54,7 +54,7 @@ pub fn check_query(alloc: Global, text: &str) -> Result<(), Failure> {
 ///
 /// # Errors
 /// Fails if the text spells no query for rows, and as selecting does.
-pub fn print_query(
+pub(crate) fn print_query(
     alloc: Global,
     style: Style,
     package: &Package<Opened>,

@@ -34,7 +34,7 @@ pub enum Form {
 ///
 /// # Errors
 /// Fails if a table isn't there, and if memory is refused for the list of tables.
-pub fn print_schema(
+pub(crate) fn print_schema(
     alloc: Global,
     style: Style,
     file: &str,

@@ -13,7 +13,7 @@ static HEADS: [&str; 2] = ["Stream", "Bytes"];
 ///
 /// # Errors
 /// Fails if a stream can't be found in the file.
-pub fn print_streams(
+pub(crate) fn print_streams(
     rt: &System,
     style: Style,
     file: &str,

@@ -7,7 +7,7 @@ use msipkg_texts::Style;
 use std::alloc::Global;
 
 /// Prints a line for each property of a file's summary that is there, or all of them as JSON on one line.
-pub fn print_summary(
+pub(crate) fn print_summary(
     alloc: Global,
     style: Style,
     file: &str,

@@ -1,7 +1,7 @@
 //! `tables FILE`: the names of a package's tables, and how many rows they have.
 
 use msipkg_files::output::msi::{Error, Package, Select, Table};
-use msipkg_files::output::{Failure, Opened, Output};
+use msipkg_files::output::{Opened, Output};
 use msipkg_texts::{Grid, Style};
 use std::alloc::Global;
 
@@ -9,22 +9,17 @@ use std::alloc::Global;
 static HEADS: [&str; 2] = ["Table", "Rows"];
 
 /// Prints the name of each table and the number of its rows, which is `?` where the table can't be read.
-///
-/// # Errors
-/// Fails nowhere so far, since a table that can't be read prints as `?`: the result is that of each command that reads
-/// a package.
-pub fn print_tables(
+pub(crate) fn print_tables(
     alloc: Global,
     style: Style,
     package: &Package<Opened>,
     output: &mut Output,
-) -> Result<(), Failure> {
+) {
     let mut grid = Grid::headed(alloc, HEADS.as_slice());
     for table in package.tables() {
         put_table(alloc, style, package, table, &mut grid);
     }
     grid.print(style, output);
-    Ok(())
 }
 
 /// Returns how many rows a table has.

@@ -61,6 +61,8 @@ enum Form {
     Lettered(char, &'static str),
     /// `--ID`, or a letter, with a value of this name, which has to be there.
     Needed(char, &'static str),
+    /// `--ID` with a code page that texts are read in.
+    Page,
     /// `--ID` with one of these values.
     Choice(&'static str, &'static [&'static str]),
     /// `--ID` with one of these values, or this one by default.
@@ -91,8 +93,9 @@ const ESCAPE: Argument = Argument {
     help: "Prints characters that a terminal would obey or not show as escapes",
 };
 
-/// The code pages that texts are read in.
-const PAGES: &[&str] = &[
+/// The code pages that texts are read in. The table of commands doesn't have them, since proofs would go through them
+/// at each command.
+static PAGES: [&str; 26] = [
     "874", "932", "936", "949", "950", "1250", "1251", "1252", "1253", "1254", "1255", "1256",
     "1257", "1258", "10000", "10007", "28591", "28592", "28593", "28594", "28595", "28596",
     "28597", "28598", "28599", "65001",
@@ -100,7 +103,7 @@ const PAGES: &[&str] = &[
 
 const PAGE: Argument = Argument {
     id: "page",
-    form: Form::Choice("N", PAGES),
+    form: Form::Page,
     help: "The code page of the texts of a package that names none, that is, page 0",
 };
 
@@ -435,6 +438,7 @@ fn arg_of<'a>(alloc: Global, argument: &Argument) -> Result<Arg<'a>, AllocError>
         Form::Values(name) => arg.long(id).value_name(name).action(ArgAction::Append),
         Form::Lettered(letter, name) => arg.long(id).short(letter).value_name(name),
         Form::Needed(letter, name) => arg.long(id).short(letter).value_name(name).required(true),
+        Form::Page => arg.long(id).value_name("N").value_parser(PAGES.as_slice()),
         Form::Choice(name, values) => arg.long(id).value_name(name).value_parser(values),
         Form::Default(name, value, values) => arg
             .long(id)

@@ -2,15 +2,15 @@
 
 use crate::applied::{apply_definition, apply_statement};
 use crate::definition::{definition_of, is_definition};
-use msipkg_output::msi::{Package, Parse, Statement};
-use msipkg_output::{Failure, Opened};
+use msipkg_files::output::msi::{Package, Parse, Statement};
+use msipkg_files::output::{Failure, Opened};
 use std::alloc::Global;
 
 /// Fails if one of the texts is no statement: an insert, an update, a delete or a change of tables.
 ///
 /// # Errors
 /// Fails with the rule that the text breaks, and with `OutOfMemory`.
-pub fn check_statements(alloc: Global, texts: &[&str]) -> Result<(), Failure> {
+pub(crate) fn check_statements(alloc: Global, texts: &[&str]) -> Result<(), Failure> {
     for text in texts {
         if let Err(failure) = check_text(alloc, text) {
             return Err(failure.at(alloc, "statement", text));
@@ -23,7 +23,7 @@ pub fn check_statements(alloc: Global, texts: &[&str]) -> Result<(), Failure> {
 ///
 /// # Errors
 /// Fails at the first text that is no statement, or whose change is refused. Those in front of it are carried out.
-pub fn carry_out_statements(
+pub(crate) fn carry_out_statements(
     alloc: Global,
     package: &mut Package<Opened>,
     texts: &[&str],
