@@ -25,6 +25,18 @@ pub fn make(
         "moment_from_unix" | "moment_to_unix" => texts::convert(verb, words, answer),
         "read_moment" => texts::read_moment(kept, words, answer),
         "write_moment" => texts::write_moment(words, answer),
+        _ => make_of_values(kept, verb, words, answer),
+    }
+}
+
+/// Makes a call that isn't of texts. One function for all calls would take twice as long to be proved.
+fn make_of_values(
+    kept: &mut Kept,
+    verb: &str,
+    words: &mut Words,
+    answer: &mut Answer,
+) -> Result<(), Failure> {
+    match verb {
         "print_value" | "print_aligned" | "print_cut" => values::print(verb, words, answer),
         "value_from" => values::print_made(words, answer),
         "compare" => values::compare(words, answer),
