@@ -3,7 +3,9 @@
 use crate::archive_parts::text_value;
 use crate::archive_texts::ArchiveText;
 use msipkg_files::SafeNames;
-use msipkg_files::output::msi::{ColumnType, Error, Package, Rows, Table, Value, ValueView};
+use msipkg_files::output::msi::{
+    Column, ColumnType, Error, Package, Rows, Table, Value, ValueView,
+};
 use msipkg_files::output::{Failure, Opened, Output, rows_of, stream_name};
 use msipkg_texts::Style;
 use std::alloc::Global;
@@ -143,8 +145,12 @@ impl<'a> TableArchive<'a> {
     }
 }
 
-/// Whether the texts of rows are ASCII. The names of their streams' files always are.
+/// Whether the texts of rows are ASCII. The names of their streams' files always are. Rows without columns of texts
+/// aren't gone over.
 fn have_ascii_texts(mut rows: Rows<'_>) -> bool {
+    if !rows.columns().iter().any(|column| has_texts(column)) {
+        return true;
+    }
     for _ in 0..rows.len() {
         if !has_ascii_texts(&rows) {
             return false;
@@ -157,7 +163,7 @@ fn have_ascii_texts(mut rows: Rows<'_>) -> bool {
 /// Whether the texts of the next row are ASCII.
 fn has_ascii_texts(rows: &Rows<'_>) -> bool {
     for (place, column) in rows.columns().iter().enumerate() {
-        if matches!(column.coltype(), ColumnType::Str(_))
+        if has_texts(column)
             && let Some(ValueView::Str(text)) = rows.peek(place)
             && !text.is_ascii()
         {
@@ -165,6 +171,11 @@ fn has_ascii_texts(rows: &Rows<'_>) -> bool {
         }
     }
     true
+}
+
+/// Whether a column has texts.
+fn has_texts(column: &Column) -> bool {
+    matches!(column.coltype(), ColumnType::Str(_))
 }
 
 /// Prints a table as an archive.
