@@ -1,12 +1,14 @@
 //! The value of a tree on a row.
 
-ghost use Rattle.std.specs.Prelude.{◌≡◌, IfOk, IfErr, IsErr, IsTrue};
+ghost use Rattle.std.specs.Prelude.{◌≡◌, ◌||◌, IfOk, IfErr, IsErr, IsTrue};
 ghost use Rattle.msi_text_base.specs.declared.errors.ErrorKind.TheVariants.{OutOfMemory};
+ghost use Rattle.msi_table_values.specs.Values.{is_true};
 ghost use Rattle.msi_query_operators.specs.Operands.{operand_value};
+ghost use Rattle.msi_query_operators.specs.OperatorValues.{is_sum, binary_value as binary_value_of};
 ghost use Rattle.msi_query_expressions.specs.Trees.{tree_has_sum, tree_value};
 
-use super::Tree;
 use super::column_values::ColumnValues;
+use super::{BinaryOp, Tree};
 use msi_query_operators::parts::{Operand, binary_value, unary_value};
 use msi_table_values::parts::ValueView;
 use msi_table_values::value::Value;
@@ -17,6 +19,7 @@ use std::alloc::Global;
 ///
 /// # Errors
 /// `OutOfMemory`, where something is added in the tree.
+#[cycle(evaluation)]
 pub(crate) fn operand_of<'a, C, R: ColumnValues<C>>(
     alloc: Global,
     tree: &'a Tree<C>,
@@ -35,19 +38,53 @@ pub(crate) fn operand_of<'a, C, R: ColumnValues<C>>(
         }
         Tree::Binary(op, left, right) => {
             let left = operand_of(alloc, left, row)?;
-            let right = operand_of(alloc, right, row)?;
-            let value = binary_value(alloc, *op, left, right.as_view())?;
-            Ok(Operand::Computed(value))
+            Ok(Operand::Computed(value_with(alloc, *op, left, right, row)?))
         }
         Tree::And(left, right) => {
-            let holds = operand_of(alloc, left, row)?.as_view().is_true()
-                && operand_of(alloc, right, row)?.as_view().is_true();
-            Ok(Operand::Computed(Value::from(holds)))
+            let both = holds(alloc, left, row)? && holds(alloc, right, row)?;
+            Ok(Operand::Computed(Value::from(both)))
         }
         Tree::Or(left, right) => {
-            let holds = operand_of(alloc, left, row)?.as_view().is_true()
-                || operand_of(alloc, right, row)?.as_view().is_true();
-            Ok(Operand::Computed(Value::from(holds)))
+            let either = holds(alloc, left, row)? || holds(alloc, right, row)?;
+            Ok(Operand::Computed(Value::from(either)))
         }
     }
+}
+
+/// The value of an operator between an operand and a tree.
+///
+/// # Errors
+/// `OutOfMemory`, where the operator adds or something is added in the tree.
+#[cycle(evaluation)]
+fn value_with<C, R: ColumnValues<C>>(
+    alloc: Global,
+    op: BinaryOp,
+    left: Operand,
+    right: &Tree<C>,
+    row: &R,
+) -> Result<Value, Error>
+    ensures ok { IfOk result (λ value. value
+        ≡ binary_value_of op (operand_value left.entry) (tree_value (R.value_at row.now) right.now)) }
+    ensures kind { IfErr result (λ kind. kind ≡ OutOfMemory) }
+    ensures memory { IsErr result → IsTrue (is_sum op || tree_has_sum right.now) }
+{
+    let right = operand_of(alloc, right, row)?;
+    binary_value(alloc, op, left, right.as_view())
+}
+
+/// Whether that value is true.
+///
+/// # Errors
+/// `OutOfMemory`, where something is added in the tree.
+#[cycle(evaluation)]
+pub(crate) fn holds<C, R: ColumnValues<C>>(
+    alloc: Global,
+    tree: &Tree<C>,
+    row: &R,
+) -> Result<bool, Error>
+    ensures ok { IfOk result (λ holds. holds ≡ is_true (tree_value (R.value_at row.now) tree.now)) }
+    ensures kind { IfErr result (λ kind. kind ≡ OutOfMemory) }
+    ensures memory { IsErr result → IsTrue (tree_has_sum tree.now) }
+{
+    Ok(operand_of(alloc, tree, row)?.as_view().is_true())
 }

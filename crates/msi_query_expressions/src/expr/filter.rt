@@ -13,7 +13,7 @@ ghost use Rattle.msi_query_expressions.specs.RowFilters.{StandsFor};
 ghost use Rattle.msi_query_expressions.specs.Trees.{expression_of, tree_has_sum, tree_value};
 
 use super::column_values::ColumnValues;
-use super::evaluation::operand_of;
+use super::evaluation::holds;
 use super::{Expr, Tree};
 use msi_table_values::column::Column;
 use msi_table_values::parts::{ValueView, column_index};
@@ -60,6 +60,7 @@ impl ColumnValues<usize> for CellRow<'_> {
 ///
 /// # Errors
 /// `OutOfMemory`.
+#[cycle(placing)]
 fn placed(alloc: Global, columns: &[Column], tree: &Tree<Text>) -> Result<Tree<usize>, Error>
     ensures values { IfOk result (λ placed. (row : List ValueOf)
         → tree_value (value_at_place row) placed ≡ value_of (value_in columns.now row) (expression_of tree.now)) }
@@ -72,23 +73,38 @@ fn placed(alloc: Global, columns: &[Column], tree: &Tree<Text>) -> Result<Tree<u
             Some(place) => Tree::Column(place),
             None => Tree::Literal(Value::Null),
         },
-        Tree::Unary(op, of) => Tree::Unary(*op, Box::new(alloc, placed(alloc, columns, of)?)?),
+        Tree::Unary(op, of) => Tree::Unary(*op, placed_in_box(alloc, columns, of)?),
         Tree::Binary(op, left, right) => {
-            let left = Box::new(alloc, placed(alloc, columns, left)?)?;
-            let right = Box::new(alloc, placed(alloc, columns, right)?)?;
-            Tree::Binary(*op, left, right)
+            let left = placed_in_box(alloc, columns, left)?;
+            Tree::Binary(*op, left, placed_in_box(alloc, columns, right)?)
         }
         Tree::And(left, right) => {
-            let left = Box::new(alloc, placed(alloc, columns, left)?)?;
-            let right = Box::new(alloc, placed(alloc, columns, right)?)?;
-            Tree::And(left, right)
+            let left = placed_in_box(alloc, columns, left)?;
+            Tree::And(left, placed_in_box(alloc, columns, right)?)
         }
         Tree::Or(left, right) => {
-            let left = Box::new(alloc, placed(alloc, columns, left)?)?;
-            let right = Box::new(alloc, placed(alloc, columns, right)?)?;
-            Tree::Or(left, right)
+            let left = placed_in_box(alloc, columns, left)?;
+            Tree::Or(left, placed_in_box(alloc, columns, right)?)
         }
     })
+}
+
+/// That tree in a box, as an operand stands in its tree.
+///
+/// # Errors
+/// `OutOfMemory`.
+#[cycle(placing)]
+fn placed_in_box(
+    alloc: Global,
+    columns: &[Column],
+    tree: &Tree<Text>,
+) -> Result<Box<Tree<usize>>, Error>
+    ensures values { IfOk result (λ placed. (row : List ValueOf)
+        → tree_value (value_at_place row) placed.value ≡ value_of (value_in columns.now row) (expression_of tree.now)) }
+    ensures sums { IfOk result (λ placed. tree_has_sum placed.value ≡ has_sum (expression_of tree.now)) }
+    ensures kind { IfErr result (λ kind. kind ≡ OutOfMemory) }
+{
+    Ok(Box::new(alloc, placed(alloc, columns, tree)?)?)
 }
 
 /// The tree of a condition with the columns' places; where there is no condition, one that is always true.
@@ -192,6 +208,6 @@ impl<'a> RowFilter<'a> {
             front: row,
             back: other,
         };
-        Ok(operand_of(alloc, &self.tree, &cells)?.as_view().is_true())
+        holds(alloc, &self.tree, &cells)
     }
 }
