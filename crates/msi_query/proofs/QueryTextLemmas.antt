@@ -1,15 +1,27 @@
 -- The texts of queries from those of their parts.
-use Rattle.std.proofs.Common.{◌≡◌, ℕ, List, Option, Some, None, Result, IsOk, codes, ap}
+use Rattle.std.proofs.Common.{◌≡◌, ℕ, List, Option, Some, None, Result, Ok, Err, IsErr, IsOk, codes, length, map, [], ◌∷◌, true, false, ◌==◌, refl, ap}
 use Rattle.std.specs.Fmt.{DisplaysOnOk, ◌++?◌}
 use Rattle.std.specs.declared.fmt.Error.{Error}
 use Rattle.std.specs.declared.fmt.Formatter.{Formatter}
-use Rattle.std.proofs.Output.{displays_on_IsOk_append, displays_on_ok_of_eq}
+use Rattle.std.proofs.Output.{displays_on_IsOk_append, displays_on_ok_of_all, displays_on_ok_of_eq}
+use Rattle.msi_table_values.specs.declared.value.Value.{Value}
 use Rattle.msi_query.specs.Queries.{Query}
-use Rattle.msi_query.specs.QueryTexts.{bare_name, or_bracketed, side_text}
+use Rattle.msi_query.specs.QueryTexts.{bare_name, listed, or_bracketed, row_text, rows_text, set_text, sets_text, side_text}
 
 -- a side in brackets
 pub side_text-None : (q : Query) (text : Option (List ℕ)) → None ≡ bare_name q → (Some (codes "(") ++? text ++? Some (codes ")")) ≡ side_text q text
 side_text-None q text e = ap (λ (bare : Option (List ℕ)). or_bracketed bare text) e
+
+-- a write that fails promises nothing
+pub failed_write : {W : Type 0} (took : W → List ℕ → W → Type 0) (f g : Formatter W) (r : Result (Unit {0}) Error) (o : Option (List ℕ))
+    → IsErr r → DisplaysOnOk took f r o g
+failed_write took f g (Ok u) o e = let no : false ≡ true = e in cc
+failed_write took f g (Err e) o _ = displays_on_ok_of_all took f g (Err e) o (λ bs plain ok. let no : false ≡ true = ok in cc)
+
+-- two writes in turn
+pub two_writes : {W : Type 0} (took : W → List ℕ → W → Type 0) (f g h : Formatter W) (r s : Result (Unit {0}) Error) (o p whole : Option (List ℕ))
+    → (o ++? p) ≡ whole → IsOk r → DisplaysOnOk took f r o g → DisplaysOnOk took g s p h → DisplaysOnOk took f s whole h
+two_writes took f g h r s o p whole e a x y = displays_on_ok_of_eq took f h s _ _ e (displays_on_IsOk_append took f g h r s o p (λ _. a) x y)
 
 -- three writes in turn
 pub three_writes : {W : Type 0} (took : W → List ℕ → W → Type 0) (f g h k : Formatter W) (r s t : Result (Unit {0}) Error) (o p q whole : Option (List ℕ))
@@ -23,3 +35,13 @@ pub four_writes : {W : Type 0} (took : W → List ℕ → W → Type 0) (f g h k
     → DisplaysOnOk took f u (o ++? p ++? q ++? n) m
 four_writes took f g h k m r s t u o p q n a b d x y z v = displays_on_IsOk_append took f g m r u o (p ++? q ++? n) (λ _. a) x
     (displays_on_IsOk_append took g h m s u p (q ++? n) (λ _. b) y (displays_on_IsOk_append took h k m t u q n (λ _. d) z v))
+
+-- sets, where there are some
+pub sets_text-some : (sets : List (List ℕ × Value)) → (length sets == 0) ≡ false → (Some (codes " SET ") ++? listed (map set_text sets)) ≡ sets_text sets
+sets_text-some [] e = let no : true ≡ false = e in cc
+sets_text-some (set ∷ sets) e = refl
+
+-- rows, where there are some
+pub rows_text-some : (rows : List (List Value)) → (length rows == 0) ≡ false → (Some (codes " VALUES ") ++? listed (map row_text rows)) ≡ rows_text rows
+rows_text-some [] e = let no : true ≡ false = e in cc
+rows_text-some (row ∷ rows) e = refl

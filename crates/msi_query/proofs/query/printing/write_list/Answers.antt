@@ -3,6 +3,7 @@ use Rattle.std.specs.Fmt.{◌++?◌}
 use Rattle.std.proofs.Output.{displays_on_IsOk_append, displays_on_ok_of_eq}
 use Rattle.msi_query.specs.QueryTexts.{listed}
 use Rattle.msi_query.proofs.ListedLemmas.{listed-more, separated}
+use Rattle.msi_query.proofs.QueryTextLemmas.{failed_write}
 use Rattle.msi_query.proofs.query.printing.write_list.Goals as goal
 
 pub loop-item-preserved : goal.loop-item-preserved
@@ -16,3 +17,9 @@ loop-item-preserved g c =
     c.in-Some.ensures.cases.0 (omega (arith, c.loop-item-test.true)) c.item-item.is)
     (displays_on_IsOk_append took c.args.f.now c.loop-item.f c.write-in-loop-item.new.self (Ok c.in_ok-write-2.field-0) (Ok c.in_ok-write-2.field-0) written more
     (λ ok. ok) c.loop-item.invariant c.in_ok-write-2.ensures.writes)
+
+pub returns-in_err-write : goal.returns-in_err-write
+returns-in_err-write g c = failed_write g.W.Write.write_str_gives _ _ _ _ c.from_residual.ensures.0
+
+pub returns-in_err-write-2 : goal.returns-in_err-write-2
+returns-in_err-write-2 g c = failed_write g.W.Write.write_str_gives _ _ _ _ c.from_residual-in_err-write-2.ensures.0

@@ -5,7 +5,7 @@ use Rattle.msi_query_expressions.specs.Printing.{expression_text}
 use Rattle.msi_query.specs.Queries.{Query}
 use Rattle.msi_query.specs.QueryTexts.{columns_text, query_text, side_text, where_text}
 use Rattle.msi_query.specs.QueryTrees.{query_of}
-use Rattle.msi_query.proofs.QueryTextLemmas.{four_writes, side_text-None, three_writes}
+use Rattle.msi_query.proofs.QueryTextLemmas.{failed_write, four_writes, side_text-None, three_writes}
 use Rattle.msi_query.proofs.query.select.+writing.Goals as goal
 
 -- what is written of a side
@@ -48,3 +48,39 @@ write_side-returns-in_ok-write_query-in-None g t c =
     (side_text-None q (query_text q) c.in-None.ensures)
     (rw c.in_ok-write_str-in-None.was refl) (rw c.in_ok-write_query-in-None.was refl)
     c.write_str-in-None.ensures.writes c.write_query.ensures c.write_str-in-None-2.ensures.writes
+
+pub write_query-returns-in_err-write_columns-in-Table : goal.write_query-returns-in_err-write_columns-in-Table
+write_query-returns-in_err-write_columns-in-Table g t c = failed_write g.W.Write.write_str_gives _ _ _ _ c.from_residual.ensures.0
+
+pub write_query-returns-in_err-write_str-in-Table : goal.write_query-returns-in_err-write_str-in-Table
+write_query-returns-in_err-write_str-in-Table g t c = failed_write g.W.Write.write_str_gives _ _ _ _ c.from_residual-in_err-write_str-in-Table.ensures.0
+
+pub write_query-returns-in_ok-write_str-in-Table : goal.write_query-returns-in_ok-write_str-in-Table
+write_query-returns-in_ok-write_str-in-Table g t c =
+    three_writes g.W.Write.write_str_gives c.args.f.now c.write_columns.new.f c.write_str.new.self c.write_condition.new.f
+    c.write_columns.result c.write_str.result c.write_condition.result
+    (Some (codes "SELECT " ++ columns_text c.columns.result.now ++ codes " FROM ")) (Some c.as_str.result.now) (where_text (option_copied c.condition.result)) _
+    (rw (c.in-Table.is, c.columns.ensures, c.as_str.ensures, c.condition.ensures) refl)
+    (rw c.in_ok-write_columns-in-Table.was refl) (rw c.in_ok-write_str-in-Table.was refl)
+    c.write_columns.ensures c.write_str.ensures.writes c.write_condition.ensures
+
+pub write_query-returns-in_err-write_columns-in-Join : goal.write_query-returns-in_err-write_columns-in-Join
+write_query-returns-in_err-write_columns-in-Join g t c = failed_write g.W.Write.write_str_gives _ _ _ _ c.from_residual-in_err-write_columns-in-Join.ensures.0
+
+pub write_query-returns-in_err-write_side-in-Join : goal.write_query-returns-in_err-write_side-in-Join
+write_query-returns-in_err-write_side-in-Join g t c = failed_write g.W.Write.write_str_gives _ _ _ _ c.from_residual-in_err-write_side-in-Join.ensures.0
+
+pub write_query-returns-in_err-write_str-in-Join : goal.write_query-returns-in_err-write_str-in-Join
+write_query-returns-in_err-write_str-in-Join g t c = failed_write g.W.Write.write_str_gives _ _ _ _ c.from_residual-in_err-write_str-in-Join.ensures.0
+
+pub write_query-returns-in_err-write_side-in-Join-2 : goal.write_query-returns-in_err-write_side-in-Join-2
+write_query-returns-in_err-write_side-in-Join-2 g t c = failed_write g.W.Write.write_str_gives _ _ _ _ c.from_residual-in_err-write_side-in-Join-2.ensures.0
+
+pub write_query-returns-in_err-write-in-Join : goal.write_query-returns-in_err-write-in-Join
+write_query-returns-in_err-write-in-Join g t c = failed_write g.W.Write.write_str_gives _ _ _ _ c.from_residual-in_err-write-in-Join.ensures.0
+
+pub write_side-returns-in_err-write_str-in-None : goal.write_side-returns-in_err-write_str-in-None
+write_side-returns-in_err-write_str-in-None g t c = failed_write g.W.Write.write_str_gives _ _ _ _ c.from_residual.ensures.0
+
+pub write_side-returns-in_err-write_query-in-None : goal.write_side-returns-in_err-write_query-in-None
+write_side-returns-in_err-write_query-in-None g t c = failed_write g.W.Write.write_str_gives _ _ _ _ c.from_residual-in_err-write_query-in-None.ensures.0

@@ -1,0 +1,14 @@
+use Rattle.std.proofs.Common.{◌∙◌, map, Some, codes, refl, sym}
+use Rattle.msi_query.specs.QueryTexts.{listed, row_text}
+use Rattle.msi_query.proofs.QueryTextLemmas.{failed_write, rows_text-some, two_writes}
+use Rattle.msi_query.proofs.query.insert.write_rows.Goals as goal
+
+pub returns-in_err-write_str : goal.returns-in_err-write_str
+returns-in_err-write_str g c = failed_write g.W.Write.write_str_gives _ _ _ _ c.from_residual.ensures.0
+
+pub returns : goal.returns
+returns g c =
+    two_writes g.W.Write.write_str_gives c.args.f.now c.write_str.new.self c.write_list.new.f c.write_str.result c.write_list.result
+    (Some (codes " VALUES ")) (listed (map row_text c.args.rows.now)) _
+    (rows_text-some c.args.rows.now (sym c.is_empty.ensures ∙ c.if-is_empty.false))
+    (rw c.in_ok-write_str.was refl) c.write_str.ensures.writes c.write_list.ensures
