@@ -9,9 +9,9 @@ returns-in_err-write g c = record { writes = failed_write g.W.Write.write_str_gi
 
 pub returns : goal.returns
 returns g c = record {
-    writes = two_writes g.W.Write.write_str_gives c.args.f.now c.write.new.self c.write_condition.new.f c.write.result c.write_condition.result
-    (Some (codes "DELETE FROM " ++ c.self.inside.table)) (where_text (option_copied c.as_ref.result)) _
-    (rw (← c.self.view_is, c.as_ref.ensures.value) refl)
-    (rw c.in_ok-write.was refl) c.write.ensures.writes c.write_condition.ensures;
-    styled = tt;
+  writes = two_writes g.W.Write.write_str_gives c.args.f.now c.write.new.self c.write_condition.new.f c.write.result c.write_condition.result
+      (Some (codes "DELETE FROM " ++ c.self.inside.table)) (where_text (option_copied c.as_ref.result)) _
+      (rw (← c.self.view_is, c.as_ref.ensures.value) refl)
+      (rw c.in_ok-write.was refl) c.write.ensures.writes c.write_condition.ensures;
+  styled = tt;
 }

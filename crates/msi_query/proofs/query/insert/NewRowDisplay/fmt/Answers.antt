@@ -12,11 +12,11 @@ returns-in_err-write_list g c = record { writes = failed_write g.W.Write.write_s
 
 pub returns : goal.returns
 returns g c = record {
-    writes = three_writes g.W.Write.write_str_gives c.args.f.now c.write_str.new.self c.write_list.new.f c.write_str-2.new.self
-    c.write_str.result c.write_list.result c.write_str-2.result
-    (Some (codes "(")) (listed (map value_text c.as_slice.result.now)) (Some (codes ")")) _
-    (rw (← c.self.view_is, c.as_slice.ensures.value) refl)
-    (rw c.in_ok-write_str.was refl) (rw c.in_ok-write_list.was refl)
-    c.write_str.ensures.writes c.write_list.ensures c.write_str-2.ensures.writes;
-    styled = tt;
+  writes = three_writes g.W.Write.write_str_gives c.args.f.now c.write_str.new.self c.write_list.new.f c.write_str-2.new.self
+      c.write_str.result c.write_list.result c.write_str-2.result
+      (Some (codes "(")) (listed (map value_text c.as_slice.result.now)) (Some (codes ")")) _
+      (rw (← c.self.view_is, c.as_slice.ensures.value) refl)
+      (rw c.in_ok-write_str.was refl) (rw c.in_ok-write_list.was refl)
+      c.write_str.ensures.writes c.write_list.ensures c.write_str-2.ensures.writes;
+  styled = tt;
 }

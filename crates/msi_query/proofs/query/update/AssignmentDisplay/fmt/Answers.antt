@@ -5,8 +5,8 @@ use Rattle.msi_query.proofs.query.update.AssignmentDisplay.fmt.Goals as goal
 
 pub returns : goal.returns
 returns g c = record {
-    writes = displays_on_ok_of_eq g.W.Write.write_str_gives c.args.f.now c.write.new.self c.write.result _ _
-    (rw (← c.self.view_is) (sym (then_text_assoc (Some c.self.inside.column) (Some (codes " = ")) (value_text c.self.inside.value))))
-    c.write.ensures.writes;
-    styled = tt;
+  writes = displays_on_ok_of_eq g.W.Write.write_str_gives c.args.f.now c.write.new.self c.write.result _ _
+      (rw (← c.self.view_is) (sym (then_text_assoc (Some c.self.inside.column) (Some (codes " = ")) (value_text c.self.inside.value))))
+      c.write.ensures.writes;
+  styled = tt;
 }

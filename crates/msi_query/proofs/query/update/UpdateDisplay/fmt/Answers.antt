@@ -12,11 +12,11 @@ returns-in_err-write_sets g c = record { writes = failed_write g.W.Write.write_s
 
 pub returns : goal.returns
 returns g c = record {
-    writes = three_writes g.W.Write.write_str_gives c.args.f.now c.write.new.self c.write_sets.new.f c.write_condition.new.f
-    c.write.result c.write_sets.result c.write_condition.result
-    (Some (codes "UPDATE " ++ c.self.inside.table)) (sets_text c.as_slice.result.now) (where_text (option_copied c.as_ref.result)) _
-    (rw (← c.self.view_is, c.as_slice.ensures, c.as_ref.ensures.value) refl)
-    (rw c.in_ok-write.was refl) (rw c.in_ok-write_sets.was refl)
-    c.write.ensures.writes c.write_sets.ensures c.write_condition.ensures;
-    styled = tt;
+  writes = three_writes g.W.Write.write_str_gives c.args.f.now c.write.new.self c.write_sets.new.f c.write_condition.new.f
+      c.write.result c.write_sets.result c.write_condition.result
+      (Some (codes "UPDATE " ++ c.self.inside.table)) (sets_text c.as_slice.result.now) (where_text (option_copied c.as_ref.result)) _
+      (rw (← c.self.view_is, c.as_slice.ensures, c.as_ref.ensures.value) refl)
+      (rw c.in_ok-write.was refl) (rw c.in_ok-write_sets.was refl)
+      c.write.ensures.writes c.write_sets.ensures c.write_condition.ensures;
+  styled = tt;
 }
