@@ -1,13 +1,14 @@
 //! Languages, by their ids and tags.
 
-ghost use Rattle.std.specs.Prelude.{◌≡◌, Some, true, false};
+ghost use Rattle.std.specs.Prelude.{◌≡◌, Some, bytes_eq, false, find, option_map, true};
 ghost use Rattle.std.specs.Fmt.{WritesOnOk, decimal, digits, styled_decimal};
+ghost use Rattle.msi_text_categories.specs.LanguageRows.{rows_told};
 ghost use Rattle.msi_text_categories.specs.Languages.{id_of_lcid, id_of_tag, language_id, primary_language};
 ghost use Rattle.msi_text_categories.specs.Languages.{sub_language, tag_of};
 
 mod rows;
 
-use rows::language_rows;
+use rows::{rows_of_sub_language, tables};
 use std::fmt;
 use std::marker::Model;
 
@@ -60,9 +61,9 @@ impl LanguageId {
     pub fn from_tag(tag: &str) -> LanguageId
         ensures { result ≡ id_of_tag tag.now }
     {
-        for row in language_rows() {
-            if row.1 == tag {
-                return LanguageId { id: row.0 };
+        for rows in &tables() {
+            if let Some(id) = id_in(rows, tag) {
+                return LanguageId { id };
             }
         }
         LanguageId::default()
@@ -94,12 +95,24 @@ impl LanguageId {
     pub fn tag(self) -> &'static str
         ensures { result.now ≡ tag_of self }
     {
-        let rows = language_rows();
+        let rows = rows_of_sub_language(self.sub_language_id());
         match rows.binary_search_by_key(&self.id, |row| row.0) {
             Ok(place) => rows[place].1,
             Err(_) => "und",
         }
     }
+}
+
+/// Returns the id in the first of some rows that has a tag.
+fn id_in(rows: &[(u16, &str)], tag: &str) -> Option<u16>
+    ensures { result ≡ option_map (λ row. row.0) (find (λ row. bytes_eq row.1 tag.now) (rows_told rows.now)) }
+{
+    for row in rows {
+        if row.1 == tag {
+            return Some(row.0);
+        }
+    }
+    None
 }
 
 /// The language whose id is 0.

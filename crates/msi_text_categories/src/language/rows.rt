@@ -1,17 +1,68 @@
-//! The table of languages.
+//! The tables of languages, by their sub-languages. There are four, since what a proof of one costs grows by the
+//! square of its rows.
 
 ghost use Rattle.std.specs.Prelude.{◌≡◌};
-ghost use Rattle.msi_text_categories.specs.LanguageRows.{language_rows, rows_told};
+ghost use Rattle.std.specs.List.{flat_map};
+ghost use Rattle.msi_text_categories.specs.LanguageRows.{first_regions, further_regions, languages_alone, last_regions};
+ghost use Rattle.msi_text_categories.specs.LanguageRows.{language_rows, rows_of_sub_language, rows_told};
 
-/// The rows, ordered by id, so that an id is found in a few steps.
-pub(super) fn language_rows() -> &'static [(u16, &'static str)]
-    ensures { rows_told result.now ≡ language_rows }
+/// A table's rows, ordered by id, so that an id is found in a few steps.
+pub(super) type Rows = &'static [(u16, &'static str)];
+
+/// Returns the rows among which those of a sub-language are.
+pub(super) fn rows_of_sub_language(sub_language: u8) -> Rows
+    ensures { rows_told result.now ≡ rows_of_sub_language sub_language }
 {
-    &LANGUAGES
+    match sub_language {
+        0 => languages_alone(),
+        1 => first_regions(),
+        2..=7 => further_regions(),
+        _ => last_regions(),
+    }
 }
 
-/// Each language's id, and its tag.
-static LANGUAGES: [(u16, &str); 454] = [
+/// Returns all tables, in the order of their ids.
+pub(super) fn tables() -> [Rows; 4]
+    ensures { flat_map (λ rows. rows_told rows.now) result ≡ language_rows }
+{
+    [
+        languages_alone(),
+        first_regions(),
+        further_regions(),
+        last_regions(),
+    ]
+}
+
+/// Returns the rows of sub-language 0.
+fn languages_alone() -> Rows
+    ensures { rows_told result.now ≡ languages_alone }
+{
+    &LANGUAGES_ALONE
+}
+
+/// Returns the rows of sub-language 1.
+fn first_regions() -> Rows
+    ensures { rows_told result.now ≡ first_regions }
+{
+    &FIRST_REGIONS
+}
+
+/// Returns the rows of sub-languages 2 to 7.
+fn further_regions() -> Rows
+    ensures { rows_told result.now ≡ further_regions }
+{
+    &FURTHER_REGIONS
+}
+
+/// Returns the rows of all other sub-languages.
+fn last_regions() -> Rows
+    ensures { rows_told result.now ≡ last_regions }
+{
+    &LAST_REGIONS
+}
+
+/// Languages alone, each one's id and its tag: sub-language 0.
+static LANGUAGES_ALONE: [(u16, &str); 137] = [
     (0x0001, "ar"),
     (0x0002, "bg"),
     (0x0003, "ca"),
@@ -149,6 +200,10 @@ static LANGUAGES: [(u16, &str); 454] = [
     (0x0091, "gd"),
     (0x0092, "ku"),
     (0x0093, "quc"),
+];
+
+/// The first region of each language: sub-language 1.
+static FIRST_REGIONS: [(u16, &str); 142] = [
     (0x0401, "ar-SA"),
     (0x0402, "bg-BG"),
     (0x0403, "ca-ES"),
@@ -291,6 +346,10 @@ static LANGUAGES: [(u16, &str); 454] = [
     (0x0493, "quc-CO"),
     (0x0501, "qps-ploc"),
     (0x05FE, "qps-ploca"),
+];
+
+/// Most of the other regions: sub-languages 2 to 7.
+static FURTHER_REGIONS: [(u16, &str); 80] = [
     (0x0801, "ar-IQ"),
     (0x0803, "ca-ES-valencia"),
     (0x0804, "zh-CN"),
@@ -371,6 +430,10 @@ static LANGUAGES: [(u16, &str); 454] = [
     (0x1C0C, "fr-029"),
     (0x1C1A, "sr-Cyrl-BA"),
     (0x1C3B, "sma-SE"),
+];
+
+/// The others, and scripts: sub-languages from 8 on.
+static LAST_REGIONS: [(u16, &str); 95] = [
     (0x2001, "ar-OM"),
     (0x2009, "en-JM"),
     (0x200A, "es-VE"),
