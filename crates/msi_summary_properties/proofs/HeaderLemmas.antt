@@ -2,12 +2,15 @@
 use Rattle.std.proofs.Common.{◌≡◌, ℕ, zero, suc, ◌^◌, ◌<◌, ◌≤◌, false, cond, ltb, eqb, List, [], ◌∷◌, ◌++◌, length, take, drop, Some, None, refl, sym, ap, subst, ◌∙◌, append_assoc, arith}
 use Rattle.std.specs.List.{flat_map, AllByRecursion}
 use Rattle.std.specs.Int.{w16, w32, to_le_bytes}
-use Rattle.std.proofs.lemmas.Bool.{eqb-true, ltb-true, lt-ltb, ltb-false, le-ltb}
+use Rattle.std.proofs.lemmas.Bool.{eqb-true, ne_eqb, ltb-true, lt-ltb, ltb-false, le-ltb}
 use Rattle.std.proofs.lemmas.List.{take_at, drop_at, take-append-drop, length-append, length-take}
 use Rattle.msi_summary_properties.specs.declared.propset.OperatingSystem.{OperatingSystem}
 use Rattle.msi_summary_properties.specs.declared.propset.OperatingSystem.TheVariants as os
 use Rattle.msi_summary_properties.specs.PropertyStream.{os_number, header_bytes, section_head, pair_bytes}
+use Rattle.msi_text_base.specs.declared.errors.ErrorKind.{ErrorKind}
+use Rattle.msi_text_base.specs.declared.errors.ErrorKind.TheVariants as kind
 use Rattle.msi_text_base.specs.Numbers.{bytes_at, number_at}
+use Rattle.msi_text_base.specs.Results.{FailsAs}
 use Rattle.msi_summary_properties.specs.Reading.{os_with_number, Header, checked, header_at, pairs_at, section_at, set_with}
 use Rattle.msi_text_base.proofs.ReadFieldLemmas.{IsBytes, IsBytes-drop, wide16, wide32, Takes, Takes-then, number_takes, number_again}
 use Rattle.msi_text_base.proofs.OptionLemmas.{guard_passed, guard_held, some_is}
@@ -132,6 +135,19 @@ pub header_of : (bytes : List ℕ) (mark version os_version number : ℕ × List
     → header_at bytes ≡ checked mark.0 (record { version = version.0; os_version = os_version.0; os = system; clsid = clsid.0; reserved = reserved.0; format_identifier = format.0; section = section.0 })
 unfolding header_at
 header_of bytes mark version os_version number clsid reserved format section system a b c d i j k l s = rw (a, b, c, d, i, j, k, l, s) refl
+
+-- the refusals of a header that was read, and when there is none
+pub other_mark : (e : ErrorKind) (mark : ℕ) (h : Header) → e ≡ kind.InvalidData → (mark ≡ 0xFFFE → ⊥) → FailsAs e (checked mark h)
+other_mark e mark h is other = rw (is, ne_eqb mark 0xFFFE other) refl
+
+pub other_version : (e : ErrorKind) (mark : ℕ) (h : Header) → e ≡ kind.InvalidData → mark ≡ 0xFFFE → 2 ≤ h.version → FailsAs e (checked mark h)
+other_version e mark h is same later = rw (is, same, le-ltb h.version 2 later) refl
+
+pub no_section : (e : ErrorKind) (mark : ℕ) (h : Header) → e ≡ kind.InvalidData → mark ≡ 0xFFFE → h.version < 2 → h.reserved ≡ 0 → FailsAs e (checked mark h)
+no_section e mark h is same known none = rw (is, same, lt-ltb h.version 2 known, none) refl
+
+pub passes : (mark : ℕ) (h : Header) → mark ≡ 0xFFFE → h.version < 2 → (h.reserved ≡ 0 → ⊥) → checked mark h ≡ Some h
+passes mark h same known some = rw (same, lt-ltb h.version 2 known, lt-ltb 0 h.reserved (omega (arith, some))) refl
 
 pub header_again : (h : Header) (others : List ℕ) → IsHeader h → header_at (spelled_header h ++ others) ≡ Some h
 header_again h others is =

@@ -1,5 +1,5 @@
 -- Where the cells of a table stand, and that they stand inside.
-use Rattle.std.proofs.Common.{◌≡◌, ℕ, zero, suc, refl, ◌+◌, ◌*◌, ◌<◌, ◌≤◌, Bool, List, [], ◌∷◌, ◌++◌, length, take, drop, sym, ap, ◌∙◌, arith, map, sum, Some}
+use Rattle.std.proofs.Common.{◌≡◌, ℕ, zero, suc, refl, ◌+◌, ◌*◌, ◌<◌, ◌≤◌, Bool, List, [], ◌∷◌, ◌++◌, length, take, drop, sym, ap, ◌∙◌, arith, get_or, map, sum, Some}
 use Rattle.std.specs.Prelude.{slice_index_or}
 use Rattle.std.proofs.lemmas.List as lists
 use Rattle.std.proofs.lemmas.List.FromFn.{map-range_with_len_more}
@@ -11,7 +11,7 @@ use Rattle.msi_table_values.specs.declared.column.ColumnType.{ColumnType}
 use Rattle.msi_table_values.specs.declared.column.ColumnType.TheVariants as coltype
 use Rattle.msi_table_values.specs.declared.value.ValueRef.{ValueRef}
 use Rattle.msi_table_values.specs.Columns.{ColumnDef, types_of}
-use Rattle.msi_table_values.proofs.ColumnTypesLemmas.{below_types, type_at}
+use Rattle.msi_table_values.proofs.ColumnTypesLemmas.{below_types, length-types_of, type_at}
 use Rattle.msi_table.specs.Cells.{width, widths, row_count, cell_in, cell_at}
 use Rattle.msi_table.proofs.ReadBackLemmas.{cell_at_is}
 use Rattle.std.proofs.lemmas.Option.{slice_get-get_or}
@@ -101,6 +101,15 @@ width_more long columns total j w type d l t is s =
 
 pub tabulated_push : {X : Type 0} (xs ys : List X) (n : ℕ) (f : ℕ → X) (x : X) → ys ≡ xs ++ x ∷ [] → xs ≡ tabulated n f → x ≡ f n → ys ≡ tabulated (n + 1) f
 tabulated_push xs ys n f x e s is = let m = tabulated_more n f in cc
+
+pub mapped_push : {X Y : Type 0} (f : X → Y) (ps : List X) (xs ys : List Y) (n : ℕ) (d : X) (y : Y) → n < length ps → ys ≡ xs ++ y ∷ [] → xs ≡ map f (take n ps) → y ≡ f (get_or ps n d) → ys ≡ map f (take (n + 1) ps)
+mapped_push f ps xs ys n d y l e s is = let m = lists.map_more f ps n d l in cc
+
+-- once the columns are all passed, there is one for each type
+pub tabulated_done : {X : Type 0} (columns : List ColumnDef) (xs : List X) (n : ℕ) (f : ℕ → X) → xs ≡ tabulated n f → length columns ≤ n → n ≤ length columns → xs ≡ tabulated (length (types_of columns)) f
+tabulated_done columns xs n f s past within =
+    let all : n ≡ length (types_of columns) = omega (arith, length-types_of columns) in
+    s ∙ ap (λ m. tabulated m f) all
 
 -- the widths of the first columns
 pub first_widths : (long : Bool) (columns : List ColumnDef) (j : ℕ) → widths long (types_of (take j columns)) ≡ take j (widths long (types_of columns))

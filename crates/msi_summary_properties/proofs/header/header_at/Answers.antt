@@ -2,6 +2,7 @@ use Rattle.std.specs.Int.{w16, w32}
 use Rattle.std.proofs.lemmas.Result.{err_from_is_err_and}
 use Rattle.msi_text_base.specs.Numbers.{bytes_at, number_at}
 use Rattle.msi_summary_properties.specs.Reading.{header_at, os_with_number}
+use Rattle.msi_summary_properties.proofs.HeaderLemmas.{header_of, no_section, other_mark, other_version, passes}
 use Rattle.msi_summary_properties.proofs.StepLemmas.{bind_fails}
 use Rattle.msi_summary_properties.proofs.header.header_at.Goals as goal
 
@@ -58,3 +59,31 @@ unfolding header_at
 returns-in_err-os c =
     let p = err_from_is_err_and c.from_residual-in_err-os.result c.from_residual-in_err-os.ensures.1 in
     rw (p.1, p.2, c.in_ok-mark.ensures, c.in_ok-version.ensures, c.in_ok-os_version.ensures, c.in_ok-number.ensures, c.in_ok-clsid.ensures, c.in_ok-reserved.ensures, c.in_ok-format_identifier.ensures, c.in_ok-section.ensures) (bind_fails c.in_err-os.field-0.0 (os_with_number c.in_ok-number.number) _ c.in_err-os.ensures)
+
+pub returns-then-mark : goal.returns-then-mark
+returns-then-mark c = rw (header_of c.args.bytes.now _ _ _ _ _ _ _ _ _ c.in_ok-mark.ensures c.in_ok-version.ensures c.in_ok-os_version.ensures c.in_ok-number.ensures c.in_ok-clsid.ensures c.in_ok-reserved.ensures
+    c.in_ok-format_identifier.ensures c.in_ok-section.ensures c.in_ok-os.ensures)
+    (other_mark c.new.result c.in_ok-mark.mark (record {
+      version = c.in_ok-version.version;
+      os_version = c.in_ok-os_version.os_version;
+      os = c.in_ok-os.os;
+      clsid = c.in_ok-clsid.clsid;
+      reserved = c.in_ok-reserved.reserved;
+      format_identifier = c.in_ok-format_identifier.format_identifier;
+      section = c.in_ok-section.section;
+    }) c.new.ensures c.if-mark.true)
+
+pub returns-then-version-ge2 : goal.returns-then-version-ge2
+returns-then-version-ge2 c = rw (header_of c.args.bytes.now _ _ _ _ _ _ _ _ _ c.in_ok-mark.ensures c.in_ok-version.ensures c.in_ok-os_version.ensures c.in_ok-number.ensures c.in_ok-clsid.ensures c.in_ok-reserved.ensures
+    c.in_ok-format_identifier.ensures c.in_ok-section.ensures c.in_ok-os.ensures)
+    (other_version c.new-then-version-ge2.result _ _ c.new-then-version-ge2.ensures c.if-mark.false c.if-version-ge2.true)
+
+pub returns-then-reserved-eq0 : goal.returns-then-reserved-eq0
+returns-then-reserved-eq0 c = rw (header_of c.args.bytes.now _ _ _ _ _ _ _ _ _ c.in_ok-mark.ensures c.in_ok-version.ensures c.in_ok-os_version.ensures c.in_ok-number.ensures c.in_ok-clsid.ensures c.in_ok-reserved.ensures
+    c.in_ok-format_identifier.ensures c.in_ok-section.ensures c.in_ok-os.ensures)
+    (no_section c.new-then-reserved-eq0.result _ _ c.new-then-reserved-eq0.ensures c.if-mark.false c.if-version-ge2.false c.if-reserved-eq0.true)
+
+pub returns : goal.returns
+returns c = rw (header_of c.args.bytes.now _ _ _ _ _ _ _ _ _ c.in_ok-mark.ensures c.in_ok-version.ensures c.in_ok-os_version.ensures c.in_ok-number.ensures c.in_ok-clsid.ensures c.in_ok-reserved.ensures
+    c.in_ok-format_identifier.ensures c.in_ok-section.ensures c.in_ok-os.ensures)
+    (passes _ _ c.if-mark.false c.if-version-ge2.false c.if-reserved-eq0.false)
