@@ -61,8 +61,6 @@ enum Form {
     Lettered(char, &'static str),
     /// `--ID`, or a letter, with a value of this name, which has to be there.
     Needed(char, &'static str),
-    /// `--ID` with a code page that texts are read in.
-    Page,
     /// `--ID` with one of these values.
     Choice(&'static str, &'static [&'static str]),
     /// `--ID` with one of these values, or this one by default.
@@ -93,9 +91,8 @@ const ESCAPE: Argument = Argument {
     help: "Prints characters that a terminal would obey or not show as escapes",
 };
 
-/// The code pages that texts are read in. The table of commands doesn't have them, since proofs would go through them
-/// at each command.
-static PAGES: [&str; 26] = [
+/// The code pages that texts are read in.
+const PAGES: &[&str] = &[
     "874", "932", "936", "949", "950", "1250", "1251", "1252", "1253", "1254", "1255", "1256",
     "1257", "1258", "10000", "10007", "28591", "28592", "28593", "28594", "28595", "28596",
     "28597", "28598", "28599", "65001",
@@ -103,7 +100,7 @@ static PAGES: [&str; 26] = [
 
 const PAGE: Argument = Argument {
     id: "page",
-    form: Form::Page,
+    form: Form::Choice("N", PAGES),
     help: "The code page of the texts of a package that names none, that is, page 0",
 };
 
@@ -119,8 +116,8 @@ const FORCE: Argument = Argument {
     help: "Replaces files that are there already",
 };
 
-/// The commands, in the order in which help lists them.
-static COMMANDS: [Row; 16] = [
+/// The commands that print what packages are and what their tables have. Help lists the commands in this order.
+static TABLE_COMMANDS: [Row; 4] = [
     Row {
         verb: Verb::Info,
         name: "info",
@@ -174,6 +171,10 @@ static COMMANDS: [Row; 16] = [
             ESCAPE,
         ],
     },
+];
+
+/// The commands on streams and the summary, and the one that looks for errors.
+static PART_COMMANDS: [Row; 4] = [
     Row {
         verb: Verb::Streams,
         name: "streams",
@@ -239,6 +240,10 @@ static COMMANDS: [Row; 16] = [
             ESCAPE,
         ],
     },
+];
+
+/// The commands that make packages and change them.
+static CHANGE_COMMANDS: [Row; 4] = [
     Row {
         verb: Verb::New,
         name: "new",
@@ -303,6 +308,10 @@ static COMMANDS: [Row; 16] = [
             RECODE,
         ],
     },
+];
+
+/// The commands on a package and other files, and on several packages.
+static EXCHANGE_COMMANDS: [Row; 4] = [
     Row {
         verb: Verb::Export,
         name: "export",
@@ -377,9 +386,35 @@ static COMMANDS: [Row; 16] = [
     },
 ];
 
-/// The commands. Proofs go through all rows in each function that names the table, so this one alone does.
-fn commands() -> &'static [Row] {
-    COMMANDS.as_slice()
+/// The commands. Proofs go through all rows in each function that names a table, with a cost by their square. So there
+/// are four tables, and a function for each.
+fn commands() -> [&'static [Row]; 4] {
+    [
+        table_commands(),
+        part_commands(),
+        change_commands(),
+        exchange_commands(),
+    ]
+}
+
+/// The commands of tables.
+fn table_commands() -> &'static [Row] {
+    TABLE_COMMANDS.as_slice()
+}
+
+/// The commands of other parts.
+fn part_commands() -> &'static [Row] {
+    PART_COMMANDS.as_slice()
+}
+
+/// The commands that change packages.
+fn change_commands() -> &'static [Row] {
+    CHANGE_COMMANDS.as_slice()
+}
+
+/// The commands of several files.
+fn exchange_commands() -> &'static [Row] {
+    EXCHANGE_COMMANDS.as_slice()
 }
 
 /// Parses the words behind the program's name.
@@ -392,7 +427,17 @@ pub fn matches_of<'a>(alloc: Global, words: &'a [String]) -> Result<ArgMatches<'
 
 /// Returns the command of a name.
 pub fn verb_named(name: &str) -> Option<Verb> {
-    for row in commands() {
+    for rows in &commands() {
+        if let Some(verb) = verb_among(rows, name) {
+            return Some(verb);
+        }
+    }
+    None
+}
+
+/// The command of a name among some.
+fn verb_among(rows: &[Row], name: &str) -> Option<Verb> {
+    for row in rows {
         if row.name == name {
             return Some(row.verb);
         }
@@ -409,7 +454,19 @@ fn program<'a>(alloc: Global) -> Result<Command<'a>, AllocError> {
         .no_binary_name(true)
         .propagate_version(true)
         .subcommand_required(true);
-    for row in commands() {
+    for rows in &commands() {
+        program = with_commands(alloc, program, rows)?;
+    }
+    Ok(program)
+}
+
+/// The program with these commands, too.
+fn with_commands<'a>(
+    alloc: Global,
+    mut program: Command<'a>,
+    rows: &[Row],
+) -> Result<Command<'a>, AllocError> {
+    for row in rows {
         program = program.subcommand(command_of(alloc, row)?)?;
     }
     Ok(program)
@@ -438,7 +495,6 @@ fn arg_of<'a>(alloc: Global, argument: &Argument) -> Result<Arg<'a>, AllocError>
         Form::Values(name) => arg.long(id).value_name(name).action(ArgAction::Append),
         Form::Lettered(letter, name) => arg.long(id).short(letter).value_name(name),
         Form::Needed(letter, name) => arg.long(id).short(letter).value_name(name).required(true),
-        Form::Page => arg.long(id).value_name("N").value_parser(PAGES.as_slice()),
         Form::Choice(name, values) => arg.long(id).value_name(name).value_parser(values),
         Form::Default(name, value, values) => arg
             .long(id)
