@@ -19,10 +19,10 @@ use Rattle.msi_database_schema.specs.Keys.{table_key}
 use Rattle.msi_database_schema.specs.Schema.{schema_of}
 use Rattle.msi_database_schema.specs.System.{columns_columns, columns_name, tables_columns, tables_name, validation_columns, validation_name}
 use Rattle.msi_database_changes.specs.Database.{are_alike, cells_naming, columns_by_name, Database, is_sound, is_well_formed, names_stay_in_pool, table_at, validation_is_standard}
-use Rattle.msi_database_changes.specs.Recounting.{cell_counts, counting_refusals, counts_changed, counts_fit, IsRecounted, recount_refusals, recounted}
+use Rattle.msi_database_changes.specs.Recounting.{cell_counts, counting_refusals, counts_changed, counts_fit, early_recount_refusals, IsRecounted, recount, recount_refusals, recounted}
 use Rattle.msi_database_changes.proofs.AlikeLemmas.{rows_alike}
 use Rattle.msi_database_changes.proofs.RecountingLemmas.{counts_fit_are, many_places, recounts_make_exact, texts_stay, unchanged_same, unchanged_sound}
-use Rattle.msi_database_changes.proofs.RefusedLemmas.{none_holds}
+use Rattle.msi_database_changes.proofs.RefusedLemmas.{behind_passed, first_refused, front_holds, none_holds, refused_first}
 use Rattle.msi_database_changes.proofs.RowsLemmas.{rows_uses}
 use Rattle.msi_database_changes.proofs.SchemaKeptLemmas.{shown_table}
 use Rattle.msi_database_changes.proofs.TablesLemmas.{naming_is, table_uses, total-found}
@@ -143,6 +143,16 @@ module _ (d : Database) where
     pub none_refused : counts_fit d ≡ true → ◌≡◌ {A = Result (Unit {0}) ErrorKind} (Ok tt) (unless_refused (counting_refusals d) tt)
     none_refused fit = refused_later (Ok tt) (validation_is_standard d) for_names standard
         (refused_later (Ok tt) (names_stay_in_pool d) for_counts within (refused_later (Ok tt) (counts_fit d) [] fit refl))
+
+-- what is refused early is refused, and then what the cells say
+module _ (d : Database) (kind : ErrorKind) where
+  pub refused_early : ◌≡◌ {A = Result (Unit {0}) ErrorKind} (Err kind) (unless_refused (early_recount_refusals d) tt) → recount d ≡ Err kind
+  refused_early e = first_refused (recount_refusals d) (counts_changed d) kind
+      (front_holds (early_recount_refusals d) (counting_refusals d) kind (refused_first (early_recount_refusals d) tt kind (sym e)))
+
+  pub refused_late : first_refusal (early_recount_refusals d) ≡ None → ◌≡◌ {A = Result (Unit {0}) ErrorKind} (Err kind) (unless_refused (counting_refusals d) tt) → recount d ≡ Err kind
+  refused_late passed e = first_refused (recount_refusals d) (counts_changed d) kind
+      (behind_passed (early_recount_refusals d) (counting_refusals d) passed ∙ refused_first (counting_refusals d) tt kind (sym e))
 
 -- the parts that are left
 module _ (pool new : Pool) (tables : List TableDef) (streams : Streams) (k : Kept) (is : kept_of pool tables streams ≡ k) (counts : List ℕ) (are : counts ≡ cell_counts k.database)

@@ -3,7 +3,6 @@
 ghost use Rattle.std.specs.Prelude.{◌≡◌, IfErr, IfOk, None, Ok, OnErr, OnOk, length, true};
 ghost use Rattle.msi_text_base.specs.Results.{OnlyMemory};
 ghost use Rattle.msi_text_base.specs.declared.errors.ErrorKind.TheVariants.{InvalidData};
-ghost use Rattle.msi_text_pool_base.specs.Recounting.{AreCounts};
 ghost use Rattle.msi_table.specs.Census.{IsCensus};
 ghost use Rattle.msi_text_base.specs.Refusals.{AnswersFirst, IsRefusal, first_refusal, unless_refused};
 ghost use Rattle.msi_database_schema.specs.Schema.{table_with};
@@ -18,9 +17,7 @@ use crate::database::Database;
 use crate::reasons;
 use msi_database_schema::parts::named_table;
 use msi_database_schema::system::{VALIDATION, validation_columns};
-use msi_database_storage::parts::{
-    are_sound_tables, cells_census, counts_fit, fits_width, is_standard,
-};
+use msi_database_storage::parts::{are_sound_tables, cells_census, fits_width, is_standard};
 use msi_table::Table;
 use msi_table::parts::Census;
 use msi_table_values::column::Column;
@@ -81,7 +78,7 @@ impl Database {
         requires census { let d = self.now.database in
             IsCensus (length d.pool.places) (named_numbers d) census.now }
         ensures answer { result ≡ unless_refused (counting_refusals self.now.database) tt }
-        ensures counts { OnOk result (AreCounts census.now.counts) }
+        ensures fits { OnOk result (census.now.fits ≡ true) }
     {
         if !is_standard(self.tables.as_slice(), standard) {
             return Err(invalid(reasons::ODD_VALIDATION));
@@ -89,7 +86,7 @@ impl Database {
         if !census.is_within() {
             return Err(invalid(reasons::PAST_POOL));
         }
-        if !counts_fit(census) {
+        if !census.fits() {
             return Err(invalid(reasons::PAST_COUNTS));
         }
         Ok(())
@@ -102,7 +99,6 @@ impl Database {
     fn accepted_census(&self) -> Result<Census, Error>
         ensures ok { OnOk result (first_refusal (recount_refusals self.now.database) ≡ None) }
         ensures counts { IfOk result (λ census. census.counts ≡ cell_counts self.now.database) }
-        ensures small { IfOk result (λ census. AreCounts census.counts) }
         ensures kind { IfErr result (IsRefusal (databases.recount self.now.database)) }
         ensures early { AnswersFirst (early_recount_refusals self.now.database) result }
     {

@@ -1,6 +1,6 @@
 -- A recount leaves a sound database with exact counts, and no value changes.
 use Rattle.std.proofs.Common.{◌≡◌, ◌≢◌, ℕ, zero, suc, ◌+◌, ◌-◌, ◌<◌, ◌≤◌, Bool, true, false, not, ◌&&◌, ◌==◌, List, [], ◌∷◌, map, length, get_or, Option, Some, None, option_map, slice_get, nat_le, nat_lt, unwrap_or, cond, refl, sym, ap, ap₂, subst, ◌∙◌, arith, ⊎_elim}
-use Rattle.std.specs.Prelude.{if◌then◌else◌, option_and_then, zip}
+use Rattle.std.specs.Prelude.{◌^◌, All, if◌then◌else◌, option_and_then, zip}
 use Rattle.std.specs.List.{list_all}
 use Rattle.std.specs.Option.{option_map_or}
 use Rattle.std.proofs.lemmas.Bool.{and_parts, cases_lt, le-leb, leb-true, ne_eqb, eqb-true, not-false}
@@ -10,7 +10,7 @@ use Rattle.msi_text_base.proofs.ListLemmas.{tabulated_at}
 use Rattle.msi_text_pool_base.specs.Pool.{Place, PlacesWritten}
 use Rattle.msi_text_pool_base.specs.FirstFit.{count_of, most_places}
 use Rattle.msi_text_pool_base.specs.FirstFitLaws.{text_at}
-use Rattle.msi_text_pool_base.specs.Recounting.{AreCounts, many_recounted, with_count, with_counts}
+use Rattle.msi_text_pool_base.specs.Recounting.{many_recounted, with_count, with_counts}
 use Rattle.msi_text_pool_base.proofs.RecountingLemmas.{length-with_counts, many_recounted-cons}
 use Rattle.msi_table.proofs.ReadRowsLemmas.{length-tabulated}
 use Rattle.msi_table_order.specs.KeyOrder.{key_of, same_key}
@@ -92,7 +92,7 @@ module _ (d : Database) where
   many_places = length-with_counts (cell_counts d) d.pool.places many_counts
 
   -- where the test is passed, each count has 16 bits
-  pub counts_fit_are : counts_fit d ≡ true → AreCounts (cell_counts d)
+  pub counts_fit_are : counts_fit d ≡ true → All (λ n. n < 2 ^ 16) (cell_counts d)
   counts_fit_are fit i e inside = let few : get_or (cell_counts d) i e ≤ 65535 = few_at (cell_counts d) i e inside fit in omega (arith, few)
 
   pub cells_at : (i : ℕ) → i < length d.pool.places → get_or (cell_counts d) i 0 ≡ cells_naming d (i + 1)

@@ -1,10 +1,10 @@
 -- Soundness: how far each loop has come, and what the parts of the test are of the database.
-use Rattle.std.proofs.Common.{◌≡◌, ◌≢◌, ℕ, suc, ◌+◌, ◌-◌, ◌<◌, ◌≤◌, Bool, true, false, ◌&&◌, ◌==◌, List, [], ◌∷◌, map, length, take, get_or, Option, Some, None, option_map, slice_get, refl, sym, ap, ◌∙◌, subst, arith}
-use Rattle.std.specs.Prelude.{count_by, nat_le, slice_index}
+use Rattle.std.proofs.Common.{◌≡◌, ◌≢◌, ℕ, suc, ◌+◌, ◌-◌, ◌<◌, ◌≤◌, Bool, true, false, ◌&&◌, List, [], ◌∷◌, map, length, take, get_or, Option, Some, None, option_map, slice_get, refl, sym, ap, ◌∙◌, subst, arith, ⊎_elim}
+use Rattle.std.specs.Prelude.{nat_le, slice_index}
 use Rattle.std.specs.List.{list_all}
 use Rattle.std.specs.Option as options
 use Rattle.std.proofs.Math.Seq.{take-length}
-use Rattle.std.proofs.lemmas.Bool.{le-leb, true≢false}
+use Rattle.std.proofs.lemmas.Bool.{cases_eq, false_from_ne_true, le-leb, leb-true, true≢false}
 use Rattle.std.proofs.lemmas.Bool.Decides.{nat_tests}
 use Rattle.std.proofs.lemmas.List.{map_push, take_more}
 use Rattle.std.proofs.lemmas.List.Folds.{list_all-append, list_all-map, list_all_at}
@@ -14,16 +14,17 @@ use Rattle.msi_text_pool_base.specs.Pool.{Place, Pool}
 use Rattle.msi_text_pool_base.specs.FirstFit.{count_of}
 use Rattle.msi_text_pool_base.specs.FirstFitLaws.{count_at}
 use Rattle.msi_table_values.specs.Columns.{ColumnDef}
-use Rattle.msi_table.specs.Census.{CensusDef, IsCensus}
+use Rattle.msi_table.specs.Census.{CensusDef, IsCensus, most_counted, times_named}
 use Rattle.msi_table.specs.Tables.{TableDef}
-use Rattle.msi_table.proofs.CensusLemmas.{counted_past, counted_within}
+use Rattle.msi_table.proofs.CensusLemmas.{all_counted, counted_past, few, fits_by}
 use Rattle.msi_table.proofs.PlacesLemmas.{tabulated_more}
 use Rattle.msi_table_values.specs.TableCells.{TableCells}
 use Rattle.msi_database_schema.specs.System.{validation_columns, validation_name}
 use Rattle.msi_database_changes.specs.Database.{Database, are_alike, counts_suffice, is_readable_table, is_sound, names_stay_in_pool, pool_fits_width, tables_are_readable, validation_is_standard}
+use Rattle.msi_database_changes.proofs.SoundLemmas.{numbers_all}
 use Rattle.msi_database_storage.specs.Streams.{Streams}
 use Rattle.msi_database_storage.specs.Kept.{AreAsLong, database_kept, table_kept, table_kept_at}
-use Rattle.msi_database_storage.specs.Naming.{suffices}
+use Rattle.msi_database_storage.specs.Naming.{all_suffice, suffices}
 use Rattle.msi_database_storage.proofs.NamingLemmas.{long_here}
 use Rattle.msi_database_storage.proofs.TableAtLemmas.{table_at_kept}
 
@@ -35,16 +36,30 @@ true_behind a b e h = rw (e, h) refl
 pub counted_at : (places : List Place) (i : ℕ) → count_at places (i + 1) ≡ count_of (slice_get places i)
 counted_at places i = let e : i + 1 - 1 ≡ i = omega arith in ap (λ k. count_of (slice_get places k)) e
 
+-- the counts of the first places suffice where the census fits, and all are as small as it counts
+pub record CountsSoFar (places : List Place) (census : CensusDef) (i : ℕ) : Type 0 where
+  pub enough : (numbers : List ℕ) → IsCensus (length places) numbers census → census.fits ≡ true → list_all (λ enough. enough) (tabulated i (suffices places numbers)) ≡ true
+  pub small : (j : ℕ) → j < i → count_of (slice_get places j) ≤ most_counted
+
 -- one count more suffices
-pub count_suffices : (places : List Place) (census : CensusDef) (i counted count : ℕ) → i < length places → counted ≡ slice_index census.counts i → count ≡ count_of (slice_get places i) → count < 65536 → counted ≤ count
-    → ((numbers : List ℕ) → IsCensus (length places) numbers census → list_all (λ enough. enough) (tabulated i (suffices places numbers)) ≡ true)
-    → (numbers : List ℕ) → IsCensus (length places) numbers census → list_all (λ enough. enough) (tabulated (i + 1) (suffices places numbers)) ≡ true
-count_suffices places census i counted count h seen is small enough so_far numbers c =
-    let here : suffices places numbers i ≡ true = le-leb (count_by (λ n. n == i + 1) numbers) (count_of (slice_get places i))
-    (subst (λ most. count_by (λ n. n == i + 1) numbers ≤ most) is (counted_within (count_by (λ n. n == i + 1) numbers) count small (omega (arith, enough, seen, c.counts i h)))) in
+enough_more : (places : List Place) (census : CensusDef) (i counted count : ℕ) → i < length places → counted ≡ slice_index census.counts i → count ≡ count_of (slice_get places i) → counted ≤ count
+    → ((numbers : List ℕ) → IsCensus (length places) numbers census → census.fits ≡ true → list_all (λ enough. enough) (tabulated i (suffices places numbers)) ≡ true)
+    → (numbers : List ℕ) → IsCensus (length places) numbers census → census.fits ≡ true → list_all (λ enough. enough) (tabulated (i + 1) (suffices places numbers)) ≡ true
+enough_more places census i counted count h seen is enough so_far numbers c fit =
+    let here : suffices places numbers i ≡ true = le-leb (times_named numbers i) (count_of (slice_get places i)) (omega (arith, enough, seen, is, all_counted (length places) numbers census c fit i h)) in
     ap (list_all (λ enough. enough)) (tabulated_more i (suffices places numbers))
     ∙ list_all-append (λ enough. enough) (tabulated i (suffices places numbers)) (suffices places numbers i ∷ [])
-    ∙ true_behind (list_all (λ enough. enough) (tabulated i (suffices places numbers))) (suffices places numbers i) (so_far numbers c) here
+    ∙ true_behind (list_all (λ enough. enough) (tabulated i (suffices places numbers))) (suffices places numbers i) (so_far numbers c fit) here
+
+pub count_suffices : (places : List Place) (census : CensusDef) (i counted count : ℕ) → i < length places → counted ≡ slice_index census.counts i → count ≡ count_of (slice_get places i) → count < 65536 → counted ≤ count
+    → CountsSoFar places census i → CountsSoFar places census (i + 1)
+count_suffices places census i counted count h seen is small enough so_far = record {
+  enough = enough_more places census i counted count h seen is enough so_far.enough;
+  small = λ j within. ⊎_elim
+      (λ (same : j ≡ i). subst (λ k. count_of (slice_get places k) ≤ most_counted) (sym same) (omega (arith, is, small)))
+      (λ (other : j ≢ i). so_far.small j (omega (arith, within, other)))
+      (cases_eq j i);
+}
 
 all_here : (places : List Place) (numbers : List ℕ) (i : ℕ) → i < length places → list_all (λ enough. enough) (tabulated (length places) (suffices places numbers)) ≡ true → suffices places numbers i ≡ true
 all_here places numbers i h all = each_number (suffices places numbers) 0 (length places) (sym (list_all-map (λ enough. enough) (suffices places numbers) (numbers_from 0 (length places))) ∙ all) i (omega arith) (omega (arith, h))
@@ -53,16 +68,27 @@ all_here places numbers i h all = each_number (suffices places numbers) 0 (lengt
 pub count_lacks : (places : List Place) (census : CensusDef) (i counted count : ℕ) → i < length places → counted ≡ slice_index census.counts i → count ≡ count_of (slice_get places i) → count < counted
     → (numbers : List ℕ) → IsCensus (length places) numbers census → false ≡ list_all (λ enough. enough) (tabulated (length places) (suffices places numbers))
 count_lacks places census i counted count h seen is lacks numbers c =
-    by_all (list_all (λ enough. enough) (tabulated (length places) (suffices places numbers)))
-    (λ all. true≢false (sym (all_here places numbers i h all) ∙ short (count_by (λ n. n == i + 1) numbers) (count_of (slice_get places i))
-    (subst (λ most. most < count_by (λ n. n == i + 1) numbers) is (counted_past (count_by (λ n. n == i + 1) numbers) count (omega (arith, lacks, seen, c.counts i h))))))
+    sym (false_from_ne_true (list_all (λ enough. enough) (tabulated (length places) (suffices places numbers)))
+    (λ all. true≢false (sym (all_here places numbers i h all) ∙ short (times_named numbers i) (count_of (slice_get places i))
+    (subst (λ most. most < times_named numbers i) is (counted_past (times_named numbers i) count (omega (arith, lacks, seen, c.counts i h)))))))
   where
-    by_all : (b : Bool) → (b ≡ true → ⊥) → false ≡ b
-    by_all true no_more = absurd (no_more refl)
-    by_all false no_more = refl
-
     short : (n most : ℕ) → most < n → nat_le n most ≡ false
     short n most h = grind (arith, nat_tests)
+
+-- at the end it is left whether the census fits: where it doesn't, no count is as large as the number of some place's cells
+pub all_counts : (places : List Place) (census : CensusDef) (i : ℕ) (fits : Bool) → i ≡ length places → fits ≡ census.fits → CountsSoFar places census i
+    → (numbers : List ℕ) → IsCensus (length places) numbers census → fits ≡ all_suffice places numbers
+all_counts places census i fits done is so_far numbers c = either fits is where
+  few_here : all_suffice places numbers ≡ true → (j : ℕ) → 0 ≤ j → j < 0 + length places → few numbers j ≡ true
+  few_here all j low high =
+      let within : j < length places = omega (arith, high) in
+      le-leb (times_named numbers j) most_counted
+      (omega (arith, leb-true (times_named numbers j) (count_of (slice_get places j)) (all_here places numbers j within all), so_far.small j (omega (arith, done, within))))
+
+  either : (b : Bool) → b ≡ census.fits → b ≡ all_suffice places numbers
+  either true fit = sym (subst (λ n. list_all (λ enough. enough) (tabulated n (suffices places numbers)) ≡ true) done (so_far.enough numbers c (sym fit)))
+  either false unfit = sym (false_from_ne_true (all_suffice places numbers)
+      (λ all. true≢false (sym (c.fits ∙ fits_by (length places) numbers ∙ numbers_all (few numbers) (length places) 0 (few_here all)) ∙ sym unfit)))
 
 -- TABLES
 

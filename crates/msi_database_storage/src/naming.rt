@@ -46,7 +46,7 @@ pub fn tables_census(
 }
 
 /// Whether a place with this count is named, or it is by the other count.
-fn is_named(count: u32, other: u32) -> bool
+fn is_named(count: u16, other: u16) -> bool
     ensures { result ≡ (nat_lt 0 count || nat_lt 0 other) }
 {
     count > 0 || other > 0

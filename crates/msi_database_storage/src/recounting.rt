@@ -1,9 +1,8 @@
 //! What a recount goes by: the census of all cells of a database.
 
-ghost use Rattle.std.specs.Prelude.{◌≡◌, ◌↔◌, IfOk, IsTrue};
+ghost use Rattle.std.specs.Prelude.{◌≡◌, IfOk};
 ghost use Rattle.std.specs.FinMap.{entries};
 ghost use Rattle.msi_text_base.specs.Results.{OnlyMemory};
-ghost use Rattle.msi_text_pool_base.specs.Recounting.{AreCounts};
 ghost use Rattle.msi_text_pool_base.specs.Pool.{Pool};
 ghost use Rattle.msi_table.specs.Census.{CountsMore, IsCensus, numbers_of_rows};
 ghost use Rattle.msi_database_schema.specs.Schema.{table_with};
@@ -21,9 +20,6 @@ use msi_table::Table;
 use msi_table::parts::Census;
 use msi_text_base::errors::Error;
 use std::alloc::Global;
-
-/// The most cells that may name a place.
-const MOST_CELLS: u32 = 65_535;
 
 /// Counts the cells of the stream of `_Validation`, where that is no table, by its standard columns.
 fn count_unlisted(census: &mut Census, streams: &StreamMap, tables: &[Table], standard: &Table)
@@ -59,11 +55,4 @@ pub fn cells_census(
     let mut census = tables_census(alloc, many, streams, tables)?;
     count_unlisted(&mut census, streams, tables, standard);
     Ok(census)
-}
-
-/// Returns whether a census has no more cells of a place than a count can be.
-pub fn counts_fit(census: &Census) -> bool
-    ensures { IsTrue result ↔ AreCounts census.now.counts }
-{
-    census.counts().iter().all(|count| *count <= MOST_CELLS)
 }

@@ -80,7 +80,8 @@ pub fn is_standard(tables: &[Table], standard: &[Column]) -> bool
     }
 }
 
-/// Whether each place's count is at least the number of the cells that name it.
+/// Whether each place's count is at least the number of the cells that name it. No place has one above the most that a
+/// census counts.
 fn counts_suffice(pool: &StringPool, census: &Census) -> bool
     requires { length census.now.counts ≡ length pool.now.places }
     ensures { (numbers : List ℕ) → IsCensus (length pool.now.places) numbers census.now
@@ -88,11 +89,11 @@ fn counts_suffice(pool: &StringPool, census: &Census) -> bool
 {
     let counts = census.counts();
     for i in 0..pool.num_strings() {
-        if counts[i as usize] > u32::from(pool.refcount(string_ref(i + 1))) {
+        if counts[i as usize] > pool.refcount(string_ref(i + 1)) {
             return false;
         }
     }
-    true
+    census.fits()
 }
 
 /// Whether a table has an accepted name and rows that can be read.

@@ -1,9 +1,9 @@
 -- A census: what counting a cell does, that cells add up, and that columns in turn count what rows in turn count.
 use Rattle.std.proofs.Common.{◌≡◌, ◌≢◌, ℕ, zero, suc, ◌+◌, ◌*◌, ◌<◌, ◌≤◌, Bool, true, false, cond, ◌&&◌, ◌||◌, ◌==◌, List, [], ◌∷◌, ◌++◌, map, length, take, drop, set, get_or, Option, Some, None, is_some, unwrap_or, pos, ◌-ℤ◌, ◌^◌, refl, sym, ap, subst, ◌∙◌, arith, ⊎_elim, append-nil, append_assoc, get_or-set_same, get_or-set_other}
-use Rattle.std.specs.Prelude.{count_by, min, nat_le, nat_lt, not, replicate, slice_index_or, sum}
+use Rattle.std.specs.Prelude.{count_by, min, nat_le, nat_lt, not, replicate, slice_index, slice_index_or, sum}
 use Rattle.std.specs.List.{filter_map, list_all, list_any}
 use Rattle.std.proofs.Math.Nat as nat
-use Rattle.std.proofs.lemmas.Bool.{cases_eq, cases_lt, eq-eqb, ne_eqb, le-leb, lt-ltb, true≢false}
+use Rattle.std.proofs.lemmas.Bool.{cases_eq, cases_lt, eq-eqb, false_from_ne_true, le-leb, leb-true, lt-ltb, ne_eqb, true≢false}
 use Rattle.std.proofs.lemmas.Bool.Decides.{nat_tests}
 use Rattle.std.proofs.lemmas.List.{length-set, length-replicate, get_or-replicate, take_more}
 use Rattle.std.proofs.lemmas.Grind.{flat_map-append}
@@ -11,16 +11,17 @@ use Rattle.std.specs.List.{cons_option}
 use Rattle.msi_text_pool_base.specs.References.{number_of}
 use Rattle.msi_table_values.proofs.ColumnTypesLemmas.{below_types, length-types_of, type_at}
 use Rattle.std.proofs.lemmas.List.Sums.{sum_by-append, sum_by-cons}
-use Rattle.std.proofs.lemmas.List.Folds.{list_all-append}
+use Rattle.std.proofs.lemmas.List.Folds.{list_all-append, list_all-map}
 use Rattle.std.proofs.lemmas.List.Elements.{filter_map-append}
 use Rattle.msi_text_base.specs.Lists.{numbers_from, tabulated}
+use Rattle.msi_text_base.proofs.ListLemmas.{each_number}
 use Rattle.msi_table_values.specs.declared.column.ColumnType.{ColumnType}
 use Rattle.msi_table_values.specs.declared.column.ColumnType.TheVariants as coltype
 use Rattle.msi_table_values.specs.declared.value.ValueRef.{ValueRef}
 use Rattle.msi_table_values.specs.declared.value.ValueRef.TheVariants as cell
 use Rattle.msi_table_values.specs.Columns.{ColumnDef, types_of}
 use Rattle.msi_table.specs.Cells.{width, widths, row_count, cell_in, cell_of_number, cell_at, is_for_texts, row_in, rows_in}
-use Rattle.msi_table.specs.Census.{CensusDef, CountsMore, IsCensus, most_counted, number_of_cell, numbers_of_row, numbers_of_rows}
+use Rattle.msi_table.specs.Census.{CensusDef, CountsMore, IsCensus, most_counted, number_of_cell, numbers_of_row, numbers_of_rows, times_named}
 use Rattle.msi_table.proofs.PlacesLemmas.{cell_read, column_inside, tabulated_more}
 
 -- HOW OFTEN A TEST IS PASSED
@@ -43,13 +44,40 @@ all_by_count p (x ∷ xs) = by_first (p x) (list_all p xs) (count_by (λ x. not 
 all_same : (p : ℕ → Bool) (xs ys : List ℕ) → ((q : ℕ → Bool) → count_by q xs ≡ count_by q ys) → list_all p xs ≡ list_all p ys
 all_same p xs ys same = all_by_count p xs ∙ ap (λ n. n == 0) (same (λ x. not (p x))) ∙ sym (all_by_count p ys)
 
+-- WHETHER NO PLACE HAS MORE CELLS THAN ARE COUNTED
+
+abbrev pub few : List ℕ → ℕ → Bool
+few numbers i = nat_le (times_named numbers i) most_counted
+
+pub fits_by : (many : ℕ) (numbers : List ℕ) → list_all (λ n. nat_le n most_counted) (tabulated many (times_named numbers)) ≡ list_all (few numbers) (numbers_from 0 many)
+fits_by many numbers = list_all-map (λ n. nat_le n most_counted) (times_named numbers) (numbers_from 0 many)
+
+-- tests that agree
+same_below : (p q : ℕ → Bool) (n i : ℕ) → ((j : ℕ) → i ≤ j → j < i + n → p j ≡ q j) → list_all p (numbers_from i n) ≡ list_all q (numbers_from i n)
+same_below p q zero i h = refl
+same_below p q (suc n) i h = λ k. h i (omega arith) (omega arith) k && same_below p q n (i + 1) (λ j l m. h j (omega (arith, l)) (omega (arith, m))) k
+
+all_pass : (i n : ℕ) → list_all (λ j. true) (numbers_from i n) ≡ true
+all_pass i zero = refl
+all_pass i (suc n) = all_pass (i + 1) n
+
+-- one that fails at a number
+one_fails : (p : ℕ → Bool) (n k : ℕ) → k < n → p k ≡ false → list_all p (numbers_from 0 n) ≡ false
+one_fails p n k h fails = false_from_ne_true (list_all p (numbers_from 0 n)) (λ all. true≢false (sym (each_number p 0 n all k (omega arith) (omega (arith, h))) ∙ fails))
+
+-- cells that name no other place leave the rest as it was
+fits_same : (many : ℕ) (before after : List ℕ) → ((i : ℕ) → i < many → few after i ≡ few before i)
+    → list_all (λ n. nat_le n most_counted) (tabulated many (times_named before)) ≡ list_all (λ n. nat_le n most_counted) (tabulated many (times_named after))
+fits_same many before after same = fits_by many before ∙ sym (fits_by many after ∙ same_below (few after) (few before) many 0 (λ i low high. same i (omega (arith, high))))
+
 -- CELLS ADD UP
 
-pub census_new : (many : ℕ) (c : CensusDef) → c.counts ≡ replicate many 0 → c.is_within ≡ true → IsCensus many [] c
-census_new many c counts within = record {
+pub census_new : (many : ℕ) (c : CensusDef) → c.counts ≡ replicate many 0 → c.is_within ≡ true → c.fits ≡ true → IsCensus many [] c
+census_new many c counts within fits = record {
   many_counts = ap length counts ∙ length-replicate many 0;
   counts = λ i h. ap (λ l. get_or l i 0) counts ∙ get_or-replicate many i 0 0 h;
   within = within;
+  fits = fits ∙ sym (fits_by many [] ∙ same_below (few []) (λ i. true) many 0 (λ i low high. le-leb 0 most_counted (omega arith)) ∙ all_pass 0 many);
 }
 
 pub nothing_more : (c : CensusDef) → CountsMore [] c c
@@ -68,16 +96,29 @@ reordered ms ns a b same more many earlier is =
           (count-append (λ n. n == i + 1) earlier ms ∙ ap (λ n. count_by (λ n. n == i + 1) earlier + n) (same (λ n. n == i + 1)) ∙ sym (count-append (λ n. n == i + 1) earlier ns));
       within = now.within ∙ list_all-append (λ n. nat_le n many) earlier ms ∙ ap (λ b. list_all (λ n. nat_le n many) earlier && b) (all_same (λ n. nat_le n many) ms ns same)
           ∙ sym (list_all-append (λ n. nat_le n many) earlier ns);
+      fits = now.fits ∙ fits_by many (earlier ++ ms)
+          ∙ same_below (few (earlier ++ ms)) (few (earlier ++ ns)) many 0 (λ i low high. ap (λ n. nat_le n most_counted)
+          (count-append (λ n. n == i + 1) earlier ms ∙ ap (λ n. count_by (λ n. n == i + 1) earlier + n) (same (λ n. n == i + 1)) ∙ sym (count-append (λ n. n == i + 1) earlier ns)))
+          ∙ sym (fits_by many (earlier ++ ns));
     }
 
 -- ONE CELL
 
-up_to : (n : ℕ) → min (min n most_counted + 1) most_counted ≡ min (n + 1) most_counted
-up_to n = ⊎_elim
-    (λ (h : n < most_counted). ap (λ m. min (m + 1) most_counted) (nat.min-eq_left {n = n} {m = most_counted} (omega (arith, h))))
-    (λ (h : most_counted ≤ n). ap (λ m. min (m + 1) most_counted) (nat.min-eq_right {n = most_counted} {m = n} h)
-    ∙ nat.min-eq_right {n = most_counted} {m = most_counted + 1} (omega arith) ∙ sym (nat.min-eq_right {n = most_counted} {m = n + 1} (omega (arith, h))))
+-- one cell more than these is still counted
+one_up : (n counted : ℕ) → counted ≡ min n most_counted → counted < most_counted → (n < most_counted) × (counted + 1 ≡ min (n + 1) most_counted)
+one_up n counted is below = ⊎_elim
+    (λ (h : n < most_counted). (h, omega (arith, is, nat.min-eq_left {n = n} {m = most_counted} (omega (arith, h)), nat.min-eq_left {n = n + 1} {m = most_counted} (omega (arith, h)))))
+    (λ (h : most_counted ≤ n). absurd (omega (arith, is, below, nat.min-eq_right {n = most_counted} {m = n} h)))
     (cases_lt n most_counted)
+
+-- and one more than the most isn't
+most_up : (n counted : ℕ) → counted ≡ min n most_counted → most_counted ≤ counted → (most_counted < n + 1) × (counted ≡ min (n + 1) most_counted)
+most_up n counted is full =
+    let many : most_counted ≤ n = omega (arith, is, full, nat.min-le_left n most_counted) in
+    (omega (arith, many), is ∙ nat.min-eq_right {n = most_counted} {m = n} many ∙ sym (nat.min-eq_right {n = most_counted} {m = n + 1} (omega (arith, many))))
+
+more_than : (n most : ℕ) → most < n → nat_le n most ≡ false
+more_than n most h = grind (arith, nat_tests)
 
 -- a number that isn't this place's adds nothing to it
 other_place : (earlier : List ℕ) (n i : ℕ) → n ≢ i + 1 → count_by (λ n. n == i + 1) (earlier ++ n ∷ []) ≡ count_by (λ n. n == i + 1) earlier
@@ -107,35 +148,59 @@ zero_counted c many earlier is = record {
   many_counts = is.many_counts;
   counts = λ i h. is.counts i h ∙ ap (λ n. min n most_counted) (sym (other_place earlier 0 i (λ e. omega (arith, e))));
   within = is.within ∙ and_true (list_all (λ n. nat_le n many) earlier) ∙ sym (within_more many 0 earlier true (le-leb 0 many (omega arith)));
+  fits = is.fits ∙ fits_same many earlier (earlier ++ 0 ∷ []) (λ i h. ap (λ n. nat_le n most_counted) (other_place earlier 0 i (λ e. omega (arith, e))));
 }
 
-pub place_counted : (before after : CensusDef) (k : ℕ) → k < length before.counts → after.counts ≡ set before.counts k (min (get_or before.counts k 0 + 1) most_counted)
-    → after.is_within ≡ before.is_within → CountsMore (suc k ∷ []) before after
-place_counted before after k inside counts within many earlier is =
+pub place_counted : (before after : CensusDef) (k : ℕ) → k < length before.counts → get_or before.counts k 0 < most_counted → after.counts ≡ set before.counts k (get_or before.counts k 0 + 1)
+    → after.is_within ≡ before.is_within → after.fits ≡ before.fits → CountsMore (suc k ∷ []) before after
+place_counted before after k inside short counts within fits many earlier is =
     let below : k < many = omega (arith, inside, is.many_counts) in
+    let up = one_up (times_named earlier k) (get_or before.counts k 0) (is.counts k below) short in
     record {
-      many_counts = ap length counts ∙ length-set before.counts k (min (get_or before.counts k 0 + 1) most_counted) ∙ is.many_counts;
+      many_counts = ap length counts ∙ length-set before.counts k (get_or before.counts k 0 + 1) ∙ is.many_counts;
       counts = λ i h. ⊎_elim
-          (λ (same : i ≡ k). subst (λ i. get_or after.counts i 0 ≡ min (count_by (λ n. n == i + 1) (earlier ++ suc k ∷ [])) most_counted) (sym same)
-          (ap (λ l. get_or l k 0) counts ∙ get_or-set_same before.counts k (min (get_or before.counts k 0 + 1) most_counted) 0 inside
-          ∙ ap (λ n. min (n + 1) most_counted) (is.counts k below) ∙ up_to (count_by (λ n. n == k + 1) earlier)
+          (λ (same : i ≡ k). subst (λ i. get_or after.counts i 0 ≡ min (times_named (earlier ++ suc k ∷ []) i) most_counted) (sym same)
+          (ap (λ l. get_or l k 0) counts ∙ get_or-set_same before.counts k (get_or before.counts k 0 + 1) 0 inside ∙ up.1
           ∙ ap (λ n. min n most_counted) (sym (this_place earlier (suc k) k (omega arith)))))
-          (λ (apart : i ≢ k). ap (λ l. get_or l i 0) counts ∙ get_or-set_other before.counts k i (min (get_or before.counts k 0 + 1) most_counted) 0 apart
+          (λ (apart : i ≢ k). ap (λ l. get_or l i 0) counts ∙ get_or-set_other before.counts k i (get_or before.counts k 0 + 1) 0 apart
           ∙ is.counts i h ∙ ap (λ n. min n most_counted) (sym (other_place earlier (suc k) i (λ e. apart (omega (arith, e))))))
           (cases_eq i k);
       within = within ∙ is.within ∙ and_true (list_all (λ n. nat_le n many) earlier) ∙ sym (within_more many (suc k) earlier true (le-leb (suc k) many (omega (arith, below))));
+      fits = fits ∙ is.fits ∙ fits_same many earlier (earlier ++ suc k ∷ []) (λ i h. ⊎_elim
+          (λ (same : i ≡ k). subst (λ i. few (earlier ++ suc k ∷ []) i ≡ few earlier i) (sym same)
+          (le-leb (times_named (earlier ++ suc k ∷ []) k) most_counted (omega (arith, up.0, this_place earlier (suc k) k (omega arith)))
+          ∙ sym (le-leb (times_named earlier k) most_counted (omega (arith, up.0)))))
+          (λ (apart : i ≢ k). ap (λ n. nat_le n most_counted) (other_place earlier (suc k) i (λ e. apart (omega (arith, e)))))
+          (cases_eq i k));
     }
 
-pub past_counted : (before after : CensusDef) (k : ℕ) → length before.counts ≤ k → after.counts ≡ before.counts → after.is_within ≡ false → CountsMore (suc k ∷ []) before after
-past_counted before after k past counts within many earlier is =
+-- a place that has the most cells already
+pub full_counted : (before after : CensusDef) (k : ℕ) → k < length before.counts → most_counted ≤ get_or before.counts k 0 → after.counts ≡ before.counts
+    → after.is_within ≡ before.is_within → after.fits ≡ false → CountsMore (suc k ∷ []) before after
+full_counted before after k inside full counts within fits many earlier is =
+    let below : k < many = omega (arith, inside, is.many_counts) in
+    let up = most_up (times_named earlier k) (get_or before.counts k 0) (is.counts k below) full in
+    record {
+      many_counts = ap length counts ∙ is.many_counts;
+      counts = λ i h. ⊎_elim
+          (λ (same : i ≡ k). subst (λ i. get_or after.counts i 0 ≡ min (times_named (earlier ++ suc k ∷ []) i) most_counted) (sym same)
+          (ap (λ l. get_or l k 0) counts ∙ up.1 ∙ ap (λ n. min n most_counted) (sym (this_place earlier (suc k) k (omega arith)))))
+          (λ (apart : i ≢ k). ap (λ l. get_or l i 0) counts ∙ is.counts i h ∙ ap (λ n. min n most_counted) (sym (other_place earlier (suc k) i (λ e. apart (omega (arith, e))))))
+          (cases_eq i k);
+      within = within ∙ is.within ∙ and_true (list_all (λ n. nat_le n many) earlier) ∙ sym (within_more many (suc k) earlier true (le-leb (suc k) many (omega (arith, below))));
+      fits = fits ∙ sym (fits_by many (earlier ++ suc k ∷ []) ∙ one_fails (few (earlier ++ suc k ∷ [])) many k below
+          (more_than (times_named (earlier ++ suc k ∷ []) k) most_counted (omega (arith, up.0, this_place earlier (suc k) k (omega arith)))));
+    }
+
+pub past_counted : (before after : CensusDef) (k : ℕ) → length before.counts ≤ k → after.counts ≡ before.counts → after.is_within ≡ false → after.fits ≡ before.fits → CountsMore (suc k ∷ []) before after
+past_counted before after k past counts within fits many earlier is =
     let above : many ≤ k = omega (arith, past, is.many_counts) in
     record {
       many_counts = ap length counts ∙ is.many_counts;
       counts = λ i h. ap (λ l. get_or l i 0) counts ∙ is.counts i h ∙ ap (λ n. min n most_counted) (sym (other_place earlier (suc k) i (λ e. omega (arith, e, h, above))));
-      within = within ∙ and_false (list_all (λ n. nat_le n many) earlier) ∙ sym (within_more many (suc k) earlier false (not_within (suc k) many (omega (arith, above))));
-    } where
-      not_within : (n many : ℕ) → many < n → nat_le n many ≡ false
-      not_within n many h = grind (arith, nat_tests)
+      within = within ∙ and_false (list_all (λ n. nat_le n many) earlier) ∙ sym (within_more many (suc k) earlier false (more_than (suc k) many (omega (arith, above))));
+      fits = fits ∙ is.fits ∙ fits_same many earlier (earlier ++ suc k ∷ []) (λ i h. ap (λ n. nat_le n most_counted) (other_place earlier (suc k) i (λ e. omega (arith, e, h, above))));
+    }
 
 -- COLUMNS IN TURN
 
@@ -289,12 +354,10 @@ any_counted p xs = up_to_some (count_by p xs) ∙ sym (any_by_count p xs) where
   any_by_count p [] = refl
   any_by_count p (x ∷ xs) = by_first (p x) (list_any p xs) (count_by p xs) (any_by_count p xs) ∙ ap (nat_lt 0) (sym (sum_by-cons (λ x. cond (p x) 1 0) x xs))
 
--- a count of 16 bits suffices where the census says so
-pub counted_within : (n most : ℕ) → most < 65536 → min n most_counted ≤ most → n ≤ most
-counted_within n most small h = ⊎_elim
-    (λ (few : n < most_counted). omega (arith, h, nat.min-eq_left {n = n} {m = most_counted} (omega (arith, few))))
-    (λ (many : most_counted ≤ n). absurd (omega (arith, small, h, nat.min-eq_right {n = most_counted} {m = n} many)))
-    (cases_lt n most_counted)
+-- where it fits, each count is the number of the cells
+pub all_counted : (many : ℕ) (numbers : List ℕ) (c : CensusDef) → IsCensus many numbers c → c.fits ≡ true → (i : ℕ) → i < many → slice_index c.counts i ≡ times_named numbers i
+all_counted many numbers c is fit i h = is.counts i h ∙ nat.min-eq_left {n = times_named numbers i} {m = most_counted}
+    (leb-true (times_named numbers i) most_counted (each_number (few numbers) 0 many (sym (fits_by many numbers) ∙ sym is.fits ∙ fit) i (omega arith) (omega (arith, h))))
 
 pub counted_past : (n most : ℕ) → most < min n most_counted → most < n
 counted_past n most h = omega (arith, h, nat.min-le_left n most_counted)

@@ -19,12 +19,16 @@ use msi_text_pool::parts::place_number;
 use std::alloc::Global;
 use std::marker::Model;
 
+/// The most cells that a place may have: a count in a file has 16 bits.
+const MOST_CELLS: u16 = 65_535;
+
 /// How many cells name each place of a pool. It is taken of the bytes of tables' streams column by column, and no row
 /// is made for it.
 #[derive(Drop)]
 pub struct Census {
-    counts: Vec<u32>,
+    counts: Vec<u16>,
     is_within: bool,
+    fits: bool,
 }
 
 impl Model for Census {
@@ -32,7 +36,7 @@ impl Model for Census {
 
     ghost Value = { CensusDef };
 
-    ghost view = { λ c. record { counts = c.counts.items; is_within = c.is_within } };
+    ghost view = { λ c. record { counts = c.counts.items; is_within = c.is_within; fits = c.fits } };
 }
 
 impl Census {
@@ -47,11 +51,12 @@ impl Census {
         Ok(Census {
             counts: vec![in alloc; 0; many as usize]?,
             is_within: true,
+            fits: true,
         })
     }
 
-    /// Returns how many cells name each place, in the places' order. Counting ends at the largest `u32`.
-    pub fn counts(&self) -> &[u32]
+    /// Returns how many cells name each place, in the places' order. Counting ends at 65,535.
+    pub fn counts(&self) -> &[u16]
         ensures { result.now ≡ self.now.counts }
     {
         self.counts.as_slice()
@@ -62,6 +67,13 @@ impl Census {
         ensures { result ≡ self.now.is_within }
     {
         self.is_within
+    }
+
+    /// Returns whether no place is named by more than 65,535 cells.
+    pub fn fits(&self) -> bool
+        ensures { result ≡ self.now.fits }
+    {
+        self.fits
     }
 
     /// Counts a cell.
@@ -75,10 +87,12 @@ impl Census {
             return;
         };
         let at = at as usize;
-        if at < self.counts.len() {
-            self.counts[at] = self.counts[at].saturating_add(1);
-        } else {
+        if at >= self.counts.len() {
             self.is_within = false;
+        } else if self.counts[at] < MOST_CELLS {
+            self.counts[at] += 1;
+        } else {
+            self.fits = false;
         }
     }
 

@@ -65,7 +65,7 @@ impl Entries {
         self.counts.len()
     }
 
-    /// Returns an entry, counted from 0.
+    /// Returns the entry at a place below `len`, counted from 0.
     pub fn entry(&self, at: usize) -> Entry
         requires { at < length self.now }
         ensures { slice_get self.now at ≡ Some result }

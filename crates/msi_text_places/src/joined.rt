@@ -5,7 +5,7 @@ ghost use Rattle.std.specs.Prelude.{slice_get, string_bytes};
 ghost use Rattle.msi_text_base.specs.Results.{OnlyMemory};
 ghost use Rattle.msi_text_places.specs.JoinedTexts.{IsAllCut, IsJoined, IsPlaceAt, places_cut, places_joined};
 ghost use Rattle.msi_text_pool_base.specs.Pool.{without_unnamed_texts};
-ghost use Rattle.msi_text_pool_base.specs.Recounting.{AreCounts, many_recounted, with_counts};
+ghost use Rattle.msi_text_pool_base.specs.Recounting.{many_recounted, with_counts};
 
 use crate::count::Count;
 use crate::piece::Piece;
@@ -101,10 +101,9 @@ impl JoinedTexts {
     }
 
     /// Sets the count of each place, and returns how many got another one. A place without cells loses its text.
-    pub(crate) fn set_counts(&mut self, counts: &[u32]) -> u32
+    pub(crate) fn set_counts(&mut self, counts: &[u16]) -> u32
         requires joined { IsJoined self.old }
         requires many { length counts.now ≡ length (places_joined self.old) }
-        requires counts { AreCounts counts.now }
         requires most { length (places_joined self.old) ≤ 16777215 }
         ensures joined { IsJoined self.new }
         ensures places { places_joined self.new ≡ with_counts counts.now (places_joined self.old) }
@@ -112,7 +111,7 @@ impl JoinedTexts {
     {
         let mut changed = 0;
         for (i, count) in counts.iter().enumerate() {
-            if self.counts[i].set_count(*count as u16) {
+            if self.counts[i].set_count(*count) {
                 changed += 1;
             }
         }

@@ -7,7 +7,7 @@ ghost use Rattle.std.specs.List.{list_any};
 ghost use Rattle.msi_text_pool_base.specs.Pool.{PlacesWritten, without_unnamed_texts};
 ghost use Rattle.msi_text_pool_base.specs.FirstFit.{taken, given_back, is_fit};
 ghost use Rattle.msi_text_places.specs.Indexing.{HasTrueIndexes, IsKept, places_of, operations_of};
-ghost use Rattle.msi_text_pool_base.specs.Recounting.{AreCounts, many_recounted, with_counts};
+ghost use Rattle.msi_text_pool_base.specs.Recounting.{many_recounted, with_counts};
 ghost use Rattle.msi_text_base.specs.Results.{OnlyMemory};
 ghost use Rattle.msi_text_base.specs.declared.errors.ErrorKind.TheVariants.{InvalidData, InvalidInput, OutOfMemory};
 
@@ -118,10 +118,9 @@ impl KeptPlaces {
 
     /// Sets the count of each place, and returns how many got another one. A place without cells loses its text. The
     /// indexes are made again at the next change, and there is no operation yet.
-    pub fn set_counts(&mut self, counts: &[u32]) -> u32
+    pub fn set_counts(&mut self, counts: &[u16]) -> u32
         requires indexed { HasTrueIndexes self.old }
         requires many { length counts.now ≡ length (places_of self.old) }
-        requires counts { AreCounts counts.now }
         requires most { length (places_of self.old) ≤ 16777215 }
         ensures places { places_of self.new ≡ with_counts counts.now (places_of self.old) }
         ensures changed { result ≡ many_recounted counts.now (places_of self.old) }

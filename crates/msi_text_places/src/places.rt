@@ -4,7 +4,7 @@ ghost use Rattle.std.specs.Prelude.{◌≡◌, ◌+◌, ◌-◌, ◌<◌, ◌^�
 ghost use Rattle.std.specs.Prelude.{slice_get, vec_len, IsTrue, ◌↔◌, ◌≤◌, ◌==◌, not};
 ghost use Rattle.msi_text_pool_base.specs.Pool.{forgotten, without_unnamed_texts};
 ghost use Rattle.msi_text_base.specs.Results.{OnlyMemory};
-ghost use Rattle.msi_text_pool_base.specs.Recounting.{AreCounts, many_recounted, with_count, with_counts};
+ghost use Rattle.msi_text_pool_base.specs.Recounting.{many_recounted, with_count, with_counts};
 
 use crate::shared::SharedText;
 use msi_text_base::errors::Error;
@@ -204,9 +204,8 @@ impl Places {
     }
 
     /// Sets the count of each place, and returns how many got another one. A place without cells loses its text.
-    pub(crate) fn set_counts(&mut self, counts: &[u32]) -> u32
+    pub(crate) fn set_counts(&mut self, counts: &[u16]) -> u32
         requires many { length counts.now ≡ length self.old }
-        requires counts { AreCounts counts.now }
         requires most { length self.old ≤ 16777215 }
         ensures places { self.new ≡ with_counts counts.now self.old }
         ensures changed { result ≡ many_recounted counts.now self.old }
@@ -237,9 +236,8 @@ fn set_count(place: &mut Place, count: u16, alloc: Global) -> bool
 }
 
 /// Sets the count of each place, and returns how many got another one.
-fn set_counts(places: &mut Vec<Place>, counts: &[u32]) -> u32
+fn set_counts(places: &mut Vec<Place>, counts: &[u16]) -> u32
     requires many { length counts.now ≡ vec_len places.old }
-    requires counts { AreCounts counts.now }
     requires most { vec_len places.old ≤ 16777215 }
     ensures items { places.new.items ≡ with_counts counts.now places.old.items }
     ensures changed { result ≡ many_recounted counts.now places.old.items }
@@ -248,7 +246,7 @@ fn set_counts(places: &mut Vec<Place>, counts: &[u32]) -> u32
     let alloc = *places.allocator();
     let mut changed = 0;
     for (i, count) in counts.iter().enumerate() {
-        if set_count(&mut places[i], *count as u16, alloc) {
+        if set_count(&mut places[i], *count, alloc) {
             changed += 1;
         }
     }

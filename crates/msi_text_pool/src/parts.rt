@@ -4,7 +4,7 @@ ghost use Rattle.std.specs.Prelude.{◌≡◌, ◌↔◌, ◌≤◌, length, IsT
 ghost use Rattle.std.specs.Prelude.{if◌then◌else◌, string_bytes};
 ghost use Rattle.msi_text_base.specs.declared.errors.ErrorKind.TheVariants.{InvalidInput, OutOfMemory};
 ghost use Rattle.msi_text_pool_base.specs.FirstFit.{is_long_with, taken};
-ghost use Rattle.msi_text_pool_base.specs.Recounting.{AreCounts, many_recounted, with_counts};
+ghost use Rattle.msi_text_pool_base.specs.Recounting.{many_recounted, with_counts};
 ghost use Rattle.msi_text_pool_base.specs.Pool.{CountsFit, PlacesWritten, unindexed, without_unnamed_texts};
 
 pub use crate::stringpool::reading::{pool_builder_of, pool_of};
@@ -48,9 +48,8 @@ pub fn incref_widening(pool: &mut StringPool, text: String) -> Result<StringRef,
 
 /// Sets the count of each place, from number 1 on, and returns how many places got another one. A place without cells
 /// becomes free, and its text empty; any other keeps its text. It takes no memory.
-pub fn set_counts(pool: &mut StringPool, counts: &[u32]) -> u32
-    requires many { length counts.now ≡ length pool.old.places }
-    requires counts { AreCounts counts.now }
+pub fn set_counts(pool: &mut StringPool, counts: &[u16]) -> u32
+    requires { length counts.now ≡ length pool.old.places }
     ensures pool { unindexed pool.new
         ≡ record (unindexed pool.old) { places = with_counts counts.now pool.old.places } }
     ensures changed { result ≡ many_recounted counts.now pool.old.places }

@@ -1,9 +1,9 @@
 -- Counts are set place by place.
 use Rattle.std.proofs.Common.{◌≡◌, ℕ, zero, suc, ◌+◌, ◌<◌, Bool, cond, not, List, [], ◌∷◌, ◌++◌, length, get_or, set, take, drop, refl, sym, ap, ◌∙◌, arith}
-use Rattle.std.specs.Prelude.{zip, ◌==◌}
+use Rattle.std.specs.Prelude.{zip, ◌==◌, ◌^◌, All}
 use Rattle.std.proofs.lemmas.List.Sums.{sum_by-cons}
 use Rattle.msi_text_pool_base.specs.Pool.{CountsFit, Place}
-use Rattle.msi_text_pool_base.specs.Recounting.{AreCounts, many_recounted, with_count, with_counts}
+use Rattle.msi_text_pool_base.specs.Recounting.{many_recounted, with_count, with_counts}
 
 -- the places when those before place i were set, and how many of those got another count
 abbrev pub set_before : List ℕ → List Place → ℕ → List Place
@@ -60,7 +60,7 @@ length-with_counts (c ∷ cs) [] same = absurd (omega (arith, same))
 length-with_counts (c ∷ cs) (p ∷ ps) same = ap suc (length-with_counts cs ps (omega (arith, same)))
 
 -- counts of 16 bits
-pub CountsFit-with_counts : (counts : List ℕ) (places : List Place) → AreCounts counts → CountsFit (with_counts counts places)
+pub CountsFit-with_counts : (counts : List ℕ) (places : List Place) → All (λ n. n < 2 ^ 16) counts → CountsFit (with_counts counts places)
 CountsFit-with_counts [] places fit = tt
 CountsFit-with_counts (c ∷ cs) [] fit = tt
 CountsFit-with_counts (c ∷ cs) (p ∷ ps) fit = (fit 0 0 (omega arith), CountsFit-with_counts cs ps (λ k d l. fit (suc k) d (omega (arith, l))))

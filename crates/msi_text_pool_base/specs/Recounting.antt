@@ -1,5 +1,5 @@
 -- The counts of all places, set at once.
-use Rattle.std.specs.Prelude.{ℕ, ◌^◌, ◌<◌, not, List, [], map, zip, count_by, All, ◌==◌, if◌then◌else◌}
+use Rattle.std.specs.Prelude.{ℕ, not, List, [], map, zip, count_by, ◌==◌, if◌then◌else◌}
 use Rattle.msi_text_pool_base.specs.Pool.{Place}
 
 -- a place that so many cells name: one without cells becomes free, and loses its text
@@ -12,7 +12,3 @@ with_counts counts places = map (λ e. with_count e.0 e.1) (zip counts places)
 -- how many places get another count
 abbrev pub many_recounted : List ℕ → List Place → ℕ
 many_recounted counts places = count_by (λ e. not (e.0 == e.1.count)) (zip counts places)
-
--- each count has 16 bits
-abbrev pub AreCounts : List ℕ → Type 0
-AreCounts counts = All (λ n. n < 2 ^ 16) counts

@@ -63,7 +63,7 @@ impl Numbers {
         }
     }
 
-    /// A number, counted from 0.
+    /// The number at a place below `len`, counted from 0.
     pub fn get(&self, at: usize) -> usize
         requires { at < length self.now }
         ensures { slice_get self.now at ≡ Some result }
@@ -86,8 +86,8 @@ impl Numbers {
         Ok(())
     }
 
-    /// Sets a number, counted from 0. The first that is 2^32 or more takes memory for all of them.
-    /// The only error is `OutOfMemory`.
+    /// Sets the number at a place below `len`, counted from 0. The first that is 2^32 or more takes memory for all of
+    /// them. The only error is `OutOfMemory`.
     pub fn set(&mut self, at: usize, number: usize) -> Result<(), Error>
         requires { at < length self.old }
         ensures ok { OnOk result (self.new ≡ set self.old at number) }

@@ -8,7 +8,7 @@ ghost use Rattle.msi_text_pool_base.specs.Pool.{CountsFit, PlacesWritten, newly_
 ghost use Rattle.msi_text_pool_base.specs.Pool.{without_unnamed_texts};
 ghost use Rattle.msi_text_pool_base.specs.FirstFit.{taken, given_back, is_long_with};
 ghost use Rattle.msi_text_pool_base.specs.FirstFitLaws.{Holds, place_at, text_at, count_at};
-ghost use Rattle.msi_text_pool_base.specs.Recounting.{AreCounts, many_recounted, with_counts};
+ghost use Rattle.msi_text_pool_base.specs.Recounting.{many_recounted, with_counts};
 ghost use Rattle.msi_text_base.specs.Results.{OnlyMemory};
 ghost use Rattle.msi_text_base.specs.declared.errors.ErrorKind.TheVariants.{InvalidData, InvalidInput, OutOfMemory};
 
@@ -262,9 +262,8 @@ impl StringPool {
 
     /// Sets the count of each place, from number 1 on, and returns how many places got another one. A place without
     /// cells becomes free, and its text empty. It takes no memory.
-    pub(crate) fn set_counts(&mut self, counts: &[u32]) -> u32
-        requires many { length counts.now ≡ length self.old.places }
-        requires counts { AreCounts counts.now }
+    pub(crate) fn set_counts(&mut self, counts: &[u16]) -> u32
+        requires { length counts.now ≡ length self.old.places }
         ensures pool { unindexed self.new
             ≡ record (unindexed self.old) { places = with_counts counts.now self.old.places } }
         ensures changed { result ≡ many_recounted counts.now self.old.places }

@@ -7,8 +7,8 @@ use Rattle.msi_database.specs.Keeping.{IsKeptDatabase}
 use Rattle.msi_database.proofs.RecountingLemmas.{left_kept}
 use Rattle.msi_database.proofs.database.Database.recount.Goals as goal
 
-pub set_counts-changed-requires-clause-many : goal.set_counts-changed-requires-clause-many
-set_counts-changed-requires-clause-many c = ap length (c.counts.ensures ∙ c.in_ok-census.ensures.counts) ∙ many_counts c.args.self.now.database
+pub set_counts-changed-requires : goal.set_counts-changed-requires
+set_counts-changed-requires c = ap length (c.counts.ensures ∙ c.in_ok-census.ensures.counts) ∙ many_counts c.args.self.now.database
     ∙ ap (λ (k : Kept). length k.database.pool.places) (sym c.self.view_is)
 
 pub invariant_of-self : goal.invariant_of-self

@@ -25,7 +25,7 @@ loop-i-preserved c =
     let new = c.set_count.new.self in
     let place = place_of whole ends i in
     let inside : i < length now.counts.items = omega (arith, c.loop-i-test.true, c.requires.many, length-cut (string_bytes texts.whole) 0 texts.ends texts.counts.items, texts.counts.ok.0, now.counts.ok.0, c.loop-i.invariant.many) in
-    let is = place_set whole ends now.counts.items i old new inside c.index_mut.ensures.value (λ _. rw c.set_count.ensures.count (c.requires.counts i 0 c.loop-i-test.true)) c.loop-i.invariant.joined in
+    let is = place_set whole ends now.counts.items i old new inside c.index_mut.ensures.value (λ _. rw c.set_count.ensures.count (omega (arith, c.type_inv.counts i))) c.loop-i.invariant.joined in
     let more = changed_before-more c.args.counts.now (places_joined texts) (places_joined now) i 0 c.loop-i.changed (place old) c.set_count.result
     c.loop-i-test.true c.requires.many c.loop-i.invariant.places is.was c.set_count.ensures.changed c.loop-i.invariant.changed in
     record {
