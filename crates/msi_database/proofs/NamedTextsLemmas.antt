@@ -1,34 +1,15 @@
--- The texts of a pool as they are counted, and the rows of the system tables that name few.
-use Rattle.std.proofs.Common.{◌≡◌, ℕ, ◌+◌, ◌-◌, ◌<◌, min, Bool, List, [], length, get_or, take, Option, Some, None, Result, Ok, Err, sym, ap, ◌∙◌, subst, arith, slice_get}
+-- The rows of the system tables that name few texts.
+use Rattle.std.proofs.Common.{◌≡◌, ℕ, Bool, List, Option, Some, None, Result, Ok, Err, sym, ap, ◌∙◌, subst}
 use Rattle.std.specs.Prelude.{IfSome, OnOk}
-use Rattle.std.specs.Option.{option_map_or}
-use Rattle.std.proofs.lemmas.List.Sums.{sum_by_more}
-use Rattle.std.proofs.lemmas.Option.{same_Some, slice_get-get_or}
+use Rattle.std.proofs.lemmas.Option.{same_Some}
 use Rattle.msi_text_pool_base.specs.Pool.{Place, Pool}
-use Rattle.msi_text_pool_base.specs.FirstFitLaws.{text_at}
 use Rattle.msi_table_values.specs.declared.value.ValueRef.{ValueRef}
 use Rattle.msi_table_values.specs.Columns.{ColumnDef}
 use Rattle.msi_table.specs.Tables.{TableDef}
 use Rattle.msi_database_schema.specs.Schema.{table_with}
+use Rattle.msi_database_changes.specs.NamedTexts.{NameFewTexts}
 use Rattle.msi_database_storage.specs.Streams.{Streams, stored_rows}
-use Rattle.msi_database.specs.NamedTexts.{NameFewTexts, RowsNameFewTexts, pool_bytes}
-
--- TEXTS OF A POOL
-
-text_named : (places : List Place) (i : ℕ) (d : Place) → i < length places → text_at places (i + 1) ≡ (get_or places i d).text
-text_named places i d inside =
-    let number : (i + 1) - 1 ≡ i = omega arith in
-    ap (λ k. option_map_or (λ (p : Place). p.text) (slice_get places k) []) number
-    ∙ ap (λ o. option_map_or (λ (p : Place). p.text) o []) (slice_get-get_or places i d inside)
-
-pub size_more : (places : List Place) (i size most : ℕ) → i < length places → size ≡ min (pool_bytes (take i places)) most
-    → min (size + length (text_at places (i + 1))) most ≡ min (pool_bytes (take (i + 1) places)) most
-size_more places i size most inside so_far =
-    let d : Place = record { text = []; count = 0 } in
-    let text : length (text_at places (i + 1)) ≡ length (get_or places i d).text = ap length (text_named places i d inside) in
-    omega (arith, sum_by_more (λ (p : Place). length p.text) places i d inside)
-
--- ROWS OF STREAMS
+use Rattle.msi_database.specs.Reading.{RowsNameFewTexts}
 
 few_stored : (stored : Option (List (List ValueRef))) (rows : List (List ValueRef)) (places : List Place) → stored ≡ Some rows → NameFewTexts places rows → IfSome stored (NameFewTexts places)
 few_stored None rows places is few = tt

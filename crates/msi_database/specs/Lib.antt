@@ -1,7 +1,6 @@
 -- The words of this crate.
 pub mod Agreement
 pub mod Listed
-pub mod NamedTexts
 pub mod Keeping
 pub mod Making
 pub mod Dropping

@@ -11,14 +11,14 @@ ghost use Rattle.msi_database_schema.specs.System.{validation_columns as columns
 ghost use Rattle.msi_database_storage.specs.Kept.{AreAsLong, Kept, schema_listed, table_kept_at};
 ghost use Rattle.msi_database_storage.specs.StreamNames.{HaveShortNames, HoldBytes};
 ghost use Rattle.msi_database_storage.specs.Streams.{stored_rows as rows_stored};
+ghost use Rattle.msi_database_changes.specs.NamedTexts.{NameFewTexts};
 ghost use Rattle.msi_database.specs.Agreement.{described_by, schema_in};
-ghost use Rattle.msi_database.specs.NamedTexts.{NameFewTexts, RowsNameFewTexts, SystemRowsNameFewTexts};
-ghost use Rattle.msi_database.specs.Reading.{IsDatabaseOf};
+ghost use Rattle.msi_database.specs.Reading.{IsDatabaseOf, RowsNameFewTexts, SystemRowsNameFewTexts};
 
 use crate::database::Database;
-use crate::named_texts::name_few_texts;
 use crate::reasons;
 use msi_container_format::contents::StreamMap;
+use msi_database_changes::named_texts::name_few_texts;
 use msi_database_schema::parts::named_table;
 use msi_database_schema::schema::tables_of_cells;
 use msi_database_schema::system::{

@@ -8,7 +8,7 @@ use Rattle.msi_database_schema.specs.Schema.{SchemaRows, schema_of}
 use Rattle.msi_database_schema.specs.System.{columns_columns, columns_name, tables_columns, tables_name, validation_columns, validation_name}
 use Rattle.msi_database_storage.specs.Streams.{stored_rows}
 use Rattle.msi_database.specs.Agreement.{described_by, schema_in}
-use Rattle.msi_database.specs.NamedTexts.{RowsNameFewTexts, SystemRowsNameFewTexts}
+use Rattle.msi_database.specs.Reading.{RowsNameFewTexts, SystemRowsNameFewTexts}
 use Rattle.msi_database.proofs.NamedTextsLemmas.{on_ok, rows_few}
 use Rattle.msi_database.proofs.ReadingLemmas.{described_fails, schema_is, told_kind, told_long, told_ok}
 use Rattle.msi_database.proofs.PassedLemmas.{memory_refused, no_value}

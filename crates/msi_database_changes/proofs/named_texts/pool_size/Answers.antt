@@ -1,7 +1,7 @@
 use Rattle.std.proofs.Common.{◌<◌, ◌+◌, ◌-◌, ◌^◌, ◌∙◌, List, ℕ, min, length, ap, arith}
 use Rattle.msi_text_pool_base.specs.FirstFitLaws.{text_at}
-use Rattle.msi_database.proofs.NamedTextsLemmas.{size_more}
-use Rattle.msi_database.proofs.named_texts.pool_size.Goals as goal
+use Rattle.msi_database_changes.proofs.NamedTextsLemmas.{size_more}
+use Rattle.msi_database_changes.proofs.named_texts.pool_size.Goals as goal
 
 pub loop-i-preserved : goal.loop-i-preserved
 loop-i-preserved c = let places = c.args.pool.now.places in

@@ -1,14 +1,10 @@
 -- What the texts cost that rows name, each counted as often as a cell names it.
-use Rattle.std.specs.Prelude.{◌≤◌, ◌==◌, ℕ, ◌+◌, ◌*◌, List, length, IfSome}
+use Rattle.std.specs.Prelude.{◌≤◌, ◌==◌, ℕ, ◌+◌, ◌*◌, List, length}
 use Rattle.std.specs.List.{count_by, sum_by}
-use Rattle.msi_text_pool_base.specs.Pool.{Place, Pool}
+use Rattle.msi_text_pool_base.specs.Pool.{Place}
 use Rattle.msi_text_pool_base.specs.FirstFitLaws.{text_at}
 use Rattle.msi_table_values.specs.declared.value.ValueRef.{ValueRef}
 use Rattle.msi_table_values.specs.declared.value.ValueRef.TheVariants as cell
-use Rattle.msi_table_values.specs.Columns.{ColumnDef}
-use Rattle.msi_database_schema.specs.System.{tables_name, columns_name, validation_name, tables_columns}
-use Rattle.msi_database_schema.specs.System.{columns_columns, validation_columns}
-use Rattle.msi_database_storage.specs.Streams.{Streams, stored_rows}
 
 -- what a text costs: its bytes, and 128 for each semicolon, since a column has each text between two of them for itself
 abbrev pub text_cost : List ℕ → ℕ
@@ -36,14 +32,3 @@ most_named_cost places rows = 4 * pool_bytes places + 64 * length rows + 262144
 
 abbrev pub NameFewTexts : List Place → List (List ValueRef) → Type 0
 NameFewTexts places rows = named_cost places rows ≤ most_named_cost places rows
-
--- the rows that the stream of a table spells
-abbrev pub RowsNameFewTexts : Streams → Pool → List ColumnDef → List ℕ → Type 0
-RowsNameFewTexts streams pool columns name =
-    IfSome (stored_rows streams pool.long columns name) (NameFewTexts pool.places)
-
--- the rows of each system table that describes tables
-pub record SystemRowsNameFewTexts (streams : Streams) (pool : Pool) : Type 0 where
-  pub tables : RowsNameFewTexts streams pool tables_columns tables_name
-  pub columns : RowsNameFewTexts streams pool columns_columns columns_name
-  pub validation : RowsNameFewTexts streams pool validation_columns validation_name

@@ -1,7 +1,8 @@
 //! What the texts cost that the rows of a table name.
 
 ghost use Rattle.std.specs.Prelude.{◌≡◌, ◌↔◌, ◌-◌, ◌≤◌, ◌==◌, IsTrue, SomeIff, count_by, min};
-ghost use Rattle.msi_database.specs.NamedTexts.{NameFewTexts, cell_cost, named_cost, pool_bytes, row_cost, text_cost};
+ghost use Rattle.msi_database_changes.specs.NamedTexts.{NameFewTexts, cell_cost, named_cost, pool_bytes};
+ghost use Rattle.msi_database_changes.specs.NamedTexts.{row_cost, text_cost};
 
 use msi_table_values::value::ValueRef;
 use msi_text_base::text::Items;
@@ -76,7 +77,7 @@ fn name_at_most(pool: &StringPool, rows: &[Items<ValueRef>], most: usize) -> boo
 /// Whether the texts that rows name, each counted as often as it is named, cost at most four times the bytes of the
 /// pool's texts, 64 for each row and 256 KiB; and no more than `usize` counts. A text costs its bytes, and 128 for each
 /// semicolon. It looks at all of the pool only where they cost more than the last two parts.
-pub(crate) fn name_few_texts(pool: &StringPool, rows: &[Items<ValueRef>]) -> bool
+pub fn name_few_texts(pool: &StringPool, rows: &[Items<ValueRef>]) -> bool
     ensures { IsTrue result
         ↔ (NameFewTexts pool.now.places rows.now × (named_cost pool.now.places rows.now ≤ usize.MAX)) }
 {
