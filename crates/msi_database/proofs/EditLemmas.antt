@@ -25,7 +25,7 @@ use Rattle.msi_database_storage.specs.Streams.{Streams, table_stream, stream_of_
 use Rattle.msi_database_storage.specs.declared.storing.Stored.{Stored}
 use Rattle.msi_database_storage.specs.Storing.{stored_in, tables_stored, HaveOwnNames}
 use Rattle.msi_database.proofs.MapLemmas as maps
-use Rattle.msi_database.proofs.KeyLemmas.{table_keys_tell_names}
+use Rattle.msi_database_schema.proofs.KeyLemmas.{table_keys_tell_names}
 use Rattle.msi_database.proofs.StreamLemmas.{list_cmp_exact}
 use Rattle.msi_database.proofs.StoredLemmas.{AreNames}
 

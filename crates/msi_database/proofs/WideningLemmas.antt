@@ -33,7 +33,7 @@ use Rattle.msi_database.specs.Agreement.{TablesAre, UnlistedIs}
 use Rattle.msi_database.specs.Keeping.{AreParts, HasFittingRows, IsKeptDatabase}
 use Rattle.msi_database.proofs.ComesLemmas.{describes, regular}
 use Rattle.msi_database.proofs.PartsLemmas.{kept_parts}
-use Rattle.msi_database.proofs.KeyLemmas.{table_key_is_name, table_keys_tell_names, table_key≢summary_key, validation_accepted}
+use Rattle.msi_database_schema.proofs.KeyLemmas.{table_key_is_name, table_keys_tell_names, table_key≢summary_key, validation_accepted}
 use Rattle.msi_database.proofs.MapLemmas as maps
 use Rattle.msi_database.proofs.DescribedLemmas.{schema_after}
 use Rattle.msi_database.proofs.SoundLemmas.{sound_names, sound_rows}

@@ -5,4 +5,4 @@ pub use crate::decoding::{is_readable, stored_rows, table_rows};
 pub use crate::naming::{tables_census, with_named_texts};
 pub use crate::recounting::{cells_census, counts_fit};
 pub use crate::soundness::{are_sound, are_sound_tables, fits_width, is_standard};
-pub use crate::storing::{Stored, store_all, stream_of};
+pub use crate::storing::{Stored, no_stream, store_all, stream_of};
