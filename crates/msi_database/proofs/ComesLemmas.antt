@@ -24,7 +24,7 @@ use Rattle.msi_database_changes.proofs.TracksLemmas.{Tracks}
 use Rattle.msi_database_changes.proofs.RegularLemmas.{IsRegular}
 use Rattle.msi_database_storage.specs.Streams.{Streams, stored_rows, stored_streams}
 use Rattle.msi_database_storage.specs.Kept.{Kept, with_change}
-use Rattle.msi_database.specs.Agreement.{TablesAre, UnlistedIs}
+use Rattle.msi_database_storage.specs.Agreement.{TablesAre, UnlistedIs}
 use Rattle.msi_database.specs.Keeping.{IsKeptDatabase}
 use Rattle.msi_database_schema.proofs.KeyLemmas.{validation_accepted, table_key_is_name}
 use Rattle.msi_database.proofs.StreamLemmas.{tables_found}

@@ -19,7 +19,6 @@ pub mod TablesKeptLemmas
 pub mod WholeLemmas
 pub mod PageLemmas
 pub mod PartsLemmas
-pub mod PassedLemmas
 pub mod SystemRowsLemmas
 pub mod TableListLemmas
 pub mod EditLemmas
@@ -29,7 +28,6 @@ pub mod MadeLemmas
 pub mod NamedLemmas
 pub mod OpenedLemmas
 pub mod ReadLemmas
-pub mod NamedTextsLemmas
 pub mod ChangingLemmas
 pub mod KeptLawLemmas
 pub mod FreshLemmas
@@ -43,7 +41,6 @@ pub mod RowCallLemmas
 pub mod InsertCallLemmas
 pub mod OtherLemmas
 pub mod DroppingCallLemmas
-pub mod ReadingLemmas
 pub mod CreatingLemmas
 pub mod CreatingCallLemmas
 pub mod ShownTextLemmas

@@ -29,7 +29,7 @@ use Rattle.msi_database_changes.proofs.AtWidthLemmas.{sound_widened}
 use Rattle.msi_database_storage.specs.Streams.{Streams, stored_rows, stream_at, with_stream}
 use Rattle.msi_database_storage.specs.Kept.{AreAsLong, Kept, kept_widened, schema_listed}
 use Rattle.msi_database_storage.specs.Widening.{unlisted_table, with_long_rows}
-use Rattle.msi_database.specs.Agreement.{TablesAre, UnlistedIs}
+use Rattle.msi_database_storage.specs.Agreement.{TablesAre, UnlistedIs}
 use Rattle.msi_database.specs.Keeping.{AreParts, HasFittingRows, IsKeptDatabase}
 use Rattle.msi_database.proofs.ComesLemmas.{describes, regular}
 use Rattle.msi_database.proofs.PartsLemmas.{kept_parts}

@@ -7,3 +7,7 @@ pub mod RecountingLemmas
 pub mod PutBackLemmas
 pub mod ListingLemmas
 pub mod CopyingLemmas
+pub mod ReadLemmas
+pub mod ReadingLemmas
+pub mod NamedTextsLemmas
+pub mod PassedLemmas

@@ -5,3 +5,5 @@ pub mod Widening
 pub mod Kept
 pub mod Storing
 pub mod Naming
+pub mod Agreement
+pub mod Reading

@@ -6,6 +6,8 @@ mod decoding;
 pub mod listing;
 mod naming;
 pub mod parts;
+mod reading;
+mod reasons;
 mod recounting;
 mod soundness;
 mod storing;

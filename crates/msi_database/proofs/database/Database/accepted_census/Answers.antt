@@ -1,5 +1,5 @@
 use Rattle.msi_database_storage.proofs.RecountingLemmas.{counts_are}
-use Rattle.msi_database.proofs.PassedLemmas.{memory_refused, no_value}
+use Rattle.msi_database_storage.proofs.PassedLemmas.{memory_refused, no_value}
 use Rattle.msi_database.proofs.database.Database.accepted_census.Goals as goal
 
 pub returns-clause-counts : goal.returns-clause-counts

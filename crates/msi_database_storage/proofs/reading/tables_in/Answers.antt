@@ -7,12 +7,12 @@ use Rattle.msi_database_schema.specs.RowOrders.{rows_of}
 use Rattle.msi_database_schema.specs.Schema.{SchemaRows, schema_of}
 use Rattle.msi_database_schema.specs.System.{columns_columns, columns_name, tables_columns, tables_name, validation_columns, validation_name}
 use Rattle.msi_database_storage.specs.Streams.{stored_rows}
-use Rattle.msi_database.specs.Agreement.{described_by, schema_in}
-use Rattle.msi_database.specs.Reading.{RowsNameFewTexts, SystemRowsNameFewTexts}
-use Rattle.msi_database.proofs.NamedTextsLemmas.{on_ok, rows_few}
-use Rattle.msi_database.proofs.ReadingLemmas.{described_fails, schema_is, told_kind, told_long, told_ok}
-use Rattle.msi_database.proofs.PassedLemmas.{memory_refused, no_value}
-use Rattle.msi_database.proofs.reading.tables_in.Goals as goal
+use Rattle.msi_database_storage.specs.Agreement.{described_by, schema_in}
+use Rattle.msi_database_storage.specs.Reading.{RowsNameFewTexts, SystemRowsNameFewTexts}
+use Rattle.msi_database_storage.proofs.NamedTextsLemmas.{on_ok, rows_few}
+use Rattle.msi_database_storage.proofs.ReadingLemmas.{described_fails, schema_is, told_kind, told_long, told_ok}
+use Rattle.msi_database_storage.proofs.PassedLemmas.{memory_refused, no_value}
+use Rattle.msi_database_storage.proofs.reading.tables_in.Goals as goal
 
 pub returns-clause-ok : goal.returns-clause-ok
 returns-clause-ok c = let streams = entries c.args.streams.now in let raw = unindexed c.args.pool.now in let values = map (row_values raw.places) in

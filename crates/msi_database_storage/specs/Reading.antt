@@ -7,7 +7,7 @@ use Rattle.msi_database_schema.specs.System.{columns_columns, validation_columns
 use Rattle.msi_database_changes.specs.NamedTexts.{NameFewTexts}
 use Rattle.msi_database_storage.specs.Streams.{Streams, stored_rows}
 use Rattle.msi_database_storage.specs.Kept.{Kept}
-use Rattle.msi_database.specs.Agreement.{DatabaseIs, is_shown}
+use Rattle.msi_database_storage.specs.Agreement.{DatabaseIs, is_shown}
 
 -- The database that is read of a pool and the streams of a root: all streams are kept, and spell it; the pool is as its
 -- own streams spell it, but that a free place has no text where no cell names it

@@ -1,7 +1,7 @@
 use Rattle.std.proofs.Common.{◌≡◌, ◌<◌, ◌∷◌, List, ℕ, subst}
 use Rattle.std.specs.Prelude.{All}
-use Rattle.msi_database.proofs.ReadingLemmas.{bytes_seen, name_seen}
-use Rattle.msi_database.proofs.reading.look_at.Goals as goal
+use Rattle.msi_database_storage.proofs.ReadingLemmas.{bytes_seen, name_seen}
+use Rattle.msi_database_storage.proofs.reading.look_at.Goals as goal
 
 pub loop-name-preserved : goal.loop-name-preserved
 loop-name-preserved c =

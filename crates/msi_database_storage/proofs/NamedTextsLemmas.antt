@@ -9,7 +9,7 @@ use Rattle.msi_table.specs.Tables.{TableDef}
 use Rattle.msi_database_schema.specs.Schema.{table_with}
 use Rattle.msi_database_changes.specs.NamedTexts.{NameFewTexts}
 use Rattle.msi_database_storage.specs.Streams.{Streams, stored_rows}
-use Rattle.msi_database.specs.Reading.{RowsNameFewTexts}
+use Rattle.msi_database_storage.specs.Reading.{RowsNameFewTexts}
 
 few_stored : (stored : Option (List (List ValueRef))) (rows : List (List ValueRef)) (places : List Place) → stored ≡ Some rows → NameFewTexts places rows → IfSome stored (NameFewTexts places)
 few_stored None rows places is few = tt

@@ -30,8 +30,8 @@ use Rattle.msi_database_schema.specs.System.{columns_columns, columns_name, tabl
 use Rattle.msi_database_storage.specs.Streams.{Streams, stored_rows}
 use Rattle.msi_database_storage.specs.StreamNames.{HaveShortNames, HoldBytes}
 use Rattle.msi_database_storage.specs.Kept.{AreAsLong, schema_listed}
-use Rattle.msi_database.specs.Agreement.{described_by, schema_in}
-use Rattle.msi_database.proofs.ReadLemmas.{rows_read_fit}
+use Rattle.msi_database_storage.specs.Agreement.{described_by, schema_in}
+use Rattle.msi_database_storage.proofs.ReadLemmas.{rows_read_fit}
 
 -- ENTRIES
 

@@ -3,8 +3,8 @@ use Rattle.msi_text_pool_base.specs.Pool.{unindexed}
 use Rattle.std.specs.FinMap.{entries}
 use Rattle.msi_table_values.specs.declared.value.ValueRef.{ValueRef}
 use Rattle.msi_database_storage.specs.Streams.{stored_rows}
-use Rattle.msi_database.proofs.NamedTextsLemmas.{rows_few, rows_of_table}
-use Rattle.msi_database.proofs.reading.described_rows.Goals as goal
+use Rattle.msi_database_storage.proofs.NamedTextsLemmas.{rows_few, rows_of_table}
+use Rattle.msi_database_storage.proofs.reading.described_rows.Goals as goal
 
 pub returns-clause-ok : goal.returns-clause-ok
 returns-clause-ok c = rows_of_table (entries c.args.streams.now) (unindexed c.args.pool.now) c.args.columns c.args.name.now c.in_ok-table.table c.long_string_refs.result c.in_ok-rows.rows.items

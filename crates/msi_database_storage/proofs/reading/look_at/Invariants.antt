@@ -1,6 +1,6 @@
 use Rattle.std.specs.FinMap.{entries}
 use Rattle.msi_database_storage.specs.StreamNames.{HaveShortNames, HoldBytes}
-use Rattle.msi_database.proofs.reading.look_at.Given as goal
+use Rattle.msi_database_storage.proofs.reading.look_at.Given as goal
 
 abbrev pub invariant-loop-name : goal.invariant-loop-name
 invariant-loop-name l = record {
