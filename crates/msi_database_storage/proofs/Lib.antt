@@ -11,3 +11,4 @@ pub mod ReadLemmas
 pub mod ReadingLemmas
 pub mod NamedTextsLemmas
 pub mod PassedLemmas
+pub mod WideningLemmas

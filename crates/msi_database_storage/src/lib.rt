@@ -11,3 +11,4 @@ mod reasons;
 mod recounting;
 mod soundness;
 mod storing;
+mod widening;

@@ -7,3 +7,4 @@ pub use crate::reading::{look_at, tables_in, unlisted_rows};
 pub use crate::recounting::{cells_census, counts_fit};
 pub use crate::soundness::{are_sound, are_sound_tables, fits_width, is_standard};
 pub use crate::storing::{Stored, no_stream, store_all, stream_of};
+pub use crate::widening::{long_tables, store_long};
