@@ -19,7 +19,7 @@ use Rattle.msi_database_storage.specs.StreamNames as databases
 use Rattle.msi_database_storage.specs.Kept.{Kept}
 use Rattle.msi_database_storage.specs.Agreement.{DatabaseIs, described_by, is_shown, schema_in}
 use Rattle.msi_database.specs.Keeping.{IsKeptDatabase}
-use Rattle.msi_database.proofs.StreamLemmas.{AreSorted}
+use Rattle.msi_database_storage.proofs.StreamLemmas.{AreSorted}
 use Rattle.msi_database_storage.proofs.ReadingLemmas.{joined}
 use Rattle.msi.specs.Meaning.{SummaryIs, RawPoolIs, PoolIs, shown_pool}
 

@@ -17,7 +17,7 @@ use Rattle.msi_database.specs.Others.{IsOther, with_streams}
 use Rattle.msi_database.proofs.EntriesLemmas.{entries_either}
 use Rattle.msi_database_schema.proofs.KeyLemmas.{columns_accepted, table_key≢pool, tables_accepted, validation_accepted}
 use Rattle.msi_database.proofs.SoundLemmas.{sound_names}
-use Rattle.msi_database.proofs.StreamLemmas.{AreSorted}
+use Rattle.msi_database_storage.proofs.StreamLemmas.{AreSorted}
 use Rattle.msi_streams.specs.Renewing.{keys_in, renewed_keys}
 use Rattle.msi.specs.declared.kinds.PackageType.{PackageType}
 use Rattle.msi.specs.Kinds.{clsid_of}

@@ -34,7 +34,7 @@ use Rattle.msi_database.proofs.MakesAtLemmas.{MakesAt}
 use Rattle.msi_database.proofs.BothWidthsLemmas.{own_parts}
 use Rattle.msi_database.proofs.ChainLemmas.{create_by_steps, stays_at, third}
 use Rattle.msi_database.proofs.ComesLemmas.{describes}
-use Rattle.msi_database.proofs.EditLemmas.{created_stored}
+use Rattle.msi_database_storage.proofs.EditLemmas.{created_stored}
 use Rattle.msi_database.proofs.FinishLemmas.{known_sound}
 use Rattle.msi_database.proofs.MadeLemmas.{inserted_by_cells}
 use Rattle.msi_database.proofs.OwnNamesLemmas.{change_own_names, created_apart}

@@ -1,9 +1,6 @@
 -- The lemmas of this crate.
-pub mod MapLemmas
 pub mod GivenBackLemmas
 pub mod SoundLemmas
-pub mod StreamLemmas
-pub mod StoredLemmas
 pub mod SchemaLemmas
 pub mod FitLemmas
 pub mod DescribedLemmas
@@ -21,7 +18,6 @@ pub mod PageLemmas
 pub mod PartsLemmas
 pub mod SystemRowsLemmas
 pub mod TableListLemmas
-pub mod EditLemmas
 pub mod FinishLemmas
 pub mod OwnNamesLemmas
 pub mod MadeLemmas
@@ -45,9 +41,6 @@ pub mod CreatingLemmas
 pub mod CreatingCallLemmas
 pub mod ShownTextLemmas
 pub mod ReadWholeLemmas
-pub mod FreshCallLemmas
-pub mod FreshStepLemmas
-pub mod FreshMadeLemmas
 pub mod FreshKeptLemmas
 pub mod UpdateCallLemmas
 pub mod WideningLemmas

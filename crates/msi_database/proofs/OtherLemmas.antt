@@ -21,7 +21,7 @@ use Rattle.msi_database.specs.Keeping.{AreKept, RowsFit, UnlistedFits}
 use Rattle.msi_database.specs.Others.{IsOther, with_streams}
 use Rattle.msi_database.proofs.EntriesLemmas.{entries_either}
 use Rattle.msi_database.proofs.PartsLemmas.{parts_spelled, schema_kept}
-use Rattle.msi_database.proofs.StreamLemmas.{AreSorted, names_put, sorted_put, sorted_removed, stream_at_other_put, stream_at_other_removed, with_or_none_either}
+use Rattle.msi_database_storage.proofs.StreamLemmas.{AreSorted, names_put, sorted_put, sorted_removed, stream_at_other_put, stream_at_other_removed, with_or_none_either}
 
 module _ (streams : Streams) (name : List ℕ) (o : Option (List ℕ)) where
   abbrev after : Streams

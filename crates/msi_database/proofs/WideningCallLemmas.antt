@@ -30,7 +30,7 @@ use Rattle.msi_database.specs.Listed.{table_def_at, tables_listed}
 use Rattle.msi_database.proofs.ComesLemmas.{regular}
 use Rattle.msi_database_schema.proofs.KeyLemmas.{table_key_is_name, validation_accepted}
 use Rattle.msi_database.proofs.SoundLemmas.{sound_names}
-use Rattle.msi_database.proofs.StreamLemmas.{tables_found}
+use Rattle.msi_database_storage.proofs.StreamLemmas.{tables_found}
 use Rattle.msi_database.proofs.WideRefusalLemmas.{long_pool}
 use Rattle.msi_database.proofs.WideningLemmas.{unlisted_fits, widened_parts}
 

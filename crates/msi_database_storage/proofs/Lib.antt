@@ -12,3 +12,10 @@ pub mod ReadingLemmas
 pub mod NamedTextsLemmas
 pub mod PassedLemmas
 pub mod WideningLemmas
+pub mod MapLemmas
+pub mod StreamLemmas
+pub mod StoredLemmas
+pub mod EditLemmas
+pub mod FreshCallLemmas
+pub mod FreshStepLemmas
+pub mod FreshMadeLemmas

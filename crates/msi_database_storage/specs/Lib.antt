@@ -7,3 +7,5 @@ pub mod Storing
 pub mod Naming
 pub mod Agreement
 pub mod Reading
+pub mod Fresh
+pub mod FreshParts

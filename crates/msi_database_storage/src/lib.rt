@@ -3,6 +3,7 @@
 
 mod copying;
 mod decoding;
+mod fresh;
 pub mod listing;
 mod naming;
 pub mod parts;

@@ -2,6 +2,7 @@
 
 pub use crate::copying::{copied_bytes, copied_streams};
 pub use crate::decoding::{is_readable, stored_rows, table_rows};
+pub use crate::fresh::{SystemTables, described_streams, system_tables};
 pub use crate::naming::{tables_census, with_named_texts};
 pub use crate::reading::{look_at, tables_in, unlisted_rows};
 pub use crate::recounting::{cells_census, counts_fit};

@@ -32,12 +32,12 @@ use Rattle.msi_database_changes.proofs.FitTestLemmas.{cells_fit, each_fits}
 use Rattle.msi_database_storage.specs.Streams.{stream_of_rows}
 use Rattle.msi_database_storage.specs.declared.storing.Stored.{Stored}
 use Rattle.msi_database_storage.specs.Storing.{HaveOwnNames, tables_stored}
-use Rattle.msi_database.specs.Fresh.{empty_table}
-use Rattle.msi_database.specs.FreshParts.{Begins, CanBegin}
-use Rattle.msi_database.proofs.MapLemmas as maps
-use Rattle.msi_database.proofs.StreamLemmas.{list_cmp_exact}
-use Rattle.msi_database.proofs.StoredLemmas.{AreNames}
-use Rattle.msi_database.proofs.EditLemmas.{AreApart, apart_names, own_names, rows_stored_first, rows_stored_last}
+use Rattle.msi_database_storage.specs.Fresh.{empty_table}
+use Rattle.msi_database_storage.specs.FreshParts.{Begins, CanBegin}
+use Rattle.msi_database_storage.proofs.MapLemmas as maps
+use Rattle.msi_database_storage.proofs.StreamLemmas.{list_cmp_exact}
+use Rattle.msi_database_storage.proofs.StoredLemmas.{AreNames}
+use Rattle.msi_database_storage.proofs.EditLemmas.{AreApart, apart_names, own_names, rows_stored_first, rows_stored_last}
 
 -- all rows of a table, and the pool after their texts were taken
 abbrev pub Rows : Type 0

@@ -24,10 +24,10 @@ use Rattle.msi_database_changes.specs.Drop.{table_released}
 use Rattle.msi_database_storage.specs.Streams.{Streams, table_stream, stream_of_rows, stored_stream, stored_streams}
 use Rattle.msi_database_storage.specs.declared.storing.Stored.{Stored}
 use Rattle.msi_database_storage.specs.Storing.{stored_in, tables_stored, HaveOwnNames}
-use Rattle.msi_database.proofs.MapLemmas as maps
+use Rattle.msi_database_storage.proofs.MapLemmas as maps
 use Rattle.msi_database_schema.proofs.KeyLemmas.{table_keys_tell_names}
-use Rattle.msi_database.proofs.StreamLemmas.{list_cmp_exact}
-use Rattle.msi_database.proofs.StoredLemmas.{AreNames}
+use Rattle.msi_database_storage.proofs.StreamLemmas.{list_cmp_exact}
+use Rattle.msi_database_storage.proofs.StoredLemmas.{AreNames}
 
 -- storing them is storing the tables
 pub tables_stored_in : (d : Database) (names : List (List ℕ)) (streams : Streams) → stored_in (tables_stored d names) streams ≡ stored_streams d names streams

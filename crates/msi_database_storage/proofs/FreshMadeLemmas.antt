@@ -8,18 +8,32 @@ use Rattle.msi_table_values.specs.Columns.{ColumnDef}
 use Rattle.msi_table.specs.Tables.{TableDef}
 use Rattle.msi_database_schema.specs.Description.{column_rows, have_short_lengths, tables_row, validation_rows}
 use Rattle.msi_database_schema.specs.Keys.{table_key}
-use Rattle.msi_database_schema.specs.System.{validation_name}
+use Rattle.msi_database_schema.specs.System.{columns_columns, columns_name, tables_columns, tables_name, validation_columns, validation_name}
 use Rattle.msi_database_cells.specs.Texts.{PoolInUse, UsedPool, in_use}
 use Rattle.msi_database_changes.specs.Changes.{no_change, pool_of}
 use Rattle.msi_database_changes.specs.Create.{described_by_rows}
 use Rattle.msi_database_changes.specs.Insert.{cells_added}
 use Rattle.msi_database_storage.specs.declared.storing.Stored.{Stored}
 use Rattle.msi_database_storage.specs.Storing.{HaveOwnNames}
-use Rattle.msi_database.specs.Fresh.{fresh_change}
-use Rattle.msi_database.specs.FreshParts.{Begins, CanBegin, columns_table, fresh_pool, fresh_stored, tables_table, unused_pool, validation_table}
-use Rattle.msi_database.proofs.FreshCallLemmas.{AreBare, Describes, begins_as, begun, can_as, describes, listing, stream_begun}
-use Rattle.msi_database.proofs.FreshStepLemmas as steps
-use Rattle.msi_database.proofs.FreshStepLemmas.{bare, column_values, pool₀, pool₁, pool₂, table_values, validation_values}
+use Rattle.msi_database_storage.specs.Fresh.{fresh_change}
+use Rattle.msi_database_storage.specs.FreshParts.{Begins, CanBegin, columns_table, fresh_pool, fresh_stored, tables_table, unused_pool, validation_table}
+use Rattle.msi_database_storage.proofs.FreshCallLemmas.{AreBare, Describes, begins_as, begun, can_as, describes, listing, stream_begun}
+use Rattle.msi_database_storage.proofs.FreshStepLemmas as steps
+use Rattle.msi_database_storage.proofs.FreshStepLemmas.{bare, column_values, pool₀, pool₁, pool₂, table_values, validation_values}
+
+-- THE TABLES
+
+pub columns_made : (t : TableDef) (cs : List ColumnDef) → t ≡ record { name = columns_name; columns = cs; long = false } → cs ≡ columns_columns → t ≡ columns_table
+unfolding columns_table
+columns_made t cs e f = e ∙ ap (λ (cs : List ColumnDef). record { name = columns_name; columns = cs; long = false }) f
+
+pub tables_made : (t : TableDef) (cs : List ColumnDef) → t ≡ record { name = tables_name; columns = cs; long = false } → cs ≡ tables_columns → t ≡ tables_table
+unfolding tables_table
+tables_made t cs e f = e ∙ ap (λ (cs : List ColumnDef). record { name = tables_name; columns = cs; long = false }) f
+
+pub validation_made : (t : TableDef) (cs : List ColumnDef) → t ≡ record { name = validation_name; columns = cs; long = false } → cs ≡ validation_columns → t ≡ validation_table
+unfolding validation_table
+validation_made t cs e f = e ∙ ap (λ (cs : List ColumnDef). record { name = validation_name; columns = cs; long = false }) f
 
 -- BY COMPUTATION
 

@@ -10,7 +10,7 @@ use Rattle.msi_container_format.proofs.NamesLemmas.{names_total, exact_names}
 use Rattle.msi_database_schema.proofs.RowOrderLemmas.{names_total as list_cmp_total}
 use Rattle.msi_database_changes.specs.Database.{Tables}
 use Rattle.msi_database_storage.specs.Streams.{Streams, stream_at, with_stream, without_stream, with_stream_or_none}
-use Rattle.msi_database.proofs.MapLemmas as maps
+use Rattle.msi_database_storage.proofs.MapLemmas as maps
 
 -- streams by their names
 pub stream_at_put : (name bytes : List ℕ) (streams : Streams) → stream_at name (with_stream name bytes streams) ≡ Some bytes

@@ -19,7 +19,7 @@ use Rattle.msi_database_changes.proofs.TracksLemmas.{TableFits}
 use Rattle.msi_database_storage.specs.Streams.{Streams, stream_at, with_stream_or_none, stored_rows, stored_stream, stored_streams}
 use Rattle.msi_database_storage.specs.Agreement.{TablesAre}
 use Rattle.msi_database_schema.proofs.KeyLemmas.{table_keys_tell_names, table_key≢summary_key, table_key≢pool}
-use Rattle.msi_database.proofs.StreamLemmas.{stream_at_put, stream_at_other_put, stream_at_removed, stream_at_other_removed, AreSorted, sorted_put, sorted_removed, with_or_none_either, names_put, TablesSorted, tables_found}
+use Rattle.msi_database_storage.proofs.StreamLemmas.{stream_at_put, stream_at_other_put, stream_at_removed, stream_at_other_removed, AreSorted, sorted_put, sorted_removed, with_or_none_either, names_put, TablesSorted, tables_found}
 
 -- each other stream stays
 pub stored_other : (key : List ℕ) (long : Bool) (name : List ℕ) (t : Option TableCells) (streams : Streams) → key ≢ table_key name → stream_at key (stored_stream long name t streams) ≡ stream_at key streams
