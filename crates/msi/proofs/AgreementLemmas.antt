@@ -17,10 +17,10 @@ use Rattle.msi_database_changes.specs.Database.{Database, Tables, named_numbers,
 use Rattle.msi_database_storage.specs.Streams.{Streams, stream_at, stored_rows}
 use Rattle.msi_database_storage.specs.StreamNames as databases
 use Rattle.msi_database_storage.specs.Kept.{Kept}
-use Rattle.msi_database.specs.Agreement.{DatabaseIs, described_by, is_shown, schema_in}
+use Rattle.msi_database_storage.specs.Agreement.{DatabaseIs, described_by, is_shown, schema_in}
 use Rattle.msi_database.specs.Keeping.{IsKeptDatabase}
-use Rattle.msi_database.proofs.StreamLemmas.{AreSorted}
-use Rattle.msi_database.proofs.ReadingLemmas.{joined}
+use Rattle.msi_database_storage.proofs.StreamLemmas.{AreSorted}
+use Rattle.msi_database_storage.proofs.ReadingLemmas.{joined}
 use Rattle.msi.specs.Meaning.{SummaryIs, RawPoolIs, PoolIs, shown_pool}
 
 -- THE SUMMARY AND THE POOL

@@ -26,7 +26,7 @@ use Rattle.msi_database_changes.specs.Database.{Database, table_at, rows_of}
 use Rattle.msi_database_changes.specs.Database.{named_numbers, columns_by_name}
 use Rattle.msi_database_changes.proofs.SchemaKeptLemmas.{shown_table}
 use Rattle.msi_database_storage.specs.Streams.{Streams, stream_at, stored_rows}
-use Rattle.msi_database.specs.Agreement.{TablesAre, numbers_stored, is_shown}
+use Rattle.msi_database_storage.specs.Agreement.{TablesAre, numbers_stored, is_shown}
 use Rattle.msi_database.proofs.DescribedLemmas.{table_rows}
 use Rattle.msi_database.proofs.NamedLemmas.{found_any, numbers_of}
 use Rattle.msi.proofs.ShownPoolLemmas.{IsNamed, AreNamed, OptionNamed, CoversSchema}

@@ -19,10 +19,10 @@ use Rattle.msi_database_schema.specs.Keys.{is_table_name, table_key, summary_key
 use Rattle.msi_database_schema.specs.System.{tables_name, columns_name, validation_name}
 use Rattle.msi_database_changes.specs.Database.{Database, Tables}
 use Rattle.msi_database_storage.specs.Streams.{Streams, stream_at, with_stream}
-use Rattle.msi_database.specs.Agreement.{is_shown}
-use Rattle.msi_database.proofs.KeyLemmas.{pool_keys_differ, table_key≢summary_key, table_key≢pool, tables_accepted, columns_accepted, validation_accepted}
+use Rattle.msi_database_storage.specs.Agreement.{is_shown}
+use Rattle.msi_database_schema.proofs.KeyLemmas.{pool_keys_differ, table_key≢summary_key, table_key≢pool, tables_accepted, columns_accepted, validation_accepted}
 use Rattle.msi_database.proofs.SoundLemmas.{sound_names}
-use Rattle.msi_database.proofs.StreamLemmas.{AreSorted, sorted_put, stream_at_put, stream_at_other_put}
+use Rattle.msi_database_storage.proofs.StreamLemmas.{AreSorted, sorted_put, stream_at_put, stream_at_other_put}
 use Rattle.msi.specs.State.{State, names_of, others_among, parts_of}
 use Rattle.msi.specs.Meaning.{SummaryIs, PoolIs, shown_pool, IsPackage}
 use Rattle.msi_streams.specs.Renewing.{pool_put}

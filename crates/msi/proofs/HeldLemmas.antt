@@ -18,7 +18,7 @@ use Rattle.msi_container_format.specs.Container.{Plan, IsPlan, HasName, Holds, n
 use Rattle.msi_container_format.proofs.NamesLemmas.{names_total}
 use Rattle.msi_container_write.specs.LayoutLaw.{IsName, HaveNames}
 use Rattle.msi_database_storage.specs.Streams.{Streams, stream_at}
-use Rattle.msi_database.proofs.MapLemmas as maps
+use Rattle.msi_database_storage.proofs.MapLemmas as maps
 use Rattle.msi.specs.Laws.{AreBytes}
 
 -- WHAT HOLDS OF EACH ELEMENT

@@ -8,8 +8,8 @@ use Rattle.msi_container_write.specs.Layout.{layout, refuses}
 use Rattle.msi_container_write.specs.LayoutLaw.{IsContents, HaveNames}
 use Rattle.msi_container_write.proofs.LayoutHeldLemmas.{layout_holds}
 use Rattle.msi_database_storage.specs.Streams.{Streams}
-use Rattle.msi_database.specs.Agreement.{DatabaseIs}
-use Rattle.msi_database.proofs.StreamLemmas.{AreSorted}
+use Rattle.msi_database_storage.specs.Agreement.{DatabaseIs}
+use Rattle.msi_database_storage.proofs.StreamLemmas.{AreSorted}
 use Rattle.msi.specs.declared.kinds.PackageType.{PackageType}
 use Rattle.msi.specs.declared.kinds.PackageType.TheVariants as kind
 use Rattle.msi.specs.Kinds.{clsid_of}

@@ -20,7 +20,7 @@ use Rattle.msi_database_schema.specs.System.{validation_name, validation_columns
 use Rattle.msi_database_changes.specs.Database.{Database, Tables, has_table, columns_by_name}
 use Rattle.msi_database_changes.proofs.ShownLemmas.{columns_shown}
 use Rattle.msi_database_storage.specs.Streams.{Streams, stream_at, stored_rows}
-use Rattle.msi_database.specs.Agreement.{TablesAre, UnlistedIs, is_shown, schema_rows, schema_in}
+use Rattle.msi_database_storage.specs.Agreement.{TablesAre, UnlistedIs, is_shown, schema_rows, schema_in}
 use Rattle.msi.specs.declared.kinds.PackageType.{PackageType}
 use Rattle.msi.specs.declared.kinds.PackageType.TheVariants as kind
 use Rattle.msi.specs.Kinds.{clsid_of}

@@ -7,7 +7,7 @@ use Rattle.msi_database_schema.specs.System.{columns_name, tables_name, validati
 use Rattle.msi_database_changes.specs.Database.{Database}
 use Rattle.msi_database_storage.specs.Kept.{Kept}
 use Rattle.msi_database.specs.Others.{IsOther}
-use Rattle.msi_database.proofs.KeyLemmas.{unmarked≢table_key, stream_key_unmarked}
+use Rattle.msi_database_schema.proofs.KeyLemmas.{unmarked≢table_key, stream_key_unmarked}
 use Rattle.msi.specs.Whole.{IsOpen}
 
 apart : (key : List ℕ) (tables : List (List ℕ)) → is_marked key ≡ false → AllByRecursion (λ t. key ≢ table_key t) tables

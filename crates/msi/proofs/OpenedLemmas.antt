@@ -19,7 +19,7 @@ use Rattle.msi_database_changes.specs.Database.{Database, Tables, is_sound}
 use Rattle.msi_database_storage.specs.Streams.{Streams, stream_at}
 use Rattle.msi_database_storage.specs.StreamNames.{HoldBytes}
 use Rattle.msi_database_storage.specs.Kept.{AreAsLong, database_kept, schema_listed}
-use Rattle.msi_database.specs.Agreement.{DatabaseIs, is_shown}
+use Rattle.msi_database_storage.specs.Agreement.{DatabaseIs, is_shown}
 use Rattle.msi_database.specs.Keeping.{IsKeptDatabase, AreKept}
 use Rattle.msi_database.specs.Listed.{tables_listed}
 use Rattle.msi_database.proofs.KeptLawLemmas.{read_is_kept}

@@ -11,7 +11,7 @@ use Rattle.msi_container_format.proofs.PlanOnceLemmas.{held_once}
 use Rattle.msi_database_schema.specs.Keys.{table_key, summary_key, string_pool_name, string_data_name}
 use Rattle.msi_database_storage.specs.Streams.{stream_at}
 use Rattle.msi_database_changes.specs.Database.{columns_by_name}
-use Rattle.msi_database.specs.Agreement.{schema_in}
+use Rattle.msi_database_storage.specs.Agreement.{schema_in}
 use Rattle.msi.specs.State.{Parts, State, parts_of}
 use Rattle.msi.specs.Meaning.{ContentsMean, OpenStep, Passes, FailsFirst, OpensTo, as_opened, open_steps}
 use Rattle.msi.specs.Meaning as step

@@ -13,9 +13,9 @@ use Rattle.msi_database_schema.specs.Keys.{is_stream_name, table_key, stream_key
 use Rattle.msi_database_schema.specs.System.{validation_name}
 use Rattle.msi_database_changes.specs.Database.{Database}
 use Rattle.msi_database_storage.specs.Streams.{Streams, with_stream, without_stream}
-use Rattle.msi_database.proofs.KeyLemmas.{unmarked≢table_key, stream_key_unmarked, stream_key≢summary_key, signature≢summary}
-use Rattle.msi_database.proofs.MapLemmas as maps
-use Rattle.msi_database.proofs.StreamLemmas.{AreSorted}
+use Rattle.msi_database_schema.proofs.KeyLemmas.{unmarked≢table_key, stream_key_unmarked, stream_key≢summary_key, signature≢summary}
+use Rattle.msi_database_storage.proofs.MapLemmas as maps
+use Rattle.msi_database_storage.proofs.StreamLemmas.{AreSorted}
 use Rattle.msi.specs.State.{is_other_name, names_of, others_among}
 
 -- names of streams that are put and removed

@@ -28,9 +28,9 @@ use Rattle.msi_database_storage.specs.Kept.{Kept, base_of, kept_widened}
 use Rattle.msi_database_storage.specs.Streams.{Streams, stored_streams, stream_at, with_stream, without_stream}
 use Rattle.msi_database_storage.specs.StreamNames as databases
 use Rattle.msi_database.specs.Keeping.{IsKeptDatabase}
-use Rattle.msi_database.proofs.KeyLemmas.{unmarked≢table_key, stream_key_unmarked, stream_key≢summary_key, signature≢summary, signature_ex≢summary}
-use Rattle.msi_database.proofs.StreamLemmas.{AreSorted, sorted_put, sorted_removed, stream_at_other_put, stream_at_other_removed}
-use Rattle.msi_database.proofs.StoredLemmas.{AreNames, all_names, summary_stays, pool_stays}
+use Rattle.msi_database_schema.proofs.KeyLemmas.{unmarked≢table_key, stream_key_unmarked, stream_key≢summary_key, signature≢summary, signature_ex≢summary}
+use Rattle.msi_database_storage.proofs.StreamLemmas.{AreSorted, sorted_put, sorted_removed, stream_at_other_put, stream_at_other_removed}
+use Rattle.msi_database_storage.proofs.StoredLemmas.{AreNames, all_names, summary_stays, pool_stays}
 use Rattle.msi_database.proofs.ComesLemmas.{are_names}
 use Rattle.msi_database.proofs.SoundLemmas.{sound_is}
 use Rattle.msi_database.proofs.WideningLemmas.{widened_kept, widened_names, widened_summary}

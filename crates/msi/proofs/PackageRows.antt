@@ -7,7 +7,7 @@ use Rattle.msi.specs.declared.kinds.PackageType.TheVariants as kind
 use Rattle.msi.specs.State.{State}
 use Rattle.msi_database_storage.specs.Streams.{stream_at}
 use Rattle.msi.specs.Runs.{fresh}
-use Rattle.msi_database.specs.Agreement.{schema_in}
+use Rattle.msi_database_storage.specs.Agreement.{schema_in}
 use Rattle.std.specs.List.{flat_map}
 use Rattle.msi_text_base.specs.Lists.{numbers_below}
 

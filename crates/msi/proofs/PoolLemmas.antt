@@ -8,7 +8,7 @@ use Rattle.msi_text_pool_base.specs.Pool.{Pool, Place, forgotten}
 use Rattle.msi_text_pool_base.specs.Pool as pools
 use Rattle.msi_database_changes.specs.Database.{Database, is_sound, named_numbers, cells_naming}
 use Rattle.msi_database_storage.specs.Streams.{Streams}
-use Rattle.msi_database.specs.Agreement.{DatabaseIs, is_shown}
+use Rattle.msi_database_storage.specs.Agreement.{DatabaseIs, is_shown}
 use Rattle.msi_database.proofs.SoundLemmas.{sound_is}
 use Rattle.msi_database.proofs.NamedLemmas.{shown_named}
 use Rattle.msi_database.proofs.OpenedLemmas.{none_counted, each_tabulated, forgotten_count_at, forgotten_length}

@@ -11,7 +11,7 @@ use Rattle.msi_container_format.specs.declared.contents.Contents.{Contents}
 use Rattle.msi_database_changes.specs.Database.{Database}
 use Rattle.msi_database_storage.specs.Streams.{Streams}
 use Rattle.msi_database_storage.specs.Kept.{Kept, database_kept, schema_listed}
-use Rattle.msi_database.specs.Agreement.{DatabaseIs, is_shown, schema_rows, schema_in}
+use Rattle.msi_database_storage.specs.Agreement.{DatabaseIs, is_shown, schema_rows, schema_in}
 use Rattle.msi_database.proofs.PartsLemmas.{parts_spelled, schema_kept, each_kept}
 use Rattle.msi.specs.declared.kinds.PackageType.{PackageType}
 use Rattle.msi.specs.Kinds.{clsid_of}

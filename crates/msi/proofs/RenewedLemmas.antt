@@ -15,9 +15,9 @@ use Rattle.msi_database_storage.specs.Kept.{Kept}
 use Rattle.msi_database_storage.specs.Streams.{Streams, stream_at, with_stream, with_stream_or_none}
 use Rattle.msi_database.specs.Others.{IsOther, with_streams}
 use Rattle.msi_database.proofs.EntriesLemmas.{entries_either}
-use Rattle.msi_database.proofs.KeyLemmas.{columns_accepted, table_key≢pool, tables_accepted, validation_accepted}
+use Rattle.msi_database_schema.proofs.KeyLemmas.{columns_accepted, table_key≢pool, tables_accepted, validation_accepted}
 use Rattle.msi_database.proofs.SoundLemmas.{sound_names}
-use Rattle.msi_database.proofs.StreamLemmas.{AreSorted}
+use Rattle.msi_database_storage.proofs.StreamLemmas.{AreSorted}
 use Rattle.msi_streams.specs.Renewing.{keys_in, renewed_keys}
 use Rattle.msi.specs.declared.kinds.PackageType.{PackageType}
 use Rattle.msi.specs.Kinds.{clsid_of}

@@ -18,7 +18,7 @@ use Rattle.msi.specs.Calls.{Call, Answer}
 use Rattle.msi.specs.Calls as calls
 use Rattle.msi.specs.Steps.{outcome}
 use Rattle.msi.specs.Runs.{fresh}
-use Rattle.msi_database.specs.Agreement.{schema_in}
+use Rattle.msi_database_storage.specs.Agreement.{schema_in}
 
 abbrev state_after : State → Call → State
 state_after s c = (outcome 0 s c).1

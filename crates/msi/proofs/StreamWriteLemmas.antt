@@ -10,8 +10,8 @@ use Rattle.msi_database_changes.specs.Database.{Database, is_sound}
 use Rattle.msi_database_storage.specs.Kept.{Kept}
 use Rattle.msi_database_storage.specs.Streams.{Streams, has_stream_at, with_stream}
 use Rattle.msi_database.specs.Others.{IsOther, with_streams}
-use Rattle.msi_database.proofs.KeyLemmas.{stream_key_unmarked}
-use Rattle.msi_database.proofs.StreamLemmas.{AreSorted, sorted_put}
+use Rattle.msi_database_schema.proofs.KeyLemmas.{stream_key_unmarked}
+use Rattle.msi_database_storage.proofs.StreamLemmas.{AreSorted, sorted_put}
 use Rattle.msi.specs.Steps as steps
 use Rattle.msi.specs.Whole.{IsHeld, Whole, with_open, with_state}
 use Rattle.msi.proofs.OpenLemmas.{unmarked_is_other}

@@ -1,5 +1,5 @@
 -- The words of databases and their changes, which public clauses cite.
-pub use Rattle.msi_database.specs.Agreement
+pub use Rattle.msi_database_storage.specs.Agreement
 pub use Rattle.msi_database.specs.Listed
 pub use Rattle.msi_database.specs.Keeping
 pub use Rattle.msi_database.specs.Making
@@ -7,8 +7,9 @@ pub use Rattle.msi_database.specs.Dropping
 pub use Rattle.msi_database.specs.OwnStreams
 pub use Rattle.msi_database.specs.Others
 pub use Rattle.msi_database.specs.Fresh
-pub use Rattle.msi_database.specs.FreshParts
-pub use Rattle.msi_database.specs.Reading
+pub use Rattle.msi_database_storage.specs.Fresh as FreshDatabases
+pub use Rattle.msi_database_storage.specs.FreshParts
+pub use Rattle.msi_database_storage.specs.Reading
 pub use Rattle.msi_database.specs.Creating
 pub use Rattle.msi_database.specs.Recounting
 pub use Rattle.msi_database_schema.specs.Keys

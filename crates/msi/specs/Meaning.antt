@@ -16,7 +16,7 @@ use Rattle.msi_container_write.specs.LayoutLaw.{HaveNames}
 use Rattle.msi_database_schema.specs.Keys.{table_key, summary_key, string_pool_name, string_data_name}
 use Rattle.msi_database_changes.specs.Database.{Database, is_sound}
 use Rattle.msi_database_storage.specs.Streams.{Streams, stream_at}
-use Rattle.msi_database.specs.Agreement.{DatabaseIs, is_shown, schema_in}
+use Rattle.msi_database_storage.specs.Agreement.{DatabaseIs, is_shown, schema_in}
 use Rattle.msi_database.specs.Keeping.{IsKeptDatabase}
 use Rattle.msi.specs.declared.kinds.PackageType.{PackageType}
 use Rattle.msi.specs.Kinds.{clsid_of}

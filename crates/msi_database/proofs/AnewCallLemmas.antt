@@ -13,7 +13,8 @@ use Rattle.msi_database_cells.specs.Texts.{UsedPool, settled, widens}
 use Rattle.msi_database_storage.specs.declared.storing.Stored.{Stored}
 use Rattle.msi_database_storage.specs.Kept.{Kept, kept_widened, with_table_kept}
 use Rattle.msi_database_storage.specs.Streams.{stream_of_rows}
-use Rattle.msi_database.specs.Creating.{CanHoldAll, IsCreated, SystemRows, new_table, streams_for}
+use Rattle.msi_database_changes.specs.Create.{SystemRows}
+use Rattle.msi_database.specs.Creating.{CanHoldAll, IsCreated, new_table, streams_for}
 use Rattle.msi_database.specs.Listed.{tables_listed}
 use Rattle.msi_database.specs.Making.{IsAnew, base_with, wide_for}
 

@@ -19,8 +19,8 @@ use Rattle.msi_database_changes.proofs.AtWidthLemmas.{IsChangeAtWidth, IsTableCh
 use Rattle.msi_database_changes.proofs.KindsKeptLemmas.{all_permuted}
 use Rattle.msi_database_storage.specs.Kept.{database_kept, kept_of}
 use Rattle.msi_database.specs.Keeping.{AreKept}
-use Rattle.msi_database.proofs.MapLemmas as lists
-use Rattle.msi_database.proofs.StreamLemmas.{list_cmp_exact}
+use Rattle.msi_database_storage.proofs.MapLemmas as lists
+use Rattle.msi_database_storage.proofs.StreamLemmas.{list_cmp_exact}
 use Rattle.msi_database.proofs.ComesLemmas.{regular}
 use Rattle.msi_database.proofs.KeepingLemmas.{change_comes}
 use Rattle.msi_database.proofs.FinishLemmas.{known_sound}

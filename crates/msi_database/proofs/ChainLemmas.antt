@@ -25,9 +25,9 @@ use Rattle.msi_database_changes.specs.Insert.{cells_added, rows_inserted, row_re
 use Rattle.msi_database_changes.specs.Create.{create_at_width, table_refusals, with_new_table}
 use Rattle.msi_database_changes.specs.Drop.{drop_table, is_row_about, rows_forgotten, table_released}
 use Rattle.msi_database_changes.proofs.DescribingLemmas.{put_elsewhere}
-use Rattle.msi_database.proofs.MapLemmas as maps
-use Rattle.msi_database.proofs.StreamLemmas.{list_cmp_exact}
-use Rattle.msi_database.proofs.EditLemmas.{apart_names}
+use Rattle.msi_database_storage.proofs.MapLemmas as maps
+use Rattle.msi_database_storage.proofs.StreamLemmas.{list_cmp_exact}
+use Rattle.msi_database_storage.proofs.EditLemmas.{apart_names}
 use Rattle.msi_database.proofs.MadeLemmas.{goes_on, found, inserted_by_cells, create_made}
 
 -- the change after a table's rows and the pool became these

@@ -24,12 +24,12 @@ use Rattle.msi_database_changes.proofs.TracksLemmas.{Tracks}
 use Rattle.msi_database_changes.proofs.RegularLemmas.{IsRegular}
 use Rattle.msi_database_storage.specs.Streams.{Streams, stored_rows, stored_streams}
 use Rattle.msi_database_storage.specs.Kept.{Kept, with_change}
-use Rattle.msi_database.specs.Agreement.{TablesAre, UnlistedIs}
+use Rattle.msi_database_storage.specs.Agreement.{TablesAre, UnlistedIs}
 use Rattle.msi_database.specs.Keeping.{IsKeptDatabase}
-use Rattle.msi_database.proofs.KeyLemmas.{validation_accepted, table_key_is_name}
-use Rattle.msi_database.proofs.StreamLemmas.{tables_found}
+use Rattle.msi_database_schema.proofs.KeyLemmas.{validation_accepted, table_key_is_name}
+use Rattle.msi_database_storage.proofs.StreamLemmas.{tables_found}
 use Rattle.msi_database.proofs.SoundLemmas.{sound_names, sound_pool}
-use Rattle.msi_database.proofs.StoredLemmas.{AreNames, IsStoredOrStays, tables_are, rows_stay, all_sorted, all_names}
+use Rattle.msi_database_storage.proofs.StoredLemmas.{AreNames, IsStoredOrStays, tables_are, rows_stay, all_sorted, all_names}
 use Rattle.msi_database.proofs.SchemaLemmas.{tables_sorted}
 use Rattle.msi_database.proofs.FitLemmas.{regular_by, rows_fit}
 use Rattle.msi_database.proofs.DescribedLemmas.{Spelled, table_rows, schema_before, schema_after}

@@ -32,7 +32,9 @@ use Rattle.msi_database_storage.specs.declared.storing.Stored.{Stored}
 use Rattle.msi_database_storage.specs.Kept.{Kept, kept_widened, with_table_kept}
 use Rattle.msi_database_storage.specs.Storing.{HaveOwnNames}
 use Rattle.msi_database_storage.specs.Streams.{stream_of_rows}
-use Rattle.msi_database.specs.Creating.{CanHold, CanHoldAll, IsCreated, SystemRows, columns_at, create_refusals, new_table, rows_described, rows_with, stream_for, stream_gone, streams_for}
+use Rattle.msi_database_changes.specs.Create.{SystemRows}
+use Rattle.msi_database_storage.specs.Storing.{stream_gone}
+use Rattle.msi_database.specs.Creating.{CanHold, CanHoldAll, IsCreated, columns_at, create_refusals, new_table, rows_described, rows_with, stream_for, streams_for}
 use Rattle.msi_database.specs.Keeping.{IsKeptDatabase}
 use Rattle.msi_database.specs.Listed.{IsKnown, tables_listed}
 use Rattle.msi_database.specs.Making.{Makes, TellsUse, base_with, wide_for}

@@ -25,7 +25,8 @@ use Rattle.msi_database_storage.specs.declared.storing.Stored.{Stored}
 use Rattle.msi_database_storage.specs.Kept.{Kept, kept_of, database_kept, with_table_kept}
 use Rattle.msi_database_storage.specs.Storing.{HaveOwnNames, tables_stored}
 use Rattle.msi_database_storage.specs.Streams.{Streams, stream_of_rows}
-use Rattle.msi_database.specs.Creating.{new_table, stream_gone}
+use Rattle.msi_database_storage.specs.Storing.{stream_gone}
+use Rattle.msi_database.specs.Creating.{new_table}
 use Rattle.msi_database.specs.Keeping.{AreKept, IsKeptDatabase}
 use Rattle.msi_database.specs.Listed.{tables_listed}
 use Rattle.msi_database.specs.Making.{TellsUse}
@@ -33,7 +34,7 @@ use Rattle.msi_database.proofs.MakesAtLemmas.{MakesAt}
 use Rattle.msi_database.proofs.BothWidthsLemmas.{own_parts}
 use Rattle.msi_database.proofs.ChainLemmas.{create_by_steps, stays_at, third}
 use Rattle.msi_database.proofs.ComesLemmas.{describes}
-use Rattle.msi_database.proofs.EditLemmas.{created_stored}
+use Rattle.msi_database_storage.proofs.EditLemmas.{created_stored}
 use Rattle.msi_database.proofs.FinishLemmas.{known_sound}
 use Rattle.msi_database.proofs.MadeLemmas.{inserted_by_cells}
 use Rattle.msi_database.proofs.OwnNamesLemmas.{change_own_names, created_apart}

@@ -27,7 +27,7 @@ use Rattle.msi_database_changes.proofs.DescribingLemmas.{describing, rows_at_is,
 use Rattle.msi_database_changes.proofs.SchemaKeptLemmas.{shown_table}
 use Rattle.msi_database_storage.specs.Streams.{Streams, stream_at}
 use Rattle.msi_database_storage.specs.Streams.{stored_rows}
-use Rattle.msi_database.specs.Agreement.{TablesAre, UnlistedIs, SchemaIs, described_by, schema_rows}
+use Rattle.msi_database_storage.specs.Agreement.{TablesAre, UnlistedIs, SchemaIs, described_by, schema_rows}
 use Rattle.msi_database.proofs.SoundLemmas.{sound_is}
 
 -- a table has the rows of its stream

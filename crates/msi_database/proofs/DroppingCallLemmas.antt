@@ -36,7 +36,7 @@ use Rattle.msi_database.proofs.WholeLemmas.{found_holds}
 use Rattle.msi_database.proofs.ComesLemmas.{describes}
 use Rattle.msi_database.proofs.OwnNamesLemmas.{change_own_names}
 use Rattle.msi_database.proofs.TablesKeptLemmas.{listed_kept}
-use Rattle.msi_database.proofs.EditLemmas.{dropped_stored, dropped_unvalidated}
+use Rattle.msi_database_storage.proofs.EditLemmas.{dropped_stored, dropped_unvalidated}
 use Rattle.msi_database.proofs.FinishLemmas.{known_sound}
 use Rattle.msi_database.proofs.ChainLemmas.{drop_by_steps, drop_by_two_steps, drop_passes, dropped_apart}
 use Rattle.msi_database.proofs.StorableLemmas.{fewer_can_store}

@@ -30,7 +30,7 @@ use Rattle.msi_database.proofs.SchemaLemmas.{shown_in_order}
 use Rattle.msi_database.proofs.PartsLemmas.{parts_make, schema_kept}
 use Rattle.msi_database.proofs.TablesKeptLemmas.{has_table_kept}
 use Rattle.msi_database.proofs.TableListLemmas.{put_listed, put_as_long, without_listed, without_as_long}
-use Rattle.msi_database.proofs.EditLemmas.{tables_stored_in, rows_stored_first}
+use Rattle.msi_database_storage.proofs.EditLemmas.{tables_stored_in, rows_stored_first}
 use Rattle.msi_database.proofs.ComesLemmas.{Comes}
 use Rattle.msi_database.proofs.KeepingLemmas.{change_comes, change_kept}
 

@@ -24,9 +24,9 @@ use Rattle.msi_database_changes.proofs.StoredLemmas.{WellFormed, table_is_full}
 use Rattle.msi_database_changes.proofs.TracksLemmas.{TableFits, AllFit}
 use Rattle.msi_database_changes.proofs.RegularLemmas.{IsRegular}
 use Rattle.msi_database.specs.Keeping.{HasFittingRows, RowsFit, UnlistedFits}
-use Rattle.msi_database.proofs.MapLemmas as maps
+use Rattle.msi_database_storage.proofs.MapLemmas as maps
 use Rattle.msi_database.proofs.SoundLemmas.{sound_rows}
-use Rattle.msi_database.proofs.StreamLemmas.{TablesSorted, tables_found, list_cmp_exact}
+use Rattle.msi_database_storage.proofs.StreamLemmas.{TablesSorted, tables_found, list_cmp_exact}
 
 -- ROWS THAT FIT
 

@@ -8,39 +8,23 @@ use Rattle.std.proofs.lemmas.Bool.{leb-true}
 use Rattle.msi_text_pool_base.specs.FirstFit.{most_places}
 use Rattle.msi_text_pool_base.specs.Pool.{Pool}
 use Rattle.msi_database_cells.specs.Texts.{settled}
-use Rattle.msi_table_values.specs.Columns.{ColumnDef}
 use Rattle.msi_table.specs.Tables.{TableDef}
-use Rattle.msi_database_schema.specs.System.{columns_columns, columns_name, tables_columns, tables_name, validation_columns, validation_name}
 use Rattle.msi_database_changes.specs.Database.{is_sound, columns_by_name}
 use Rattle.msi_database_storage.specs.declared.storing.Stored.{Stored}
 use Rattle.msi_database_storage.specs.Storing.{HaveOwnNames, stored_all, stored_in}
 use Rattle.msi_database_storage.specs.Streams.{Streams}
 use Rattle.msi_database_storage.specs.Kept.{AreAsLong, Kept, schema_listed}
 use Rattle.msi_database.specs.Keeping.{AreParts, IsKeptDatabase}
-use Rattle.msi_database.specs.Fresh.{fresh, fresh_change}
-use Rattle.msi_database.specs.FreshParts.{columns_table, fresh_pool, fresh_stored, tables_table, validation_table}
+use Rattle.msi_database_storage.specs.Fresh.{fresh, fresh_change}
+use Rattle.msi_database_storage.specs.FreshParts.{columns_table, fresh_pool, fresh_stored, tables_table, validation_table}
 use Rattle.msi_database.proofs.ChangingLemmas.{streams_stored}
-use Rattle.msi_database.proofs.EditLemmas.{tables_stored_in}
+use Rattle.msi_database_storage.proofs.EditLemmas.{tables_stored_in}
 use Rattle.msi_database.proofs.FreshLemmas.{fresh_is_kept}
-use Rattle.msi_database.proofs.FreshMadeLemmas.{have_own_names}
-use Rattle.msi_database.proofs.FreshStepLemmas.{columns_long, tables_long, validation_long}
+use Rattle.msi_database_storage.proofs.FreshMadeLemmas.{have_own_names}
+use Rattle.msi_database_storage.proofs.FreshStepLemmas.{columns_long, tables_long, validation_long}
 use Rattle.msi_database.proofs.MakesAtLemmas.{settled_same}
 use Rattle.msi_database.proofs.PartsLemmas.{kept_parts}
 use Rattle.msi_database.proofs.SoundLemmas.{sound_is}
-
--- THE TABLES
-
-pub columns_made : (t : TableDef) (cs : List ColumnDef) → t ≡ record { name = columns_name; columns = cs; long = false } → cs ≡ columns_columns → t ≡ columns_table
-unfolding columns_table
-columns_made t cs e f = e ∙ ap (λ (cs : List ColumnDef). record { name = columns_name; columns = cs; long = false }) f
-
-pub tables_made : (t : TableDef) (cs : List ColumnDef) → t ≡ record { name = tables_name; columns = cs; long = false } → cs ≡ tables_columns → t ≡ tables_table
-unfolding tables_table
-tables_made t cs e f = e ∙ ap (λ (cs : List ColumnDef). record { name = tables_name; columns = cs; long = false }) f
-
-pub validation_made : (t : TableDef) (cs : List ColumnDef) → t ≡ record { name = validation_name; columns = cs; long = false } → cs ≡ validation_columns → t ≡ validation_table
-unfolding validation_table
-validation_made t cs e f = e ∙ ap (λ (cs : List ColumnDef). record { name = validation_name; columns = cs; long = false }) f
 
 abbrev system : List TableDef
 system = columns_table ∷ tables_table ∷ validation_table ∷ []

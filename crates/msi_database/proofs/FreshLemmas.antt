@@ -11,9 +11,10 @@ use Rattle.msi_database_schema.specs.System.{validation_columns}
 use Rattle.msi_database_changes.specs.Database.{Database, CountsAreExact, cells_naming, is_sound}
 use Rattle.msi_database_changes.proofs.FitTestLemmas.{all_fit, all_fit_is, unlisted_fit, each_fits}
 use Rattle.msi_database_storage.specs.StreamNames.{HaveShortNames}
-use Rattle.msi_database.specs.Agreement.{TablesAre, UnlistedIs, SchemaIs}
-use Rattle.msi_database.specs.Fresh.{fresh, FreshIsKept}
-use Rattle.msi_database.proofs.StreamLemmas.{AreSorted, TablesSorted}
+use Rattle.msi_database_storage.specs.Agreement.{TablesAre, UnlistedIs, SchemaIs}
+use Rattle.msi_database_storage.specs.Fresh.{fresh}
+use Rattle.msi_database.specs.Fresh.{FreshIsKept}
+use Rattle.msi_database_storage.proofs.StreamLemmas.{AreSorted, TablesSorted}
 use Rattle.msi_database.proofs.FitLemmas.{rows_fit}
 
 abbrev d : Database

@@ -1,10 +1,6 @@
 -- The lemmas of this crate.
-pub mod MapLemmas
-pub mod KeyLemmas
 pub mod GivenBackLemmas
 pub mod SoundLemmas
-pub mod StreamLemmas
-pub mod StoredLemmas
 pub mod SchemaLemmas
 pub mod FitLemmas
 pub mod DescribedLemmas
@@ -20,17 +16,14 @@ pub mod TablesKeptLemmas
 pub mod WholeLemmas
 pub mod PageLemmas
 pub mod PartsLemmas
-pub mod PassedLemmas
 pub mod SystemRowsLemmas
 pub mod TableListLemmas
-pub mod EditLemmas
 pub mod FinishLemmas
 pub mod OwnNamesLemmas
 pub mod MadeLemmas
 pub mod NamedLemmas
 pub mod OpenedLemmas
 pub mod ReadLemmas
-pub mod NamedTextsLemmas
 pub mod ChangingLemmas
 pub mod KeptLawLemmas
 pub mod FreshLemmas
@@ -44,14 +37,10 @@ pub mod RowCallLemmas
 pub mod InsertCallLemmas
 pub mod OtherLemmas
 pub mod DroppingCallLemmas
-pub mod ReadingLemmas
 pub mod CreatingLemmas
 pub mod CreatingCallLemmas
 pub mod ShownTextLemmas
 pub mod ReadWholeLemmas
-pub mod FreshCallLemmas
-pub mod FreshStepLemmas
-pub mod FreshMadeLemmas
 pub mod FreshKeptLemmas
 pub mod UpdateCallLemmas
 pub mod WideningLemmas

@@ -18,9 +18,9 @@ use Rattle.msi_table.specs.Census.{numbers_of_rows}
 use Rattle.msi_database_changes.specs.Database.{Database, Tables, rows_of, named_numbers, are_alike, table_at, validation_is_standard}
 use Rattle.msi_database_changes.proofs.AlikeLemmas.{rows_alike}
 use Rattle.msi_database_storage.specs.Streams.{Streams, stream_at, stored_rows}
-use Rattle.msi_database.specs.Agreement.{TablesAre, UnlistedIs, numbers_stored, shown_numbers}
-use Rattle.msi_database.proofs.MapLemmas as maps
-use Rattle.msi_database.proofs.StreamLemmas.{list_cmp_exact}
+use Rattle.msi_database_storage.specs.Agreement.{TablesAre, UnlistedIs, numbers_stored, shown_numbers}
+use Rattle.msi_database_storage.proofs.MapLemmas as maps
+use Rattle.msi_database_storage.proofs.StreamLemmas.{list_cmp_exact}
 
 abbrev pub numbers_of : List ℕ × TableCells → List ℕ
 numbers_of t = numbers_of_rows (rows_of t.1)

@@ -18,7 +18,7 @@ use Rattle.msi_database_changes.specs.Database.{Database, is_sound, named_number
 use Rattle.msi_database_storage.specs.Streams.{Streams, stored_rows}
 use Rattle.msi_database_storage.specs.StreamNames.{HaveShortNames}
 use Rattle.msi_database_storage.specs.Kept.{database_kept, table_kept, table_kept_at, schema_listed, AreAsLong}
-use Rattle.msi_database.specs.Agreement.{DatabaseIs, schema_in, is_shown}
+use Rattle.msi_database_storage.specs.Agreement.{DatabaseIs, schema_in, is_shown}
 use Rattle.msi_database.specs.Keeping.{AreKept, HasFittingRows}
 use Rattle.msi_database.proofs.SoundLemmas.{sound_is}
 use Rattle.msi_database.proofs.NamedLemmas.{shown_named}

@@ -16,12 +16,12 @@ use Rattle.msi_database_schema.specs.System.{columns_columns, columns_name, tabl
 use Rattle.msi_database_changes.specs.Database.{Database, is_sound}
 use Rattle.msi_database_storage.specs.Kept.{Kept, database_kept, kept_of, schema_listed, table_kept, table_kept_at}
 use Rattle.msi_database_storage.specs.Streams.{Streams, has_stream_at, stored_rows, stream_at, with_stream_or_none}
-use Rattle.msi_database.specs.Agreement.{schema_in}
+use Rattle.msi_database_storage.specs.Agreement.{schema_in}
 use Rattle.msi_database.specs.Keeping.{AreKept, RowsFit, UnlistedFits}
 use Rattle.msi_database.specs.Others.{IsOther, with_streams}
 use Rattle.msi_database.proofs.EntriesLemmas.{entries_either}
 use Rattle.msi_database.proofs.PartsLemmas.{parts_spelled, schema_kept}
-use Rattle.msi_database.proofs.StreamLemmas.{AreSorted, names_put, sorted_put, sorted_removed, stream_at_other_put, stream_at_other_removed, with_or_none_either}
+use Rattle.msi_database_storage.proofs.StreamLemmas.{AreSorted, names_put, sorted_put, sorted_removed, stream_at_other_put, stream_at_other_removed, with_or_none_either}
 
 module _ (streams : Streams) (name : List ℕ) (o : Option (List ℕ)) where
   abbrev after : Streams

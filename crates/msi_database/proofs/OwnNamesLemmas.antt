@@ -33,7 +33,7 @@ use Rattle.msi_database.specs.Keeping.{IsKeptDatabase}
 use Rattle.msi_database.proofs.RowsComeLemmas.{missing_apart}
 use Rattle.msi_database.proofs.ComesLemmas.{are_names, describes}
 use Rattle.msi_database.proofs.KeepingLemmas.{change_comes}
-use Rattle.msi_database.proofs.EditLemmas.{AreApart, own_names}
+use Rattle.msi_database_storage.proofs.EditLemmas.{AreApart, own_names}
 
 -- NAMES PUT BEHIND OTHERS
 

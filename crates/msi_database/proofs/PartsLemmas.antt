@@ -18,7 +18,7 @@ use Rattle.msi_database_changes.specs.Database.{Database, Tables, has_table, col
 use Rattle.msi_database_storage.specs.Streams.{Streams, stored_rows}
 use Rattle.msi_database_storage.specs.Kept.{AreAsLong, Kept, table_kept, table_kept_at, unlisted_kept, database_kept, kept_of, schema_listed}
 use Rattle.msi_database.specs.Keeping.{AreParts, IsKeptDatabase}
-use Rattle.msi_database.specs.Agreement.{DatabaseIs, schema_in}
+use Rattle.msi_database_storage.specs.Agreement.{DatabaseIs, schema_in}
 use Rattle.msi_database.proofs.TablesKeptLemmas.{has_table_kept}
 
 pub schema_kept : (pool : Pool) (tables : List TableDef) (streams : Streams) → columns_by_name (database_kept pool tables streams) ≡ schema_listed tables

@@ -24,14 +24,14 @@ use Rattle.msi_database_storage.specs.Streams.{Streams, stored_rows}
 use Rattle.msi_database_storage.specs.StreamNames.{HaveShortNames, HoldBytes}
 use Rattle.msi_database_storage.specs.Kept.{AreAsLong, Kept, database_kept, kept_of, schema_listed, table_kept, table_kept_at, unlisted_kept}
 use Rattle.msi_database_storage.specs.Naming.{numbers_named, numbers_of_tables, pool_shown}
-use Rattle.msi_database.specs.Agreement.{is_shown, schema_in}
+use Rattle.msi_database_storage.specs.Agreement.{is_shown, schema_in}
 use Rattle.msi_database.specs.Keeping.{AreKept, IsRead}
 use Rattle.msi_database.specs.Listed.{tables_listed}
-use Rattle.msi_database.specs.Reading.{IsDatabaseOf}
+use Rattle.msi_database_storage.specs.Reading.{IsDatabaseOf}
 use Rattle.msi_database.proofs.FitLemmas.{well_formed}
 use Rattle.msi_database.proofs.KeptLawLemmas.{read_is_kept}
 use Rattle.msi_database.proofs.PartsLemmas.{parts_make, parts_spelled}
-use Rattle.msi_database.proofs.ReadingLemmas.{refused_from, without_validation}
+use Rattle.msi_database_storage.proofs.ReadingLemmas.{refused_from, without_validation}
 use Rattle.msi_database.proofs.SchemaLemmas.{tables_sorted}
 use Rattle.msi_database.proofs.ShownTextLemmas.{schema_by_raw}
 

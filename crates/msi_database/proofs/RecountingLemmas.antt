@@ -29,13 +29,13 @@ use Rattle.msi_database_changes.proofs.TablesLemmas.{naming_is, table_uses, tota
 use Rattle.msi_database_changes.proofs.ValuesLemmas.{held_stay}
 use Rattle.msi_database_storage.specs.Kept.{AreAsLong, Kept, kept_of, table_kept_at}
 use Rattle.msi_database_storage.specs.Streams.{stored_rows, stream_at, Streams}
-use Rattle.msi_database.specs.Agreement.{described_by, schema_in, schema_rows}
+use Rattle.msi_database_storage.specs.Agreement.{described_by, schema_in, schema_rows}
 use Rattle.msi_database_storage.proofs.SoundnessLemmas.{standard_kept}
 use Rattle.msi_database.specs.Keeping.{AreKept, IsKeptDatabase}
 use Rattle.msi_database.specs.Recounting.{after_recount, RecountsAreKept}
 use Rattle.msi_database.proofs.DescribedLemmas.{table_rows}
 use Rattle.msi_database.proofs.KeptLawLemmas.{kept_is_well_formed}
-use Rattle.msi_database.proofs.ReadingLemmas.{schema_same}
+use Rattle.msi_database_storage.proofs.ReadingLemmas.{schema_same}
 
 -- a place without cells has no text
 free_text : (n : ℕ) (p : Place) → n ≡ 0 → (if n == 0 then [] else p.text) ≡ []

@@ -39,9 +39,9 @@ use Rattle.msi_database_storage.specs.Kept.{Kept, kept_of}
 use Rattle.msi_database.specs.Keeping.{AreKept, IsKeptDatabase}
 use Rattle.msi_database.specs.Listed.{IsKnown, table_def_at}
 use Rattle.msi_database.specs.Making.{IsAnew, Leaves, Makes, MakesRows, RowsBecome, TellsUse, base_with, wide_for}
-use Rattle.msi_database.proofs.MapLemmas as found
-use Rattle.msi_database.proofs.StreamLemmas.{list_cmp_exact}
-use Rattle.msi_database.proofs.KeyLemmas.{table_key_is_name}
+use Rattle.msi_database_storage.proofs.MapLemmas as found
+use Rattle.msi_database_storage.proofs.StreamLemmas.{list_cmp_exact}
+use Rattle.msi_database_schema.proofs.KeyLemmas.{table_key_is_name}
 use Rattle.msi_database.proofs.SoundLemmas.{sound_is, sound_names}
 use Rattle.msi_database.proofs.BothWidthsLemmas.{anew, anew_still}
 use Rattle.msi_database.proofs.MadeLemmas.{delete_made, insert_made, update_made}

@@ -42,8 +42,8 @@ use Rattle.msi_database_changes.proofs.PoolStepLemmas.{rows_released_step}
 use Rattle.msi_database_changes.proofs.TracksLemmas.{Tracks, TableFits, tracks_stored, fewer_fit}
 use Rattle.msi_database_changes.proofs.CreateTracksLemmas.{tracked_from, tracks_inserted}
 use Rattle.msi_database_changes.proofs.RegularLemmas.{IsRegular}
-use Rattle.msi_database.proofs.MapLemmas as maps
-use Rattle.msi_database.proofs.StreamLemmas.{list_cmp_exact}
+use Rattle.msi_database_storage.proofs.MapLemmas as maps
+use Rattle.msi_database_storage.proofs.StreamLemmas.{list_cmp_exact}
 use Rattle.msi_database.proofs.GivenBackLemmas.{given_back_gives}
 use Rattle.msi_database.proofs.SoundLemmas.{sound_is, sound_names}
 use Rattle.msi_database.proofs.RowChangeLemmas.{shown_same, still_describes}

@@ -12,8 +12,8 @@ use Rattle.msi_database_schema.specs.Schema.{SchemaRows, schema_of, by_name, is_
 use Rattle.msi_database_schema.proofs.SchemaLemmas.{Described, by_name-sorted}
 use Rattle.msi_database_changes.specs.Database.{Database, Tables, columns_by_name}
 use Rattle.msi_database_storage.specs.Streams.{Streams}
-use Rattle.msi_database.specs.Agreement.{SchemaIs, schema_rows}
-use Rattle.msi_database.proofs.StreamLemmas.{TablesSorted}
+use Rattle.msi_database_storage.specs.Agreement.{SchemaIs, schema_rows}
+use Rattle.msi_database_storage.proofs.StreamLemmas.{TablesSorted}
 
 named_sorted : {X : Type 0} (faulty : Bool) (f : X → Described) (o : Option X) (x : Described) → (if faulty then None else option_map (λ columns. by_name (f columns)) o) ≡ Some x → T (is_sorted list_cmp x)
 named_sorted true f o x e = absurd cc

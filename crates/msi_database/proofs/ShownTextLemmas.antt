@@ -29,9 +29,9 @@ use Rattle.msi_database_storage.specs.Streams.{Streams, stored_rows}
 use Rattle.msi_database_storage.specs.StreamNames.{HoldBytes}
 use Rattle.msi_database_storage.specs.Kept.{schema_listed, table_kept}
 use Rattle.msi_database_storage.specs.Naming.{numbers_named, numbers_of_tables, pool_shown}
-use Rattle.msi_database.specs.Agreement.{schema_in, schema_rows}
-use Rattle.msi_database.proofs.ReadLemmas.{rows_read_fit, validation_read_fits, each_of}
-use Rattle.msi_database.proofs.ReadingLemmas.{schema_same}
+use Rattle.msi_database_storage.specs.Agreement.{schema_in, schema_rows}
+use Rattle.msi_database_storage.proofs.ReadLemmas.{rows_read_fit, validation_read_fits, each_of}
+use Rattle.msi_database_storage.proofs.ReadingLemmas.{schema_same}
 use Rattle.msi_database.proofs.FitLemmas.{number_fits}
 
 -- TEXTS OF NAMED PLACES

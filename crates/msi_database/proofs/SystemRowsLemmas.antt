@@ -10,7 +10,8 @@ use Rattle.msi_database_cells.specs.Texts.{PoolInUse}
 use Rattle.msi_database_changes.specs.Database.{Database}
 use Rattle.msi_database_schema.specs.Description.{column_rows, tables_row, validation_rows}
 use Rattle.msi_database_schema.specs.System.{columns_name, tables_name, validation_name}
-use Rattle.msi_database.specs.Creating.{SystemRows, rows_described, rows_with}
+use Rattle.msi_database_changes.specs.Create.{SystemRows}
+use Rattle.msi_database.specs.Creating.{rows_described, rows_with}
 
 -- three steps, one after the other
 all_given : {A B C D : Type 0} (r : Result A ErrorKind) (f : A → Result B ErrorKind) (g : B → Result C ErrorKind) (h : A → B → C → D) (a : A) (b : B) (c : C)

@@ -23,7 +23,7 @@ use Rattle.msi_database.specs.Keeping.{AreKept}
 use Rattle.msi_database.proofs.MakesAtLemmas.{MakesAt}
 use Rattle.msi_database.proofs.ComesLemmas.{describes}
 use Rattle.msi_database.proofs.OwnNamesLemmas.{created_apart}
-use Rattle.msi_database.proofs.EditLemmas.{created_stored, dropped_stored, dropped_unvalidated}
+use Rattle.msi_database_storage.proofs.EditLemmas.{created_stored, dropped_stored, dropped_unvalidated}
 use Rattle.msi_database.proofs.ChainLemmas.{create_by_steps, third, c_rows, t_rows, v_rows, drop_by_steps, drop_by_two_steps, drop_passes, dropped_apart}
 use Rattle.msi_database.proofs.FinishLemmas.{known_sound, create_kept, drop_kept}
 

@@ -24,7 +24,7 @@ use Rattle.msi_database_changes.proofs.ChangedLemmas.{same_validation}
 use Rattle.msi_database_changes.proofs.DropRowsLemmas.{drop_rows, drop_describes}
 use Rattle.msi_database_changes.proofs.DropTracksLemmas.{drop_tracks, drop_unstored}
 use Rattle.msi_database_changes.proofs.RegularLemmas.{IsRegular}
-use Rattle.msi_database.proofs.KeyLemmas.{tables_accepted, columns_accepted, validation_accepted}
+use Rattle.msi_database_schema.proofs.KeyLemmas.{tables_accepted, columns_accepted, validation_accepted}
 use Rattle.msi_database.proofs.GivenBackLemmas.{given_back_gives}
 use Rattle.msi_database.proofs.ComesLemmas.{Comes}
 

@@ -1,13 +1,10 @@
 -- The steps by which a database with wider references is made, table by table.
-use Rattle.std.proofs.Common.{◌≡◌, ℕ, ◌+◌, ◌<◌, Bool, true, false, ◌==◌, Result, Ok, Err, inl, inr, List, [], ◌∷◌, ◌++◌, length, map, take, fold, get_or, Some, None, option_map, refl, sym, ap, ◌∙◌, subst}
-use Rattle.std.specs.Prelude.{MatchBool, if◌then◌else◌}
-use Rattle.std.specs.FinMap.{entries, entries-insert, find, insert}
-use Rattle.msi_container_format.specs.Streams as maps
-use Rattle.msi_container_format.proofs.NamesLemmas.{names_total as key_names_total}
+use Rattle.std.proofs.Common.{◌≡◌, ℕ, ◌+◌, ◌<◌, Bool, true, false, Result, Ok, Err, inl, inr, List, [], ◌∷◌, ◌++◌, length, map, take, fold, get_or, Some, None, option_map, refl, sym, ap, ◌∙◌, subst}
+use Rattle.std.specs.Prelude.{MatchBool}
+use Rattle.std.specs.FinMap.{find}
 use Rattle.msi_text_base.specs.declared.errors.ErrorKind.{ErrorKind}
 use Rattle.msi_text_base.specs.declared.errors.ErrorKind.TheVariants.{InvalidData, OutOfMemory}
 use Rattle.msi_text_base.specs.Refusals.{IsRefusal, or_refused}
-use Rattle.msi_table.specs.Cells.{table_bytes}
 use Rattle.msi_database_schema.specs.System.{validation_columns, validation_name}
 use Rattle.std.proofs.lemmas.List.{get_or-map, length-map, take_more}
 use Rattle.std.proofs.Math.Seq.{take-length}
@@ -24,16 +21,16 @@ use Rattle.msi_container_format.specs.Names.{is_name_length}
 use Rattle.msi_database_schema.specs.Keys.{is_table_name, table_key}
 use Rattle.msi_database_changes.specs.Database.{Database, Tables, has_table, is_sound, table_at}
 use Rattle.msi_database_changes.specs.Insert.{table_with}
-use Rattle.msi_database_storage.specs.Streams.{Streams, stored_rows, with_stream}
+use Rattle.msi_database_storage.specs.Streams.{Streams, stored_rows}
 use Rattle.msi_database_changes.specs.Widening.{widened}
 use Rattle.msi_database_storage.specs.Kept.{AreAsLong, Kept, kept_widened, schema_listed}
 use Rattle.msi_database_storage.specs.Widening.{streams_widened, unlisted_table, with_long_rows}
 use Rattle.msi_database.specs.Keeping.{AreParts, IsKeptDatabase}
 use Rattle.msi_database.specs.Listed.{table_def_at, tables_listed}
 use Rattle.msi_database.proofs.ComesLemmas.{regular}
-use Rattle.msi_database.proofs.KeyLemmas.{table_key_is_name, validation_accepted}
+use Rattle.msi_database_schema.proofs.KeyLemmas.{table_key_is_name, validation_accepted}
 use Rattle.msi_database.proofs.SoundLemmas.{sound_names}
-use Rattle.msi_database.proofs.StreamLemmas.{tables_found}
+use Rattle.msi_database_storage.proofs.StreamLemmas.{tables_found}
 use Rattle.msi_database.proofs.WideRefusalLemmas.{long_pool}
 use Rattle.msi_database.proofs.WideningLemmas.{unlisted_fits, widened_parts}
 
@@ -117,15 +114,6 @@ wide_parts k kept sound old old_is pool pool_is tables tables_are streams stream
     (subst (λ (ts : List TableDef). AreParts (kept_widened k) (widened k.database).pool ts streams) (sym tables_are)
     (subst (λ (s : Streams). AreParts (kept_widened k) (widened k.database).pool (map long_table_of (tables_listed k.database)) s) (sym streams_are)
     (widened_parts k kept sound (map long_table_of (tables_listed k.database)) (long_listed k.database.pool.long k.database.tables) (all_long (tables_listed k.database)))))
-
--- ONE STREAM
-
-pub put_long : (m new : maps.Streams) (name : List ℕ) (columns : List ColumnDef) (rows : List (List ValueRef)) (key bytes : List ℕ) (b : Bool) → b ≡ (length rows == 0) → b ≡ false → new ≡ insert m key bytes → key ≡ table_key name
-    → bytes ≡ table_bytes true (types_of columns) rows → entries new ≡ with_long_rows (entries m) (name, table_with columns rows)
-put_long m new name columns rows key bytes b b_is some new_is key_is bytes_is =
-    ap entries new_is ∙ entries-insert key_names_total m key bytes
-    ∙ (λ i. with_stream (key_is i) (bytes_is i) (entries m))
-    ∙ (λ i. if (sym some ∙ b_is) i then entries m else with_stream (table_key name) (table_bytes true (types_of columns) rows) (entries m))
 
 -- THE STREAM OF `_Validation` THAT IS NO TABLE
 

@@ -29,15 +29,15 @@ use Rattle.msi_database_changes.proofs.AtWidthLemmas.{sound_widened}
 use Rattle.msi_database_storage.specs.Streams.{Streams, stored_rows, stream_at, with_stream}
 use Rattle.msi_database_storage.specs.Kept.{AreAsLong, Kept, kept_widened, schema_listed}
 use Rattle.msi_database_storage.specs.Widening.{unlisted_table, with_long_rows}
-use Rattle.msi_database.specs.Agreement.{TablesAre, UnlistedIs}
+use Rattle.msi_database_storage.specs.Agreement.{TablesAre, UnlistedIs}
 use Rattle.msi_database.specs.Keeping.{AreParts, HasFittingRows, IsKeptDatabase}
 use Rattle.msi_database.proofs.ComesLemmas.{describes, regular}
 use Rattle.msi_database.proofs.PartsLemmas.{kept_parts}
-use Rattle.msi_database.proofs.KeyLemmas.{table_key_is_name, table_keys_tell_names, table_key≢summary_key, validation_accepted}
-use Rattle.msi_database.proofs.MapLemmas as maps
+use Rattle.msi_database_schema.proofs.KeyLemmas.{table_key_is_name, table_keys_tell_names, table_key≢summary_key, validation_accepted}
+use Rattle.msi_database_storage.proofs.MapLemmas as maps
 use Rattle.msi_database.proofs.DescribedLemmas.{schema_after}
 use Rattle.msi_database.proofs.SoundLemmas.{sound_names, sound_rows}
-use Rattle.msi_database.proofs.StreamLemmas.{AreSorted, TablesSorted, names_put, sorted_put, list_cmp_exact, stream_at_other_put, stream_at_put}
+use Rattle.msi_database_storage.proofs.StreamLemmas.{AreSorted, TablesSorted, names_put, sorted_put, list_cmp_exact, stream_at_other_put, stream_at_put}
 
 -- WIDER CELLS
 

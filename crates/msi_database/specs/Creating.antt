@@ -1,5 +1,5 @@
 -- Creating a table: what refuses it, and the streams of the system tables that describe it.
-use Rattle.std.specs.Prelude.{◌≡◌, ℕ, Bool, true, List, [], ◌∷◌, ◌++◌, Option, None, IsSomeAnd, Result, Ok}
+use Rattle.std.specs.Prelude.{◌≡◌, ℕ, Bool, true, List, [], ◌∷◌, ◌++◌, Option, IsSomeAnd, Result, Ok}
 use Rattle.std.specs.Option.{option_map_or}
 use Rattle.msi_text_base.specs.declared.errors.ErrorKind.{ErrorKind}
 use Rattle.msi_text_base.specs.declared.errors.ErrorKind.TheVariants.{InvalidInput, NotFound}
@@ -16,10 +16,11 @@ use Rattle.msi_database_changes.specs.Database.{Database, table_at, rows_of}
 use Rattle.msi_text_pool_base.specs.Pool.{Pool}
 use Rattle.msi_database_cells.specs.Texts.{PoolInUse, UsedPool, settled}
 use Rattle.msi_database_changes.specs.Changes.{sound_refusal}
-use Rattle.msi_database_changes.specs.Create.{table_refusals}
+use Rattle.msi_database_changes.specs.Create.{SystemRows, table_refusals}
 use Rattle.msi_database_changes.specs.Insert.{cells_added, row_refusals}
 use Rattle.msi_database_storage.specs.declared.storing.Stored.{Stored}
 use Rattle.msi_database_storage.specs.Kept.{Kept, with_table_kept}
+use Rattle.msi_database_storage.specs.Storing.{stream_gone}
 use Rattle.msi_database_storage.specs.Streams.{stream_of_rows}
 use Rattle.msi_database.specs.Listed.{tables_listed}
 use Rattle.msi_database.specs.Making.{base_with, wide_for}
@@ -36,11 +37,6 @@ rows_with d name values pool = or_refused NotFound (table_at name d) >>=
     λ t. or_refused InvalidInput (cells_added true t.columns pool (rows_of t) values)
 
 -- the rows of the system tables with those that describe a new table
-pub record SystemRows : Type 0 where
-  pub columns : List (List ValueRef)
-  pub tables : List (List ValueRef)
-  pub validation : List (List ValueRef)
-
 abbrev pub rows_described : Database → List ℕ → List ColumnDef → PoolInUse
     → Result (SystemRows × PoolInUse) ErrorKind
 rows_described d name columns pool = rows_with d columns_name (column_rows name columns) pool >>=
@@ -64,10 +60,6 @@ pub record CanHoldAll (d : Database) (rows : SystemRows) : Type 0 where
   pub columns : CanHold d columns_name rows.columns
   pub tables : CanHold d tables_name rows.tables
   pub validation : CanHold d validation_name rows.validation
-
--- a table's stream that goes
-abbrev pub stream_gone : List ℕ → Stored
-stream_gone name = record { name = table_key name; bytes = None }
 
 -- the streams of the system tables with these rows; that of the new table goes if one is left over
 abbrev pub streams_for : Database → List ℕ → SystemRows → List Stored

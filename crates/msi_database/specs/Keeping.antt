@@ -15,7 +15,7 @@ use Rattle.msi_database_changes.specs.Laws.{IsChange, IsTableChange}
 use Rattle.msi_database_storage.specs.Streams.{Streams}
 use Rattle.msi_database_storage.specs.StreamNames.{HaveShortNames, HoldBytes}
 use Rattle.msi_database_storage.specs.Kept.{Kept, kept_of, database_kept, after_change, AreAsLong, schema_listed}
-use Rattle.msi_database.specs.Agreement.{DatabaseIs, is_shown, schema_in}
+use Rattle.msi_database_storage.specs.Agreement.{DatabaseIs, is_shown, schema_in}
 
 -- a table has a column, and its rows, where they can be read, have a cell for each column, which fits it
 abbrev pub HasFittingRows : Bool → TableCells → Type 0

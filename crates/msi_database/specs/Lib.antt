@@ -1,15 +1,11 @@
 -- The words of this crate.
-pub mod Agreement
 pub mod Listed
-pub mod NamedTexts
 pub mod Keeping
 pub mod Making
 pub mod Dropping
 pub mod OwnStreams
 pub mod Others
 pub mod Fresh
-pub mod FreshParts
-pub mod Reading
 pub mod Creating
 pub mod Recounting
 -- The words of the crates below, which public clauses cite.
@@ -45,3 +41,6 @@ pub use Rattle.msi_database_changes.specs.Recounting as RecountedDatabases
 pub use Rattle.msi_database_storage.specs.Streams
 pub use Rattle.msi_database_storage.specs.Kept
 pub use Rattle.msi_database_storage.specs.Storing
+pub use Rattle.msi_database_storage.specs.Agreement
+pub use Rattle.msi_database_storage.specs.Reading
+pub use Rattle.msi_database_storage.specs.Fresh as FreshDatabases

@@ -8,13 +8,12 @@ ghost use Rattle.msi_text_base.specs.Refusals.{AnswersFirst, IsRefusal, unless_r
 ghost use Rattle.msi_database_schema.specs.Description.{have_short_lengths};
 ghost use Rattle.msi_database_schema.specs.Keys.{is_table_name as is_name_of_table};
 ghost use Rattle.msi_database_changes.specs.Create as creates;
-ghost use Rattle.msi_database_changes.specs.Create.{new_table_refusals};
 ghost use Rattle.msi_database_changes.specs.Database.{is_sound as is_sound_one};
 ghost use Rattle.msi_database_cells.specs.Texts.{in_use, settled};
 ghost use Rattle.msi_database_storage.specs.Kept.{with_table_kept};
 ghost use Rattle.msi_database_storage.specs.Storing.{HaveOwnNames};
 ghost use Rattle.msi_database.specs.Creating.{CanHold, CanHoldAll, IsCreated, create_refusals, new_table};
-ghost use Rattle.msi_database.specs.Creating.{rows_described, rows_with, stream_for, stream_gone, streams_for};
+ghost use Rattle.msi_database.specs.Creating.{rows_described, rows_with, stream_for, streams_for};
 ghost use Rattle.msi_database.specs.Listed.{tables_listed};
 ghost use Rattle.msi_database.specs.Making.{Leaves, Makes, TellsUse, base_with, wide_for};
 
@@ -22,73 +21,24 @@ use crate::changing::TablesAnew;
 use crate::database::Database;
 use crate::reasons;
 use msi_database_cells::texts::PoolInUse;
-use msi_database_changes::create::refuse_columns;
+use msi_database_changes::create::{SystemRows, refuse_table};
 use msi_database_changes::insert::{add_rows, refuse_rows};
 use msi_database_schema::description::{tables_row, validation_rows};
-use msi_database_schema::names::is_table_name;
-use msi_database_schema::parts::{column_rows, named_table, short_table_key};
+use msi_database_schema::parts::{column_rows, named_table};
 use msi_database_schema::system::{COLUMNS, TABLES, VALIDATION};
 use msi_database_storage::listing::copies_with;
-use msi_database_storage::parts::{Stored, stream_of};
+use msi_database_storage::parts::{Stored, no_stream, stream_of};
 use msi_table::Table;
 use msi_table_values::column::Column;
 use msi_table_values::value::{Value, ValueRef};
 use msi_text_base::errors::{Error, ErrorKind};
 use msi_text_base::text::Items;
-use std::marker::Model;
 
 /// What creating a table makes, and whether it took a text of the pool.
 #[derive(Drop)]
 struct Created {
     new: TablesAnew,
     is_pool_used: bool,
-}
-
-/// The rows of the system tables with those that describe a new table. Contracts see the rows of each.
-#[derive(Drop)]
-struct SystemRows {
-    columns: Vec<Items<ValueRef>>,
-    tables: Vec<Items<ValueRef>>,
-    validation: Vec<Items<ValueRef>>,
-}
-
-impl Model for SystemRows {
-    ghost use Rattle.msi_database.specs.Creating.{SystemRows as SystemRowsOf};
-
-    ghost Value = { SystemRowsOf };
-
-    ghost view = { λ r. record {
-      columns = r.columns.items;
-      tables = r.tables.items;
-      validation = r.validation.items;
-    } };
-}
-
-/// Refuses a name and columns of which no table is made.
-///
-/// # Errors
-/// `InvalidInput` where no table may have the name, and for columns as `refuse_columns` does.
-fn refuse_table(name: &str, columns: &[Column]) -> Result<(), Error>
-    ensures value { result ≡ unless_refused (new_table_refusals name.now columns.now) tt }
-    ensures named { OnOk result (is_name_of_table name.now ≡ true) }
-    ensures few { OnOk result (length columns.now ≤ most_columns) }
-    ensures short { OnOk result (IsTrue (have_short_lengths columns.now)) }
-{
-    if !is_table_name(name) {
-        return Err(Error::new(ErrorKind::InvalidInput, reasons::TABLE_NAME));
-    }
-    refuse_columns(columns)
-}
-
-/// That a table has no stream.
-fn no_stream(name: &str) -> Stored
-    requires { is_name_of_table name.now ≡ true }
-    ensures { result ≡ stream_gone name.now }
-{
-    Stored {
-        name: short_table_key(name),
-        bytes: None,
-    }
 }
 
 /// What creating a table makes, of its parts: the pool after it is that in use.

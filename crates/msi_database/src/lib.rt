@@ -7,7 +7,6 @@ pub mod database;
 mod dropping;
 mod fresh;
 pub mod laws;
-mod named_texts;
 mod others;
 pub mod parts;
 mod reading;

@@ -18,10 +18,6 @@ pub(crate) const NO_VALIDATION: Reason = Reason(
     "a table is created only where _Validation is a table",
 );
 
-pub(crate) const SHARED_TEXTS: Reason = Reason(
-    "rows of a system table share texts that would take far more memory than the pool",
-);
-
 pub(crate) const ODD_TABLE: Reason = Reason(
     "a table has too many rows, or a name that no table may have",
 );

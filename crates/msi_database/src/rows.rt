@@ -1,7 +1,6 @@
 //! Changes of a table's rows: rows are inserted, updated and deleted.
 
-ghost use Rattle.std.specs.Prelude.{◌≡◌, IfErr, IfOk, None, OnErr, OnOk, Some, bytes_eq, codes, false, true};
-ghost use Rattle.std.specs.List.{list_all};
+ghost use Rattle.std.specs.Prelude.{◌≡◌, IfErr, IfOk, None, OnErr, OnOk, Some, false, true};
 ghost use Rattle.msi_text_base.specs.Results.{OnlyMemory};
 ghost use Rattle.msi_text_pool_base.specs.Pool.{unindexed};
 ghost use Rattle.msi_text_base.specs.Refusals.{AnswersFirst, IsRefusal, first_refusal};
@@ -22,59 +21,15 @@ use crate::changing::RowsAnew;
 use crate::database::Database;
 use msi_database_cells::texts::PoolInUse;
 use msi_database_changes::delete::{refuse_delete, remaining_rows};
-use msi_database_changes::insert::{add_rows, refuse_new_rows, refuse_rows};
-use msi_database_changes::update::{refuse_collisions, refuse_sets, updated_rows};
-use msi_database_schema::system::{VALIDATION, is_schema_table, is_system_table};
+use msi_database_changes::insert::{add_rows, refuse_new_rows, refuse_rows, values_of};
+use msi_database_changes::update::{is_barred, refuse_collisions, refuse_sets, updated_rows};
+use msi_database_schema::system::is_system_table;
 use msi_query::parts::{
-    Assignment, DeleteParts, InsertParts, NewRow, UpdateParts, delete_parts, insert_parts,
-    update_parts,
+    DeleteParts, InsertParts, UpdateParts, delete_parts, insert_parts, update_parts,
 };
 use msi_query::{Delete, Insert, Update};
 use msi_table::Table;
-use msi_table_values::value::Value;
 use msi_text_base::errors::Error;
-use msi_text_base::text::Items;
-use std::alloc::Global;
-
-/// The column of `_Validation` that may be set.
-const DESCRIPTION: &str = "Description";
-
-/// The values of new rows, moved out.
-///
-/// # Errors
-/// `OutOfMemory`.
-fn values_of(alloc: Global, rows: Vec<NewRow>) -> Result<Vec<Items<Value>>, Error>
-    ensures ok { IfOk result (λ values. values.items ≡ rows.items) }
-    ensures kind { OnlyMemory result }
-{
-    let mut values = Vec::new(alloc);
-    for row in rows {
-        values.push(Items::from_vec(row.into_values()))?;
-    }
-    Ok(values)
-}
-
-/// Whether a new value is for the column Description.
-fn is_description(set: &Assignment) -> bool
-    ensures { result ≡ bytes_eq set.now.0 (codes "Description") }
-{
-    set.column() == DESCRIPTION
-}
-
-/// Whether each new value is for the column Description.
-fn sets_description_alone(sets: &[Assignment]) -> bool
-    ensures { result ≡ list_all (λ s. bytes_eq s.0 (codes "Description")) sets.now }
-{
-    sets.iter().all(is_description)
-}
-
-/// Whether an update is barred: of the system tables only Description in `_Validation` may be set.
-fn is_barred(update: &UpdateParts) -> bool
-    ensures { result ≡ updates.is_update_barred (update_of update.now) }
-{
-    let name = update.table.as_str();
-    is_schema_table(name) || (name == VALIDATION && !sets_description_alone(update.sets.as_slice()))
-}
 
 impl Database {
     /// The table into which rows are to be inserted. It takes no memory.

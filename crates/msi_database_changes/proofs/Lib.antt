@@ -29,6 +29,7 @@ pub mod KindsKeptLemmas
 pub mod KindsLemmas
 pub mod LawLemmas
 pub mod LeadingLemmas
+pub mod NamedTextsLemmas
 pub mod PoolStepLemmas
 pub mod PutFitsLemmas
 pub mod RecountingLemmas

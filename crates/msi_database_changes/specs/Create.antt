@@ -9,6 +9,7 @@ use Rattle.msi_text_base.specs.Lists.{has_pair}
 use Rattle.msi_text_base.specs.Refusals.{Refusals, unless_refused, ◌>>=◌}
 use Rattle.msi_table_values.specs.declared.value.Value.{Value}
 use Rattle.msi_table_values.specs.declared.value.Value.TheVariants.{Str}
+use Rattle.msi_table_values.specs.declared.value.ValueRef.{ValueRef}
 use Rattle.msi_table_values.specs.declared.column.ColumnType.{ColumnType}
 use Rattle.msi_table_values.specs.Columns.{ColumnDef}
 use Rattle.msi_database_schema.specs.Keys.{is_table_name}
@@ -36,6 +37,12 @@ added_to name rows c = option_and_then (λ t. rows_added name t rows c) (table_a
 abbrev pub described_by_rows : List ℕ → List ColumnDef → Change → Option Change
 described_by_rows name columns c = option_and_then (added_to validation_name (validation_rows name columns))
     (option_and_then (added_to tables_name ((Str name ∷ []) ∷ [])) (added_to columns_name (column_rows name columns) c))
+
+-- the rows of the system tables with those that describe a new table
+pub record SystemRows : Type 0 where
+  pub columns : List (List ValueRef)
+  pub tables : List (List ValueRef)
+  pub validation : List (List ValueRef)
 
 abbrev pub columns_are_named : List ColumnDef → Bool
 columns_are_named columns = list_all (λ c. is_identifier c.name) columns

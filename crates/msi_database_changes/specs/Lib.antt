@@ -10,3 +10,4 @@ pub mod Drop
 pub mod Laws
 pub mod RowUpdates
 pub mod Recounting
+pub mod NamedTexts

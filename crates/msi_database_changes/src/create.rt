@@ -1,25 +1,52 @@
 //! Creating a table: why a name and columns are refused.
 
-ghost use Rattle.std.specs.Prelude.{◌≡◌, ◌≤◌, ◌==◌, ◌&&◌, ◌||◌, OnOk, bytes_eq, length, Err};
+ghost use Rattle.std.specs.Prelude.{◌≡◌, ◌≤◌, ◌==◌, ◌&&◌, ◌||◌, IsTrue, OnOk, bytes_eq, length, true, Err};
 ghost use Rattle.std.specs.List.{AllByRecursion, list_all, list_any};
 ghost use Rattle.msi_text_categories.specs.CategoryRules.{is_identifier};
 ghost use Rattle.msi_text_base.specs.declared.errors.ErrorKind.TheVariants.{InvalidInput};
 ghost use Rattle.msi_text_base.specs.Lists.{has_pair};
 ghost use Rattle.msi_text_base.specs.Refusals.{unless_refused};
 ghost use Rattle.msi_table_values.specs.Columns.{HasShortLength};
+ghost use Rattle.msi_table.specs.Tables.{most_columns};
+ghost use Rattle.msi_database_schema.specs.Description.{have_short_lengths};
+ghost use Rattle.msi_database_schema.specs.Keys.{is_table_name as is_name_of_table};
 ghost use Rattle.msi_database_changes.specs.Create.{column_refusals, columns_are_named, is_binary, is_too_long};
+ghost use Rattle.msi_database_changes.specs.Create.{new_table_refusals};
 
 use crate::reasons;
+use msi_database_schema::names::is_table_name;
 use msi_table_values::column::{Column, ColumnType};
+use msi_table_values::value::ValueRef;
 use msi_text_base::errors::{Error, ErrorKind, Reason};
-use msi_text_base::text::Text;
+use msi_text_base::text::{Items, Text};
 use msi_text_categories::category::Category;
+use std::marker::Model;
 
 /// The most columns that a table may be created with.
 const MOST_COLUMNS: usize = 32;
 
 /// The most characters to which a column may limit its texts.
 const MOST_CHARACTERS: usize = 255;
+
+/// The rows of the system tables with those that describe a new table. Contracts see the rows of each.
+#[derive(Drop)]
+pub struct SystemRows {
+    pub columns: Vec<Items<ValueRef>>,
+    pub tables: Vec<Items<ValueRef>>,
+    pub validation: Vec<Items<ValueRef>>,
+}
+
+impl Model for SystemRows {
+    ghost use Rattle.msi_database_changes.specs.Create.{SystemRows as SystemRowsOf};
+
+    ghost Value = { SystemRowsOf };
+
+    ghost view = { λ r. record {
+      columns = r.columns.items;
+      tables = r.tables.items;
+      validation = r.validation.items;
+    } };
+}
 
 /// Whether one of the columns has this name.
 fn is_name_of(name: &str, columns: &[Column]) -> bool
@@ -154,4 +181,20 @@ pub fn refuse_columns(columns: &[Column]) -> Result<(), Error>
         return refused(reasons::SEMICOLON);
     }
     Ok(())
+}
+
+/// Refuses a name and columns of which no table is made.
+///
+/// # Errors
+/// `InvalidInput` where no table may have the name, and for columns as `refuse_columns` does.
+pub fn refuse_table(name: &str, columns: &[Column]) -> Result<(), Error>
+    ensures value { result ≡ unless_refused (new_table_refusals name.now columns.now) tt }
+    ensures named { OnOk result (is_name_of_table name.now ≡ true) }
+    ensures few { OnOk result (length columns.now ≤ most_columns) }
+    ensures short { OnOk result (IsTrue (have_short_lengths columns.now)) }
+{
+    if !is_table_name(name) {
+        return Err(Error::new(ErrorKind::InvalidInput, reasons::TABLE_NAME));
+    }
+    refuse_columns(columns)
 }

@@ -2,6 +2,7 @@
 
 ghost use Rattle.std.specs.Prelude.{◌≡◌, Some, None, IfOk, IfErr, OnOk, true};
 ghost use Rattle.msi_text_base.specs.declared.errors.ErrorKind.TheVariants.{InvalidInput};
+ghost use Rattle.msi_text_base.specs.Results.{OnlyMemory};
 ghost use Rattle.msi_text_base.specs.Refusals.{IsRefusal, first_refusal, or_refused, unless_refused};
 ghost use Rattle.msi_database_changes.specs.Insert.{cells_added, misfit_refusals, row_fits as fits_columns};
 ghost use Rattle.msi_database_changes.specs.Insert.{row_refusals, table_with};
@@ -63,6 +64,21 @@ pub fn refuse_new_rows(columns: &[Column], rows: &[NewRow]) -> Result<(), Error>
         }
     }
     Ok(())
+}
+
+/// The values of new rows, moved out.
+///
+/// # Errors
+/// `OutOfMemory`.
+pub fn values_of(alloc: Global, rows: Vec<NewRow>) -> Result<Vec<Items<Value>>, Error>
+    ensures ok { IfOk result (λ values. values.items ≡ rows.items) }
+    ensures kind { OnlyMemory result }
+{
+    let mut values = Vec::new(alloc);
+    for row in rows {
+        values.push(Items::from_vec(row.into_values()))?;
+    }
+    Ok(values)
 }
 
 /// Refuses new rows of a table that has these columns and rows, whose texts stand in the pool. It takes the rows

@@ -7,5 +7,6 @@ pub mod delete;
 pub mod drop;
 pub mod insert;
 pub mod laws;
+pub mod named_texts;
 mod reasons;
 pub mod update;

@@ -14,6 +14,8 @@ pub(crate) const ROW_MISFITS: Reason = Reason("a new row does not fit the table'
 
 pub(crate) const TOO_MANY_ROWS: Reason = Reason("a table has at most 65536 rows");
 
+pub(crate) const TABLE_NAME: Reason = Reason("no table may have this name");
+
 pub(crate) const COLUMN_COUNT: Reason = Reason("a new table has 1 to 32 columns");
 
 pub(crate) const NO_KEY: Reason = Reason("a new table has a key column");

@@ -1,6 +1,6 @@
 //! Updates of a table's rows.
 
-ghost use Rattle.std.specs.Prelude.{◌≡◌, ◌∷◌, [], map, IfOk, IfErr, OnOk, Some, false, true};
+ghost use Rattle.std.specs.Prelude.{◌≡◌, ◌∷◌, [], map, IfOk, IfErr, OnOk, Some, bytes_eq, codes, false, true};
 ghost use Rattle.std.specs.List.{list_all};
 ghost use Rattle.std.specs.Option.{option_map_or};
 ghost use Rattle.msi_text_base.specs.Lists.{has_pair};
@@ -13,7 +13,7 @@ ghost use Rattle.msi_database_changes.specs.Insert.{table_with};
 ghost use Rattle.msi_table_order.specs.KeyOrder.{key_of, same_key};
 ghost use Rattle.msi_database_changes.specs.RowUpdates.{row_set, update_of};
 ghost use Rattle.msi_database_cells.specs.Texts.{in_turn, in_use};
-ghost use Rattle.msi_database_changes.specs.Update.{keys_collide, row_updated, set_is_valid};
+ghost use Rattle.msi_database_changes.specs.Update.{is_update_barred, keys_collide, row_updated, set_is_valid};
 ghost use Rattle.msi_database_changes.specs.Update.{set_refusals, sets_key as sets_a_key, values_after};
 
 use crate::conditions::knows_condition;
@@ -22,6 +22,7 @@ use msi_database_cells::keys::{Key, distinct_keys};
 use msi_database_cells::setting::{places_of, set_cells, set_views};
 use msi_database_cells::texts::PoolInUse;
 use msi_database_cells::views::views_of_cells;
+use msi_database_schema::system::{VALIDATION, is_schema_table};
 use msi_query::parts::{Assignment, UpdateParts};
 use msi_query_expressions::parts::RowFilter;
 use msi_table_values::column::Column;
@@ -32,6 +33,31 @@ use msi_text_base::text::Items;
 use msi_text_pool::stringpool::StringPool;
 use std::alloc::Global;
 use std::marker::Model;
+
+/// The column of `_Validation` that may be set.
+const DESCRIPTION: &str = "Description";
+
+/// Whether a new value is for the column Description.
+fn is_description(set: &Assignment) -> bool
+    ensures { result ≡ bytes_eq set.now.0 (codes "Description") }
+{
+    set.column() == DESCRIPTION
+}
+
+/// Whether each new value is for the column Description.
+fn sets_description_alone(sets: &[Assignment]) -> bool
+    ensures { result ≡ list_all (λ s. bytes_eq s.0 (codes "Description")) sets.now }
+{
+    sets.iter().all(is_description)
+}
+
+/// Whether an update is barred: of the system tables only Description in `_Validation` may be set.
+pub fn is_barred(update: &UpdateParts) -> bool
+    ensures { result ≡ is_update_barred (update_of update.now) }
+{
+    let name = update.table.as_str();
+    is_schema_table(name) || (name == VALIDATION && !sets_description_alone(update.sets.as_slice()))
+}
 
 /// Whether a new value names a column, which takes it.
 fn is_valid_set(columns: &[Column], set: &Assignment) -> bool

@@ -5,6 +5,7 @@ pub mod AddedRowsLemmas
 pub mod ColumnBackLemmas
 pub mod DescriptionLemmas
 pub mod FaultLemmas
+pub mod KeyLemmas
 pub mod ListingLemmas
 pub mod NamesLemmas
 pub mod OrderLemmas

@@ -7,3 +7,15 @@ pub mod RecountingLemmas
 pub mod PutBackLemmas
 pub mod ListingLemmas
 pub mod CopyingLemmas
+pub mod ReadLemmas
+pub mod ReadingLemmas
+pub mod NamedTextsLemmas
+pub mod PassedLemmas
+pub mod WideningLemmas
+pub mod MapLemmas
+pub mod StreamLemmas
+pub mod StoredLemmas
+pub mod EditLemmas
+pub mod FreshCallLemmas
+pub mod FreshStepLemmas
+pub mod FreshMadeLemmas

@@ -5,3 +5,7 @@ pub mod Widening
 pub mod Kept
 pub mod Storing
 pub mod Naming
+pub mod Agreement
+pub mod Reading
+pub mod Fresh
+pub mod FreshParts

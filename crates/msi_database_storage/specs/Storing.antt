@@ -1,5 +1,5 @@
 -- Streams that are stored together: each name gets its bytes, or has no stream.
-use Rattle.std.specs.Prelude.{◌≢◌, ℕ, List, [], ◌∷◌, map}
+use Rattle.std.specs.Prelude.{◌≢◌, ℕ, List, [], ◌∷◌, map, None}
 use Rattle.std.specs.List.{AllByRecursion}
 use Rattle.msi_container_format.specs.Streams as maps
 use Rattle.msi_database_schema.specs.Keys.{table_key}
@@ -15,6 +15,10 @@ stored_all m (e ∷ es) = stored_all (maps.with_or_without m e.name e.bytes) es
 abbrev pub HaveOwnNames : List Stored → Type 0
 HaveOwnNames [] = Unit {0}
 HaveOwnNames (e ∷ es) = AllByRecursion (λ f. f.name ≢ e.name) es × HaveOwnNames es
+
+-- a table's stream that goes
+abbrev pub stream_gone : List ℕ → Stored
+stream_gone name = record { name = table_key name; bytes = None }
 
 -- the same of the streams in their order
 abbrev pub stored_in : List Stored → Streams → Streams

@@ -3,9 +3,13 @@
 
 mod copying;
 mod decoding;
+mod fresh;
 pub mod listing;
 mod naming;
 pub mod parts;
+mod reading;
+mod reasons;
 mod recounting;
 mod soundness;
 mod storing;
+mod widening;

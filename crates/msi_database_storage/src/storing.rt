@@ -5,8 +5,8 @@ ghost use Rattle.std.specs.Vec.Iter.{into_iter_items};
 ghost use Rattle.msi_container_format.specs.Names.{is_name_length};
 ghost use Rattle.msi_text_base.specs.Results.{OnlyMemory};
 ghost use Rattle.msi_table.specs.Tables.{CanStore};
-ghost use Rattle.msi_database_schema.specs.Keys.{table_key as key_of};
-ghost use Rattle.msi_database_storage.specs.Storing.{stored_all, HaveOwnNames};
+ghost use Rattle.msi_database_schema.specs.Keys.{is_table_name, table_key as key_of};
+ghost use Rattle.msi_database_storage.specs.Storing.{HaveOwnNames, stored_all, stream_gone};
 ghost use Rattle.msi_database_storage.specs.Streams.{stream_of_rows};
 
 use msi_container_format::contents::{Bytes, StreamMap};
@@ -49,6 +49,17 @@ pub fn stream_of(alloc: Global, table: &Table, rows: Vec<Items<ValueRef>>) -> Re
         name,
         bytes: Some(Bytes::from_vec(bytes)),
     })
+}
+
+/// That a table has no stream.
+pub fn no_stream(name: &str) -> Stored
+    requires { is_table_name name.now ≡ true }
+    ensures { result ≡ stream_gone name.now }
+{
+    Stored {
+        name: short_table_key(name),
+        bytes: None,
+    }
 }
 
 /// Stores each of these. Streams are put first, and what goes is removed only when all are put, since that takes no

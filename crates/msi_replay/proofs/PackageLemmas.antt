@@ -12,7 +12,7 @@ use Rattle.msi_container_format.proofs.PlanOnceLemmas.{held_once}
 use Rattle.msi_database_schema.specs.Keys.{table_key, summary_key, string_pool_name, string_data_name}
 use Rattle.msi_database_changes.specs.Database.{Database}
 use Rattle.msi_database_storage.specs.Streams.{Streams, stream_at}
-use Rattle.msi_database.specs.Agreement.{DatabaseIs, is_shown}
+use Rattle.msi_database_storage.specs.Agreement.{DatabaseIs, is_shown}
 use Rattle.msi.specs.Meaning.{SummaryIs, RawPoolIs, PoolIs, ContentsMean, shown_pool}
 use Rattle.msi.specs.State.{Parts, others_among}
 use Rattle.msi.proofs.AgreementLemmas.{database_same, raw_from, shown_pool_alike, shown_same}

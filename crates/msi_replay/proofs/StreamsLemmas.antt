@@ -8,8 +8,8 @@ use Rattle.msi_database_schema.specs.Keys.{is_table_name, table_key, summary_key
 use Rattle.msi_database_schema.specs.System.{tables_name, columns_name, validation_name}
 use Rattle.msi_database_changes.specs.Database.{Database, Tables}
 use Rattle.msi_database_storage.specs.Streams.{Streams, stream_at, with_stream}
-use Rattle.msi_database.proofs.KeyLemmas.{pool_keys_differ, table_key≢summary_key, table_key≢pool, tables_accepted, columns_accepted, validation_accepted}
-use Rattle.msi_database.proofs.StreamLemmas.{stream_at_put, stream_at_other_put}
+use Rattle.msi_database_schema.proofs.KeyLemmas.{pool_keys_differ, table_key≢summary_key, table_key≢pool, tables_accepted, columns_accepted, validation_accepted}
+use Rattle.msi_database_storage.proofs.StreamLemmas.{stream_at_put, stream_at_other_put}
 use Rattle.msi.specs.State.{names_of, others_among}
 use Rattle.msi.proofs.AgreementLemmas.{SameStream, SameTables}
 use Rattle.msi.proofs.OtherStreamLemmas.{others_put, owned_by_summary, owned_by_pool, owned_by_texts}

@@ -3,7 +3,7 @@ use Rattle.msi_text_base.proofs.RefusalLemmas.{accepted_first, first_passed, err
 use Rattle.msi_database_changes.specs.Drop.{drop_table, early_drop_refusals}
 use Rattle.msi_database.specs.Making.{base_with}
 use Rattle.msi_database.proofs.RowCallLemmas.{makes_kept, makes_leaves, makes_sound}
-use Rattle.msi_database.proofs.PassedLemmas.{memory_refused, no_value, on_error}
+use Rattle.msi_database_storage.proofs.PassedLemmas.{memory_refused, no_value, on_error}
 use Rattle.std.proofs.Common.{refl}
 use Rattle.msi_database.proofs.database.Database.drop_table.Goals as goal
 

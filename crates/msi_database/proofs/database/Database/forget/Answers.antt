@@ -5,7 +5,7 @@ use Rattle.msi_database_storage.specs.declared.storing.Stored.{Stored}
 use Rattle.msi_database_storage.specs.Kept.{Kept}
 use Rattle.msi_database.specs.Keeping.{IsKeptDatabase}
 use Rattle.msi_database.proofs.DroppingCallLemmas.{fewer_fit, forgot}
-use Rattle.msi_database.proofs.PassedLemmas.{memory_passed, no_value}
+use Rattle.msi_database_storage.proofs.PassedLemmas.{memory_passed, no_value}
 use Rattle.msi_text_base.specs.declared.errors.ErrorKind.TheVariants.{OutOfMemory}
 use Rattle.msi_database.proofs.database.Database.forget.Goals as goal
 

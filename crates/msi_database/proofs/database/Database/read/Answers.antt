@@ -10,9 +10,9 @@ use Rattle.msi_database_schema.specs.System.{validation_name}
 use Rattle.msi_database_storage.specs.Kept.{AreAsLong, kept_of, table_kept, table_kept_at}
 use Rattle.msi_database_storage.specs.Naming.{numbers_named, numbers_of_tables, pool_shown}
 use Rattle.msi_database.specs.Keeping.{AreKept}
-use Rattle.msi_database.specs.Reading.{IsDatabaseOf}
+use Rattle.msi_database_storage.specs.Reading.{IsDatabaseOf}
 use Rattle.msi_database.proofs.ReadWholeLemmas.{Reads, read_census, read_database, read_kept, read_once, reads_by, standard_is, standard_stored, unread_refused}
-use Rattle.msi_database.proofs.PassedLemmas.{memory_refused, no_value}
+use Rattle.msi_database_storage.proofs.PassedLemmas.{memory_refused, no_value}
 use Rattle.msi_database.proofs.database.Database.read.Goals as goal
 
 pub returns-in_err-validation-clause-kind : goal.returns-in_err-validation-clause-kind

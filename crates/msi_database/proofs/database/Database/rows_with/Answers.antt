@@ -8,7 +8,7 @@ use Rattle.msi_database_cells.specs.Texts.{in_use}
 use Rattle.msi_database_changes.specs.Insert.{cells_added}
 use Rattle.msi_database.specs.Creating.{rows_with}
 use Rattle.msi_database.proofs.CreatedAnewLemmas.{rows_at_last}
-use Rattle.msi_database.proofs.PassedLemmas.{memory_refused, no_value}
+use Rattle.msi_database_storage.proofs.PassedLemmas.{memory_refused, no_value}
 use Rattle.msi_database.proofs.database.Database.rows_with.Goals as goal
 
 at_last : (c : goal.After-add_rows) → rows_with c.args.self.now.database c.args.name.now c.args.values.items (in_use c.args.pool.now)

@@ -9,7 +9,7 @@ use Rattle.msi_database.specs.Creating.{IsCreated, create_refusals}
 use Rattle.msi_database.specs.Keeping.{IsKeptDatabase}
 use Rattle.msi_database.proofs.EarlyCallLemmas.{first_where_err, none_where_ok}
 use Rattle.msi_database.proofs.CreatedAnewLemmas.{create_barred_either, create_called, made_with, named_with, rows_refused, told_with}
-use Rattle.msi_database.proofs.PassedLemmas.{memory_refuses, no_value}
+use Rattle.msi_database_storage.proofs.PassedLemmas.{memory_refuses, no_value}
 use Rattle.msi_database.proofs.database.Database.table_created.Goals as goal
 
 pub returns-in_err-refuse_create-clause-kind : goal.returns-in_err-refuse_create-clause-kind

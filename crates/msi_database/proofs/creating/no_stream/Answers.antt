@@ -1,5 +1,0 @@
-use Rattle.msi_database.proofs.KeyLemmas.{table_key_is_name}
-use Rattle.msi_database.proofs.creating.no_stream.Goals as goal
-
-pub short_table_key-requires : goal.short_table_key-requires
-short_table_key-requires c = table_key_is_name c.args.name.now c.requires

@@ -1,0 +1,140 @@
+//! The tables that the rows of the system tables describe, read from the streams of a container's root.
+
+ghost use Rattle.std.specs.Prelude.{◌≡◌, [], ◌<◌, ◌≤◌, All, IfErr, IfOk, OnOk, Some, if◌then◌else◌, is_some, length};
+ghost use Rattle.std.specs.FinMap.{entries};
+ghost use Rattle.msi_text_base.specs.declared.errors.ErrorKind.TheVariants.{InvalidData};
+ghost use Rattle.msi_text_base.specs.Results.{OnlyMemory};
+ghost use Rattle.msi_table.specs.Tables.{most_columns};
+ghost use Rattle.msi_text_pool_base.specs.Pool.{unindexed};
+ghost use Rattle.msi_text_base.specs.Refusals.{IsRefusal, or_refused};
+ghost use Rattle.msi_database_schema.specs.System.{validation_columns as columns_of_validation, validation_name};
+ghost use Rattle.msi_database_changes.specs.NamedTexts.{NameFewTexts};
+ghost use Rattle.msi_database_storage.specs.Agreement.{described_by, schema_in};
+ghost use Rattle.msi_database_storage.specs.Kept.{AreAsLong, schema_listed, table_kept_at};
+ghost use Rattle.msi_database_storage.specs.Reading.{RowsNameFewTexts, SystemRowsNameFewTexts};
+ghost use Rattle.msi_database_storage.specs.StreamNames.{HaveShortNames, HoldBytes};
+ghost use Rattle.msi_database_storage.specs.Streams.{stored_rows as rows_stored};
+
+use crate::decoding::stored_rows;
+use crate::listing::table_named;
+use crate::reasons;
+use msi_container_format::contents::StreamMap;
+use msi_database_changes::named_texts::name_few_texts;
+use msi_database_schema::parts::named_table;
+use msi_database_schema::schema::tables_of_cells;
+use msi_database_schema::system::{
+    COLUMNS, TABLES, VALIDATION, columns_columns, tables_columns,
+};
+use msi_table::Table;
+use msi_table_values::column::Column;
+use msi_table_values::value::ValueRef;
+use msi_text_base::errors::{Error, ErrorKind};
+use msi_text_base::text::Items;
+use msi_text_pool::stringpool::StringPool;
+use std::alloc::Global;
+
+/// A byte is below 256.
+fn look_at_bytes(bytes: &[u8])
+    ensures { All (λ b. b < 256) bytes.now }
+{}
+
+/// Goes over streams: each has a name that a container can hold, and bytes.
+pub fn look_at(streams: &StreamMap)
+    ensures names { HaveShortNames (entries streams.now) }
+    ensures bytes { HoldBytes (entries streams.now) }
+{
+    for (name, bytes) in streams.iter() {
+        let _units = name.units();
+        look_at_bytes(bytes.as_slice());
+    }
+}
+
+/// Refuses rows that name the same texts again and again, where these are long or lists: columns have a copy of each
+/// text that describes them.
+///
+/// # Errors
+/// `OutOfMemory` where the texts cost more than `name_few_texts` allows.
+fn refuse_many_texts(pool: &StringPool, rows: &[Items<ValueRef>]) -> Result<(), Error>
+    ensures bounded { OnOk result (NameFewTexts pool.now.places rows.now) }
+    ensures kind { OnlyMemory result }
+{
+    if name_few_texts(pool, rows) {
+        Ok(())
+    } else {
+        Err(Error::new(ErrorKind::OutOfMemory, reasons::SHARED_TEXTS))
+    }
+}
+
+/// The rows of a table that is known by its name and columns, which are at most 32767.
+///
+/// # Errors
+/// `InvalidData` where its stream can't be read; `OutOfMemory`, also where its rows name too many texts.
+fn described_rows(
+    alloc: Global,
+    pool: &StringPool,
+    streams: &StreamMap,
+    name: &str,
+    columns: Items<Column>,
+) -> Result<Vec<Items<ValueRef>>, Error>
+    requires names { HaveShortNames (entries streams.now) }
+    requires few { length columns ≤ most_columns }
+    ensures ok { IfOk result (λ rows.
+        rows_stored (entries streams.now) pool.now.long columns name.now ≡ Some rows.items) }
+    ensures bounded { OnOk result (RowsNameFewTexts (entries streams.now) (unindexed pool.now) columns name.now) }
+    ensures kind { IfErr result (IsRefusal (or_refused InvalidData
+        (described_by (entries streams.now) (unindexed pool.now) columns name.now))) }
+{
+    let table = named_table(alloc, name, columns, pool.long_string_refs())?;
+    let rows = stored_rows(alloc, streams, &table)?;
+    refuse_many_texts(pool, rows.as_slice())?;
+    Ok(rows)
+}
+
+/// The tables that the rows of the system tables describe: those of `_Tables` and `_Columns` are read of their
+/// streams, those of `_Validation` are these.
+///
+/// # Errors
+/// `InvalidData` where a stream can't be read, and where the rows describe no tables; `OutOfMemory`.
+pub fn tables_in(
+    alloc: Global,
+    pool: &StringPool,
+    streams: &StreamMap,
+    validation: &[Items<ValueRef>],
+) -> Result<Items<Table>, Error>
+    requires names { HaveShortNames (entries streams.now) }
+    requires bytes { HoldBytes (entries streams.now) }
+    requires validation { rows_stored (entries streams.now) pool.now.long columns_of_validation validation_name
+        ≡ Some validation.now }
+    ensures ok { let schema = schema_in (entries streams.now) (unindexed pool.now) in
+        IfOk result (λ tables. schema ≡ Some (schema_listed tables)) }
+    ensures long { IfOk result (AreAsLong pool.now.long) }
+    ensures bounded { OnOk result (SystemRowsNameFewTexts (entries streams.now) (unindexed pool.now)) }
+    ensures kind { let schema = schema_in (entries streams.now) (unindexed pool.now) in
+        IfErr result (IsRefusal (or_refused InvalidData schema)) }
+{
+    let tables = described_rows(alloc, pool, streams, TABLES, tables_columns(alloc)?)?;
+    let columns = described_rows(alloc, pool, streams, COLUMNS, columns_columns(alloc)?)?;
+    refuse_many_texts(pool, validation)?;
+    tables_of_cells(
+        alloc,
+        pool,
+        tables.as_slice(),
+        columns.as_slice(),
+        validation,
+    )
+}
+
+/// The rows of the stream of `_Validation` that are kept beside the tables: all where it is no table, else none.
+pub fn unlisted_rows(
+    alloc: Global,
+    tables: &[Table],
+    validation: Vec<Items<ValueRef>>,
+) -> Vec<Items<ValueRef>>
+    ensures { result.items ≡ (if is_some (table_kept_at validation_name tables.now) then [] else validation.items) }
+{
+    if table_named(tables, VALIDATION).is_some() {
+        Vec::new(alloc)
+    } else {
+        validation
+    }
+}
