@@ -34,7 +34,7 @@ pub use msi_table::{
 };
 pub use msi_text::{
     Category, CodePage, Error, ErrorKind, IntoText, Items, LanguageId, StringPool,
-    StringPoolBuilder, StringRef, Text, Timestamp,
+    StringPoolBuilder, StringRef, Text, Timestamp, pool_streams,
 };
 pub use package::Package;
 pub use uuids::{FromUuid, HasUuid};

@@ -1,8 +1,10 @@
 //! A string pool and a property set of no package: what each public call gives.
 
+use msi::pool_streams::{
+    build_from_data, read_from_pool, read_reference, write_data, write_pool, write_reference,
+};
 use msi::{
-    CodePage, Error, ErrorKind, OperatingSystem, PropertySet, PropertyValue, StringPool,
-    StringPoolBuilder, StringRef,
+    CodePage, Error, ErrorKind, OperatingSystem, PropertySet, PropertyValue, StringPool, StringRef,
 };
 use std::alloc::Global;
 
@@ -33,7 +35,7 @@ fn take(alloc: Global, pool: &mut StringPool, text: &str) -> Result<StringRef, E
 
 /// Whether a pool is that pool.
 fn is_pool(pool: &StringPool) -> Result<bool, Error> {
-    match StringRef::read(&mut [1, 0, 0].as_slice(), pool.long_string_refs())? {
+    match read_reference(&mut [1, 0, 0].as_slice(), pool.long_string_refs())? {
         Some(first) => Ok(is_named(pool, first) && is_new(pool)),
         None => Ok(false),
     }
@@ -54,10 +56,10 @@ fn is_new(pool: &StringPool) -> bool {
 /// Whether the streams of a pool are those of that pool.
 fn is_written(alloc: Global, pool: &StringPool) -> Result<bool, Error> {
     let mut bytes = Vec::new(alloc);
-    pool.write_pool(&mut bytes)?;
+    write_pool(pool, &mut bytes)?;
     let are_entries = bytes.as_slice() == ENTRIES;
     bytes.clear();
-    pool.write_data(&mut bytes)?;
+    write_data(pool, &mut bytes)?;
     Ok(are_entries && bytes.as_slice() == b"Foo".as_slice())
 }
 
@@ -69,19 +71,19 @@ fn is_made(alloc: Global) -> Result<bool, Error> {
 
 /// Whether that pool is read.
 fn is_read(alloc: Global) -> Result<bool, Error> {
-    let builder = StringPoolBuilder::read_from_pool(alloc, ENTRIES)?;
-    is_pool(&builder.build_from_data(alloc, b"Foo".as_slice())?)
+    let builder = read_from_pool(alloc, ENTRIES)?;
+    is_pool(&build_from_data(alloc, builder, b"Foo".as_slice())?)
 }
 
 /// Whether a reference of two bytes that ends early is refused as invalid, and one of three bytes is written.
 fn are_references(alloc: Global) -> Result<bool, Error> {
     let mut bytes = Vec::new(alloc);
-    StringRef::write(
+    write_reference(
         &mut bytes,
-        StringRef::read(&mut [5, 0].as_slice(), false)?,
+        read_reference(&mut [5, 0].as_slice(), false)?,
         true,
     )?;
-    let is_refused = match StringRef::read(&mut [1].as_slice(), false) {
+    let is_refused = match read_reference(&mut [1].as_slice(), false) {
         Ok(_) => false,
         Err(error) => error.kind() == ErrorKind::InvalidData,
     };

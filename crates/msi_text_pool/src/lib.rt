@@ -3,6 +3,7 @@
 
 pub mod laws;
 pub mod parts;
+pub mod pool_streams;
 pub mod reasons;
 pub mod stringpool;
 

@@ -1,7 +1,7 @@
-//! Reading the pool's two streams.
+//! Reading the pool of the bytes of its two streams.
 
-ghost use Rattle.std.specs.Prelude.{◌≡◌, ◌⊎◌, ◌<◌, ◌^◌, List, IfOk, IfErr, IfSome, OnOk, Some, drop, length, slice_get};
-ghost use Rattle.msi_text_base.specs.declared.errors.ErrorKind.TheVariants.{Io, InvalidData, OutOfMemory};
+ghost use Rattle.std.specs.Prelude.{◌≡◌, ◌⊎◌, ◌<◌, ◌^◌, List, IfOk, IfErr, OnOk, Some, drop, length, slice_get};
+ghost use Rattle.msi_text_base.specs.declared.errors.ErrorKind.TheVariants.{InvalidData, OutOfMemory};
 ghost use Rattle.msi_text_base.specs.Pages.{page_with_id, text_in};
 ghost use Rattle.msi_text_pool_base.specs.Pool as pools;
 ghost use Rattle.msi_text_pool_base.specs.Pool.{IsPoolStream, PoolStream, SpellsTexts};
@@ -10,7 +10,7 @@ ghost use Rattle.msi_text_places.specs.JoinedTexts.{IsJoined, places_joined};
 ghost use Rattle.msi_text_places.specs.TextJoining.{IsJoining, entries_left, places_read};
 ghost use Rattle.msi_text_pool_base.specs.PoolReading.{IsPut, place_in_front, header_in};
 ghost use Rattle.msi_text_pool.specs.PoolPieces.{IsPiecePut};
-ghost use Rattle.msi_text_base.specs.Results.{FailsAs, Gives, IsStreamFault, IsUnlessFault, IsUnlessMemory};
+ghost use Rattle.msi_text_base.specs.Results.{FailsAs, Gives, IsUnlessMemory};
 
 use crate::reasons;
 use crate::stringpool::pool::{LONG, StringPool};
@@ -21,7 +21,6 @@ use msi_text_base::fields::u32_at;
 use msi_text_places::parts::{Entries, JoinedTexts, MAX_PLACES, TextJoiner};
 use msi_text_pool_base::parts::Entry;
 use std::alloc::Global;
-use std::io::Read;
 use std::marker::Model;
 
 /// What the pool's stream says: the page, whether references are long, and the entries.
@@ -43,65 +42,7 @@ impl Model for StringPoolBuilder {
     ghost invariant = { λ b. length b.entries ≤ 16777215 };
 }
 
-impl StringPoolBuilder {
-    /// Returns what the pool's stream (`_StringPool`) says. It reads all that the reader has left.
-    ///
-    /// # Errors
-    /// Fails with `InvalidData` if the bytes encode no pool: an entry is cut, no page has the id, or there are more
-    /// than 16777215 places. Fails with `OutOfMemory`, or with `Io` if the reader fails.
-    pub fn read_from_pool<R: Read + Drop>(
-        alloc: Global,
-        reader: R,
-    ) -> Result<StringPoolBuilder, Error>
-        // What is read is spelled.
-        ensures found { IfSome (R.remaining reader) (λ bytes. IfOk result (λ stream. IsPoolStream bytes stream)) }
-        // What is spelled is read, and nothing else.
-        ensures only { IfSome (R.remaining reader) (λ bytes.
-            (stream : PoolStream) → IsPoolStream bytes stream → IsUnlessFault result stream) }
-        ensures kinds { IfErr result (λ kind. IsStreamFault kind) }
-    {
-        let bytes = bytes_of(alloc, reader)?;
-        pool_builder_of(alloc, bytes.as_slice())
-    }
-
-    /// Returns the pool whose texts stand in the data stream (`_StringData`), in order; bytes past the last are
-    /// ignored.
-    ///
-    /// # Errors
-    /// Fails with `InvalidData` if the bytes end before a text does, or the page can't read a text. Fails with
-    /// `OutOfMemory`, or with `Io` if the reader fails.
-    pub fn build_from_data<R: Read + Drop>(
-        self,
-        alloc: Global,
-        reader: R,
-    ) -> Result<StringPool, Error>
-        // The pool has the texts that are spelled.
-        ensures found { IfSome (R.remaining reader) (λ bytes. IfOk result (λ pool.
-            (pool ≡ newly_indexed (pool_with self pool.places))
-            × SpellsTexts self.page bytes self.entries pool.places)) }
-        // Texts that are spelled are read, and nothing else.
-        ensures only { IfSome (R.remaining reader) (λ bytes. (places : List pools.Place)
-            → SpellsTexts self.page bytes self.entries places
-            → IsUnlessFault result (newly_indexed (pool_with self places))) }
-        ensures kinds { IfErr result (λ kind. IsStreamFault kind) }
-    {
-        let bytes = bytes_of(alloc, reader)?;
-        pool_of(alloc, self, bytes.as_slice())
-    }
-}
-
-/// All that a reader has left.
-fn bytes_of<R: Read + Drop>(alloc: Global, mut reader: R) -> Result<Vec<u8>, Error>
-    ensures ok { IfSome (R.remaining reader) (λ bytes. IfOk result (λ all. all.items ≡ bytes)) }
-    ensures kinds { IfErr result (λ kind. (kind ≡ Io) ⊎ (kind ≡ OutOfMemory)) }
-{
-    let mut bytes = Vec::new(alloc);
-    reader.read_to_end(&mut bytes)?;
-    Ok(bytes)
-}
-
-/// Returns what the bytes of the pool's stream (`_StringPool`) say, as `StringPoolBuilder::read_from_pool` reads
-/// them.
+/// Returns what the bytes of the pool's stream (`_StringPool`) say.
 ///
 /// # Errors
 /// Fails with `InvalidData` if the bytes encode no pool, and otherwise with `OutOfMemory`.
@@ -123,8 +64,8 @@ pub fn pool_builder_of(alloc: Global, bytes: &[u8]) -> Result<StringPoolBuilder,
     })
 }
 
-/// Returns the pool whose texts the bytes of the data stream (`_StringData`) encode, as
-/// `StringPoolBuilder::build_from_data` reads them.
+/// Returns the pool whose texts stand in the bytes of the data stream (`_StringData`), in order; bytes past the last
+/// are ignored.
 ///
 /// # Errors
 /// Fails with `InvalidData` if the bytes end before a text does, or the page can't read a text, and otherwise with

@@ -1,10 +1,8 @@
 //! Writing the pool's two streams.
 
-ghost use Rattle.std.specs.Prelude.{◌≡◌, ℕ, ◌+◌, ◌≤◌, ◌^◌, ◌⊎◌, ◌↔◌, ◌++◌, List, [], IsTrue, false, length, OnErr};
+ghost use Rattle.std.specs.Prelude.{◌≡◌, ◌+◌, ◌≤◌, ◌^◌, ◌⊎◌, ◌↔◌, ◌++◌, IsTrue, false, length};
 ghost use Rattle.std.specs.Prelude.{OnOk, IfOk, IfErr, IsErrOf, Some, option_map, unwrap_or, is_some, if◌then◌else◌};
 ghost use Rattle.std.specs.List.{flat_map};
-ghost use Rattle.std.specs.Io.KnownBytes.{Appends};
-ghost use Rattle.msi_text_base.specs.Faults.{AppendsPart};
 ghost use Rattle.msi_text_base.specs.Pages.{page_id};
 ghost use Rattle.msi_text_pool_base.specs.Pool.{place_bytes, plain_entry, pool_stream, data_stream, unindexed};
 ghost use Rattle.msi_text_pool_base.specs.Pool.{CountsFit};
@@ -12,67 +10,23 @@ ghost use Rattle.msi_text_pool.specs.PoolLaws.{ReadsBack};
 ghost use Rattle.msi_text_pool.specs.PoolWriting.{is_refused_spelling, is_refused, piece_of};
 ghost use Rattle.msi_text_pool.specs.PoolWriting.{entry_in};
 ghost use Rattle.msi_text_base.specs.Results.{OnlyMemory};
-ghost use Rattle.msi_text_base.specs.declared.errors.ErrorKind.TheVariants.{InvalidInput, Io, OutOfMemory};
+ghost use Rattle.msi_text_base.specs.declared.errors.ErrorKind.TheVariants.{InvalidInput, OutOfMemory};
 
 use crate::reasons;
 use crate::stringpool::pool::{LONG, StringPool};
 use msi_text_base::codepage::CodePage;
 use msi_text_base::errors::{Error, ErrorKind, Reason};
 use msi_text_base::fields::{push_u16, push_u32};
-use msi_text_base::parts::write_fully;
 use msi_text_base::reasons::PAGE_CHARACTER;
 use msi_text_places::parts::PlaceRef;
 use msi_text_pool_base::parts::encoded_len;
 use std::alloc::AllocError;
-use std::io::Write;
 
 /// From how many bytes on a text has a long entry.
 const SHORT_END: u32 = 65536;
 
 /// From how many bytes on a text isn't written.
 const LONG_END: usize = 1 << 32;
-
-impl StringPool {
-    /// Writes the stream of the entries (`_StringPool`) in its plain encoding, behind what the writer has.
-    ///
-    /// # Errors
-    /// Fails with `InvalidInput` if the page can't encode a text in use, or if its encoding has 2^32 bytes or more;
-    /// nothing is written then. Fails with `OutOfMemory`, or with `Io` if the writer fails. It may then have taken a
-    /// prefix of the bytes.
-    pub fn write_pool<W: Write>(&self, writer: &mut W) -> Result<(), Error>
-        ensures ok { OnOk result ((bytes : List ℕ) × (pool_stream (unindexed self.now) ≡ Some bytes)
-            × Appends (W.contents writer.old) (W.contents writer.new) bytes) }
-        ensures spelled { OnOk result (ReadsBack (unindexed self.now)) }
-        ensures refused { IsErrOf result InvalidInput ↔ IsTrue (is_refused (unindexed self.now)) }
-        ensures unwritten { IsErrOf result InvalidInput → writer.new ≡ writer.old }
-        ensures part { let bytes = unwrap_or (pool_stream (unindexed self.now)) [] in
-            OnErr result (AppendsPart (W.contents writer.old) (W.contents writer.new) bytes) }
-        ensures kinds { IfErr result (λ kind. (kind ≡ InvalidInput) ⊎ (kind ≡ OutOfMemory) ⊎ (kind ≡ Io)) }
-    {
-        let bytes = pool_stream_of(self)?;
-        write_fully(writer, bytes.as_slice())
-    }
-
-    /// Writes the stream of the texts (`_StringData`), behind what the writer has.
-    ///
-    /// # Errors
-    /// Fails with `InvalidInput` if the page can't encode a text in use, or if its encoding has 2^32 bytes or more;
-    /// nothing is written then. Fails with `OutOfMemory`, or with `Io` if the writer fails. It may then have taken a
-    /// prefix of the bytes.
-    pub fn write_data<W: Write>(&self, writer: &mut W) -> Result<(), Error>
-        ensures ok { OnOk result ((bytes : List ℕ) × (data_stream (unindexed self.now) ≡ Some bytes)
-            × Appends (W.contents writer.old) (W.contents writer.new) bytes) }
-        ensures spelled { OnOk result (ReadsBack (unindexed self.now)) }
-        ensures refused { IsErrOf result InvalidInput ↔ IsTrue (is_refused (unindexed self.now)) }
-        ensures unwritten { IsErrOf result InvalidInput → writer.new ≡ writer.old }
-        ensures part { let bytes = unwrap_or (data_stream (unindexed self.now)) [] in
-            OnErr result (AppendsPart (W.contents writer.old) (W.contents writer.new) bytes) }
-        ensures kinds { IfErr result (λ kind. (kind ≡ InvalidInput) ⊎ (kind ≡ OutOfMemory) ⊎ (kind ≡ Io)) }
-    {
-        let bytes = data_stream_of(self)?;
-        write_fully(writer, bytes.as_slice())
-    }
-}
 
 /// Returns the stream of the entries (`_StringPool`) in its plain encoding.
 ///
