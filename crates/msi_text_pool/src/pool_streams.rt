@@ -1,5 +1,5 @@
-//! The pool, and references to its places, in any reader and writer. They are functions of no type, so that crates which
-//! name the pool's types don't load what readers and writers are.
+//! The pool, and references to its places, in any reader and writer. They are functions of no type, so that crates
+//! which name the pool's types don't load what readers and writers are.
 
 ghost use Rattle.std.specs.Prelude.{◌≡◌, ◌⊎◌, ◌↔◌, List, ℕ, [], IsTrue, Some, false, true, unwrap_or};
 ghost use Rattle.std.specs.Prelude.{IfErr, IfOk, IfSome, IsErrOf, OnErr, OnOk};
@@ -120,8 +120,8 @@ pub fn write_data<W: Write>(pool: &StringPool, writer: &mut W) -> Result<(), Err
 ///
 /// # Errors
 /// Fails with `InvalidData` if the bytes end early, and only then if contracts see the reader's bytes. If the reader
-/// fails, it fails with `OutOfMemory` or `Io`. No clause says that an early end is `InvalidData`, since none can tell it
-/// from a failure.
+/// fails, it fails with `OutOfMemory` or `Io`. No clause says that an early end is `InvalidData`, since none can tell
+/// it from a failure.
 pub fn read_reference<R: Read>(reader: &mut R, long: bool) -> Result<Option<StringRef>, Error>
     ensures ok { IfOk result (λ reference.
         ReadsReference long (R.remaining reader.old) (R.remaining reader.new) reference) }
