@@ -22,9 +22,7 @@ use msi_container_format::contents::StreamMap;
 use msi_database_changes::named_texts::name_few_texts;
 use msi_database_schema::parts::named_table;
 use msi_database_schema::schema::tables_of_cells;
-use msi_database_schema::system::{
-    COLUMNS, TABLES, VALIDATION, columns_columns, tables_columns,
-};
+use msi_database_schema::system::{COLUMNS, TABLES, VALIDATION, columns_columns, tables_columns};
 use msi_table::Table;
 use msi_table_values::column::Column;
 use msi_table_values::value::ValueRef;

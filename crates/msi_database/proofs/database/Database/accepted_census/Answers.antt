@@ -3,12 +3,8 @@ use Rattle.msi_text_base.proofs.RefusalLemmas.{err_passed, first_answered, none_
 use Rattle.msi_database_changes.specs.Recounting.{counting_refusals, early_recount_refusals, recount}
 use Rattle.msi_database_changes.proofs.RefusedLemmas.{behind_passed, not_refused, refused_first}
 use Rattle.msi_database_storage.proofs.RecountingLemmas.{counts_are}
-<<<<<<< HEAD
-use Rattle.msi_database.proofs.PassedLemmas.{memory_refused, no_value}
-use Rattle.msi_database.proofs.RecountingLemmas.{refused_early, refused_late}
-=======
 use Rattle.msi_database_storage.proofs.PassedLemmas.{memory_refused, no_value}
->>>>>>> 18c03b4a39411bef629f524002a851c0e643add5
+use Rattle.msi_database.proofs.RecountingLemmas.{refused_early, refused_late}
 use Rattle.msi_database.proofs.database.Database.accepted_census.Goals as goal
 
 pub returns-clause-counts : goal.returns-clause-counts
