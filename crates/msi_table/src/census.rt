@@ -16,11 +16,9 @@ use msi_table_values::value::ValueRef;
 use msi_text_base::errors::Error;
 use msi_text_base::text::Items;
 use msi_text_pool::parts::place_number;
+use msi_text_pool::stringpool::MAX_CELLS;
 use std::alloc::Global;
 use std::marker::Model;
-
-/// The most cells that a place may have: a count in a file has 16 bits.
-const MOST_CELLS: u16 = 65_535;
 
 /// How many cells name each place of a pool. It is taken of the bytes of tables' streams column by column, and no row
 /// is made for it.
@@ -89,7 +87,7 @@ impl Census {
         let at = at as usize;
         if at >= self.counts.len() {
             self.is_within = false;
-        } else if self.counts[at] < MOST_CELLS {
+        } else if self.counts[at] < MAX_CELLS {
             self.counts[at] += 1;
         } else {
             self.fits = false;

@@ -12,7 +12,7 @@ ghost use Rattle.msi_text_pool_base.specs.PoolIndexes.{AreFree, is_among, has_ro
 ghost use Rattle.msi_text_places.specs.TextIndexes.{AreOpen, is_entered, is_same};
 ghost use Rattle.msi_text_places.specs.Indexing.{IsIndexed};
 
-use crate::places::{MAX_PLACES, MAX_SHORT_PLACES, Place, Places};
+use crate::places::{MAX_CELLS, MAX_PLACES, MAX_SHORT_PLACES, Place, Places};
 use crate::reasons;
 use crate::shared::SharedText;
 use crate::texts::{Entry, TextIndex};
@@ -20,9 +20,6 @@ use msi_text_base::errors::{Error, ErrorKind};
 use msi_text_pool_base::parts::{FreePlaces, Operations};
 use std::alloc::Global;
 use std::mem;
-
-/// How many cells may name a place.
-pub(crate) const MOST_CELLS: u16 = 65_535;
 
 /// The places, an index of the free ones, an index from each text to its places that can be named once more, and how
 /// many operations the last call made on them.
@@ -313,7 +310,7 @@ fn close(texts: &mut TextIndex, entry: &Entry, count: u16, operations: &mut Oper
     ensures most { operations.new ≤ operations.old + 1 }
     ensures least { operations.old ≤ operations.new }
 {
-    if count == MOST_CELLS {
+    if count == MAX_CELLS {
         texts.remove(entry, operations);
     }
 }
@@ -334,7 +331,7 @@ fn reopen(
     ensures most { operations.new ≤ operations.old + 1 }
     ensures least { operations.old ≤ operations.new }
 {
-    if place.count() == MOST_CELLS - 1 {
+    if place.count() == MAX_CELLS - 1 {
         return insert_text(texts, at, place, operations);
     }
     Ok(())
@@ -403,7 +400,7 @@ fn enter(
     if place.count() == 0 {
         return free.insert(at, operations);
     }
-    if place.count() < MOST_CELLS {
+    if place.count() < MAX_CELLS {
         return insert_text(texts, at, place, operations);
     }
     Ok(())

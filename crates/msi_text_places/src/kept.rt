@@ -11,9 +11,9 @@ ghost use Rattle.msi_text_pool_base.specs.Recounting.{many_recounted, with_count
 ghost use Rattle.msi_text_base.specs.Results.{OnlyMemory};
 ghost use Rattle.msi_text_base.specs.declared.errors.ErrorKind.TheVariants.{InvalidData, InvalidInput, OutOfMemory};
 
-use crate::indexed::{IndexedPlaces, MOST_CELLS, most_places};
+use crate::indexed::{IndexedPlaces, most_places};
 use crate::joined::JoinedTexts;
-use crate::places::{PlaceRef, Places};
+use crate::places::{MAX_CELLS, PlaceRef, Places};
 use crate::reasons;
 use msi_text_base::errors::{Error, ErrorKind};
 use std::alloc::Global;
@@ -241,7 +241,7 @@ impl KeptPlaces {
 fn fits(place: &PlaceRef, text: &str) -> bool
     ensures { result ≡ is_fit text.now place.now }
 {
-    place.count() == 0 || (place.text() == text && place.count() < MOST_CELLS)
+    place.count() == 0 || (place.text() == text && place.count() < MAX_CELLS)
 }
 
 /// Whether a place is in use or has the empty text.

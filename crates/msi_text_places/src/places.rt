@@ -18,6 +18,9 @@ pub const MAX_PLACES: usize = 16_777_215;
 /// How many places short references can name; a pool with short references grows to no more.
 pub const MAX_SHORT_PLACES: usize = 65_535;
 
+/// How many cells may refer to a place: the count of a text in a file has 16 bits.
+pub const MAX_CELLS: u16 = 65_535;
+
 /// A text of the pool with the number of cells that name it.
 #[derive(Drop)]
 pub struct Place {

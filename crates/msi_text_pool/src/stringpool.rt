@@ -6,7 +6,7 @@ mod reference;
 mod writable;
 pub(crate) mod writing;
 
-pub use msi_text_places::parts::{MAX_PLACES, MAX_SHORT_PLACES};
+pub use msi_text_places::parts::{MAX_CELLS, MAX_PLACES, MAX_SHORT_PLACES};
 pub use pool::StringPool;
 pub use reading::StringPoolBuilder;
 pub use reference::StringRef;
