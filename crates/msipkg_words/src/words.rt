@@ -427,17 +427,7 @@ pub fn matches_of<'a>(alloc: Global, words: &'a [String]) -> Result<ArgMatches<'
 
 /// Returns the command of a name.
 pub fn verb_named(name: &str) -> Option<Verb> {
-    for rows in &commands() {
-        if let Some(verb) = verb_among(rows, name) {
-            return Some(verb);
-        }
-    }
-    None
-}
-
-/// The command of a name among some.
-fn verb_among(rows: &[Row], name: &str) -> Option<Verb> {
-    for row in rows {
+    for row in commands().iter().copied().flatten() {
         if row.name == name {
             return Some(row.verb);
         }
@@ -454,19 +444,7 @@ fn program<'a>(alloc: Global) -> Result<Command<'a>, AllocError> {
         .no_binary_name(true)
         .propagate_version(true)
         .subcommand_required(true);
-    for rows in &commands() {
-        program = with_commands(alloc, program, rows)?;
-    }
-    Ok(program)
-}
-
-/// The program with these commands, too.
-fn with_commands<'a>(
-    alloc: Global,
-    mut program: Command<'a>,
-    rows: &[Row],
-) -> Result<Command<'a>, AllocError> {
-    for row in rows {
+    for row in commands().iter().copied().flatten() {
         program = program.subcommand(command_of(alloc, row)?)?;
     }
     Ok(program)
@@ -490,7 +468,10 @@ fn arg_of<'a>(alloc: Global, argument: &Argument) -> Result<Arg<'a>, AllocError>
         Form::Words => several(arg).required(true),
         Form::AnyWords => several(arg),
         Form::Flag => arg.long(id).action(ArgAction::SetTrue),
-        Form::Instead(others) => instead(arg.long(id), others)?,
+        Form::Instead(others) => arg
+            .long(id)
+            .action(ArgAction::SetTrue)
+            .conflicts_with_all(others)?,
         Form::Value(name) => arg.long(id).value_name(name),
         Form::Values(name) => arg.long(id).value_name(name).action(ArgAction::Append),
         Form::Lettered(letter, name) => arg.long(id).short(letter).value_name(name),
@@ -507,13 +488,4 @@ fn arg_of<'a>(alloc: Global, argument: &Argument) -> Result<Arg<'a>, AllocError>
 /// An argument that takes several words.
 fn several<'a>(arg: Arg<'a>) -> Arg<'a> {
     arg.num_args(1usize..).action(ArgAction::Append)
-}
-
-/// A word that is given or not, and not beside others.
-fn instead<'a>(arg: Arg<'a>, others: &[&'static str]) -> Result<Arg<'a>, AllocError> {
-    let mut flag = arg.action(ArgAction::SetTrue);
-    for other in others {
-        flag = flag.conflicts_with(*other)?;
-    }
-    Ok(flag)
 }
