@@ -8,8 +8,9 @@ use crate::other_archives::{
 };
 use crate::table_archives::{StreamFile, TableArchive};
 use msipkg_files::output::msi::{Package, Table};
-use msipkg_files::output::{Failure, Opened, Output, System, at_file, chosen_tables, path_in};
-use msipkg_files::{Folder, SafeNames, open_new, settle};
+use msipkg_files::output::{Failure, Opened, Output, System, at_file, chosen_tables};
+use msipkg_files::{Folder, open_new, settle};
+use msipkg_texts::{Ending, SafeName, SafeNames, safe_name};
 use std::alloc::{AllocError, Global};
 use std::collections::BTreeSet;
 
@@ -114,8 +115,8 @@ fn export_table(
     exported: &mut Exported,
 ) -> Result<(), Failure> {
     let safe = exported.given.give(table.name())?;
-    let files = write_table(rt, package, table, safe.as_str(), folder)?;
-    write_streams(rt, package, safe.as_str(), files.as_slice(), folder)?;
+    let files = write_table(rt, package, table, &safe, folder)?;
+    write_streams(rt, package, &safe, files.as_slice(), folder)?;
     Ok(exported.add(files)?)
 }
 
@@ -124,7 +125,7 @@ fn write_table(
     rt: &System,
     package: &Package<Opened>,
     table: &Table,
-    safe: &str,
+    safe: &SafeName,
     folder: &Folder<'_>,
 ) -> Result<Vec<StreamFile>, Failure> {
     let mut archive = TableArchive::new(rt.alloc(), package, table)?;
@@ -136,11 +137,10 @@ fn write_table(
 fn write_archive(
     rt: &System,
     archive: &mut TableArchive<'_>,
-    safe: &str,
+    safe: &SafeName,
     folder: &Folder<'_>,
 ) -> Result<(), Failure> {
-    let name = archive_name(rt.alloc(), safe)?;
-    let path = path_in(rt.alloc(), folder.path, name.as_str())?;
+    let path = folder.path_of(rt.alloc(), &safe.with_ending(Ending::Idt)?)?;
     let written = write_file(rt, archive, path.as_str(), folder.is_forced);
     at_file(rt.alloc(), path.as_str(), written)
 }
@@ -208,40 +208,36 @@ fn export_streams(
     let page = package.database_codepage();
     let streams = streams_archive(rt.alloc(), page, files.as_slice())?;
     write_text(rt, STREAMS, &streams, folder)?;
-    write_streams(rt, package, STREAMS, files.as_slice(), folder)
+    let safe = safe_name(rt.alloc(), STREAMS)?;
+    write_streams(rt, package, &safe, files.as_slice(), folder)
 }
 
-/// Writes the text of an archive to its file, which has this name and `.idt`.
+/// Writes the text of an archive of this name to its file.
 fn write_text(
     rt: &System,
-    safe: &str,
+    archive: &str,
     text: &StoredText,
     folder: &Folder<'_>,
 ) -> Result<(), Failure> {
-    let name = archive_name(rt.alloc(), safe)?;
+    let name = safe_name(rt.alloc(), archive)?.with_ending(Ending::Idt)?;
     match text.encoded(rt.alloc()) {
-        Ok(bytes) => folder.write(rt, name.as_str(), bytes.as_slice()),
+        Ok(bytes) => folder.write(rt, &name, bytes.as_slice()),
         Err(error) => at_file(rt.alloc(), name.as_str(), Err(Failure::from(error))),
     }
-}
-
-/// The name of an archive's file.
-fn archive_name(alloc: Global, safe: &str) -> Result<String, AllocError> {
-    format!(in alloc; "{safe}.idt")
 }
 
 /// Writes streams, if there are some, to files of an inner folder of this name.
 fn write_streams(
     rt: &System,
     package: &Package<Opened>,
-    safe: &str,
+    safe: &SafeName,
     files: &[StreamFile],
     folder: &Folder<'_>,
 ) -> Result<(), Failure> {
     if files.is_empty() {
         return Ok(());
     }
-    let path = path_in(rt.alloc(), folder.path, safe)?;
+    let path = folder.path_of(rt.alloc(), safe)?;
     make_inner_folder(rt, path.as_str())?;
     let inner = Folder {
         path: path.as_str(),
@@ -261,7 +257,7 @@ fn write_stream(
     folder: &Folder<'_>,
 ) -> Result<(), Failure> {
     match package.read_stream(file.stream.as_str()) {
-        Ok(stream) => folder.write(rt, file.file.as_str(), stream.rest()),
+        Ok(stream) => folder.write(rt, &file.file, stream.rest()),
         Err(error) => Err(Failure::from(error).at(rt.alloc(), "stream", file.stream.as_str())),
     }
 }

@@ -4,11 +4,10 @@ use crate::exporting::BARE;
 use crate::folders::make_folder;
 use msipkg_files::output::msi::{Package, Rows, Table};
 use msipkg_files::output::{
-    Failure, Opened, Output, RowFormat, System, at_file, chosen_tables, path_in, rows_of,
-    write_rows,
+    Failure, Opened, Output, RowFormat, System, at_file, chosen_tables, rows_of, write_rows,
 };
-use msipkg_files::{Folder, SafeNames, open_new, settle};
-use msipkg_texts::Style;
+use msipkg_files::{Folder, open_new, settle};
+use msipkg_texts::{Ending, SafeNames, Style};
 use std::alloc::{AllocError, Global};
 
 /// Writes each of the tables to a file of a folder, which is named after the table. The folder is made where it isn't
@@ -63,9 +62,8 @@ fn file_path(
     folder: &Folder<'_>,
     given: &mut SafeNames,
 ) -> Result<String, AllocError> {
-    let safe = given.give(table.name())?;
-    let name = format!(in alloc; "{safe}.csv")?;
-    path_in(alloc, folder.path, name.as_str())
+    let name = given.give(table.name())?.with_ending(Ending::Csv)?;
+    folder.path_of(alloc, &name)
 }
 
 /// Writes rows to a file, piece by piece.

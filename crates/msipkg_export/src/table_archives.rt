@@ -2,20 +2,19 @@
 
 use crate::archive_parts::text_value;
 use crate::archive_texts::ArchiveText;
-use msipkg_files::SafeNames;
 use msipkg_files::output::msi::{
     Column, ColumnType, Error, Package, Rows, Table, Value, ValueView,
 };
 use msipkg_files::output::{Failure, Opened, Output, rows_of, stream_name};
-use msipkg_texts::Style;
+use msipkg_texts::{SafeName, SafeNames, Style};
 use std::alloc::Global;
 
 /// A stream and the name of its file.
 pub(crate) struct StreamFile {
     /// The name of the stream.
     pub(crate) stream: String,
-    /// The name of its file, which is safe.
-    pub(crate) file: String,
+    /// The name of its file.
+    pub(crate) file: SafeName,
 }
 
 /// Written out, so that a function that owns one calls one drop, and its proof doesn't go through those of the parts.

@@ -2,6 +2,8 @@
 
 use crate::replacing::write_file;
 use msipkg_output::{Failure, System, at_file, path_in};
+use msipkg_texts::SafeName;
+use std::alloc::{AllocError, Global};
 
 /// Where files go.
 #[derive(Clone, Copy, Debug)]
@@ -13,12 +15,20 @@ pub struct Folder<'a> {
 }
 
 impl Folder<'_> {
-    /// Writes a file of this name, which has to be that of a file in the folder itself.
+    /// Returns the path of a file of this name, which lies in the folder itself.
+    ///
+    /// # Errors
+    /// Fails if memory is refused.
+    pub fn path_of(&self, alloc: Global, name: &SafeName) -> Result<String, AllocError> {
+        path_in(alloc, self.path, name.as_str())
+    }
+
+    /// Writes a file of this name.
     ///
     /// # Errors
     /// Fails as `write_file` does, at the file's path.
-    pub fn write(&self, rt: &System, name: &str, bytes: &[u8]) -> Result<(), Failure> {
-        let path = path_in(rt.alloc(), self.path, name)?;
+    pub fn write(&self, rt: &System, name: &SafeName, bytes: &[u8]) -> Result<(), Failure> {
+        let path = self.path_of(rt.alloc(), name)?;
         let written = write_file(rt, path.as_str(), self.is_forced, bytes);
         at_file(rt.alloc(), path.as_str(), written)
     }

@@ -3,8 +3,8 @@
 
 use msipkg_files::output::msi::Package;
 use msipkg_files::output::{Failure, Opened, Output, System};
-use msipkg_files::{Folder, SafeNames, StoredStreams, stored_streams, stream_bytes};
-use msipkg_texts::Shown;
+use msipkg_files::{Folder, StoredStreams, stored_streams, stream_bytes};
+use msipkg_texts::{SafeNames, Shown};
 use std::fs;
 
 /// What streams are taken from, and where their files go.
@@ -93,7 +93,7 @@ fn extract_one(
     let bytes = bytes_of(extraction, name)?;
     let safe = given.give(name)?;
     note_file(name, safe.as_str(), notes);
-    extraction.folder.write(extraction.rt, safe.as_str(), bytes)
+    extraction.folder.write(extraction.rt, &safe, bytes)
 }
 
 /// The bytes of a stream.

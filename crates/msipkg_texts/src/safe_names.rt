@@ -1,0 +1,263 @@
+//! Names of files for streams. Whatever a stream's name is, its file lies in the folder itself, and no two streams have
+//! one file, also where the file system ignores case.
+
+ghost use Rattle.std.specs.Prelude.{◌≡◌, ◌≢◌, ◌==◌, ◌<◌, ◌||◌, ◌++◌, IfOk, OnOk, length, string_bytes, true};
+ghost use Rattle.std.specs.List.{list_all};
+ghost use Rattle.msipkg_texts.specs.SafeNames.{IsSafeName, StaysInside, is_plain as is_plain_char, is_safe};
+
+use std::alloc::{AllocError, Global};
+use std::collections::BTreeSet;
+use std::marker::Model;
+
+/// The names of devices in Windows, which no file may have there.
+static DEVICES: [&str; 22] = [
+    "CON", "PRN", "AUX", "NUL", "COM1", "COM2", "COM3", "COM4", "COM5", "COM6", "COM7", "COM8",
+    "COM9", "LPT1", "LPT2", "LPT3", "LPT4", "LPT5", "LPT6", "LPT7", "LPT8", "LPT9",
+];
+
+/// The name of a file that lies in its folder: it isn't empty, parts no path, and is neither `.` nor `..`. Contracts see
+/// its bytes.
+#[derive(Drop)]
+pub struct SafeName {
+    text: String,
+}
+
+impl Model for SafeName {
+    ghost use Rattle.std.specs.Prelude.{List, ℕ, string_bytes};
+    ghost use Rattle.msipkg_texts.specs.SafeNames.{IsSafeName};
+
+    ghost Value = { List ℕ };
+
+    ghost view = { λ name. string_bytes name.text };
+
+    ghost invariant = { λ name. IsSafeName (string_bytes name.text) };
+}
+
+/// What a file's name ends with.
+#[derive(Clone, Copy)]
+pub enum Ending {
+    /// `.csv`, of comma-separated values.
+    Csv,
+    /// `.idt`, of a text archive.
+    Idt,
+}
+
+/// The characters of an ending.
+fn ending_text(ending: Ending) -> &'static str
+    ensures { list_all is_safe result.now ≡ true }
+{
+    match ending {
+        Ending::Csv => ".csv",
+        Ending::Idt => ".idt",
+    }
+}
+
+impl SafeName {
+    /// Returns the name as a text.
+    pub fn as_str(&self) -> &str
+        ensures text { result.now ≡ self.now }
+        ensures safe { IsSafeName result.now }
+    {
+        self.text.as_str()
+    }
+
+    /// Returns the name with an ending behind it.
+    ///
+    /// # Errors
+    /// Fails if memory is refused.
+    pub fn with_ending(&self, ending: Ending) -> Result<SafeName, AllocError> {
+        let mut text = self.text.clone()?;
+        text.push_str(ending_text(ending))?;
+        Ok(SafeName { text })
+    }
+}
+
+/// The names that are given out already.
+pub struct SafeNames {
+    alloc: Global,
+    /// The names, with small letters.
+    taken: BTreeSet<String>,
+}
+
+/// Written out, so that a function that owns one calls one drop, and its proof doesn't go through those of the parts.
+impl Drop for SafeNames {
+    fn drop(self) {
+        let SafeNames { alloc: _, taken: _ } = self;
+    }
+}
+
+impl SafeNames {
+    /// Returns a start, with no name given out.
+    pub fn new(alloc: Global) -> SafeNames {
+        SafeNames {
+            alloc,
+            taken: BTreeSet::new(alloc),
+        }
+    }
+
+    /// Returns the name of a file for a stream: its safe name, or one whose letters are escaped, too, if the safe name
+    /// was given out already, in whatever case.
+    ///
+    /// # Errors
+    /// Fails if memory is refused.
+    pub fn give(&mut self, name: &str) -> Result<SafeName, AllocError> {
+        let safe = safe_name(self.alloc, name)?;
+        if self.take(safe.as_str())? {
+            return Ok(safe);
+        }
+        let spelled = spelled_name(self.alloc, name)?;
+        self.take(spelled.as_str())?;
+        Ok(spelled)
+    }
+
+    /// Notes a name, and returns whether it wasn't given out before.
+    fn take(&mut self, name: &str) -> Result<bool, AllocError> {
+        let mut small = String::from_str(self.alloc, name)?;
+        small.make_ascii_lowercase();
+        if self.taken.contains(small.as_str()) {
+            return Ok(false);
+        }
+        self.taken.insert(small)?;
+        Ok(true)
+    }
+}
+
+/// Returns the name of a file for a stream. Letters, digits and some signs of ASCII stand for themselves; another
+/// character of ASCII is `%` and two digits, and any other `%{..}` with its number. A dot or a space at the ends is
+/// escaped, and the first letter where the name would name a device. So different streams have different names. The
+/// empty name, which no stream has, becomes `%`.
+///
+/// # Errors
+/// Fails if memory is refused.
+pub fn safe_name(alloc: Global, name: &str) -> Result<SafeName, AllocError> {
+    let mut safe = String::new(alloc);
+    let last = name.len().saturating_sub(1);
+    let is_device = names_device(name);
+    for (i, c) in name.char_indices() {
+        let is_first = safe.is_empty();
+        let is_barred = (is_blank(c) && (is_first || i == last)) || (is_device && is_first);
+        if is_plain(c) && !is_barred {
+            push_safe(&mut safe, c)?;
+        } else {
+            push_escape(&mut safe, c)?;
+        }
+    }
+    finished(alloc, safe)
+}
+
+/// Returns the name of a file in which letters are escaped, too.
+fn spelled_name(alloc: Global, name: &str) -> Result<SafeName, AllocError> {
+    let mut spelled = String::new(alloc);
+    for c in name.chars() {
+        if is_plain(c) && !c.is_ascii_alphabetic() && !is_blank(c) {
+            push_safe(&mut spelled, c)?;
+        } else {
+            push_escape(&mut spelled, c)?;
+        }
+    }
+    finished(alloc, spelled)
+}
+
+/// Returns the name that a text is. An empty text, which no stream's name is, becomes `%`.
+fn finished(alloc: Global, text: String) -> Result<SafeName, AllocError>
+    requires { StaysInside (string_bytes text) }
+{
+    if text.is_empty() {
+        let text = String::from_str(alloc, "%")?;
+        return Ok(SafeName { text });
+    }
+    Ok(SafeName { text })
+}
+
+/// Whether a character may stand for itself.
+fn is_plain(c: char) -> bool
+    ensures { result ≡ is_plain_char c }
+{
+    c.is_ascii_alphanumeric()
+        || matches!(
+            c,
+            '.' | '_' | '-' | '#' | '+' | '(' | ')' | '{' | '}' | '@' | ',' | ' '
+        )
+}
+
+/// Whether a character may not stand for itself at the ends of a name.
+fn is_blank(c: char) -> bool
+    ensures { result ≡ (c == 46 || c == 32) }
+{
+    matches!(c, '.' | ' ')
+}
+
+/// Puts a character that a safe name may have. A dot doesn't come first.
+fn push_safe(safe: &mut String, c: char) -> Result<(), AllocError>
+    requires safe { is_safe c ≡ true }
+    requires begins { c ≡ 46 → 0 < length (string_bytes safe.old) }
+    ensures { StaysInside (string_bytes safe.old) → OnOk result (StaysInside (string_bytes safe.new)) }
+{
+    safe.push(c)
+}
+
+/// Puts the escape of a character.
+fn push_escape(safe: &mut String, c: char) -> Result<(), AllocError>
+    ensures { StaysInside (string_bytes safe.old) → OnOk result (StaysInside (string_bytes safe.new)) }
+{
+    let code = u32::from(c);
+    push_safe(safe, '%')?;
+    if code < 0x80 {
+        push_digit(safe, code >> 4)?;
+        return push_digit(safe, code);
+    }
+    push_safe(safe, '{')?;
+    push_number(safe, code)?;
+    push_safe(safe, '}')
+}
+
+/// Puts a number, without zeros in front.
+fn push_number(safe: &mut String, number: u32) -> Result<(), AllocError>
+    ensures { StaysInside (string_bytes safe.old) → OnOk result (StaysInside (string_bytes safe.new)) }
+{
+    for place in 1..8u32 {
+        let digits = number >> (32 - 4 * place);
+        if digits > 0 {
+            push_digit(safe, digits)?;
+        }
+    }
+    push_digit(safe, number)
+}
+
+/// Puts the last digit of a number, to the base 16.
+fn push_digit(safe: &mut String, number: u32) -> Result<(), AllocError>
+    ensures { StaysInside (string_bytes safe.old) → OnOk result (StaysInside (string_bytes safe.new)) }
+{
+    push_safe(safe, digit((number % 16) as u8))
+}
+
+/// A digit.
+fn digit(number: u8) -> char
+    requires { number < 16 }
+    ensures safe { is_safe result ≡ true }
+    ensures no_dot { result ≢ 46 }
+{
+    if number < 10 {
+        char::from(b'0' + number)
+    } else {
+        char::from(b'a' + (number - 10))
+    }
+}
+
+/// Whether the name up to its first dot is that of a device.
+fn names_device(name: &str) -> bool {
+    match name.split_once('.') {
+        Some((stem, _)) => is_device(stem.trim()),
+        None => is_device(name.trim()),
+    }
+}
+
+/// Whether a name is that of a device.
+fn is_device(name: &str) -> bool {
+    for device in &DEVICES {
+        if device.eq_ignore_ascii_case(name) {
+            return true;
+        }
+    }
+    false
+}
