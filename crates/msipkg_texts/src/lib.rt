@@ -1,5 +1,5 @@
-//! Texts as `msipkg` prints them: with escapes for what a terminal would obey, in aligned columns, as JSON, and as names
-//! of files that stay in their folder. No package is needed for that.
+//! Texts as `msipkg` prints them: with escapes for what a terminal would obey, in aligned columns, and as JSON; and the
+//! names of the files that it writes. No package is needed for that.
 #![tactic(auto)]
 
 pub mod escape;

@@ -15,8 +15,8 @@ static DEVICES: [&str; 22] = [
     "COM9", "LPT1", "LPT2", "LPT3", "LPT4", "LPT5", "LPT6", "LPT7", "LPT8", "LPT9",
 ];
 
-/// The name of a file that lies in its folder: it isn't empty, parts no path, and is neither `.` nor `..`. Contracts see
-/// its bytes.
+/// The name of a file that lies in its folder: it isn't empty, parts no path, and is neither `.` nor `..`. Contracts
+/// see its bytes.
 #[derive(Drop)]
 pub struct SafeName {
     text: String,
