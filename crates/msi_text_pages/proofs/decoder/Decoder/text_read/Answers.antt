@@ -1,12 +1,9 @@
-use Rattle.std.proofs.Common.{◌≡◌, ℕ, ◌<◌, ◌≤◌, List, length, drop, length-drop, map, ◌++◌, string_bytes, encode_utf8_all, sym, ap, ◌∙◌, arith}
+use Rattle.std.proofs.Common.{drop, map, ◌++◌, string_bytes, encode_utf8_all, sym, ap, ◌∙◌}
 use Rattle.std.specs.Prelude.{unwrap_or}
 use Rattle.msi_text_pages.specs.Sequences.{is_lead}
 use Rattle.msi_text_pages.specs.Reading.{character_read, sequences}
-use Rattle.msi_text_pages.proofs.ReadingLemmas.{text_more}
+use Rattle.msi_text_pages.proofs.ReadingLemmas.{shorter, text_more}
 use Rattle.msi_text_pages.proofs.decoder.Decoder.text_read.Goals as goal
-
-shorter : (rest later : List ℕ) (n : ℕ) → later ≡ drop n rest → 0 < n → n ≤ length rest → length later < length rest
-shorter rest later n is some within = omega (arith, ap length is, length-drop n rest)
 
 pub loop-rest-smaller : goal.loop-rest-smaller
 loop-rest-smaller c = shorter _ _ _ c.behind-rest.ensures c.first_sequence-length.ensures.least c.first_sequence-length.ensures.most
