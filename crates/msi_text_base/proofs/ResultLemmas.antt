@@ -9,6 +9,11 @@ pub on_err_from : {T E Q : Type 0} (r : Result T E) → Q → OnErr r Q
 on_err_from (Ok x) q = tt
 on_err_from (Err e) q = q
 
+-- an error that is known, where there may be one
+pub if_err_from : {T E : Type 0} (r : Result T E) (P : E → Type 0) → IsErrAnd r P → IfErr r P
+if_err_from (Ok x) P known = tt
+if_err_from (Err e) P known = known
+
 -- an error that comes of memory alone, where there is an answer
 pub memory_alone : {T : Type 0} (r : Result T ErrorKind) (there : Bool) (other : ErrorKind) → there ≡ true → IsErrAnd r (λ e. e ≡ OutOfMemory)
     → IfErr r (λ kind. kind ≡ (if there then OutOfMemory else other))

@@ -1,9 +1,18 @@
-use Rattle.std.proofs.Common.{ap, ◌∙◌, map, sym}
+use Rattle.std.proofs.Common.{[], ◌∷◌, ◌++◌, ap, ◌∙◌, map, sym}
 use Rattle.std.proofs.lemmas.Iterator.{YieldsList-from_chars}
 use Rattle.std.proofs.lemmas.Iterator.Consumers.{YieldsList-end}
-use Rattle.std.proofs.lemmas.List.{map-id}
+use Rattle.std.proofs.lemmas.List.{map-append, map-id}
 use Rattle.msi_text_base.specs.PageTables.{byte_written}
 use Rattle.msi_text_base.proofs.codepage.tables.bytes_written.Goals as goal
+
+pub loop-character-preserved : goal.loop-character-preserved
+loop-character-preserved c =
+    let written = byte_written c.args.upper.now in
+    let next = c.in-Some.character in
+    c.in_ok-push.ensures.items
+    ∙ ap (λ byte. c.loop-character.bytes.items ++ byte ∷ []) c.byte_written.ensures
+    ∙ ap (λ front. front ++ written next ∷ []) c.loop-character.invariant
+    ∙ sym (map-append written c.loop-character.yielded (next ∷ []))
 
 pub returns : goal.returns
 returns c =
