@@ -1,5 +1,5 @@
 -- What callers need of reading bytes.
-use Rattle.std.proofs.Common.{◌≡◌, ℕ, ◌+◌, ◌≤◌, take, drop, Bool, eqb, eqb-true, true, false, cond, ◌&&◌, List, [], ◌∷◌, ◌++◌, map, length, Option, Some, None, is_some, option_map, encode_utf8, encode_utf8_all, refl, sym, ap, ◌∙◌, arith, append_assoc}
+use Rattle.std.proofs.Common.{◌≡◌, ℕ, ◌+◌, ◌<◌, ◌≤◌, take, drop, length-drop, Bool, eqb, eqb-true, true, false, cond, ◌&&◌, List, [], ◌∷◌, ◌++◌, map, length, Option, Some, None, is_some, option_map, encode_utf8, encode_utf8_all, refl, sym, ap, ◌∙◌, arith, append_assoc}
 use Rattle.std.specs.List.{list_all}
 use Rattle.std.specs.Prelude.{not}
 use Rattle.std.proofs.lemmas.Bool.{and_from}
@@ -10,6 +10,10 @@ use Rattle.msi_text_pages.specs.declared.page.Page.{Page}
 use Rattle.msi_text_pages.specs.Sequences.{is_lead, character_of}
 use Rattle.msi_text_pages.specs.Reading.{sequences, text_of, text_in, place_unmapped, first_unmapped, character_read}
 use Rattle.msi_text_pages.proofs.PresentLemmas.{all_there, one_missing}
+
+-- less is left behind a sequence
+pub shorter : (rest later : List ℕ) (n : ℕ) → later ≡ drop n rest → 0 < n → n ≤ length rest → length later < length rest
+shorter rest later n is some within = omega (arith, ap length is, length-drop n rest)
 
 -- one sequence more is read
 pub text_more : (page : Page) (whole text s : List ℕ) (c : ℕ) (ss later : List (List ℕ)) → ss ≡ s ∷ later
