@@ -1,7 +1,7 @@
-use Rattle.std.proofs.Common.{◌≡◌, ℕ, ◌+◌, ◌<◌, ◌≤◌, Bool, true, false, cond, List, length, drop, get_or, find, Option, Some, None, bytes_eq, ◌||◌, sym, ap, subst, ◌∙◌}
+use Rattle.std.proofs.Common.{◌≡◌, ℕ, ◌+◌, ◌<◌, ◌≤◌, Bool, cond, List, length, drop, get_or, find, Some, None, bytes_eq, ◌||◌, sym, ap, subst, ◌∙◌}
 use Rattle.std.proofs.lemmas.List.{at_drop_all, at_drop_more}
 use Rattle.msi_text_categories.specs.declared.category.Category.{Category}
-use Rattle.msi_text_categories.specs.Categories.{all_categories, category_in, category_name, other_name}
+use Rattle.msi_text_categories.specs.Categories.{all_categories, category_name, other_name}
 use Rattle.msi_text_categories.proofs.category.CategoryFromStr.from_str.Goals as goal
 
 abbrev has_name : List ℕ → Category → Bool
@@ -23,9 +23,11 @@ loop-category-preserved c =
     ∙ c.loop-category.invariant
 
 pub returns-then-has_name : goal.returns-then-has_name
-returns-then-has_name c =
-    (sym c.loop-category.invariant
-    ∙ at_place c.args.text.now c.all-category-items.result c.loop-category.category-index _ _ _ c.all-category-items.ensures c.loop-category-test.true c.has_name.ensures c.if-has_name.true, tt)
+returns-then-has_name c = (
+  sym c.loop-category.invariant
+      ∙ at_place c.args.text.now c.all-category-items.result c.loop-category.category-index _ _ _ c.all-category-items.ensures c.loop-category-test.true c.has_name.ensures c.if-has_name.true,
+  tt,
+)
 
 pub returns : goal.returns
 returns c =
