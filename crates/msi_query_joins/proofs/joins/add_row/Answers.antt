@@ -15,7 +15,7 @@ returns-clause-ok c =
     let mid = c.add_pairs.new.rows.items in
     let pairs = pairs_of (meets join.filter.now.columns join.filter.now.condition) (rows_values places c.args.right.now) (row_values places c.args.row.now) in
     let counted : c.len.result - c.len-before.result ≡ length pairs =
-        omega (arith, c.len.ensures, c.len-before.ensures, pairs_counted places old mid pairs c.in_ok-add_pairs.ensures.ok) in
+    omega (arith, c.len.ensures, c.len-before.ensures, pairs_counted places old mid pairs c.in_ok-add_pairs.ensures.ok) in
     elim c.if-keeps_alone.branch [
       | then-keeps_alone+in_ok-with_nulls+in_ok-push w ↦
           nulls_added join.kind places old mid c.if-keeps_alone.rows.items c.args.row.now w.in_ok-with_nulls.field-0 join.width _ pairs
