@@ -4,6 +4,8 @@ pub use Rattle.msi_query.specs.QueryCode
 pub use Rattle.msi_query.specs.QueryTrees
 pub use Rattle.msi_query.specs.QueryTexts
 pub use Rattle.msi_query.specs.Utf8Queries
+pub use Rattle.msi_query.specs.JoinKind
+pub use Rattle.msi_query.specs.Joins
 pub use Rattle.msi_query.specs.UnaryOp
 pub use Rattle.msi_query.specs.BinaryOp
 pub use Rattle.msi_query.specs.OperatorValues

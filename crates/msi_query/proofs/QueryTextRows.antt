@@ -2,7 +2,7 @@
 use Rattle.std.proofs.Common.{◌≡◌, ℕ, pos, List, [], ◌∷◌, Some, None, codes, refl}
 use Rattle.msi_table_values.specs.declared.value.Value.TheVariants.{Null, Int, Str}
 use Rattle.msi_query_operators.specs.declared.operators.BinaryOp.TheVariants as two
-use Rattle.msi_query.specs.declared.query.JoinKind.TheVariants.{Inner, Left}
+use Rattle.msi_query_operators.specs.declared.joins.JoinKind.TheVariants.{Inner, Left}
 use Rattle.msi_query_expressions.specs.Expressions.{Expression, literal, column, binary, either}
 use Rattle.msi_query.specs.Queries.{Query, table, join, narrowed, no_clauses}
 use Rattle.msi_query.specs.QueryTexts.{delete_text, insert_text, query_text, update_text}

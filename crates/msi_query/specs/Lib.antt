@@ -8,6 +8,8 @@ pub mod Utf8Queries
 pub use Rattle.msi_text_base.specs.declared.errors.ErrorKind
 pub use Rattle.msi_table_values.specs.declared.value.Value
 pub use Rattle.msi_table_values.specs.CellValues
+pub use Rattle.msi_query_operators.specs.declared.joins.JoinKind
+pub use Rattle.msi_query_operators.specs.Joins
 pub use Rattle.msi_query_expressions.specs.UnaryOp
 pub use Rattle.msi_query_expressions.specs.BinaryOp
 pub use Rattle.msi_query_expressions.specs.OperatorValues

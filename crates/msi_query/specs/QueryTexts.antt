@@ -6,8 +6,8 @@ use Rattle.std.specs.Fmt.{◌++?◌}
 use Rattle.msi_text_base.specs.Lists.{all_present}
 use Rattle.msi_table_values.specs.declared.value.Value.{Value}
 use Rattle.msi_table_values.specs.Values.{value_text}
-use Rattle.msi_query.specs.declared.query.JoinKind.{JoinKind}
-use Rattle.msi_query.specs.declared.query.JoinKind.TheVariants.{Inner, Left}
+use Rattle.msi_query_operators.specs.declared.joins.JoinKind.{JoinKind}
+use Rattle.msi_query_operators.specs.declared.joins.JoinKind.TheVariants.{Inner, Left}
 use Rattle.msi_query_expressions.specs.Expressions.{Expression}
 use Rattle.msi_query_expressions.specs.Printing.{expression_text}
 use Rattle.msi_query.specs.Queries.{Query, Clauses, table, join, InsertQuery, UpdateQuery, DeleteQuery}

@@ -15,18 +15,11 @@ pub(crate) mod update;
 pub use delete::Delete;
 pub use insert::Insert;
 use msi_query_expressions::Expr;
+pub use msi_query_operators::joins::JoinKind;
 use msi_text_base::errors::Error;
 pub use select::Select;
 use std::alloc::Global;
 pub use update::Update;
-
-/// The kind of a join, which decides about a row of the left side without a match: an inner join drops it, a left
-/// join keeps it.
-#[derive(Clone, Copy, PartialEq, Eq, Debug, Drop)]
-pub enum JoinKind {
-    Inner,
-    Left,
-}
 
 /// The condition under one more: a second is joined to the first by `and`.
 ///

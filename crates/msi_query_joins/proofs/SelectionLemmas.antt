@@ -1,10 +1,11 @@
 -- Rows of cells, and what they stand for, through selection, projection and joins.
-use Rattle.std.proofs.Common.{◌≡◌, ℕ, zero, suc, ◌+◌, ◌<◌, List, [], ◌∷◌, ◌++◌, length, map, filter, take, get_or, replicate, true, false, ◌==◌, Option, Some, None, refl, ap, sym, ◌∙◌, arith, length-append, ◌≢◌}
+use Rattle.std.proofs.Common.{◌≡◌, ℕ, zero, suc, ◌+◌, ◌<◌, List, [], ◌∷◌, ◌++◌, length, map, filter, take, get_or, replicate, true, false, ◌==◌, ◌&&◌, Option, Some, None, refl, ap, sym, ◌∙◌, arith, length-append}
 use Rattle.std.specs.Prelude.{Result, Ok, Err, IfOk, unwrap_or, option_and_then, option_map, slice_get}
 use Rattle.std.specs.List.{cons_option, filter_map}
 use Rattle.std.proofs.lemmas.List.{append-nil, map-append, length-map, take_more}
 use Rattle.std.proofs.lemmas.List.Elements.{filter_map-append}
 use Rattle.std.proofs.lemmas.Option.{slice_get-map}
+use Rattle.std.proofs.lemmas.Bool.{eqb-true, true≢false}
 use Rattle.msi_text_base.specs.declared.errors.ErrorKind.{ErrorKind}
 use Rattle.msi_text_pool_base.specs.Pool.{Place}
 use Rattle.msi_table_values.specs.declared.value.ValueRef.{ValueRef}
@@ -13,12 +14,13 @@ use Rattle.msi_table_values.specs.declared.value.Value.{Value}
 use Rattle.msi_table_values.specs.declared.value.Value.TheVariants as value
 use Rattle.msi_table_values.specs.CellValues.{value_of_cell, row_values}
 use Rattle.msi_table_values.specs.Columns.{ColumnDef, column_index, column_named}
-use Rattle.msi_query.specs.declared.query.JoinKind.{JoinKind}
-use Rattle.msi_query.specs.declared.query.JoinKind.TheVariants.{Inner, Left}
+use Rattle.msi_query_operators.specs.declared.joins.JoinKind.{JoinKind}
+use Rattle.msi_query_operators.specs.declared.joins.JoinKind.TheVariants.{Inner, Left}
+use Rattle.msi_query_operators.specs.Joins.{is_left}
 use Rattle.msi_query_expressions.specs.Expressions.{Expression}
 use Rattle.msi_query_expressions.specs.Conditions.{meets, value_in}
 use Rattle.msi_query.specs.Queries.{Clauses}
-use Rattle.msi_query_joins.specs.Selection.{is_left, or_nulls, projected_row, selected}
+use Rattle.msi_query_joins.specs.Selection.{or_nulls, projected_row, selected}
 use Rattle.msi_table.specs.Rows.{cell_at, cells_at}
 use Rattle.msi_query_joins.specs.Rows.{RelationCells, column_at, projected_cells, relation_values, rows_values}
 
@@ -89,32 +91,26 @@ nulls_values places (suc n) = ap (λ vs. value.Null ∷ vs) (nulls_values places
 row_with_nulls : (places : List Place) (row : List ValueRef) (n : ℕ) → row_values places (row ++ replicate n cell.Null) ≡ row_values places row ++ replicate n value.Null
 row_with_nulls places row n = map-append (value_of_cell places) row (replicate n cell.Null) ∙ ap (λ vs. row_values places row ++ vs) (nulls_values places n)
 
--- no pair was added where the rows are as many as before
-none_added : (places : List Place) (old mid : List (List ValueRef)) (pairs : List (List Value)) → length mid ≡ length old → rows_values places mid ≡ rows_values places old ++ pairs → pairs ≡ []
-none_added places old mid [] h e = refl
-none_added places old mid (p ∷ ps) h e =
-    absurd (omega (arith, h, sym (length-map mid (row_values places)) ∙ ap length e ∙ length-append (rows_values places old) (p ∷ ps), length-map old (row_values places)))
+-- as many rows are added as there are pairs
+pub pairs_counted : (places : List Place) (old mid : List (List ValueRef)) (pairs : List (List Value)) → rows_values places mid ≡ rows_values places old ++ pairs → length mid ≡ length old + length pairs
+pairs_counted places old mid pairs e =
+    sym (length-map mid (row_values places)) ∙ ap length e ∙ length-append (rows_values places old) pairs ∙ ap (λ n. n + length pairs) (length-map old (row_values places))
 
-pub nulls_added : (kind : JoinKind) (places : List Place) (old mid new : List (List ValueRef)) (row cells : List ValueRef) (n : ℕ) (pairs : List (List Value)) → is_left kind ≡ true → length mid ≡ length old
+pub nulls_added : (kind : JoinKind) (places : List Place) (old mid new : List (List ValueRef)) (row cells : List ValueRef) (n count : ℕ) (pairs : List (List Value)) → (is_left kind && (count == 0)) ≡ true → count ≡ length pairs
     → rows_values places mid ≡ rows_values places old ++ pairs → cells ≡ row ++ replicate n cell.Null → new ≡ mid ++ cells ∷ []
     → rows_values places new ≡ rows_values places old ++ or_nulls kind (row_values places row) n pairs
-nulls_added Inner places old mid new row cells n pairs t h e w a = cc
-nulls_added Left places old mid new row cells n pairs t h e w a =
-    let none : pairs ≡ [] = none_added places old mid pairs h e in
+nulls_added Inner places old mid new row cells n count pairs t k e w a = cc
+nulls_added Left places old mid new row cells n count [] t k e w a =
     ap (rows_values places) a ∙ map-append (row_values places) mid (cells ∷ [])
-    ∙ ap (λ rs. rs ++ row_values places cells ∷ []) (e ∙ ap (λ ps. rows_values places old ++ ps) none ∙ append-nil (rows_values places old))
-    ∙ rw none (ap (λ r. rows_values places old ++ r ∷ []) (ap (row_values places) w ∙ row_with_nulls places row n))
+    ∙ ap (λ rs. rs ++ row_values places cells ∷ []) (e ∙ append-nil (rows_values places old))
+    ∙ ap (λ r. rows_values places old ++ r ∷ []) (ap (row_values places) w ∙ row_with_nulls places row n)
+nulls_added Left places old mid new row cells n count (p ∷ ps) t k e w a = absurd (omega (arith, eqb-true count 0 t, k))
 
-some_stay : (row : List Value) (n : ℕ) (pairs : List (List Value)) → (pairs ≡ [] → ⊥) → or_nulls Left row n pairs ≡ pairs
-some_stay row n [] h = absurd (h refl)
-some_stay row n (p ∷ ps) h = refl
-
-pub pairs_stay : (kind : JoinKind) (places : List Place) (old mid : List (List ValueRef)) (row : List ValueRef) (n : ℕ) (pairs : List (List Value)) → (is_left kind ≡ true → length mid ≢ length old)
+pub pairs_stay : (kind : JoinKind) (places : List Place) (old mid : List (List ValueRef)) (row : List ValueRef) (n count : ℕ) (pairs : List (List Value)) → (is_left kind && (count == 0)) ≡ false → count ≡ length pairs
     → rows_values places mid ≡ rows_values places old ++ pairs → rows_values places mid ≡ rows_values places old ++ or_nulls kind (row_values places row) n pairs
-pairs_stay Inner places old mid row n pairs h e = e
-pairs_stay Left places old mid row n pairs h e =
-    e ∙ ap (λ ps. rows_values places old ++ ps) (sym (some_stay (row_values places row) n pairs
-    (λ none. h refl (sym (length-map mid (row_values places)) ∙ ap length (e ∙ ap (λ ps. rows_values places old ++ ps) none ∙ append-nil (rows_values places old)) ∙ length-map old (row_values places)))))
+pairs_stay Inner places old mid row n count pairs t k e = e
+pairs_stay Left places old mid row n count [] t k e = absurd (true≢false (sym (ap (λ c. c == 0) k) ∙ t))
+pairs_stay Left places old mid row n count (p ∷ ps) t k e = e
 
 -- without a condition each row is kept
 pub all_kept : (columns : List ColumnDef) (rows : List (List Value)) → rows ≡ filter (meets columns None) rows

@@ -7,8 +7,9 @@ use Rattle.msi_text_base.specs.declared.errors.ErrorKind.TheVariants.{InvalidDat
 use Rattle.msi_table_values.specs.declared.value.Value.{Value}
 use Rattle.msi_table_values.specs.declared.value.Value.TheVariants.{Null}
 use Rattle.msi_table_values.specs.Columns.{ColumnDef, column_named, has_column}
-use Rattle.msi_query.specs.declared.query.JoinKind.{JoinKind}
-use Rattle.msi_query.specs.declared.query.JoinKind.TheVariants.{Inner, Left}
+use Rattle.msi_query_operators.specs.declared.joins.JoinKind.{JoinKind}
+use Rattle.msi_query_operators.specs.declared.joins.JoinKind.TheVariants.{Left}
+use Rattle.msi_query_operators.specs.Joins.{is_left}
 use Rattle.msi_query_expressions.specs.Expressions.{Expression, names_in}
 use Rattle.msi_query_expressions.specs.Conditions.{meets, value_in}
 use Rattle.msi_query.specs.Queries.{Query, Clauses, table, join}
@@ -59,11 +60,6 @@ narrowed c r = unless_refused (clause_refusals c r.columns) (selected c r)
 -- a join names its columns after their side
 abbrev pub prefixed : List ℕ → ColumnDef → ColumnDef
 prefixed side c = record c { name = if length side == 0 then c.name else side ++ 46 ∷ c.name }
-
--- whether a join keeps a left row without a pair
-abbrev pub is_left : JoinKind → Bool
-is_left Inner = false
-is_left Left = true
 
 -- the right side's columns take null where there may be no pair
 abbrev pub nullable_if : Bool → ColumnDef → ColumnDef

@@ -5,26 +5,17 @@ ghost use Rattle.msi_text_base.specs.Results.{OnlyMemory};
 ghost use Rattle.msi_table_values.specs.CellValues.{row_values};
 ghost use Rattle.msi_query_expressions.specs.Conditions.{meets};
 ghost use Rattle.msi_query_joins.specs.Rows.{rows_values};
-ghost use Rattle.msi_query_joins.specs.Selection.{is_left as keeps_left, pairs_of, rows_of_row};
+ghost use Rattle.msi_query_joins.specs.Selection.{pairs_of, rows_of_row};
 
 use crate::rows::{pair, with_nulls};
 use msi_query::query::JoinKind;
 use msi_query_expressions::parts::RowFilter;
+use msi_query_operators::joins::keeps_alone;
 use msi_table_values::value::ValueRef;
 use msi_text_base::errors::Error;
 use msi_text_base::text::Items;
 use msi_text_pool::stringpool::StringPool;
 use std::alloc::Global;
-
-/// Whether a join keeps a left row without a pair.
-pub fn is_left(kind: JoinKind) -> bool
-    ensures { result ≡ keeps_left kind }
-{
-    match kind {
-        JoinKind::Inner => false,
-        JoinKind::Left => true,
-    }
-}
 
 /// A join: its kind, its condition on pairs, and how many columns its right side has.
 #[derive(Clone, Copy, Drop)]
@@ -82,7 +73,7 @@ pub fn add_row(
 {
     let before = rows.len();
     add_pairs(alloc, pool, join.filter, right, row, rows)?;
-    if is_left(join.kind) && rows.len() == before {
+    if keeps_alone(join.kind, rows.len() - before) {
         rows.push(with_nulls(alloc, row, join.width)?)?;
     }
     Ok(())

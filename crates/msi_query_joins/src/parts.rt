@@ -1,3 +1,3 @@
 //! What the crates above need.
 
-pub use crate::joins::{Join, add_row, is_left};
+pub use crate::joins::{Join, add_row};

@@ -2,3 +2,4 @@
 pub mod OperatorValues
 pub mod OperatorTexts
 pub mod Operands
+pub mod Joins

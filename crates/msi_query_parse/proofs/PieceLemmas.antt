@@ -5,8 +5,8 @@ use Rattle.msi_query_operators.specs.declared.operators.UnaryOp.TheVariants as o
 use Rattle.msi_query_operators.specs.declared.operators.BinaryOp.{BinaryOp}
 use Rattle.msi_query_operators.specs.declared.operators.BinaryOp.TheVariants as two
 use Rattle.msi_query_operators.specs.OperatorTexts.{op_text, unary_text}
-use Rattle.msi_query.specs.declared.query.JoinKind.{JoinKind}
-use Rattle.msi_query.specs.declared.query.JoinKind.TheVariants.{Inner, Left}
+use Rattle.msi_query_operators.specs.declared.joins.JoinKind.{JoinKind}
+use Rattle.msi_query_operators.specs.declared.joins.JoinKind.TheVariants.{Inner, Left}
 use Rattle.msi_query.specs.QueryTexts.{join_word}
 use Rattle.msi_query_tokens.specs.declared.token.Kind.{Kind}
 use Rattle.msi_query_tokens.specs.declared.token.Kind.TheVariants as k

@@ -9,7 +9,7 @@ use Rattle.msi_table_values.specs.Values.{value_text}
 use Rattle.msi_query_operators.specs.declared.operators.BinaryOp.TheVariants as two
 use Rattle.msi_query_expressions.specs.Expressions.{Expression}
 use Rattle.msi_query_expressions.specs.Printing.{expression_text}
-use Rattle.msi_query.specs.declared.query.JoinKind.{JoinKind}
+use Rattle.msi_query_operators.specs.declared.joins.JoinKind.{JoinKind}
 use Rattle.msi_query.specs.Queries.{Clauses, Query, table, join, no_clauses, projected_query}
 use Rattle.msi_query.specs.QueryTexts.{listed, where_text, columns_text, select_text, join_word, bare_name, or_bracketed, side_text, query_text, row_text, rows_text, insert_text, set_text, sets_text, update_text, delete_text}
 use Rattle.msi_query_tokens.specs.declared.token.Kind.TheVariants as k

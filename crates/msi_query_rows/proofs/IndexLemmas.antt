@@ -21,7 +21,7 @@ use Rattle.msi_table_values.specs.Columns.{ColumnDef}
 use Rattle.msi_table_values.specs.Values.{value_cmp}
 use Rattle.msi_table_values.specs.OrderLaws.{value_cmp-total, value_eq-Decides}
 use Rattle.msi_table_order.proofs.StableSortLemmas.{only_stable_sort}
-use Rattle.msi_query.specs.declared.query.JoinKind.{JoinKind}
+use Rattle.msi_query_operators.specs.declared.joins.JoinKind.{JoinKind}
 use Rattle.msi_query_expressions.specs.Conditions.{RowFilterDef, meets, value_at_place}
 use Rattle.msi_query_expressions.specs.Equated.{PassesWithEqual}
 use Rattle.msi_query_expressions.specs.Expressions.{Expression}

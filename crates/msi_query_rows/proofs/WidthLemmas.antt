@@ -15,14 +15,15 @@ use Rattle.msi_table_values.specs.declared.value.Value.TheVariants.{Null}
 use Rattle.msi_table_values.specs.declared.value.ValueRef.{ValueRef}
 use Rattle.msi_table_values.specs.Columns.{ColumnDef, begun_column, column_index, column_named, has_column}
 use Rattle.msi_table_rows.proofs.ColumnLemmas.{column_found}
-use Rattle.msi_query.specs.declared.query.JoinKind.{JoinKind}
-use Rattle.msi_query.specs.declared.query.JoinKind.TheVariants.{Inner, Left}
+use Rattle.msi_query_operators.specs.declared.joins.JoinKind.{JoinKind}
+use Rattle.msi_query_operators.specs.declared.joins.JoinKind.TheVariants.{Inner, Left}
+use Rattle.msi_query_operators.specs.Joins.{is_left}
 use Rattle.msi_query_expressions.specs.Expressions.{Expression, names_in}
 use Rattle.msi_query_expressions.specs.Conditions.{meets}
 use Rattle.msi_query.specs.Queries.{Clauses}
 use Rattle.msi_text_base.specs.Refusals.{unless_refused}
 use Rattle.msi_query_joins.specs.Rows.{RelationCells, relation_values, rows_values}
-use Rattle.msi_query_joins.specs.Selection.{Relation, condition_names, has_columns, is_left, joined, joined_columns, joined_narrowed, narrowed, nullable_if, or_nulls, pairs_of, prefixed, projected_row, rows_of_row, selected}
+use Rattle.msi_query_joins.specs.Selection.{Relation, condition_names, has_columns, joined, joined_columns, joined_narrowed, narrowed, nullable_if, or_nulls, pairs_of, prefixed, projected_row, rows_of_row, selected}
 use Rattle.msi_query_rows.specs.Width.{HasWidth, ValuesAreWide}
 
 -- rows of cells are as wide as the rows that they stand for

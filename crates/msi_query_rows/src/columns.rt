@@ -14,7 +14,7 @@ use crate::relation::Relation;
 use msi_query::query::JoinKind;
 use msi_query_expressions::expr::Expr;
 use msi_query_expressions::parts::knows_names;
-use msi_query_joins::parts::is_left;
+use msi_query_operators::joins::is_left;
 use msi_table_values::column::Column;
 use msi_table_values::parts::{column_index, has_column, nullable, renamed};
 use msi_text_base::errors::Error;

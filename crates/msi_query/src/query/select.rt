@@ -228,15 +228,13 @@ impl SelectTree {
     }
 }
 
-impl JoinKind {
-    /// The words that stand between the sides.
-    fn words(self) -> &'static str
-        ensures { result.now ≡ join_word self }
-    {
-        match self {
-            JoinKind::Inner => " INNER JOIN ",
-            JoinKind::Left => " LEFT JOIN ",
-        }
+/// The words that stand between the sides.
+fn join_words(kind: JoinKind) -> &'static str
+    ensures { result.now ≡ join_word kind }
+{
+    match kind {
+        JoinKind::Inner => " INNER JOIN ",
+        JoinKind::Left => " LEFT JOIN ",
     }
 }
 
@@ -281,7 +279,7 @@ fn write_query<W: fmt::Write>(f: &mut fmt::Formatter<W>, tree: &SelectTree) -> f
         } => {
             write_columns(f, clauses.columns())?;
             write_side(f, left)?;
-            f.write_str(kind.words())?;
+            f.write_str(join_words(*kind))?;
             write_side(f, right)?;
             write!(f, " ON {on}")?;
             write_condition(f, clauses.condition())

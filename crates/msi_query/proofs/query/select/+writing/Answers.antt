@@ -17,7 +17,7 @@ write_query-returns-in_ok-write-in-Join g t c =
     let took = g.W.Write.write_str_gives in
     let columns : Option (List ℕ) = Some (codes "SELECT " ++ columns_text c.columns-in-Join.result.now ++ codes " FROM ") in
     let left : Option (List ℕ) = side (query_of c.deref.result.now) in
-    let words : Option (List ℕ) = Some c.words.result.now in
+    let words : Option (List ℕ) = Some c.join_words.result.now in
     let right : Option (List ℕ) = side (query_of c.deref-in-Join.result.now) in
     let on : Option (List ℕ) = Some (codes " ON ") ++? expression_text c.in-Join.on in
     three_writes took c.args.f.now c.write_columns-in-Join.new.f c.write.new.self c.write_condition-in-Join.new.f
@@ -27,7 +27,7 @@ write_query-returns-in_ok-write-in-Join g t c =
       c.in-Join.is,
       c.columns-in-Join.ensures,
       c.deref.ensures,
-      c.words.ensures,
+      c.join_words.ensures,
       c.deref-in-Join.ensures,
       c.condition-in-Join.ensures,
     ) refl)
