@@ -7,8 +7,9 @@ use Rattle.msi_container_format.specs.Streams as maps
 use Rattle.msi_text_pool_base.specs.Pool.{Pool}
 use Rattle.msi_table.specs.Tables.{TableDef}
 use Rattle.msi_database_changes.specs.Database.{is_sound, columns_by_name}
-use Rattle.msi_database_storage.specs.declared.storing.Stored.{Stored}
-use Rattle.msi_database_storage.specs.Storing.{HaveOwnNames, stored_all, stored_in}
+use Rattle.msi_database_cells.specs.declared.storing.Stored.{Stored}
+use Rattle.msi_database_cells.specs.Storing.{HaveOwnNames, stored_all}
+use Rattle.msi_database_storage.specs.Storing.{stored_in}
 use Rattle.msi_database_storage.specs.Streams.{Streams}
 use Rattle.msi_database_storage.specs.Kept.{AreAsLong, Kept, schema_listed}
 use Rattle.msi_database.specs.Keeping.{AreParts, IsKeptDatabase}

@@ -13,8 +13,8 @@ use Rattle.msi_database_cells.specs.Texts.{PoolInUse, UsedPool, in_use, settled}
 use Rattle.msi_database_changes.specs.Changes.{no_change, pool_of}
 use Rattle.msi_database_changes.specs.Create.{described_by_rows}
 use Rattle.msi_database_changes.specs.Insert.{cells_added}
-use Rattle.msi_database_storage.specs.declared.storing.Stored.{Stored}
-use Rattle.msi_database_storage.specs.Storing.{HaveOwnNames}
+use Rattle.msi_database_cells.specs.declared.storing.Stored.{Stored}
+use Rattle.msi_database_cells.specs.Storing.{HaveOwnNames}
 use Rattle.msi_database_storage.specs.Fresh.{fresh_change}
 use Rattle.msi_database_storage.specs.FreshParts.{Begins, CanBegin, columns_table, fresh_pool, fresh_stored, tables_table, unused_pool, validation_table}
 use Rattle.msi_database_storage.proofs.FreshCallLemmas.{AreBare, Describes, begins_as, begun, can_as, describes, listing, stream_begun}

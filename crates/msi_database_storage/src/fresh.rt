@@ -10,7 +10,8 @@ ghost use Rattle.msi_database_cells.specs.Texts.{in_use};
 ghost use Rattle.msi_database_storage.specs.FreshParts.{Begins, CanBegin, columns_table, fresh_pool, fresh_stored};
 ghost use Rattle.msi_database_storage.specs.FreshParts.{tables_table, unused_pool, validation_table};
 
-use crate::storing::{Stored, stream_of};
+use crate::storing::stream_of;
+use msi_database_cells::storing::Stored;
 use msi_database_cells::texts::PoolInUse;
 use msi_database_changes::insert::add_rows;
 use msi_database_schema::description::{tables_row, validation_rows};
