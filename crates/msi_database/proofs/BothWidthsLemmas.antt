@@ -19,7 +19,7 @@ use Rattle.msi_database_changes.specs.Changes.{Change, no_change, with_stored}
 use Rattle.msi_database_changes.specs.Widening.{needs_three_bytes, widened, widening}
 use Rattle.msi_database_changes.proofs.AtWidthLemmas.{IsChangeAtWidth, sound_widened}
 use Rattle.msi_database_changes.proofs.LawLemmas.{changes_keep_soundness}
-use Rattle.msi_database_storage.specs.declared.storing.Stored.{Stored}
+use Rattle.msi_database_cells.specs.declared.storing.Stored.{Stored}
 use Rattle.msi_database_storage.specs.Storing.{stored_in}
 use Rattle.msi_database_storage.specs.Streams.{stream_of_rows}
 use Rattle.msi_database_storage.specs.Kept.{AreAsLong, Kept, after_change, base_of, database_kept, kept_widened, schema_listed, with_change}

@@ -12,8 +12,9 @@ use Rattle.msi_text_base.specs.Refusals.{IsRefusal, or_refused}
 use Rattle.msi_database_changes.specs.Database.{is_sound, table_at}
 use Rattle.msi_database_changes.specs.Insert.{table_with}
 use Rattle.msi_database_storage.specs.Streams.{Streams, stored_rows}
-use Rattle.msi_database_storage.specs.declared.storing.Stored.{Stored}
-use Rattle.msi_database_storage.specs.Storing.{stored_all, stored_in}
+use Rattle.msi_database_cells.specs.declared.storing.Stored.{Stored}
+use Rattle.msi_database_cells.specs.Storing.{stored_all}
+use Rattle.msi_database_storage.specs.Storing.{stored_in}
 use Rattle.msi_database_storage.specs.Kept.{Kept, kept_of, table_kept, table_kept_at, database_kept, AreAsLong}
 use Rattle.msi_database_storage.proofs.TableAtLemmas.{table_at_kept}
 use Rattle.msi_database.specs.Keeping.{AreKept}

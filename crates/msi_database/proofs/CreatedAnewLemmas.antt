@@ -28,9 +28,9 @@ use Rattle.msi_database_changes.specs.Insert.{cells_added, row_refusals, table_w
 use Rattle.msi_database_changes.proofs.AtWidthLemmas.{created, sound_widened}
 use Rattle.msi_database_changes.proofs.RefusedLemmas.{bind_ok, not_refused, same_Ok, value_there}
 use Rattle.msi_database_changes.proofs.TurnLemmas.{map_some}
-use Rattle.msi_database_storage.specs.declared.storing.Stored.{Stored}
+use Rattle.msi_database_cells.specs.declared.storing.Stored.{Stored}
 use Rattle.msi_database_storage.specs.Kept.{Kept, kept_widened, with_table_kept}
-use Rattle.msi_database_storage.specs.Storing.{HaveOwnNames}
+use Rattle.msi_database_cells.specs.Storing.{HaveOwnNames}
 use Rattle.msi_database_storage.specs.Streams.{stream_of_rows}
 use Rattle.msi_database_changes.specs.Create.{SystemRows}
 use Rattle.msi_database_storage.specs.Storing.{stream_gone}

@@ -21,9 +21,10 @@ use Rattle.msi_database_changes.specs.Insert.{cells_added, row_refusals, rows_in
 use Rattle.msi_database_changes.proofs.AtWidthLemmas.{created}
 use Rattle.msi_database_changes.proofs.RefusedLemmas.{bind_ok, first_refused, not_refused, same_Ok, value_there}
 use Rattle.msi_database_changes.proofs.TurnLemmas.{map_some}
-use Rattle.msi_database_storage.specs.declared.storing.Stored.{Stored}
+use Rattle.msi_database_cells.specs.declared.storing.Stored.{Stored}
 use Rattle.msi_database_storage.specs.Kept.{Kept, kept_of, database_kept, with_table_kept}
-use Rattle.msi_database_storage.specs.Storing.{HaveOwnNames, tables_stored}
+use Rattle.msi_database_cells.specs.Storing.{HaveOwnNames}
+use Rattle.msi_database_storage.specs.Storing.{tables_stored}
 use Rattle.msi_database_storage.specs.Streams.{Streams, stream_of_rows}
 use Rattle.msi_database_storage.specs.Storing.{stream_gone}
 use Rattle.msi_database.specs.Creating.{new_table}

@@ -22,8 +22,9 @@ use Rattle.msi_database_changes.proofs.AtWidthLemmas.{dropped}
 use Rattle.msi_database_changes.proofs.DescribingLemmas.{describing}
 use Rattle.msi_database_changes.proofs.SchemaKeptLemmas.{shown_table}
 use Rattle.msi_database_storage.specs.Streams.{Streams, stream_of_rows}
-use Rattle.msi_database_storage.specs.declared.storing.Stored.{Stored}
-use Rattle.msi_database_storage.specs.Storing.{HaveOwnNames, tables_stored}
+use Rattle.msi_database_cells.specs.declared.storing.Stored.{Stored}
+use Rattle.msi_database_cells.specs.Storing.{HaveOwnNames}
+use Rattle.msi_database_storage.specs.Storing.{tables_stored}
 use Rattle.msi_database_storage.specs.Kept.{Kept, kept_of, database_kept, without_table_kept}
 use Rattle.msi_database.specs.Keeping.{AreKept, IsKeptDatabase, HasFittingRows}
 use Rattle.msi_database.specs.Listed.{IsKnown, tables_listed}

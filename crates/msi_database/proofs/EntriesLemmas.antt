@@ -9,8 +9,9 @@ use Rattle.msi_container_format.specs.Names.{name_cmp}
 use Rattle.msi_container_format.specs.Streams as maps
 use Rattle.msi_container_format.proofs.NamesLemmas.{names_total, exact_names}
 use Rattle.msi_database_storage.specs.Streams.{without_stream, with_stream_or_none}
-use Rattle.msi_database_storage.specs.declared.storing.Stored.{Stored}
-use Rattle.msi_database_storage.specs.Storing.{stored_all, stored_in}
+use Rattle.msi_database_cells.specs.declared.storing.Stored.{Stored}
+use Rattle.msi_database_cells.specs.Storing.{stored_all}
+use Rattle.msi_database_storage.specs.Storing.{stored_in}
 
 entries_removed : (m : maps.Streams) (k : List ℕ) → entries (remove m k) ≡ without_stream k (entries m)
 entries_removed m k =

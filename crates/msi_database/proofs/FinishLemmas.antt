@@ -21,8 +21,9 @@ use Rattle.msi_database_changes.proofs.ShownLemmas as steps
 use Rattle.msi_database_changes.proofs.ShownChangesLemmas.{shown_changed, shown_dropped}
 use Rattle.msi_database_changes.proofs.DroppedLemmas.{without}
 use Rattle.msi_database_storage.specs.Streams.{Streams, stream_of_rows, stored_streams}
-use Rattle.msi_database_storage.specs.declared.storing.Stored.{Stored}
-use Rattle.msi_database_storage.specs.Storing.{stored_all, stored_in, tables_stored}
+use Rattle.msi_database_cells.specs.declared.storing.Stored.{Stored}
+use Rattle.msi_database_cells.specs.Storing.{stored_all}
+use Rattle.msi_database_storage.specs.Storing.{stored_in, tables_stored}
 use Rattle.msi_database_storage.specs.Kept.{Kept, kept_of, database_kept, with_change, AreAsLong, schema_listed, table_kept_at, with_table_kept, without_table_kept}
 use Rattle.msi_database.specs.Keeping.{IsKeptDatabase, AreKept, AreParts}
 use Rattle.msi_database.proofs.EntriesLemmas.{entries_stored}

@@ -1,17 +1,15 @@
 -- The parts of a new database are kept, and make `fresh`.
-use Rattle.std.proofs.Common.{◌≡◌, ◌≤◌, ℕ, length, true, false, List, [], ◌∷◌, refl, sym, ap, subst, ◌∙◌}
+use Rattle.std.proofs.Common.{◌≡◌, ℕ, true, false, List, [], ◌∷◌, refl, sym, ap, subst, ◌∙◌}
 use Rattle.std.specs.FinMap.{empty, entries, len, len-empty, len-entries}
 use Rattle.std.proofs.lemmas.List.{nil_from_length}
 use Rattle.msi_container_format.specs.Names.{name_cmp}
 use Rattle.msi_container_format.specs.Streams as maps
-use Rattle.std.proofs.lemmas.Bool.{leb-true}
-use Rattle.msi_text_pool_base.specs.FirstFit.{most_places}
 use Rattle.msi_text_pool_base.specs.Pool.{Pool}
-use Rattle.msi_database_cells.specs.Texts.{settled}
 use Rattle.msi_table.specs.Tables.{TableDef}
 use Rattle.msi_database_changes.specs.Database.{is_sound, columns_by_name}
-use Rattle.msi_database_storage.specs.declared.storing.Stored.{Stored}
-use Rattle.msi_database_storage.specs.Storing.{HaveOwnNames, stored_all, stored_in}
+use Rattle.msi_database_cells.specs.declared.storing.Stored.{Stored}
+use Rattle.msi_database_cells.specs.Storing.{HaveOwnNames, stored_all}
+use Rattle.msi_database_storage.specs.Storing.{stored_in}
 use Rattle.msi_database_storage.specs.Streams.{Streams}
 use Rattle.msi_database_storage.specs.Kept.{AreAsLong, Kept, schema_listed}
 use Rattle.msi_database.specs.Keeping.{AreParts, IsKeptDatabase}
@@ -22,9 +20,7 @@ use Rattle.msi_database_storage.proofs.EditLemmas.{tables_stored_in}
 use Rattle.msi_database.proofs.FreshLemmas.{fresh_is_kept}
 use Rattle.msi_database_storage.proofs.FreshMadeLemmas.{have_own_names}
 use Rattle.msi_database_storage.proofs.FreshStepLemmas.{columns_long, tables_long, validation_long}
-use Rattle.msi_database.proofs.MakesAtLemmas.{settled_same}
 use Rattle.msi_database.proofs.PartsLemmas.{kept_parts}
-use Rattle.msi_database.proofs.SoundLemmas.{sound_is}
 
 abbrev system : List TableDef
 system = columns_table ∷ tables_table ∷ validation_table ∷ []
@@ -73,19 +69,11 @@ none_yet m e = nil_from_length (entries m) (sym (len-entries m) ∙ ap len e ∙
 pub names_are_own : (items es : List Stored) → items ≡ es → es ≡ fresh_stored → HaveOwnNames items
 names_are_own items es e f = subst HaveOwnNames (sym (e ∙ f)) have_own_names
 
-pub fresh_parts : (pool : Pool) (c t v : TableDef) (tables : List TableDef) (m n : maps.Streams) (items : List Stored) → pool ≡ fresh_pool → c ≡ columns_table → t ≡ tables_table → v ≡ validation_table
-    → tables ≡ c ∷ t ∷ v ∷ [] → m ≡ empty → items ≡ fresh_stored → n ≡ stored_all m items → AreParts fresh pool tables (entries n)
-fresh_parts pool c t v tables m n items pool_is c_is t_is v_is tables_are none items_are stored =
+pub fresh_parts : (pool : Pool) (tables : List TableDef) (m n : maps.Streams) (items : List Stored) → pool ≡ fresh_pool → tables ≡ columns_table ∷ tables_table ∷ validation_table ∷ []
+    → m ≡ empty → items ≡ fresh_stored → n ≡ stored_all m items → AreParts fresh pool tables (entries n)
+fresh_parts pool tables m n items pool_is tables_are none items_are stored =
     let streams : whole.streams ≡ entries n = sym (streams_stored m n fresh_stored items stored items_are ∙ ap (stored_in fresh_stored) (none_yet m none) ∙ whole_streams) in
-    let system_is : system ≡ tables = sym (tables_are ∙ (λ i. c_is i ∷ t_is i ∷ v_is i ∷ [])) in
     subst (λ (k : Kept). AreParts k pool tables (entries n)) whole_is
     (subst (λ (p : Pool). AreParts whole p tables (entries n)) (sym (pool_is ∙ whole_pool))
-    (subst (λ (ts : List TableDef). AreParts whole whole.database.pool ts (entries n)) system_is
+    (subst (λ (ts : List TableDef). AreParts whole whole.database.pool ts (entries n)) (sym tables_are)
     (subst (λ (s : Streams). AreParts whole whole.database.pool system s) streams (kept_parts whole system whole_kept whole_sound whole_listed whole_as_long))))
-
--- two bytes suffice for its references
-pub fresh_settled : settled fresh_pool ≡ fresh_pool
-fresh_settled =
-    let fits : length fresh_pool.places ≤ most_places fresh_pool.long = subst (λ (p : Pool). length p.places ≤ most_places p.long) (sym whole_pool)
-    (leb-true (length whole.database.pool.places) (most_places whole.database.pool.long) (sound_is whole.database whole_sound).fits) in
-    settled_same fresh_pool fits

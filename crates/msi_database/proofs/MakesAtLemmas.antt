@@ -11,7 +11,7 @@ use Rattle.msi_database_cells.specs.Texts.{UsedPool, settled}
 use Rattle.msi_database_changes.specs.Database.{Database, is_sound}
 use Rattle.msi_database_changes.specs.Changes.{Change}
 use Rattle.msi_database_changes.specs.Widening.{needs_three_bytes, widened, widening}
-use Rattle.msi_database_storage.specs.declared.storing.Stored.{Stored}
+use Rattle.msi_database_cells.specs.declared.storing.Stored.{Stored}
 use Rattle.msi_database_storage.specs.Storing.{stored_in}
 use Rattle.msi_database_storage.specs.Kept.{Kept, kept_widened, with_change}
 use Rattle.msi_database.specs.Keeping.{AreParts}

@@ -27,7 +27,8 @@ use Rattle.msi_database_changes.proofs.ShownChangesLemmas.{dropped_parts}
 use Rattle.msi_database_changes.proofs.DescribingLemmas.{describing}
 use Rattle.msi_database_changes.proofs.SchemaKeptLemmas.{shown_table}
 use Rattle.msi_database_changes.proofs.DropTracksLemmas.{not_among}
-use Rattle.msi_database_storage.specs.Storing.{HaveOwnNames, tables_stored}
+use Rattle.msi_database_cells.specs.Storing.{HaveOwnNames}
+use Rattle.msi_database_storage.specs.Storing.{tables_stored}
 use Rattle.msi_database_storage.specs.Kept.{Kept}
 use Rattle.msi_database.specs.Keeping.{IsKeptDatabase}
 use Rattle.msi_database.proofs.RowsComeLemmas.{missing_apart}

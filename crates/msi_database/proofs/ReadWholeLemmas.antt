@@ -9,14 +9,10 @@ use Rattle.std.proofs.lemmas.List.Folds.{list_any-append}
 use Rattle.std.proofs.lemmas.Option.{same_Some}
 use Rattle.msi_container_format.specs.Names.{name_cmp}
 use Rattle.msi_container_format.specs.Streams as maps
-use Rattle.msi_text_base.specs.declared.errors.ErrorKind.{ErrorKind}
-use Rattle.msi_text_base.specs.declared.errors.ErrorKind.TheVariants.{InvalidData}
 use Rattle.msi_text_pool_base.specs.Pool.{CountsFit, Place, Pool, forgotten, with_named_texts}
 use Rattle.msi_table_values.specs.declared.value.ValueRef.{ValueRef}
 use Rattle.msi_table_values.specs.Columns.{ColumnDef}
 use Rattle.msi_table.specs.Tables.{TableDef}
-use Rattle.msi_text_base.specs.Refusals.{IsRefusal, or_refused}
-use Rattle.msi_database_schema.specs.Schema.{table_with}
 use Rattle.msi_database_schema.specs.System.{validation_columns, validation_name}
 use Rattle.msi_table.specs.Census.{CensusDef, IsCensus, numbers_of_rows}
 use Rattle.msi_database_changes.specs.Database.{Database, Tables, is_sound, named_numbers}
@@ -31,7 +27,6 @@ use Rattle.msi_database_storage.specs.Reading.{IsDatabaseOf}
 use Rattle.msi_database.proofs.FitLemmas.{well_formed}
 use Rattle.msi_database.proofs.KeptLawLemmas.{read_is_kept}
 use Rattle.msi_database.proofs.PartsLemmas.{parts_make, parts_spelled}
-use Rattle.msi_database_storage.proofs.ReadingLemmas.{refused_from, without_validation}
 use Rattle.msi_database.proofs.SchemaLemmas.{tables_sorted}
 use Rattle.msi_database.proofs.ShownTextLemmas.{schema_by_raw}
 
@@ -172,33 +167,19 @@ module _ (raw : Pool) (tables : List TableDef) (streams : Streams) (rows : List 
       let database : k.database ≡ database_kept new tables streams = sym own ∙ (λ i. database_kept (pool i) (tables_are i) streams) in
       λ i. record { database = database i; streams = is.streams i }
 
--- THE STANDARD COLUMNS OF `_Validation`
+-- AS THE CALL HAS THEM
 
-pub standard_is : (standard : TableDef) (wide long : Bool) (columns : List ColumnDef) → standard ≡ table_with wide (validation_name, columns) → wide ≡ long → columns ≡ validation_columns
-    → standard ≡ table_with long (validation_name, validation_columns)
-standard_is standard wide long columns is w c = is ∙ (λ i. table_with (w i) (validation_name, c i))
-
-pub standard_stored : (streams : Streams) (standard : TableDef) (long : Bool) → standard ≡ table_with long (validation_name, validation_columns)
-    → stored_rows streams long validation_columns validation_name ≡ stored_rows streams standard.long standard.columns standard.name
-standard_stored streams standard long is = ap (λ (t : TableDef). stored_rows streams t.long t.columns t.name) (sym is)
-
--- where the stream of `_Validation` can't be read, nothing is described
-pub unread_refused : (streams : Streams) (raw : Pool) (standard : TableDef) (kind : ErrorKind) → standard ≡ table_with raw.long (validation_name, validation_columns)
-    → IsRefusal (or_refused InvalidData (stored_rows streams standard.long standard.columns standard.name)) kind → IsRefusal (or_refused InvalidData (schema_in streams raw)) kind
-unread_refused streams raw standard kind is e = refused_from (stored_rows streams standard.long standard.columns standard.name) (schema_in streams raw) kind
-    (λ none. without_validation streams raw (standard_stored streams standard raw.long is ∙ none)) e
-
-pub reads_by : (raw : Pool) (m : maps.Streams) (tables listed : List TableDef) (rows : List (List ValueRef)) (standard : TableDef) → HaveShortNames (entries m) → HoldBytes (entries m)
-    → length raw.places ≤ 16777215 → CountsFit raw.places → standard ≡ table_with raw.long (validation_name, validation_columns)
-    → stored_rows (entries m) standard.long standard.columns standard.name ≡ Some rows → listed ≡ tables → AreAsLong raw.long tables → schema_in (entries m) raw ≡ Some (schema_listed tables)
+pub reads_by : (raw : Pool) (m : maps.Streams) (tables listed : List TableDef) (rows : List (List ValueRef)) → HaveShortNames (entries m) → HoldBytes (entries m)
+    → length raw.places ≤ 16777215 → CountsFit raw.places
+    → stored_rows (entries m) raw.long validation_columns validation_name ≡ Some rows → listed ≡ tables → AreAsLong raw.long tables → schema_in (entries m) raw ≡ Some (schema_listed tables)
     → Reads raw listed (entries m) rows
-reads_by raw m tables listed rows standard names held few counts is stored same as_long schema = record {
+reads_by raw m tables listed rows names held few counts stored same as_long schema = record {
   in_order = entries_sorted m;
   names = names;
   held = held;
   few = few;
   counts = counts;
   as_long = subst (AreAsLong raw.long) (sym same) as_long;
-  stored = standard_stored (entries m) standard raw.long is ∙ stored;
+  stored = stored;
   schema = schema ∙ ap (λ (ts : List TableDef). Some (schema_listed ts)) (sym same);
 }

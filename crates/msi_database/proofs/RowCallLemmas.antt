@@ -33,7 +33,7 @@ use Rattle.msi_database_changes.specs.Delete.{delete_rows, rows_meeting}
 use Rattle.msi_database_changes.proofs.AtWidthLemmas.{IsChangeAtWidth, inserted, updated, deleted, sound_widened}
 use Rattle.msi_database_changes.proofs.TurnLemmas.{map_some}
 use Rattle.msi_database_storage.specs.Streams.{stream_of_rows}
-use Rattle.msi_database_storage.specs.declared.storing.Stored.{Stored}
+use Rattle.msi_database_cells.specs.declared.storing.Stored.{Stored}
 use Rattle.msi_database_storage.specs.Storing.{stored_in}
 use Rattle.msi_database_storage.specs.Kept.{Kept, kept_of}
 use Rattle.msi_database.specs.Keeping.{AreKept, IsKeptDatabase}

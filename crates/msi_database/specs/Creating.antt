@@ -18,7 +18,7 @@ use Rattle.msi_database_cells.specs.Texts.{PoolInUse, UsedPool, settled}
 use Rattle.msi_database_changes.specs.Changes.{sound_refusal}
 use Rattle.msi_database_changes.specs.Create.{SystemRows, table_refusals}
 use Rattle.msi_database_changes.specs.Insert.{cells_added, row_refusals}
-use Rattle.msi_database_storage.specs.declared.storing.Stored.{Stored}
+use Rattle.msi_database_cells.specs.declared.storing.Stored.{Stored}
 use Rattle.msi_database_storage.specs.Kept.{Kept, with_table_kept}
 use Rattle.msi_database_storage.specs.Storing.{stream_gone}
 use Rattle.msi_database_storage.specs.Streams.{stream_of_rows}

@@ -15,7 +15,7 @@ use Rattle.msi_database_schema.specs.Keys.{table_key}
 use Rattle.msi_database_cells.specs.Texts.{UsedPool, in_use, settled, widens}
 use Rattle.msi_database_changes.specs.Changes.{Change, no_change, with_stored}
 use Rattle.msi_database_changes.specs.Widening.{widened}
-use Rattle.msi_database_storage.specs.declared.storing.Stored.{Stored}
+use Rattle.msi_database_cells.specs.declared.storing.Stored.{Stored}
 use Rattle.msi_database_storage.specs.Storing.{stored_in}
 use Rattle.msi_database_storage.specs.Streams.{stream_of_rows}
 use Rattle.msi_database_storage.specs.Kept.{Kept, after_change, base_of, kept_widened}

@@ -9,8 +9,8 @@ ghost use Rattle.msi_database_schema.specs.System.{is_system_table as is_of_syst
 ghost use Rattle.msi_database_changes.specs.Database.{is_sound as is_sound_one};
 ghost use Rattle.msi_database_changes.specs.Drop as drops;
 ghost use Rattle.msi_database_changes.specs.Drop.{drop_refusals, early_drop_refusals};
+ghost use Rattle.msi_database_cells.specs.Storing.{HaveOwnNames};
 ghost use Rattle.msi_database_cells.specs.Texts.{in_use};
-ghost use Rattle.msi_database_storage.specs.Storing.{HaveOwnNames};
 ghost use Rattle.msi_database.specs.Dropping.{about_given_back, own_stream, rows_given_back};
 ghost use Rattle.msi_database.specs.Dropping.{system_stream};
 ghost use Rattle.msi_database.specs.Listed.{IsKnown};
@@ -19,11 +19,12 @@ ghost use Rattle.msi_database.specs.Making.{Leaves, Makes, TellsUse, base_with};
 use crate::changing::TablesAnew;
 use crate::database::Database;
 use crate::reasons;
+use msi_database_cells::storing::Stored;
 use msi_database_cells::texts::PoolInUse;
 use msi_database_changes::drop::rows_without;
 use msi_database_schema::names::is_table_name;
 use msi_database_schema::system::{COLUMNS, TABLES, VALIDATION, is_system_table};
-use msi_database_storage::parts::{Stored, stream_of};
+use msi_database_storage::parts::stream_of;
 use msi_table::Table;
 use msi_text_base::errors::{Error, ErrorKind};
 

@@ -11,10 +11,8 @@ ghost use Rattle.msi_database_storage.specs.Reading.{IsDatabaseOf, SystemRowsNam
 
 use crate::database::Database;
 use msi_container_format::contents::StreamMap;
-use msi_database_schema::parts::named_table;
-use msi_database_schema::system::{VALIDATION, validation_columns};
 use msi_database_storage::parts::{
-    are_sound, look_at, stored_rows, tables_census, tables_in, unlisted_rows, with_named_texts,
+    DescribedTables, are_sound, look_at, tables_census, tables_in, unlisted_rows, with_named_texts,
 };
 use msi_text_base::errors::Error;
 use msi_text_pool::stringpool::StringPool;
@@ -39,10 +37,11 @@ impl Database {
             IfErr result (IsRefusal (or_refused InvalidData schema)) }
     {
         look_at(&streams);
-        let columns = validation_columns(alloc)?;
-        let standard = named_table(alloc, VALIDATION, columns, pool.long_string_refs())?;
-        let validation = stored_rows(alloc, &streams, &standard)?;
-        let tables = tables_in(alloc, &pool, &streams, validation.as_slice())?;
+        let DescribedTables {
+            standard,
+            tables,
+            validation,
+        } = tables_in(alloc, &pool, &streams)?;
         let listed = tables.as_slice();
         let mut census = tables_census(alloc, pool.num_strings(), &streams, listed)?;
         let pool = with_named_texts(alloc, pool, &census, validation.as_slice())?;

@@ -3,3 +3,4 @@ pub mod Texts
 pub mod Views
 pub mod KeySets
 pub mod Setting
+pub mod Storing

@@ -1,8 +1,11 @@
-//! The cells of rows: the texts that they take of the pool and give back, and the keys of rows.
+//! What changes of a database are made of: the texts that cells take of the pool and give back, the keys of rows, the
+//! cells that are counted beside tables, and streams that are stored together.
 #![tactic(auto)]
 
+pub mod counting;
 pub mod keys;
 mod reasons;
 pub mod setting;
+pub mod storing;
 pub mod texts;
 pub mod views;

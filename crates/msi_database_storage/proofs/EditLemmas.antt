@@ -22,8 +22,9 @@ use Rattle.msi_database_cells.specs.Texts.{PoolInUse}
 use Rattle.msi_database_changes.specs.Create.{with_new_table}
 use Rattle.msi_database_changes.specs.Drop.{table_released}
 use Rattle.msi_database_storage.specs.Streams.{Streams, table_stream, stream_of_rows, stored_stream, stored_streams}
-use Rattle.msi_database_storage.specs.declared.storing.Stored.{Stored}
-use Rattle.msi_database_storage.specs.Storing.{stored_in, tables_stored, HaveOwnNames}
+use Rattle.msi_database_cells.specs.declared.storing.Stored.{Stored}
+use Rattle.msi_database_cells.specs.Storing.{HaveOwnNames}
+use Rattle.msi_database_storage.specs.Storing.{stored_in, tables_stored}
 use Rattle.msi_database_storage.proofs.MapLemmas as maps
 use Rattle.msi_database_schema.proofs.KeyLemmas.{table_keys_tell_names}
 use Rattle.msi_database_storage.proofs.StreamLemmas.{list_cmp_exact}

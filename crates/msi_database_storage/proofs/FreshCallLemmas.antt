@@ -30,8 +30,9 @@ use Rattle.msi_database_changes.specs.Insert.{cells_added, rows_added}
 use Rattle.msi_table_order.specs.KeyOrder.{in_key_order}
 use Rattle.msi_database_changes.proofs.FitTestLemmas.{cells_fit, each_fits}
 use Rattle.msi_database_storage.specs.Streams.{stream_of_rows}
-use Rattle.msi_database_storage.specs.declared.storing.Stored.{Stored}
-use Rattle.msi_database_storage.specs.Storing.{HaveOwnNames, tables_stored}
+use Rattle.msi_database_cells.specs.declared.storing.Stored.{Stored}
+use Rattle.msi_database_cells.specs.Storing.{HaveOwnNames}
+use Rattle.msi_database_storage.specs.Storing.{tables_stored}
 use Rattle.msi_database_storage.specs.Fresh.{empty_table}
 use Rattle.msi_database_storage.specs.FreshParts.{Begins, CanBegin}
 use Rattle.msi_database_storage.proofs.MapLemmas as maps

@@ -9,12 +9,12 @@ use Rattle.msi_table.specs.Tables.{TableDef}
 use Rattle.msi_database_schema.specs.Description.{column_rows, have_short_lengths, tables_row, validation_rows}
 use Rattle.msi_database_schema.specs.Keys.{table_key}
 use Rattle.msi_database_schema.specs.System.{columns_columns, columns_name, tables_columns, tables_name, validation_columns, validation_name}
-use Rattle.msi_database_cells.specs.Texts.{PoolInUse, UsedPool, in_use}
+use Rattle.msi_database_cells.specs.Texts.{PoolInUse, UsedPool, in_use, settled}
 use Rattle.msi_database_changes.specs.Changes.{no_change, pool_of}
 use Rattle.msi_database_changes.specs.Create.{described_by_rows}
 use Rattle.msi_database_changes.specs.Insert.{cells_added}
-use Rattle.msi_database_storage.specs.declared.storing.Stored.{Stored}
-use Rattle.msi_database_storage.specs.Storing.{HaveOwnNames}
+use Rattle.msi_database_cells.specs.declared.storing.Stored.{Stored}
+use Rattle.msi_database_cells.specs.Storing.{HaveOwnNames}
 use Rattle.msi_database_storage.specs.Fresh.{fresh_change}
 use Rattle.msi_database_storage.specs.FreshParts.{Begins, CanBegin, columns_table, fresh_pool, fresh_stored, tables_table, unused_pool, validation_table}
 use Rattle.msi_database_storage.proofs.FreshCallLemmas.{AreBare, Describes, begins_as, begun, can_as, describes, listing, stream_begun}
@@ -85,6 +85,11 @@ have_own_names = fresh_describes.own_names
 pool_is : fresh_pool ≡ record bare.pool { places = (begun validation_table pool₂ validation_values).1.places }
 unfolding fresh_pool
 pool_is = fresh_describes.pool
+
+-- two bytes suffice for its references
+pub fresh_settled : settled fresh_pool ≡ fresh_pool
+unfolding Rattle.std.specs.Str.chars fresh_pool
+fresh_settled = refl
 
 unused_is : unused_pool.pool ≡ bare.pool
 unfolding bare

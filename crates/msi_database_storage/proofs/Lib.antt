@@ -4,7 +4,6 @@ pub mod TableAtLemmas
 pub mod SoundnessLemmas
 pub mod NamingLemmas
 pub mod RecountingLemmas
-pub mod PutBackLemmas
 pub mod ListingLemmas
 pub mod CopyingLemmas
 pub mod ReadLemmas

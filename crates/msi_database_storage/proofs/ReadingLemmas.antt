@@ -194,3 +194,15 @@ module _ (streams : Streams) (raw : Pool) where
       → Gives (λ tables. tables) result (tables_of long s) → IfErr result (IsRefusal (or_refused InvalidData (schema_in streams raw)))
   told_kind (Ok tables) long s wide is h e = tt
   told_kind (Err kind) long s wide is h e = fails_by (tables_of long s) (schema_in streams raw) kind (λ none. is ∙ h (subst (λ b. tables_of b s ≡ None) wide none)) e
+
+-- THE STANDARD COLUMNS OF `_Validation`
+
+pub standard_stored : (streams : Streams) (standard : TableDef) (long : Bool) → standard ≡ table_with long (validation_name, validation_columns)
+    → stored_rows streams long validation_columns validation_name ≡ stored_rows streams standard.long standard.columns standard.name
+standard_stored streams standard long is = ap (λ (t : TableDef). stored_rows streams t.long t.columns t.name) (sym is)
+
+-- where the stream of `_Validation` can't be read, nothing is described
+pub unread_refused : (streams : Streams) (raw : Pool) (standard : TableDef) (kind : ErrorKind) → standard ≡ table_with raw.long (validation_name, validation_columns)
+    → IsRefusal (or_refused InvalidData (stored_rows streams standard.long standard.columns standard.name)) kind → IsRefusal (or_refused InvalidData (schema_in streams raw)) kind
+unread_refused streams raw standard kind is e = refused_from (stored_rows streams standard.long standard.columns standard.name) (schema_in streams raw) kind
+    (λ none. without_validation streams raw (standard_stored streams standard raw.long is ∙ none)) e

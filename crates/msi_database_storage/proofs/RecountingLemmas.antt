@@ -1,11 +1,11 @@
 -- The census of all cells, and the counts that it gives.
-use Rattle.std.proofs.Common.{◌≡◌, ℕ, ◌<◌, Bool, true, false, List, [], length, Option, is_some, unwrap_or, sym, ap, subst, ◌∙◌, arith}
+use Rattle.std.proofs.Common.{◌≡◌, ℕ, ◌<◌, Bool, true, List, [], length, Option, is_some, unwrap_or, sym, ap, subst, ◌∙◌, arith}
 use Rattle.std.specs.Prelude.{if◌then◌else◌}
 use Rattle.std.proofs.lemmas.List.{ext_get_or}
 use Rattle.msi_table_values.specs.declared.value.ValueRef.{ValueRef}
 use Rattle.msi_table.specs.Tables.{rows_spelled, TableDef}
 use Rattle.msi_table.specs.Census.{CensusDef, CountsMore, IsCensus, numbers_of_rows}
-use Rattle.msi_table.proofs.CensusLemmas.{all_counted, nothing_more}
+use Rattle.msi_table.proofs.CensusLemmas.{all_counted}
 use Rattle.msi_database_schema.specs.Keys.{table_key}
 use Rattle.msi_database_schema.specs.Schema.{table_with}
 use Rattle.msi_database_schema.specs.System.{validation_columns, validation_name}
@@ -17,18 +17,13 @@ use Rattle.msi_database_storage.specs.Streams.{Streams, stored_rows, stream_at}
 
 -- THE STREAM OF `_Validation`
 
--- where that is a table, nothing is kept beside the tables
-pub listed_counted : (streams : Streams) (long : Bool) (tables : List TableDef) (c : CensusDef) (b : Bool) → b ≡ is_some (table_kept_at validation_name tables) → b ≡ true
-    → CountsMore (numbers_of_rows (unlisted_kept streams long tables)) c c
-listed_counted streams long tables c b is listed = subst (λ b. CountsMore (numbers_of_rows (if b then [] else unwrap_or (stored_rows streams long validation_columns validation_name) [])) c c) (sym listed ∙ is) (nothing_more c)
-
--- else its rows are those of its stream
-pub unlisted_counted : (streams : Streams) (standard : TableDef) (tables : List TableDef) (bytes : List ℕ) (before after : CensusDef) (b : Bool) → b ≡ is_some (table_kept_at validation_name tables) → b ≡ false
+-- where that is a table, nothing is kept beside the tables, and else its rows are those of its stream
+pub unlisted_counted : (streams : Streams) (standard : TableDef) (tables : List TableDef) (bytes : List ℕ) (before after : CensusDef) (b : Bool) → b ≡ is_some (table_kept_at validation_name tables)
     → standard ≡ table_with standard.long (validation_name, validation_columns) → bytes ≡ unwrap_or (stream_at (table_key validation_name) streams) []
-    → CountsMore (numbers_of_rows (unwrap_or (rows_spelled standard bytes) [])) before after → CountsMore (numbers_of_rows (unlisted_kept streams standard.long tables)) before after
-unlisted_counted streams standard tables bytes before after b is none standard_is bytes_are more =
-    subst (λ b. CountsMore (numbers_of_rows (if b then [] else unwrap_or (stored_rows streams standard.long validation_columns validation_name) [])) before after) (sym none ∙ is)
-    (subst (λ (o : Option (List (List ValueRef))). CountsMore (numbers_of_rows (unwrap_or o [])) before after)
+    → CountsMore (numbers_of_rows (if b then [] else unwrap_or (rows_spelled standard bytes) [])) before after → CountsMore (numbers_of_rows (unlisted_kept streams standard.long tables)) before after
+unlisted_counted streams standard tables bytes before after b is standard_is bytes_are more =
+    subst (λ b. CountsMore (numbers_of_rows (if b then [] else unwrap_or (stored_rows streams standard.long validation_columns validation_name) [])) before after) is
+    (subst (λ (o : Option (List (List ValueRef))). CountsMore (numbers_of_rows (if b then [] else unwrap_or o [])) before after)
     (ap (rows_spelled standard) bytes_are ∙ ap (λ (t : TableDef). rows_spelled t (unwrap_or (stream_at (table_key validation_name) streams) [])) standard_is) more)
 
 -- COUNTS

@@ -8,7 +8,7 @@ use Rattle.msi_database_schema.specs.System.{columns_columns, columns_name, tabl
 use Rattle.msi_database_schema.specs.System.{validation_columns, validation_name}
 use Rattle.msi_database_cells.specs.Texts.{PoolInUse, UsedPool}
 use Rattle.msi_database_changes.specs.Insert.{cells_added}
-use Rattle.msi_database_storage.specs.declared.storing.Stored.{Stored}
+use Rattle.msi_database_cells.specs.declared.storing.Stored.{Stored}
 use Rattle.msi_database_storage.specs.Storing.{tables_stored}
 use Rattle.msi_database_storage.specs.Streams.{stream_of_rows}
 use Rattle.msi_database_storage.specs.Fresh.{bare_database, fresh_change}

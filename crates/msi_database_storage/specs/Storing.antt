@@ -1,26 +1,15 @@
--- Streams that are stored together: each name gets its bytes, or has no stream.
-use Rattle.std.specs.Prelude.{◌≢◌, ℕ, List, [], ◌∷◌, map, None}
-use Rattle.std.specs.List.{AllByRecursion}
-use Rattle.msi_container_format.specs.Streams as maps
+-- What becomes of the streams of tables that are stored together.
+use Rattle.std.specs.Prelude.{ℕ, List, [], ◌∷◌, map, None}
 use Rattle.msi_database_schema.specs.Keys.{table_key}
 use Rattle.msi_database_changes.specs.Database.{Database, table_at}
-use Rattle.msi_database_storage.specs.declared.storing.Stored.{Stored}
+use Rattle.msi_database_cells.specs.declared.storing.Stored.{Stored}
 use Rattle.msi_database_storage.specs.Streams.{Streams, with_stream_or_none, table_stream}
-
-abbrev pub stored_all : maps.Streams → List Stored → maps.Streams
-stored_all m [] = m
-stored_all m (e ∷ es) = stored_all (maps.with_or_without m e.name e.bytes) es
-
--- no name stands twice
-abbrev pub HaveOwnNames : List Stored → Type 0
-HaveOwnNames [] = Unit {0}
-HaveOwnNames (e ∷ es) = AllByRecursion (λ f. f.name ≢ e.name) es × HaveOwnNames es
 
 -- a table's stream that goes
 abbrev pub stream_gone : List ℕ → Stored
 stream_gone name = record { name = table_key name; bytes = None }
 
--- the same of the streams in their order
+-- each name gets its bytes, or has no stream, in the order of names
 abbrev pub stored_in : List Stored → Streams → Streams
 stored_in [] streams = streams
 stored_in (e ∷ es) streams = stored_in es (with_stream_or_none e.name e.bytes streams)

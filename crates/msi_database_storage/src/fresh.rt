@@ -1,15 +1,17 @@
 //! The tables and the streams of a new database: `_Validation`, described by itself.
 
-ghost use Rattle.std.specs.Prelude.{◌≡◌, [], IfOk, OnOk, Some, false, is_some, length, true};
+ghost use Rattle.std.specs.Prelude.{◌≡◌, ◌∷◌, [], IfOk, OnOk, Some, false, is_some, length, true};
 ghost use Rattle.msi_container_format.specs.Names.{is_name_length};
 ghost use Rattle.msi_text_base.specs.Results.{OnlyMemory};
+ghost use Rattle.msi_text_pool_base.specs.Pool.{unindexed};
 ghost use Rattle.msi_database_schema.specs.Keys.{table_key as key_of};
 ghost use Rattle.msi_database_changes.specs.Insert.{cells_added};
 ghost use Rattle.msi_database_cells.specs.Texts.{in_use};
 ghost use Rattle.msi_database_storage.specs.FreshParts.{Begins, CanBegin, columns_table, fresh_pool, fresh_stored};
 ghost use Rattle.msi_database_storage.specs.FreshParts.{tables_table, unused_pool, validation_table};
 
-use crate::storing::{Stored, stream_of};
+use crate::storing::stream_of;
+use msi_database_cells::storing::Stored;
 use msi_database_cells::texts::PoolInUse;
 use msi_database_changes::insert::add_rows;
 use msi_database_schema::description::{tables_row, validation_rows};
@@ -20,23 +22,36 @@ use msi_database_schema::system::{
 use msi_table::Table;
 use msi_table_values::column::Column;
 use msi_table_values::value::{Value, ValueRef};
+use msi_text_base::codepage::CodePage;
 use msi_text_base::errors::Error;
 use msi_text_base::text::Items;
+use msi_text_pool::stringpool::StringPool;
 use std::alloc::Global;
+
+/// What a new database is made of.
+#[derive(Drop)]
+pub struct NewTables {
+    /// The system tables.
+    pub tables: Items<Table>,
+    /// Their streams, whose rows describe `_Validation`.
+    pub stored: Vec<Stored>,
+    /// The pool, with the texts of those rows.
+    pub pool: StringPool,
+}
 
 /// The tables of a new database.
 #[derive(Drop)]
-pub struct SystemTables {
-    pub columns: Table,
-    pub tables: Table,
-    pub validation: Table,
+struct SystemTables {
+    columns: Table,
+    tables: Table,
+    validation: Table,
 }
 
 /// The system tables.
 ///
 /// # Errors
 /// `OutOfMemory`.
-pub fn system_tables(alloc: Global) -> Result<SystemTables, Error>
+fn system_tables(alloc: Global) -> Result<SystemTables, Error>
     ensures columns { IfOk result (λ system. system.columns ≡ columns_table) }
     ensures tables { IfOk result (λ system. system.tables ≡ tables_table) }
     ensures validation { IfOk result (λ system. system.validation ≡ validation_table) }
@@ -92,11 +107,11 @@ fn first_rows(
     stream_of(alloc, table, all)
 }
 
-/// The streams of the system tables, whose rows describe `_Validation`.
+/// The streams of the system tables, whose rows describe `_Validation`. The pool is a new one.
 ///
 /// # Errors
 /// `OutOfMemory`.
-pub fn described_streams(
+fn described_streams(
     alloc: Global,
     system: &SystemTables,
     pool: &mut PoolInUse,
@@ -116,4 +131,31 @@ pub fn described_streams(
     let validated = validation_rows(alloc, VALIDATION, system.validation.columns())?;
     let validation = first_rows(alloc, &system.validation, pool, validated)?;
     Ok(Vec::from_array(alloc, [columns, tables, validation])?)
+}
+
+/// Returns the tables of a new database, in UTF-8, with the streams that describe `_Validation` and the pool of their
+/// texts.
+///
+/// # Errors
+/// Fails with `OutOfMemory`.
+pub fn new_tables(alloc: Global) -> Result<NewTables, Error>
+    ensures tables { IfOk result (λ new. new.tables ≡ columns_table ∷ tables_table ∷ validation_table ∷ []) }
+    ensures stored { IfOk result (λ new. new.stored.items ≡ fresh_stored) }
+    ensures pool { IfOk result (λ new. unindexed new.pool ≡ fresh_pool) }
+    ensures kind { OnlyMemory result }
+{
+    let system = system_tables(alloc)?;
+    let mut pool = PoolInUse::new(StringPool::new(alloc, CodePage::Utf8));
+    let stored = described_streams(alloc, &system, &mut pool)?;
+    let SystemTables {
+        columns,
+        tables,
+        validation,
+    } = system;
+    let tables = Vec::from_array(alloc, [columns, tables, validation])?;
+    Ok(NewTables {
+        tables: Items::from_vec(tables),
+        stored,
+        pool: pool.into_pool(),
+    })
 }

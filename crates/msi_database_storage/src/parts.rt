@@ -2,10 +2,10 @@
 
 pub use crate::copying::{copied_bytes, copied_streams};
 pub use crate::decoding::{is_readable, stored_rows, table_rows};
-pub use crate::fresh::{SystemTables, described_streams, system_tables};
+pub use crate::fresh::{NewTables, new_tables};
 pub use crate::naming::{tables_census, with_named_texts};
-pub use crate::reading::{look_at, tables_in, unlisted_rows};
+pub use crate::reading::{DescribedTables, look_at, tables_in, unlisted_rows};
 pub use crate::recounting::cells_census;
 pub use crate::soundness::{are_sound, are_sound_tables, fits_width, is_standard};
-pub use crate::storing::{Stored, no_stream, store_all, stream_of};
+pub use crate::storing::{no_stream, stream_of};
 pub use crate::widening::{long_tables, store_long};

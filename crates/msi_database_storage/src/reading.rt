@@ -7,6 +7,7 @@ ghost use Rattle.msi_text_base.specs.Results.{OnlyMemory};
 ghost use Rattle.msi_table.specs.Tables.{most_columns};
 ghost use Rattle.msi_text_pool_base.specs.Pool.{unindexed};
 ghost use Rattle.msi_text_base.specs.Refusals.{IsRefusal, or_refused};
+ghost use Rattle.msi_database_schema.specs.Schema.{table_with};
 ghost use Rattle.msi_database_schema.specs.System.{validation_columns as columns_of_validation, validation_name};
 ghost use Rattle.msi_database_changes.specs.NamedTexts.{NameFewTexts};
 ghost use Rattle.msi_database_storage.specs.Agreement.{described_by, schema_in};
@@ -22,7 +23,9 @@ use msi_container_format::contents::StreamMap;
 use msi_database_changes::named_texts::name_few_texts;
 use msi_database_schema::parts::named_table;
 use msi_database_schema::schema::tables_of_cells;
-use msi_database_schema::system::{COLUMNS, TABLES, VALIDATION, columns_columns, tables_columns};
+use msi_database_schema::system::{
+    COLUMNS, TABLES, VALIDATION, columns_columns, tables_columns, validation_columns,
+};
 use msi_table::Table;
 use msi_table_values::column::Column;
 use msi_table_values::value::ValueRef;
@@ -30,6 +33,17 @@ use msi_text_base::errors::{Error, ErrorKind};
 use msi_text_base::text::Items;
 use msi_text_pool::stringpool::StringPool;
 use std::alloc::Global;
+
+/// The tables that the system tables describe, and what is read for that of `_Validation`.
+#[derive(Drop)]
+pub struct DescribedTables {
+    /// `_Validation`, of its standard columns.
+    pub standard: Table,
+    /// The tables, in the order of their names.
+    pub tables: Items<Table>,
+    /// The rows of the stream of `_Validation`, by its standard columns.
+    pub validation: Vec<Items<ValueRef>>,
+}
 
 /// A byte is below 256.
 fn look_at_bytes(bytes: &[u8])
@@ -93,7 +107,7 @@ fn described_rows(
 ///
 /// # Errors
 /// `InvalidData` where a stream can't be read, and where the rows describe no tables; `OutOfMemory`.
-pub fn tables_in(
+fn tables_beside(
     alloc: Global,
     pool: &StringPool,
     streams: &StreamMap,
@@ -120,6 +134,53 @@ pub fn tables_in(
         columns.as_slice(),
         validation,
     )
+}
+
+/// The table `_Validation` of its standard columns.
+///
+/// # Errors
+/// `OutOfMemory`.
+fn standard_table(alloc: Global, pool: &StringPool) -> Result<Table, Error>
+    ensures ok { IfOk result (λ table. table ≡ table_with pool.now.long (validation_name, columns_of_validation)) }
+    ensures kind { OnlyMemory result }
+{
+    let columns = validation_columns(alloc)?;
+    named_table(alloc, VALIDATION, columns, pool.long_string_refs())
+}
+
+/// Returns the tables that the rows of the system tables describe, and the rows of `_Validation`. They are read of the
+/// streams of a container's root, which `look_at` goes over before; a missing stream has no rows.
+///
+/// # Errors
+/// Fails with `InvalidData` if a stream can't be read, and if the rows describe no tables, or with `OutOfMemory`. That
+/// comes too if the rows of a system table name texts that `name_few_texts` doesn't allow.
+pub fn tables_in(
+    alloc: Global,
+    pool: &StringPool,
+    streams: &StreamMap,
+) -> Result<DescribedTables, Error>
+    requires names { HaveShortNames (entries streams.now) }
+    requires bytes { HoldBytes (entries streams.now) }
+    ensures standard { IfOk result (λ described.
+        described.standard ≡ table_with pool.now.long (validation_name, columns_of_validation)) }
+    ensures validation { IfOk result (λ described.
+        rows_stored (entries streams.now) pool.now.long columns_of_validation validation_name
+        ≡ Some described.validation.items) }
+    ensures ok { let schema = schema_in (entries streams.now) (unindexed pool.now) in
+        IfOk result (λ described. schema ≡ Some (schema_listed described.tables)) }
+    ensures long { IfOk result (λ described. AreAsLong pool.now.long described.tables) }
+    ensures bounded { OnOk result (SystemRowsNameFewTexts (entries streams.now) (unindexed pool.now)) }
+    ensures kind { let schema = schema_in (entries streams.now) (unindexed pool.now) in
+        IfErr result (IsRefusal (or_refused InvalidData schema)) }
+{
+    let standard = standard_table(alloc, pool)?;
+    let validation = stored_rows(alloc, streams, &standard)?;
+    let tables = tables_beside(alloc, pool, streams, validation.as_slice())?;
+    Ok(DescribedTables {
+        standard,
+        tables,
+        validation,
+    })
 }
 
 /// The rows of the stream of `_Validation` that are kept beside the tables: all where it is no table, else none.

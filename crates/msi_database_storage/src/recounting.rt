@@ -15,6 +15,7 @@ use crate::decoding::stream_bytes;
 use crate::listing::table_named;
 use crate::naming::tables_census;
 use msi_container_format::contents::StreamMap;
+use msi_database_cells::counting::count_beside;
 use msi_database_schema::system::VALIDATION;
 use msi_table::Table;
 use msi_table::parts::Census;
@@ -28,10 +29,9 @@ fn count_unlisted(census: &mut Census, streams: &StreamMap, tables: &[Table], st
     ensures { let rows = unlisted_kept (entries streams.now) standard.now.long tables.now in
         CountsMore (numbers_of_rows rows) census.old census.new }
 {
-    if table_named(tables, VALIDATION).is_some() {
-        return;
-    }
-    census.count_stored(standard, stream_bytes(streams, VALIDATION));
+    let is_listed = table_named(tables, VALIDATION).is_some();
+    let bytes = stream_bytes(streams, VALIDATION);
+    count_beside(census, is_listed, standard, bytes);
 }
 
 /// Returns the census of all cells of a database, for a pool of so many places: those of its tables, and those of the

@@ -1,17 +1,15 @@
-//! Storing the streams of tables: several together, or none of them.
+//! What becomes of the stream of a table that is stored.
 
-ghost use Rattle.std.specs.Prelude.{◌≡◌, IfOk, OnErr, OnOk, length, true};
-ghost use Rattle.std.specs.Vec.Iter.{into_iter_items};
+ghost use Rattle.std.specs.Prelude.{◌≡◌, IfOk, length, true};
 ghost use Rattle.msi_container_format.specs.Names.{is_name_length};
 ghost use Rattle.msi_text_base.specs.Results.{OnlyMemory};
 ghost use Rattle.msi_table.specs.Tables.{CanStore};
 ghost use Rattle.msi_database_schema.specs.Keys.{is_table_name, table_key as key_of};
-ghost use Rattle.msi_database_storage.specs.Storing.{HaveOwnNames, stored_all, stream_gone};
+ghost use Rattle.msi_database_storage.specs.Storing.{stream_gone};
 ghost use Rattle.msi_database_storage.specs.Streams.{stream_of_rows};
 
-use msi_container_format::contents::{Bytes, StreamMap};
-use msi_container_format::name::Name;
-use msi_container_format::parts::put_back;
+use msi_container_format::contents::Bytes;
+use msi_database_cells::storing::Stored;
 use msi_database_schema::parts::short_table_key;
 use msi_table::Table;
 use msi_table::parts::write_rows;
@@ -19,14 +17,6 @@ use msi_table_values::value::ValueRef;
 use msi_text_base::errors::Error;
 use msi_text_base::text::Items;
 use std::alloc::Global;
-use std::vec::IntoIter;
-
-/// What a stream becomes: these bytes, or no stream.
-#[derive(Drop)]
-pub struct Stored {
-    pub name: Name,
-    pub bytes: Option<Bytes>,
-}
 
 /// Returns the stream of a table whose rows become these: none where there is no row. The table has a name that a
 /// stream can have, which `table_key` checks, and the rows fit it, which `fits_table` checks.
@@ -59,38 +49,5 @@ pub fn no_stream(name: &str) -> Stored
     Stored {
         name: short_table_key(name),
         bytes: None,
-    }
-}
-
-/// Stores each of these. Streams are put first, and what goes is removed only when all are put, since that takes no
-/// memory. No two of them have one name.
-///
-/// # Errors
-/// Fails with `OutOfMemory`; then nothing has changed.
-pub fn store_all(streams: &mut StreamMap, mut changes: IntoIter<Stored>) -> Result<(), Error>
-    requires { HaveOwnNames (into_iter_items changes) }
-    ensures ok { OnOk result (streams.new ≡ stored_all streams.old (into_iter_items changes)) }
-    ensures err { OnErr result (streams.new ≡ streams.old) }
-    ensures kind { OnlyMemory result }
-{
-    let Some(Stored { name, bytes }) = changes.next() else {
-        return Ok(());
-    };
-    match bytes {
-        Some(bytes) => {
-            let before = streams.replace(name.duplicate(), bytes)?;
-            match store_all(streams, changes) {
-                Ok(()) => Ok(()),
-                Err(error) => {
-                    put_back(streams, &name, before);
-                    Err(error)
-                }
-            }
-        }
-        None => {
-            store_all(streams, changes)?;
-            streams.remove(&name);
-            Ok(())
-        }
     }
 }

@@ -1,7 +1,7 @@
 use Rattle.std.proofs.Common.{not, ◌++◌, List, subst, ap, ◌∙◌, refl}
 use Rattle.msi_text_pool_base.specs.Pool.{unindexed}
 use Rattle.msi_database_changes.specs.Drop.{is_row_about}
-use Rattle.msi_database_storage.specs.declared.storing.Stored.{Stored}
+use Rattle.msi_database_cells.specs.declared.storing.Stored.{Stored}
 use Rattle.msi_database_storage.specs.Kept.{Kept}
 use Rattle.msi_database.specs.Keeping.{IsKeptDatabase}
 use Rattle.msi_database.proofs.DroppingCallLemmas.{fewer_fit, forgot}

@@ -1,4 +1,4 @@
-use Rattle.std.proofs.Common.{◌≡◌, ◌∙◌, [], ap, sym, subst, is_some, map, List, Some}
+use Rattle.std.proofs.Common.{◌≡◌, ◌∙◌, [], ap, sym, subst, is_some, map, List}
 use Rattle.std.specs.Prelude.{if◌then◌else◌}
 use Rattle.std.specs.FinMap.{entries}
 use Rattle.msi_text_pool_base.specs.Pool.{Pool, unindexed}
@@ -11,131 +11,81 @@ use Rattle.msi_database_storage.specs.Kept.{AreAsLong, kept_of, table_kept, tabl
 use Rattle.msi_database_storage.specs.Naming.{numbers_named, numbers_of_tables, pool_shown}
 use Rattle.msi_database.specs.Keeping.{AreKept}
 use Rattle.msi_database_storage.specs.Reading.{IsDatabaseOf}
-use Rattle.msi_database.proofs.ReadWholeLemmas.{Reads, read_census, read_database, read_kept, read_once, reads_by, standard_is, standard_stored, unread_refused}
+use Rattle.msi_database.proofs.ReadWholeLemmas.{Reads, read_census, read_database, read_kept, read_once, reads_by}
 use Rattle.msi_database_storage.proofs.PassedLemmas.{memory_refused, no_value}
 use Rattle.msi_database.proofs.database.Database.read.Goals as goal
 
-pub returns-in_err-validation-clause-kind : goal.returns-in_err-validation-clause-kind
-returns-in_err-validation-clause-kind c = err_passed c.from_residual-in_err-validation.result c.in_err-validation.field-0.0 _ c.from_residual-in_err-validation.ensures.1
-    (unread_refused (entries c.args.streams) (unindexed c.args.pool) c.in_ok-standard.standard c.in_err-validation.field-0.0
-    (standard_is c.in_ok-standard.standard c.long_string_refs.result c.args.pool.long c.in_ok-columns.columns c.in_ok-standard.ensures.ok c.long_string_refs.ensures c.in_ok-columns.ensures.ok)
-    c.in_err-validation.ensures.kind)
-
-pub tables_in-requires-clause-validation : goal.tables_in-requires-clause-validation
-tables_in-requires-clause-validation c =
-    standard_stored (entries c.args.streams) c.in_ok-standard.standard c.args.pool.long
-    (standard_is c.in_ok-standard.standard c.long_string_refs.result c.args.pool.long c.in_ok-columns.columns c.in_ok-standard.ensures.ok c.long_string_refs.ensures c.in_ok-columns.ensures.ok)
-    ∙ c.in_ok-validation.ensures.ok ∙ ap Some (sym c.as_slice.ensures.value)
-
 pub are_sound-is_sound-requires-clause-long : goal.are_sound-is_sound-requires-clause-long
-are_sound-is_sound-requires-clause-long c = let raw : Pool = unindexed c.args.pool in let streams = entries c.args.streams in let listed : List TableDef = c.as_slice-listed.result.now in let rows : List (List ValueRef) = c.in_ok-validation.validation.items in
-    let reads : Reads raw listed streams rows = reads_by raw c.args.streams c.in_ok-tables.tables listed rows c.in_ok-standard.standard c.look_at.ensures.names c.look_at.ensures.bytes c.in_ok-pool.ensures.few c.in_ok-pool.ensures.counts
-    (standard_is c.in_ok-standard.standard c.long_string_refs.result c.args.pool.long c.in_ok-columns.columns c.in_ok-standard.ensures.ok c.long_string_refs.ensures c.in_ok-columns.ensures.ok)
-    c.in_ok-validation.ensures.ok c.as_slice-listed.ensures c.in_ok-tables.ensures.long c.in_ok-tables.ensures.ok in
+are_sound-is_sound-requires-clause-long c = let raw : Pool = unindexed c.args.pool in let streams = entries c.args.streams in let listed : List TableDef = c.as_slice-listed.result.now in let rows : List (List ValueRef) = c.in_ok-standard.field-0.validation.items in
+    let reads : Reads raw listed streams rows = reads_by raw c.args.streams c.in_ok-standard.field-0.tables listed rows c.look_at.ensures.names c.look_at.ensures.bytes c.in_ok-pool.ensures.few c.in_ok-pool.ensures.counts
+    c.in_ok-standard.ensures.validation c.as_slice-listed.ensures c.in_ok-standard.ensures.long c.in_ok-standard.ensures.ok in
     let shown : (unindexed c.in_ok-pool.pool) ≡ pool_shown (numbers_named streams raw.long listed rows) raw =
     c.in_ok-pool.ensures.ok (numbers_of_tables (map (table_kept streams raw.long) listed))
     (subst (λ many. IsCensus many (numbers_of_tables (map (table_kept streams raw.long) listed)) c.in_ok-census.census) c.num_strings.ensures.many (c.in_ok-census.ensures.ok raw.long reads.as_long))
-    ∙ ap (λ (rows : List (List ValueRef)). pool_shown (numbers_named streams raw.long listed rows) raw) c.as_slice-2.ensures.value in
+    ∙ ap (λ (rows : List (List ValueRef)). pool_shown (numbers_named streams raw.long listed rows) raw) c.as_slice.ensures.value in
     subst (λ long. AreAsLong long listed) (sym (ap (λ (p : Pool). p.long) shown)) reads.as_long
 
 pub with_named_texts-requires : goal.with_named_texts-requires
-with_named_texts-requires c = (c.in_ok-census.ensures.ok c.args.pool.long (subst (AreAsLong c.args.pool.long) (sym c.as_slice-listed.ensures) c.in_ok-tables.ensures.long)).many_counts ∙ c.num_strings.ensures.many
+with_named_texts-requires c = (c.in_ok-census.ensures.ok c.args.pool.long (subst (AreAsLong c.args.pool.long) (sym c.as_slice-listed.ensures) c.in_ok-standard.ensures.long)).many_counts ∙ c.num_strings.ensures.many
 
 pub are_sound-is_sound-requires-clause-census : goal.are_sound-is_sound-requires-clause-census
-are_sound-is_sound-requires-clause-census c = let raw : Pool = unindexed c.args.pool in let streams = entries c.args.streams in let listed : List TableDef = c.as_slice-listed.result.now in let rows : List (List ValueRef) = c.in_ok-validation.validation.items in
-    let reads : Reads raw listed streams rows = reads_by raw c.args.streams c.in_ok-tables.tables listed rows c.in_ok-standard.standard c.look_at.ensures.names c.look_at.ensures.bytes c.in_ok-pool.ensures.few c.in_ok-pool.ensures.counts
-    (standard_is c.in_ok-standard.standard c.long_string_refs.result c.args.pool.long c.in_ok-columns.columns c.in_ok-standard.ensures.ok c.long_string_refs.ensures c.in_ok-columns.ensures.ok)
-    c.in_ok-validation.ensures.ok c.as_slice-listed.ensures c.in_ok-tables.ensures.long c.in_ok-tables.ensures.ok in
+are_sound-is_sound-requires-clause-census c = let raw : Pool = unindexed c.args.pool in let streams = entries c.args.streams in let listed : List TableDef = c.as_slice-listed.result.now in let rows : List (List ValueRef) = c.in_ok-standard.field-0.validation.items in
+    let reads : Reads raw listed streams rows = reads_by raw c.args.streams c.in_ok-standard.field-0.tables listed rows c.look_at.ensures.names c.look_at.ensures.bytes c.in_ok-pool.ensures.few c.in_ok-pool.ensures.counts
+    c.in_ok-standard.ensures.validation c.as_slice-listed.ensures c.in_ok-standard.ensures.long c.in_ok-standard.ensures.ok in
     let shown : (unindexed c.in_ok-pool.pool) ≡ pool_shown (numbers_named streams raw.long listed rows) raw =
     c.in_ok-pool.ensures.ok (numbers_of_tables (map (table_kept streams raw.long) listed))
     (subst (λ many. IsCensus many (numbers_of_tables (map (table_kept streams raw.long) listed)) c.in_ok-census.census) c.num_strings.ensures.many (c.in_ok-census.ensures.ok raw.long reads.as_long))
-    ∙ ap (λ (rows : List (List ValueRef)). pool_shown (numbers_named streams raw.long listed rows) raw) c.as_slice-2.ensures.value in
-    let beside : c.as_slice-3.result.now ≡ (if is_some (table_kept_at validation_name listed) then [] else rows) = c.as_slice-3.ensures.value ∙ c.unlisted_rows-unlisted.ensures in
-    read_census raw listed streams rows reads (unindexed c.in_ok-pool.pool) shown c.num_strings.result c.as_slice-3.result.now c.count_rows.new.self c.num_strings.ensures.many beside
+    ∙ ap (λ (rows : List (List ValueRef)). pool_shown (numbers_named streams raw.long listed rows) raw) c.as_slice.ensures.value in
+    let beside : c.as_slice-2.result.now ≡ (if is_some (table_kept_at validation_name listed) then [] else rows) = c.as_slice-2.ensures.value ∙ c.unlisted_rows-unlisted.ensures in
+    read_census raw listed streams rows reads (unindexed c.in_ok-pool.pool) shown c.num_strings.result c.as_slice-2.result.now c.count_rows.new.self c.num_strings.ensures.many beside
     (c.count_rows.ensures c.num_strings.result (numbers_of_tables (map (table_kept streams raw.long) listed)) (c.in_ok-census.ensures.ok raw.long reads.as_long))
 
 pub invariant_of-result : goal.invariant_of-result
-invariant_of-result c = let raw : Pool = unindexed c.args.pool in let streams = entries c.args.streams in let listed : List TableDef = c.as_slice-listed.result.now in let rows : List (List ValueRef) = c.in_ok-validation.validation.items in
-    let reads : Reads raw listed streams rows = reads_by raw c.args.streams c.in_ok-tables.tables listed rows c.in_ok-standard.standard c.look_at.ensures.names c.look_at.ensures.bytes c.in_ok-pool.ensures.few c.in_ok-pool.ensures.counts
-    (standard_is c.in_ok-standard.standard c.long_string_refs.result c.args.pool.long c.in_ok-columns.columns c.in_ok-standard.ensures.ok c.long_string_refs.ensures c.in_ok-columns.ensures.ok)
-    c.in_ok-validation.ensures.ok c.as_slice-listed.ensures c.in_ok-tables.ensures.long c.in_ok-tables.ensures.ok in
+invariant_of-result c = let raw : Pool = unindexed c.args.pool in let streams = entries c.args.streams in let listed : List TableDef = c.as_slice-listed.result.now in let rows : List (List ValueRef) = c.in_ok-standard.field-0.validation.items in
+    let reads : Reads raw listed streams rows = reads_by raw c.args.streams c.in_ok-standard.field-0.tables listed rows c.look_at.ensures.names c.look_at.ensures.bytes c.in_ok-pool.ensures.few c.in_ok-pool.ensures.counts
+    c.in_ok-standard.ensures.validation c.as_slice-listed.ensures c.in_ok-standard.ensures.long c.in_ok-standard.ensures.ok in
     let shown : (unindexed c.in_ok-pool.pool) ≡ pool_shown (numbers_named streams raw.long listed rows) raw =
     c.in_ok-pool.ensures.ok (numbers_of_tables (map (table_kept streams raw.long) listed))
     (subst (λ many. IsCensus many (numbers_of_tables (map (table_kept streams raw.long) listed)) c.in_ok-census.census) c.num_strings.ensures.many (c.in_ok-census.ensures.ok raw.long reads.as_long))
-    ∙ ap (λ (rows : List (List ValueRef)). pool_shown (numbers_named streams raw.long listed rows) raw) c.as_slice-2.ensures.value in
+    ∙ ap (λ (rows : List (List ValueRef)). pool_shown (numbers_named streams raw.long listed rows) raw) c.as_slice.ensures.value in
     subst (λ (ts : List TableDef). AreKept (unindexed c.in_ok-pool.pool) ts streams c.are_sound-is_sound.result) c.as_slice-listed.ensures
     (read_kept raw listed streams rows reads (unindexed c.in_ok-pool.pool) shown c.are_sound-is_sound.result c.are_sound-is_sound.ensures)
 
 pub returns-clause-ok : goal.returns-clause-ok
-returns-clause-ok c = let raw : Pool = unindexed c.args.pool in let streams = entries c.args.streams in let listed : List TableDef = c.as_slice-listed.result.now in let rows : List (List ValueRef) = c.in_ok-validation.validation.items in
-    let reads : Reads raw listed streams rows = reads_by raw c.args.streams c.in_ok-tables.tables listed rows c.in_ok-standard.standard c.look_at.ensures.names c.look_at.ensures.bytes c.in_ok-pool.ensures.few c.in_ok-pool.ensures.counts
-    (standard_is c.in_ok-standard.standard c.long_string_refs.result c.args.pool.long c.in_ok-columns.columns c.in_ok-standard.ensures.ok c.long_string_refs.ensures c.in_ok-columns.ensures.ok)
-    c.in_ok-validation.ensures.ok c.as_slice-listed.ensures c.in_ok-tables.ensures.long c.in_ok-tables.ensures.ok in
+returns-clause-ok c = let raw : Pool = unindexed c.args.pool in let streams = entries c.args.streams in let listed : List TableDef = c.as_slice-listed.result.now in let rows : List (List ValueRef) = c.in_ok-standard.field-0.validation.items in
+    let reads : Reads raw listed streams rows = reads_by raw c.args.streams c.in_ok-standard.field-0.tables listed rows c.look_at.ensures.names c.look_at.ensures.bytes c.in_ok-pool.ensures.few c.in_ok-pool.ensures.counts
+    c.in_ok-standard.ensures.validation c.as_slice-listed.ensures c.in_ok-standard.ensures.long c.in_ok-standard.ensures.ok in
     let shown : (unindexed c.in_ok-pool.pool) ≡ pool_shown (numbers_named streams raw.long listed rows) raw =
     c.in_ok-pool.ensures.ok (numbers_of_tables (map (table_kept streams raw.long) listed))
     (subst (λ many. IsCensus many (numbers_of_tables (map (table_kept streams raw.long) listed)) c.in_ok-census.census) c.num_strings.ensures.many (c.in_ok-census.ensures.ok raw.long reads.as_long))
-    ∙ ap (λ (rows : List (List ValueRef)). pool_shown (numbers_named streams raw.long listed rows) raw) c.as_slice-2.ensures.value in
+    ∙ ap (λ (rows : List (List ValueRef)). pool_shown (numbers_named streams raw.long listed rows) raw) c.as_slice.ensures.value in
     subst (λ (ts : List TableDef). IsDatabaseOf raw streams (kept_of (unindexed c.in_ok-pool.pool) ts streams)) c.as_slice-listed.ensures
     (read_database raw listed streams rows reads (unindexed c.in_ok-pool.pool) shown)
 
 pub returns-clause-only : goal.returns-clause-only
-returns-clause-only c = let raw : Pool = unindexed c.args.pool in let streams = entries c.args.streams in let listed : List TableDef = c.as_slice-listed.result.now in let rows : List (List ValueRef) = c.in_ok-validation.validation.items in
-    let reads : Reads raw listed streams rows = reads_by raw c.args.streams c.in_ok-tables.tables listed rows c.in_ok-standard.standard c.look_at.ensures.names c.look_at.ensures.bytes c.in_ok-pool.ensures.few c.in_ok-pool.ensures.counts
-    (standard_is c.in_ok-standard.standard c.long_string_refs.result c.args.pool.long c.in_ok-columns.columns c.in_ok-standard.ensures.ok c.long_string_refs.ensures c.in_ok-columns.ensures.ok)
-    c.in_ok-validation.ensures.ok c.as_slice-listed.ensures c.in_ok-tables.ensures.long c.in_ok-tables.ensures.ok in
+returns-clause-only c = let raw : Pool = unindexed c.args.pool in let streams = entries c.args.streams in let listed : List TableDef = c.as_slice-listed.result.now in let rows : List (List ValueRef) = c.in_ok-standard.field-0.validation.items in
+    let reads : Reads raw listed streams rows = reads_by raw c.args.streams c.in_ok-standard.field-0.tables listed rows c.look_at.ensures.names c.look_at.ensures.bytes c.in_ok-pool.ensures.few c.in_ok-pool.ensures.counts
+    c.in_ok-standard.ensures.validation c.as_slice-listed.ensures c.in_ok-standard.ensures.long c.in_ok-standard.ensures.ok in
     let shown : (unindexed c.in_ok-pool.pool) ≡ pool_shown (numbers_named streams raw.long listed rows) raw =
     c.in_ok-pool.ensures.ok (numbers_of_tables (map (table_kept streams raw.long) listed))
     (subst (λ many. IsCensus many (numbers_of_tables (map (table_kept streams raw.long) listed)) c.in_ok-census.census) c.num_strings.ensures.many (c.in_ok-census.ensures.ok raw.long reads.as_long))
-    ∙ ap (λ (rows : List (List ValueRef)). pool_shown (numbers_named streams raw.long listed rows) raw) c.as_slice-2.ensures.value in
+    ∙ ap (λ (rows : List (List ValueRef)). pool_shown (numbers_named streams raw.long listed rows) raw) c.as_slice.ensures.value in
     λ k is. read_once raw listed streams rows reads k is (unindexed c.in_ok-pool.pool) shown ∙ ap (λ (ts : List TableDef). kept_of (unindexed c.in_ok-pool.pool) ts streams) c.as_slice-listed.ensures
 
 pub returns-clause-bounded : goal.returns-clause-bounded
-returns-clause-bounded c = c.in_ok-tables.ensures.bounded
-
-pub returns-in_err-columns-clause-ok : goal.returns-in_err-columns-clause-ok
-returns-in_err-columns-clause-ok c = no_value _ c.from_residual.result c.in_err-columns.field-0.0 c.from_residual.ensures.1
-
-pub returns-in_err-columns-clause-only : goal.returns-in_err-columns-clause-only
-returns-in_err-columns-clause-only c = no_value _ c.from_residual.result c.in_err-columns.field-0.0 c.from_residual.ensures.1
-
-pub returns-in_err-columns-clause-bounded : goal.returns-in_err-columns-clause-bounded
-returns-in_err-columns-clause-bounded c = no_value _ c.from_residual.result c.in_err-columns.field-0.0 c.from_residual.ensures.1
-
-pub returns-in_err-columns-clause-kind : goal.returns-in_err-columns-clause-kind
-returns-in_err-columns-clause-kind c = memory_refused c.from_residual.result c.in_err-columns.field-0.0 _ c.from_residual.ensures.1 c.in_err-columns.ensures.kind
+returns-clause-bounded c = c.in_ok-standard.ensures.bounded
 
 pub returns-in_err-standard-clause-ok : goal.returns-in_err-standard-clause-ok
-returns-in_err-standard-clause-ok c = no_value _ c.from_residual-in_err-standard.result c.in_err-standard.field-0.0 c.from_residual-in_err-standard.ensures.1
+returns-in_err-standard-clause-ok c = no_value _ c.from_residual.result c.in_err-standard.field-0.0 c.from_residual.ensures.1
 
 pub returns-in_err-standard-clause-only : goal.returns-in_err-standard-clause-only
-returns-in_err-standard-clause-only c = no_value _ c.from_residual-in_err-standard.result c.in_err-standard.field-0.0 c.from_residual-in_err-standard.ensures.1
+returns-in_err-standard-clause-only c = no_value _ c.from_residual.result c.in_err-standard.field-0.0 c.from_residual.ensures.1
 
 pub returns-in_err-standard-clause-bounded : goal.returns-in_err-standard-clause-bounded
-returns-in_err-standard-clause-bounded c = no_value _ c.from_residual-in_err-standard.result c.in_err-standard.field-0.0 c.from_residual-in_err-standard.ensures.1
+returns-in_err-standard-clause-bounded c = no_value _ c.from_residual.result c.in_err-standard.field-0.0 c.from_residual.ensures.1
 
 pub returns-in_err-standard-clause-kind : goal.returns-in_err-standard-clause-kind
-returns-in_err-standard-clause-kind c = memory_refused c.from_residual-in_err-standard.result c.in_err-standard.field-0.0 _ c.from_residual-in_err-standard.ensures.1 c.in_err-standard.ensures.kind
-
-pub returns-in_err-validation-clause-ok : goal.returns-in_err-validation-clause-ok
-returns-in_err-validation-clause-ok c = no_value _ c.from_residual-in_err-validation.result c.in_err-validation.field-0.0 c.from_residual-in_err-validation.ensures.1
-
-pub returns-in_err-validation-clause-only : goal.returns-in_err-validation-clause-only
-returns-in_err-validation-clause-only c = no_value _ c.from_residual-in_err-validation.result c.in_err-validation.field-0.0 c.from_residual-in_err-validation.ensures.1
-
-pub returns-in_err-validation-clause-bounded : goal.returns-in_err-validation-clause-bounded
-returns-in_err-validation-clause-bounded c = no_value _ c.from_residual-in_err-validation.result c.in_err-validation.field-0.0 c.from_residual-in_err-validation.ensures.1
-
-pub returns-in_err-tables-clause-ok : goal.returns-in_err-tables-clause-ok
-returns-in_err-tables-clause-ok c = no_value _ c.from_residual-in_err-tables.result c.in_err-tables.field-0.0 c.from_residual-in_err-tables.ensures.1
-
-pub returns-in_err-tables-clause-only : goal.returns-in_err-tables-clause-only
-returns-in_err-tables-clause-only c = no_value _ c.from_residual-in_err-tables.result c.in_err-tables.field-0.0 c.from_residual-in_err-tables.ensures.1
-
-pub returns-in_err-tables-clause-bounded : goal.returns-in_err-tables-clause-bounded
-returns-in_err-tables-clause-bounded c = no_value _ c.from_residual-in_err-tables.result c.in_err-tables.field-0.0 c.from_residual-in_err-tables.ensures.1
-
-pub returns-in_err-tables-clause-kind : goal.returns-in_err-tables-clause-kind
-returns-in_err-tables-clause-kind c = err_passed c.from_residual-in_err-tables.result c.in_err-tables.field-0.0 _ c.from_residual-in_err-tables.ensures.1 c.in_err-tables.ensures.kind
+returns-in_err-standard-clause-kind c = err_passed c.from_residual.result c.in_err-standard.field-0.0 _ c.from_residual.ensures.1 c.in_err-standard.ensures.kind
 
 pub returns-in_err-census-clause-ok : goal.returns-in_err-census-clause-ok
 returns-in_err-census-clause-ok c = no_value _ c.from_residual-in_err-census.result c.in_err-census.field-0.0 c.from_residual-in_err-census.ensures.1

@@ -1,7 +1,7 @@
 use Rattle.std.specs.Vec.Iter.{into_iter_items}
 use Rattle.std.proofs.Common.{◌∙◌}
-use Rattle.msi_database_storage.proofs.PutBackLemmas.{contains_inserted, put_back_all, removed_last}
-use Rattle.msi_database_storage.proofs.storing.+store_all.Goals as goal
+use Rattle.msi_database_cells.proofs.PutBackLemmas.{contains_inserted, put_back_all, removed_last}
+use Rattle.msi_database_cells.proofs.storing.+store_all.Goals as goal
 
 pub put_back-requires : goal.put_back-requires
 put_back-requires t c = contains_inserted c.args.streams.now _ _ _ _ (c.in-Err.ensures.err ∙ c.in_ok-before-in-Some-bytes.ensures.ok) c.duplicate.ensures

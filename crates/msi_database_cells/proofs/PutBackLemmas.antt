@@ -8,8 +8,8 @@ use Rattle.msi_container_format.specs.Names.{name_cmp}
 use Rattle.msi_container_format.specs.Streams.{Streams, with_or_without}
 use Rattle.msi_container_format.proofs.NamesLemmas.{names_total, exact_names}
 use Rattle.msi_container_format.proofs.StreamsLemmas.{put_back_same, is_equal}
-use Rattle.msi_database_storage.specs.declared.storing.Stored.{Stored}
-use Rattle.msi_database_storage.specs.Storing.{stored_all, HaveOwnNames}
+use Rattle.msi_database_cells.specs.declared.storing.Stored.{Stored}
+use Rattle.msi_database_cells.specs.Storing.{stored_all, HaveOwnNames}
 
 -- what stands at a name after one is stored
 abbrev after : Option (List ℕ) → Bool → Option (List ℕ) → Option (List ℕ)
