@@ -5,10 +5,10 @@ use Rattle.std.specs.List.{list_any, AllByRecursion, enumerate_from}
 use Rattle.msi_text_pool_base.specs.Pool.{Pool, Place, IsPool, forgotten}
 use Rattle.msi_summary_properties.specs.Properties.{Properties}
 use Rattle.msi_summary.specs.Summary.{SpellsSummary}
-use Rattle.msi_table_values.specs.declared.value.ValueRef.{ValueRef}
+use Rattle.msi_table_cells.specs.declared.cell.ValueRef.{ValueRef}
 use Rattle.msi_table_values.specs.Columns.{ColumnDef, types_of}
 use Rattle.msi_table.specs.Cells.{rows_in}
-use Rattle.msi_table_values.specs.CellValues.{row_values}
+use Rattle.msi_table_cells.specs.CellValues.{row_values}
 use Rattle.msi_database_schema.specs.Keys.{table_key, summary_key, string_pool_name, string_data_name}
 use Rattle.msi_database_schema.specs.System.{tables_name, columns_name, validation_name, tables_columns, columns_columns, validation_columns}
 use Rattle.msi_database_schema.specs.Schema.{schema_of}

@@ -4,7 +4,7 @@ use Rattle.std.proofs.lemmas.List.{append_assoc, drop_all, drop_more}
 use Rattle.msi_table_values.specs.declared.value.Value.{Value}
 use Rattle.msi_table_values.specs.declared.value.Value.TheVariants.{Null}
 use Rattle.msi_table_values.specs.Columns.{ColumnDef}
-use Rattle.msi_table_order.specs.StoredOrder.{parts_where}
+use Rattle.msi_table_cells.specs.StoredOrder.{parts_where}
 
 abbrev pub is_key : ColumnDef → Bool
 is_key c = c.is_primary_key

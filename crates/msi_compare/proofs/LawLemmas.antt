@@ -9,7 +9,7 @@ use Rattle.msi_table_values.specs.declared.value.Value.{Value}
 use Rattle.msi_table_values.specs.Columns.{ColumnDef}
 use Rattle.msi_table_values.specs.OrderLaws.{value_eq-Decides}
 use Rattle.msi_table_values.specs.Values.{value_cmp}
-use Rattle.msi_table_order.specs.KeyOrder.{key_of, same_key}
+use Rattle.msi_table_cells.specs.KeyOrder.{key_of, same_key}
 use Rattle.msi_compare.specs.declared.comparing.Difference.{Difference}
 use Rattle.msi_compare.specs.Differences.{differences, each_from, either, is_same_as, new_with, of_new, of_old, old_with, place_from, place_of, same_row, stands_at}
 use Rattle.msi_compare.specs.Laws.{NoneMeansSame, row_of}

@@ -6,7 +6,7 @@ use Rattle.std.proofs.lemmas.List.{take_more, length-take}
 use Rattle.msi_table_values.specs.declared.value.Value.{Value}
 use Rattle.msi_table_values.specs.Columns.{ColumnDef}
 use Rattle.msi_table_values.specs.Values.{value_cmp}
-use Rattle.msi_table_order.specs.KeyOrder.{key_of, same_key}
+use Rattle.msi_table_cells.specs.KeyOrder.{key_of, same_key}
 use Rattle.msi_compare.specs.Differences.{IsIndex, either, place_from, place_of}
 
 either_cond : (b : Bool) (x : ℕ) (p t : Option ℕ) → either (cond b (Some x) p) t ≡ cond b (Some x) (either p t)

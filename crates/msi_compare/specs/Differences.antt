@@ -8,7 +8,7 @@ use Rattle.std.specs.Ordering.{eq_by_cmp}
 use Rattle.msi_table_values.specs.declared.value.Value.{Value}
 use Rattle.msi_table_values.specs.Columns.{ColumnDef}
 use Rattle.msi_table_values.specs.Values.{value_cmp}
-use Rattle.msi_table_order.specs.KeyOrder.{key_of, same_key}
+use Rattle.msi_table_cells.specs.KeyOrder.{key_of, same_key}
 use Rattle.msi_compare.specs.declared.comparing.Difference.{Difference}
 use Rattle.msi_compare.specs.declared.comparing.Difference.TheVariants.{Removed, Changed, Added}
 

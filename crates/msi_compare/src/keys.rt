@@ -8,7 +8,7 @@ ghost use Rattle.std.proofs.Common.{refl};
 ghost use Rattle.msi_text_base.specs.Results.{OnlyMemory};
 ghost use Rattle.msi_table_values.specs.OrderLaws.{value_cmp-total};
 ghost use Rattle.msi_table_values.specs.Values.{value_cmp};
-ghost use Rattle.msi_table_order.specs.KeyOrder.{key_of};
+ghost use Rattle.msi_table_cells.specs.KeyOrder.{key_of};
 
 use msi_table_values::column::Column;
 use msi_table_values::value::Value;

@@ -5,12 +5,12 @@ use Rattle.msi_database_storage.specs.Streams.{Streams}
 use Rattle.std.specs.FinMap.{entries}
 use Rattle.msi_container_format.specs.Streams as maps
 use Rattle.msi_text_pool_base.specs.Pool.{Pool}
-use Rattle.msi_table_values.specs.declared.value.ValueRef.{ValueRef}
+use Rattle.msi_table_cells.specs.declared.cell.ValueRef.{ValueRef}
 use Rattle.msi_table_values.specs.Columns.{ColumnDef, types_of}
 use Rattle.msi_table.specs.Tables.{TableDef}
-use Rattle.msi_table_values.specs.Fitting.{FitsRow, FitsTable}
-use Rattle.msi_table_order.specs.StoredOrder.{row_cmp, in_stored_order}
-use Rattle.msi_table_order.proofs.StableSortLemmas.{sort_moves}
+use Rattle.msi_table_cells.specs.Fitting.{FitsRow, FitsTable}
+use Rattle.msi_table_cells.specs.StoredOrder.{row_cmp, in_stored_order}
+use Rattle.msi_table_cells.proofs.StableSortLemmas.{sort_moves}
 use Rattle.msi_database_schema.proofs.RowOrderLemmas.{names_total}
 use Rattle.msi_database_changes.specs.Database.{table_at}
 use Rattle.msi_database_changes.specs.Changes.{Change, no_change, with_stored}

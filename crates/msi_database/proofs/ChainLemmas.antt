@@ -8,11 +8,11 @@ use Rattle.msi_text_base.specs.declared.errors.ErrorKind.TheVariants.{InvalidInp
 use Rattle.msi_text_pool_base.specs.Pool.{Place}
 use Rattle.msi_table_values.specs.declared.value.Value.{Value}
 use Rattle.msi_table_values.specs.declared.value.Value.TheVariants.{Str}
-use Rattle.msi_table_values.specs.declared.value.ValueRef.{ValueRef}
+use Rattle.msi_table_cells.specs.declared.cell.ValueRef.{ValueRef}
 use Rattle.msi_table_values.specs.Columns.{ColumnDef}
-use Rattle.msi_table_order.specs.StoredOrder.{in_stored_order}
+use Rattle.msi_table_cells.specs.StoredOrder.{in_stored_order}
 use Rattle.msi_text_base.specs.Refusals.{first_refusal, or_refused, ◌>>=◌}
-use Rattle.msi_table_values.specs.TableCells.{TableCells}
+use Rattle.msi_table_cells.specs.TableCells.{TableCells}
 use Rattle.msi_database_schema.specs.Keys.{is_table_name}
 use Rattle.msi_database_schema.specs.System.{is_schema_table, is_system_table, tables_name, columns_name, validation_name}
 use Rattle.msi_database_schema.specs.Description.{column_rows, validation_rows}

@@ -6,7 +6,7 @@ use Rattle.msi_text_base.specs.declared.errors.ErrorKind.{ErrorKind}
 use Rattle.msi_text_base.specs.declared.errors.ErrorKind.TheVariants.{InvalidData}
 use Rattle.msi_text_base.specs.Results.{OnlyMemory}
 use Rattle.msi_text_pool_base.specs.Pool.{Pool}
-use Rattle.msi_table_values.specs.declared.value.ValueRef.{ValueRef}
+use Rattle.msi_table_cells.specs.declared.cell.ValueRef.{ValueRef}
 use Rattle.msi_table.specs.Tables.{TableDef}
 use Rattle.msi_text_base.specs.Refusals.{IsRefusal, or_refused}
 use Rattle.msi_database_changes.specs.Database.{is_sound, table_at}

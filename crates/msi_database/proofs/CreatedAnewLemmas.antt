@@ -8,13 +8,13 @@ use Rattle.msi_text_base.specs.declared.errors.ErrorKind.TheVariants.{InvalidDat
 use Rattle.msi_text_pool_base.specs.FirstFit.{most_places}
 use Rattle.msi_text_pool_base.specs.Pool.{Pool}
 use Rattle.msi_table_values.specs.declared.value.Value.{Value}
-use Rattle.msi_table_values.specs.declared.value.ValueRef.{ValueRef}
+use Rattle.msi_table_cells.specs.declared.cell.ValueRef.{ValueRef}
 use Rattle.msi_table_values.specs.Columns.{ColumnDef, types_of}
-use Rattle.msi_table_values.specs.Fitting.{FitsTable}
-use Rattle.msi_table_order.specs.KeyOrder.{in_key_order}
+use Rattle.msi_table_cells.specs.Fitting.{FitsTable}
+use Rattle.msi_table_cells.specs.KeyOrder.{in_key_order}
 use Rattle.msi_table.specs.Tables.{TableDef}
 use Rattle.msi_text_base.specs.Refusals.{IsRefusal, Refusals, first_refusal, or_refused, unless, unless_refused, ◌>>=◌}
-use Rattle.msi_table_values.specs.TableCells.{TableCells}
+use Rattle.msi_table_cells.specs.TableCells.{TableCells}
 use Rattle.msi_database_schema.specs.Description.{column_rows, tables_row, validation_rows}
 use Rattle.msi_database_schema.specs.Keys.{table_key}
 use Rattle.msi_database_schema.specs.System.{columns_name, tables_name, validation_name}

@@ -6,11 +6,11 @@ use Rattle.msi_text_base.proofs.OptionLemmas.{map_some}
 use Rattle.std.proofs.lemmas.Bool.{leb-true}
 use Rattle.msi_text_pool_base.specs.FirstFit.{most_places}
 use Rattle.msi_text_pool_base.specs.Pool.{Pool}
-use Rattle.msi_table_values.specs.declared.value.ValueRef.{ValueRef}
+use Rattle.msi_table_cells.specs.declared.cell.ValueRef.{ValueRef}
 use Rattle.msi_table.specs.Tables.{TableDef, CanStore}
 use Rattle.msi_table_values.specs.Columns.{types_of}
-use Rattle.msi_table_values.specs.Fitting.{FitsTable}
-use Rattle.msi_table_values.specs.TableCells.{TableCells}
+use Rattle.msi_table_cells.specs.Fitting.{FitsTable}
+use Rattle.msi_table_cells.specs.TableCells.{TableCells}
 use Rattle.msi_database_schema.specs.Keys.{is_table_name, table_key}
 use Rattle.msi_database_schema.specs.System.{is_system_table, tables_name, columns_name, validation_name, tables_columns, columns_columns}
 use Rattle.msi_database_changes.specs.Database.{Database, is_sound, table_at, rows_of}

@@ -7,14 +7,14 @@ use Rattle.msi_table_values.specs.Columns.{ColumnDef}
 use Rattle.msi_table.specs.Tables.{TableDef}
 use Rattle.msi_query.specs.Queries.{DeleteQuery, InsertQuery, UpdateQuery}
 use Rattle.msi_text_base.specs.Refusals.{Refusals, IsRefusal, first_refusal, or_refused, unless, unless_refused, ◌>>=◌}
-use Rattle.msi_table_values.specs.TableCells.{TableCells}
+use Rattle.msi_table_cells.specs.TableCells.{TableCells}
 use Rattle.msi_database_schema.specs.System.{is_system_table}
 use Rattle.msi_database_changes.specs.Database.{Database, is_sound, table_at, rows_of}
 use Rattle.msi_database_changes.specs.Widening.{widened}
 use Rattle.msi_database_changes.specs.Changes.{Change, no_change, absent_refusals, barred_refusals, missing_or}
 use Rattle.msi_database_changes.specs.Delete.{condition_refusals, delete_rows, early_delete_refusals, rows_deleted}
 use Rattle.msi_database_changes.specs.Insert.{early_insert_refusals, insert_at_width, insert_rows, keys_of, misfit_refusals, row_refusals, rows_added, rows_inserted}
-use Rattle.msi_table_order.specs.KeyOrder.{key_of}
+use Rattle.msi_table_cells.specs.KeyOrder.{key_of}
 use Rattle.msi_database_cells.specs.KeySets.{clash_refusals}
 use Rattle.msi_database_changes.specs.Update.{early_update_refusals, is_update_barred, keys_collide, rows_updated, set_refusals, update_refusals, update_at_width, update_rows}
 use Rattle.msi_database_changes.proofs.AtWidthLemmas.{sound_widened}

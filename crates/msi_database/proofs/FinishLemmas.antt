@@ -5,7 +5,7 @@ use Rattle.msi_container_format.specs.Streams as maps
 use Rattle.msi_text_base.specs.Lists.{list_cmp}
 use Rattle.msi_text_base.proofs.OptionLemmas.{none_there}
 use Rattle.msi_text_pool_base.specs.Pool.{Pool}
-use Rattle.msi_table_values.specs.declared.value.ValueRef.{ValueRef}
+use Rattle.msi_table_cells.specs.declared.cell.ValueRef.{ValueRef}
 use Rattle.msi_table_values.specs.Columns.{ColumnDef}
 use Rattle.msi_table.specs.Tables.{TableDef}
 use Rattle.msi_database_schema.specs.Keys.{table_key}

@@ -7,7 +7,7 @@ use Rattle.msi_text_pool_base.specs.Pool.{Pool}
 use Rattle.msi_container_format.specs.Names.{is_name_length}
 use Rattle.msi_container_format.specs.Streams as maps
 use Rattle.msi_table.specs.Cells.{rows_in}
-use Rattle.msi_table_values.specs.CellValues.{row_values}
+use Rattle.msi_table_cells.specs.CellValues.{row_values}
 use Rattle.msi_table_values.specs.Columns.{ColumnDef, types_of}
 use Rattle.msi_table.specs.Tables.{TableDef}
 use Rattle.msi_database_schema.specs.Keys.{table_key}

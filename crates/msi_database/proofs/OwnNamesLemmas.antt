@@ -6,7 +6,7 @@ use Rattle.msi_text_pool_base.specs.Pool.{Place}
 use Rattle.msi_table_values.specs.declared.value.Value.{Value}
 use Rattle.msi_table_values.specs.declared.value.Value.TheVariants.{Str}
 use Rattle.msi_table_values.specs.Columns.{ColumnDef}
-use Rattle.msi_table_values.specs.TableCells.{TableCells}
+use Rattle.msi_table_cells.specs.TableCells.{TableCells}
 use Rattle.msi_database_schema.specs.System.{is_schema_table, tables_name, columns_name, validation_name, tables_columns}
 use Rattle.msi_database_schema.specs.Schema.{schema_of}
 use Rattle.msi_database_schema.specs.Description.{column_rows, validation_rows}

@@ -6,16 +6,16 @@ use Rattle.std.proofs.lemmas.Bool.{leb-true}
 use Rattle.msi_text_base.specs.declared.errors.ErrorKind.{ErrorKind}
 use Rattle.msi_text_pool_base.specs.FirstFit.{most_places}
 use Rattle.msi_text_pool_base.specs.Pool.{Place, Pool}
-use Rattle.msi_table_values.specs.declared.value.ValueRef.{ValueRef}
+use Rattle.msi_table_cells.specs.declared.cell.ValueRef.{ValueRef}
 use Rattle.msi_table_values.specs.declared.value.Value.{Value}
 use Rattle.msi_table_values.specs.Columns.{ColumnDef, types_of}
-use Rattle.msi_table_values.specs.CellValues.{row_values}
+use Rattle.msi_table_cells.specs.CellValues.{row_values}
 use Rattle.msi_table.specs.Tables.{TableDef}
-use Rattle.msi_table_values.specs.Fitting.{FitsTable}
+use Rattle.msi_table_cells.specs.Fitting.{FitsTable}
 use Rattle.msi_query.specs.Queries.{InsertQuery, UpdateQuery, DeleteQuery}
 use Rattle.msi_query_expressions.specs.Conditions.{meets}
 use Rattle.msi_text_base.specs.Refusals.{first_refusal, unless_refused}
-use Rattle.msi_table_values.specs.TableCells.{TableCells}
+use Rattle.msi_table_cells.specs.TableCells.{TableCells}
 use Rattle.msi_query_joins.specs.Selection.{has_columns, condition_names}
 use Rattle.msi_database_schema.specs.Keys.{is_table_name, table_key}
 use Rattle.msi_database_schema.specs.System.{is_system_table}
@@ -26,7 +26,7 @@ use Rattle.msi_database_changes.specs.Widening.{widened, widening}
 use Rattle.msi_database_cells.specs.Setting.{cells_set}
 use Rattle.msi_database_cells.specs.Texts.{PoolInUse, UsedPool, cell_released, in_turn, in_use, rows_put, rows_released, settled}
 use Rattle.msi_database_cells.proofs.NarrowLemmas.{cells_set_grows, cells_set_narrow, released_many, rows_put_narrow, turn_narrow}
-use Rattle.msi_table_order.specs.KeyOrder.{in_key_order}
+use Rattle.msi_table_cells.specs.KeyOrder.{in_key_order}
 use Rattle.msi_database_changes.specs.Insert.{table_with, cells_added, insert_at_width, insert_rows, row_refusals}
 use Rattle.msi_database_changes.specs.Update.{is_update_barred, row_updated, update_refusals, update_at_width, update_rows}
 use Rattle.msi_database_changes.specs.Delete.{delete_rows, rows_meeting}

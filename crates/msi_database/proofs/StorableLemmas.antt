@@ -10,13 +10,13 @@ use Rattle.msi_text_base.specs.Lists.{has_pair}
 use Rattle.msi_text_pool_base.specs.Pool.{Place}
 use Rattle.msi_text_pool_base.proofs.TakenLemmas.{taken_takes}
 use Rattle.msi_table_values.specs.declared.value.Value.{Value}
-use Rattle.msi_table_values.specs.declared.value.ValueRef.{ValueRef}
+use Rattle.msi_table_cells.specs.declared.cell.ValueRef.{ValueRef}
 use Rattle.msi_table_values.specs.Columns.{ColumnDef, types_of}
-use Rattle.msi_table_values.specs.Fitting.{FitsTable}
+use Rattle.msi_table_cells.specs.Fitting.{FitsTable}
 use Rattle.msi_text_base.specs.Refusals.{Refusals, first_refusal}
-use Rattle.msi_table_values.specs.TableCells.{TableCells}
+use Rattle.msi_table_cells.specs.TableCells.{TableCells}
 use Rattle.msi_database_cells.specs.Texts.{PoolInUse, cell_put, in_turn, rows_put}
-use Rattle.msi_table_order.specs.KeyOrder.{in_key_order, key_of, same_key}
+use Rattle.msi_table_cells.specs.KeyOrder.{in_key_order, key_of, same_key}
 use Rattle.msi_database_changes.specs.Insert.{cells_added, keys_of, row_fits, row_refusals, table_with}
 use Rattle.msi_database_cells.specs.KeySets.{key_refusals}
 use Rattle.msi_database_changes.proofs.RefusedLemmas.{front_fails, first_fails, each_passes}

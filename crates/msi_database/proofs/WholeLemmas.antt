@@ -8,11 +8,11 @@ use Rattle.msi_text_base.specs.declared.errors.ErrorKind.{ErrorKind}
 use Rattle.msi_text_base.specs.declared.errors.ErrorKind.TheVariants.{InvalidData, NotFound}
 use Rattle.msi_text_pool_base.specs.Pool.{Pool}
 use Rattle.msi_text_base.specs.Lists.{list_cmp}
-use Rattle.msi_table_values.specs.declared.value.ValueRef.{ValueRef}
+use Rattle.msi_table_cells.specs.declared.cell.ValueRef.{ValueRef}
 use Rattle.msi_table_values.specs.Columns.{ColumnDef}
 use Rattle.msi_table.specs.Tables.{TableDef}
 use Rattle.msi_text_base.specs.Refusals.{or_refused, ◌>>=◌}
-use Rattle.msi_table_values.specs.TableCells.{TableCells}
+use Rattle.msi_table_cells.specs.TableCells.{TableCells}
 use Rattle.msi_table.specs.Rows.{TableRows, table_rows}
 use Rattle.msi_query_joins.specs.Rows.{RelationCells, cells_of, whole_table}
 use Rattle.msi_database_changes.specs.Database.{table_at, Tables}

@@ -6,7 +6,7 @@ use Rattle.msi_text_base.specs.declared.errors.ErrorKind.{ErrorKind}
 use Rattle.msi_text_pool_base.specs.Pool.{Pool}
 use Rattle.msi_table.specs.Tables.{TableDef, long_table_of}
 use Rattle.msi_text_base.specs.Refusals.{IsRefusal}
-use Rattle.msi_table_values.specs.TableCells.{TableCells}
+use Rattle.msi_table_cells.specs.TableCells.{TableCells}
 use Rattle.std.proofs.Common.{ℕ, List}
 use Rattle.msi_database_cells.specs.Texts.{UsedPool}
 use Rattle.msi_database_changes.specs.Database.{Database, is_sound, table_at}

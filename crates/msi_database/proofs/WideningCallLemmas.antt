@@ -10,13 +10,13 @@ use Rattle.std.proofs.lemmas.List.{get_or-map, length-map, take_more}
 use Rattle.std.proofs.Math.Seq.{take-length}
 use Rattle.std.proofs.lemmas.Option.{same_Some}
 use Rattle.msi_text_base.specs.Lists.{list_cmp}
-use Rattle.msi_table_values.specs.declared.value.ValueRef.{ValueRef}
+use Rattle.msi_table_cells.specs.declared.cell.ValueRef.{ValueRef}
 use Rattle.msi_table.specs.Tables.{CanStore, TableDef, long_table_of}
 use Rattle.msi_text_pool_base.specs.Pool.{Pool}
-use Rattle.msi_table_order.proofs.SortedRowsLemmas.{all_at}
+use Rattle.msi_table_cells.proofs.SortedRowsLemmas.{all_at}
 use Rattle.msi_table_values.specs.Columns.{ColumnDef, types_of}
-use Rattle.msi_table_values.specs.Fitting.{FitsTable}
-use Rattle.msi_table_values.specs.TableCells.{TableCells}
+use Rattle.msi_table_cells.specs.Fitting.{FitsTable}
+use Rattle.msi_table_cells.specs.TableCells.{TableCells}
 use Rattle.msi_container_format.specs.Names.{is_name_length}
 use Rattle.msi_database_schema.specs.Keys.{is_table_name, table_key}
 use Rattle.msi_database_changes.specs.Database.{Database, Tables, has_table, is_sound, table_at}

@@ -8,17 +8,17 @@ use Rattle.msi_text_base.proofs.BoolLemmas.{T_parts}
 use Rattle.std.proofs.lemmas.Nat.{div-add-mod', div_below, mod_below}
 use Rattle.std.proofs.lemmas.Option.{same_Some, none-some}
 use Rattle.msi_text_base.specs.Lists.{tabulated}
-use Rattle.msi_table_values.specs.declared.value.ValueRef.{ValueRef}
+use Rattle.msi_table_cells.specs.declared.cell.ValueRef.{ValueRef}
 use Rattle.msi_table_values.specs.declared.column.ColumnType.{ColumnType}
 use Rattle.msi_table_values.specs.declared.column.ColumnType.TheVariants as coltype
 use Rattle.msi_table_values.specs.Columns.{ColumnDef, types_of}
-use Rattle.msi_table_values.specs.Fitting.{FitsTable}
+use Rattle.msi_table_cells.specs.Fitting.{FitsTable}
 use Rattle.msi_table.specs.Cells.{row_count, row_in, rows_in, table_bytes, width, widths}
 use Rattle.msi_table.specs.Tables.{TableDef}
 use Rattle.msi_table.proofs.LongRowsLemmas.{each_fits_long, fits_long}
 use Rattle.msi_table.proofs.ReadBackLemmas.{rows_in-table_bytes, sum-widths, width_of_row}
 use Rattle.msi_table.proofs.ReadRowsLemmas.{length-tabulated}
-use Rattle.msi_table_values.specs.TableCells.{TableCells}
+use Rattle.msi_table_cells.specs.TableCells.{TableCells}
 use Rattle.msi_container_format.specs.Names.{is_name_length}
 use Rattle.msi_database_schema.proofs.RowOrderLemmas.{names_total}
 use Rattle.msi_database_schema.specs.Keys.{is_table_name, summary_key, table_key}

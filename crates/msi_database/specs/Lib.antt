@@ -15,7 +15,7 @@ pub use Rattle.msi_container_format.specs.Names
 pub use Rattle.msi_table_values.specs.declared.value.Value
 pub use Rattle.msi_table_values.specs.Columns
 pub use Rattle.msi_table_values.specs.Values
-pub use Rattle.msi_table_values.specs.TableCells
+pub use Rattle.msi_table_cells.specs.TableCells
 pub use Rattle.msi_table.specs.Tables
 pub use Rattle.msi_table.specs.Rows
 pub use Rattle.msi_text_base.specs.Refusals

@@ -9,7 +9,7 @@ ghost use Rattle.msi_database_changes.specs.Changes.{absent_refusals, barred_ref
 ghost use Rattle.msi_database_changes.specs.Database.{is_sound as is_sound_one, table_at};
 ghost use Rattle.msi_container_format.specs.Names.{is_name_length};
 ghost use Rattle.msi_table_values.specs.Columns.{types_of};
-ghost use Rattle.msi_table_values.specs.Fitting.{FitsTable};
+ghost use Rattle.msi_table_cells.specs.Fitting.{FitsTable};
 ghost use Rattle.msi_database_schema.specs.Keys.{table_key as key_of};
 ghost use Rattle.msi_database_cells.specs.Storing.{HaveOwnNames};
 ghost use Rattle.msi_database_cells.specs.Texts.{settled};
@@ -28,7 +28,7 @@ use msi_database_storage::listing::copies_without;
 use msi_database_storage::parts::{stored_rows, stream_of};
 use msi_table::Table;
 use msi_table::parts::long_table;
-use msi_table_values::value::ValueRef;
+use msi_table_cells::cell::ValueRef;
 use msi_text_base::errors::{Error, ErrorKind};
 use msi_text_base::text::Items;
 use msi_text_pool::stringpool::StringPool;

@@ -30,8 +30,9 @@ use msi_database_schema::system::{COLUMNS, TABLES, VALIDATION};
 use msi_database_storage::listing::copies_with;
 use msi_database_storage::parts::{no_stream, stream_of};
 use msi_table::Table;
+use msi_table_cells::cell::ValueRef;
 use msi_table_values::column::Column;
-use msi_table_values::value::{Value, ValueRef};
+use msi_table_values::value::Value;
 use msi_text_base::errors::{Error, ErrorKind};
 use msi_text_base::text::Items;
 

@@ -1,7 +1,7 @@
 -- What is counted beside the tables of a list.
 use Rattle.std.proofs.Common.{◌≡◌, Bool, true, false, List, [], sym, subst}
 use Rattle.std.specs.Prelude.{if◌then◌else◌}
-use Rattle.msi_table_values.specs.declared.value.ValueRef.{ValueRef}
+use Rattle.msi_table_cells.specs.declared.cell.ValueRef.{ValueRef}
 use Rattle.msi_table.specs.Census.{CensusDef, CountsMore, numbers_of_rows}
 use Rattle.msi_table.proofs.CensusLemmas.{nothing_more}
 

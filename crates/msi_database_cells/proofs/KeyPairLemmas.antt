@@ -9,7 +9,7 @@ use Rattle.msi_text_base.proofs.ListLemmas.{any_joined}
 use Rattle.msi_table_values.specs.declared.value.Value.{Value}
 use Rattle.msi_table_values.specs.Values.{value_cmp}
 use Rattle.msi_table_values.specs.OrderLaws.{value_cmp-total}
-use Rattle.msi_table_order.specs.KeyOrder.{same_key}
+use Rattle.msi_table_cells.specs.KeyOrder.{same_key}
 
 turned_eq : (r : Ordering) → is_eq (ordering_reverse r) ≡ is_eq r
 turned_eq Less = refl

@@ -16,7 +16,7 @@ use Rattle.msi_table_values.specs.declared.value.Value.{Value}
 use Rattle.msi_table_values.specs.Columns.{ColumnDef}
 use Rattle.msi_table_values.specs.Values.{value_cmp}
 use Rattle.msi_database_cells.specs.KeySets.{key_refusals, HasKeys}
-use Rattle.msi_table_order.specs.KeyOrder.{key_of, same_key}
+use Rattle.msi_table_cells.specs.KeyOrder.{key_of, same_key}
 use Rattle.msi_database_cells.proofs.KeyPairLemmas.{same_key_turned}
 
 -- one more element, behind the others

@@ -8,10 +8,10 @@ use Rattle.msi_text_pool_base.specs.FirstFit.{first_fit, given_back, is_long_wit
 use Rattle.msi_text_pool_base.proofs.TakenLemmas.{taken_takes}
 use Rattle.msi_table_values.specs.declared.value.Value.{Value}
 use Rattle.msi_table_values.specs.declared.value.Value.TheVariants.{Null, Int, Str, Binary}
-use Rattle.msi_table_values.specs.declared.value.ValueRef.{ValueRef}
-use Rattle.msi_table_values.specs.declared.value.ValueRef.TheVariants as cell
+use Rattle.msi_table_cells.specs.declared.cell.ValueRef.{ValueRef}
+use Rattle.msi_table_cells.specs.declared.cell.ValueRef.TheVariants as cell
 use Rattle.msi_table_values.specs.Columns.{ColumnDef}
-use Rattle.msi_table_values.specs.Fitting.{cell_of}
+use Rattle.msi_table_cells.specs.Fitting.{cell_of}
 use Rattle.msi_database_cells.specs.Setting.{cells_set, index_of}
 use Rattle.msi_database_cells.specs.Texts.{PoolInUse, cell_put, cell_released, in_turn, rows_put}
 

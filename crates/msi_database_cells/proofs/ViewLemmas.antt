@@ -6,9 +6,9 @@ use Rattle.std.proofs.lemmas.List.{append_assoc, drop_all, drop_more, get_or-map
 use Rattle.msi_table_values.specs.declared.value.Value.{Value}
 use Rattle.msi_table_values.specs.declared.value.Value.TheVariants as value
 use Rattle.msi_table_values.specs.Columns.{ColumnDef}
-use Rattle.msi_table_order.specs.StoredOrder.{parts_where}
+use Rattle.msi_table_cells.specs.StoredOrder.{parts_where}
 use Rattle.msi_table_values.specs.Values.{value_cmp}
-use Rattle.msi_table_order.proofs.RowOrderLemmas.{a_tie, no_tie, is_key}
+use Rattle.msi_table_cells.proofs.RowOrderLemmas.{a_tie, no_tie, is_key}
 use Rattle.msi_database_cells.specs.Views.{seen_row}
 use Rattle.msi_table_values.specs.declared.views.ValueView.{ValueView}
 use Rattle.msi_table_values.specs.declared.views.ValueView.TheVariants as view

@@ -2,9 +2,9 @@
 use Rattle.std.specs.Prelude.{ℕ, Bool, List, [], ◌∷◌, Option, Some, option_map, option_and_then, unwrap_or, set}
 use Rattle.std.specs.List.{fold}
 use Rattle.msi_table_values.specs.declared.value.Value.{Value}
-use Rattle.msi_table_values.specs.declared.value.ValueRef.{ValueRef}
+use Rattle.msi_table_cells.specs.declared.cell.ValueRef.{ValueRef}
 use Rattle.msi_table_values.specs.Columns.{ColumnDef, column_index}
-use Rattle.msi_table_values.specs.Fitting.{cell_of}
+use Rattle.msi_table_cells.specs.Fitting.{cell_of}
 use Rattle.msi_database_cells.specs.Texts.{PoolInUse, cell_put, cell_released}
 
 -- where the column of a set stands, which is its name and its new value

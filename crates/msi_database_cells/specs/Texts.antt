@@ -6,8 +6,8 @@ use Rattle.msi_text_pool_base.specs.FirstFit.{given_back, is_long_with, taken}
 use Rattle.msi_text_pool_base.specs.Pool.{Pool, Place}
 use Rattle.msi_table_values.specs.declared.value.Value.{Value}
 use Rattle.msi_table_values.specs.declared.value.Value.TheVariants.{Null, Int, Str, Binary}
-use Rattle.msi_table_values.specs.declared.value.ValueRef.{ValueRef}
-use Rattle.msi_table_values.specs.declared.value.ValueRef.TheVariants as cell
+use Rattle.msi_table_cells.specs.declared.cell.ValueRef.{ValueRef}
+use Rattle.msi_table_cells.specs.declared.cell.ValueRef.TheVariants as cell
 
 -- The pool while a change goes on
 pub record PoolInUse : Type 0 where

@@ -11,15 +11,16 @@ ghost use Rattle.msi_text_base.specs.Refusals.{IsRefusal, first_refusal, unless_
 ghost use Rattle.msi_table_values.specs.declared.value.Value.{Value as ValueOf};
 ghost use Rattle.msi_table_values.specs.OrderLaws.{value_cmp-total};
 ghost use Rattle.msi_table_values.specs.Values.{value_cmp};
-ghost use Rattle.msi_table_order.specs.KeyOrder.{key_of, same_key};
+ghost use Rattle.msi_table_cells.specs.KeyOrder.{key_of, same_key};
 ghost use Rattle.msi_database_cells.specs.KeySets.{HasKeys, clash_refusals, key_refusals, keys_of_rows};
 ghost use Rattle.msi_database_cells.specs.Views.{seen_row};
 
 use crate::reasons;
 use crate::views::{compare_views, views_of_cells, views_of_values};
+use msi_table_cells::cell::ValueRef;
 use msi_table_values::column::Column;
 use msi_table_values::parts::ValueView;
-use msi_table_values::value::{Value, ValueRef};
+use msi_table_values::value::Value;
 use msi_text_base::errors::{Error, ErrorKind};
 use msi_text_base::text::Items;
 use msi_text_pool::stringpool::StringPool;

@@ -4,7 +4,7 @@ ghost use Rattle.std.specs.Prelude.{◌≡◌, map, set, List, IfOk, IfErr, OnOk
 ghost use Rattle.msi_text_base.specs.Results.{OnlyMemory};
 ghost use Rattle.msi_text_base.specs.declared.errors.ErrorKind.TheVariants.{InvalidInput};
 ghost use Rattle.msi_text_base.specs.Refusals.{IsRefusal, or_refused};
-ghost use Rattle.msi_table_values.specs.Fitting.{cell_of};
+ghost use Rattle.msi_table_cells.specs.Fitting.{cell_of};
 ghost use Rattle.msi_table_values.specs.Columns.{ColumnDef};
 ghost use Rattle.msi_database_cells.specs.Setting.{cell_exchanged, cells_set, index_of, values_set};
 ghost use Rattle.msi_database_cells.specs.Texts.{in_use};
@@ -12,9 +12,10 @@ ghost use Rattle.msi_database_cells.specs.Views.{seen_row};
 
 use crate::texts::PoolInUse;
 use msi_query::parts::Assignment;
+use msi_table_cells::cell::ValueRef;
 use msi_table_values::column::Column;
 use msi_table_values::parts::{ValueView, column_index};
-use msi_table_values::value::{Value, ValueRef};
+use msi_table_values::value::Value;
 use msi_text_base::errors::Error;
 use std::alloc::Global;
 

@@ -11,7 +11,8 @@ ghost use Rattle.msi_table_values.specs.Refusals.{FailsWith};
 ghost use Rattle.msi_database_cells.specs.Texts.{cell_put, cell_released, in_turn, in_use, rows_put, rows_released};
 ghost use Rattle.msi_database_cells.specs.Texts.{settled, widens};
 
-use msi_table_values::value::{Value, ValueRef};
+use msi_table_cells::cell::ValueRef;
+use msi_table_values::value::Value;
 use msi_text_base::errors::{Error, ErrorKind};
 use msi_text_base::text::Items;
 use msi_text_pool::parts::{incref_widening, most_places};

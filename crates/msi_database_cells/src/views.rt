@@ -3,12 +3,14 @@
 ghost use Rattle.std.specs.Prelude.{◌≡◌, IfOk};
 ghost use Rattle.std.specs.Cmp.Lexicographic.{slice_cmp};
 ghost use Rattle.msi_text_base.specs.Results.{OnlyMemory};
-ghost use Rattle.msi_table_values.specs.CellValues.{row_values};
+ghost use Rattle.msi_table_cells.specs.CellValues.{row_values};
 ghost use Rattle.msi_table_values.specs.Values.{value_cmp};
 ghost use Rattle.msi_database_cells.specs.Views.{seen_row};
 
+use msi_table_cells::cell::ValueRef;
+use msi_table_cells::parts::view_of_cell;
 use msi_table_values::parts::ValueView;
-use msi_table_values::value::{Value, ValueRef};
+use msi_table_values::value::Value;
 use msi_text_base::errors::Error;
 use msi_text_pool::stringpool::StringPool;
 use std::alloc::Global;
@@ -28,7 +30,7 @@ pub fn views_of_cells<'a>(
 {
     let mut views = Vec::new(alloc);
     for cell in row {
-        views.push(ValueView::of_cell(pool, *cell))?;
+        views.push(view_of_cell(pool, *cell))?;
     }
     Ok(views)
 }

@@ -20,8 +20,8 @@ use Rattle.msi_table_values.specs.Columns.{ColumnDef, HasShortLength, IsPlainIfB
 use Rattle.msi_table_values.specs.OrderLaws.{value_cmp-total}
 use Rattle.msi_text_base.specs.Refusals.{Refusals, first_refusal}
 use Rattle.msi_database_changes.specs.Database.{Database, are_alike, rows_of, same_bool}
-use Rattle.msi_table_values.specs.TableCells.{TableCells}
-use Rattle.msi_table_order.specs.KeyOrder.{key_of, same_key}
+use Rattle.msi_table_cells.specs.TableCells.{TableCells}
+use Rattle.msi_table_cells.specs.KeyOrder.{key_of, same_key}
 use Rattle.msi_database_schema.specs.Keys.{is_pool_name, is_table_name}
 use Rattle.msi_database_schema.specs.System.{validation_columns}
 use Rattle.msi_database_changes.specs.Insert.{row_fits, keys_of, row_refusals}

@@ -11,12 +11,12 @@ use Rattle.msi_text_base.specs.Lists.{list_cmp}
 use Rattle.msi_query.specs.Queries.{UpdateQuery}
 use Rattle.msi_table_values.specs.declared.value.Value.{Value}
 use Rattle.msi_table_values.specs.declared.value.Value.TheVariants.{Str}
-use Rattle.msi_table_values.specs.CellValues.{row_values}
-use Rattle.msi_table_order.specs.KeyOrder.{same_key}
+use Rattle.msi_table_cells.specs.CellValues.{row_values}
+use Rattle.msi_table_cells.specs.KeyOrder.{same_key}
 use Rattle.msi_database_schema.specs.Keys.{is_table_name}
 use Rattle.msi_database_schema.specs.System.{columns_name, is_schema_table, tables_name, validation_columns, validation_name}
 use Rattle.msi_database_changes.specs.Database.{Database, are_alike, has_table}
-use Rattle.msi_table_values.specs.TableCells.{TableCells}
+use Rattle.msi_table_cells.specs.TableCells.{TableCells}
 use Rattle.msi_database_changes.specs.Changes.{Change}
 use Rattle.msi_database_changes.specs.Update.{values_after}
 use Rattle.msi_database_changes.specs.Laws.{OthersStay, rows_at}

@@ -7,7 +7,7 @@ use Rattle.msi_text_pool_base.specs.Pool.{Place}
 use Rattle.msi_database_schema.specs.Keys.{is_table_name}
 use Rattle.msi_database_schema.specs.System.{columns_name, is_schema_table, tables_name, validation_name}
 use Rattle.msi_database_changes.specs.Database.{Database, table_at}
-use Rattle.msi_table_values.specs.TableCells.{TableCells}
+use Rattle.msi_table_cells.specs.TableCells.{TableCells}
 use Rattle.msi_database_schema.proofs.FaultLemmas.{texts_flip}
 use Rattle.msi_database_changes.specs.Changes.{Change, no_change}
 use Rattle.msi_database_changes.specs.Drop.{rows_forgotten, table_released}

@@ -6,14 +6,14 @@ use Rattle.std.proofs.lemmas.Bool.{and_parts}
 use Rattle.std.proofs.lemmas.Bool.Decides.{nat_tests}
 use Rattle.msi_table_values.specs.declared.column.ColumnType.{ColumnType}
 use Rattle.msi_table_values.specs.declared.value.Value.TheVariants.{Int, Str, Binary}
-use Rattle.msi_table_values.specs.declared.value.ValueRef.{ValueRef}
-use Rattle.msi_table_values.specs.declared.value.ValueRef.TheVariants as cell
+use Rattle.msi_table_cells.specs.declared.cell.ValueRef.{ValueRef}
+use Rattle.msi_table_cells.specs.declared.cell.ValueRef.TheVariants as cell
 use Rattle.msi_table_values.specs.Columns.{types_of}
-use Rattle.msi_table_values.specs.Fitting.{FitsColumn, FitsRow, FitsTable, reference_bound}
+use Rattle.msi_table_cells.specs.Fitting.{FitsColumn, FitsRow, FitsTable, reference_bound}
 use Rattle.msi_table_values.specs.ValidValues.{fits_type}
-use Rattle.msi_table_values.proofs.StoredValuesLemmas.{fits_int, fits_null, fits_stream}
+use Rattle.msi_table_cells.proofs.StoredValuesLemmas.{fits_int, fits_null, fits_stream}
 use Rattle.msi_database_changes.specs.Database.{Database}
-use Rattle.msi_table_values.specs.TableCells.{TableCells}
+use Rattle.msi_table_cells.specs.TableCells.{TableCells}
 use Rattle.msi_database_schema.specs.System.{validation_columns}
 use Rattle.msi_database_changes.proofs.StoredLemmas.{found_passes}
 use Rattle.msi_database_changes.proofs.PutFitsLemmas.{fits_text}

@@ -11,13 +11,13 @@ use Rattle.std.proofs.lemmas.Option.{same_Some}
 use Rattle.msi_text_pool_base.specs.FirstFit.{most_places}
 use Rattle.msi_text_pool_base.specs.FirstFitLaws.{TakenPlacesHoldTheirText, GivenBackTakesOne}
 use Rattle.msi_text_base.specs.Lists.{list_cmp}
-use Rattle.msi_table_values.specs.declared.value.ValueRef.{ValueRef}
+use Rattle.msi_table_cells.specs.declared.cell.ValueRef.{ValueRef}
 use Rattle.msi_table_values.specs.Columns.{ColumnDef, types_of}
-use Rattle.msi_table_values.specs.Fitting.{FitsRow, FitsTable}
-use Rattle.msi_table_order.specs.StoredOrder.{in_stored_order}
-use Rattle.msi_table_values.specs.CellValues.{row_values}
-use Rattle.msi_table_order.proofs.SortedFitsLemmas.{sorted_fits}
-use Rattle.msi_table_values.specs.TableCells.{TableCells}
+use Rattle.msi_table_cells.specs.Fitting.{FitsRow, FitsTable}
+use Rattle.msi_table_cells.specs.StoredOrder.{in_stored_order}
+use Rattle.msi_table_cells.specs.CellValues.{row_values}
+use Rattle.msi_table_cells.proofs.SortedFitsLemmas.{sorted_fits}
+use Rattle.msi_table_cells.specs.TableCells.{TableCells}
 use Rattle.msi_database_schema.specs.Keys.{is_table_name}
 use Rattle.msi_database_schema.specs.System.{columns_name, tables_name, validation_columns, validation_name}
 use Rattle.std.specs.Str.{chars}
@@ -28,7 +28,7 @@ use Rattle.msi_database_cells.specs.Texts.{PoolInUse, rows_released}
 use Rattle.msi_database_changes.specs.Create.{create_at_width}
 use Rattle.msi_database_changes.specs.Delete.{rows_meeting}
 use Rattle.msi_database_changes.specs.Drop.{drop_table}
-use Rattle.msi_table_order.specs.KeyOrder.{in_key_order}
+use Rattle.msi_table_cells.specs.KeyOrder.{in_key_order}
 use Rattle.msi_database_changes.specs.Laws.{RowsFit, TableFits}
 use Rattle.msi_database_changes.proofs.AtWidthLemmas.{IsChangeAtWidth, inserted, updated, deleted}
 use Rattle.msi_database_changes.proofs.StoredLemmas.{WellFormed, sound_parts}

@@ -9,15 +9,15 @@ use Rattle.msi_text_base.specs.declared.errors.ErrorKind.TheVariants.{InvalidDat
 use Rattle.msi_text_pool_base.specs.FirstFitLaws.{TakenPlacesHoldTheirText, GivenBackTakesOne}
 use Rattle.msi_text_base.specs.Lists.{has_pair}
 use Rattle.msi_table_values.specs.declared.value.Value.{Value}
-use Rattle.msi_table_values.specs.declared.value.ValueRef.{ValueRef}
+use Rattle.msi_table_cells.specs.declared.cell.ValueRef.{ValueRef}
 use Rattle.msi_table_values.specs.Columns.{ColumnDef}
 use Rattle.msi_table_values.specs.ValidValues.{is_valid_value}
-use Rattle.msi_table_values.specs.CellValues.{row_values}
-use Rattle.msi_table_order.specs.StoredOrder.{row_cmp, in_stored_order}
+use Rattle.msi_table_cells.specs.CellValues.{row_values}
+use Rattle.msi_table_cells.specs.StoredOrder.{row_cmp, in_stored_order}
 use Rattle.msi_text_base.specs.Refusals.{Refusals, first_refusal, unless_refused, or_refused, ◌>>=◌}
-use Rattle.msi_table_order.specs.KeyOrder.{key_of, same_key, key_cmp, in_key_order}
+use Rattle.msi_table_cells.specs.KeyOrder.{key_of, same_key, key_cmp, in_key_order}
 use Rattle.msi_database_changes.specs.Database.{Database, table_at, rows_of, is_sound, CountsAreExact}
-use Rattle.msi_table_values.specs.TableCells.{TableCells}
+use Rattle.msi_table_cells.specs.TableCells.{TableCells}
 use Rattle.msi_database_changes.specs.Changes.{Change, pool_of, with_stored}
 use Rattle.msi_database_cells.specs.Texts.{PoolInUse, rows_put}
 use Rattle.msi_database_cells.specs.KeySets.{key_refusals}

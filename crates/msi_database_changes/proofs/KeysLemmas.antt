@@ -7,11 +7,11 @@ use Rattle.msi_text_base.specs.declared.errors.ErrorKind.TheVariants.{AlreadyExi
 use Rattle.msi_text_pool_base.specs.FirstFitLaws.{TakenPlacesHoldTheirText, GivenBackTakesOne}
 use Rattle.msi_text_base.specs.Lists.{has_pair}
 use Rattle.msi_table_values.specs.declared.value.Value.{Value}
-use Rattle.msi_table_values.specs.declared.value.ValueRef.{ValueRef}
-use Rattle.msi_table_values.specs.CellValues.{row_values}
-use Rattle.msi_table_order.specs.StoredOrder.{row_cmp, in_stored_order}
+use Rattle.msi_table_cells.specs.declared.cell.ValueRef.{ValueRef}
+use Rattle.msi_table_cells.specs.CellValues.{row_values}
+use Rattle.msi_table_cells.specs.StoredOrder.{row_cmp, in_stored_order}
 use Rattle.msi_text_base.specs.Refusals.{first_refusal}
-use Rattle.msi_table_order.specs.KeyOrder.{key_of, same_key, key_cmp, in_key_order}
+use Rattle.msi_table_cells.specs.KeyOrder.{key_of, same_key, key_cmp, in_key_order}
 use Rattle.msi_database_changes.specs.Database.{rows_of, is_sound}
 use Rattle.msi_database_changes.specs.Changes.{Change}
 use Rattle.msi_database_cells.specs.KeySets.{key_refusals}

@@ -9,7 +9,7 @@ use Rattle.msi_text_base.specs.Lists.{list_cmp}
 use Rattle.msi_query.specs.Queries.{InsertQuery, UpdateQuery, DeleteQuery}
 use Rattle.msi_query_expressions.specs.Conditions.{meets}
 use Rattle.msi_database_changes.specs.Database.{Database, table_at, is_sound, is_well_formed, CountsAreExact}
-use Rattle.msi_table_values.specs.TableCells.{TableCells}
+use Rattle.msi_table_cells.specs.TableCells.{TableCells}
 use Rattle.msi_database_changes.specs.Changes.{Change, no_change}
 use Rattle.msi_database_changes.specs.Insert.{insert_at_width}
 use Rattle.msi_database_changes.specs.Update.{update_at_width, values_after}

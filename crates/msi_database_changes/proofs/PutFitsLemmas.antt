@@ -14,19 +14,19 @@ use Rattle.msi_table_values.specs.declared.column.ColumnType.{ColumnType}
 use Rattle.msi_table_values.specs.declared.column.ColumnType.TheVariants as coltype
 use Rattle.msi_table_values.specs.declared.value.Value.{Value}
 use Rattle.msi_table_values.specs.declared.value.Value.TheVariants.{Null, Int, Str, Binary}
-use Rattle.msi_table_values.specs.declared.value.ValueRef.{ValueRef}
-use Rattle.msi_table_values.specs.declared.value.ValueRef.TheVariants as cell
+use Rattle.msi_table_cells.specs.declared.cell.ValueRef.{ValueRef}
+use Rattle.msi_table_cells.specs.declared.cell.ValueRef.TheVariants as cell
 use Rattle.msi_table_values.specs.Columns.{ColumnDef, types_of}
-use Rattle.msi_table_values.specs.Fitting.{FitsColumn, FitsRow, FitsTable, reference_bound}
-use Rattle.msi_table_order.specs.StoredOrder.{in_stored_order}
+use Rattle.msi_table_cells.specs.Fitting.{FitsColumn, FitsRow, FitsTable, reference_bound}
+use Rattle.msi_table_cells.specs.StoredOrder.{in_stored_order}
 use Rattle.msi_table_values.specs.ValidValues.{fits_type, is_valid_value}
-use Rattle.msi_table_order.proofs.SortedFitsLemmas.{sorted_fits}
-use Rattle.msi_table_order.specs.KeyOrder.{in_key_order, key_cmp}
+use Rattle.msi_table_cells.proofs.SortedFitsLemmas.{sorted_fits}
+use Rattle.msi_table_cells.specs.KeyOrder.{in_key_order, key_cmp}
 use Rattle.msi_database_cells.specs.Texts.{PoolInUse, cell_put, in_turn, rows_put}
 use Rattle.msi_database_changes.specs.Insert.{row_fits}
 use Rattle.msi_text_base.proofs.ListLemmas.{all_joined}
-use Rattle.msi_table_values.proofs.StoredValuesLemmas.{fits_int, fits_null, fits_stream, below_bound, taken_within}
-use Rattle.msi_table_order.proofs.StableSortLemmas.{sort_moves}
+use Rattle.msi_table_cells.proofs.StoredValuesLemmas.{fits_int, fits_null, fits_stream, below_bound, taken_within}
+use Rattle.msi_table_cells.proofs.StableSortLemmas.{sort_moves}
 use Rattle.msi_database_changes.proofs.TurnLemmas.{map_some}
 use Rattle.msi_database_changes.proofs.KindsKeptLemmas.{all_permuted}
 

@@ -13,7 +13,7 @@ use Rattle.msi_text_pool_base.specs.FirstFitLaws.{text_at}
 use Rattle.msi_text_pool_base.specs.Recounting.{many_recounted, with_count, with_counts}
 use Rattle.msi_text_pool_base.proofs.RecountingLemmas.{length-with_counts, many_recounted-cons}
 use Rattle.msi_table.proofs.ReadRowsLemmas.{length-tabulated}
-use Rattle.msi_table_order.specs.KeyOrder.{key_of, same_key}
+use Rattle.msi_table_cells.specs.KeyOrder.{key_of, same_key}
 use Rattle.msi_text_base.specs.Refusals.{first_refusal}
 use Rattle.msi_query_joins.specs.Selection.{TableValues}
 use Rattle.msi_database_changes.specs.Database.{Database, CountsAreExact, cells_naming, counts_suffice, is_sound, is_well_formed, named_numbers, names_stay_in_pool, pool_fits_width, table_at, tables_are_readable, validation_is_standard, values_of, with_places}

@@ -9,12 +9,12 @@ use Rattle.msi_text_pool_base.specs.Pool.{Place}
 use Rattle.msi_text_base.specs.Refusals.{IsRefusal, Refusals, first_refusal, unless, unless_refused}
 use Rattle.msi_query_joins.specs.Selection.{condition_names, has_columns}
 use Rattle.msi_table_values.specs.declared.value.Value.{Value}
-use Rattle.msi_table_values.specs.declared.value.ValueRef.{ValueRef}
+use Rattle.msi_table_cells.specs.declared.cell.ValueRef.{ValueRef}
 use Rattle.msi_table_values.specs.Columns.{ColumnDef}
-use Rattle.msi_table_values.specs.CellValues.{row_values}
+use Rattle.msi_table_cells.specs.CellValues.{row_values}
 use Rattle.msi_query.specs.Queries.{UpdateQuery}
 use Rattle.msi_database_changes.specs.Insert.{table_with}
-use Rattle.msi_table_order.specs.KeyOrder.{key_of, same_key}
+use Rattle.msi_table_cells.specs.KeyOrder.{key_of, same_key}
 use Rattle.msi_database_changes.specs.RowUpdates.{RowUpdateDef, row_set}
 use Rattle.msi_database_changes.specs.Update.{keys_collide, set_is_valid, set_refusals, sets_key, values_after}
 use Rattle.msi_database_cells.proofs.KeySetLemmas.{refused}

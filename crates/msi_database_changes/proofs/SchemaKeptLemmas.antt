@@ -6,11 +6,11 @@ use Rattle.msi_text_base.proofs.OptionLemmas.{map_some}
 use Rattle.msi_text_pool_base.specs.FirstFitLaws.{TakenPlacesHoldTheirText, GivenBackTakesOne}
 use Rattle.msi_text_base.specs.Refusals.{first_refusal}
 use Rattle.msi_table_values.specs.declared.column.ColumnType.{ColumnType}
-use Rattle.msi_table_values.specs.declared.value.ValueRef.{ValueRef}
+use Rattle.msi_table_cells.specs.declared.cell.ValueRef.{ValueRef}
 use Rattle.msi_table_values.specs.Columns.{ColumnDef, types_of}
-use Rattle.msi_table_values.specs.Fitting.{FitsRow, FitsTable}
-use Rattle.msi_table_values.specs.CellValues.{row_values}
-use Rattle.msi_table_values.specs.TableCells.{TableCells}
+use Rattle.msi_table_cells.specs.Fitting.{FitsRow, FitsTable}
+use Rattle.msi_table_cells.specs.CellValues.{row_values}
+use Rattle.msi_table_cells.specs.TableCells.{TableCells}
 use Rattle.msi_database_schema.specs.Schema.{SchemaRows, schema_of}
 use Rattle.msi_database_schema.specs.System.{columns_name, columns_columns, validation_name, validation_columns}
 use Rattle.msi_database_schema.proofs.OrderlessLemmas.{HasKinds}

@@ -6,11 +6,11 @@ use Rattle.msi_text_pool_base.specs.Pool.{Place}
 use Rattle.msi_text_pool_base.specs.FirstFit.{most_places}
 use Rattle.msi_text_pool_base.specs.FirstFitLaws.{TakenPlacesHoldTheirText, GivenBackTakesOne}
 use Rattle.msi_table_values.specs.declared.value.Value.{Value}
-use Rattle.msi_table_values.specs.declared.value.ValueRef.{ValueRef}
-use Rattle.msi_table_values.specs.declared.value.ValueRef.TheVariants as cell
+use Rattle.msi_table_cells.specs.declared.cell.ValueRef.{ValueRef}
+use Rattle.msi_table_cells.specs.declared.cell.ValueRef.TheVariants as cell
 use Rattle.msi_table_values.specs.Columns.{ColumnDef}
-use Rattle.msi_table_values.specs.CellValues.{value_of_cell, row_values}
-use Rattle.msi_table_values.specs.Fitting.{cell_of}
+use Rattle.msi_table_cells.specs.CellValues.{value_of_cell, row_values}
+use Rattle.msi_table_cells.specs.Fitting.{cell_of}
 use Rattle.msi_database_cells.specs.Texts.{PoolInUse, cell_put, cell_released}
 use Rattle.msi_database_cells.specs.Setting.{index_of, values_set, cells_set}
 use Rattle.msi_database_schema.proofs.AccountLemmas.{Uses, ◌⊕◌, Enough, Moved, unmoved}

@@ -15,7 +15,7 @@ use Rattle.msi_query.specs.Queries.{DeleteQuery, UpdateQuery}
 use Rattle.msi_database_schema.specs.System.{columns_name, is_system_table, tables_name, validation_name}
 use Rattle.msi_database_schema.specs.Keys.{is_table_name}
 use Rattle.msi_database_changes.specs.Database.{Database, rows_of, table_at}
-use Rattle.msi_table_values.specs.TableCells.{TableCells}
+use Rattle.msi_table_cells.specs.TableCells.{TableCells}
 use Rattle.msi_database_changes.specs.Changes.{Change, no_change, pool_of, sound_refusal, with_stored}
 use Rattle.msi_database_changes.specs.Delete.{delete_rows, rows_deleted, rows_meeting}
 use Rattle.msi_database_changes.specs.Drop.{drop_table, is_row_about, rows_forgotten, table_released}

@@ -10,9 +10,9 @@ use Rattle.msi_text_base.specs.Lists.{list_cmp, has_pair}
 use Rattle.msi_text_pool_base.specs.Pool.{Place}
 use Rattle.msi_table_values.specs.declared.value.Value.{Value}
 use Rattle.msi_table_values.specs.declared.value.Value.TheVariants.{Str}
-use Rattle.msi_table_values.specs.declared.value.ValueRef.{ValueRef}
+use Rattle.msi_table_cells.specs.declared.cell.ValueRef.{ValueRef}
 use Rattle.msi_table_values.specs.Columns.{ColumnDef}
-use Rattle.msi_table_values.specs.TableCells.{TableCells}
+use Rattle.msi_table_cells.specs.TableCells.{TableCells}
 use Rattle.msi_query_joins.specs.Rows.{table_values}
 use Rattle.msi_database_schema.specs.Description.{column_rows, validation_rows}
 use Rattle.msi_database_schema.specs.System.{columns_name, tables_name, validation_name}
@@ -20,7 +20,7 @@ use Rattle.msi_database_changes.specs.Database.{Database, table_at, with_table, 
 use Rattle.msi_database_changes.specs.Changes.{Change, no_change}
 use Rattle.msi_database_changes.specs.Create.{create_at_width}
 use Rattle.msi_database_changes.specs.Drop.{is_row_about, rows_forgotten, table_released, drop_table}
-use Rattle.msi_table_order.specs.KeyOrder.{key_of, same_key}
+use Rattle.msi_table_cells.specs.KeyOrder.{key_of, same_key}
 use Rattle.msi_database_changes.specs.Laws.{rows_at, KeysAreDistinct}
 use Rattle.msi_database_changes.proofs.StoredLemmas.{WellFormed}
 use Rattle.msi_database_changes.proofs.InsertedLemmas.{inserted_parts, inserted_sound, inserted_well}

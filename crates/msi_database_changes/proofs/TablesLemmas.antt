@@ -9,11 +9,11 @@ use Rattle.std.proofs.lemmas.List.Sums.{sum_by-cons, sum_by-append}
 use Rattle.std.proofs.lemmas.Option.{none-some, same_Some}
 use Rattle.msi_text_base.specs.Lists.{placed, stable_sort}
 use Rattle.msi_text_base.proofs.BoolLemmas.{T_second}
-use Rattle.msi_table_values.specs.declared.value.ValueRef.{ValueRef}
-use Rattle.msi_table_values.specs.declared.value.ValueRef.TheVariants as cell
+use Rattle.msi_table_cells.specs.declared.cell.ValueRef.{ValueRef}
+use Rattle.msi_table_cells.specs.declared.cell.ValueRef.TheVariants as cell
 use Rattle.msi_table.specs.Census.{number_of_cell, numbers_of_rows}
 use Rattle.msi_database_changes.specs.Database.{Database, Tables, rows_of, cells_naming}
-use Rattle.msi_table_values.specs.TableCells.{TableCells}
+use Rattle.msi_table_cells.specs.TableCells.{TableCells}
 use Rattle.msi_database_schema.proofs.AccountLemmas.{Uses, once}
 use Rattle.msi_database_changes.proofs.TurnLemmas.{total}
 use Rattle.msi_database_changes.proofs.RowsLemmas.{row_uses, rows_uses}

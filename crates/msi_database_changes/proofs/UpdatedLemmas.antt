@@ -6,9 +6,9 @@ use Rattle.msi_text_pool_base.specs.Pool.{Place}
 use Rattle.msi_text_pool_base.specs.FirstFit.{most_places}
 use Rattle.msi_text_pool_base.specs.FirstFitLaws.{TakenPlacesHoldTheirText, GivenBackTakesOne}
 use Rattle.msi_table_values.specs.declared.value.Value.{Value}
-use Rattle.msi_table_values.specs.declared.value.ValueRef.{ValueRef}
+use Rattle.msi_table_cells.specs.declared.cell.ValueRef.{ValueRef}
 use Rattle.msi_table_values.specs.Columns.{ColumnDef}
-use Rattle.msi_table_values.specs.CellValues.{row_values}
+use Rattle.msi_table_cells.specs.CellValues.{row_values}
 use Rattle.msi_query.specs.Queries.{UpdateQuery}
 use Rattle.msi_query_expressions.specs.Conditions.{meets}
 use Rattle.msi_database_cells.specs.Texts.{PoolInUse, in_turn}

@@ -3,10 +3,10 @@ use Rattle.std.specs.Prelude.{ℕ, Bool, true, false, not, List, [], ◌∷◌, 
 use Rattle.msi_text_base.specs.declared.errors.ErrorKind.TheVariants.{InvalidData, InvalidInput, NotFound}
 use Rattle.msi_database_cells.specs.Texts.{PoolInUse}
 use Rattle.msi_text_base.specs.Refusals.{Refusals}
-use Rattle.msi_table_values.specs.TableCells.{TableCells}
-use Rattle.msi_table_values.specs.declared.value.ValueRef.{ValueRef}
+use Rattle.msi_table_cells.specs.TableCells.{TableCells}
+use Rattle.msi_table_cells.specs.declared.cell.ValueRef.{ValueRef}
 use Rattle.msi_table_values.specs.Columns.{ColumnDef}
-use Rattle.msi_table_order.specs.StoredOrder.{in_stored_order}
+use Rattle.msi_table_cells.specs.StoredOrder.{in_stored_order}
 use Rattle.msi_database_changes.specs.Database.{Database, table_at, with_table, with_places, is_sound}
 
 -- a change of tables: the parts after it, whether a text was taken or given back, and the tables that are stored anew

@@ -9,7 +9,7 @@ use Rattle.msi_text_base.specs.Lists.{has_pair}
 use Rattle.msi_text_base.specs.Refusals.{Refusals, unless_refused, ◌>>=◌}
 use Rattle.msi_table_values.specs.declared.value.Value.{Value}
 use Rattle.msi_table_values.specs.declared.value.Value.TheVariants.{Str}
-use Rattle.msi_table_values.specs.declared.value.ValueRef.{ValueRef}
+use Rattle.msi_table_cells.specs.declared.cell.ValueRef.{ValueRef}
 use Rattle.msi_table_values.specs.declared.column.ColumnType.{ColumnType}
 use Rattle.msi_table_values.specs.Columns.{ColumnDef}
 use Rattle.msi_database_schema.specs.Keys.{is_table_name}

@@ -10,18 +10,18 @@ use Rattle.msi_text_base.specs.Lists.{has_pair, list_cmp}
 use Rattle.msi_table_values.specs.declared.value.Value.{Value}
 use Rattle.msi_table_values.specs.declared.value.Value.TheVariants.{Null}
 use Rattle.msi_table_values.specs.Columns.{ColumnDef, types_of, is_of_category_binary}
-use Rattle.msi_table_values.specs.Fitting.{FitsRow, FitsTable}
-use Rattle.msi_table_order.specs.SortedRows.{HoldsNumbers}
-use Rattle.msi_table_values.specs.CellValues.{row_values}
+use Rattle.msi_table_cells.specs.Fitting.{FitsRow, FitsTable}
+use Rattle.msi_table_cells.specs.SortedRows.{HoldsNumbers}
+use Rattle.msi_table_cells.specs.CellValues.{row_values}
 use Rattle.msi_table_values.specs.Values.{value_cmp}
 use Rattle.msi_database_schema.specs.Schema.{SchemaRows, schema_of}
 use Rattle.msi_database_schema.specs.System.{columns_name, tables_name, validation_columns, validation_name}
 use Rattle.msi_query.specs.Queries.{InsertQuery, UpdateQuery, DeleteQuery}
 use Rattle.msi_query_expressions.specs.Conditions.{meets}
-use Rattle.msi_table_order.specs.KeyOrder.{key_of, same_key}
+use Rattle.msi_table_cells.specs.KeyOrder.{key_of, same_key}
 use Rattle.msi_database_changes.specs.Database.{Database, CountsAreExact, values_of, is_sound, is_well_formed, table_at}
 use Rattle.msi_database_changes.specs.Database.{has_table, named_numbers, columns_by_name}
-use Rattle.msi_table_values.specs.TableCells.{TableCells}
+use Rattle.msi_table_cells.specs.TableCells.{TableCells}
 use Rattle.msi_database_changes.specs.Changes.{Change}
 use Rattle.msi_database_changes.specs.Insert.{insert_rows}
 use Rattle.msi_database_changes.specs.Update.{update_rows, values_after}

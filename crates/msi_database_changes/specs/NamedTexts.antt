@@ -3,8 +3,8 @@ use Rattle.std.specs.Prelude.{◌≤◌, ◌==◌, ℕ, ◌+◌, ◌*◌, List, 
 use Rattle.std.specs.List.{count_by, sum_by}
 use Rattle.msi_text_pool_base.specs.Pool.{Place}
 use Rattle.msi_text_pool_base.specs.FirstFitLaws.{text_at}
-use Rattle.msi_table_values.specs.declared.value.ValueRef.{ValueRef}
-use Rattle.msi_table_values.specs.declared.value.ValueRef.TheVariants as cell
+use Rattle.msi_table_cells.specs.declared.cell.ValueRef.{ValueRef}
+use Rattle.msi_table_cells.specs.declared.cell.ValueRef.TheVariants as cell
 
 -- what a text costs: its bytes, and 128 for each semicolon, since a column has each text between two of them for itself
 abbrev pub text_cost : List ℕ → ℕ

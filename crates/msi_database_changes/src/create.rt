@@ -15,8 +15,8 @@ ghost use Rattle.msi_database_changes.specs.Create.{new_table_refusals};
 
 use crate::reasons;
 use msi_database_schema::names::is_table_name;
+use msi_table_cells::cell::ValueRef;
 use msi_table_values::column::{Column, ColumnType};
-use msi_table_values::value::ValueRef;
 use msi_text_base::errors::{Error, ErrorKind, Reason};
 use msi_text_base::text::{Items, Text};
 use msi_text_categories::category::Category;

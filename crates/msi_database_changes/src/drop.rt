@@ -6,8 +6,9 @@ ghost use Rattle.msi_database_changes.specs.Drop.{is_row_about as is_about};
 ghost use Rattle.msi_database_cells.specs.Texts.{in_use, rows_released};
 
 use msi_database_cells::texts::PoolInUse;
+use msi_table_cells::cell::ValueRef;
+use msi_table_cells::parts::view_of_cell;
 use msi_table_values::parts::ValueView;
-use msi_table_values::value::ValueRef;
 use msi_text_base::errors::Error;
 use msi_text_base::text::Items;
 use msi_text_pool::stringpool::StringPool;
@@ -19,7 +20,7 @@ fn is_row_about(pool: &StringPool, name: &str, row: &[ValueRef]) -> bool
 {
     match row.first() {
         Some(cell) => ValueView::Str(name)
-            .compare(ValueView::of_cell(pool, *cell))
+            .compare(view_of_cell(pool, *cell))
             .is_eq(),
         None => false,
     }

@@ -4,7 +4,7 @@ ghost use Rattle.std.specs.Prelude.{◌≡◌, ◌↔◌, ◌-◌, ◌≤◌, �
 ghost use Rattle.msi_database_changes.specs.NamedTexts.{NameFewTexts, cell_cost, named_cost, pool_bytes};
 ghost use Rattle.msi_database_changes.specs.NamedTexts.{row_cost, text_cost};
 
-use msi_table_values::value::ValueRef;
+use msi_table_cells::cell::ValueRef;
 use msi_text_base::text::Items;
 use msi_text_pool::parts::string_ref;
 use msi_text_pool::stringpool::StringPool;

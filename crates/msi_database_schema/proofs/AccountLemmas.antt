@@ -3,7 +3,7 @@ use Rattle.std.proofs.Common.{◌≡◌, ◌≢◌, ℕ, zero, suc, ◌+◌, ◌
 use Rattle.msi_text_pool_base.specs.Pool.{Place}
 use Rattle.msi_text_pool_base.specs.FirstFit.{count_of}
 use Rattle.msi_text_pool_base.specs.FirstFitLaws.{text_at, count_at, OthersStay, Takes, GivesBack}
-use Rattle.msi_table_values.proofs.StoredValuesLemmas.{once_same, once_other, by_number}
+use Rattle.msi_table_cells.proofs.StoredValuesLemmas.{once_same, once_other, by_number}
 
 -- how often each number is named
 abbrev pub Uses : Type 0

@@ -12,7 +12,7 @@ use Rattle.msi_text_base.proofs.OrderingLemmas.{then_equal}
 use Rattle.msi_table_values.specs.declared.value.Value.{Value}
 use Rattle.msi_table_values.specs.OrderLaws.{value_cmp-total}
 use Rattle.msi_table_values.specs.Values.{value_cmp}
-use Rattle.msi_table_order.proofs.SortedRowsLemmas.{first_not_less}
+use Rattle.msi_table_cells.proofs.SortedRowsLemmas.{first_not_less}
 use Rattle.msi_database_schema.specs.RowOrders.{by_numbers, by_values, number_in, numbers_cmp, pair_cmp, texts_at, texts_cmp, values_cmp}
 use Rattle.msi_database_schema.specs.Schema.{has_number, is_about, number_of, share_key, text_at, value_at}
 

@@ -5,8 +5,8 @@ use Rattle.std.specs.List.{list_any}
 use Rattle.std.proofs.lemmas.Option.{slice_get-map}
 use Rattle.msi_text_base.proofs.ListLemmas.{list_any-map}
 use Rattle.msi_text_pool_base.specs.Pool.{Place}
-use Rattle.msi_table_values.specs.declared.value.ValueRef.{ValueRef}
-use Rattle.msi_table_values.specs.CellValues.{row_values, value_of_cell}
+use Rattle.msi_table_cells.specs.declared.cell.ValueRef.{ValueRef}
+use Rattle.msi_table_cells.specs.CellValues.{row_values, value_of_cell}
 use Rattle.msi_table_values.specs.Values.{is_null}
 
 -- a cell's value stands where the cell does

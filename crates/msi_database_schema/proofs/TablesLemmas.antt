@@ -16,7 +16,7 @@ use Rattle.msi_table_values.specs.declared.value.Value.TheVariants.{Null, Int, S
 use Rattle.msi_table_values.specs.Columns.{ColumnDef}
 use Rattle.msi_table_values.specs.OrderLaws.{value_eq-Decides}
 use Rattle.msi_table.proofs.PlacesLemmas.{tabulated_more}
-use Rattle.msi_table_order.proofs.StableSortLemmas.{all_sorted}
+use Rattle.msi_table_cells.proofs.StableSortLemmas.{all_sorted}
 use Rattle.msi_database_schema.specs.ListedTables.{by_names, listed_table, listed_tables, with_system}
 use Rattle.msi_database_schema.specs.RowOrders.{by_numbers, by_texts, describing, number_in, numbers_cmp, texts_at, texts_cmp}
 use Rattle.msi_table_values.specs.Values.{is_text}

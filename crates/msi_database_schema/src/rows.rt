@@ -3,13 +3,15 @@
 ghost use Rattle.std.specs.Prelude.{◌≡◌, IfOk, map};
 ghost use Rattle.std.specs.List.{list_any};
 ghost use Rattle.msi_text_base.specs.Results.{OnlyMemory};
-ghost use Rattle.msi_table_values.specs.CellValues.{row_values, value_of_cell};
+ghost use Rattle.msi_table_cells.specs.CellValues.{row_values, value_of_cell};
 ghost use Rattle.msi_table_values.specs.Values.{value_cmp, is_null, is_text};
 ghost use Rattle.msi_table_values.specs.Views.{seen_value};
 ghost use Rattle.msi_database_schema.specs.Schema.{number_of, text_at as text_in, value_at};
 
+use msi_table_cells::cell::ValueRef;
+use msi_table_cells::parts::view_of_cell;
 use msi_table_values::parts::ValueView;
-use msi_table_values::value::{Value, ValueRef};
+use msi_table_values::value::Value;
 use msi_text_base::errors::Error;
 use msi_text_base::text::Items;
 use msi_text_pool::stringpool::StringPool;
@@ -90,7 +92,7 @@ pub(crate) fn view_at<'a>(row: &SchemaRow<'a>, place: usize) -> ValueView<'a>
             None => ValueView::Null,
         },
         RowParts::Cells(pool, cells) => match cells.get(place) {
-            Some(cell) => ValueView::of_cell(pool, *cell),
+            Some(cell) => view_of_cell(pool, *cell),
             None => ValueView::Null,
         },
     }
@@ -134,7 +136,7 @@ pub(crate) fn is_text_at(row: &SchemaRow, place: usize) -> bool
 fn is_null_cell(pool: &StringPool, cell: ValueRef) -> bool
     ensures { result ≡ is_null (value_of_cell pool.now.places cell) }
 {
-    matches!(ValueView::of_cell(pool, cell), ValueView::Null)
+    matches!(view_of_cell(pool, cell), ValueView::Null)
 }
 
 /// Whether a cell of some stands for null.

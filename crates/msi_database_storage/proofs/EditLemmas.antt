@@ -6,13 +6,13 @@ use Rattle.std.specs.FinMap.{find, put}
 use Rattle.std.proofs.lemmas.Bool.{or_parts, or_from, true≢false}
 use Rattle.std.proofs.lemmas.Slice.Eq.{bytes_eq-Decides}
 use Rattle.msi_text_base.specs.Lists.{list_cmp}
-use Rattle.msi_table_values.specs.declared.value.ValueRef.{ValueRef}
+use Rattle.msi_table_cells.specs.declared.cell.ValueRef.{ValueRef}
 use Rattle.msi_table_values.specs.Columns.{ColumnDef, types_of}
 use Rattle.msi_table.specs.Cells.{table_bytes}
-use Rattle.msi_table_order.specs.StoredOrder.{row_cmp, in_stored_order}
-use Rattle.msi_table_order.proofs.RowOrderLemmas.{row_cmp-weak}
-use Rattle.msi_table_order.proofs.StableSortLemmas.{length_sorted}
-use Rattle.msi_table_values.specs.TableCells.{TableCells}
+use Rattle.msi_table_cells.specs.StoredOrder.{row_cmp, in_stored_order}
+use Rattle.msi_table_cells.proofs.RowOrderLemmas.{row_cmp-weak}
+use Rattle.msi_table_cells.proofs.StableSortLemmas.{length_sorted}
+use Rattle.msi_table_cells.specs.TableCells.{TableCells}
 use Rattle.msi_database_schema.specs.Keys.{is_table_name, table_key}
 use Rattle.msi_database_schema.specs.System.{tables_name, columns_name, validation_name}
 use Rattle.msi_database_schema.proofs.RowOrderLemmas.{names_total}

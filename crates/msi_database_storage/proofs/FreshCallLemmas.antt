@@ -13,11 +13,11 @@ use Rattle.msi_text_base.specs.Results.{OnlyMemory}
 use Rattle.msi_text_base.proofs.OptionLemmas.{mapped_twice}
 use Rattle.msi_table_values.specs.declared.value.Value.{Value}
 use Rattle.msi_table_values.specs.declared.value.Value.TheVariants.{Str}
-use Rattle.msi_table_values.specs.declared.value.ValueRef.{ValueRef}
+use Rattle.msi_table_cells.specs.declared.cell.ValueRef.{ValueRef}
 use Rattle.msi_table_values.specs.Columns.{ColumnDef, types_of}
 use Rattle.msi_table.specs.Tables.{TableDef, CanStore}
 use Rattle.msi_text_base.specs.Refusals.{IsRefusal, or_refused}
-use Rattle.msi_table_values.specs.TableCells.{TableCells}
+use Rattle.msi_table_cells.specs.TableCells.{TableCells}
 use Rattle.msi_database_schema.specs.Description.{column_rows, validation_rows}
 use Rattle.msi_database_schema.specs.Keys.{table_key}
 use Rattle.msi_database_schema.specs.System.{columns_name, tables_name, validation_name}
@@ -27,7 +27,7 @@ use Rattle.msi_database_changes.specs.Changes.{Change, no_change, pool_of, with_
 use Rattle.msi_database_cells.specs.Texts.{PoolInUse, UsedPool, in_use, rows_put}
 use Rattle.msi_database_changes.specs.Create.{added_to, described_by_rows}
 use Rattle.msi_database_changes.specs.Insert.{cells_added, rows_added}
-use Rattle.msi_table_order.specs.KeyOrder.{in_key_order}
+use Rattle.msi_table_cells.specs.KeyOrder.{in_key_order}
 use Rattle.msi_database_changes.proofs.FitTestLemmas.{cells_fit, each_fits}
 use Rattle.msi_database_storage.specs.Streams.{stream_of_rows}
 use Rattle.msi_database_cells.specs.declared.storing.Stored.{Stored}

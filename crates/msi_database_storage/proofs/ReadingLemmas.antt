@@ -15,12 +15,12 @@ use Rattle.msi_text_pool_base.specs.Pool.{Place, Pool}
 use Rattle.msi_container_format.specs.Names.{is_name_length}
 use Rattle.msi_table_values.specs.declared.column.ColumnType.TheVariants as coltype
 use Rattle.msi_table_values.specs.declared.value.Value.{Value}
-use Rattle.msi_table_values.specs.declared.value.ValueRef.{ValueRef}
-use Rattle.msi_table_values.specs.declared.value.ValueRef.TheVariants as cell
-use Rattle.msi_table_values.specs.CellValues.{value_of_cell, row_values}
+use Rattle.msi_table_cells.specs.declared.cell.ValueRef.{ValueRef}
+use Rattle.msi_table_cells.specs.declared.cell.ValueRef.TheVariants as cell
+use Rattle.msi_table_cells.specs.CellValues.{value_of_cell, row_values}
 use Rattle.msi_table_values.specs.Columns.{ColumnDef, greatest_16, types_of}
 use Rattle.msi_table.specs.Tables.{TableDef}
-use Rattle.msi_table_values.specs.Fitting.{FitsColumn, FitsRow, FitsTable}
+use Rattle.msi_table_cells.specs.Fitting.{FitsColumn, FitsRow, FitsTable}
 use Rattle.msi_text_base.specs.Refusals.{IsRefusal, or_refused}
 use Rattle.msi_database_schema.specs.RowOrders.{rows_of}
 use Rattle.msi_table_values.specs.Values.{is_null, is_text}

@@ -6,13 +6,13 @@ use Rattle.std.specs.FinMap.{find}
 use Rattle.std.proofs.lemmas.Bool.{or_parts, true≢false, ne_eqb, cases_Bool}
 use Rattle.std.proofs.lemmas.Slice.Eq.{bytes_eq-Decides}
 use Rattle.msi_text_base.specs.Lists.{list_cmp}
-use Rattle.msi_table_values.specs.declared.value.ValueRef.{ValueRef}
+use Rattle.msi_table_cells.specs.declared.cell.ValueRef.{ValueRef}
 use Rattle.msi_table_values.specs.declared.column.ColumnType.{ColumnType}
 use Rattle.msi_table_values.specs.Columns.{ColumnDef, types_of}
 use Rattle.msi_table.specs.Cells.{rows_in, table_bytes, widths}
-use Rattle.msi_table_values.specs.Fitting.{FitsTable}
+use Rattle.msi_table_cells.specs.Fitting.{FitsTable}
 use Rattle.msi_table.proofs.ReadBackLemmas.{rows_in-table_bytes}
-use Rattle.msi_table_values.specs.TableCells.{TableCells}
+use Rattle.msi_table_cells.specs.TableCells.{TableCells}
 use Rattle.msi_database_schema.specs.Keys.{is_table_name, table_key, summary_key, string_pool_name, string_data_name}
 use Rattle.msi_database_changes.specs.Database.{Database, Tables, table_at}
 use Rattle.msi_database_changes.proofs.TracksLemmas.{TableFits}

@@ -5,7 +5,7 @@ use Rattle.std.specs.List.{flat_map, list_all, list_any}
 use Rattle.msi_text_base.specs.Lists.{tabulated}
 use Rattle.msi_text_pool_base.specs.FirstFit.{count_of}
 use Rattle.msi_text_pool_base.specs.Pool.{Place, Pool, with_named_texts}
-use Rattle.msi_table_values.specs.declared.value.ValueRef.{ValueRef}
+use Rattle.msi_table_cells.specs.declared.cell.ValueRef.{ValueRef}
 use Rattle.msi_table.specs.Census.{CensusDef, numbers_of_rows}
 use Rattle.msi_table.specs.Tables.{TableDef}
 use Rattle.msi_database_changes.specs.Database.{Tables, rows_of}

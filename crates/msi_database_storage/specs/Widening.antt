@@ -3,7 +3,7 @@ use Rattle.std.specs.Prelude.{ℕ, true, List, length, Some, ◌==◌, if◌then
 use Rattle.std.specs.List.{fold}
 use Rattle.msi_table_values.specs.Columns.{types_of}
 use Rattle.msi_table.specs.Cells.{table_bytes}
-use Rattle.msi_table_values.specs.TableCells.{TableCells}
+use Rattle.msi_table_cells.specs.TableCells.{TableCells}
 use Rattle.msi_database_schema.specs.Keys.{table_key}
 use Rattle.msi_database_schema.specs.System.{validation_columns, validation_name}
 use Rattle.msi_database_changes.specs.Database.{Database, rows_of}

@@ -13,7 +13,7 @@ use msi_container_format::contents::StreamMap;
 use msi_database_schema::names::table_key;
 use msi_table::Table;
 use msi_table::parts::{StoredRows, can_read_rows, read_rows, rows_in_place};
-use msi_table_values::value::ValueRef;
+use msi_table_cells::cell::ValueRef;
 use msi_text_base::errors::Error;
 use msi_text_base::text::Items;
 use std::alloc::Global;

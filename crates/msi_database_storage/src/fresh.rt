@@ -20,8 +20,9 @@ use msi_database_schema::system::{
     COLUMNS, TABLES, VALIDATION, columns_columns, tables_columns, validation_columns,
 };
 use msi_table::Table;
+use msi_table_cells::cell::ValueRef;
 use msi_table_values::column::Column;
-use msi_table_values::value::{Value, ValueRef};
+use msi_table_values::value::Value;
 use msi_text_base::codepage::CodePage;
 use msi_text_base::errors::Error;
 use msi_text_base::text::Items;

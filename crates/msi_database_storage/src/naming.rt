@@ -14,7 +14,7 @@ use crate::decoding::stream_bytes;
 use msi_container_format::contents::StreamMap;
 use msi_table::Table;
 use msi_table::parts::Census;
-use msi_table_values::value::ValueRef;
+use msi_table_cells::cell::ValueRef;
 use msi_text_base::errors::Error;
 use msi_text_base::text::Items;
 use msi_text_pool::parts::{forget_texts, free_places_are_empty};

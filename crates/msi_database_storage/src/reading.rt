@@ -27,8 +27,8 @@ use msi_database_schema::system::{
     COLUMNS, TABLES, VALIDATION, columns_columns, tables_columns, validation_columns,
 };
 use msi_table::Table;
+use msi_table_cells::cell::ValueRef;
 use msi_table_values::column::Column;
-use msi_table_values::value::ValueRef;
 use msi_text_base::errors::{Error, ErrorKind};
 use msi_text_base::text::Items;
 use msi_text_pool::stringpool::StringPool;

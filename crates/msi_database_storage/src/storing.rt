@@ -13,7 +13,7 @@ use msi_database_cells::storing::Stored;
 use msi_database_schema::parts::short_table_key;
 use msi_table::Table;
 use msi_table::parts::write_rows;
-use msi_table_values::value::ValueRef;
+use msi_table_cells::cell::ValueRef;
 use msi_text_base::errors::Error;
 use msi_text_base::text::Items;
 use std::alloc::Global;

@@ -2,7 +2,7 @@
 
 ghost use Rattle.std.specs.Prelude.{◌≡◌, ◌++◌, OnOk};
 ghost use Rattle.msi_text_base.specs.Results.{OnlyMemory};
-ghost use Rattle.msi_table_values.specs.CellValues.{row_values};
+ghost use Rattle.msi_table_cells.specs.CellValues.{row_values};
 ghost use Rattle.msi_query_expressions.specs.Conditions.{meets};
 ghost use Rattle.msi_query_joins.specs.Rows.{rows_values};
 ghost use Rattle.msi_query_joins.specs.Selection.{pairs_of, rows_of_row};
@@ -11,7 +11,7 @@ use crate::rows::{pair, with_nulls};
 use msi_query::query::JoinKind;
 use msi_query_expressions::parts::RowFilter;
 use msi_query_operators::joins::keeps_alone;
-use msi_table_values::value::ValueRef;
+use msi_table_cells::cell::ValueRef;
 use msi_text_base::errors::Error;
 use msi_text_base::text::Items;
 use msi_text_pool::stringpool::StringPool;

@@ -2,9 +2,9 @@
 
 ghost use Rattle.std.specs.Prelude.{◌≡◌, ◌++◌, IfOk, replicate};
 ghost use Rattle.msi_text_base.specs.Results.{OnlyMemory};
-ghost use Rattle.msi_table_values.specs.declared.value.ValueRef.TheVariants as cell;
+ghost use Rattle.msi_table_cells.specs.declared.cell.ValueRef.TheVariants as cell;
 
-use msi_table_values::value::ValueRef;
+use msi_table_cells::cell::ValueRef;
 use msi_text_base::errors::Error;
 use msi_text_base::text::Items;
 use std::alloc::Global;

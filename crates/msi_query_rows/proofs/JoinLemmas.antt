@@ -6,14 +6,14 @@ use Rattle.msi_text_base.specs.declared.errors.ErrorKind.{ErrorKind}
 use Rattle.msi_text_base.specs.declared.errors.ErrorKind.TheVariants.{InvalidInput}
 use Rattle.msi_text_pool_base.specs.Pool.{Place}
 use Rattle.msi_table_values.specs.declared.value.Value.{Value}
-use Rattle.msi_table_values.specs.declared.value.ValueRef.{ValueRef}
+use Rattle.msi_table_cells.specs.declared.cell.ValueRef.{ValueRef}
 use Rattle.msi_table_values.specs.Columns.{ColumnDef}
 use Rattle.msi_query_operators.specs.declared.joins.JoinKind.{JoinKind}
 use Rattle.msi_query_expressions.specs.Expressions.{Expression, names_in}
 use Rattle.msi_query_expressions.specs.Conditions.{RowFilterDef, meets}
 use Rattle.msi_query.specs.Queries.{Clauses, Query, table, join}
 use Rattle.msi_text_base.specs.Refusals.{IsRefusal, unless_refused, ◌>>=◌}
-use Rattle.msi_table_values.specs.TableCells.{TableCells}
+use Rattle.msi_table_cells.specs.TableCells.{TableCells}
 use Rattle.msi_query_joins.specs.Rows.{RelationCells, relation_values, rows_values, tables_values, whole_table}
 use Rattle.msi_query_joins.specs.Selection.{Relation, TableValues, narrowed, relation_of, clause_refusals, joined, has_columns, joined_columns, joined_narrowed, rows_of_row, selected}
 use Rattle.msi_text_base.proofs.RefusalLemmas.{first_holds, first_passes, refusals-Err, refusals-Ok}

@@ -12,7 +12,7 @@ use Rattle.msi_text_base.specs.declared.errors.ErrorKind.TheVariants.{InvalidInp
 use Rattle.msi_text_pool_base.specs.Pool.{Place}
 use Rattle.msi_table_values.specs.declared.value.Value.{Value}
 use Rattle.msi_table_values.specs.declared.value.Value.TheVariants.{Null}
-use Rattle.msi_table_values.specs.declared.value.ValueRef.{ValueRef}
+use Rattle.msi_table_cells.specs.declared.cell.ValueRef.{ValueRef}
 use Rattle.msi_table_values.specs.Columns.{ColumnDef, begun_column, column_index, column_named, has_column}
 use Rattle.msi_table_rows.proofs.ColumnLemmas.{column_found}
 use Rattle.msi_query_operators.specs.declared.joins.JoinKind.{JoinKind}

@@ -5,9 +5,9 @@ use Rattle.std.specs.Ordering.{is_eq}
 use Rattle.std.specs.declared.cmp.Ordering.{Ordering}
 use Rattle.msi_text_base.specs.Lists.{stable_sort}
 use Rattle.msi_text_pool_base.specs.Pool.{Place}
-use Rattle.msi_table_values.specs.declared.value.ValueRef.{ValueRef}
+use Rattle.msi_table_cells.specs.declared.cell.ValueRef.{ValueRef}
 use Rattle.msi_table_values.specs.declared.value.Value.{Value}
-use Rattle.msi_table_values.specs.CellValues.{value_of_cell, row_values}
+use Rattle.msi_table_cells.specs.CellValues.{value_of_cell, row_values}
 use Rattle.msi_table_values.specs.Columns.{ColumnDef}
 use Rattle.msi_table_values.specs.Values.{value_cmp}
 use Rattle.msi_query_expressions.specs.Conditions.{value_at_place}

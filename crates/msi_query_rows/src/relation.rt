@@ -6,8 +6,8 @@ ghost use Rattle.msi_table.specs.Rows.{AreAsWide};
 
 use msi_table::parts;
 use msi_table::row::Rows;
+use msi_table_cells::cell::ValueRef;
 use msi_table_values::column::Column;
-use msi_table_values::value::ValueRef;
 use msi_text_base::errors::Error;
 use msi_text_base::text::{Items, Text};
 use msi_text_pool::stringpool::StringPool;

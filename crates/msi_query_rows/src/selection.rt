@@ -32,7 +32,7 @@ use std::alloc::Global;
 /// Provides tables by name.
 pub trait Tables {
     ghost use Rattle.std.specs.Prelude.{ℕ, List, Option};
-    ghost use Rattle.msi_table_values.specs.TableCells.{TableCells};
+    ghost use Rattle.msi_table_cells.specs.TableCells.{TableCells};
     ghost use Rattle.msi_query_joins.specs.Rows.{cells_of, whole_table};
 
     /// The columns and the rows of the table of a name.

@@ -17,8 +17,8 @@ use Rattle.msi_text_base.specs.Lists.{numbers_from, tabulated}
 use Rattle.msi_text_base.proofs.ListLemmas.{each_number}
 use Rattle.msi_table_values.specs.declared.column.ColumnType.{ColumnType}
 use Rattle.msi_table_values.specs.declared.column.ColumnType.TheVariants as coltype
-use Rattle.msi_table_values.specs.declared.value.ValueRef.{ValueRef}
-use Rattle.msi_table_values.specs.declared.value.ValueRef.TheVariants as cell
+use Rattle.msi_table_cells.specs.declared.cell.ValueRef.{ValueRef}
+use Rattle.msi_table_cells.specs.declared.cell.ValueRef.TheVariants as cell
 use Rattle.msi_table_values.specs.Columns.{ColumnDef, types_of}
 use Rattle.msi_table.specs.Cells.{width, widths, row_count, cell_in, cell_of_number, cell_at, is_for_texts, row_in, rows_in}
 use Rattle.msi_table.specs.Census.{CensusDef, CountsMore, IsCensus, most_counted, number_of_cell, numbers_of_row, numbers_of_rows, times_named}

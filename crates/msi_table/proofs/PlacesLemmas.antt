@@ -9,7 +9,7 @@ use Rattle.std.proofs.Math.Nat as nat
 use Rattle.msi_text_base.specs.Lists.{tabulated}
 use Rattle.msi_table_values.specs.declared.column.ColumnType.{ColumnType}
 use Rattle.msi_table_values.specs.declared.column.ColumnType.TheVariants as coltype
-use Rattle.msi_table_values.specs.declared.value.ValueRef.{ValueRef}
+use Rattle.msi_table_cells.specs.declared.cell.ValueRef.{ValueRef}
 use Rattle.msi_table_values.specs.Columns.{ColumnDef, types_of}
 use Rattle.msi_table_values.proofs.ColumnTypesLemmas.{below_types, length-types_of, type_at}
 use Rattle.msi_table.specs.Cells.{width, widths, row_count, cell_in, cell_at}

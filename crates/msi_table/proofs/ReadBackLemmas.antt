@@ -12,12 +12,12 @@ use Rattle.msi_text_base.specs.Lists.{tabulated}
 use Rattle.msi_text_base.proofs.OptionLemmas.{none_is}
 use Rattle.msi_table_values.specs.declared.column.ColumnType.{ColumnType}
 use Rattle.msi_table_values.specs.declared.column.ColumnType.TheVariants as coltype
-use Rattle.msi_table_values.specs.declared.value.ValueRef.{ValueRef}
-use Rattle.msi_table_values.specs.declared.value.ValueRef.TheVariants as cell
-use Rattle.msi_table_order.proofs.SortedRowsLemmas.{all_at}
+use Rattle.msi_table_cells.specs.declared.cell.ValueRef.{ValueRef}
+use Rattle.msi_table_cells.specs.declared.cell.ValueRef.TheVariants as cell
+use Rattle.msi_table_cells.proofs.SortedRowsLemmas.{all_at}
 use Rattle.msi_table.specs.Cells.{cell_in, cell_bytes, width, widths, row_count, cell_at, rows_in, column_bytes, table_bytes}
-use Rattle.msi_table_values.specs.Fitting.{cell_of, FitsRow, FitsTable}
-use Rattle.msi_table_values.proofs.FittingLemmas.{fits_at, fits_length}
+use Rattle.msi_table_cells.specs.Fitting.{cell_of, FitsRow, FitsTable}
+use Rattle.msi_table_cells.proofs.FittingLemmas.{fits_at, fits_length}
 use Rattle.msi_table.proofs.RoundTripLemmas.{length-cell_bytes, cell_in-cell_bytes}
 use Rattle.msi_table.proofs.PiecesLemmas.{numbers_from_is, length-pieces, piece_at}
 

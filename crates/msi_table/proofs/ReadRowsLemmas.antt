@@ -12,15 +12,15 @@ use Rattle.msi_text_base.proofs.ListLemmas.{all_mapped, length-numbers_from, tab
 use Rattle.msi_text_pool_base.specs.References.{number_of}
 use Rattle.msi_table_values.specs.declared.column.ColumnType.{ColumnType}
 use Rattle.msi_table_values.specs.declared.column.ColumnType.TheVariants as coltype
-use Rattle.msi_table_values.specs.declared.value.ValueRef.TheVariants as cell
+use Rattle.msi_table_cells.specs.declared.cell.ValueRef.TheVariants as cell
 use Rattle.msi_table.specs.Cells.{AreStarts, width, widths, row_count, cell_in, cell_of_number, cell_at, cell_place, row_in}
 use Rattle.msi_table_values.specs.Columns.{ColumnDef, types_of}
-use Rattle.msi_table_values.specs.Fitting.{FitsColumn, FitsRow, FitsTable}
+use Rattle.msi_table_cells.specs.Fitting.{FitsColumn, FitsRow, FitsTable}
 use Rattle.msi_table.specs.Rows.{AreAsWide, cell_in_row}
 use Rattle.msi_table.specs.Tables.{ReadRowsFit}
-use Rattle.msi_table_values.proofs.FittingLemmas.{fits_by_cells}
+use Rattle.msi_table_cells.proofs.FittingLemmas.{fits_by_cells}
 use Rattle.msi_table_values.proofs.ColumnTypesLemmas.{below_types, length-types_of}
-use Rattle.msi_table_order.proofs.SortedRowsLemmas.{all_at}
+use Rattle.msi_table_cells.proofs.SortedRowsLemmas.{all_at}
 
 pub length-tabulated : {X : Type 0} (n : ℕ) (f : ℕ → X) → length (tabulated n f) ≡ n
 length-tabulated n f = lists.length-map (numbers_from 0 n) f ∙ length-numbers_from 0 n

@@ -2,12 +2,12 @@
 use Rattle.std.specs.Prelude.{◌≡◌, true, false, List, [], ◌∷◌, Some, refl, codes, map, pos, negsuc}
 use Rattle.msi_table_values.specs.declared.column.ColumnType.{ColumnType}
 use Rattle.msi_table_values.specs.declared.column.ColumnType.TheVariants as coltype
-use Rattle.msi_table_values.specs.declared.value.ValueRef.{ValueRef}
-use Rattle.msi_table_values.specs.declared.value.ValueRef.TheVariants as cell
+use Rattle.msi_table_cells.specs.declared.cell.ValueRef.{ValueRef}
+use Rattle.msi_table_cells.specs.declared.cell.ValueRef.TheVariants as cell
 use Rattle.msi_table_values.specs.Columns.{ColumnDef}
 use Rattle.msi_table_values.proofs.WorkedRows.{plain, number, word}
 use Rattle.msi_table.specs.Cells.{cell_bytes, cell_in, table_bytes, rows_in}
-use Rattle.msi_table_order.specs.StoredOrder.{in_stored_order}
+use Rattle.msi_table_cells.specs.StoredOrder.{in_stored_order}
 
 int16_cells : map (cell_bytes false coltype.Int16) (cell.Int (negsuc 32766) ∷ cell.Int (pos 32767) ∷ cell.Int (negsuc 0) ∷ cell.Null ∷ [])
     ≡ (1 ∷ 0 ∷ []) ∷ (0xFF ∷ 0xFF ∷ []) ∷ (0xFF ∷ 0x7F ∷ []) ∷ (0 ∷ 0 ∷ []) ∷ []

@@ -9,9 +9,9 @@ use Rattle.msi_text_base.specs.Lists.{tabulated}
 use Rattle.msi_text_pool_base.specs.References.{reference_width, number_of}
 use Rattle.msi_table_values.specs.declared.column.ColumnType.{ColumnType}
 use Rattle.msi_table_values.specs.declared.column.ColumnType.TheVariants as coltype
-use Rattle.msi_table_values.specs.declared.value.ValueRef.{ValueRef}
-use Rattle.msi_table_values.specs.declared.value.ValueRef.TheVariants as cell
-use Rattle.msi_table_values.specs.Fitting.{cell_of}
+use Rattle.msi_table_cells.specs.declared.cell.ValueRef.{ValueRef}
+use Rattle.msi_table_cells.specs.declared.cell.ValueRef.TheVariants as cell
+use Rattle.msi_table_cells.specs.Fitting.{cell_of}
 
 abbrev pub width : Bool → ColumnType → ℕ
 width long coltype.Int16 = 2

@@ -3,8 +3,8 @@ use Rattle.std.specs.Prelude.{◌≡◌, ℕ, ◌+◌, ◌<◌, ◌==◌, Bool, 
 use Rattle.std.specs.Prelude.{min, nat_le, slice_index}
 use Rattle.std.specs.List.{filter_map, flat_map, list_all}
 use Rattle.msi_text_base.specs.Lists.{tabulated}
-use Rattle.msi_table_values.specs.declared.value.ValueRef.{ValueRef}
-use Rattle.msi_table_values.specs.declared.value.ValueRef.TheVariants as cell
+use Rattle.msi_table_cells.specs.declared.cell.ValueRef.{ValueRef}
+use Rattle.msi_table_cells.specs.declared.cell.ValueRef.TheVariants as cell
 
 -- the numbers that cells name
 abbrev pub number_of_cell : ValueRef → Option ℕ

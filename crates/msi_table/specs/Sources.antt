@@ -1,6 +1,6 @@
 -- Where rows come from.
 use Rattle.std.specs.Prelude.{List, length}
-use Rattle.msi_table_values.specs.declared.value.ValueRef.{ValueRef}
+use Rattle.msi_table_cells.specs.declared.cell.ValueRef.{ValueRef}
 use Rattle.msi_table.specs.Rows.{AreRowNumbers, rows_picked}
 use Rattle.msi_table.specs.declared.row.Source.{Source}
 use Rattle.msi_table.specs.declared.row.Source.TheVariants.{Made, Stored}

@@ -1,11 +1,11 @@
 -- Tables and the bytes of their streams.
 use Rattle.std.specs.Prelude.{◌≡◌, ℕ, ◌<◌, Bool, true, List, length, Option, Some, None, All, nat_le, if◌then◌else◌}
-use Rattle.msi_table_values.specs.declared.value.ValueRef.{ValueRef}
+use Rattle.msi_table_cells.specs.declared.cell.ValueRef.{ValueRef}
 use Rattle.msi_table.specs.Cells.{rows_in, table_bytes}
 use Rattle.msi_table_values.specs.Columns.{ColumnDef, greatest_16, types_of}
-use Rattle.msi_table_values.specs.Fitting.{FitsTable}
+use Rattle.msi_table_cells.specs.Fitting.{FitsTable}
 use Rattle.msi_table.specs.Rows.{AreAsWide}
-use Rattle.msi_table_order.specs.StoredOrder.{in_stored_order}
+use Rattle.msi_table_cells.specs.StoredOrder.{in_stored_order}
 
 -- a table: its references to texts are long where those of the pool are
 pub record TableDef : Type 0 where

@@ -5,14 +5,14 @@ ghost use Rattle.msi_table.specs.Tables.{ReadRowsFit};
 ghost use Rattle.msi_table.specs.Utf8Tables.{IsUtf8Table};
 
 use crate::table::Table;
-pub use msi_table_order::laws::{
-    leading_numbers_ascend, rows_are_sorted_by_keys, stored_rows_are_sorted,
+pub use msi_table_cells::laws::{
+    cells_are_ordered, leading_numbers_ascend, removing_keeps_values, rows_are_sorted_by_keys,
+    stored_rows_are_sorted, stored_values_come_back, storing_keeps_values, valid_values_fit,
 };
 pub use msi_table_rows::laws::row_texts_are_utf8;
 pub use msi_table_values::laws::{
-    cells_are_ordered, column_texts_are_utf8, listed_columns_are_utf8, listed_texts_are_utf8,
-    listed_values_are_utf8, removing_keeps_values, stored_values_come_back, storing_keeps_values,
-    type_bits_come_back, valid_values_fit, value_texts_are_utf8, values_are_ordered,
+    column_texts_are_utf8, listed_columns_are_utf8, listed_texts_are_utf8, listed_values_are_utf8,
+    type_bits_come_back, value_texts_are_utf8, values_are_ordered,
 };
 
 /// Rows that are read have a cell for each column, and a table that has a column can store them.

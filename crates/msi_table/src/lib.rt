@@ -13,10 +13,12 @@ mod stored;
 pub mod table;
 mod writing;
 
+pub use msi_table_cells::cell;
+pub use msi_table_cells::cell::ValueRef;
 pub use msi_table_rows::row::Row;
 pub use msi_table_values::column::{Column, ColumnBuilder, ColumnType};
 pub use msi_table_values::parts::ValueView;
-pub use msi_table_values::value::{Value, ValueRef};
+pub use msi_table_values::value::Value;
 pub use msi_table_values::{column, value};
 pub use row::Rows;
 pub use table::Table;

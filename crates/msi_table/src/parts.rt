@@ -5,12 +5,12 @@ ghost use Rattle.std.specs.Prelude.{true};
 ghost use Rattle.msi_text_base.specs.Results.{OnlyMemory};
 ghost use Rattle.msi_text_base.specs.declared.errors.ErrorKind.TheVariants.{InvalidData};
 ghost use Rattle.msi_table_values.specs.Refusals.{FailsWith};
-ghost use Rattle.msi_table_values.specs.CellValues.{row_values};
+ghost use Rattle.msi_table_cells.specs.CellValues.{row_values};
 ghost use Rattle.msi_table_values.specs.Columns.{types_of};
 ghost use Rattle.msi_table.specs.Cells.{table_bytes};
 ghost use Rattle.msi_table.specs.Tables.{CanStore, long_table_of, rows_spelled, stored_bytes, table_of};
 ghost use Rattle.msi_table.specs.Rows.{AreAsWide, AreRowNumbers, rows_picked, table_rows};
-ghost use Rattle.msi_table_order.specs.StoredOrder.{in_stored_order};
+ghost use Rattle.msi_table_cells.specs.StoredOrder.{in_stored_order};
 
 pub use crate::census::Census;
 pub use crate::picked::{PickedRows, cell_of, projected_row};
@@ -18,14 +18,16 @@ use crate::row::{Rows, values_of};
 pub use crate::stored::StoredRows;
 use crate::table::Table;
 use crate::{rows as reading, writing};
-pub use msi_table_order::order::sort_by_keys;
+use msi_table_cells::cell::ValueRef;
+pub use msi_table_cells::order::sort_by_keys;
+use msi_table_cells::parts as cells_of_tables;
+pub use msi_table_cells::parts::{MAX_ROWS, compare_values, view_of_cell};
 use msi_table_values::column::Column;
-use msi_table_values::parts as columns_and_values;
 pub use msi_table_values::parts::{
-    MAX_ROWS, ValueView, column_index, column_of_bits, compare_values, copied_columns, copied_list,
-    has_column, nullable, renamed, type_bits,
+    ValueView, column_index, column_of_bits, copied_columns, copied_list, has_column, nullable,
+    renamed, type_bits,
 };
-use msi_table_values::value::{Value, ValueRef};
+use msi_table_values::value::Value;
 use msi_text_base::errors::Error;
 use msi_text_base::text::{Items, Text};
 use msi_text_pool::stringpool::StringPool;
@@ -65,7 +67,7 @@ pub fn read_rows(alloc: Global, table: &Table, bytes: &[u8]) -> Result<Vec<Items
 pub fn fits_table(table: &Table, rows: &[Items<ValueRef>]) -> bool
     ensures { IsTrue result ↔ CanStore table.now rows.now }
 {
-    columns_and_values::fits_table(table.is_long(), table.columns(), rows)
+    cells_of_tables::fits_table(table.is_long(), table.columns(), rows)
 }
 
 /// Returns the bytes of a table's rows in their stored order, which read back. The table has to be able to store the

@@ -5,7 +5,7 @@ ghost use Rattle.msi_text_base.specs.Results.{OnlyMemory};
 ghost use Rattle.msi_table.specs.Rows.{AreRowNumbers, cell_at, cell_in_row, cells_at, rows_numbered, rows_picked};
 
 use crate::stored::StoredRows;
-use msi_table_values::value::ValueRef;
+use msi_table_cells::cell::ValueRef;
 use msi_text_base::errors::Error;
 use msi_text_base::text::Items;
 use std::alloc::Global;

@@ -6,15 +6,17 @@ ghost use Rattle.msi_text_base.specs.Results.{OnlyMemory};
 ghost use Rattle.msi_table.specs.Rows.{AreAsWide, AreRowNumbers, GivesRow, IsRowAt, cell_in_row, rows_picked};
 ghost use Rattle.msi_table.specs.Rows.{value_next};
 ghost use Rattle.msi_table.specs.Sources.{HasRowNumbers, rows_of_source};
-ghost use Rattle.msi_table_values.specs.CellValues.{row_values};
+ghost use Rattle.msi_table_cells.specs.CellValues.{row_values};
 ghost use Rattle.msi_table_values.specs.Views.{seen_value};
 
 use crate::picked::PickedRows;
+use msi_table_cells::cell::ValueRef;
+use msi_table_cells::parts::view_of_cell;
 use msi_table_rows::parts::row;
 use msi_table_rows::row::Row;
 use msi_table_values::column::Column;
 use msi_table_values::parts::ValueView;
-use msi_table_values::value::{Value, ValueRef};
+use msi_table_values::value::Value;
 use msi_text_base::errors::Error;
 use msi_text_base::text::Items;
 use msi_text_pool::stringpool::StringPool;
@@ -257,7 +259,7 @@ impl<'a> Rows<'a> {
         if self.given < self.source.len()
             && let Some(cell) = self.source.cell(self.given, column)
         {
-            return Some(ValueView::of_cell(self.pool, cell));
+            return Some(view_of_cell(self.pool, cell));
         }
         None
     }

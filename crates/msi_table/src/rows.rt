@@ -11,9 +11,9 @@ ghost use Rattle.msi_table_values.specs.Refusals.{FailsWith};
 
 use crate::cells::{read_cell, width};
 use crate::reasons;
+use msi_table_cells::cell::ValueRef;
+use msi_table_cells::parts::MAX_ROWS;
 use msi_table_values::column::Column;
-use msi_table_values::parts::MAX_ROWS;
-use msi_table_values::value::ValueRef;
 use msi_text_base::errors::{Error, ErrorKind};
 use msi_text_base::text::Items;
 use std::alloc::Global;

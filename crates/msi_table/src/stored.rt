@@ -7,9 +7,9 @@ ghost use Rattle.msi_table.specs.Tables.{rows_spelled};
 
 use crate::rows::{column_start, column_starts, read_all, read_one, read_row, row_count};
 use crate::table::Table;
+use msi_table_cells::cell::ValueRef;
+use msi_table_cells::parts::MAX_ROWS;
 use msi_table_values::column::Column;
-use msi_table_values::parts::MAX_ROWS;
-use msi_table_values::value::ValueRef;
 use msi_text_base::errors::Error;
 use msi_text_base::text::Items;
 use std::alloc::Global;

@@ -1,7 +1,5 @@
 -- The lemmas of this crate.
 pub mod ColumnTypesLemmas
-pub mod FittingLemmas
-pub mod StoredValuesLemmas
 pub mod TypeBitsLemmas
 pub mod ValidValuesLemmas
 pub mod WorkedRows

@@ -3,14 +3,9 @@ pub mod Refusals
 pub mod Values
 pub mod Columns
 pub mod ValidValues
-pub mod CellValues
 pub mod Views
 pub mod Utf8Texts
-pub mod CellOrder
 pub mod OrderLaws
-pub mod Fitting
-pub mod StoredValues
-pub mod TableCells
 -- The words of the crates below, which public clauses cite.
 pub use Rattle.msi_text_categories.specs.declared.category.Category
 pub use Rattle.msi_text_categories.specs.Spellings

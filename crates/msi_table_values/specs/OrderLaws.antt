@@ -1,4 +1,4 @@
--- Values and cells are ordered, and only equal ones tie.
+-- Values are ordered, and only equal ones tie.
 use Rattle.std.specs.Prelude.{◌≡◌, ℕ, ℤ, List, [], pos}
 use Rattle.std.specs.declared.cmp.Ordering.{Ordering}
 use mathlib.Core.Path.{refl, sym, ap, subst, ◌∙◌}
@@ -13,27 +13,24 @@ use Rattle.std.proofs.lemmas.Map.Text.{is_eq-slice_cmp}
 use Rattle.std.proofs.lemmas.Slice.Eq.{bytes_eq-Decides}
 use Rattle.msi_table_values.specs.declared.value.Value.{Value}
 use Rattle.msi_table_values.specs.declared.value.Value.TheVariants as value
-use Rattle.msi_table_values.specs.declared.value.ValueRef.{ValueRef}
-use Rattle.msi_table_values.specs.declared.value.ValueRef.TheVariants as cell
 use Rattle.msi_table_values.specs.Values.{value_cmp}
-use Rattle.msi_table_values.specs.CellOrder.{cell_cmp}
 
-then_Equal : (o : Ordering) → ordering_then o Equal ≡ o
+pub then_Equal : (o : Ordering) → ordering_then o Equal ≡ o
 then_Equal Less = refl
 then_Equal Equal = refl
 then_Equal Greater = refl
 
-less_no_tie : {P : Type 0} → Less ≡ Equal → P
+pub less_no_tie : {P : Type 0} → Less ≡ Equal → P
 less_no_tie e = absurd (true≢false (ap is_lt e))
 
-greater_no_tie : {P : Type 0} → Greater ≡ Equal → P
+pub greater_no_tie : {P : Type 0} → Greater ≡ Equal → P
 greater_no_tie e = absurd (true≢false (ap is_gt e))
 
 -- what ties is equal: numbers, places and texts
-ints_tie : (m n : ℤ) → int_cmp m n ≡ Equal → m ≡ n
+pub ints_tie : (m n : ℤ) → int_cmp m n ≡ Equal → m ≡ n
 ints_tie m n e = (ranked_equal m n (int_cmp m n) (int_ranked m n (int_cmp m n) refl)).0 (ap is_eq e)
 
-nats_tie : (m n : ℕ) → nat_cmp m n ≡ Equal → m ≡ n
+pub nats_tie : (m n : ℕ) → nat_cmp m n ≡ Equal → m ≡ n
 nats_tie m n e = (unsigned_Decides m n).0 (unsigned_ties m n ∙ ap is_eq e)
 
 texts_tie : (s t : List ℕ) → slice_cmp nat_cmp s t ≡ Equal → s ≡ t
@@ -103,61 +100,3 @@ value_eq-Decides v w = (
   λ e. values_tie v w ((Equal-is (value_cmp v w)).0 e),
   λ e. ap is_eq (ap (value_cmp v) (sym e) ∙ tied_itself value_cmp-total v),
 )
-
--- a cell by its kind, its number and its place
-abbrev cell_kind : ValueRef → ℕ
-cell_kind cell.Null = 0
-cell_kind (cell.Int n) = 1
-cell_kind (cell.Str s) = 2
-cell_kind cell.Binary = 3
-
-abbrev cell_number : ValueRef → ℤ
-cell_number (cell.Int n) = n
-cell_number _ = pos 0
-
-abbrev cell_place : ValueRef → ℕ
-cell_place (cell.Str s) = s
-cell_place _ = 0
-
-abbrev cells_by_parts : ValueRef → ValueRef → Ordering
-cells_by_parts = then_cmp (on cell_kind nat_cmp) (then_cmp (on cell_number int_cmp) (on cell_place nat_cmp))
-
-same_cell_order : (c d : ValueRef) → cells_by_parts c d ≡ cell_cmp c d
-same_cell_order cell.Null cell.Null = refl
-same_cell_order cell.Null (cell.Int n) = refl
-same_cell_order cell.Null (cell.Str t) = refl
-same_cell_order cell.Null cell.Binary = refl
-same_cell_order (cell.Int m) cell.Null = refl
-same_cell_order (cell.Int m) (cell.Int n) = then_Equal (int_cmp m n)
-same_cell_order (cell.Int m) (cell.Str t) = refl
-same_cell_order (cell.Int m) cell.Binary = refl
-same_cell_order (cell.Str s) cell.Null = refl
-same_cell_order (cell.Str s) (cell.Int n) = refl
-same_cell_order (cell.Str s) (cell.Str t) = refl
-same_cell_order (cell.Str s) cell.Binary = refl
-same_cell_order cell.Binary cell.Null = refl
-same_cell_order cell.Binary (cell.Int n) = refl
-same_cell_order cell.Binary (cell.Str t) = refl
-same_cell_order cell.Binary cell.Binary = refl
-
-pub cell_cmp-total : IsTotalOrder cell_cmp
-cell_cmp-total = subst IsTotalOrder (λ i c d. same_cell_order c d i) (then_total (on_total cell_kind nat_cmp_total)
-    (then_total (on_total cell_number int_cmp_total) (on_total cell_place nat_cmp_total)))
-
-pub cells_tie : (c d : ValueRef) → cell_cmp c d ≡ Equal → c ≡ d
-cells_tie cell.Null cell.Null e = refl
-cells_tie (cell.Int m) (cell.Int n) e = ap cell.Int (ints_tie m n e)
-cells_tie (cell.Str s) (cell.Str t) e = ap cell.Str (nats_tie s t e)
-cells_tie cell.Binary cell.Binary e = refl
-cells_tie cell.Null (cell.Int n) e = less_no_tie e
-cells_tie cell.Null (cell.Str t) e = less_no_tie e
-cells_tie cell.Null cell.Binary e = less_no_tie e
-cells_tie (cell.Int m) cell.Null e = greater_no_tie e
-cells_tie (cell.Int m) (cell.Str t) e = less_no_tie e
-cells_tie (cell.Int m) cell.Binary e = less_no_tie e
-cells_tie (cell.Str s) cell.Null e = greater_no_tie e
-cells_tie (cell.Str s) (cell.Int n) e = greater_no_tie e
-cells_tie (cell.Str s) cell.Binary e = less_no_tie e
-cells_tie cell.Binary cell.Null e = greater_no_tie e
-cells_tie cell.Binary (cell.Int n) e = greater_no_tie e
-cells_tie cell.Binary (cell.Str t) e = greater_no_tie e

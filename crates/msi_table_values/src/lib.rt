@@ -1,10 +1,9 @@
-//! Values and columns: the cells that stand for values, which values a column takes, and how its type is stored.
+//! Values and columns: which values a column takes, and how its type is stored.
 #![tactic(auto)]
 
 pub mod column;
 mod columns;
 mod conversions;
-mod fitting;
 pub mod laws;
 pub mod parts;
 mod printing;
@@ -15,4 +14,4 @@ pub mod value;
 mod views;
 
 pub use column::{Column, ColumnBuilder, ColumnType};
-pub use value::{Value, ValueRef};
+pub use value::Value;

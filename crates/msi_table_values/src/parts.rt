@@ -10,10 +10,10 @@ ghost use Rattle.msi_table_values.specs.Columns.{type_of_bits as type_in};
 
 use crate::column::{Column, ColumnBuilder, ColumnType};
 pub use crate::columns::{column_index, copied_columns, has_column};
-pub use crate::fitting::{MAX_ROWS, fits_table};
 use crate::reasons;
 pub use crate::texts::copied_list;
-pub use crate::views::{ValueView, compare_values};
+pub use crate::valid_values::{fits_number, holds_streams};
+pub use crate::views::ValueView;
 use msi_text_base::errors::{Error, ErrorKind};
 use msi_text_base::text::IntoText;
 use std::alloc::Global;

@@ -38,15 +38,15 @@ impl Column {
     }
 }
 
-/// Whether a column's cells stand for streams.
-pub(crate) fn holds_streams(coltype: ColumnType) -> bool
+/// Returns whether a column's cells stand for streams.
+pub fn holds_streams(coltype: ColumnType) -> bool
     ensures { result ≡ fits_type coltype value_of.Binary }
 {
     matches!(coltype, ColumnType::Binary)
 }
 
-/// Whether a number is of the width of a column's numbers, and not the least, whose cell would read as null.
-pub(crate) fn fits_number(coltype: ColumnType, number: i32) -> bool
+/// Returns whether a number is of the width of a column's numbers, and not the least, whose cell would read as null.
+pub fn fits_number(coltype: ColumnType, number: i32) -> bool
     ensures { result ≡ fits_type coltype (value_of.Int number) }
 {
     match coltype {

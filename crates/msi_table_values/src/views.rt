@@ -2,14 +2,12 @@
 
 ghost use Rattle.std.specs.Prelude.{◌≡◌, IfOk, IfErr, IsErr, IsTrue};
 ghost use Rattle.msi_text_base.specs.declared.errors.ErrorKind.TheVariants.{OutOfMemory};
-ghost use Rattle.msi_table_values.specs.CellValues.{value_of_cell};
 ghost use Rattle.msi_table_values.specs.Values.{value_cmp, is_text, is_true as counts};
 ghost use Rattle.msi_table_values.specs.Views.{seen_value};
 
-use crate::value::{Value, ValueRef};
+use crate::value::Value;
 use msi_text_base::errors::Error;
 use msi_text_base::text::IntoText;
-use msi_text_pool::stringpool::StringPool;
 use std::alloc::Global;
 use std::cmp::Ordering;
 
@@ -36,18 +34,6 @@ impl<'a> ValueView<'a> {
             Value::Int(number) => ValueView::Int(*number),
             Value::Str(text) => ValueView::Str(text.as_str()),
             Value::Binary => ValueView::Binary,
-        }
-    }
-
-    /// Returns the value that a cell stands for, its text where it lies in the pool.
-    pub fn of_cell(pool: &'a StringPool, cell: ValueRef) -> ValueView<'a>
-        ensures { seen_value result ≡ value_of_cell pool.now.places cell }
-    {
-        match cell {
-            ValueRef::Null => ValueView::Null,
-            ValueRef::Int(number) => ValueView::Int(number),
-            ValueRef::Str(reference) => ValueView::Str(pool.get(reference)),
-            ValueRef::Binary => ValueView::Binary,
         }
     }
 
@@ -105,11 +91,4 @@ impl<'a> ValueView<'a> {
             },
         }
     }
-}
-
-/// Compares the values of two cells. No text is copied.
-pub fn compare_values(pool: &StringPool, cell: ValueRef, other: ValueRef) -> Ordering
-    ensures { result ≡ value_cmp (value_of_cell pool.now.places cell) (value_of_cell pool.now.places other) }
-{
-    ValueView::of_cell(pool, cell).compare(ValueView::of_cell(pool, other))
 }

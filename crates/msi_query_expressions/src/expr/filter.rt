@@ -5,8 +5,8 @@ ghost use Rattle.std.specs.Prelude.{option_copied};
 ghost use Rattle.std.specs.Option.{option_map_or};
 ghost use Rattle.msi_text_base.specs.declared.errors.ErrorKind.TheVariants.{OutOfMemory};
 ghost use Rattle.msi_table_values.specs.declared.value.Value.{Value as ValueOf};
-ghost use Rattle.msi_table_values.specs.declared.value.ValueRef.TheVariants as cell;
-ghost use Rattle.msi_table_values.specs.CellValues.{row_values};
+ghost use Rattle.msi_table_cells.specs.declared.cell.ValueRef.TheVariants as cell;
+ghost use Rattle.msi_table_cells.specs.CellValues.{row_values};
 ghost use Rattle.msi_query_expressions.specs.Conditions.{has_sum, meets as meets_one, value_in, value_at_place};
 ghost use Rattle.msi_query_expressions.specs.Evaluation.{value_of};
 ghost use Rattle.msi_query_expressions.specs.RowFilters.{StandsFor};
@@ -15,9 +15,11 @@ ghost use Rattle.msi_query_expressions.specs.Trees.{expression_of, tree_has_sum,
 use super::column_values::ColumnValues;
 use super::evaluation::holds;
 use super::{Expr, Tree};
+use msi_table_cells::cell::ValueRef;
+use msi_table_cells::parts::view_of_cell;
 use msi_table_values::column::Column;
 use msi_table_values::parts::{ValueView, column_index};
-use msi_table_values::value::{Value, ValueRef};
+use msi_table_values::value::Value;
 use msi_text_base::errors::Error;
 use msi_text_base::text::Text;
 use msi_text_pool::stringpool::StringPool;
@@ -52,7 +54,7 @@ impl ColumnValues<usize> for CellRow<'_> {
     ghost value_at = { λ r. value_at_place (row_values r.pool.now.places (r.front.now ++ r.back.now)) };
 
     fn value(&self, place: &usize) -> ValueView<'_> {
-        ValueView::of_cell(self.pool, cell_in_pieces(self.front, self.back, *place))
+        view_of_cell(self.pool, cell_in_pieces(self.front, self.back, *place))
     }
 }
 

@@ -1,5 +1,5 @@
 use Rattle.std.proofs.Common.{sym, ap, ◌∙◌, arith}
-use Rattle.msi_table_order.specs.KeyOrder.{key_of}
+use Rattle.msi_table_cells.specs.KeyOrder.{key_of}
 use Rattle.msi_compare.proofs.PlaceLemmas.{index_more}
 use Rattle.msi_compare.proofs.index.index_of.Goals as goal
 

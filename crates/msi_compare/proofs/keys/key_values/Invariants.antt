@@ -1,5 +1,5 @@
 use Rattle.std.proofs.Common.{◌≡◌, ◌++◌}
-use Rattle.msi_table_order.specs.KeyOrder.{key_of}
+use Rattle.msi_table_cells.specs.KeyOrder.{key_of}
 use Rattle.msi_compare.proofs.KeyLemmas.{key_from}
 use Rattle.msi_compare.proofs.keys.key_values.Given as goal
 

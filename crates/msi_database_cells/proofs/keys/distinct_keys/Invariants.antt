@@ -1,6 +1,6 @@
 use Rattle.std.proofs.Common.{◌≡◌}
 use Rattle.msi_text_base.specs.Lists.{has_pair}
-use Rattle.msi_table_order.specs.KeyOrder.{same_key}
+use Rattle.msi_table_cells.specs.KeyOrder.{same_key}
 use Rattle.msi_database_cells.specs.KeySets.{HasKeys}
 use Rattle.msi_database_cells.proofs.keys.distinct_keys.Given as goal
 

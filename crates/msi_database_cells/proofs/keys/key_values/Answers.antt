@@ -2,7 +2,7 @@ use Rattle.std.proofs.Common.{◌≤◌, ◌++◌, ◌⊎◌, List, length, sym,
 use Rattle.std.proofs.lemmas.Bool.{cases_lt}
 use Rattle.std.proofs.lemmas.List.{append-nil}
 use Rattle.msi_table_values.specs.declared.value.Value.{Value}
-use Rattle.msi_table_order.specs.KeyOrder.{key_of}
+use Rattle.msi_table_cells.specs.KeyOrder.{key_of}
 use Rattle.msi_database_cells.specs.Views.{seen_row}
 use Rattle.msi_database_cells.proofs.ViewLemmas.{no_part, one_part, no_parts}
 use Rattle.msi_database_cells.proofs.keys.key_values.Goals as goal

@@ -1,5 +1,5 @@
 use Rattle.std.proofs.Common.{◌≡◌, ◌++◌}
-use Rattle.msi_table_order.specs.KeyOrder.{key_of}
+use Rattle.msi_table_cells.specs.KeyOrder.{key_of}
 use Rattle.msi_database_cells.specs.Views.{seen_row}
 use Rattle.msi_database_cells.proofs.ViewLemmas.{key_from}
 use Rattle.msi_database_cells.proofs.keys.key_values.Given as goal

@@ -4,7 +4,7 @@ use Rattle.std.proofs.lemmas.List.{length-map}
 use Rattle.msi_text_base.specs.declared.errors.ErrorKind.TheVariants.{AlreadyExists, InvalidInput}
 use Rattle.msi_table_values.specs.declared.value.Value.{Value}
 use Rattle.msi_database_cells.specs.KeySets.{key_refusals}
-use Rattle.msi_table_order.specs.KeyOrder.{key_of}
+use Rattle.msi_table_cells.specs.KeyOrder.{key_of}
 use Rattle.msi_database_cells.proofs.KeySetLemmas.{again_refused, held_refused, key_at, key_passes, keys_more, keys_to, refused}
 use Rattle.msi_database_cells.proofs.keys.refuse_held.Goals as goal
 

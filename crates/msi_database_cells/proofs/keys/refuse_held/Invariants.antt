@@ -1,6 +1,6 @@
 use Rattle.std.proofs.Common.{◌≡◌, List, map, take}
 use Rattle.msi_table_values.specs.declared.value.Value.{Value}
-use Rattle.msi_table_order.specs.KeyOrder.{key_of}
+use Rattle.msi_table_cells.specs.KeyOrder.{key_of}
 use Rattle.msi_database_cells.specs.KeySets.{HasKeys}
 use Rattle.msi_database_cells.proofs.KeySetLemmas.{refusal_from}
 use Rattle.msi_database_cells.proofs.keys.refuse_held.Given as goal

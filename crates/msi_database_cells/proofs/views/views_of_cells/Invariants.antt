@@ -1,5 +1,5 @@
 use Rattle.std.proofs.Common.{◌≡◌, take}
-use Rattle.msi_table_values.specs.CellValues.{row_values}
+use Rattle.msi_table_cells.specs.CellValues.{row_values}
 use Rattle.msi_database_cells.specs.Views.{seen_row}
 use Rattle.msi_database_cells.proofs.views.views_of_cells.Given as goal
 

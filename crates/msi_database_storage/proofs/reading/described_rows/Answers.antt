@@ -1,7 +1,7 @@
 use Rattle.std.proofs.Common.{◌≡◌, ◌∙◌, ap, sym, Some, List}
 use Rattle.msi_text_pool_base.specs.Pool.{unindexed}
 use Rattle.std.specs.FinMap.{entries}
-use Rattle.msi_table_values.specs.declared.value.ValueRef.{ValueRef}
+use Rattle.msi_table_cells.specs.declared.cell.ValueRef.{ValueRef}
 use Rattle.msi_database_storage.specs.Streams.{stored_rows}
 use Rattle.msi_database_storage.proofs.NamedTextsLemmas.{rows_few, rows_of_table}
 use Rattle.msi_database_storage.proofs.reading.described_rows.Goals as goal

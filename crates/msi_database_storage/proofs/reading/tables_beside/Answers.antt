@@ -2,7 +2,7 @@ use Rattle.std.proofs.Common.{◌≡◌, ◌∙◌, ap, sym, subst, Some, refl}
 use Rattle.msi_text_pool_base.specs.Pool.{unindexed}
 use Rattle.std.specs.Prelude.{map, option_map}
 use Rattle.std.specs.FinMap.{entries}
-use Rattle.msi_table_values.specs.CellValues.{row_values}
+use Rattle.msi_table_cells.specs.CellValues.{row_values}
 use Rattle.msi_database_schema.specs.RowOrders.{rows_of}
 use Rattle.msi_database_schema.specs.Schema.{SchemaRows, schema_of}
 use Rattle.msi_database_schema.specs.System.{columns_columns, columns_name, tables_columns, tables_name, validation_columns, validation_name}

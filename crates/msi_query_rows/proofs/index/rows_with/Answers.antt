@@ -2,7 +2,7 @@ use Rattle.std.proofs.Common.{rules}
 use Rattle.std.proofs.lemmas.List.Sorted.{IsPartitionPoint-from_clause}
 use Rattle.std.specs.Ordering.{is_le, is_lt}
 use Rattle.std.proofs.lemmas.List.{take_rest}
-use Rattle.msi_table_values.specs.CellValues.{value_of_cell}
+use Rattle.msi_table_cells.specs.CellValues.{value_of_cell}
 use Rattle.msi_table_values.specs.Values.{value_cmp}
 use Rattle.msi_query_rows.specs.Index.{value_there}
 use Rattle.msi_query_rows.proofs.IndexLemmas.{found_rows, parted_above, parted_below}

@@ -2,7 +2,7 @@ use Rattle.std.proofs.Common.{◌≡◌, rules, ap}
 use Rattle.std.proofs.lemmas.Fn.{always_returns_same}
 use Rattle.std.proofs.lemmas.Result.{IfOk-at_ok}
 use Rattle.std.specs.Ordering.{is_lt}
-use Rattle.msi_table_order.proofs.StableSortLemmas.{sorted_by_closure}
+use Rattle.msi_table_cells.proofs.StableSortLemmas.{sorted_by_closure}
 use Rattle.msi_query_rows.specs.Index.{in_place_order, place_cmp}
 use Rattle.msi_query_rows.proofs.IndexLemmas.{place_cmp-weak}
 use Rattle.msi_query_rows.proofs.index.sort_by_place.Goals as goal

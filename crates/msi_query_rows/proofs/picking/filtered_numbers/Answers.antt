@@ -1,7 +1,7 @@
 use Rattle.std.proofs.Common.{◌≡◌, ap, sym, ◌∙◌, length, List, Bool}
 use Rattle.std.proofs.lemmas.Option.{slice_get_within}
 use Rattle.msi_table_values.specs.declared.value.Value.{Value}
-use Rattle.msi_table_values.specs.CellValues.{row_values}
+use Rattle.msi_table_cells.specs.CellValues.{row_values}
 use Rattle.msi_query_expressions.specs.Conditions.{meets}
 use Rattle.msi_query_rows.proofs.PickingLemmas.{number_inside, number_kept, number_passed}
 use Rattle.msi_query_rows.proofs.picking.filtered_numbers.Goals as goal

@@ -2,7 +2,7 @@ use Rattle.std.proofs.Common.{◌≡◌, ◌<◌, length, Some, arith}
 use Rattle.std.proofs.lemmas.Result.{IfOk-weaker}
 use Rattle.msi_table.specs.Cells.{rows_in}
 use Rattle.msi_table_values.specs.Columns.{types_of}
-use Rattle.msi_table_values.specs.Fitting.{FitsTable}
+use Rattle.msi_table_cells.specs.Fitting.{FitsTable}
 use Rattle.msi_table.specs.Rows.{AreAsWide}
 use Rattle.msi_table.proofs.ReadRowsLemmas.{all_bytes, read_fits}
 use Rattle.msi_table.proofs.parts.read_rows.Goals as goal

@@ -1,7 +1,7 @@
 use Rattle.msi_table_values.specs.Columns.{types_of}
 use Rattle.std.proofs.Common.{subst, sym}
 use Rattle.msi_table_values.specs.Columns.{ColumnDef}
-use Rattle.msi_table_values.specs.Fitting.{FitsTable}
+use Rattle.msi_table_cells.specs.Fitting.{FitsTable}
 use Rattle.std.proofs.Common.{List, true}
 use Rattle.msi_table.proofs.LongRowsLemmas.{fits_long}
 use Rattle.msi_table.proofs.parts.write_long_rows.Goals as goal

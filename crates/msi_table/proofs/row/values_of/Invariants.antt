@@ -1,5 +1,5 @@
 use Rattle.std.proofs.Common.{◌≡◌, map, take}
-use Rattle.msi_table_values.specs.CellValues.{value_of_cell}
+use Rattle.msi_table_cells.specs.CellValues.{value_of_cell}
 use Rattle.msi_table.proofs.row.values_of.Given as goal
 
 abbrev pub invariant-loop-cell : goal.invariant-loop-cell

@@ -1,7 +1,7 @@
 use Rattle.std.proofs.Common.{◌∙◌, sym, subst}
 use Rattle.msi_table_values.specs.Columns.{types_of}
-use Rattle.msi_table_values.specs.Fitting.{FitsTable}
-use Rattle.msi_table_order.proofs.SortedFitsLemmas.{sorted_fits}
+use Rattle.msi_table_cells.specs.Fitting.{FitsTable}
+use Rattle.msi_table_cells.proofs.SortedFitsLemmas.{sorted_fits}
 use Rattle.msi_table.proofs.writing.write_rows.Goals as goal
 
 pub write_table-requires : goal.write_table-requires

@@ -6,11 +6,11 @@ use Rattle.msi_table_values.specs.declared.column.ColumnType.TheVariants as colt
 use Rattle.msi_table_values.specs.declared.column.ColumnType.{ColumnType}
 use Rattle.msi_table.specs.Cells.{column_bytes, table_bytes, rows_in}
 use Rattle.msi_table_values.specs.Columns.{ColumnDef, types_of}
-use Rattle.msi_table_values.specs.Fitting.{FitsRow}
+use Rattle.msi_table_cells.specs.Fitting.{FitsRow}
 use Rattle.msi_table_values.proofs.ColumnTypesLemmas.{below_types, length-types_of, type_at}
-use Rattle.msi_table_values.proofs.FittingLemmas.{fits_at}
+use Rattle.msi_table_cells.proofs.FittingLemmas.{fits_at}
 use Rattle.msi_table.proofs.ReadBackLemmas.{column_written, rows_in-table_bytes}
-use Rattle.msi_table_order.proofs.SortedRowsLemmas.{all_at}
+use Rattle.msi_table_cells.proofs.SortedRowsLemmas.{all_at}
 use Rattle.msi_table.proofs.writing.write_table.Goals as goal
 
 pub write_column-requires : goal.write_column-requires

@@ -2,7 +2,7 @@ use Rattle.std.proofs.Common.{◌≡◌, ◌∙◌, [], ap, sym, subst, is_some,
 use Rattle.std.specs.Prelude.{if◌then◌else◌}
 use Rattle.std.specs.FinMap.{entries}
 use Rattle.msi_text_pool_base.specs.Pool.{Pool, unindexed}
-use Rattle.msi_table_values.specs.declared.value.ValueRef.{ValueRef}
+use Rattle.msi_table_cells.specs.declared.cell.ValueRef.{ValueRef}
 use Rattle.msi_table.specs.Tables.{TableDef}
 use Rattle.msi_text_base.proofs.RefusalLemmas.{err_passed}
 use Rattle.msi_table.specs.Census.{IsCensus}

@@ -1,6 +1,6 @@
 use Rattle.std.proofs.Common.{◌≡◌, map, take}
-use Rattle.msi_table_values.specs.CellValues.{row_values}
-use Rattle.msi_table_order.specs.KeyOrder.{key_of}
+use Rattle.msi_table_cells.specs.CellValues.{row_values}
+use Rattle.msi_table_cells.specs.KeyOrder.{key_of}
 use Rattle.msi_database_changes.specs.RowUpdates.{row_set}
 use Rattle.msi_database_changes.proofs.update.RowUpdate.keys_after.Given as goal
 

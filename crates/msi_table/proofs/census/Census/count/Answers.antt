@@ -1,6 +1,6 @@
 use Rattle.std.proofs.Common.{◌≡◌, ◌∷◌, [], ◌+◌, ◌<◌, ◌≤◌, false, suc, length, set, get_or, refl, subst, sym, ap, ◌∙◌, arith}
 use Rattle.std.proofs.lemmas.List.{get_or_default}
-use Rattle.msi_table_values.specs.declared.value.ValueRef.{ValueRef}
+use Rattle.msi_table_cells.specs.declared.cell.ValueRef.{ValueRef}
 use Rattle.msi_table.specs.Census.{CensusDef, CountsMore, most_counted, numbers_of_row}
 use Rattle.msi_table.proofs.CensusLemmas.{full_counted, past_counted, place_counted}
 use Rattle.msi_table.proofs.census.Census.count.Goals as goal

@@ -1,5 +1,5 @@
 use Rattle.std.proofs.Common.{List, ap, sym, ◌∙◌}
-use Rattle.msi_table_values.specs.declared.value.ValueRef.{ValueRef}
+use Rattle.msi_table_cells.specs.declared.cell.ValueRef.{ValueRef}
 use Rattle.msi_table.specs.Rows.{RowsDef}
 use Rattle.msi_table.specs.Sources.{rows_of_source}
 use Rattle.msi_table.proofs.GivenLemmas.{drop_given}

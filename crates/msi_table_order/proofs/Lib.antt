@@ -1,5 +1,0 @@
--- The lemmas of this crate.
-pub mod StableSortLemmas
-pub mod RowOrderLemmas
-pub mod SortedFitsLemmas
-pub mod SortedRowsLemmas

@@ -1,5 +1,0 @@
-use Rattle.msi_table_order.proofs.SortedRowsLemmas.{leading_numbers_ascend}
-use Rattle.msi_table_order.proofs.laws.leading_numbers_ascend.Goals as goal
-
-pub returns : goal.returns
-returns c = leading_numbers_ascend

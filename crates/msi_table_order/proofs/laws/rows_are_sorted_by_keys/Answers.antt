@@ -1,5 +1,0 @@
-use Rattle.msi_table_order.proofs.SortedRowsLemmas.{sorted_by_keys}
-use Rattle.msi_table_order.proofs.laws.rows_are_sorted_by_keys.Goals as goal
-
-pub returns : goal.returns
-returns c = sorted_by_keys

@@ -1,5 +1,0 @@
-use Rattle.msi_table_order.proofs.SortedRowsLemmas.{stored_sorted}
-use Rattle.msi_table_order.proofs.laws.stored_rows_are_sorted.Goals as goal
-
-pub returns : goal.returns
-returns c = stored_sorted

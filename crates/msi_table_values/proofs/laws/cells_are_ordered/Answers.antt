@@ -1,5 +1,0 @@
-use Rattle.msi_table_values.specs.OrderLaws.{cell_cmp-total, cells_tie}
-use Rattle.msi_table_values.proofs.laws.cells_are_ordered.Goals as goal
-
-pub returns : goal.returns
-returns c = (cell_cmp-total, cells_tie)

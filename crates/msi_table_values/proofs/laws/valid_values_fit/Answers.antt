@@ -1,5 +1,0 @@
-use Rattle.msi_table_values.proofs.StoredValuesLemmas.{valid_fits}
-use Rattle.msi_table_values.proofs.laws.valid_values_fit.Goals as goal
-
-pub returns : goal.returns
-returns c = valid_fits c.taken_places_hold_their_text.ensures
