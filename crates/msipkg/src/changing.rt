@@ -2,8 +2,8 @@
 
 use crate::commands::Asked;
 use msipkg_changes::{Change, change_file, create_file};
-use msipkg_files::Purpose;
 use msipkg_output::{Failure, Output, System};
+use msipkg_packages::Purpose;
 use msipkg_words::Verb;
 
 /// Whether a command changes a package, and prints nothing.

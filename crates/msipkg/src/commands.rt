@@ -6,8 +6,8 @@ use crate::looking::look;
 use crate::several::print_each;
 use clap::ArgMatches;
 use clap::error::ErrorKind;
-use msipkg_files::{PackageFile, Purpose};
 use msipkg_output::{Failure, Output, System};
+use msipkg_packages::{PackageFile, Purpose};
 use msipkg_texts::{Shown, Style};
 use msipkg_words::{Verb, matches_of, verb_named};
 

@@ -3,8 +3,8 @@
 use crate::commands::Asked;
 use msipkg_diff::compare_files;
 use msipkg_export::{FileFormat, Target, export, export_line};
-use msipkg_files::{PackageFile, Purpose};
 use msipkg_output::{Failure, Output, System};
+use msipkg_packages::{PackageFile, Purpose};
 use msipkg_words::Verb;
 
 /// Whether packages are exported as a line each.

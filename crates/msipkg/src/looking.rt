@@ -3,9 +3,9 @@
 use crate::commands::Asked;
 use crate::exchanging::export_asked;
 use msipkg_checks::check_file;
-use msipkg_files::{Folder, Purpose};
 use msipkg_looks::{Form, Format, Look, show};
 use msipkg_output::{Failure, Output, RowFormat, System};
+use msipkg_packages::{Folder, Purpose};
 use msipkg_words::Verb;
 
 /// Carries out a command that looks at the package of a file, and returns whether all is well: nothing was found to be

@@ -4,8 +4,8 @@ use crate::commands::{Asked, report};
 use crate::exchanging::is_each;
 use crate::looking::look;
 use msipkg_changes::mend_counts;
-use msipkg_files::Purpose;
 use msipkg_output::{Failure, Output, System, failure_json};
+use msipkg_packages::Purpose;
 use msipkg_words::Verb;
 use std::alloc::Global;
 

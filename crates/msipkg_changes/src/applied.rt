@@ -1,8 +1,8 @@
 //! Statements carried out on a package.
 
 use crate::definition::Definition;
-use msipkg_files::output::msi::{Package, Statement};
-use msipkg_files::output::{Failure, Opened};
+use msipkg_packages::msi::{Package, Statement};
+use msipkg_packages::output::{Failure, Opened};
 
 /// Carries out a statement on rows.
 ///

@@ -6,9 +6,9 @@ use crate::recounting::noted;
 use crate::statements::{carry_out_statements, check_statements};
 use crate::storing::store;
 use crate::streams::{add_streams, remove_streams};
-use msipkg_files::output::msi::Package;
-use msipkg_files::output::{Failure, Opened, Output, System};
-use msipkg_files::{PackageFile, open_package};
+use msipkg_packages::msi::Package;
+use msipkg_packages::output::{Failure, Opened, Output, System};
+use msipkg_packages::{PackageFile, open_package};
 use std::alloc::Global;
 
 /// A change of a package.

@@ -1,8 +1,8 @@
 //! `new FILE`: a new package.
 
-use msipkg_files::output::msi::{CodePage, Package, PackageType};
-use msipkg_files::output::{Failure, Opened, System};
-use msipkg_files::{new_package, write_file, written};
+use msipkg_packages::msi::{CodePage, Package, PackageType};
+use msipkg_packages::output::{Failure, Opened, System};
+use msipkg_packages::{new_package, write_file, written};
 use std::alloc::Global;
 
 /// Makes a file with a new package of a kind, `installer`, `patch` or `transform`. Its texts are in the code page of a

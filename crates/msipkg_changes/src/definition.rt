@@ -1,8 +1,8 @@
 //! `CREATE TABLE` and `DROP TABLE` as text, in the installer's form.
 
 use crate::tokens::{Token, Tokens};
-use msipkg_files::output::Failure;
-use msipkg_files::output::msi::{Column, Error};
+use msipkg_packages::msi::{Column, Error};
+use msipkg_packages::output::Failure;
 use std::alloc::Global;
 
 /// How many columns a table has at most.

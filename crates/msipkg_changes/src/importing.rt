@@ -9,8 +9,8 @@ mod tables;
 
 use crate::recounting::noted;
 use crate::streams::fill_stream;
-use msipkg_files::output::msi::Package;
-use msipkg_files::output::{Failure, Opened, System};
+use msipkg_packages::msi::Package;
+use msipkg_packages::output::{Failure, Opened, System};
 use msipkg_reading::{Given, GivenStream, read_files};
 use std::alloc::Global;
 use summary::apply_summary;

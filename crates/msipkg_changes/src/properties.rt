@@ -1,8 +1,8 @@
 //! `summary FILE --set NAME=VALUE.. --clear NAME..`: properties of a package's summary.
 
 use crate::create::page_of;
-use msipkg_files::output::msi::{Error, HasUuid, LanguageId, Package, SummaryInfo, Timestamp};
-use msipkg_files::output::{Failure, Opened};
+use msipkg_packages::msi::{Error, HasUuid, LanguageId, Package, SummaryInfo, Timestamp};
+use msipkg_packages::output::{Failure, Opened};
 use std::alloc::Global;
 use uuid::Uuid;
 

@@ -1,9 +1,9 @@
 //! The counts of a package's texts: counting them anew, and what is said where they are too low for a change.
 
 use crate::storing::store;
-use msipkg_files::output::msi::{ErrorKind, Package};
-use msipkg_files::output::{Failure, Opened, Output, System};
-use msipkg_files::{PackageFile, open_package};
+use msipkg_packages::msi::{ErrorKind, Package};
+use msipkg_packages::output::{Failure, Opened, Output, System};
+use msipkg_packages::{PackageFile, open_package};
 use msipkg_texts::Shown;
 
 /// Counts the texts of a file's package anew, and replaces the file if counts were wrong. Then `notes` gets a line that

@@ -2,8 +2,8 @@
 
 use crate::applied::{apply_definition, apply_statement};
 use crate::definition::{definition_of, is_definition};
-use msipkg_files::output::msi::{Package, Parse, Statement};
-use msipkg_files::output::{Failure, Opened};
+use msipkg_packages::msi::{Package, Parse, Statement};
+use msipkg_packages::output::{Failure, Opened};
 use std::alloc::Global;
 
 /// Fails if one of the texts is no statement: an insert, an update, a delete or a change of tables.

@@ -1,8 +1,8 @@
 //! Putting a package that was changed in the place of its file.
 
-use msipkg_files::output::msi::Package;
-use msipkg_files::output::{Failure, Opened, Output, System};
-use msipkg_files::{replace_file, written};
+use msipkg_packages::msi::Package;
+use msipkg_packages::output::{Failure, Opened, Output, System};
+use msipkg_packages::{replace_file, written};
 use msipkg_texts::Shown;
 
 /// Replaces a file by a package that was changed. If the package is signed, `errors` gets a line that says that the

@@ -1,7 +1,7 @@
 //! `add FILE NAME=PATH..` and `remove FILE NAME..`: streams of a package.
 
-use msipkg_files::output::msi::Package;
-use msipkg_files::output::{Failure, Opened, System};
+use msipkg_packages::msi::Package;
+use msipkg_packages::output::{Failure, Opened, System};
 use std::alloc::Global;
 use std::io::Write;
 

@@ -1,6 +1,6 @@
 //! The pieces of a definition's text: words, names in backquotes, and signs.
 
-use msipkg_files::output::Failure;
+use msipkg_packages::output::Failure;
 
 /// A piece of a text.
 #[derive(Clone, Copy)]

@@ -6,9 +6,9 @@ use crate::report::Report;
 use crate::streams::check_streams;
 use crate::validation::check_validation;
 use crate::values::check_values;
-use msipkg_files::output::msi::Package;
-use msipkg_files::output::{Failure, Opened, Output, System};
-use msipkg_files::{PackageFile, open_package};
+use msipkg_packages::msi::Package;
+use msipkg_packages::output::{Failure, Opened, Output, System};
+use msipkg_packages::{PackageFile, open_package};
 use msipkg_texts::Style;
 use std::alloc::Global;
 

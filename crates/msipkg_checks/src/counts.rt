@@ -1,8 +1,8 @@
 //! Reference counts of the string pool that are wrong.
 
 use crate::report::{Place, Report};
-use msipkg_files::output::msi::{Error, ErrorKind, Package};
-use msipkg_files::output::{Failure, Opened};
+use msipkg_packages::msi::{Error, ErrorKind, Package};
+use msipkg_packages::output::{Failure, Opened};
 use std::fmt;
 
 /// Finds out whether the counts of the texts are too low, so that each change of the tables is refused, and how many

@@ -1,8 +1,8 @@
 //! The columns to which foreign keys refer, and values as texts.
 
 use crate::reading::pass_over;
-use msipkg_files::output::msi::{Package, Row, Rows, Select, Value};
-use msipkg_files::output::{Failure, Opened};
+use msipkg_packages::msi::{Package, Row, Rows, Select, Value};
+use msipkg_packages::output::{Failure, Opened};
 use std::alloc::{AllocError, Global};
 use std::collections::{BTreeMap, BTreeSet};
 

@@ -1,7 +1,7 @@
 //! Tables that can't be read.
 
-use msipkg_files::output::Failure;
-use msipkg_files::output::msi::{Error, ErrorKind};
+use msipkg_packages::msi::{Error, ErrorKind};
+use msipkg_packages::output::Failure;
 
 /// Passes over the error with which rows can't be selected: a table or a column isn't there, or the table can't be
 /// read.

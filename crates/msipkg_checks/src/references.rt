@@ -3,8 +3,8 @@
 use crate::keys::{KeyColumns, key_text};
 use crate::reading::pass_over;
 use crate::report::{Place, Report};
-use msipkg_files::output::msi::{Package, Row, Rows, Select, Table};
-use msipkg_files::output::{Failure, Opened};
+use msipkg_packages::msi::{Package, Row, Rows, Select, Table};
+use msipkg_packages::output::{Failure, Opened};
 use std::alloc::{AllocError, Global};
 use std::collections::BTreeSet;
 

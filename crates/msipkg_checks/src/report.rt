@@ -1,6 +1,6 @@
 //! The errors that a check finds in a package, each with its place.
 
-use msipkg_files::output::{Failure, Output};
+use msipkg_packages::output::{Failure, Output};
 use msipkg_texts::{JsonObject, Shown, Style, write_quoted, write_text};
 use std::alloc::Global;
 use std::{fmt, mem};

@@ -2,8 +2,8 @@
 
 use crate::reading::pass_over;
 use crate::report::{Place, Report};
-use msipkg_files::output::msi::{ColumnType, Package, Rows, Select, Table, ValueView};
-use msipkg_files::output::{Failure, Opened, stream_name};
+use msipkg_packages::msi::{ColumnType, Package, Rows, Select, Table, ValueView};
+use msipkg_packages::output::{Failure, Opened, stream_name};
 use std::alloc::{AllocError, Global};
 use std::collections::BTreeSet;
 

@@ -2,8 +2,8 @@
 
 use crate::reading::pass_over;
 use crate::report::{Place, Report};
-use msipkg_files::output::msi::{Package, Row, Rows, Select, Value};
-use msipkg_files::output::{Failure, Opened};
+use msipkg_packages::msi::{Package, Row, Rows, Select, Value};
+use msipkg_packages::output::{Failure, Opened};
 use std::alloc::Global;
 
 /// Finds the rows of `_Validation` for columns that aren't in their tables. Those for tables that aren't there are no

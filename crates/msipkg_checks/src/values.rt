@@ -1,8 +1,8 @@
 //! Values that their columns don't take, and tables that can't be read.
 
 use crate::report::{Place, Report};
-use msipkg_files::output::msi::{ErrorKind, Package, Row, Rows, Select, Table};
-use msipkg_files::output::{Failure, Opened};
+use msipkg_packages::msi::{ErrorKind, Package, Row, Rows, Select, Table};
+use msipkg_packages::output::{Failure, Opened};
 use std::alloc::Global;
 
 /// Finds the tables that can't be read, and in the others the values that their columns don't take.

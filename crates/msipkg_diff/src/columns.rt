@@ -2,8 +2,8 @@
 
 use crate::difference::{Change, Content, Difference, Member};
 use crate::report::Report;
-use msipkg_files::output::ColumnTypeText;
-use msipkg_files::output::msi::{Column, Table};
+use msipkg_packages::msi::{Column, Table};
+use msipkg_packages::output::ColumnTypeText;
 use msipkg_texts::quoted;
 use std::alloc::{AllocError, Global};
 

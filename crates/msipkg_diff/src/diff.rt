@@ -4,9 +4,9 @@ use crate::facts::{compare_kinds, compare_summaries};
 use crate::report::Report;
 use crate::streams::compare_streams;
 use crate::tables::compare_tables;
-use msipkg_files::output::msi::Package;
-use msipkg_files::output::{Failure, Opened, Output, System};
-use msipkg_files::{PackageFile, StoredStreams, open_package, stored_streams};
+use msipkg_packages::msi::Package;
+use msipkg_packages::output::{Failure, Opened, Output, System};
+use msipkg_packages::{PackageFile, StoredStreams, open_package, stored_streams};
 use msipkg_texts::Style;
 use std::alloc::Global;
 

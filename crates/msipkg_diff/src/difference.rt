@@ -1,7 +1,7 @@
 //! A difference between two packages, as lines and as JSON.
 
-use msipkg_files::output::Output;
-use msipkg_files::output::msi::Value;
+use msipkg_packages::msi::Value;
+use msipkg_packages::output::Output;
 use msipkg_texts::{JsonObject, Style};
 use std::alloc::Global;
 use std::fmt::{self, Display};

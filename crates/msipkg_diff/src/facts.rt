@@ -2,8 +2,9 @@
 
 use crate::difference::{Change, Content, Difference, Member};
 use crate::report::Report;
-use msipkg_files::output::msi::{Error, Package, SummaryInfo};
-use msipkg_files::output::{Opened, PROPERTIES, kind_name, property_text};
+use msipkg_packages::msi::{Error, Package, SummaryInfo};
+use msipkg_packages::output::{Opened, PROPERTIES};
+use msipkg_packages::{kind_name, property_text};
 
 /// Compares the kinds and the code pages.
 pub(crate) fn compare_kinds(old: &Package<Opened>, new: &Package<Opened>, report: &mut Report<'_>) {

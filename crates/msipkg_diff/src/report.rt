@@ -1,7 +1,7 @@
 //! The differences as they are found: printed as lines, or as one line of JSON.
 
 use crate::difference::{Difference, difference_json, print_lines};
-use msipkg_files::output::{Failure, Output};
+use msipkg_packages::output::{Failure, Output};
 use msipkg_texts::{JsonObject, Style, write_quoted, write_text};
 use std::alloc::{AllocError, Global};
 

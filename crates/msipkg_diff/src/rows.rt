@@ -4,10 +4,10 @@ use crate::diff::Compared;
 use crate::difference::{Change, Content, Difference, Member};
 use crate::report::Report;
 use msi_compare::{Difference as RowDifference, differences};
-use msipkg_files::output::msi::{
+use msipkg_packages::msi::{
     Column, Error, Items, Package, Row, Rows, Select, Table, Value, ValueView,
 };
-use msipkg_files::output::{Failure, Opened, push_key};
+use msipkg_packages::output::{Failure, Opened, push_key};
 use msipkg_texts::Shown;
 use std::alloc::{AllocError, Global};
 

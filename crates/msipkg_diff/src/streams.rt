@@ -3,8 +3,8 @@
 use crate::diff::Compared;
 use crate::difference::{Change, Content, Difference, Member};
 use crate::report::Report;
-use msipkg_files::output::Failure;
-use msipkg_files::stream_bytes;
+use msipkg_packages::output::Failure;
+use msipkg_packages::stream_bytes;
 
 /// Compares all streams by their names and their bytes.
 ///

@@ -5,8 +5,9 @@ use crate::diff::Compared;
 use crate::difference::{Change, Content, Difference, Member};
 use crate::report::Report;
 use crate::rows::compare_rows;
-use msipkg_files::output::msi::{Column, Package, Table};
-use msipkg_files::output::{Failure, Opened, is_list};
+use msipkg_packages::is_list;
+use msipkg_packages::msi::{Column, Package, Table};
+use msipkg_packages::output::{Failure, Opened};
 use std::alloc::{AllocError, Global};
 
 /// Compares all tables: their columns and, where these have the same names in the same order and the same keys, their

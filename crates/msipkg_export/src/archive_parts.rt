@@ -1,7 +1,7 @@
 //! The parts of text archives.
 
 use msi_text_archive::ArchiveColumn;
-use msipkg_files::output::msi::{Column, Error, IntoText, Items, Text, Value};
+use msipkg_packages::msi::{Column, Error, IntoText, Items, Text, Value};
 use std::alloc::Global;
 
 /// Returns columns as an archive has them.

@@ -2,8 +2,8 @@
 
 use crate::archive_parts::{archive_columns, key_names};
 use msi_text_archive::{Archive, ArchiveError, write, write_row};
-use msipkg_files::output::msi::{CodePage, Column, Error, IntoText, Items, Value};
-use msipkg_files::output::{Failure, Output};
+use msipkg_packages::msi::{CodePage, Column, Error, IntoText, Items, Value};
+use msipkg_packages::output::{Failure, Output};
 use msipkg_texts::{Shown, Style};
 use std::alloc::{AllocError, Global};
 use std::borrow::CowSlice;

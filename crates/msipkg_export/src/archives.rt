@@ -7,9 +7,9 @@ use crate::other_archives::{
     PAGE, STREAMS, SUMMARY, page_archive, stream_files, streams_archive, summary_archive,
 };
 use crate::table_archives::{StreamFile, TableArchive};
-use msipkg_files::output::msi::{Package, Table};
-use msipkg_files::output::{Failure, Opened, Output, System, at_file, chosen_tables};
-use msipkg_files::{Folder, open_new, settle};
+use msipkg_packages::msi::{Package, Table};
+use msipkg_packages::output::{Failure, Opened, Output, System, at_file};
+use msipkg_packages::{Folder, chosen_tables, open_new, settle};
 use msipkg_texts::{Ending, SafeName, SafeNames, safe_name};
 use std::alloc::{AllocError, Global};
 use std::collections::BTreeSet;

@@ -2,11 +2,9 @@
 
 use crate::exporting::BARE;
 use crate::folders::make_folder;
-use msipkg_files::output::msi::{Package, Rows, Table};
-use msipkg_files::output::{
-    Failure, Opened, Output, RowFormat, System, at_file, chosen_tables, rows_of, write_rows,
-};
-use msipkg_files::{Folder, open_new, settle};
+use msipkg_packages::msi::{Package, Rows, Table};
+use msipkg_packages::output::{Failure, Opened, Output, RowFormat, System, at_file, write_rows};
+use msipkg_packages::{Folder, chosen_tables, open_new, rows_of, settle};
 use msipkg_texts::{Ending, SafeNames, Style};
 use std::alloc::{AllocError, Global};
 

@@ -4,11 +4,11 @@ use crate::archives::export_archives;
 use crate::csv_tables::{export_csv, write_csv};
 use crate::json_packages::write_package;
 use crate::table_archives::print_archive;
-use msipkg_files::output::msi::{Package, Table};
-use msipkg_files::output::{
-    Failure, Opened, Output, System, at_file, is_list, rows_of, table_named,
+use msipkg_packages::msi::{Package, Table};
+use msipkg_packages::output::{Failure, Opened, Output, System, at_file};
+use msipkg_packages::{
+    Folder, PackageFile, is_list, open_new, open_package, rows_of, settle, table_named,
 };
-use msipkg_files::{Folder, PackageFile, open_new, open_package, settle};
 use msipkg_texts::{Shown, Style};
 use std::alloc::Global;
 

@@ -1,6 +1,6 @@
 //! The folders that an export makes.
 
-use msipkg_files::output::{Failure, System};
+use msipkg_packages::output::{Failure, System};
 use std::fs;
 use std::io::ErrorKind;
 

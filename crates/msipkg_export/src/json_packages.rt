@@ -1,11 +1,9 @@
 //! Packages as JSON on one line: the summary, the tables with the types of their columns, and the streams.
 
 use base64::engine::general_purpose::STANDARD;
-use msipkg_files::output::msi::{Error, Package, Rows, SummaryInfo, Table};
-use msipkg_files::output::{
-    Failure, JsonRow, Opened, Output, PROPERTIES, chosen_tables, kind_name, property_text,
-    put_columns, rows_of,
-};
+use msipkg_packages::msi::{Error, Package, Rows, SummaryInfo, Table};
+use msipkg_packages::output::{Failure, JsonRow, Opened, Output, PROPERTIES, put_columns};
+use msipkg_packages::{chosen_tables, kind_name, property_text, rows_of};
 use msipkg_texts::{JsonObject, Style, write_quoted, write_text};
 use std::alloc::{AllocError, Global};
 

@@ -2,10 +2,9 @@
 
 use crate::archive_parts::text_value;
 use crate::archive_texts::ArchiveText;
-use msipkg_files::output::msi::{
-    Column, ColumnType, Error, Package, Rows, Table, Value, ValueView,
-};
-use msipkg_files::output::{Failure, Opened, Output, rows_of, stream_name};
+use msipkg_packages::msi::{Column, ColumnType, Error, Package, Rows, Table, Value, ValueView};
+use msipkg_packages::output::{Failure, Opened, Output, stream_name};
+use msipkg_packages::rows_of;
 use msipkg_texts::{SafeName, SafeNames, Style};
 use std::alloc::Global;
 

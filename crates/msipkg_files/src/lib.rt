@@ -1,17 +1,16 @@
-//! Files of `msipkg`: opening packages in any code page, and their streams, and replacing a file whole.
+//! Files of `msipkg`: those of packages, whose texts are recoded where they are in other code pages, and replacing a
+//! file whole. It knows no package.
 #![tactic(auto)]
 
 pub mod folder;
 mod named_pages;
-pub mod opening;
 pub mod recoding;
 pub mod replacing;
-pub mod stored;
 
 // For the crates above, which so have one way to it: the rt of some kits goes down every path between two crates.
 pub use folder::Folder;
 pub use msipkg_output as output;
-pub use opening::{new_package, open_package, written};
-pub use recoding::{PackageFile, Purpose};
+pub use recoding::{
+    PackageFile, Purpose, Recoded, check_unnamed, recoded_by_page, recoded_instead,
+};
 pub use replacing::{open_new, replace_file, settle, write_file};
-pub use stored::{StoredStreams, stored_streams, stream_bytes};

@@ -1,9 +1,10 @@
 //! The pages that a package names for its texts.
 
+use msi_container::compound::{Name, StreamMap};
+use msi_container::streamname;
 use msi_recode::TextPage;
+use msi_text::Error;
 use msipkg_output::Pages;
-use msipkg_output::msi::compound::{Name, StreamMap};
-use msipkg_output::msi::{Error, streamname};
 use std::alloc::Global;
 use std::str;
 

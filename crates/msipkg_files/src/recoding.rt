@@ -1,8 +1,8 @@
 //! Packages with texts in a page that packages aren't read in: they are recoded to UTF-8 first.
 
 use crate::named_pages::{NamedPages, has_unnamed_texts};
+use msi_container::compound::{self, Contents, StreamMap};
 use msi_recode::{TextPage, recode_contents};
-use msipkg_output::msi::compound::{self, Contents, StreamMap};
 use msipkg_output::{Cause, Failure, Output, Pages, System};
 use msipkg_texts::Shown;
 use std::alloc::Global;
@@ -36,7 +36,7 @@ pub struct PackageFile<'a> {
 }
 
 /// The bytes of a package with its texts in UTF-8.
-pub(crate) struct Recoded {
+pub struct Recoded {
     bytes: Vec<u8>,
     pages: Pages,
     /// Whether storages below the root are left out.
@@ -56,7 +56,7 @@ impl Drop for Recoded {
 
 impl Recoded {
     /// Returns the bytes.
-    pub(crate) fn into_bytes(self) -> Vec<u8> {
+    pub fn into_bytes(self) -> Vec<u8> {
         let Recoded {
             bytes,
             pages: _,
@@ -69,7 +69,7 @@ impl Recoded {
     ///
     /// # Errors
     /// Fails with the pages of the texts.
-    pub(crate) fn permit(&self, file: &PackageFile<'_>, notes: &mut Output) -> Result<(), Failure> {
+    pub fn permit(&self, file: &PackageFile<'_>, notes: &mut Output) -> Result<(), Failure> {
         match file.purpose {
             Purpose::Look | Purpose::Recode => {
                 self.note(file.path, notes);
@@ -100,10 +100,7 @@ impl Recoded {
 ///
 /// # Errors
 /// Fails as `recode_file` does.
-pub(crate) fn recoded_by_page(
-    rt: &System,
-    file: &PackageFile<'_>,
-) -> Result<Option<Recoded>, Failure> {
+pub fn recoded_by_page(rt: &System, file: &PackageFile<'_>) -> Result<Option<Recoded>, Failure> {
     match file.page {
         Some(_) => recode_file(rt, file),
         None => Ok(None),
@@ -115,7 +112,7 @@ pub(crate) fn recoded_by_page(
 ///
 /// # Errors
 /// Fails as the calls of the system do, too. A file that is no container isn't judged.
-pub(crate) fn check_unnamed(rt: &System, file: &PackageFile<'_>) -> Result<(), Failure> {
+pub fn check_unnamed(rt: &System, file: &PackageFile<'_>) -> Result<(), Failure> {
     if matches!(file.purpose, Purpose::Look) {
         return Ok(());
     }
@@ -138,7 +135,7 @@ fn check_streams(alloc: Global, streams: &StreamMap) -> Result<(), Failure> {
 ///
 /// # Errors
 /// Fails as `recode_file` does, and with that failure if no invalid data was found or there are no texts to be recoded.
-pub(crate) fn recoded_instead(
+pub fn recoded_instead(
     rt: &System,
     file: &PackageFile<'_>,
     failure: Failure,

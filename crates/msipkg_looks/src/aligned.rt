@@ -1,8 +1,8 @@
 //! Rows under the names of their columns, aligned. They are gone over twice, for the widths of the columns and to be
 //! written, so that none of their texts is kept.
 
-use msipkg_files::output::msi::{Column, Rows, ValueView};
-use msipkg_files::output::{Output, value_width, write_value};
+use msipkg_packages::msi::{Column, Rows, ValueView};
+use msipkg_packages::output::{Output, value_width, write_value};
 use msipkg_texts::{Style, Widths};
 use std::alloc::{AllocError, Global};
 

@@ -1,7 +1,7 @@
 //! What the columns of a table take, as texts.
 
-use msipkg_files::output::ColumnTypeText;
-use msipkg_files::output::msi::{Column, ColumnType};
+use msipkg_packages::msi::{Column, ColumnType};
+use msipkg_packages::output::ColumnTypeText;
 use msipkg_texts::Style;
 use std::fmt;
 

@@ -1,9 +1,9 @@
 //! `extract FILE [NAME..] -o DIR`: the streams of a package as files of a folder. Whatever a stream's name is, nothing
 //! is written outside the folder.
 
-use msipkg_files::output::msi::Package;
-use msipkg_files::output::{Failure, Opened, Output, System};
-use msipkg_files::{Folder, StoredStreams, stored_streams, stream_bytes};
+use msipkg_packages::msi::Package;
+use msipkg_packages::output::{Failure, Opened, Output, System};
+use msipkg_packages::{Folder, StoredStreams, stored_streams, stream_bytes};
 use msipkg_texts::{SafeNames, Shown};
 use std::fs;
 

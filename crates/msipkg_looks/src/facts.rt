@@ -1,7 +1,8 @@
 //! Facts of a package under their names, which print as lines or as JSON.
 
-use msipkg_files::output::msi::{LanguageId, SummaryInfo};
-use msipkg_files::output::{Output, uuid_text};
+use msipkg_packages::msi::{LanguageId, SummaryInfo};
+use msipkg_packages::output::Output;
+use msipkg_packages::uuid_text;
 use msipkg_texts::{JsonObject, Style};
 use std::alloc::{AllocError, Global};
 use std::fmt::Display;

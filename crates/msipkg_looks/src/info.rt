@@ -3,9 +3,9 @@
 use crate::facts::Facts;
 use crate::summary::add_summary;
 use crate::tables::count_rows;
-use msipkg_files::output::msi::{Error, Package};
-use msipkg_files::output::{Failure, Opened, Output, System, kind_name};
-use msipkg_files::{StoredStreams, stored_streams, stream_bytes};
+use msipkg_packages::msi::{Error, Package};
+use msipkg_packages::output::{Failure, Opened, Output, System};
+use msipkg_packages::{StoredStreams, kind_name, stored_streams, stream_bytes};
 use msipkg_texts::Style;
 use std::alloc::Global;
 

@@ -7,9 +7,9 @@ use crate::schema::{Form, print_schema};
 use crate::streams::print_streams;
 use crate::summary::print_summary;
 use crate::tables::print_tables;
-use msipkg_files::output::msi::Package;
-use msipkg_files::output::{Failure, Opened, Output, System};
-use msipkg_files::{Folder, PackageFile, open_package};
+use msipkg_packages::msi::Package;
+use msipkg_packages::output::{Failure, Opened, Output, System};
+use msipkg_packages::{Folder, PackageFile, open_package};
 use msipkg_texts::Style;
 use std::alloc::Global;
 

@@ -1,8 +1,8 @@
 //! `query FILE TEXT`: the rows that a query selects.
 
 use crate::aligned::{widths_of, write_aligned};
-use msipkg_files::output::msi::{Package, Parse, Rows, Select};
-use msipkg_files::output::{Failure, Opened, Output, RowFormat, write_rows};
+use msipkg_packages::msi::{Package, Parse, Rows, Select};
+use msipkg_packages::output::{Failure, Opened, Output, RowFormat, write_rows};
 use msipkg_texts::Style;
 use std::alloc::Global;
 

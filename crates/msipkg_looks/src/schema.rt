@@ -2,8 +2,9 @@
 
 use crate::columns::{ColumnPart, Part};
 use crate::schema_json::schema_json;
-use msipkg_files::output::msi::{Column, Package, Table};
-use msipkg_files::output::{Failure, Opened, Output, chosen_tables};
+use msipkg_packages::chosen_tables;
+use msipkg_packages::msi::{Column, Package, Table};
+use msipkg_packages::output::{Failure, Opened, Output};
 use msipkg_texts::{Grid, Style};
 use std::alloc::Global;
 

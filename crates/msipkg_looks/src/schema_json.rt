@@ -1,7 +1,7 @@
 //! The columns of tables as JSON.
 
-use msipkg_files::output::msi::Table;
-use msipkg_files::output::put_columns;
+use msipkg_packages::msi::Table;
+use msipkg_packages::output::put_columns;
 use msipkg_texts::JsonObject;
 use std::alloc::Global;
 

@@ -1,8 +1,8 @@
 //! `streams FILE`: the names of a package's streams, and how many bytes they have.
 
-use msipkg_files::output::msi::{Error, Package};
-use msipkg_files::output::{Failure, Opened, Output, System};
-use msipkg_files::{StoredStreams, stored_streams, stream_bytes};
+use msipkg_packages::msi::{Error, Package};
+use msipkg_packages::output::{Failure, Opened, Output, System};
+use msipkg_packages::{StoredStreams, stored_streams, stream_bytes};
 use msipkg_texts::{Grid, Style};
 use std::alloc::Global;
 

@@ -1,8 +1,8 @@
 //! `summary FILE`: the properties of a package's summary.
 
 use crate::facts::Facts;
-use msipkg_files::output::msi::{SummaryInfo, Timestamp};
-use msipkg_files::output::{Output, TimeText};
+use msipkg_packages::msi::{SummaryInfo, Timestamp};
+use msipkg_packages::output::{Output, TimeText};
 use msipkg_texts::Style;
 use std::alloc::Global;
 

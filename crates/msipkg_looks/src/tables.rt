@@ -1,7 +1,7 @@
 //! `tables FILE`: the names of a package's tables, and how many rows they have.
 
-use msipkg_files::output::msi::{Error, Package, Select, Table};
-use msipkg_files::output::{Opened, Output};
+use msipkg_packages::msi::{Error, Package, Select, Table};
+use msipkg_packages::output::{Opened, Output};
 use msipkg_texts::{Grid, Style};
 use std::alloc::Global;
 

@@ -1,6 +1,6 @@
 //! Columns as texts and as JSON.
 
-use msi::{Column, ColumnType};
+use msi_table::{Column, ColumnType};
 use msipkg_texts::JsonObject;
 use std::fmt;
 

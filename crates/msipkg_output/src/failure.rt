@@ -1,8 +1,9 @@
 //! Why a command failed, and where, for people to read.
 
 use crate::pages::Pages;
-use msi::{Error, ErrorKind, ParseError};
+use msi_query_parse::ParseError;
 use msi_recode::RecodeError;
+use msi_text::{Error, ErrorKind};
 use msipkg_texts::{JsonObject, Shown};
 use std::alloc::{AllocError, AllocFailed, Global};
 use std::fmt::Display;

@@ -1,6 +1,6 @@
 //! The JSON of rows.
 
-use msi::Row;
+use msi_table::Row;
 use msi_text_rows::{JsonWriter, write_json_object, write_json_row};
 use msipkg_system::Output;
 use msipkg_texts::{Style, write_text};

@@ -4,7 +4,7 @@ use crate::failure::Failure;
 use crate::json_rows::JsonRow;
 use crate::values::{STREAM, write_value};
 use csv::Writer;
-use msi::{Column, Row, Rows, Value, ValueView};
+use msi_table::{Column, Row, Rows, Value, ValueView};
 use msi_text_rows::write_csv_row;
 use msipkg_system::Output;
 use msipkg_texts::Style;

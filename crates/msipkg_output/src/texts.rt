@@ -1,17 +1,9 @@
-//! Parts of packages as texts.
+//! Times, keys and the names of streams as texts.
 
-use msi::{PackageType, Rows, Timestamp, ValueView};
+use msi_table::{Rows, ValueView};
+use msi_text::Timestamp;
 use std::alloc::{AllocError, Global};
 use std::fmt;
-
-/// Returns the name of a package's kind, as `new` takes it.
-pub fn kind_name(kind: PackageType) -> &'static str {
-    match kind {
-        PackageType::Installer => "installer",
-        PackageType::Patch => "patch",
-        PackageType::Transform => "transform",
-    }
-}
 
 /// A time, which prints in UTC as ISO 8601 has it, as `2024-02-29T12:00:00Z`. One past the year 9999 is the number of
 /// its ticks of 100 ns since 1601, as `5 ticks`.

@@ -1,7 +1,7 @@
 //! The values of rows as they are printed: null as nothing, and a stream as `[stream]`.
 
 use itoa::Buffer;
-use msi::ValueView;
+use msi_table::ValueView;
 use msipkg_system::Output;
 use msipkg_texts::Style;
 

@@ -2,7 +2,8 @@
 
 use crate::given::{Given, GivenStream, GivenTable};
 use crate::places::at_part;
-use msipkg_output::msi::{ColumnType, Error, Value, ValueView};
+use msi_table::{ColumnType, Value, ValueView};
+use msi_text::Error;
 use msipkg_output::{Failure, System, path_in, push_key};
 use std::alloc::{AllocError, Global};
 use std::fs;

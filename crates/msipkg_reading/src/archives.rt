@@ -3,8 +3,9 @@
 use crate::archive_streams::{STREAMS, row_with_streams};
 use crate::given::{Given, GivenColumn, GivenTable, page_of};
 use crate::places::at_part;
+use msi_table::Value;
+use msi_text::CodePage;
 use msi_text_archive::{Archive, ArchiveColumn, ArchiveError, read};
-use msipkg_output::msi::{CodePage, Value};
 use msipkg_output::{Failure, PROPERTIES, System};
 use std::alloc::{AllocError, Global};
 use std::str;

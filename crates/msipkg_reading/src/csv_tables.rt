@@ -2,9 +2,10 @@
 
 use crate::given::{Given, GivenColumn, GivenTable};
 use csv::{ReaderBuilder, StringRecord};
+use msi_table::{ColumnType, Value};
+use msi_text::Error;
 use msi_text_rows::csv_value;
 use msipkg_output::Failure;
-use msipkg_output::msi::{ColumnType, Error, Value};
 use std::alloc::{AllocError, Global};
 
 /// How long the texts of a key are at most, where the table is created.

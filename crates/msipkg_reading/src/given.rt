@@ -1,8 +1,9 @@
 //! What files give, before a package takes it.
 
 use crate::places::{at_part, part_of};
+use msi_table::{ColumnType, Value};
+use msi_text::CodePage;
 use msipkg_output::Failure;
-use msipkg_output::msi::{CodePage, ColumnType, Value};
 use std::alloc::{AllocError, Global};
 
 /// A column.

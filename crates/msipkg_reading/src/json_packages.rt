@@ -5,7 +5,7 @@ use crate::json_tables::table_of;
 use crate::places::at_part;
 use base64::DecodeAllocError;
 use base64::engine::general_purpose::STANDARD;
-use msipkg_output::msi::CodePage;
+use msi_text::CodePage;
 use msipkg_output::{Failure, PROPERTIES};
 use serde_json::Value;
 use std::alloc::{AllocError, Global};

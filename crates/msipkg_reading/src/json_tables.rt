@@ -2,9 +2,9 @@
 
 use crate::given::{GivenColumn, GivenTable};
 use crate::json_packages::{items_in, text_in};
+use msi_table::{ColumnType, Value};
 use msi_text_rows::json_value;
 use msipkg_output::Failure;
-use msipkg_output::msi::{ColumnType, Value};
 use serde_json::Value as Json;
 use std::alloc::Global;
 

@@ -1,7 +1,7 @@
 //! The columns of tables that are created.
 
 use crate::importing::rules::rule_about;
-use msipkg_files::output::msi::{Category, Column, ColumnBuilder, ColumnType, Error, Value};
+use msipkg_packages::msi::{Category, Column, ColumnBuilder, ColumnType, Error, Value};
 use msipkg_reading::{GivenColumn, GivenTable};
 use std::alloc::Global;
 

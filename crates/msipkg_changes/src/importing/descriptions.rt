@@ -1,8 +1,8 @@
 //! Descriptions of columns for people, which `_Validation` has.
 
 use crate::importing::rules::VALIDATION;
-use msipkg_files::output::msi::{Error, Expr, Package, Update, Value};
-use msipkg_files::output::{Failure, Opened};
+use msipkg_packages::msi::{Error, Expr, Package, Update, Value};
+use msipkg_packages::output::{Failure, Opened};
 use std::alloc::Global;
 
 /// Describes the columns of a package's tables as rows of `_Validation` do.

@@ -1,8 +1,8 @@
 //! Rows that files give, as a package's table has them.
 
 use msi_text_rows::csv_value;
-use msipkg_files::output::msi::{Column, ColumnType, Error, Package, Value};
-use msipkg_files::output::{Failure, Opened};
+use msipkg_packages::msi::{Column, ColumnType, Error, Package, Value};
+use msipkg_packages::output::{Failure, Opened};
 use msipkg_reading::GivenTable;
 use std::alloc::Global;
 

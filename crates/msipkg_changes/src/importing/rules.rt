@@ -1,8 +1,8 @@
 //! Rows of `_Validation`, which say more of columns.
 
 use crate::importing::rows::package_rows;
-use msipkg_files::output::Failure;
-use msipkg_files::output::msi::{Column, Value};
+use msipkg_packages::msi::{Column, Value};
+use msipkg_packages::output::Failure;
 use msipkg_reading::GivenTable;
 use std::alloc::Global;
 

@@ -1,8 +1,8 @@
 //! Giving a package a summary.
 
 use crate::properties::{clear_property, set_property};
-use msipkg_files::output::msi::{Error, Package, SummaryInfo};
-use msipkg_files::output::{Failure, Opened, PROPERTIES};
+use msipkg_packages::msi::{Error, Package, SummaryInfo};
+use msipkg_packages::output::{Failure, Opened, PROPERTIES};
 use msipkg_reading::GivenProperty;
 use std::alloc::{AllocError, Global};
 

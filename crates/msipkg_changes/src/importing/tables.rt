@@ -4,8 +4,8 @@ use crate::importing::columns::built_columns;
 use crate::importing::descriptions::describe;
 use crate::importing::rows::{check_rows, columns_of, package_rows};
 use crate::importing::rules::{VALIDATION, rules_of};
-use msipkg_files::output::msi::{Insert, Package, Value};
-use msipkg_files::output::{Failure, Opened};
+use msipkg_packages::msi::{Insert, Package, Value};
+use msipkg_packages::output::{Failure, Opened};
 use msipkg_reading::GivenTable;
 use std::alloc::Global;
 

@@ -1,8 +1,8 @@
 //! Opening the package of a file.
 
-use crate::recoding::{PackageFile, Recoded, check_unnamed, recoded_by_page, recoded_instead};
-use msipkg_output::msi::{Metered, Package, PackageType};
-use msipkg_output::{Carrier, Failure, Opened, Origin, Output, System};
+use msi::{Metered, Package, PackageType};
+use msipkg_files::output::{Carrier, Failure, Opened, Origin, Output, System};
+use msipkg_files::{PackageFile, Recoded, check_unnamed, recoded_by_page, recoded_instead};
 use std::alloc::Global;
 use std::io::Cursor;
 
@@ -50,6 +50,15 @@ fn open_recoded(
 /// The package that is read from somewhere.
 fn open_from(alloc: Global, origin: Origin) -> Result<Package<Opened>, Failure> {
     Ok(Package::open(alloc, Metered::new(Carrier::new(alloc, origin)))?)
+}
+
+/// Returns the name of a package's kind, as `new` takes it.
+pub fn kind_name(kind: PackageType) -> &'static str {
+    match kind {
+        PackageType::Installer => "installer",
+        PackageType::Patch => "patch",
+        PackageType::Transform => "transform",
+    }
 }
 
 /// Returns a new package, which no file has yet.

@@ -1,8 +1,7 @@
 //! The tables that a command is about.
 
-use crate::failure::Failure;
 use msi::{Error, Package, Rows, Select, Table};
-use msipkg_system::Opened;
+use msipkg_files::output::{Failure, Opened};
 use std::alloc::{AllocError, Global};
 
 /// Returns whether a table only lists what the others are.
