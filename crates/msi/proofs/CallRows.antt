@@ -9,11 +9,11 @@ use Rattle.msi_table_values.specs.declared.value.Value.TheVariants.{Int, Str}
 use Rattle.msi_table_values.specs.declared.column.ColumnType.TheVariants.{Int16, Int32}
 use Rattle.msi_table_values.specs.declared.column.ColumnType.TheVariants as coltype
 use Rattle.msi_table_values.specs.Columns.{ColumnDef}
-use Rattle.msi_database_schema.specs.Keys.{table_key}
+use Rattle.msi_database_system.specs.Keys.{table_key}
 use Rattle.msi_database_changes.specs.Database.{is_sound}
 use Rattle.msi_query.specs.Queries.{table}
 use Rattle.msi.specs.declared.kinds.PackageType.TheVariants as kind
-use Rattle.msi_database_schema.specs.System.{plain_column, key, nullable}
+use Rattle.msi_database_system.specs.System.{plain_column, key, nullable}
 use Rattle.msi.specs.State.{State}
 use Rattle.msi_database_storage.specs.Streams.{stream_at}
 use Rattle.msi.specs.Calls.{Call, Answer}

@@ -15,12 +15,12 @@ use Rattle.msi_summary_properties.specs.PropertyWriting as property_writing
 use Rattle.msi_summary.specs.Summary.{SpellsSummary}
 use Rattle.msi_summary_properties.proofs.ReadBackLemmas.{sets_read_back}
 use Rattle.msi_container_write.specs.LayoutLaw.{HaveNames}
-use Rattle.msi_database_schema.specs.Keys.{is_table_name, table_key, summary_key, string_pool_name, string_data_name}
-use Rattle.msi_database_schema.specs.System.{tables_name, columns_name, validation_name}
+use Rattle.msi_database_system.specs.Keys.{is_table_name, table_key, summary_key, string_pool_name, string_data_name}
+use Rattle.msi_database_system.specs.System.{tables_name, columns_name, validation_name}
 use Rattle.msi_database_changes.specs.Database.{Database, Tables}
 use Rattle.msi_database_storage.specs.Streams.{Streams, stream_at, with_stream}
 use Rattle.msi_database_storage.specs.Agreement.{is_shown}
-use Rattle.msi_database_schema.proofs.KeyLemmas.{pool_keys_differ, table_key≢summary_key, table_key≢pool, tables_accepted, columns_accepted, validation_accepted}
+use Rattle.msi_database_system.proofs.KeyLemmas.{pool_keys_differ, table_key≢summary_key, table_key≢pool, tables_accepted, columns_accepted, validation_accepted}
 use Rattle.msi_database.proofs.SoundLemmas.{sound_names}
 use Rattle.msi_database_storage.proofs.StreamLemmas.{AreSorted, sorted_put, stream_at_put, stream_at_other_put}
 use Rattle.msi.specs.State.{State, names_of, others_among, parts_of}

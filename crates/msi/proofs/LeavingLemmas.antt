@@ -4,7 +4,7 @@ use Rattle.std.specs.Prelude.{MatchBool}
 use Rattle.std.proofs.lemmas.Bool.{true≢false}
 use Rattle.msi_text_base.specs.declared.errors.ErrorKind.{ErrorKind}
 use Rattle.msi_database_changes.specs.Changes.{Change}
-use Rattle.msi_database_schema.specs.Keys.{stream_key}
+use Rattle.msi_database_system.specs.Keys.{stream_key}
 use Rattle.msi.specs.State.{State, parts_of}
 use Rattle.msi_database_storage.specs.Streams.{with_stream}
 use Rattle.msi_database_changes.specs.Insert.{insert_rows}

@@ -15,8 +15,8 @@ use Rattle.msi_table_cells.specs.declared.cell.ValueRef.{ValueRef}
 use Rattle.msi_table_values.specs.Columns.{ColumnDef}
 use Rattle.msi_table_cells.specs.TableCells.{TableCells}
 use Rattle.msi_container_format.specs.declared.contents.Contents.{Contents}
-use Rattle.msi_database_schema.specs.Keys.{table_key, summary_key, string_pool_name, string_data_name}
-use Rattle.msi_database_schema.specs.System.{validation_name, validation_columns}
+use Rattle.msi_database_system.specs.Keys.{table_key, summary_key, string_pool_name, string_data_name}
+use Rattle.msi_database_system.specs.System.{validation_name, validation_columns}
 use Rattle.msi_database_changes.specs.Database.{Database, Tables, has_table, columns_by_name}
 use Rattle.msi_database_changes.proofs.ShownLemmas.{columns_shown}
 use Rattle.msi_database_storage.specs.Streams.{Streams, stream_at, stored_rows}

@@ -17,7 +17,7 @@ use Rattle.msi_container_format.specs.declared.contents.Contents.{Contents}
 use Rattle.msi_container_format.specs.Container.{Holds}
 use Rattle.msi_container_format.specs.Streams as maps
 use Rattle.msi_text_base.specs.Refusals.{IsRefusal, or_refused}
-use Rattle.msi_database_schema.specs.Keys.{table_key, summary_key, string_pool_name, string_data_name}
+use Rattle.msi_database_system.specs.Keys.{table_key, summary_key, string_pool_name, string_data_name}
 use Rattle.msi_database_storage.specs.Streams.{stream_at}
 use Rattle.msi_database_storage.specs.Agreement.{schema_in}
 use Rattle.msi.specs.declared.kinds.PackageType.{PackageType}

@@ -8,7 +8,7 @@ use Rattle.std.proofs.lemmas.Option.{same_Some}
 use Rattle.msi_container_format.specs.Names.{name_cmp}
 use Rattle.msi_container_format.specs.Streams as maps
 use Rattle.msi_container_format.proofs.NamesLemmas.{names_total, exact_names}
-use Rattle.msi_database_schema.specs.Keys.{is_stream_name, signature_key, stream_key}
+use Rattle.msi_database_system.specs.Keys.{is_stream_name, signature_key, stream_key}
 use Rattle.msi_database_storage.specs.Kept.{Kept}
 use Rattle.msi_database_storage.specs.Streams.{Streams, has_stream_at, stream_at}
 use Rattle.msi_database_storage.proofs.MapLemmas as lookups

@@ -13,7 +13,7 @@ use Rattle.msi_summary.specs.Summary.{SpellsSummary, summary_format}
 use Rattle.msi_container_format.specs.declared.contents.Contents.{Contents}
 use Rattle.msi_container_format.specs.Container.{Holds}
 use Rattle.msi_container_write.specs.LayoutLaw.{HaveNames}
-use Rattle.msi_database_schema.specs.Keys.{table_key, summary_key, string_pool_name, string_data_name}
+use Rattle.msi_database_system.specs.Keys.{table_key, summary_key, string_pool_name, string_data_name}
 use Rattle.msi_database_changes.specs.Database.{Database, is_sound}
 use Rattle.msi_database_storage.specs.Streams.{Streams, stream_at}
 use Rattle.msi_database_storage.specs.Agreement.{DatabaseIs, is_shown, schema_in}

@@ -6,7 +6,7 @@ use Rattle.msi_text_base.specs.declared.errors.ErrorKind.TheVariants.{OutOfMemor
 use Rattle.msi_text_pool_base.specs.Pool.{PoolStream, IsPoolStream}
 use Rattle.msi_container_format.specs.declared.contents.Contents.{Contents}
 use Rattle.msi_container_device.specs.Held.{Held, all_bytes}
-use Rattle.msi_database_schema.specs.Keys.{table_key, string_pool_name}
+use Rattle.msi_database_system.specs.Keys.{table_key, string_pool_name}
 use Rattle.msi_database_storage.specs.Streams.{Streams, stream_at}
 use Rattle.msi.specs.State.{State, parts_of}
 use Rattle.msi.specs.Meaning.{ContentsMean, OpenStep, FailsFirst, OpensTo, as_opened}

@@ -23,7 +23,7 @@ use msi_container_format::contents::{Contents, StreamMap};
 use msi_container_format::name::Name;
 use msi_container_read::read_shared;
 use msi_database::Database;
-use msi_database_schema::names::{string_data_key, string_pool_key, summary_key};
+use msi_database_system::names::{string_data_key, string_pool_key, summary_key};
 use msi_streams::OpenStream;
 use msi_summary::SummaryInfo;
 use msi_summary::parts::summary_of;

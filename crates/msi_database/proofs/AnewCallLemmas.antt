@@ -8,7 +8,7 @@ use Rattle.msi_table_cells.specs.declared.cell.ValueRef.{ValueRef}
 use Rattle.msi_table_values.specs.Columns.{ColumnDef, types_of}
 use Rattle.msi_table_cells.specs.Fitting.{FitsTable}
 use Rattle.msi_table.specs.Tables.{CanStore, TableDef, long_table_of}
-use Rattle.msi_database_schema.specs.Keys.{table_key}
+use Rattle.msi_database_system.specs.Keys.{table_key}
 use Rattle.msi_database_cells.specs.Texts.{UsedPool, settled, widens}
 use Rattle.msi_database_cells.specs.declared.storing.Stored.{Stored}
 use Rattle.msi_database_storage.specs.Kept.{Kept, kept_widened, with_table_kept}

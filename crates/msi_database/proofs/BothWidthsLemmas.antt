@@ -12,7 +12,7 @@ use Rattle.msi_table_cells.specs.declared.cell.ValueRef.{ValueRef}
 use Rattle.msi_table_values.specs.Columns.{ColumnDef, types_of}
 use Rattle.msi_table_cells.specs.Fitting.{FitsTable}
 use Rattle.msi_table.specs.Tables.{TableDef}
-use Rattle.msi_database_schema.specs.Keys.{table_key}
+use Rattle.msi_database_system.specs.Keys.{table_key}
 use Rattle.msi_database_cells.specs.Texts.{PoolInUse, UsedPool, in_use, settled}
 use Rattle.msi_database_changes.specs.Database.{Database, Tables, is_sound}
 use Rattle.msi_database_changes.specs.Changes.{Change, no_change, with_stored}

@@ -13,9 +13,9 @@ use Rattle.msi_table_values.specs.Columns.{ColumnDef}
 use Rattle.msi_table_cells.specs.StoredOrder.{in_stored_order}
 use Rattle.msi_text_base.specs.Refusals.{first_refusal, or_refused, ◌>>=◌}
 use Rattle.msi_table_cells.specs.TableCells.{TableCells}
-use Rattle.msi_database_schema.specs.Keys.{is_table_name}
-use Rattle.msi_database_schema.specs.System.{is_schema_table, is_system_table, tables_name, columns_name, validation_name}
-use Rattle.msi_database_schema.specs.Description.{column_rows, validation_rows}
+use Rattle.msi_database_system.specs.Keys.{is_table_name}
+use Rattle.msi_database_system.specs.System.{is_schema_table, is_system_table, tables_name, columns_name, validation_name}
+use Rattle.msi_database_system.specs.Description.{column_rows, validation_rows}
 use Rattle.msi_database_schema.proofs.RowOrderLemmas.{names_total}
 use Rattle.msi_database_schema.proofs.FaultLemmas.{texts_flip}
 use Rattle.msi_database_changes.specs.Database.{Database, is_sound, table_at, rows_of}

@@ -15,9 +15,9 @@ use Rattle.msi_table_cells.specs.KeyOrder.{in_key_order}
 use Rattle.msi_table.specs.Tables.{TableDef}
 use Rattle.msi_text_base.specs.Refusals.{IsRefusal, Refusals, first_refusal, or_refused, unless, unless_refused, ◌>>=◌}
 use Rattle.msi_table_cells.specs.TableCells.{TableCells}
-use Rattle.msi_database_schema.specs.Description.{column_rows, tables_row, validation_rows}
-use Rattle.msi_database_schema.specs.Keys.{table_key}
-use Rattle.msi_database_schema.specs.System.{columns_name, tables_name, validation_name}
+use Rattle.msi_database_system.specs.Description.{column_rows, tables_row, validation_rows}
+use Rattle.msi_database_system.specs.Keys.{table_key}
+use Rattle.msi_database_system.specs.System.{columns_name, tables_name, validation_name}
 use Rattle.msi_database_cells.specs.Texts.{PoolInUse, UsedPool, in_use, rows_put, settled}
 use Rattle.msi_database_cells.proofs.NarrowLemmas.{rows_put_grows}
 use Rattle.msi_database_changes.specs.Database.{Database, is_sound, rows_of, table_at}

@@ -10,9 +10,9 @@ use Rattle.msi_table_values.specs.Columns.{ColumnDef}
 use Rattle.msi_table.specs.Tables.{TableDef}
 use Rattle.msi_text_base.specs.Refusals.{IsRefusal, first_refusal, or_refused, unless, unless_refused, ◌>>=◌}
 use Rattle.msi_table_cells.specs.TableCells.{TableCells}
-use Rattle.msi_database_schema.specs.Description.{column_rows, tables_row, validation_rows}
-use Rattle.msi_database_schema.specs.Keys.{table_key}
-use Rattle.msi_database_schema.specs.System.{tables_name, columns_name, validation_name}
+use Rattle.msi_database_system.specs.Description.{column_rows, tables_row, validation_rows}
+use Rattle.msi_database_system.specs.Keys.{table_key}
+use Rattle.msi_database_system.specs.System.{tables_name, columns_name, validation_name}
 use Rattle.msi_database_changes.specs.Database.{Database, is_sound, table_at, rows_of}
 use Rattle.msi_database_changes.specs.Changes.{Change, no_change, pool_of, sound_refusal, with_stored}
 use Rattle.msi_database_cells.specs.Texts.{PoolInUse}

@@ -8,7 +8,7 @@ use Rattle.msi_table.specs.Tables.{TableDef}
 use Rattle.msi_query.specs.Queries.{DeleteQuery, InsertQuery, UpdateQuery}
 use Rattle.msi_text_base.specs.Refusals.{Refusals, IsRefusal, first_refusal, or_refused, unless, unless_refused, ◌>>=◌}
 use Rattle.msi_table_cells.specs.TableCells.{TableCells}
-use Rattle.msi_database_schema.specs.System.{is_system_table}
+use Rattle.msi_database_system.specs.System.{is_system_table}
 use Rattle.msi_database_changes.specs.Database.{Database, is_sound, table_at, rows_of}
 use Rattle.msi_database_changes.specs.Widening.{widened}
 use Rattle.msi_database_changes.specs.Changes.{Change, no_change, absent_refusals, barred_refusals, missing_or}

@@ -8,7 +8,7 @@ use Rattle.msi_text_pool_base.specs.Pool.{Pool}
 use Rattle.msi_table_cells.specs.declared.cell.ValueRef.{ValueRef}
 use Rattle.msi_table_values.specs.Columns.{ColumnDef}
 use Rattle.msi_table.specs.Tables.{TableDef}
-use Rattle.msi_database_schema.specs.Keys.{table_key}
+use Rattle.msi_database_system.specs.Keys.{table_key}
 use Rattle.msi_database_changes.specs.Database.{Database, is_sound, columns_by_name}
 use Rattle.msi_database_changes.specs.Changes.{Change, no_change, with_stored}
 use Rattle.msi_database_cells.specs.Texts.{PoolInUse}

@@ -10,7 +10,7 @@ use Rattle.msi_table.specs.Tables.{TableDef, long_table_of}
 use Rattle.msi_database_changes.proofs.AtWidthLemmas.{sound_widened}
 use Rattle.msi_query.specs.Queries.{InsertQuery}
 use Rattle.msi_text_base.specs.Refusals.{IsRefusal, Refusals, first_refusal, or_refused, unless_refused}
-use Rattle.msi_database_schema.specs.System.{is_system_table}
+use Rattle.msi_database_system.specs.System.{is_system_table}
 use Rattle.msi_database_changes.specs.Database.{Database, is_sound, table_at}
 use Rattle.msi_database_changes.specs.Widening.{widened}
 use Rattle.msi_database_changes.specs.Changes.{no_change}

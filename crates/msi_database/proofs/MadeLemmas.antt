@@ -12,8 +12,8 @@ use Rattle.msi_query.specs.Queries.{InsertQuery, UpdateQuery, DeleteQuery}
 use Rattle.msi_text_base.specs.Refusals.{Refusals, first_refusal, or_refused, unless, unless_refused, ◌>>=◌}
 use Rattle.msi_query_joins.specs.Selection.{has_columns, condition_names}
 use Rattle.msi_table_cells.specs.TableCells.{TableCells}
-use Rattle.msi_database_schema.specs.System.{is_system_table, tables_name, columns_name, validation_name}
-use Rattle.msi_database_schema.specs.Description.{column_rows, validation_rows}
+use Rattle.msi_database_system.specs.System.{is_system_table, tables_name, columns_name, validation_name}
+use Rattle.msi_database_system.specs.Description.{column_rows, validation_rows}
 use Rattle.msi_database_changes.specs.Database.{Database, is_sound, table_at, rows_of}
 use Rattle.msi_database_changes.specs.Changes.{Change, no_change, pool_of, with_stored, sound_refusal}
 use Rattle.msi_database_cells.specs.Texts.{PoolInUse, in_turn, rows_put}

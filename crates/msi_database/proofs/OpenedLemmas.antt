@@ -13,7 +13,7 @@ use Rattle.msi_table_cells.specs.declared.cell.ValueRef.{ValueRef}
 use Rattle.msi_table.specs.Tables.{TableDef}
 use Rattle.msi_table_values.specs.Columns.{types_of}
 use Rattle.msi_table_cells.specs.Fitting.{FitsRow, FitsTable}
-use Rattle.msi_database_schema.specs.System.{validation_columns, validation_name}
+use Rattle.msi_database_system.specs.System.{validation_columns, validation_name}
 use Rattle.msi_database_changes.specs.Database.{Database, is_sound, named_numbers, cells_naming}
 use Rattle.msi_database_storage.specs.Streams.{Streams, stored_rows}
 use Rattle.msi_database_storage.specs.StreamNames.{HaveShortNames}

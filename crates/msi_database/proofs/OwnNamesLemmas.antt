@@ -7,9 +7,9 @@ use Rattle.msi_table_values.specs.declared.value.Value.{Value}
 use Rattle.msi_table_values.specs.declared.value.Value.TheVariants.{Str}
 use Rattle.msi_table_values.specs.Columns.{ColumnDef}
 use Rattle.msi_table_cells.specs.TableCells.{TableCells}
-use Rattle.msi_database_schema.specs.System.{is_schema_table, tables_name, columns_name, validation_name, tables_columns}
+use Rattle.msi_database_system.specs.System.{is_schema_table, tables_name, columns_name, validation_name, tables_columns}
 use Rattle.msi_database_schema.specs.Schema.{schema_of}
-use Rattle.msi_database_schema.specs.Description.{column_rows, validation_rows}
+use Rattle.msi_database_system.specs.Description.{column_rows, validation_rows}
 use Rattle.msi_database_schema.proofs.FaultLemmas.{texts_flip}
 use Rattle.msi_database_changes.specs.Database.{Database, table_at, has_table, is_sound}
 use Rattle.msi_database_changes.specs.Changes.{Change, no_change}

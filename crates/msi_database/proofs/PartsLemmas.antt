@@ -12,7 +12,7 @@ use Rattle.msi_table_cells.specs.CellValues.{row_values}
 use Rattle.msi_table_values.specs.Columns.{ColumnDef}
 use Rattle.msi_table.specs.Tables.{TableDef}
 use Rattle.msi_table_cells.specs.TableCells.{TableCells}
-use Rattle.msi_database_schema.specs.System.{validation_name, validation_columns}
+use Rattle.msi_database_system.specs.System.{validation_name, validation_columns}
 use Rattle.msi_database_schema.specs.Schema.{SchemaRows, schema_of}
 use Rattle.msi_database_changes.specs.Database.{Database, Tables, has_table, columns_by_name, is_sound}
 use Rattle.msi_database_storage.specs.Streams.{Streams, stored_rows}

@@ -8,7 +8,7 @@ use Rattle.std.proofs.lemmas.Bool.{eqb-false}
 use Rattle.msi_text_base.specs.Lists.{all_present, tabulated, list_cmp}
 use Rattle.msi_table_values.specs.Columns.{ColumnDef}
 use Rattle.msi_table.specs.Tables.{TableDef}
-use Rattle.msi_database_schema.specs.System.{tables_name, columns_name, tables_columns, columns_columns}
+use Rattle.msi_database_system.specs.System.{tables_name, columns_name, tables_columns, columns_columns}
 use Rattle.msi_database_storage.specs.Streams.{Streams}
 use Rattle.msi_database_storage.specs.StreamNames.{HoldBytes}
 use Rattle.msi_database_storage.specs.Kept.{schema_listed}

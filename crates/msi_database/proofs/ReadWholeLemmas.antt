@@ -13,7 +13,7 @@ use Rattle.msi_text_pool_base.specs.Pool.{CountsFit, Place, Pool, forgotten, wit
 use Rattle.msi_table_cells.specs.declared.cell.ValueRef.{ValueRef}
 use Rattle.msi_table_values.specs.Columns.{ColumnDef}
 use Rattle.msi_table.specs.Tables.{TableDef}
-use Rattle.msi_database_schema.specs.System.{validation_columns, validation_name}
+use Rattle.msi_database_system.specs.System.{validation_columns, validation_name}
 use Rattle.msi_table.specs.Census.{CensusDef, IsCensus, numbers_of_rows}
 use Rattle.msi_database_changes.specs.Database.{Database, Tables, is_sound, named_numbers}
 use Rattle.msi_database_storage.specs.Streams.{Streams, stored_rows}

@@ -17,8 +17,8 @@ use Rattle.msi_query_expressions.specs.Conditions.{meets}
 use Rattle.msi_text_base.specs.Refusals.{first_refusal, unless_refused}
 use Rattle.msi_table_cells.specs.TableCells.{TableCells}
 use Rattle.msi_query_joins.specs.Selection.{has_columns, condition_names}
-use Rattle.msi_database_schema.specs.Keys.{is_table_name, table_key}
-use Rattle.msi_database_schema.specs.System.{is_system_table}
+use Rattle.msi_database_system.specs.Keys.{is_table_name, table_key}
+use Rattle.msi_database_system.specs.System.{is_system_table}
 use Rattle.msi_database_schema.proofs.RowOrderLemmas.{names_total}
 use Rattle.msi_database_changes.specs.Database.{Database, is_sound, table_at}
 use Rattle.msi_database_changes.specs.Changes.{Change, no_change, pool_of, with_stored}
@@ -41,7 +41,7 @@ use Rattle.msi_database.specs.Listed.{IsKnown, table_def_at}
 use Rattle.msi_database.specs.Making.{IsAnew, Leaves, Makes, MakesRows, RowsBecome, TellsUse, base_with, wide_for}
 use Rattle.msi_database_storage.proofs.MapLemmas as found
 use Rattle.msi_database_storage.proofs.StreamLemmas.{list_cmp_exact}
-use Rattle.msi_database_schema.proofs.KeyLemmas.{table_key_is_name}
+use Rattle.msi_database_system.proofs.KeyLemmas.{table_key_is_name}
 use Rattle.msi_database.proofs.SoundLemmas.{sound_is, sound_names}
 use Rattle.msi_database.proofs.BothWidthsLemmas.{anew, anew_still}
 use Rattle.msi_database.proofs.MadeLemmas.{delete_made, insert_made, update_made}

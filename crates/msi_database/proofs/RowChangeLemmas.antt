@@ -10,7 +10,7 @@ use Rattle.msi_text_base.proofs.BoolLemmas.{by_test}
 use Rattle.msi_text_base.specs.Refusals.{Refusals, first_refusal, or_refused, unless_refused, ◌>>=◌}
 use Rattle.msi_query.specs.Queries.{DeleteQuery, InsertQuery, UpdateQuery}
 use Rattle.msi_table_cells.specs.CellValues.{row_values}
-use Rattle.msi_database_schema.specs.System.{is_schema_table, is_system_table, validation_name}
+use Rattle.msi_database_system.specs.System.{is_schema_table, is_system_table, validation_name}
 use Rattle.msi_database_changes.specs.Database.{Database, table_at}
 use Rattle.msi_table_cells.specs.TableCells.{TableCells}
 use Rattle.msi_database_changes.specs.Changes.{Change, no_change, sound_refusal}

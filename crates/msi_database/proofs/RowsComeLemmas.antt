@@ -15,8 +15,8 @@ use Rattle.msi_table_cells.specs.CellValues.{row_values}
 use Rattle.msi_table_cells.specs.StoredOrder.{in_stored_order}
 use Rattle.msi_query.specs.Queries.{InsertQuery, UpdateQuery, DeleteQuery}
 use Rattle.msi_table_cells.specs.TableCells.{TableCells}
-use Rattle.msi_database_schema.specs.Keys.{is_table_name}
-use Rattle.msi_database_schema.specs.System.{validation_name}
+use Rattle.msi_database_system.specs.Keys.{is_table_name}
+use Rattle.msi_database_system.specs.System.{validation_name}
 use Rattle.msi_database_schema.specs.Schema.{schema_of}
 use Rattle.msi_database_schema.proofs.OrderlessLemmas.{HasKinds}
 use Rattle.msi_database_schema.proofs.SchemaLemmas.{Described}

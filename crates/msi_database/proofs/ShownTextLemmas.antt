@@ -21,7 +21,7 @@ use Rattle.msi_table_values.specs.Columns.{ColumnDef, types_of}
 use Rattle.msi_table.specs.Tables.{TableDef}
 use Rattle.msi_table_cells.specs.Fitting.{FitsRow}
 use Rattle.msi_database_schema.specs.Schema.{schema_of}
-use Rattle.msi_database_schema.specs.System.{columns_columns, columns_name, tables_columns, tables_name, validation_columns, validation_name}
+use Rattle.msi_database_system.specs.System.{columns_columns, columns_name, tables_columns, tables_name, validation_columns, validation_name}
 use Rattle.msi_database_schema.proofs.SchemaLemmas.{describes_from, names_tie}
 use Rattle.msi_table.specs.Census.{number_of_cell, numbers_of_rows}
 use Rattle.msi_database_changes.specs.Database.{rows_of}

@@ -7,8 +7,8 @@ use Rattle.msi_table_values.specs.Columns.{ColumnDef}
 use Rattle.msi_table.specs.Tables.{TableDef}
 use Rattle.msi_text_base.specs.Refusals.{first_refusal}
 use Rattle.msi_table_cells.specs.TableCells.{TableCells}
-use Rattle.msi_database_schema.specs.Keys.{is_table_name, table_key}
-use Rattle.msi_database_schema.specs.System.{is_system_table, tables_name, columns_name, validation_name}
+use Rattle.msi_database_system.specs.Keys.{is_table_name, table_key}
+use Rattle.msi_database_system.specs.System.{is_system_table, tables_name, columns_name, validation_name}
 use Rattle.msi_database_changes.specs.Database.{Database, is_sound, table_at, rows_of}
 use Rattle.msi_database_changes.specs.Changes.{Change, no_change, pool_of, sound_refusal}
 use Rattle.msi_database_cells.specs.Texts.{PoolInUse, rows_released}

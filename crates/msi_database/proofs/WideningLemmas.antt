@@ -21,8 +21,8 @@ use Rattle.msi_table.proofs.ReadRowsLemmas.{length-tabulated}
 use Rattle.msi_table_cells.specs.TableCells.{TableCells}
 use Rattle.msi_container_format.specs.Names.{is_name_length}
 use Rattle.msi_database_schema.proofs.RowOrderLemmas.{names_total}
-use Rattle.msi_database_schema.specs.Keys.{is_table_name, summary_key, table_key}
-use Rattle.msi_database_schema.specs.System.{validation_columns, validation_name}
+use Rattle.msi_database_system.specs.Keys.{is_table_name, summary_key, table_key}
+use Rattle.msi_database_system.specs.System.{validation_columns, validation_name}
 use Rattle.msi_database_changes.specs.Database.{Database, Tables, columns_by_name, has_table, is_sound, rows_of}
 use Rattle.msi_database_changes.specs.Widening.{widened}
 use Rattle.msi_database_changes.proofs.AtWidthLemmas.{sound_widened}
@@ -33,7 +33,7 @@ use Rattle.msi_database_storage.specs.Agreement.{TablesAre, UnlistedIs}
 use Rattle.msi_database.specs.Keeping.{AreParts, HasFittingRows, IsKeptDatabase}
 use Rattle.msi_database.proofs.ComesLemmas.{describes, regular}
 use Rattle.msi_database.proofs.PartsLemmas.{kept_parts}
-use Rattle.msi_database_schema.proofs.KeyLemmas.{table_key_is_name, table_keys_tell_names, table_key≢summary_key, validation_accepted}
+use Rattle.msi_database_system.proofs.KeyLemmas.{table_key_is_name, table_keys_tell_names, table_key≢summary_key, validation_accepted}
 use Rattle.msi_database_storage.proofs.MapLemmas as maps
 use Rattle.msi_database.proofs.DescribedLemmas.{schema_after}
 use Rattle.msi_database.proofs.SoundLemmas.{sound_names, sound_rows}

@@ -9,9 +9,9 @@ use Rattle.msi_table_values.specs.Columns.{ColumnDef, types_of}
 use Rattle.msi_table_cells.specs.Fitting.{FitsTable}
 use Rattle.msi_table.specs.Tables.{TableDef}
 use Rattle.msi_text_base.specs.Refusals.{Refusals, or_refused, unless_refused, ◌>>=◌}
-use Rattle.msi_database_schema.specs.Description.{column_rows, tables_row, validation_rows}
-use Rattle.msi_database_schema.specs.Keys.{table_key}
-use Rattle.msi_database_schema.specs.System.{tables_name, columns_name, validation_name}
+use Rattle.msi_database_system.specs.Description.{column_rows, tables_row, validation_rows}
+use Rattle.msi_database_system.specs.Keys.{table_key}
+use Rattle.msi_database_system.specs.System.{tables_name, columns_name, validation_name}
 use Rattle.msi_database_changes.specs.Database.{Database, table_at, rows_of}
 use Rattle.msi_text_pool_base.specs.Pool.{Pool}
 use Rattle.msi_database_cells.specs.Texts.{PoolInUse, UsedPool, settled}

@@ -1,7 +1,7 @@
 -- A table that is dropped, step by step: which texts go back to the pool, and which streams are stored.
 use Rattle.std.specs.Prelude.{ℕ, not, List, [], ◌∷◌, ◌++◌, filter, None}
 use Rattle.std.specs.Option.{option_map_or}
-use Rattle.msi_database_schema.specs.Keys.{table_key}
+use Rattle.msi_database_system.specs.Keys.{table_key}
 use Rattle.msi_database_changes.specs.Database.{Database, table_at, rows_of}
 use Rattle.msi_database_cells.specs.Texts.{PoolInUse, rows_released}
 use Rattle.msi_database_changes.specs.Drop.{is_row_about}

@@ -8,7 +8,7 @@ use Rattle.msi_table.specs.Tables.{TableDef}
 use Rattle.msi_table_values.specs.Columns.{types_of}
 use Rattle.msi_table_cells.specs.Fitting.{FitsRow, FitsTable}
 use Rattle.msi_table_cells.specs.TableCells.{TableCells}
-use Rattle.msi_database_schema.specs.System.{validation_columns}
+use Rattle.msi_database_system.specs.System.{validation_columns}
 use Rattle.msi_database_changes.specs.Database.{Database, is_sound, is_well_formed}
 use Rattle.msi_database_changes.specs.Changes.{Change}
 use Rattle.msi_database_changes.specs.Laws.{IsChange, IsTableChange}

@@ -21,11 +21,11 @@ pub use Rattle.msi_table.specs.Rows
 pub use Rattle.msi_text_base.specs.Refusals
 pub use Rattle.msi_query_joins.specs.Selection
 pub use Rattle.msi_query_joins.specs.Rows as SelectedRows
-pub use Rattle.msi_database_schema.specs.Keys
-pub use Rattle.msi_database_schema.specs.System
+pub use Rattle.msi_database_system.specs.Keys
+pub use Rattle.msi_database_system.specs.System
 pub use Rattle.msi_database_schema.specs.Schema
 pub use Rattle.msi_database_schema.specs.RowOrders
-pub use Rattle.msi_database_schema.specs.Description
+pub use Rattle.msi_database_system.specs.Description
 pub use Rattle.msi_database_cells.specs.Texts
 pub use Rattle.msi_database_cells.specs.KeySets
 pub use Rattle.msi_database_cells.specs.Setting

@@ -11,7 +11,7 @@ use Rattle.msi_query.specs.declared.query.insert.InsertParts.{InsertParts}
 use Rattle.msi_query.specs.declared.query.delete.DeleteParts.{DeleteParts}
 use Rattle.msi_query.specs.Queries.{InsertQuery, DeleteQuery}
 use Rattle.msi_database_changes.specs.Database.{Database, is_sound}
-use Rattle.msi_database_schema.specs.Keys.{table_key}
+use Rattle.msi_database_system.specs.Keys.{table_key}
 use Rattle.msi_database_cells.specs.Texts.{UsedPool, in_use, settled, widens}
 use Rattle.msi_database_changes.specs.Changes.{Change, no_change, with_stored}
 use Rattle.msi_database_changes.specs.Widening.{widened}

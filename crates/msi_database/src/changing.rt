@@ -10,7 +10,7 @@ ghost use Rattle.msi_database_changes.specs.Database.{is_sound as is_sound_one, 
 ghost use Rattle.msi_container_format.specs.Names.{is_name_length};
 ghost use Rattle.msi_table_values.specs.Columns.{types_of};
 ghost use Rattle.msi_table_cells.specs.Fitting.{FitsTable};
-ghost use Rattle.msi_database_schema.specs.Keys.{table_key as key_of};
+ghost use Rattle.msi_database_system.specs.Keys.{table_key as key_of};
 ghost use Rattle.msi_database_cells.specs.Storing.{HaveOwnNames};
 ghost use Rattle.msi_database_cells.specs.Texts.{settled};
 ghost use Rattle.msi_database_changes.specs.Insert.{table_with};

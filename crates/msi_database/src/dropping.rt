@@ -4,8 +4,8 @@ ghost use Rattle.std.specs.Prelude.{◌≡◌, ◌++◌, IfErr, IfOk, None, OnEr
 ghost use Rattle.msi_text_base.specs.Results.{OnlyMemory};
 ghost use Rattle.msi_text_pool_base.specs.Pool.{unindexed};
 ghost use Rattle.msi_text_base.specs.Refusals.{AnswersFirst, IsRefusal, first_refusal, unless_refused};
-ghost use Rattle.msi_database_schema.specs.Keys.{is_table_name as is_of_table};
-ghost use Rattle.msi_database_schema.specs.System.{is_system_table as is_of_system};
+ghost use Rattle.msi_database_system.specs.Keys.{is_table_name as is_of_table};
+ghost use Rattle.msi_database_system.specs.System.{is_system_table as is_of_system};
 ghost use Rattle.msi_database_changes.specs.Database.{is_sound as is_sound_one};
 ghost use Rattle.msi_database_changes.specs.Drop as drops;
 ghost use Rattle.msi_database_changes.specs.Drop.{drop_refusals, early_drop_refusals};
@@ -22,9 +22,9 @@ use crate::reasons;
 use msi_database_cells::storing::Stored;
 use msi_database_cells::texts::PoolInUse;
 use msi_database_changes::drop::rows_without;
-use msi_database_schema::names::is_table_name;
-use msi_database_schema::system::{COLUMNS, TABLES, VALIDATION, is_system_table};
 use msi_database_storage::parts::stream_of;
+use msi_database_system::names::is_table_name;
+use msi_database_system::system::{COLUMNS, TABLES, VALIDATION, is_system_table};
 use msi_table::Table;
 use msi_text_base::errors::{Error, ErrorKind};
 

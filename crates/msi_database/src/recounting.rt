@@ -6,7 +6,7 @@ ghost use Rattle.msi_text_base.specs.declared.errors.ErrorKind.TheVariants.{Inva
 ghost use Rattle.msi_table.specs.Census.{IsCensus};
 ghost use Rattle.msi_text_base.specs.Refusals.{AnswersFirst, IsRefusal, first_refusal, unless_refused};
 ghost use Rattle.msi_database_schema.specs.Schema.{table_with};
-ghost use Rattle.msi_database_schema.specs.System.{validation_columns as columns_of_validation, validation_name};
+ghost use Rattle.msi_database_system.specs.System.{validation_columns as columns_of_validation, validation_name};
 ghost use Rattle.msi_database_changes.specs.Database.{is_sound, named_numbers};
 ghost use Rattle.msi_database_changes.specs.Recounting as databases;
 ghost use Rattle.msi_database_changes.specs.Recounting.{cell_counts, counting_refusals, early_recount_refusals};
@@ -16,8 +16,8 @@ ghost use Rattle.msi_database.specs.Recounting.{after_recount};
 use crate::database::Database;
 use crate::reasons;
 use msi_database_schema::parts::named_table;
-use msi_database_schema::system::{VALIDATION, validation_columns};
 use msi_database_storage::parts::{are_sound_tables, cells_census, fits_width, is_standard};
+use msi_database_system::system::{VALIDATION, validation_columns};
 use msi_table::Table;
 use msi_table::parts::Census;
 use msi_table_values::column::Column;

@@ -11,8 +11,8 @@ ghost use Rattle.msi_database_storage.specs.Widening.{unlisted_table, with_long_
 use crate::database::Database;
 use msi_container_format::contents::StreamMap;
 use msi_database_schema::parts::named_table;
-use msi_database_schema::system::{VALIDATION, validation_columns};
 use msi_database_storage::parts::{copied_streams, long_tables, store_long, stored_rows};
+use msi_database_system::system::{VALIDATION, validation_columns};
 use msi_text_base::errors::Error;
 
 impl Database {

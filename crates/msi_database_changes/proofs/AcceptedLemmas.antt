@@ -22,12 +22,12 @@ use Rattle.msi_text_base.specs.Refusals.{Refusals, first_refusal}
 use Rattle.msi_database_changes.specs.Database.{Database, are_alike, rows_of, same_bool}
 use Rattle.msi_table_cells.specs.TableCells.{TableCells}
 use Rattle.msi_table_cells.specs.KeyOrder.{key_of, same_key}
-use Rattle.msi_database_schema.specs.Keys.{is_pool_name, is_table_name}
-use Rattle.msi_database_schema.specs.System.{validation_columns}
+use Rattle.msi_database_system.specs.Keys.{is_pool_name, is_table_name}
+use Rattle.msi_database_system.specs.System.{validation_columns}
 use Rattle.msi_database_changes.specs.Insert.{row_fits, keys_of, row_refusals}
 use Rattle.msi_database_cells.specs.KeySets.{key_refusals}
 use Rattle.msi_database_changes.specs.Create.{columns_are_named, is_binary, is_too_long, table_refusals}
-use Rattle.msi_database_schema.specs.Description.{validation_row, validation_rows}
+use Rattle.msi_database_system.specs.Description.{validation_row, validation_rows}
 use Rattle.msi_database_schema.specs.Schema.{SchemaRows, schema_of, share_key}
 use Rattle.msi_database_schema.proofs.ColumnBackLemmas.{IsDescribable}
 use Rattle.msi_text_base.proofs.ListLemmas.{all_at, all_from, none_pass, none_passes, list_any-map}

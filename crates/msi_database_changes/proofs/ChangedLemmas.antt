@@ -13,8 +13,8 @@ use Rattle.msi_table_values.specs.declared.value.Value.{Value}
 use Rattle.msi_table_values.specs.declared.value.Value.TheVariants.{Str}
 use Rattle.msi_table_cells.specs.CellValues.{row_values}
 use Rattle.msi_table_cells.specs.KeyOrder.{same_key}
-use Rattle.msi_database_schema.specs.Keys.{is_table_name}
-use Rattle.msi_database_schema.specs.System.{columns_name, is_schema_table, tables_name, validation_columns, validation_name}
+use Rattle.msi_database_system.specs.Keys.{is_table_name}
+use Rattle.msi_database_system.specs.System.{columns_name, is_schema_table, tables_name, validation_columns, validation_name}
 use Rattle.msi_database_changes.specs.Database.{Database, are_alike, has_table}
 use Rattle.msi_table_cells.specs.TableCells.{TableCells}
 use Rattle.msi_database_changes.specs.Changes.{Change}

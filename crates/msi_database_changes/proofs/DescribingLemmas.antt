@@ -17,7 +17,7 @@ use Rattle.msi_table_cells.specs.declared.cell.ValueRef.{ValueRef}
 use Rattle.msi_table_values.specs.Columns.{ColumnDef}
 use Rattle.msi_table_cells.specs.CellValues.{row_values}
 use Rattle.msi_table_cells.specs.KeyOrder.{key_of}
-use Rattle.msi_database_schema.specs.System.{columns_name, tables_name, validation_columns, validation_name}
+use Rattle.msi_database_system.specs.System.{columns_name, tables_name, validation_columns, validation_name}
 use Rattle.msi_database_changes.specs.Database.{Database, are_alike, has_table, is_sound, rows_of, table_at, validation_is_standard, with_table}
 use Rattle.msi_table_cells.specs.TableCells.{TableCells}
 use Rattle.msi_query_joins.specs.Rows.{table_values}

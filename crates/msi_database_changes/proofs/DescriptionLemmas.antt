@@ -10,8 +10,8 @@ use Rattle.msi_table_values.specs.declared.value.Value.TheVariants.{Null}
 use Rattle.msi_table_values.specs.Columns.{ColumnDef, begun_column, column_index, column_of_bits}
 use Rattle.msi_query.specs.Queries.{UpdateQuery}
 use Rattle.msi_query_expressions.specs.Conditions.{meets}
-use Rattle.msi_database_schema.specs.Keys.{is_pool_name}
-use Rattle.msi_database_schema.specs.System.{columns_columns, columns_name, tables_columns, tables_name, validation_columns}
+use Rattle.msi_database_system.specs.Keys.{is_pool_name}
+use Rattle.msi_database_system.specs.System.{columns_columns, columns_name, tables_columns, tables_name, validation_columns}
 use Rattle.msi_table_cells.specs.TableCells.{TableCells}
 use Rattle.msi_database_changes.specs.Database.{are_alike}
 use Rattle.msi_database_cells.specs.Setting.{index_of, values_set}

@@ -18,8 +18,8 @@ use Rattle.msi_text_base.proofs.BoolLemmas.{not_not, T_second}
 use Rattle.msi_text_base.proofs.ListLemmas.{length-filter-le}
 use Rattle.msi_table_cells.specs.declared.cell.ValueRef.{ValueRef}
 use Rattle.msi_text_base.specs.Refusals.{Refusals, unless_refused, or_refused, ◌>>=◌}
-use Rattle.msi_database_schema.specs.Keys.{is_table_name}
-use Rattle.msi_database_schema.specs.System.{is_system_table, validation_name, columns_name, tables_name, validation_columns}
+use Rattle.msi_database_system.specs.Keys.{is_table_name}
+use Rattle.msi_database_system.specs.System.{is_system_table, validation_name, columns_name, tables_name, validation_columns}
 use Rattle.msi_database_changes.specs.Database.{Database, table_at, rows_of, without_table, with_places, is_sound, are_alike, CountsAreExact, validation_is_standard}
 use Rattle.msi_table_cells.specs.TableCells.{TableCells}
 use Rattle.msi_database_changes.specs.Changes.{Change, no_change, pool_of, sound_refusal}

@@ -13,7 +13,7 @@ use Rattle.msi_table_cells.specs.declared.cell.ValueRef.{ValueRef}
 use Rattle.msi_table_cells.specs.CellValues.{row_values}
 use Rattle.msi_table_cells.specs.StoredOrder.{row_cmp, in_stored_order}
 use Rattle.msi_table_cells.specs.KeyOrder.{same_key}
-use Rattle.msi_database_schema.specs.System.{columns_name, is_schema_table, is_system_table, tables_name, validation_name}
+use Rattle.msi_database_system.specs.System.{columns_name, is_schema_table, is_system_table, tables_name, validation_name}
 use Rattle.msi_database_changes.specs.Database.{Database, table_at, has_table, rows_of, is_sound}
 use Rattle.msi_table_cells.specs.TableCells.{TableCells}
 use Rattle.msi_database_changes.specs.Changes.{Change, no_change, pool_of, with_stored}

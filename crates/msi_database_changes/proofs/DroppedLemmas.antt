@@ -13,8 +13,8 @@ use Rattle.msi_text_base.specs.Lists.{has_pair, list_cmp}
 use Rattle.msi_table_values.specs.declared.value.Value.{Value}
 use Rattle.msi_table_values.specs.declared.value.Value.TheVariants as value
 use Rattle.msi_table_cells.specs.KeyOrder.{same_key}
-use Rattle.msi_database_schema.specs.Keys.{is_pool_name}
-use Rattle.msi_database_schema.specs.System.{columns_name, is_schema_table, tables_name}
+use Rattle.msi_database_system.specs.Keys.{is_pool_name}
+use Rattle.msi_database_system.specs.System.{columns_name, is_schema_table, tables_name}
 use Rattle.msi_database_schema.specs.Schema.{SchemaRows, column_rows, columns_of, counted, has_number, is_about}
 use Rattle.msi_database_schema.specs.Schema.{lacks_value, schema_of, share_key, text_at, validation_row}
 use Rattle.msi_text_base.proofs.ListLemmas.{all_from, none_pass, all_kept, any_kept, find-filter, find_same}

@@ -18,8 +18,8 @@ use Rattle.msi_table_cells.specs.StoredOrder.{in_stored_order}
 use Rattle.msi_table_cells.specs.CellValues.{row_values}
 use Rattle.msi_table_cells.proofs.SortedFitsLemmas.{sorted_fits}
 use Rattle.msi_table_cells.specs.TableCells.{TableCells}
-use Rattle.msi_database_schema.specs.Keys.{is_table_name}
-use Rattle.msi_database_schema.specs.System.{columns_name, tables_name, validation_columns, validation_name}
+use Rattle.msi_database_system.specs.Keys.{is_table_name}
+use Rattle.msi_database_system.specs.System.{columns_name, tables_name, validation_columns, validation_name}
 use Rattle.std.specs.Str.{chars}
 use Rattle.msi_database_changes.specs.Database.{Database, table_at, rows_of, same_bool, is_sound}
 use Rattle.msi_query_expressions.specs.Conditions.{meets}

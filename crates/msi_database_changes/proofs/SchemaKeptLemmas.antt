@@ -12,7 +12,7 @@ use Rattle.msi_table_cells.specs.Fitting.{FitsRow, FitsTable}
 use Rattle.msi_table_cells.specs.CellValues.{row_values}
 use Rattle.msi_table_cells.specs.TableCells.{TableCells}
 use Rattle.msi_database_schema.specs.Schema.{SchemaRows, schema_of}
-use Rattle.msi_database_schema.specs.System.{columns_name, columns_columns, validation_name, validation_columns}
+use Rattle.msi_database_system.specs.System.{columns_name, columns_columns, validation_name, validation_columns}
 use Rattle.msi_database_schema.proofs.OrderlessLemmas.{HasKinds}
 use Rattle.msi_database_schema.proofs.SchemaLemmas.{NoFault, describes_from, table_of}
 use Rattle.msi_database_changes.specs.Database.{Database, table_at, rows_of, are_alike, columns_by_name, is_well_formed}

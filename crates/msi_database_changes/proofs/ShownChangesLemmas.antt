@@ -12,8 +12,8 @@ use Rattle.msi_text_pool_base.specs.Pool.{Place}
 use Rattle.msi_text_base.specs.Refusals.{Refusals, first_refusal, or_refused, unless_refused, ◌>>=◌}
 use Rattle.msi_query_joins.specs.Selection.{condition_names, has_columns}
 use Rattle.msi_query.specs.Queries.{DeleteQuery, UpdateQuery}
-use Rattle.msi_database_schema.specs.System.{columns_name, is_system_table, tables_name, validation_name}
-use Rattle.msi_database_schema.specs.Keys.{is_table_name}
+use Rattle.msi_database_system.specs.System.{columns_name, is_system_table, tables_name, validation_name}
+use Rattle.msi_database_system.specs.Keys.{is_table_name}
 use Rattle.msi_database_changes.specs.Database.{Database, rows_of, table_at}
 use Rattle.msi_table_cells.specs.TableCells.{TableCells}
 use Rattle.msi_database_changes.specs.Changes.{Change, no_change, pool_of, sound_refusal, with_stored}

@@ -14,8 +14,8 @@ use Rattle.msi_table_cells.specs.declared.cell.ValueRef.{ValueRef}
 use Rattle.msi_table_values.specs.Columns.{ColumnDef}
 use Rattle.msi_table_cells.specs.TableCells.{TableCells}
 use Rattle.msi_query_joins.specs.Rows.{table_values}
-use Rattle.msi_database_schema.specs.Description.{column_rows, validation_rows}
-use Rattle.msi_database_schema.specs.System.{columns_name, tables_name, validation_name}
+use Rattle.msi_database_system.specs.Description.{column_rows, validation_rows}
+use Rattle.msi_database_system.specs.System.{columns_name, tables_name, validation_name}
 use Rattle.msi_database_changes.specs.Database.{Database, table_at, with_table, is_sound}
 use Rattle.msi_database_changes.specs.Changes.{Change, no_change}
 use Rattle.msi_database_changes.specs.Create.{create_at_width}

@@ -15,7 +15,7 @@ use Rattle.msi_table_values.specs.Columns.{ColumnDef, types_of}
 use Rattle.msi_table_cells.specs.Fitting.{FitsRow, FitsTable}
 use Rattle.msi_table_cells.specs.StoredOrder.{in_stored_order}
 use Rattle.msi_table_cells.proofs.SortedFitsLemmas.{sorted_fits}
-use Rattle.msi_database_schema.specs.Keys.{is_table_name}
+use Rattle.msi_database_system.specs.Keys.{is_table_name}
 use Rattle.msi_database_changes.specs.Database.{Database, table_at, rows_of, is_sound}
 use Rattle.msi_table_cells.specs.TableCells.{TableCells}
 use Rattle.msi_database_changes.specs.Changes.{Change, no_change, pool_of, with_stored}

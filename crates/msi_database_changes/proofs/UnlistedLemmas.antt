@@ -5,7 +5,7 @@ use Rattle.std.specs.List.{list_any}
 use Rattle.std.proofs.Math.Bool.{and-false}
 use Rattle.std.proofs.lemmas.Bool.{or_parts, or_from}
 use Rattle.msi_table_values.specs.declared.value.Value.{Value}
-use Rattle.msi_database_schema.specs.System.{is_schema_table}
+use Rattle.msi_database_system.specs.System.{is_schema_table}
 use Rattle.msi_database_schema.specs.Schema.{SchemaRows, column_rows, columns_of, describes_column, has_number}
 use Rattle.msi_database_schema.specs.Schema.{is_about, lacks_value, schema_of, text_at, value_at}
 use Rattle.msi_text_base.proofs.ListLemmas.{all_from, all_kept, filter_none}

@@ -10,8 +10,8 @@ use Rattle.msi_table_values.specs.declared.value.Value.TheVariants.{Str}
 use Rattle.msi_table_cells.specs.declared.cell.ValueRef.{ValueRef}
 use Rattle.msi_table_cells.specs.CellValues.{row_values}
 use Rattle.msi_table_cells.specs.KeyOrder.{same_key}
-use Rattle.msi_database_schema.specs.Keys.{is_table_name}
-use Rattle.msi_database_schema.specs.System.{tables_name, columns_name, validation_name, is_system_table}
+use Rattle.msi_database_system.specs.Keys.{is_table_name}
+use Rattle.msi_database_system.specs.System.{tables_name, columns_name, validation_name, is_system_table}
 use Rattle.msi_database_changes.specs.Database.{Database, table_at, without_table, with_places, rows_of}
 use Rattle.msi_table_cells.specs.TableCells.{TableCells}
 use Rattle.msi_database_changes.specs.Changes.{Change, no_change, pool_of, with_stored, barred_refusals, missing_or}

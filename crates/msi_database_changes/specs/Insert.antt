@@ -14,7 +14,7 @@ use Rattle.msi_table_values.specs.Columns.{ColumnDef}
 use Rattle.msi_table_values.specs.ValidValues.{is_valid_value}
 use Rattle.msi_table_cells.specs.KeyOrder.{key_of, same_key, in_key_order}
 use Rattle.msi_query.specs.Queries.{InsertQuery}
-use Rattle.msi_database_schema.specs.System.{is_system_table}
+use Rattle.msi_database_system.specs.System.{is_system_table}
 use Rattle.msi_database_changes.specs.Database.{Database, table_at, rows_of}
 use Rattle.msi_table_cells.specs.TableCells.{TableCells}
 use Rattle.msi_database_cells.specs.KeySets.{key_refusals, keys_of_rows}

@@ -15,7 +15,7 @@ use Rattle.msi_table_cells.specs.SortedRows.{HoldsNumbers}
 use Rattle.msi_table_cells.specs.CellValues.{row_values}
 use Rattle.msi_table_values.specs.Values.{value_cmp}
 use Rattle.msi_database_schema.specs.Schema.{SchemaRows, schema_of}
-use Rattle.msi_database_schema.specs.System.{columns_name, tables_name, validation_columns, validation_name}
+use Rattle.msi_database_system.specs.System.{columns_name, tables_name, validation_columns, validation_name}
 use Rattle.msi_query.specs.Queries.{InsertQuery, UpdateQuery, DeleteQuery}
 use Rattle.msi_query_expressions.specs.Conditions.{meets}
 use Rattle.msi_table_cells.specs.KeyOrder.{key_of, same_key}

@@ -22,7 +22,7 @@ use msi_database_cells::keys::{Key, distinct_keys};
 use msi_database_cells::setting::{places_of, set_cells, set_views};
 use msi_database_cells::texts::PoolInUse;
 use msi_database_cells::views::views_of_cells;
-use msi_database_schema::system::{VALIDATION, is_schema_table};
+use msi_database_system::system::{VALIDATION, is_schema_table};
 use msi_query::parts::{Assignment, UpdateParts};
 use msi_query_expressions::parts::RowFilter;
 use msi_table_cells::cell::ValueRef;

@@ -14,9 +14,9 @@ use Rattle.msi_table_values.specs.declared.value.Value.{Value}
 use Rattle.msi_table_values.specs.declared.value.Value.TheVariants.{Int, Str}
 use Rattle.msi_table_values.specs.Columns.{ColumnDef}
 use Rattle.msi_table_values.specs.OrderLaws.{value_eq-Decides}
-use Rattle.msi_database_schema.specs.Description as description
-use Rattle.msi_database_schema.specs.Keys.{is_pool_name}
-use Rattle.msi_database_schema.specs.System.{columns_columns, columns_name, is_schema_table, tables_columns, tables_name}
+use Rattle.msi_database_system.specs.Description as description
+use Rattle.msi_database_system.specs.Keys.{is_pool_name}
+use Rattle.msi_database_system.specs.System.{columns_columns, columns_name, is_schema_table, tables_columns, tables_name}
 use Rattle.msi_table_values.specs.Values.{is_null}
 use Rattle.msi_database_schema.specs.Schema.{text_of, SchemaRows, columns_of, counted, describes_column, has_null, lacks_value, listed_names, schema_of, share_key, text_at, value_at}
 use Rattle.msi_database_schema.proofs.ColumnBackLemmas.{row_of_column}

@@ -3,11 +3,8 @@ pub mod AccountLemmas
 pub mod AddedLemmas
 pub mod AddedRowsLemmas
 pub mod ColumnBackLemmas
-pub mod DescriptionLemmas
 pub mod FaultLemmas
-pub mod KeyLemmas
 pub mod ListingLemmas
-pub mod NamesLemmas
 pub mod OrderLemmas
 pub mod OrderlessLemmas
 pub mod ReadColumnLemmas

@@ -15,8 +15,8 @@ use Rattle.msi_table_values.specs.declared.value.Value.TheVariants.{Int, Str}
 use Rattle.msi_table_values.specs.Values.{value_cmp, is_null}
 use Rattle.msi_table_values.specs.OrderLaws.{value_eq-Decides}
 use Rattle.msi_table_values.specs.Columns.{ColumnDef, begun_column, column_of_bits}
-use Rattle.msi_database_schema.specs.Keys.{is_pool_name}
-use Rattle.msi_database_schema.specs.System.{columns_columns, columns_name, is_schema_table, tables_columns, tables_name}
+use Rattle.msi_database_system.specs.Keys.{is_pool_name}
+use Rattle.msi_database_system.specs.System.{columns_columns, columns_name, is_schema_table, tables_columns, tables_name}
 use Rattle.msi_database_schema.specs.Schema.{SchemaRows, bits_in, column_rows, columns_of, counted, described}
 use Rattle.msi_database_schema.specs.Schema.{describes_column, has_number, is_about, lacks_value, listed_names}
 use Rattle.msi_database_schema.specs.Schema.{number_of, numbered_row, share_key, text_at, validation_row, value_at}

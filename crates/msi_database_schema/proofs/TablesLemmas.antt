@@ -21,7 +21,7 @@ use Rattle.msi_database_schema.specs.ListedTables.{by_names, listed_table, liste
 use Rattle.msi_database_schema.specs.RowOrders.{by_numbers, by_texts, describing, number_in, numbers_cmp, texts_at, texts_cmp}
 use Rattle.msi_table_values.specs.Values.{is_text}
 use Rattle.msi_database_schema.specs.Schema.{SchemaRows, by_name, column_rows, column_of_row, columns_of, counted, has_long_number, has_number, has_odd_name, is_about, is_faulty, is_of_16_bits, listed_names, number_of, numbered_row, share_key, table_with, tables_of, text_at, text_of, validation_row, value_at}
-use Rattle.msi_database_schema.specs.System.{columns_columns, columns_name, is_schema_table, tables_columns, tables_name}
+use Rattle.msi_database_system.specs.System.{columns_columns, columns_name, is_schema_table, tables_columns, tables_name}
 use Rattle.msi_text_base.proofs.ListLemmas.{all_kept, find_same, no_pair_weaker, none_passes, not_found, has_pair-map, tabulated_at}
 use Rattle.msi_text_base.proofs.BoolLemmas.{by_test, yes_is_no}
 use Rattle.msi_database_schema.proofs.OrderLemmas.{find_sorted, order-weak, sorted_is}

@@ -1,8 +1,5 @@
 -- The words of this crate.
-pub mod Keys
-pub mod System
 pub mod Schema
 pub mod ListedTables
 pub mod RowOrders
-pub mod Description
 pub mod SeenRows

@@ -14,9 +14,9 @@ use Rattle.msi_table_values.specs.declared.value.Value.TheVariants.{Null, Int, S
 use Rattle.msi_table_values.specs.Values.{is_null, is_text, value_cmp}
 use Rattle.msi_table_values.specs.Columns.{ColumnDef, begun_column, column_of_bits, greatest_16}
 use Rattle.msi_table.specs.Tables.{TableDef}
-use Rattle.msi_database_schema.specs.Keys.{is_pool_name}
-use Rattle.msi_database_schema.specs.System.{tables_name, columns_name, is_schema_table, tables_columns}
-use Rattle.msi_database_schema.specs.System.{columns_columns}
+use Rattle.msi_database_system.specs.Keys.{is_pool_name}
+use Rattle.msi_database_system.specs.System.{tables_name, columns_name, is_schema_table, tables_columns}
+use Rattle.msi_database_system.specs.System.{columns_columns}
 use Rattle.msi_text_categories.specs.declared.category.Category.TheVariants as category
 
 -- a row's value at a place, as a text and as a number

@@ -8,14 +8,13 @@ ghost use Rattle.std.specs.Option.{option_map_or};
 ghost use Rattle.std.specs.List.Sorted.{IsSorted};
 ghost use Rattle.msi_text_base.specs.Results.{Gives, OnlyMemory};
 ghost use Rattle.msi_text_base.specs.declared.errors.ErrorKind.TheVariants.{InvalidData};
-ghost use Rattle.msi_table_values.specs.Columns.{begun_column};
-ghost use Rattle.msi_table.specs.Tables.{most_columns};
+ghost use Rattle.msi_table_values.specs.Columns.{begun_column, most_columns};
 ghost use Rattle.msi_database_schema.specs.RowOrders.{by_numbers, by_texts, describing};
 ghost use Rattle.msi_database_schema.specs.Schema.{bits_in as bits_of_row, both_set, category_named};
 ghost use Rattle.msi_database_schema.specs.Schema.{column_of_row as column_described, columns_of, described};
 ghost use Rattle.msi_database_schema.specs.Schema.{has_long_number, is_of_16_bits, number_of, numbered_row};
 ghost use Rattle.msi_database_schema.specs.Schema.{text_at as text_in, text_of, validation_row, value_at, values_in};
-ghost use Rattle.msi_database_schema.specs.System.{is_schema_table};
+ghost use Rattle.msi_database_system.specs.System.{is_schema_table};
 
 use crate::orders::{count_about, find_by_number, find_by_texts};
 use crate::reasons;

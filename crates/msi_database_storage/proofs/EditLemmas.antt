@@ -13,8 +13,8 @@ use Rattle.msi_table_cells.specs.StoredOrder.{row_cmp, in_stored_order}
 use Rattle.msi_table_cells.proofs.RowOrderLemmas.{row_cmp-weak}
 use Rattle.msi_table_cells.proofs.StableSortLemmas.{length_sorted}
 use Rattle.msi_table_cells.specs.TableCells.{TableCells}
-use Rattle.msi_database_schema.specs.Keys.{is_table_name, table_key}
-use Rattle.msi_database_schema.specs.System.{tables_name, columns_name, validation_name}
+use Rattle.msi_database_system.specs.Keys.{is_table_name, table_key}
+use Rattle.msi_database_system.specs.System.{tables_name, columns_name, validation_name}
 use Rattle.msi_database_schema.proofs.RowOrderLemmas.{names_total}
 use Rattle.msi_database_changes.specs.Database.{Database, Tables, table_at, with_table}
 use Rattle.msi_database_changes.specs.Changes.{Change, no_change, with_stored}
@@ -26,7 +26,7 @@ use Rattle.msi_database_cells.specs.declared.storing.Stored.{Stored}
 use Rattle.msi_database_cells.specs.Storing.{HaveOwnNames}
 use Rattle.msi_database_storage.specs.Storing.{stored_in, tables_stored}
 use Rattle.msi_database_storage.proofs.MapLemmas as maps
-use Rattle.msi_database_schema.proofs.KeyLemmas.{table_keys_tell_names}
+use Rattle.msi_database_system.proofs.KeyLemmas.{table_keys_tell_names}
 use Rattle.msi_database_storage.proofs.StreamLemmas.{list_cmp_exact}
 use Rattle.msi_database_storage.proofs.StoredLemmas.{AreNames}
 

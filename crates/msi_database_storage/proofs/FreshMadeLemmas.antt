@@ -6,9 +6,9 @@ use Rattle.msi_text_pool_base.specs.Pool.{Pool}
 use Rattle.msi_table_values.specs.declared.value.Value.{Value}
 use Rattle.msi_table_values.specs.Columns.{ColumnDef}
 use Rattle.msi_table.specs.Tables.{TableDef}
-use Rattle.msi_database_schema.specs.Description.{column_rows, have_short_lengths, tables_row, validation_rows}
-use Rattle.msi_database_schema.specs.Keys.{table_key}
-use Rattle.msi_database_schema.specs.System.{columns_columns, columns_name, tables_columns, tables_name, validation_columns, validation_name}
+use Rattle.msi_database_system.specs.Description.{column_rows, have_short_lengths, tables_row, validation_rows}
+use Rattle.msi_database_system.specs.Keys.{table_key}
+use Rattle.msi_database_system.specs.System.{columns_columns, columns_name, tables_columns, tables_name, validation_columns, validation_name}
 use Rattle.msi_database_cells.specs.Texts.{PoolInUse, UsedPool, in_use, settled}
 use Rattle.msi_database_changes.specs.Changes.{no_change, pool_of}
 use Rattle.msi_database_changes.specs.Create.{described_by_rows}

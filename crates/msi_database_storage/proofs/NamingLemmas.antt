@@ -17,7 +17,7 @@ use Rattle.msi_table.specs.Census.{CensusDef, CountsMore, IsCensus, numbers_of_r
 use Rattle.msi_table.specs.Tables.{TableDef, rows_spelled}
 use Rattle.msi_table.proofs.CensusLemmas.{any_counted}
 use Rattle.msi_table.proofs.ReadRowsLemmas.{length-tabulated}
-use Rattle.msi_database_schema.specs.Keys.{table_key}
+use Rattle.msi_database_system.specs.Keys.{table_key}
 use Rattle.msi_database_changes.specs.Database.{rows_of}
 use Rattle.msi_database_storage.specs.Streams.{Streams, stream_at}
 use Rattle.msi_database_storage.specs.Kept.{AreAsLong, table_kept}

@@ -26,7 +26,7 @@ use Rattle.msi_database_schema.specs.RowOrders.{rows_of}
 use Rattle.msi_table_values.specs.Values.{is_null, is_text}
 use Rattle.msi_database_schema.specs.Schema.{SchemaRows, by_name, columns_of, listed_names, has_long_number, has_null, has_odd_name, is_faulty, is_of_16_bits, number_of, schema_of, table_with, tables_of}
 use Rattle.msi_database_schema.proofs.SchemaLemmas.{no_fault}
-use Rattle.msi_database_schema.specs.System.{columns_columns, columns_name, tables_columns, tables_name, validation_columns, validation_name}
+use Rattle.msi_database_system.specs.System.{columns_columns, columns_name, tables_columns, tables_name, validation_columns, validation_name}
 use Rattle.msi_database_storage.specs.Streams.{Streams, stored_rows}
 use Rattle.msi_database_storage.specs.StreamNames.{HaveShortNames, HoldBytes}
 use Rattle.msi_database_storage.specs.Kept.{AreAsLong, schema_listed}

@@ -3,9 +3,9 @@ use Rattle.std.specs.Prelude.{◌≡◌, false, List, [], IsSomeAnd}
 use Rattle.msi_text_pool_base.specs.Pool.{Pool}
 use Rattle.msi_table_values.specs.declared.value.Value.{Value}
 use Rattle.msi_table.specs.Tables.{TableDef, CanStore}
-use Rattle.msi_database_schema.specs.Keys.{table_key}
-use Rattle.msi_database_schema.specs.System.{columns_columns, columns_name, tables_columns, tables_name}
-use Rattle.msi_database_schema.specs.System.{validation_columns, validation_name}
+use Rattle.msi_database_system.specs.Keys.{table_key}
+use Rattle.msi_database_system.specs.System.{columns_columns, columns_name, tables_columns, tables_name}
+use Rattle.msi_database_system.specs.System.{validation_columns, validation_name}
 use Rattle.msi_database_cells.specs.Texts.{PoolInUse, UsedPool}
 use Rattle.msi_database_changes.specs.Insert.{cells_added}
 use Rattle.msi_database_cells.specs.declared.storing.Stored.{Stored}

@@ -2,8 +2,8 @@
 use Rattle.std.specs.Prelude.{◌≡◌, ℕ, List, IfSome}
 use Rattle.msi_text_pool_base.specs.Pool.{Pool, with_named_texts}
 use Rattle.msi_table_values.specs.Columns.{ColumnDef}
-use Rattle.msi_database_schema.specs.System.{tables_name, columns_name, validation_name, tables_columns}
-use Rattle.msi_database_schema.specs.System.{columns_columns, validation_columns}
+use Rattle.msi_database_system.specs.System.{tables_name, columns_name, validation_name, tables_columns}
+use Rattle.msi_database_system.specs.System.{columns_columns, validation_columns}
 use Rattle.msi_database_changes.specs.NamedTexts.{NameFewTexts}
 use Rattle.msi_database_storage.specs.Streams.{Streams, stored_rows}
 use Rattle.msi_database_storage.specs.Kept.{Kept}

@@ -4,7 +4,7 @@ ghost use Rattle.std.specs.Prelude.{◌≡◌, ◌∷◌, [], IfOk, OnOk, Some, 
 ghost use Rattle.msi_container_format.specs.Names.{is_name_length};
 ghost use Rattle.msi_text_base.specs.Results.{OnlyMemory};
 ghost use Rattle.msi_text_pool_base.specs.Pool.{unindexed};
-ghost use Rattle.msi_database_schema.specs.Keys.{table_key as key_of};
+ghost use Rattle.msi_database_system.specs.Keys.{table_key as key_of};
 ghost use Rattle.msi_database_changes.specs.Insert.{cells_added};
 ghost use Rattle.msi_database_cells.specs.Texts.{in_use};
 ghost use Rattle.msi_database_storage.specs.FreshParts.{Begins, CanBegin, columns_table, fresh_pool, fresh_stored};
@@ -14,9 +14,10 @@ use crate::storing::stream_of;
 use msi_database_cells::storing::Stored;
 use msi_database_cells::texts::PoolInUse;
 use msi_database_changes::insert::add_rows;
-use msi_database_schema::description::{tables_row, validation_rows};
-use msi_database_schema::parts::{column_rows, named_table};
-use msi_database_schema::system::{
+use msi_database_schema::parts::named_table;
+use msi_database_system::description::{tables_row, validation_rows};
+use msi_database_system::parts::column_rows;
+use msi_database_system::system::{
     COLUMNS, TABLES, VALIDATION, columns_columns, tables_columns, validation_columns,
 };
 use msi_table::Table;

@@ -4,11 +4,11 @@ ghost use Rattle.std.specs.Prelude.{◌≡◌, [], ◌<◌, ◌≤◌, All, IfEr
 ghost use Rattle.std.specs.FinMap.{entries};
 ghost use Rattle.msi_text_base.specs.declared.errors.ErrorKind.TheVariants.{InvalidData};
 ghost use Rattle.msi_text_base.specs.Results.{OnlyMemory};
-ghost use Rattle.msi_table.specs.Tables.{most_columns};
+ghost use Rattle.msi_table_values.specs.Columns.{most_columns};
 ghost use Rattle.msi_text_pool_base.specs.Pool.{unindexed};
 ghost use Rattle.msi_text_base.specs.Refusals.{IsRefusal, or_refused};
 ghost use Rattle.msi_database_schema.specs.Schema.{table_with};
-ghost use Rattle.msi_database_schema.specs.System.{validation_columns as columns_of_validation, validation_name};
+ghost use Rattle.msi_database_system.specs.System.{validation_columns as columns_of_validation, validation_name};
 ghost use Rattle.msi_database_changes.specs.NamedTexts.{NameFewTexts};
 ghost use Rattle.msi_database_storage.specs.Agreement.{described_by, schema_in};
 ghost use Rattle.msi_database_storage.specs.Kept.{AreAsLong, schema_listed, table_kept_at};
@@ -23,7 +23,7 @@ use msi_container_format::contents::StreamMap;
 use msi_database_changes::named_texts::name_few_texts;
 use msi_database_schema::parts::named_table;
 use msi_database_schema::schema::tables_of_cells;
-use msi_database_schema::system::{
+use msi_database_system::system::{
     COLUMNS, TABLES, VALIDATION, columns_columns, tables_columns, validation_columns,
 };
 use msi_table::Table;

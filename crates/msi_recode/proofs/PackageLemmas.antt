@@ -9,7 +9,7 @@ use Rattle.msi_container_write.specs.Layout.{layout, refuses}
 use Rattle.msi_text_base.specs.declared.errors.ErrorKind.{ErrorKind}
 use Rattle.msi_text_base.specs.declared.errors.ErrorKind.TheVariants as kind
 use Rattle.msi_text_base.proofs.OptionLemmas.{some_is, not_given}
-use Rattle.msi_database_schema.specs.Keys.{table_key, summary_key, string_pool_name, string_data_name}
+use Rattle.msi_database_system.specs.Keys.{table_key, summary_key, string_pool_name, string_data_name}
 use Rattle.msi_recode.specs.declared.page.TextPage.{TextPage}
 use Rattle.msi_recode.specs.PoolRecoding.{AreRecoded, CannotBeRecoded}
 use Rattle.msi_recode.specs.SummaryRecoding.{HasNoSummary, IsSummaryRecoded, IsSummaryTooLong}

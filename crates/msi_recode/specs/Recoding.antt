@@ -5,7 +5,7 @@ use Rattle.msi_container_format.specs.declared.contents.Contents.{Contents}
 use Rattle.msi_container_format.specs.Container.{Holds}
 use Rattle.msi_container_format.specs.Streams.{Streams}
 use Rattle.msi_container_write.specs.Layout.{layout, refuses}
-use Rattle.msi_database_schema.specs.Keys.{table_key, summary_key, string_pool_name, string_data_name}
+use Rattle.msi_database_system.specs.Keys.{table_key, summary_key, string_pool_name, string_data_name}
 use Rattle.msi_recode.specs.declared.page.TextPage.{TextPage}
 use Rattle.msi_recode.specs.PoolRecoding.{AreRecoded, CannotBeRecoded}
 use Rattle.msi_recode.specs.SummaryRecoding.{HasNoSummary, IsSummaryRecoded, IsSummaryTooLong}

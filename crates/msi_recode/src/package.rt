@@ -21,7 +21,7 @@ use msi_container_format::contents::{Bytes, Contents, StreamMap};
 use msi_container_format::name::Name;
 use msi_container_read::read;
 use msi_container_write::write;
-use msi_database_schema::names::{string_data_key, string_pool_key, summary_key};
+use msi_database_system::names::{string_data_key, string_pool_key, summary_key};
 use msi_text_base::{Error, ErrorKind, Reason};
 use std::alloc::Global;
 use std::marker::Model;

@@ -9,7 +9,7 @@ use Rattle.msi_summary.specs.Summary.{SpellsSummary}
 use Rattle.msi_container_format.specs.declared.contents.Contents.{Contents}
 use Rattle.msi_container_format.specs.Streams as maps
 use Rattle.msi_container_format.proofs.PlanOnceLemmas.{held_once}
-use Rattle.msi_database_schema.specs.Keys.{table_key, summary_key, string_pool_name, string_data_name}
+use Rattle.msi_database_system.specs.Keys.{table_key, summary_key, string_pool_name, string_data_name}
 use Rattle.msi_database_changes.specs.Database.{Database}
 use Rattle.msi_database_storage.specs.Streams.{Streams, stream_at}
 use Rattle.msi_database_storage.specs.Agreement.{DatabaseIs, is_shown}

@@ -10,7 +10,7 @@ use Rattle.msi_text_base.specs.declared.errors.ErrorKind.TheVariants.{InvalidInp
 use Rattle.msi_text_base.specs.Refusals.{Refusals, first_refusal}
 use Rattle.msi_container_format.specs.Names.{name_cmp}
 use Rattle.msi_container_format.proofs.NamesLemmas.{names_total}
-use Rattle.msi_database_schema.specs.Keys.{is_stream_name, stream_key}
+use Rattle.msi_database_system.specs.Keys.{is_stream_name, stream_key}
 use Rattle.msi_database_storage.specs.Streams.{Streams, with_stream}
 use Rattle.msi_streams.specs.Cursor as streams
 use Rattle.msi.specs.State.{State, parts_of}

@@ -4,7 +4,7 @@ use Rattle.std.specs.List.{AllByRecursion}
 use Rattle.msi_text_base.specs.declared.codepage.CodePage.TheVariants as page
 use Rattle.msi_text_pool_base.specs.Pool.{Pool}
 use Rattle.msi_container_format.specs.declared.contents.Contents.{Contents}
-use Rattle.msi_database_schema.specs.Keys.{is_table_name}
+use Rattle.msi_database_system.specs.Keys.{is_table_name}
 use Rattle.msi_database_changes.specs.Database.{Database}
 use Rattle.msi.specs.Meaning.{Means, Passes, knows_kind, has_summary, has_pool, reads_pool, has_texts, reads_texts}
 use Rattle.msi.specs.State.{Parts}

@@ -2,7 +2,7 @@
 use Rattle.std.specs.Char.Utf16.{utf16_chars}
 use Rattle.std.specs.Prelude.{◌≡◌, [], ◌∷◌, codes, refl}
 use Rattle.std.specs.Str.{chars}
-use Rattle.msi_database_schema.specs.Keys.{document_summary_key, signature_ex_key, signature_key, stream_key, summary_key, table_key}
+use Rattle.msi_database_system.specs.Keys.{document_summary_key, signature_ex_key, signature_key, stream_key, summary_key, table_key}
 use Rattle.msi_streams.specs.Listing.{listed_names}
 use lib.Utf8.{encode}
 

@@ -3,7 +3,7 @@ use Rattle.std.proofs.Common.{◌≡◌, ℕ, false, List, [], ◌∷◌, ◌++�
 use Rattle.std.specs.Prelude.{if◌then◌else◌, option_and_then, option_map}
 use Rattle.msi_text_pool_base.specs.Pool.{Pool, data_stream, pool_stream}
 use Rattle.msi_text_pool.specs.PoolWriting.{is_refused}
-use Rattle.msi_database_schema.specs.Keys.{string_data_name, string_pool_name, table_key}
+use Rattle.msi_database_system.specs.Keys.{string_data_name, string_pool_name, table_key}
 use Rattle.msi_database_storage.specs.Streams.{Streams, with_stream}
 use Rattle.msi_streams.specs.Renewing.{keys_in, pool_keys, pool_put, with_renewed}
 

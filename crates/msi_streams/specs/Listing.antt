@@ -5,7 +5,7 @@ use Rattle.std.specs.Char.Utf16.{utf16_lossy_chars}
 use Rattle.msi_text_base.specs.declared.errors.ErrorKind.{ErrorKind}
 use Rattle.msi_text_base.specs.declared.errors.ErrorKind.TheVariants.{OutOfMemory}
 use Rattle.msi_container_format.specs.StreamNames.{decoded_name, is_marked}
-use Rattle.msi_database_schema.specs.Keys.{document_summary_key, signature_ex_key, signature_key, summary_key}
+use Rattle.msi_database_system.specs.Keys.{document_summary_key, signature_ex_key, signature_key, summary_key}
 
 -- one of the summaries and signatures
 abbrev pub is_special : List ℕ → Bool

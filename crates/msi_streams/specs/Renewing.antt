@@ -8,7 +8,7 @@ use Rattle.msi_text_pool.specs.PoolWriting.{is_refused}
 use Rattle.msi_summary_properties.specs.Properties.{Properties}
 use Rattle.msi_summary_properties.specs.PropertyStream.{property_stream}
 use Rattle.msi_summary_properties.specs.PropertyWriting as properties
-use Rattle.msi_database_schema.specs.Keys.{table_key, summary_key, string_pool_name, string_data_name}
+use Rattle.msi_database_system.specs.Keys.{table_key, summary_key, string_pool_name, string_data_name}
 use Rattle.msi_database_storage.specs.Streams.{Streams, with_stream}
 
 -- streams that are put among others, one after another

@@ -2,13 +2,13 @@
 
 ghost use Rattle.std.specs.Prelude.{◌≡◌, ◌∷◌, [], None, Some, if◌then◌else◌, not};
 ghost use Rattle.msi_text_base.specs.Refusals.{unless_refused};
-ghost use Rattle.msi_database_schema.specs.Keys.{is_stream_name as is_accepted, stream_key};
+ghost use Rattle.msi_database_system.specs.Keys.{is_stream_name as is_accepted, stream_key};
 ghost use Rattle.msi_text_base.specs.declared.errors.ErrorKind.TheVariants.{InvalidInput};
 
 use crate::reasons;
 use msi_container_format::name::Name;
 use msi_container_format::parts::packed_name;
-use msi_database_schema::names::is_stream_name;
+use msi_database_system::names::is_stream_name;
 use msi_text_base::errors::{Error, ErrorKind};
 
 /// Returns the container's name of a stream, if a stream may have this name. It takes no memory.

@@ -12,7 +12,7 @@ ghost use Rattle.msi_streams.specs.Listing.{listed_names, text_of_key};
 use msi_container_format::contents::{Bytes, StreamMap};
 use msi_container_format::name::Name;
 use msi_container_format::streamname::decode;
-use msi_database_schema::names::{
+use msi_database_system::names::{
     document_summary_key, signature_ex_key, signature_key, summary_key,
 };
 use msi_text_base::errors::Error;

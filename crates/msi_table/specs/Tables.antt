@@ -2,7 +2,7 @@
 use Rattle.std.specs.Prelude.{◌≡◌, ℕ, ◌<◌, Bool, true, List, length, Option, Some, None, All, nat_le, if◌then◌else◌}
 use Rattle.msi_table_cells.specs.declared.cell.ValueRef.{ValueRef}
 use Rattle.msi_table.specs.Cells.{rows_in, table_bytes}
-use Rattle.msi_table_values.specs.Columns.{ColumnDef, greatest_16, types_of}
+use Rattle.msi_table_values.specs.Columns.{ColumnDef, most_columns, types_of}
 use Rattle.msi_table_cells.specs.Fitting.{FitsTable}
 use Rattle.msi_table.specs.Rows.{AreAsWide}
 use Rattle.msi_table_cells.specs.StoredOrder.{in_stored_order}
@@ -16,10 +16,6 @@ pub record TableDef : Type 0 where
 -- the same table with references of three bytes
 abbrev pub long_table_of : TableDef → TableDef
 long_table_of t = record t { long = true }
-
--- the numbers of a table's columns are stored in 16 bits
-abbrev pub most_columns : ℕ
-most_columns = greatest_16
 
 -- a table of its parts, where its columns are few enough
 abbrev pub table_of : List ℕ → List ColumnDef → Bool → Option TableDef

@@ -5,8 +5,8 @@ ghost use Rattle.msi_text_base.specs.Lists.{tabulated};
 ghost use Rattle.msi_text_base.specs.Results.{OnlyMemory};
 ghost use Rattle.msi_table.specs.Cells.{cell_in, row_count as count_of, row_in, width as width_of};
 ghost use Rattle.msi_table.specs.Census.{CountsMore, IsCensus, numbers_of_row, numbers_of_rows};
-ghost use Rattle.msi_table.specs.Tables.{most_columns, rows_spelled};
-ghost use Rattle.msi_table_values.specs.Columns.{types_of};
+ghost use Rattle.msi_table.specs.Tables.{rows_spelled};
+ghost use Rattle.msi_table_values.specs.Columns.{most_columns, types_of};
 
 use crate::cells::{holds_texts, read_cell, width};
 use crate::rows::{are_rows, row_count};

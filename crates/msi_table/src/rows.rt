@@ -5,8 +5,7 @@ ghost use Rattle.msi_text_base.specs.Lists.{tabulated};
 ghost use Rattle.msi_text_base.specs.Results.{OnlyMemory};
 ghost use Rattle.msi_text_base.specs.declared.errors.ErrorKind.TheVariants.{InvalidData};
 ghost use Rattle.msi_table.specs.Cells.{AreStarts, cell_at, widths, row_count as count_of, row_in, rows_in};
-ghost use Rattle.msi_table.specs.Tables.{most_columns};
-ghost use Rattle.msi_table_values.specs.Columns.{types_of};
+ghost use Rattle.msi_table_values.specs.Columns.{most_columns, types_of};
 ghost use Rattle.msi_table_values.specs.Refusals.{FailsWith};
 
 use crate::cells::{read_cell, width};

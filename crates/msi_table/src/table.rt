@@ -2,8 +2,8 @@
 
 ghost use Rattle.std.specs.Prelude.{◌≡◌, ◌≤◌, IfOk, length, option_copied};
 ghost use Rattle.msi_text_base.specs.Results.{OnlyMemory};
-ghost use Rattle.msi_table_values.specs.Columns.{column_named, has_column as has_one, key_places};
-ghost use Rattle.msi_table.specs.Tables.{long_table_of, most_columns, table_of};
+ghost use Rattle.msi_table_values.specs.Columns.{column_named, has_column as has_one, key_places, most_columns};
+ghost use Rattle.msi_table.specs.Tables.{long_table_of, table_of};
 
 use msi_table_values::column::Column;
 use msi_table_values::parts::{column_index, copied_columns, has_column};
@@ -35,7 +35,8 @@ impl Drop for Table {
 
 impl Model for Table {
     ghost use Rattle.std.specs.Prelude.{◌≤◌, length};
-    ghost use Rattle.msi_table.specs.Tables.{TableDef, most_columns};
+    ghost use Rattle.msi_table.specs.Tables.{TableDef};
+    ghost use Rattle.msi_table_values.specs.Columns.{most_columns};
 
     ghost Value = { TableDef };
 

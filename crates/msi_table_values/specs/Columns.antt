@@ -28,6 +28,10 @@ greatest_16 = 32767
 abbrev pub greatest_32 : ℕ
 greatest_32 = 2147483647
 
+-- the numbers of a table's columns are stored in 16 bits
+abbrev pub most_columns : ℕ
+most_columns = greatest_16
+
 -- a column as a builder begins it: nothing is set, and no end has named a type
 abbrev pub begun_column : List ℕ → ColumnDef
 begun_column name = record {

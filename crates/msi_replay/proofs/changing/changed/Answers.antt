@@ -10,7 +10,7 @@ use Rattle.msi_database_changes.specs.Update as updates
 use Rattle.std.specs.Prelude.{◌++◌, [], ◌∷◌, not, string_bytes}
 use Rattle.msi_text_base.specs.declared.errors.ErrorKind.TheVariants.{NotFound}
 use Rattle.msi_text_base.specs.Refusals.{Refusals}
-use Rattle.msi_database_schema.specs.Keys.{stream_key}
+use Rattle.msi_database_system.specs.Keys.{stream_key}
 use Rattle.msi_database_storage.specs.Streams.{without_stream}
 use Rattle.msi.specs.State.{State, parts_of}
 use Rattle.msi.specs.Calls as calls

@@ -1,7 +1,7 @@
 use Rattle.std.proofs.Common.{◌≡◌, ◌∙◌, ap, sym, chars, false, true}
 use Rattle.std.specs.Prelude.{Some, None, if◌then◌else◌}
 use Rattle.msi_container_format.proofs.AcceptedNamesLemmas.{accepted_named}
-use Rattle.msi_database_schema.specs.Keys.{is_stream_name, stream_key}
+use Rattle.msi_database_system.specs.Keys.{is_stream_name, stream_key}
 use Rattle.msi_streams.proofs.keys.accepted_key.Goals as goal
 
 pub returns : goal.returns

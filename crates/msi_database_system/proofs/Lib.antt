@@ -1,0 +1,4 @@
+-- The lemmas of this crate.
+pub mod DescriptionLemmas
+pub mod KeyLemmas
+pub mod NamesLemmas

@@ -1,0 +1,4 @@
+-- The words of this crate.
+pub mod Keys
+pub mod System
+pub mod Description
