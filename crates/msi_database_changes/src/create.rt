@@ -14,6 +14,7 @@ ghost use Rattle.msi_database_changes.specs.Create.{new_table_refusals};
 
 use crate::reasons;
 use msi_database_system::names::is_table_name;
+use msi_table_cells::cell::ValueRef;
 use msi_table_values::column::{Column, ColumnType};
 use msi_text_base::errors::{Error, ErrorKind, Reason};
 use msi_text_base::text::{Items, Text};
