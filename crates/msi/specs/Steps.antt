@@ -10,7 +10,7 @@ use Rattle.msi_summary_properties.specs.Properties.{Properties}
 use Rattle.msi_container_format.specs.declared.contents.Contents.{Contents}
 use Rattle.msi_container_write.specs.Layout.{layout, refuses}
 use Rattle.msi_text_base.specs.Refusals.{Refusals, first_refusal, unless_refused, or_refused, ◌>>=◌}
-use Rattle.msi_query_joins.specs.Selection.{relation_of}
+use Rattle.msi_query.specs.Selection.{relation_of}
 use Rattle.msi_database_system.specs.Keys.{is_stream_name, stream_key, signature_key, signature_ex_key}
 use Rattle.msi_database_changes.specs.Database.{Database, has_table, values_of}
 use Rattle.msi_database_changes.specs.Changes.{Change, sound_refusal}

@@ -4,13 +4,13 @@ ghost use Rattle.std.specs.Prelude.{◌≡◌, ◌||◌, IfErr, IfOk, IfSome, No
 ghost use Rattle.std.specs.Borrow.{sem};
 ghost use Rattle.std.specs.Option.{option_copied};
 ghost use Rattle.msi_text_base.specs.Refusals.{AnswersWith, IsRefusal, first_refusal, unless_refused};
-ghost use Rattle.msi_query_joins.specs.Rows.{columns_read};
-ghost use Rattle.msi_query_joins.specs.Selection.{early_refusal, relation_of};
+ghost use Rattle.msi_query.specs.Rows.{columns_read};
+ghost use Rattle.msi_query.specs.Selection.{early_refusal, relation_of};
 ghost use Rattle.msi_database_changes.specs.Database.{has_table as has_one, is_sound, table_at, values_of};
 ghost use Rattle.msi_database.specs.Keeping.{IsKeptDatabase};
 ghost use Rattle.msi_database.specs.Listed.{table_def_at, tables_listed};
 ghost use Rattle.msi.specs.Lending.{LendsSummary};
-ghost use Rattle.msi_query_joins.specs.Selected.{Selects};
+ghost use Rattle.msi_query.specs.Selected.{Selects};
 ghost use Rattle.msi.specs.State.{parts_of};
 ghost use Rattle.msi.specs.Steps.{storage_refusal};
 ghost use Rattle.msi.specs.Whole.{IsOpen, with_open, with_state};

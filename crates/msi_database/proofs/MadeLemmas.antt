@@ -10,7 +10,7 @@ use Rattle.msi_table_cells.specs.declared.cell.ValueRef.{ValueRef}
 use Rattle.msi_table_values.specs.Columns.{ColumnDef}
 use Rattle.msi_query.specs.Queries.{InsertQuery, UpdateQuery, DeleteQuery}
 use Rattle.msi_text_base.specs.Refusals.{Refusals, first_refusal, or_refused, unless, unless_refused, ◌>>=◌}
-use Rattle.msi_query_joins.specs.Selection.{has_columns, condition_names}
+use Rattle.msi_query.specs.Selection.{has_columns, condition_names}
 use Rattle.msi_table_cells.specs.TableCells.{TableCells}
 use Rattle.msi_database_system.specs.System.{is_system_table, tables_name, columns_name, validation_name}
 use Rattle.msi_database_system.specs.Description.{column_rows, validation_rows}

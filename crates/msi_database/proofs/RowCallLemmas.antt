@@ -16,7 +16,7 @@ use Rattle.msi_query.specs.Queries.{InsertQuery, UpdateQuery, DeleteQuery}
 use Rattle.msi_query_expressions.specs.Conditions.{meets}
 use Rattle.msi_text_base.specs.Refusals.{first_refusal, unless_refused}
 use Rattle.msi_table_cells.specs.TableCells.{TableCells}
-use Rattle.msi_query_joins.specs.Selection.{has_columns, condition_names}
+use Rattle.msi_query.specs.Selection.{has_columns, condition_names}
 use Rattle.msi_database_system.specs.Keys.{is_table_name, table_key}
 use Rattle.msi_database_system.specs.System.{is_system_table}
 use Rattle.msi_database_schema.proofs.RowOrderLemmas.{names_total}

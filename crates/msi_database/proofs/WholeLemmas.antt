@@ -14,7 +14,7 @@ use Rattle.msi_table.specs.Tables.{TableDef}
 use Rattle.msi_text_base.specs.Refusals.{or_refused, ◌>>=◌}
 use Rattle.msi_table_cells.specs.TableCells.{TableCells}
 use Rattle.msi_table.specs.Rows.{TableRows, table_rows}
-use Rattle.msi_query_joins.specs.Rows.{RelationCells, cells_of, whole_table}
+use Rattle.msi_query.specs.Rows.{RelationCells, cells_of, whole_table}
 use Rattle.msi_database_changes.specs.Database.{table_at, Tables}
 use Rattle.msi_database_storage.specs.Streams.{Streams, stored_rows}
 use Rattle.msi_database_storage.specs.Kept.{table_kept, table_kept_at, database_kept, AreAsLong}

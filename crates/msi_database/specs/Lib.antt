@@ -19,8 +19,8 @@ pub use Rattle.msi_table_cells.specs.TableCells
 pub use Rattle.msi_table.specs.Tables
 pub use Rattle.msi_table.specs.Rows
 pub use Rattle.msi_text_base.specs.Refusals
-pub use Rattle.msi_query_joins.specs.Selection
-pub use Rattle.msi_query_joins.specs.Rows as SelectedRows
+pub use Rattle.msi_query.specs.Selection
+pub use Rattle.msi_query.specs.Rows as SelectedRows
 pub use Rattle.msi_database_system.specs.Keys
 pub use Rattle.msi_database_system.specs.System
 pub use Rattle.msi_database_schema.specs.Schema

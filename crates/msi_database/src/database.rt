@@ -4,9 +4,9 @@ ghost use Rattle.std.specs.Prelude.{◌≡◌, Err, IfErr, IfOk, Ok, OnErr, OnOk
 ghost use Rattle.std.specs.FinMap.{entries};
 ghost use Rattle.msi_text_pool_base.specs.Pool.{unindexed};
 ghost use Rattle.msi_text_base.specs.Refusals.{AnswersWith, IsRefusal, unless_refused};
-ghost use Rattle.msi_query_joins.specs.Rows.{cells_of, columns_read, whole_table};
-ghost use Rattle.msi_query_joins.specs.Selection.{early_refusal, relation_of};
-ghost use Rattle.msi_query_joins.specs.Selected.{Selects};
+ghost use Rattle.msi_query.specs.Rows.{cells_of, columns_read, whole_table};
+ghost use Rattle.msi_query.specs.Selection.{early_refusal, relation_of};
+ghost use Rattle.msi_query.specs.Selected.{Selects};
 ghost use Rattle.msi_database_changes.specs.Changes.{sound_refusal};
 ghost use Rattle.msi_database_changes.specs.Database.{has_table as has_one, is_sound as is_sound_one, table_at};
 ghost use Rattle.msi_database_changes.specs.Database.{values_of};

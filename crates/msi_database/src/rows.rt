@@ -4,7 +4,7 @@ ghost use Rattle.std.specs.Prelude.{◌≡◌, IfErr, IfOk, None, OnErr, OnOk, S
 ghost use Rattle.msi_text_base.specs.Results.{OnlyMemory};
 ghost use Rattle.msi_text_pool_base.specs.Pool.{unindexed};
 ghost use Rattle.msi_text_base.specs.Refusals.{AnswersFirst, IsRefusal, first_refusal};
-ghost use Rattle.msi_query_joins.specs.Selection.{condition_names, has_columns};
+ghost use Rattle.msi_query.specs.Selection.{condition_names, has_columns};
 ghost use Rattle.msi_database_system.specs.System.{is_system_table as is_of_system};
 ghost use Rattle.msi_database_changes.specs.Database.{is_sound as is_sound_one};
 ghost use Rattle.msi_database_changes.specs.Delete as deletes;

@@ -11,7 +11,7 @@ use Rattle.std.proofs.lemmas.Bool.{and_parts, false_from_ne_true, not-false}
 use Rattle.msi_text_base.specs.Lists.{list_cmp}
 use Rattle.msi_text_base.proofs.BoolLemmas.{yes_is_no}
 use Rattle.msi_text_base.specs.Refusals.{first_refusal}
-use Rattle.msi_query_joins.specs.Selection.{TableValues}
+use Rattle.msi_query.specs.Selection.{TableValues}
 use Rattle.msi_table_values.specs.declared.value.Value.{Value}
 use Rattle.msi_table_cells.specs.declared.cell.ValueRef.{ValueRef}
 use Rattle.msi_table_values.specs.Columns.{ColumnDef}
@@ -20,7 +20,7 @@ use Rattle.msi_table_cells.specs.KeyOrder.{key_of}
 use Rattle.msi_database_system.specs.System.{columns_name, tables_name, validation_columns, validation_name}
 use Rattle.msi_database_changes.specs.Database.{Database, are_alike, has_table, is_sound, rows_of, table_at, validation_is_standard, with_table}
 use Rattle.msi_table_cells.specs.TableCells.{TableCells}
-use Rattle.msi_query_joins.specs.Rows.{table_values}
+use Rattle.msi_query.specs.Rows.{table_values}
 use Rattle.msi_database_changes.specs.Insert.{keys_of}
 use Rattle.msi_database_changes.specs.Changes.{sound_refusal}
 use Rattle.msi_database_changes.specs.Laws.{OthersStay, rows_at}

@@ -13,7 +13,7 @@ use Rattle.msi_table_values.specs.declared.value.Value.{Value}
 use Rattle.msi_table_cells.specs.declared.cell.ValueRef.{ValueRef}
 use Rattle.msi_table_values.specs.Columns.{ColumnDef}
 use Rattle.msi_table_cells.specs.CellValues.{row_values}
-use Rattle.msi_query_joins.specs.Selection.{TableValues}
+use Rattle.msi_query.specs.Selection.{TableValues}
 use Rattle.msi_table_cells.specs.KeyOrder.{key_of, same_key}
 use Rattle.msi_database_changes.specs.Database.{Database, table_at}
 use Rattle.msi_table_cells.specs.TableCells.{TableCells}

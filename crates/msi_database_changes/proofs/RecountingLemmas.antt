@@ -15,7 +15,7 @@ use Rattle.msi_text_pool_base.proofs.RecountingLemmas.{length-with_counts, many_
 use Rattle.msi_table.proofs.ReadRowsLemmas.{length-tabulated}
 use Rattle.msi_table_cells.specs.KeyOrder.{key_of, same_key}
 use Rattle.msi_text_base.specs.Refusals.{first_refusal}
-use Rattle.msi_query_joins.specs.Selection.{TableValues}
+use Rattle.msi_query.specs.Selection.{TableValues}
 use Rattle.msi_database_changes.specs.Database.{Database, CountsAreExact, cells_naming, counts_suffice, is_sound, is_well_formed, named_numbers, names_stay_in_pool, pool_fits_width, table_at, tables_are_readable, validation_is_standard, values_of, with_places}
 use Rattle.msi_database_changes.specs.Laws.{KeysAreDistinct}
 use Rattle.msi_database_changes.specs.Recounting.{cell_counts, counts_changed, counts_fit, IsRecounted, recount_refusals, recounted, RecountsMakeExact}

@@ -7,7 +7,7 @@ use Rattle.msi_text_base.specs.declared.errors.ErrorKind.TheVariants.{AlreadyExi
 use Rattle.msi_text_base.specs.Lists.{has_pair}
 use Rattle.msi_text_pool_base.specs.Pool.{Place}
 use Rattle.msi_text_base.specs.Refusals.{IsRefusal, Refusals, first_refusal, unless, unless_refused}
-use Rattle.msi_query_joins.specs.Selection.{condition_names, has_columns}
+use Rattle.msi_query.specs.Selection.{condition_names, has_columns}
 use Rattle.msi_table_values.specs.declared.value.Value.{Value}
 use Rattle.msi_table_cells.specs.declared.cell.ValueRef.{ValueRef}
 use Rattle.msi_table_values.specs.Columns.{ColumnDef}

@@ -10,7 +10,7 @@ use Rattle.msi_text_base.specs.Lists.{list_cmp}
 use Rattle.msi_text_base.proofs.OptionLemmas.{map_some}
 use Rattle.msi_text_pool_base.specs.Pool.{Place}
 use Rattle.msi_text_base.specs.Refusals.{Refusals, first_refusal, or_refused, unless_refused, ◌>>=◌}
-use Rattle.msi_query_joins.specs.Selection.{condition_names, has_columns}
+use Rattle.msi_query.specs.Selection.{condition_names, has_columns}
 use Rattle.msi_query.specs.Queries.{DeleteQuery, UpdateQuery}
 use Rattle.msi_database_system.specs.System.{columns_name, is_system_table, tables_name, validation_name}
 use Rattle.msi_database_system.specs.Keys.{is_table_name}

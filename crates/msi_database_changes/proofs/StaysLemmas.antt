@@ -8,10 +8,10 @@ use Rattle.msi_text_pool_base.specs.Pool.{Place}
 use Rattle.msi_text_base.specs.Lists.{list_cmp}
 use Rattle.msi_table_cells.specs.declared.cell.ValueRef.{ValueRef}
 use Rattle.msi_table_cells.specs.CellValues.{row_values}
-use Rattle.msi_query_joins.specs.Selection.{TableValues}
+use Rattle.msi_query.specs.Selection.{TableValues}
 use Rattle.msi_database_changes.specs.Database.{Database, table_at, values_of, is_sound}
 use Rattle.msi_table_cells.specs.TableCells.{TableCells}
-use Rattle.msi_query_joins.specs.Rows.{table_values}
+use Rattle.msi_query.specs.Rows.{table_values}
 use Rattle.msi_database_changes.specs.Changes.{Change}
 use Rattle.msi_database_changes.specs.Drop.{table_released}
 use Rattle.msi_database_changes.specs.Laws.{rows_at}

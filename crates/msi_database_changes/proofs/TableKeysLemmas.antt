@@ -13,7 +13,7 @@ use Rattle.msi_table_values.specs.declared.value.Value.TheVariants.{Str}
 use Rattle.msi_table_cells.specs.declared.cell.ValueRef.{ValueRef}
 use Rattle.msi_table_values.specs.Columns.{ColumnDef}
 use Rattle.msi_table_cells.specs.TableCells.{TableCells}
-use Rattle.msi_query_joins.specs.Rows.{table_values}
+use Rattle.msi_query.specs.Rows.{table_values}
 use Rattle.msi_database_system.specs.Description.{column_rows, validation_rows}
 use Rattle.msi_database_system.specs.System.{columns_name, tables_name, validation_name}
 use Rattle.msi_database_changes.specs.Database.{Database, table_at, with_table, is_sound}

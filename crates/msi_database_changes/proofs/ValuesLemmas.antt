@@ -10,10 +10,10 @@ use Rattle.msi_text_base.specs.Lists.{list_cmp}
 use Rattle.msi_table_values.specs.declared.value.Value.{Value}
 use Rattle.msi_table_cells.specs.declared.cell.ValueRef.{ValueRef}
 use Rattle.msi_table_cells.specs.CellValues.{row_values}
-use Rattle.msi_query_joins.specs.Selection.{TableValues}
+use Rattle.msi_query.specs.Selection.{TableValues}
 use Rattle.msi_database_changes.specs.Database.{Database, table_at, rows_of}
 use Rattle.msi_table_cells.specs.TableCells.{TableCells}
-use Rattle.msi_query_joins.specs.Rows.{table_values}
+use Rattle.msi_query.specs.Rows.{table_values}
 use Rattle.msi_database_cells.specs.Texts.{cell_put, in_turn}
 use Rattle.msi_database_changes.specs.Laws.{rows_at, OthersStay}
 use Rattle.msi_database_changes.proofs.TurnLemmas.{TextsStay, news_stay}

@@ -12,11 +12,11 @@ use Rattle.msi_table_cells.specs.declared.cell.ValueRef.{ValueRef}
 use Rattle.msi_table_values.specs.declared.column.ColumnType.{ColumnType}
 use Rattle.msi_table_values.specs.Columns.{ColumnDef}
 use Rattle.msi_table.specs.Census.{numbers_of_rows}
-use Rattle.msi_query_joins.specs.Selection.{TableValues}
+use Rattle.msi_query.specs.Selection.{TableValues}
 use Rattle.msi_database_system.specs.Keys.{is_table_name}
 use Rattle.msi_database_system.specs.System.{validation_name, validation_columns}
 use Rattle.msi_table_cells.specs.TableCells.{TableCells}
-use Rattle.msi_query_joins.specs.Rows.{table_values}
+use Rattle.msi_query.specs.Rows.{table_values}
 use Rattle.std.specs.Option as options
 use Rattle.msi_table_values.specs.declared.column.ColumnType.TheVariants as coltype
 

@@ -16,7 +16,7 @@ use Rattle.msi_table_cells.specs.CellValues.{row_values}
 use Rattle.msi_table_cells.specs.KeyOrder.{key_of, same_key}
 use Rattle.msi_query.specs.Queries.{UpdateQuery}
 use Rattle.msi_query_expressions.specs.Conditions.{meets}
-use Rattle.msi_query_joins.specs.Selection.{has_columns, condition_names}
+use Rattle.msi_query.specs.Selection.{has_columns, condition_names}
 use Rattle.msi_database_system.specs.System.{validation_name, is_schema_table}
 use Rattle.msi_database_changes.specs.Database.{Database, table_at, rows_of}
 use Rattle.msi_table_cells.specs.TableCells.{TableCells}

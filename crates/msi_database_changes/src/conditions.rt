@@ -1,7 +1,7 @@
 //! The names in conditions.
 
 ghost use Rattle.std.specs.Prelude.{◌≡◌, option_copied};
-ghost use Rattle.msi_query_joins.specs.Selection.{condition_names, has_columns};
+ghost use Rattle.msi_query.specs.Selection.{condition_names, has_columns};
 
 use msi_query_expressions::expr::Expr;
 use msi_query_expressions::parts::knows_names;

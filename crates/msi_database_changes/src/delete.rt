@@ -4,7 +4,7 @@ ghost use Rattle.std.specs.Prelude.{◌≡◌, ◌∷◌, [], not, true, false, 
 ghost use Rattle.msi_text_base.specs.Results.{OnlyMemory};
 ghost use Rattle.msi_text_base.specs.declared.errors.ErrorKind.TheVariants.{InvalidInput};
 ghost use Rattle.msi_text_base.specs.Refusals.{unless_refused};
-ghost use Rattle.msi_query_joins.specs.Selection.{condition_names, has_columns};
+ghost use Rattle.msi_query.specs.Selection.{condition_names, has_columns};
 ghost use Rattle.msi_database_changes.specs.Delete.{rows_meeting};
 ghost use Rattle.msi_database_changes.specs.Insert.{table_with};
 ghost use Rattle.msi_database_cells.specs.Texts.{in_use, rows_released};

@@ -2,3 +2,4 @@
 pub mod ListedLemmas
 pub mod QueryTextLemmas
 pub mod QueryTextRows
+pub mod SelectionLemmas

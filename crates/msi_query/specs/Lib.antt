@@ -4,6 +4,9 @@ pub mod QueryCode
 pub mod QueryTrees
 pub mod QueryTexts
 pub mod Utf8Queries
+pub mod Selection
+pub mod Rows
+pub mod Selected
 -- The words of the crates below, which public clauses cite.
 pub use Rattle.msi_text_base.specs.declared.errors.ErrorKind
 pub use Rattle.msi_table_values.specs.declared.value.Value

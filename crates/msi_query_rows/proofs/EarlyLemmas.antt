@@ -12,8 +12,8 @@ use Rattle.msi_query_operators.specs.declared.joins.JoinKind.{JoinKind}
 use Rattle.msi_query.specs.Queries.{Clauses, Query, table, join}
 use Rattle.msi_text_base.specs.Refusals.{AnswersWith, IsRefusal, earlier, first_refusal, refusal_of, unless, unless_refused, or_refused, ◌>>=◌}
 use Rattle.msi_table_cells.specs.TableCells.{TableCells}
-use Rattle.msi_query_joins.specs.Rows.{columns_read, rows_values, table_values, tables_values}
-use Rattle.msi_query_joins.specs.Selection.{Relation, clause_refusals, early_refusal, is_table, joined_narrowed, narrowed, relation_of, selected}
+use Rattle.msi_query.specs.Rows.{columns_read, rows_values, table_values, tables_values}
+use Rattle.msi_query.specs.Selection.{Relation, clause_refusals, early_refusal, is_table, joined_narrowed, narrowed, relation_of, selected}
 use Rattle.msi_text_base.proofs.RefusalLemmas.{err_passed}
 
 -- ONE TABLE

@@ -27,9 +27,9 @@ use Rattle.msi_query_expressions.specs.Equated.{PassesWithEqual}
 use Rattle.msi_query_expressions.specs.Expressions.{Expression}
 use Rattle.msi_query_rows.specs.Index.{PassWithEqual, has_value, has_width, in_place_order, place_cmp, value_there}
 use Rattle.msi_table.specs.Rows.{cell_at}
-use Rattle.msi_query_joins.specs.Rows.{rows_values}
-use Rattle.msi_query_joins.specs.Selection.{or_nulls, pairs_of, rows_of_row}
-use Rattle.msi_query_joins.proofs.SelectionLemmas.{value_of_place}
+use Rattle.msi_query.specs.Rows.{rows_values}
+use Rattle.msi_query.specs.Selection.{or_nulls, pairs_of, rows_of_row}
+use Rattle.msi_query.proofs.SelectionLemmas.{value_of_place}
 
 -- Filters that a stable sort leaves as they are: of what they keep, none is below another
 module _ {X : Type 0} (cmp : X → X → Ordering) (p : X → Bool) (tied : (x y : X) → p x ≡ true → p y ≡ true → is_lt (cmp y x) ≡ false) where

@@ -14,8 +14,8 @@ use Rattle.msi_query_expressions.specs.Conditions.{RowFilterDef, meets}
 use Rattle.msi_query.specs.Queries.{Clauses, Query, table, join}
 use Rattle.msi_text_base.specs.Refusals.{IsRefusal, unless_refused, ◌>>=◌}
 use Rattle.msi_table_cells.specs.TableCells.{TableCells}
-use Rattle.msi_query_joins.specs.Rows.{RelationCells, relation_values, rows_values, tables_values, whole_table}
-use Rattle.msi_query_joins.specs.Selection.{Relation, TableValues, narrowed, relation_of, clause_refusals, joined, has_columns, joined_columns, joined_narrowed, rows_of_row, selected}
+use Rattle.msi_query.specs.Rows.{RelationCells, relation_values, rows_values, tables_values, whole_table}
+use Rattle.msi_query.specs.Selection.{Relation, TableValues, narrowed, relation_of, clause_refusals, joined, has_columns, joined_columns, joined_narrowed, rows_of_row, selected}
 use Rattle.msi_text_base.proofs.RefusalLemmas.{first_holds, first_passes, refusals-Err, refusals-Ok}
 use Rattle.msi_query_rows.proofs.WholeTableLemmas.{table_goes_on}
 

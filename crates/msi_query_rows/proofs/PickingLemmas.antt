@@ -17,11 +17,11 @@ use Rattle.msi_table.specs.Rows.{AreAsWide, AreRowNumbers, RowsDef, TableRows, r
 use Rattle.msi_query_expressions.specs.Expressions.{Expression}
 use Rattle.msi_query_expressions.specs.Conditions.{meets}
 use Rattle.msi_query.specs.Queries.{Clauses}
-use Rattle.msi_query_joins.specs.Rows.{RelationCells, cells_of, relation_values, rows_values}
-use Rattle.msi_query_joins.specs.Selection.{Relation, clause_refusals, narrowed, selected}
-use Rattle.msi_query_joins.proofs.SelectionLemmas.{projected_is}
+use Rattle.msi_query.specs.Rows.{RelationCells, cells_of, relation_values, rows_values}
+use Rattle.msi_query.specs.Selection.{Relation, clause_refusals, narrowed, selected}
+use Rattle.msi_query.proofs.SelectionLemmas.{projected_is}
 use Rattle.msi_query_rows.specs.Picking.{columns_picked, places_picked}
-use Rattle.msi_query_joins.specs.Selected.{Selects}
+use Rattle.msi_query.specs.Selected.{Selects}
 use Rattle.msi_query_rows.proofs.RefusedLemmas.{narrowed_given}
 use Rattle.msi_query_rows.proofs.WidthLemmas.{narrowed_is_wide}
 

@@ -10,8 +10,8 @@ use Rattle.msi_query_expressions.specs.Expressions.{Expression}
 use Rattle.msi_query.specs.Queries.{Clauses, Query, table, join}
 use Rattle.msi_text_base.specs.Refusals.{IsRefusal, unless_refused, ◌>>=◌}
 use Rattle.msi_table_cells.specs.TableCells.{TableCells}
-use Rattle.msi_query_joins.specs.Rows.{RelationCells, relation_values, tables_values, whole_table}
-use Rattle.msi_query_joins.specs.Selection.{Relation, TableValues, narrowed, relation_of, clause_refusals, joined_narrowed, selected}
+use Rattle.msi_query.specs.Rows.{RelationCells, relation_values, tables_values, whole_table}
+use Rattle.msi_query.specs.Selection.{Relation, TableValues, narrowed, relation_of, clause_refusals, joined_narrowed, selected}
 use Rattle.msi_text_base.proofs.RefusalLemmas.{refusals-Err, refusals-Ok}
 use Rattle.msi_query_rows.proofs.WholeTableLemmas.{table_goes_on}
 

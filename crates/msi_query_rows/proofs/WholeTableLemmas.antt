@@ -6,9 +6,9 @@ use Rattle.msi_text_pool_base.specs.Pool.{Place}
 use Rattle.msi_text_base.specs.Refusals.{or_refused, ◌>>=◌}
 use Rattle.msi_table_cells.specs.declared.cell.ValueRef.{ValueRef}
 use Rattle.msi_table_values.specs.Columns.{ColumnDef}
-use Rattle.msi_query_joins.specs.Selection.{Relation}
+use Rattle.msi_query.specs.Selection.{Relation}
 use Rattle.msi_table_cells.specs.TableCells.{TableCells}
-use Rattle.msi_query_joins.specs.Rows.{relation_values, rows_values, table_values, tables_values, whole_table}
+use Rattle.msi_query.specs.Rows.{relation_values, rows_values, table_values, tables_values, whole_table}
 
 readable : {B : Type 0} (places : List Place) (name : List ℕ) (f : Relation → Result B ErrorKind) (columns : List ColumnDef) (rows : Option (List (List ValueRef)))
     → (or_refused InvalidData (option_map (rows_values places) rows) >>= λ rows. f (record { name = name; columns = columns; rows = rows }))

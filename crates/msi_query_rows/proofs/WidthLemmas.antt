@@ -22,8 +22,8 @@ use Rattle.msi_query_expressions.specs.Expressions.{Expression, names_in}
 use Rattle.msi_query_expressions.specs.Conditions.{meets}
 use Rattle.msi_query.specs.Queries.{Clauses}
 use Rattle.msi_text_base.specs.Refusals.{unless_refused}
-use Rattle.msi_query_joins.specs.Rows.{RelationCells, relation_values, rows_values}
-use Rattle.msi_query_joins.specs.Selection.{Relation, condition_names, has_columns, joined, joined_columns, joined_narrowed, narrowed, nullable_if, or_nulls, pairs_of, prefixed, projected_row, rows_of_row, selected}
+use Rattle.msi_query.specs.Rows.{RelationCells, relation_values, rows_values}
+use Rattle.msi_query.specs.Selection.{Relation, condition_names, has_columns, joined, joined_columns, joined_narrowed, narrowed, nullable_if, or_nulls, pairs_of, prefixed, projected_row, rows_of_row, selected}
 use Rattle.msi_query_rows.specs.Width.{HasWidth, ValuesAreWide}
 
 -- rows of cells are as wide as the rows that they stand for

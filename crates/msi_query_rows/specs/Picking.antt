@@ -2,7 +2,7 @@
 use Rattle.std.specs.Prelude.{ℕ, List, map, length, Option, Some, None, ◌==◌, if◌then◌else◌}
 use Rattle.std.specs.List.{filter_map}
 use Rattle.msi_table_values.specs.Columns.{ColumnDef, column_index}
-use Rattle.msi_query_joins.specs.Rows.{column_at}
+use Rattle.msi_query.specs.Rows.{column_at}
 
 -- where the columns of the names stand; no names pick all
 abbrev pub places_picked : List (List ℕ) → List ColumnDef → Option (List (Option ℕ))

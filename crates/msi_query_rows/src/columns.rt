@@ -6,9 +6,9 @@ ghost use Rattle.std.specs.List.{filter_map};
 ghost use Rattle.msi_text_pool_base.specs.Pool.{Place};
 ghost use Rattle.msi_text_base.specs.Results.{OnlyMemory};
 ghost use Rattle.msi_table_values.specs.Columns.{column_index as index_of};
-ghost use Rattle.msi_query_joins.specs.Rows.{column_at as column_there, relation_values};
-ghost use Rattle.msi_query_joins.specs.Selection.{condition_names, has_columns as has_each};
-ghost use Rattle.msi_query_joins.specs.Selection.{joined_columns as joined_by, nullable_if, prefixed as prefixed_by};
+ghost use Rattle.msi_query.specs.Rows.{column_at as column_there, relation_values};
+ghost use Rattle.msi_query.specs.Selection.{condition_names, has_columns as has_each};
+ghost use Rattle.msi_query.specs.Selection.{joined_columns as joined_by, nullable_if, prefixed as prefixed_by};
 
 use crate::relation::Relation;
 use msi_query::query::JoinKind;

@@ -5,15 +5,15 @@ ghost use Rattle.std.specs.List.{flat_map};
 ghost use Rattle.msi_text_base.specs.Results.{OnlyMemory};
 ghost use Rattle.msi_query_expressions.specs.Conditions.{meets};
 ghost use Rattle.msi_query_rows.specs.Index.{PassWithEqual};
-ghost use Rattle.msi_query_joins.specs.Rows.{rows_values};
-ghost use Rattle.msi_query_joins.specs.Selection.{rows_of_row};
+ghost use Rattle.msi_query.specs.Rows.{rows_values};
+ghost use Rattle.msi_query.specs.Selection.{rows_of_row};
 
 use crate::index::{places_asked, rows_with, sort_by_place};
+use crate::joins::{Join, add_row};
 use crate::relation::Relation;
 use msi_query::query::JoinKind;
 use msi_query_expressions::expr::Expr;
 use msi_query_expressions::parts::RowFilter;
-use msi_query_joins::parts::{Join, add_row};
 use msi_table::parts::cell_of;
 use msi_table_cells::cell::ValueRef;
 use msi_table_values::column::Column;

@@ -4,10 +4,12 @@
 mod columns;
 mod index;
 mod joining;
+mod joins;
 mod narrowing;
 mod picking;
 mod reasons;
 mod relation;
+mod rows;
 pub mod selection;
 
 pub use selection::{Tables, select_rows};

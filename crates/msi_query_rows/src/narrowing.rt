@@ -5,8 +5,8 @@ ghost use Rattle.msi_text_base.specs.Results.{OnlyMemory};
 ghost use Rattle.msi_query_expressions.specs.Conditions.{meets};
 ghost use Rattle.msi_text_base.specs.Refusals.{IsRefusal, unless_refused};
 ghost use Rattle.msi_table.specs.Rows.{cells_at};
-ghost use Rattle.msi_query_joins.specs.Rows.{projected_cells, relation_values, rows_values};
-ghost use Rattle.msi_query_joins.specs.Selection.{clause_refusals, narrowed as narrowed_by, selected as selected_by};
+ghost use Rattle.msi_query.specs.Rows.{projected_cells, relation_values, rows_values};
+ghost use Rattle.msi_query.specs.Selection.{clause_refusals, narrowed as narrowed_by, selected as selected_by};
 
 use crate::columns::{columns_of, has_columns, knows_condition, places_of};
 use crate::reasons;

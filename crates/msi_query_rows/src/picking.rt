@@ -5,10 +5,10 @@ ghost use Rattle.msi_text_base.specs.Refusals.{IsRefusal};
 ghost use Rattle.msi_text_base.specs.Results.{OnlyMemory};
 ghost use Rattle.msi_table.specs.Rows.{AreRowNumbers, rows_numbered};
 ghost use Rattle.msi_query_expressions.specs.Conditions.{meets};
-ghost use Rattle.msi_query_joins.specs.Rows.{rows_values};
-ghost use Rattle.msi_query_joins.specs.Selection.{narrowed as narrowed_by};
+ghost use Rattle.msi_query.specs.Rows.{rows_values};
+ghost use Rattle.msi_query.specs.Selection.{narrowed as narrowed_by};
 ghost use Rattle.msi_query_rows.specs.Picking.{columns_picked, places_picked};
-ghost use Rattle.msi_query_joins.specs.Selected.{Selects};
+ghost use Rattle.msi_query.specs.Selected.{Selects};
 
 use crate::columns::{columns_of, places_of};
 use crate::narrowing::refuse_unknown;

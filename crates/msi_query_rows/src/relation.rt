@@ -33,7 +33,7 @@ impl Drop for Relation {
 }
 
 impl Model for Relation {
-    ghost use Rattle.msi_query_joins.specs.Rows.{RelationCells};
+    ghost use Rattle.msi_query.specs.Rows.{RelationCells};
 
     ghost Value = { RelationCells };
 

@@ -5,10 +5,10 @@ ghost use Rattle.msi_table.specs.Rows.{AreAsWide};
 ghost use Rattle.msi_query.specs.QueryTrees.{query_of};
 ghost use Rattle.msi_text_base.specs.Refusals.{AnswersWith, IsRefusal, unless};
 ghost use Rattle.msi_query.specs.Queries.{table};
-ghost use Rattle.msi_query_joins.specs.Rows.{columns_read, relation_values, tables_values, whole_table};
-ghost use Rattle.msi_query_joins.specs.Selection.{early_refusal, is_table as is_one_table, joined_narrowed};
-ghost use Rattle.msi_query_joins.specs.Selection.{relation_of};
-ghost use Rattle.msi_query_joins.specs.Selected.{Selects};
+ghost use Rattle.msi_query.specs.Rows.{columns_read, relation_values, tables_values, whole_table};
+ghost use Rattle.msi_query.specs.Selection.{early_refusal, is_table as is_one_table, joined_narrowed};
+ghost use Rattle.msi_query.specs.Selection.{relation_of};
+ghost use Rattle.msi_query.specs.Selected.{Selects};
 
 use crate::columns::joined_columns;
 use crate::joining::joined_rows;
@@ -33,7 +33,7 @@ use std::alloc::Global;
 pub trait Tables {
     ghost use Rattle.std.specs.Prelude.{ℕ, List, Option};
     ghost use Rattle.msi_table_cells.specs.TableCells.{TableCells};
-    ghost use Rattle.msi_query_joins.specs.Rows.{cells_of, whole_table};
+    ghost use Rattle.msi_query.specs.Rows.{cells_of, whole_table};
 
     /// The columns and the rows of the table of a name.
     ghost table: { Self → List ℕ → Option TableCells };

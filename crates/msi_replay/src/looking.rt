@@ -4,7 +4,7 @@ ghost use Rattle.std.specs.Prelude.{◌≡◌, IfOk, map};
 ghost use Rattle.std.specs.Option.{option_copied};
 ghost use Rattle.msi_text_base.specs.Results.{OnlyMemory};
 ghost use Rattle.msi_table_rows.specs.Row.{RowDef};
-ghost use Rattle.msi_query_joins.specs.Rows.{rows_values};
+ghost use Rattle.msi_query.specs.Rows.{rows_values};
 ghost use Rattle.msi.specs.Calls as calls;
 ghost use Rattle.msi_replay.specs.Sent.{look_up_sent, question_sent};
 ghost use Rattle.msi_replay.specs.Taken.{Takes};

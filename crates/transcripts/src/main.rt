@@ -5,9 +5,24 @@
 //! `transcripts trials FILE..` is what `tools/try-faults` runs: there each call behind `try` may be refused memory.
 #![tactic(auto)]
 
+mod calls;
+mod changes;
+mod commands;
+mod counting;
+mod cursors;
+mod files;
+mod looks;
+mod packages;
+mod pictures;
+mod session;
+mod statements;
+mod summary;
+mod transcript;
+mod trials;
+
+use files::run_files;
 use std::env;
 use std::process::ExitCode;
-use transcripts_calls::run_files;
 use transcripts_words::failure::Failure;
 
 /// Does what the arguments ask for, and returns the exit status.

@@ -1,5 +1,5 @@
 use Rattle.std.proofs.Common.{◌≡◌, ◌++◌, map, take}
-use Rattle.msi_query_joins.specs.Selection.{nullable_if, prefixed}
+use Rattle.msi_query.specs.Selection.{nullable_if, prefixed}
 use Rattle.msi_query_rows.proofs.columns.add_columns.Given as goal
 
 abbrev pub invariant-loop-column : goal.invariant-loop-column

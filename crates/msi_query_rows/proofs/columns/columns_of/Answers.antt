@@ -1,7 +1,7 @@
 use Rattle.std.proofs.Common.{None, ◌++◌, ◌∷◌, [], ap, sym, ◌∙◌}
 use Rattle.std.specs.Prelude.{option_copied}
 use Rattle.msi_table_values.specs.Columns.{ColumnDef}
-use Rattle.msi_query_joins.proofs.SelectionLemmas.{column_kept, no_column_kept}
+use Rattle.msi_query.proofs.SelectionLemmas.{column_kept, no_column_kept}
 use Rattle.msi_query_rows.proofs.columns.columns_of.Goals as goal
 use Rattle.msi_query_rows.proofs.columns.columns_of.Goals.{in-Some+in_ok-clone+in_ok-push, in_default}
 

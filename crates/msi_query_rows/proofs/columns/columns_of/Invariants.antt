@@ -1,6 +1,6 @@
 use Rattle.std.proofs.Common.{◌≡◌, take}
 use Rattle.std.specs.List.{filter_map}
-use Rattle.msi_query_joins.specs.Rows.{column_at}
+use Rattle.msi_query.specs.Rows.{column_at}
 use Rattle.msi_query_rows.proofs.columns.columns_of.Given as goal
 
 abbrev pub invariant-loop-place : goal.invariant-loop-place

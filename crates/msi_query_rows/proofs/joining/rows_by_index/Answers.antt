@@ -1,6 +1,6 @@
 use Rattle.std.proofs.Common.{rules, ◌∙◌}
 use Rattle.msi_query_expressions.specs.Conditions.{meets}
-use Rattle.msi_query_joins.specs.Rows.{rows_values}
+use Rattle.msi_query.specs.Rows.{rows_values}
 use Rattle.msi_query_rows.proofs.IndexLemmas.{row_joined}
 use Rattle.msi_query_rows.proofs.RefusedLemmas.{memory_passed, no_value}
 use Rattle.msi_query_rows.proofs.joining.rows_by_index.Goals as goal

@@ -3,8 +3,8 @@ use Rattle.std.specs.List.{flat_map}
 use Rattle.msi_table_cells.specs.declared.cell.ValueRef.{ValueRef}
 use Rattle.msi_query_expressions.specs.Conditions.{meets}
 use Rattle.msi_query_rows.specs.Index.{in_place_order}
-use Rattle.msi_query_joins.specs.Rows.{rows_values}
-use Rattle.msi_query_joins.specs.Selection.{rows_of_row}
+use Rattle.msi_query.specs.Rows.{rows_values}
+use Rattle.msi_query.specs.Selection.{rows_of_row}
 use Rattle.msi_query_rows.proofs.joining.rows_by_index.Given as goal
 
 abbrev pub invariant-loop-row : goal.invariant-loop-row

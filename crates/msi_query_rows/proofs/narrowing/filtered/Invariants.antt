@@ -1,6 +1,6 @@
 use Rattle.std.proofs.Common.{◌≡◌, filter}
 use Rattle.msi_query_expressions.specs.Conditions.{meets}
-use Rattle.msi_query_joins.specs.Rows.{rows_values}
+use Rattle.msi_query.specs.Rows.{rows_values}
 use Rattle.msi_query_rows.proofs.narrowing.filtered.Given as goal
 
 abbrev pub invariant-loop-row : goal.invariant-loop-row

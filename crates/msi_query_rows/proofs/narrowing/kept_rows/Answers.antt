@@ -1,5 +1,5 @@
-use Rattle.msi_query_joins.specs.Rows.{rows_values}
-use Rattle.msi_query_joins.proofs.SelectionLemmas.{all_kept}
+use Rattle.msi_query.specs.Rows.{rows_values}
+use Rattle.msi_query.proofs.SelectionLemmas.{all_kept}
 use Rattle.msi_query_rows.proofs.narrowing.kept_rows.Goals as goal
 
 pub returns-in-None-clause-ok : goal.returns-in-None-clause-ok

@@ -1,6 +1,6 @@
 use Rattle.std.proofs.Common.{sym, ◌∙◌, rules}
 use Rattle.std.specs.Prelude.{option_copied}
-use Rattle.msi_query_joins.proofs.SelectionLemmas.{projected_answer}
+use Rattle.msi_query.proofs.SelectionLemmas.{projected_answer}
 use Rattle.msi_query_rows.proofs.narrowing.selected.Goals as goal
 
 pub returns-clause-ok : goal.returns-clause-ok

@@ -1,7 +1,7 @@
 use Rattle.std.proofs.Common.{◌≡◌, Some, filter, length, take}
 use Rattle.msi_table.specs.Rows.{AreRowNumbers, rows_numbered}
 use Rattle.msi_query_expressions.specs.Conditions.{meets}
-use Rattle.msi_query_joins.specs.Rows.{rows_values}
+use Rattle.msi_query.specs.Rows.{rows_values}
 use Rattle.msi_query_rows.proofs.picking.filtered_numbers.Given as goal
 
 abbrev pub invariant-loop-i : goal.invariant-loop-i

@@ -1,6 +1,6 @@
 use Rattle.std.proofs.Common.{refl, sym, ◌∙◌}
 use Rattle.msi_query.specs.QueryTrees.{query_of}
-use Rattle.msi_query_joins.specs.Rows.{columns_read}
+use Rattle.msi_query.specs.Rows.{columns_read}
 use Rattle.msi_query_rows.proofs.EarlyLemmas.{clauses_decide, join_behind, left_decides, right_decides, table_lacks}
 use Rattle.msi_query_rows.proofs.selection.+refuse_early.Goals as goal
 

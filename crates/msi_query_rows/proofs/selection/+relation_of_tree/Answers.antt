@@ -1,6 +1,6 @@
 use Rattle.std.proofs.Common.{refl}
 use Rattle.msi_query.specs.QueryTrees.{query_of}
-use Rattle.msi_query_joins.specs.Rows.{tables_values}
+use Rattle.msi_query.specs.Rows.{tables_values}
 use Rattle.msi_query_rows.proofs.JoinLemmas.{join_answer, table_answer}
 use Rattle.msi_query_rows.proofs.RefusedLemmas.{join_fails, left_refused, no_value, right_refused, table_fails, table_refused}
 use Rattle.msi_text_base.proofs.RefusalLemmas.{err_passed}

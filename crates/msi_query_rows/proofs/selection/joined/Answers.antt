@@ -2,8 +2,8 @@ use Rattle.std.proofs.Common.{◌≡◌, List, Some, length, ap, ◌∙◌, rule
 use Rattle.std.specs.List.{flat_map}
 use Rattle.msi_table_values.specs.Columns.{ColumnDef}
 use Rattle.msi_query_expressions.specs.Conditions.{meets}
-use Rattle.msi_query_joins.specs.Rows.{RelationCells, relation_values, rows_values}
-use Rattle.msi_query_joins.specs.Selection.{joined_columns, rows_of_row}
+use Rattle.msi_query.specs.Rows.{RelationCells, relation_values, rows_values}
+use Rattle.msi_query.specs.Selection.{joined_columns, rows_of_row}
 use Rattle.msi_query_rows.proofs.JoinLemmas.{join_refused, clauses_refused, join_narrowed}
 use Rattle.msi_text_base.proofs.RefusalLemmas.{err_passed}
 use Rattle.msi_query_rows.proofs.selection.joined.Goals as goal

@@ -1,7 +1,7 @@
 use Rattle.std.proofs.Common.{sym}
 use Rattle.msi_query.specs.QueryTrees.{query_of}
-use Rattle.msi_query_joins.specs.Rows.{columns_read}
-use Rattle.msi_query_joins.specs.Selection.{early_refusal}
+use Rattle.msi_query.specs.Rows.{columns_read}
+use Rattle.msi_query.specs.Selection.{early_refusal}
 use Rattle.msi_query_rows.proofs.EarlyLemmas.{answered_early, refused_early}
 use Rattle.msi_query_rows.proofs.RefusedLemmas.{no_value}
 use Rattle.msi_query_rows.proofs.selection.select_rows.Goals as goal

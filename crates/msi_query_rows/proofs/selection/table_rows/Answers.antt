@@ -1,6 +1,6 @@
 use Rattle.std.proofs.Common.{refl}
 use Rattle.msi_query.specs.Queries.{table}
-use Rattle.msi_query_joins.specs.Rows.{cells_of}
+use Rattle.msi_query.specs.Rows.{cells_of}
 use Rattle.msi_query_rows.proofs.RefusedLemmas.{table_fails}
 use Rattle.msi_query_rows.proofs.selection.table_rows.Goals as goal
 

@@ -4,7 +4,7 @@ use Rattle.msi_table_values.specs.Columns.{ColumnDef}
 use Rattle.msi_query.specs.Queries.{DeleteQuery}
 use Rattle.msi_text_base.proofs.RefusalLemmas.{err_is, err_passed}
 use Rattle.msi_text_base.specs.Refusals.{Refusals}
-use Rattle.msi_query_joins.specs.Selection.{condition_names, has_columns}
+use Rattle.msi_query.specs.Selection.{condition_names, has_columns}
 use Rattle.msi_database_system.specs.System.{is_system_table}
 use Rattle.msi_database_changes.specs.Delete.{delete_rows, early_delete_refusals}
 use Rattle.msi_database.specs.Listed.{IsKnown}

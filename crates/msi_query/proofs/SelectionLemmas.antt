@@ -20,9 +20,9 @@ use Rattle.msi_query_operators.specs.Joins.{is_left}
 use Rattle.msi_query_expressions.specs.Expressions.{Expression}
 use Rattle.msi_query_expressions.specs.Conditions.{meets, value_in}
 use Rattle.msi_query.specs.Queries.{Clauses}
-use Rattle.msi_query_joins.specs.Selection.{or_nulls, projected_row, selected}
+use Rattle.msi_query.specs.Selection.{or_nulls, projected_row, selected}
 use Rattle.msi_table.specs.Rows.{cell_at, cells_at}
-use Rattle.msi_query_joins.specs.Rows.{RelationCells, column_at, projected_cells, relation_values, rows_values}
+use Rattle.msi_query.specs.Rows.{RelationCells, column_at, projected_cells, relation_values, rows_values}
 
 -- a column that is kept
 pub column_kept : (columns kept new : List ColumnDef) (places : List (Option ℕ)) (i : ℕ) (d : Option ℕ) (c : ColumnDef) → i < length places → column_at columns (get_or places i d) ≡ Some c

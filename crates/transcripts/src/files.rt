@@ -23,7 +23,11 @@ fn run_file(rt: &HostRuntime, file: &str, is_trial: bool) -> Result<bool, Failur
 ///
 /// # Errors
 /// Fails if a file can't be read or isn't a transcript, if printing fails, and if memory is refused.
-pub fn run_files(rt: &HostRuntime, files: &[String], is_trial: bool) -> Result<bool, Failure> {
+pub(crate) fn run_files(
+    rt: &HostRuntime,
+    files: &[String],
+    is_trial: bool,
+) -> Result<bool, Failure> {
     let mut are_expected = true;
     for file in files {
         are_expected &= run_file(rt, file.as_str(), is_trial)?;

@@ -7,30 +7,30 @@ use std::io;
 
 /// Over memory: it takes and gives at most so many bytes a call, and one call fails, or all from one on.
 #[derive(Drop)]
-pub struct Counting {
+pub(crate) struct Counting {
     /// What it holds.
-    pub memory: Memory,
+    pub(crate) memory: Memory,
     /// How many bytes a write takes.
-    pub most: usize,
+    pub(crate) most: usize,
     /// How many bytes a read gives; it gives one at least.
-    pub most_read: usize,
+    pub(crate) most_read: usize,
     /// Which call fails, from 1 on; none for 0.
-    pub failing: usize,
+    pub(crate) failing: usize,
     /// Whether each call behind that one fails, too.
-    pub lasts: bool,
+    pub(crate) lasts: bool,
     /// What that call fails with.
-    pub fault: io::ErrorKind,
+    pub(crate) fault: io::ErrorKind,
     /// How many calls there were.
-    pub calls: usize,
+    pub(crate) calls: usize,
     /// How many of them were writes.
-    pub writes: usize,
+    pub(crate) writes: usize,
     /// Whether a call failed since this was last cleared.
-    pub failed: bool,
+    pub(crate) failed: bool,
 }
 
 impl Counting {
     /// A device over these bytes, whose reads give all that there is room for. Its fault is a broken pipe.
-    pub fn new(bytes: Vec<u8>, most: usize, failing: usize) -> Counting {
+    pub(crate) fn new(bytes: Vec<u8>, most: usize, failing: usize) -> Counting {
         Counting {
             memory: Memory::from_vec(bytes),
             most,

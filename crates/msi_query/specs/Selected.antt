@@ -2,8 +2,8 @@
 use Rattle.std.specs.Prelude.{◌≡◌, Result, Ok, Err}
 use Rattle.msi_text_base.specs.declared.errors.ErrorKind.{ErrorKind}
 use Rattle.msi_table.specs.Rows.{RowsDef}
-use Rattle.msi_query_joins.specs.Rows.{rows_values}
-use Rattle.msi_query_joins.specs.Selection.{Relation}
+use Rattle.msi_query.specs.Rows.{rows_values}
+use Rattle.msi_query.specs.Selection.{Relation}
 
 -- columns and rows of what is selected; its name is not told
 abbrev pub Selects : Result Relation ErrorKind → RowsDef → Type 0

@@ -1,6 +1,6 @@
 use Rattle.std.proofs.Common.{◌≡◌, ◌++◌, replicate}
 use Rattle.msi_table_cells.specs.declared.cell.ValueRef.TheVariants as cell
-use Rattle.msi_query_joins.proofs.rows.with_nulls.Given as goal
+use Rattle.msi_query_rows.proofs.rows.with_nulls.Given as goal
 
 abbrev pub invariant-loop : goal.invariant-loop
 invariant-loop l = record {

@@ -12,7 +12,7 @@ use Rattle.msi_table_cells.specs.CellValues.{row_values}
 use Rattle.msi_text_base.specs.Refusals.{or_refused, ◌>>=◌}
 use Rattle.msi_table_cells.specs.TableCells.{TableCells}
 use Rattle.msi_table.specs.Rows.{TableRows, cells_at}
-use Rattle.msi_query_joins.specs.Selection.{Relation, TableValues}
+use Rattle.msi_query.specs.Selection.{Relation, TableValues}
 
 -- a relation as it is kept
 pub record RelationCells : Type 0 where

@@ -1,9 +1,9 @@
 use Rattle.std.proofs.Common.{◌≡◌, ◌++◌, take}
 use Rattle.msi_table_cells.specs.CellValues.{row_values}
 use Rattle.msi_query_expressions.specs.Conditions.{meets}
-use Rattle.msi_query_joins.specs.Rows.{rows_values}
-use Rattle.msi_query_joins.specs.Selection.{pairs_of}
-use Rattle.msi_query_joins.proofs.joins.add_pairs.Given as goal
+use Rattle.msi_query.specs.Rows.{rows_values}
+use Rattle.msi_query.specs.Selection.{pairs_of}
+use Rattle.msi_query_rows.proofs.joins.add_pairs.Given as goal
 
 abbrev pub invariant-loop-other : goal.invariant-loop-other
 invariant-loop-other l = record {

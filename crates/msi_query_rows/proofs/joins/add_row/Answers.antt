@@ -1,11 +1,11 @@
 use Rattle.std.proofs.Common.{◌≡◌, ◌-◌, length, ap, sym, ◌∙◌, arith}
 use Rattle.msi_table_cells.specs.CellValues.{row_values}
 use Rattle.msi_query_expressions.specs.Conditions.{meets}
-use Rattle.msi_query_joins.specs.Rows.{rows_values}
-use Rattle.msi_query_joins.specs.Selection.{pairs_of}
-use Rattle.msi_query_joins.proofs.SelectionLemmas.{nulls_added, pairs_counted, pairs_stay}
-use Rattle.msi_query_joins.proofs.joins.add_row.Goals as goal
-use Rattle.msi_query_joins.proofs.joins.add_row.Goals.{then-keeps_alone+in_ok-with_nulls+in_ok-push, else-keeps_alone}
+use Rattle.msi_query.specs.Rows.{rows_values}
+use Rattle.msi_query.specs.Selection.{pairs_of}
+use Rattle.msi_query.proofs.SelectionLemmas.{nulls_added, pairs_counted, pairs_stay}
+use Rattle.msi_query_rows.proofs.joins.add_row.Goals as goal
+use Rattle.msi_query_rows.proofs.joins.add_row.Goals.{then-keeps_alone+in_ok-with_nulls+in_ok-push, else-keeps_alone}
 
 pub returns-clause-ok : goal.returns-clause-ok
 returns-clause-ok c =

@@ -4,8 +4,8 @@ ghost use Rattle.std.specs.Prelude.{◌≡◌, ◌++◌, OnOk};
 ghost use Rattle.msi_text_base.specs.Results.{OnlyMemory};
 ghost use Rattle.msi_table_cells.specs.CellValues.{row_values};
 ghost use Rattle.msi_query_expressions.specs.Conditions.{meets};
-ghost use Rattle.msi_query_joins.specs.Rows.{rows_values};
-ghost use Rattle.msi_query_joins.specs.Selection.{pairs_of, rows_of_row};
+ghost use Rattle.msi_query.specs.Rows.{rows_values};
+ghost use Rattle.msi_query.specs.Selection.{pairs_of, rows_of_row};
 
 use crate::rows::{pair, with_nulls};
 use msi_query::query::JoinKind;
@@ -19,10 +19,10 @@ use std::alloc::Global;
 
 /// A join: its kind, its condition on pairs, and how many columns its right side has.
 #[derive(Clone, Copy, Drop)]
-pub struct Join<'a, 'b> {
-    pub kind: JoinKind,
-    pub filter: &'a RowFilter<'b>,
-    pub width: usize,
+pub(crate) struct Join<'a, 'b> {
+    pub(crate) kind: JoinKind,
+    pub(crate) filter: &'a RowFilter<'b>,
+    pub(crate) width: usize,
 }
 
 /// Adds the pairs of a left row with right rows that a filter lets through. No row is made for a pair that is only
@@ -57,7 +57,7 @@ fn add_pairs(
 ///
 /// # Errors
 /// `OutOfMemory`.
-pub fn add_row(
+pub(crate) fn add_row(
     alloc: Global,
     pool: &StringPool,
     join: &Join,

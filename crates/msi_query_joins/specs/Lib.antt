@@ -1,4 +1,0 @@
--- The words of this crate.
-pub mod Selection
-pub mod Rows
-pub mod Selected

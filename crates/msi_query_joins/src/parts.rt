@@ -1,3 +1,0 @@
-//! What the crates above need.
-
-pub use crate::joins::{Join, add_row};
