@@ -11,7 +11,7 @@ ghost use Rattle.msi_database_cells.specs.Texts.{in_use};
 ghost use Rattle.msi_database_cells.specs.Views.{seen_row};
 
 use crate::texts::PoolInUse;
-use msi_query::parts::Assignment;
+use msi_query_expressions::parts::Assignment;
 use msi_table_cells::cell::ValueRef;
 use msi_table_values::column::Column;
 use msi_table_values::parts::{ValueView, column_index};

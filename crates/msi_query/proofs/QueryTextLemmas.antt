@@ -6,7 +6,8 @@ use Rattle.std.specs.declared.fmt.Formatter.{Formatter}
 use Rattle.std.proofs.Output.{displays_on_IsOk_append, displays_on_ok_of_all, displays_on_ok_of_eq}
 use Rattle.msi_table_values.specs.declared.value.Value.{Value}
 use Rattle.msi_query.specs.Queries.{Query}
-use Rattle.msi_query.specs.QueryTexts.{bare_name, listed, or_bracketed, row_text, rows_text, set_text, sets_text, side_text}
+use Rattle.msi_query_expressions.specs.Assignments.{set_text}
+use Rattle.msi_query.specs.QueryTexts.{bare_name, listed, or_bracketed, row_text, rows_text, sets_text, side_text}
 
 -- a side in brackets
 pub side_text-None : (q : Query) (text : Option (List ℕ)) → None ≡ bare_name q → (Some (codes "(") ++? text ++? Some (codes ")")) ≡ side_text q text

@@ -29,4 +29,5 @@ pub use Rattle.msi_query_expressions.specs.RowFilters
 pub use Rattle.msi_query_expressions.specs.Printing
 pub use Rattle.msi_query_expressions.specs.Vocabulary
 pub use Rattle.msi_query_expressions.specs.Utf8Expressions
+pub use Rattle.msi_query_expressions.specs.Assignments
 pub use Rattle.msi_table_values.specs.Utf8Texts

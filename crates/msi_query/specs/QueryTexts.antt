@@ -8,6 +8,7 @@ use Rattle.msi_table_values.specs.declared.value.Value.{Value}
 use Rattle.msi_table_values.specs.Values.{value_text}
 use Rattle.msi_query_operators.specs.declared.joins.JoinKind.{JoinKind}
 use Rattle.msi_query_operators.specs.declared.joins.JoinKind.TheVariants.{Inner, Left}
+use Rattle.msi_query_expressions.specs.Assignments.{set_text}
 use Rattle.msi_query_expressions.specs.Expressions.{Expression}
 use Rattle.msi_query_expressions.specs.Printing.{expression_text}
 use Rattle.msi_query.specs.Queries.{Query, Clauses, table, join, InsertQuery, UpdateQuery, DeleteQuery}
@@ -62,9 +63,6 @@ rows_text (row ∷ rows) = Some (codes " VALUES ") ++? listed (map row_text (row
 
 abbrev pub insert_text : InsertQuery → Option (List ℕ)
 insert_text q = Some (codes "INSERT INTO " ++ q.table) ++? rows_text q.rows
-
-abbrev pub set_text : List ℕ × Value → Option (List ℕ)
-set_text s = Some (s.0 ++ codes " = ") ++? value_text s.1
 
 -- nothing where no column is set
 abbrev pub sets_text : List (List ℕ × Value) → Option (List ℕ)

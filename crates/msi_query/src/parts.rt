@@ -7,9 +7,9 @@ pub use crate::query::clauses::Clauses;
 pub use crate::query::delete::DeleteParts;
 pub use crate::query::insert::{InsertParts, NewRow};
 pub use crate::query::select::SelectTree;
-pub use crate::query::update::{Assignment, UpdateParts};
+pub use crate::query::update::UpdateParts;
 use crate::query::{Delete, Insert, Select, Update};
-pub use msi_query_expressions::parts::{RowFilter, equated_places, knows_names};
+pub use msi_query_expressions::parts::{Assignment, RowFilter, equated_places, knows_names};
 
 /// Returns the tree of a query for rows.
 pub fn select_tree(query: &Select) -> &SelectTree

@@ -11,6 +11,7 @@ pub mod RowFilters
 pub mod Printing
 pub mod Vocabulary
 pub mod Utf8Expressions
+pub mod Assignments
 -- The words of the crate below, which public clauses cite.
 pub use Rattle.msi_query_operators.specs.declared.operators.UnaryOp
 pub use Rattle.msi_query_operators.specs.declared.operators.BinaryOp

@@ -5,6 +5,7 @@ ghost use Rattle.msi_query_expressions.specs.Conditions.{meets};
 ghost use Rattle.msi_query_expressions.specs.Equated.{equated, PassesWithEqual};
 ghost use Rattle.msi_query_expressions.specs.Evaluation.{knows_names as knows_each};
 
+pub use crate::assignment::Assignment;
 use crate::expr::Expr;
 pub use crate::expr::filter::RowFilter;
 use msi_table_values::column::Column;

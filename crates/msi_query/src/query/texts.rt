@@ -10,9 +10,9 @@ ghost use Rattle.msi_query.specs.Utf8Queries.{IsUtf8Clauses, IsUtf8Condition, Is
 use super::clauses::Clauses;
 use super::insert::NewRow;
 use super::select::SelectTree;
-use super::update::Assignment;
 use msi_query_expressions::Expr;
 use msi_query_expressions::laws::expression_texts_are_utf8;
+use msi_query_expressions::parts::Assignment;
 use msi_table_values::laws::{listed_texts_are_utf8, listed_values_are_utf8, value_texts_are_utf8};
 use msi_text_base::laws::texts_are_utf8;
 

@@ -4,13 +4,14 @@ ghost use Rattle.std.specs.Prelude.{◌≡◌, ◌++◌, ◌∷◌, [], IfOk, If
 ghost use Rattle.std.specs.Fmt.{DisplaysOnOk};
 ghost use Rattle.msi_text_base.specs.declared.errors.ErrorKind.TheVariants.{OutOfMemory};
 ghost use Rattle.msi_query.specs.Queries.{narrowed as narrowed_by};
-ghost use Rattle.msi_query.specs.QueryTexts.{set_text, sets_text, update_text};
+ghost use Rattle.msi_query.specs.QueryTexts.{sets_text, update_text};
 ghost use Rattle.msi_query.specs.Utf8Queries.{IsUtf8Update};
 
 use super::narrowed;
 use super::printing::{write_condition, write_list};
 use super::texts::{look_at_condition, look_at_sets};
 use msi_query_expressions::Expr;
+use msi_query_expressions::parts::Assignment;
 use msi_table_values::value::Value;
 use msi_text_base::errors::Error;
 use msi_text_base::laws::texts_are_utf8;
@@ -18,46 +19,6 @@ use msi_text_base::text::{IntoText, Items, Text};
 use std::alloc::Global;
 use std::fmt;
 use std::marker::Model;
-
-/// A column and its new value.
-#[derive(Drop)]
-pub struct Assignment {
-    column: Text,
-    value: Value,
-}
-
-impl Model for Assignment {
-    ghost use Rattle.std.specs.Prelude.{List, ℕ};
-    ghost use Rattle.msi_table_values.specs.declared.value.Value.{Value as ValueOf};
-
-    ghost Value = { List ℕ × ValueOf };
-
-    ghost view = { λ s. (s.column, s.value) };
-}
-
-impl Assignment {
-    /// Returns the column's name.
-    pub fn column(&self) -> &str
-        ensures { result.now ≡ self.now.0 }
-    {
-        self.column.as_str()
-    }
-
-    /// Returns the new value.
-    pub fn value(&self) -> &Value
-        ensures { result.now ≡ self.now.1 }
-    {
-        &self.value
-    }
-}
-
-impl fmt::Display for Assignment {
-    ghost output = { set_text };
-
-    fn fmt<W: fmt::Write>(&self, f: &mut fmt::Formatter<W>) -> fmt::Result {
-        write!(f, "{} = {}", self.column, self.value)
-    }
-}
 
 /// A query that sets columns in rows of a table. A contract sees the table's name, the columns with their values, and
 /// the condition.
@@ -135,7 +96,7 @@ impl Update {
         } = self;
         let column = column.into_text(alloc)?;
         let mut sets = sets.into_vec();
-        sets.push(Assignment { column, value })?;
+        sets.push(Assignment::new(column, value))?;
         Ok(Update {
             alloc,
             table,

@@ -1,5 +1,6 @@
 use Rattle.std.proofs.Common.{◌∙◌, map, Some, codes, refl, sym}
-use Rattle.msi_query.specs.QueryTexts.{listed, set_text}
+use Rattle.msi_query_expressions.specs.Assignments.{set_text}
+use Rattle.msi_query.specs.QueryTexts.{listed}
 use Rattle.msi_query.proofs.QueryTextLemmas.{failed_write, sets_text-some, two_writes}
 use Rattle.msi_query.proofs.query.update.write_sets.Goals as goal
 

@@ -1,7 +1,7 @@
 use Rattle.std.proofs.Common.{Some, codes, sym}
 use Rattle.std.proofs.Output.{displays_on_ok_of_eq, then_text_assoc}
 use Rattle.msi_table_values.specs.Values.{value_text}
-use Rattle.msi_query.proofs.query.update.AssignmentDisplay.fmt.Goals as goal
+use Rattle.msi_query_expressions.proofs.assignment.AssignmentDisplay.fmt.Goals as goal
 
 pub returns : goal.returns
 returns g c = record {
