@@ -1,1 +1,2 @@
 pub mod SafeNamesLemmas
+pub mod SafeNamesRows
