@@ -1,2 +1,4 @@
+-- The lemmas of this crate.
 pub mod SafeNamesLemmas
 pub mod SafeNamesRows
+pub mod TakenLemmas

@@ -15,7 +15,7 @@ use Rattle.std.proofs.lemmas.Nat.{pow-add}
 use Rattle.std.proofs.lemmas.Str.{encode_ascii}
 use Rattle.msipkg_texts.specs.SafeNames.{IsSafeName, StaysInside, escape, full_spelling, hexadecimal, is_name_of_device, is_plain, is_safe, never_empty, safe_spelling, safe_spelling_at, spelled, stands, stands_anywhere}
 
-by_test : {P : Type 0} (b : Bool) → (b ≡ true → P) → (b ≡ false → P) → P
+pub by_test : {P : Type 0} (b : Bool) → (b ≡ true → P) → (b ≡ false → P) → P
 by_test true f g = f refl
 by_test false f g = g refl
 

@@ -4,7 +4,7 @@ use Rattle.std.specs.Prelude.{List, [], ◌∷◌, ◌++◌, Some, length, map, 
 use Rattle.std.specs.List.{before_first, enumerate_from, flat_map, list_all, list_any}
 use Rattle.std.specs.Char.{digit_char, is_ascii_alphabetic, is_ascii_alphanumeric}
 use Rattle.std.specs.Int.Digits.{digits_of}
-use Rattle.std.specs.Str.{chars, str_eq_ignore_ascii_case, trim}
+use Rattle.std.specs.Str.{bytes_eq, chars, str_eq_ignore_ascii_case, str_to_ascii_lowercase, trim}
 use Rattle.msipkg_texts.specs.declared.safe_names.Ending.{Ending}
 use Rattle.msipkg_texts.specs.declared.safe_names.Ending.TheVariants.{Csv, Idt}
 
@@ -92,3 +92,17 @@ full_spelling name = never_empty (flat_map (λ c. spelled (stands_anywhere c) c)
 abbrev pub ending_of : Ending → List ℕ
 ending_of Csv = codes ".csv"
 ending_of Idt = codes ".idt"
+
+-- ---- names that are given out
+
+-- the names given out, which are kept with small letters, have this one, in whatever case
+abbrev pub is_taken : List (List ℕ) → List ℕ → Bool
+is_taken taken name = list_any (bytes_eq (str_to_ascii_lowercase name)) taken
+
+-- the name for a stream: its safe spelling, or the full one if that is taken
+abbrev pub given_name : List (List ℕ) → List ℕ → List ℕ
+given_name taken name = if is_taken taken (safe_spelling name) then full_spelling name else safe_spelling name
+
+-- afterwards that name is taken besides, in whatever case, and no other
+abbrev pub Takes : List (List ℕ) → List (List ℕ) → List ℕ → Type 0
+Takes old new name = (other : List ℕ) → is_taken new other ≡ (is_taken old other || str_eq_ignore_ascii_case name other)

@@ -1,14 +1,15 @@
 //! Names of files for streams. Whatever a stream's name is, its file lies in the folder itself, and no two streams have
 //! one file, also where the file system ignores case.
 
-ghost use Rattle.std.specs.Prelude.{◌≡◌, ◌==◌, ◌<◌, ◌%◌, ◌++◌, ◌∷◌, [], IfOk, OnOk, string_bytes, true};
+ghost use Rattle.std.specs.Prelude.{◌≡◌, ◌==◌, ◌<◌, ◌%◌, ◌++◌, ◌∷◌, [], IfOk, OnErr, OnOk, false, not, string_bytes};
+ghost use Rattle.std.specs.Prelude.{true};
 ghost use Rattle.std.specs.Char.{digit_char};
 ghost use Rattle.std.specs.List.{list_all, list_any};
 ghost use Rattle.std.specs.Str.{str_eq_ignore_ascii_case};
-ghost use Rattle.msipkg_texts.specs.SafeNames.{IsSafeName, StaysInside, devices, ending_of, escape, full_spelling};
-ghost use Rattle.msipkg_texts.specs.SafeNames.{hexadecimal, is_blank as is_blank_char, is_name_of_device};
-ghost use Rattle.msipkg_texts.specs.SafeNames.{is_plain as is_plain_char, is_safe, never_empty, safe_spelling, spelled};
-ghost use Rattle.msipkg_texts.specs.SafeNames.{stands, stands_anywhere};
+ghost use Rattle.msipkg_texts.specs.SafeNames.{IsSafeName, StaysInside, Takes, devices, ending_of, escape};
+ghost use Rattle.msipkg_texts.specs.SafeNames.{full_spelling, given_name, hexadecimal, is_blank as is_blank_char};
+ghost use Rattle.msipkg_texts.specs.SafeNames.{is_name_of_device, is_plain as is_plain_char, is_safe, is_taken};
+ghost use Rattle.msipkg_texts.specs.SafeNames.{never_empty, safe_spelling, spelled, stands, stands_anywhere};
 
 use std::alloc::{AllocError, Global};
 use std::collections::BTreeSet;
@@ -80,11 +81,19 @@ impl SafeName {
     }
 }
 
-/// The names that are given out already.
+/// The names that are given out already. Contracts see them with small letters.
 pub struct SafeNames {
     alloc: Global,
     /// The names, with small letters.
     taken: BTreeSet<String>,
+}
+
+impl Model for SafeNames {
+    ghost use Rattle.std.specs.Prelude.{List, ℕ, map, string_bytes};
+
+    ghost Value = { List (List ℕ) };
+
+    ghost view = { λ names. map string_bytes names.taken.keys };
 }
 
 /// Written out, so that a function that owns one calls one drop, and its proof doesn't go through those of the parts.
@@ -96,7 +105,9 @@ impl Drop for SafeNames {
 
 impl SafeNames {
     /// Returns a start, with no name given out.
-    pub fn new(alloc: Global) -> SafeNames {
+    pub fn new(alloc: Global) -> SafeNames
+        ensures { result ≡ [] }
+    {
         SafeNames {
             alloc,
             taken: BTreeSet::new(alloc),
@@ -108,7 +119,11 @@ impl SafeNames {
     ///
     /// # Errors
     /// Fails if memory is refused.
-    pub fn give(&mut self, name: &str) -> Result<SafeName, AllocError> {
+    pub fn give(&mut self, name: &str) -> Result<SafeName, AllocError>
+        ensures name { IfOk result (λ file. file ≡ given_name self.old name.now) }
+        ensures taken { IfOk result (λ file. Takes self.old self.new file) }
+        ensures failed { OnErr result (self.new ≡ self.old) }
+    {
         let safe = safe_name(self.alloc, name)?;
         if self.take(safe.as_str())? {
             return Ok(safe);
@@ -119,7 +134,12 @@ impl SafeNames {
     }
 
     /// Notes a name, and returns whether it wasn't given out before.
-    fn take(&mut self, name: &str) -> Result<bool, AllocError> {
+    fn take(&mut self, name: &str) -> Result<bool, AllocError>
+        ensures fresh { IfOk result (λ fresh. fresh ≡ not (is_taken self.old name.now)) }
+        ensures taken { OnOk result (Takes self.old self.new name.now) }
+        ensures refused { IfOk result (λ fresh. fresh ≡ false → self.new ≡ self.old) }
+        ensures failed { OnErr result (self.new ≡ self.old) }
+    {
         let mut small = String::from_str(self.alloc, name)?;
         small.make_ascii_lowercase();
         if self.taken.contains(small.as_str()) {
