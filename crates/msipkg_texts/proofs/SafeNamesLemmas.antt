@@ -83,11 +83,11 @@ digit_last number place old safe new some at s e =
 
 -- ---- escapes
 
-escape_small : (c : ℕ) → c < 128 → escape c ≡ 37 ∷ digit_char (c / 16) ∷ digit_char (c % 16) ∷ []
+pub escape_small : (c : ℕ) → c < 128 → escape c ≡ 37 ∷ digit_char (c / 16) ∷ digit_char (c % 16) ∷ []
 unfolding escape
 escape_small c h = rw (lt-ltb c 128 h) refl
 
-escape_large : (c : ℕ) → 128 ≤ c → escape c ≡ 37 ∷ 123 ∷ (hexadecimal c ++ 125 ∷ [])
+pub escape_large : (c : ℕ) → 128 ≤ c → escape c ≡ 37 ∷ 123 ∷ (hexadecimal c ++ 125 ∷ [])
 unfolding escape
 escape_large c h = rw (le-ltb c 128 h) refl
 
@@ -154,7 +154,7 @@ escape_begins c =
     (cases_lt c 128)
 
 -- a spelling, by its first character and the rest
-spelled_begins : (may : Bool) (c : ℕ) → (first : ℕ) × (rest : List ℕ) × (spelled may c ≡ first ∷ rest) × (list_all is_safe (first ∷ rest) ≡ true) × ((may ≡ true → c ≢ 46) → first ≢ 46)
+pub spelled_begins : (may : Bool) (c : ℕ) → (first : ℕ) × (rest : List ℕ) × (spelled may c ≡ first ∷ rest) × (list_all is_safe (first ∷ rest) ≡ true) × ((may ≡ true → c ≢ 46) → first ≢ 46)
 spelled_begins may c = by_test (is_plain c && may)
     (λ t.
     let parts = and_parts (is_plain c) may t in

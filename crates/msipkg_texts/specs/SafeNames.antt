@@ -4,7 +4,7 @@ use Rattle.std.specs.Prelude.{List, [], ◌∷◌, ◌++◌, Some, length, map, 
 use Rattle.std.specs.List.{before_first, enumerate_from, flat_map, list_all, list_any}
 use Rattle.std.specs.Char.{digit_char, is_ascii_alphabetic, is_ascii_alphanumeric}
 use Rattle.std.specs.Int.Digits.{digits_of}
-use Rattle.std.specs.Str.{bytes_eq, chars, str_eq_ignore_ascii_case, str_to_ascii_lowercase, trim}
+use Rattle.std.specs.Str.{IsUtf8, bytes_eq, chars, str_eq_ignore_ascii_case, str_to_ascii_lowercase, trim}
 use Rattle.msipkg_texts.specs.declared.safe_names.Ending.{Ending}
 use Rattle.msipkg_texts.specs.declared.safe_names.Ending.TheVariants.{Csv, Idt}
 
@@ -106,3 +106,9 @@ given_name taken name = if is_taken taken (safe_spelling name) then full_spellin
 -- afterwards that name is taken besides, in whatever case, and no other
 abbrev pub Takes : List (List ℕ) → List (List ℕ) → List ℕ → Type 0
 Takes old new name = (other : List ℕ) → is_taken new other ≡ (is_taken old other || str_eq_ignore_ascii_case name other)
+
+-- Spellings can be read back: no two names have the same, be they safe or full ones.
+pub record SpellingsDiffer : Type 0 where
+  pub safe : (one other : List ℕ) → IsUtf8 one → IsUtf8 other → safe_spelling one ≡ safe_spelling other → one ≡ other
+  pub full : (one other : List ℕ) → IsUtf8 one → IsUtf8 other → full_spelling one ≡ full_spelling other → one ≡ other
+  pub mixed : (one other : List ℕ) → IsUtf8 one → IsUtf8 other → safe_spelling one ≡ full_spelling other → one ≡ other
