@@ -1,1 +1,5 @@
+-- The lemmas of this crate.
 pub mod SafeNamesLemmas
+pub mod SafeNamesRows
+pub mod SpellingLemmas
+pub mod TakenLemmas

@@ -5,6 +5,7 @@
 pub mod escape;
 pub mod grid;
 pub mod json;
+pub mod laws;
 pub mod safe_names;
 pub mod style;
 pub mod widths;

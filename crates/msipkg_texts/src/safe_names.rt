@@ -1,9 +1,15 @@
 //! Names of files for streams. Whatever a stream's name is, its file lies in the folder itself, and no two streams have
 //! one file, also where the file system ignores case.
 
-ghost use Rattle.std.specs.Prelude.{◌≡◌, ◌≢◌, ◌==◌, ◌<◌, ◌||◌, ◌++◌, IfOk, OnOk, length, string_bytes, true};
-ghost use Rattle.std.specs.List.{list_all};
-ghost use Rattle.msipkg_texts.specs.SafeNames.{IsSafeName, StaysInside, is_plain as is_plain_char, is_safe};
+ghost use Rattle.std.specs.Prelude.{◌≡◌, ◌==◌, ◌<◌, ◌%◌, ◌++◌, ◌∷◌, [], IfOk, OnErr, OnOk, false, not, string_bytes};
+ghost use Rattle.std.specs.Prelude.{true};
+ghost use Rattle.std.specs.Char.{digit_char};
+ghost use Rattle.std.specs.List.{list_all, list_any};
+ghost use Rattle.std.specs.Str.{str_eq_ignore_ascii_case};
+ghost use Rattle.msipkg_texts.specs.SafeNames.{IsSafeName, StaysInside, Takes, devices, ending_of, escape};
+ghost use Rattle.msipkg_texts.specs.SafeNames.{full_spelling, given_name, hexadecimal, is_blank as is_blank_char};
+ghost use Rattle.msipkg_texts.specs.SafeNames.{is_name_of_device, is_plain as is_plain_char, is_safe, is_taken};
+ghost use Rattle.msipkg_texts.specs.SafeNames.{never_empty, safe_spelling, spelled, stands, stands_anywhere};
 
 use std::alloc::{AllocError, Global};
 use std::collections::BTreeSet;
@@ -44,7 +50,8 @@ pub enum Ending {
 
 /// The characters of an ending.
 fn ending_text(ending: Ending) -> &'static str
-    ensures { list_all is_safe result.now ≡ true }
+    ensures text { result.now ≡ ending_of ending }
+    ensures safe { list_all is_safe result.now ≡ true }
 {
     match ending {
         Ending::Csv => ".csv",
@@ -65,18 +72,28 @@ impl SafeName {
     ///
     /// # Errors
     /// Fails if memory is refused.
-    pub fn with_ending(&self, ending: Ending) -> Result<SafeName, AllocError> {
+    pub fn with_ending(&self, ending: Ending) -> Result<SafeName, AllocError>
+        ensures { IfOk result (λ named. named ≡ self.now ++ ending_of ending) }
+    {
         let mut text = self.text.clone()?;
         text.push_str(ending_text(ending))?;
         Ok(SafeName { text })
     }
 }
 
-/// The names that are given out already.
+/// The names that are given out already. Contracts see them with small letters.
 pub struct SafeNames {
     alloc: Global,
     /// The names, with small letters.
     taken: BTreeSet<String>,
+}
+
+impl Model for SafeNames {
+    ghost use Rattle.std.specs.Prelude.{List, ℕ, map, string_bytes};
+
+    ghost Value = { List (List ℕ) };
+
+    ghost view = { λ names. map string_bytes names.taken.keys };
 }
 
 /// Written out, so that a function that owns one calls one drop, and its proof doesn't go through those of the parts.
@@ -88,7 +105,9 @@ impl Drop for SafeNames {
 
 impl SafeNames {
     /// Returns a start, with no name given out.
-    pub fn new(alloc: Global) -> SafeNames {
+    pub fn new(alloc: Global) -> SafeNames
+        ensures { result ≡ [] }
+    {
         SafeNames {
             alloc,
             taken: BTreeSet::new(alloc),
@@ -100,7 +119,11 @@ impl SafeNames {
     ///
     /// # Errors
     /// Fails if memory is refused.
-    pub fn give(&mut self, name: &str) -> Result<SafeName, AllocError> {
+    pub fn give(&mut self, name: &str) -> Result<SafeName, AllocError>
+        ensures name { IfOk result (λ file. file ≡ given_name self.old name.now) }
+        ensures taken { IfOk result (λ file. Takes self.old self.new file) }
+        ensures failed { OnErr result (self.new ≡ self.old) }
+    {
         let safe = safe_name(self.alloc, name)?;
         if self.take(safe.as_str())? {
             return Ok(safe);
@@ -111,7 +134,12 @@ impl SafeNames {
     }
 
     /// Notes a name, and returns whether it wasn't given out before.
-    fn take(&mut self, name: &str) -> Result<bool, AllocError> {
+    fn take(&mut self, name: &str) -> Result<bool, AllocError>
+        ensures fresh { IfOk result (λ fresh. fresh ≡ not (is_taken self.old name.now)) }
+        ensures taken { OnOk result (Takes self.old self.new name.now) }
+        ensures refused { IfOk result (λ fresh. fresh ≡ false → self.new ≡ self.old) }
+        ensures failed { OnErr result (self.new ≡ self.old) }
+    {
         let mut small = String::from_str(self.alloc, name)?;
         small.make_ascii_lowercase();
         if self.taken.contains(small.as_str()) {
@@ -129,31 +157,29 @@ impl SafeNames {
 ///
 /// # Errors
 /// Fails if memory is refused.
-pub fn safe_name(alloc: Global, name: &str) -> Result<SafeName, AllocError> {
+pub fn safe_name(alloc: Global, name: &str) -> Result<SafeName, AllocError>
+    ensures { IfOk result (λ safe. safe ≡ safe_spelling name.now) }
+{
     let mut safe = String::new(alloc);
-    let last = name.len().saturating_sub(1);
+    let last = name.chars().count().saturating_sub(1);
     let is_device = names_device(name);
-    for (i, c) in name.char_indices() {
-        let is_first = safe.is_empty();
-        let is_barred = (is_blank(c) && (is_first || i == last)) || (is_device && is_first);
-        if is_plain(c) && !is_barred {
-            push_safe(&mut safe, c)?;
-        } else {
-            push_escape(&mut safe, c)?;
-        }
+    for (place, c) in name.chars().enumerate() {
+        push_spelled(
+            &mut safe,
+            c,
+            may_stand(c, place == 0, place == last, is_device),
+        )?;
     }
     finished(alloc, safe)
 }
 
 /// Returns the name of a file in which letters are escaped, too.
-fn spelled_name(alloc: Global, name: &str) -> Result<SafeName, AllocError> {
+fn spelled_name(alloc: Global, name: &str) -> Result<SafeName, AllocError>
+    ensures { IfOk result (λ spelled. spelled ≡ full_spelling name.now) }
+{
     let mut spelled = String::new(alloc);
     for c in name.chars() {
-        if is_plain(c) && !c.is_ascii_alphabetic() && !is_blank(c) {
-            push_safe(&mut spelled, c)?;
-        } else {
-            push_escape(&mut spelled, c)?;
-        }
+        push_spelled(&mut spelled, c, may_stand_anywhere(c))?;
     }
     finished(alloc, spelled)
 }
@@ -161,12 +187,28 @@ fn spelled_name(alloc: Global, name: &str) -> Result<SafeName, AllocError> {
 /// Returns the name that a text is. An empty text, which no stream's name is, becomes `%`.
 fn finished(alloc: Global, text: String) -> Result<SafeName, AllocError>
     requires { StaysInside (string_bytes text) }
+    ensures { IfOk result (λ safe. safe ≡ never_empty (string_bytes text)) }
 {
     if text.is_empty() {
         let text = String::from_str(alloc, "%")?;
         return Ok(SafeName { text });
     }
     Ok(SafeName { text })
+}
+
+/// Whether a character may stand for itself at its place. A blank or a dot at the ends may not, nor the first letter of
+/// a device's name.
+fn may_stand(c: char, is_first: bool, is_last: bool, is_device: bool) -> bool
+    ensures { result ≡ stands c is_first is_last is_device }
+{
+    !(is_blank(c) && (is_first || is_last)) && !(is_device && is_first)
+}
+
+/// Whether a character may stand for itself at each place of a name in which letters are escaped, too.
+fn may_stand_anywhere(c: char) -> bool
+    ensures { result ≡ stands_anywhere c }
+{
+    !c.is_ascii_alphabetic() && !is_blank(c)
 }
 
 /// Whether a character may stand for itself.
@@ -182,38 +224,40 @@ fn is_plain(c: char) -> bool
 
 /// Whether a character may not stand for itself at the ends of a name.
 fn is_blank(c: char) -> bool
-    ensures { result ≡ (c == 46 || c == 32) }
+    ensures { result ≡ is_blank_char c }
 {
     matches!(c, '.' | ' ')
 }
 
-/// Puts a character that a safe name may have. A dot doesn't come first.
-fn push_safe(safe: &mut String, c: char) -> Result<(), AllocError>
-    requires safe { is_safe c ≡ true }
-    requires begins { c ≡ 46 → 0 < length (string_bytes safe.old) }
-    ensures { StaysInside (string_bytes safe.old) → OnOk result (StaysInside (string_bytes safe.new)) }
+/// Puts a character, or its escape if it may not stand for itself.
+fn push_spelled(safe: &mut String, c: char, may_stand: bool) -> Result<(), AllocError>
+    ensures { OnOk result (string_bytes safe.new ≡ string_bytes safe.old ++ spelled may_stand c) }
 {
-    safe.push(c)
+    if is_plain(c) && may_stand {
+        safe.push(c)
+    } else {
+        push_escape(safe, c)
+    }
 }
 
 /// Puts the escape of a character.
 fn push_escape(safe: &mut String, c: char) -> Result<(), AllocError>
-    ensures { StaysInside (string_bytes safe.old) → OnOk result (StaysInside (string_bytes safe.new)) }
+    ensures { OnOk result (string_bytes safe.new ≡ string_bytes safe.old ++ escape c) }
 {
     let code = u32::from(c);
-    push_safe(safe, '%')?;
+    safe.push('%')?;
     if code < 0x80 {
         push_digit(safe, code >> 4)?;
         return push_digit(safe, code);
     }
-    push_safe(safe, '{')?;
+    safe.push('{')?;
     push_number(safe, code)?;
-    push_safe(safe, '}')
+    safe.push('}')
 }
 
-/// Puts a number, without zeros in front.
+/// Puts a number to the base 16, without zeros in front.
 fn push_number(safe: &mut String, number: u32) -> Result<(), AllocError>
-    ensures { StaysInside (string_bytes safe.old) → OnOk result (StaysInside (string_bytes safe.new)) }
+    ensures { 0 < number → OnOk result (string_bytes safe.new ≡ string_bytes safe.old ++ hexadecimal number) }
 {
     for place in 1..8u32 {
         let digits = number >> (32 - 4 * place);
@@ -224,18 +268,17 @@ fn push_number(safe: &mut String, number: u32) -> Result<(), AllocError>
     push_digit(safe, number)
 }
 
-/// Puts the last digit of a number, to the base 16.
+/// Puts the last digit of a number to the base 16.
 fn push_digit(safe: &mut String, number: u32) -> Result<(), AllocError>
-    ensures { StaysInside (string_bytes safe.old) → OnOk result (StaysInside (string_bytes safe.new)) }
+    ensures { OnOk result (string_bytes safe.new ≡ string_bytes safe.old ++ digit_char (number % 16) ∷ []) }
 {
-    push_safe(safe, digit((number % 16) as u8))
+    safe.push(digit((number % 16) as u8))
 }
 
 /// A digit.
 fn digit(number: u8) -> char
     requires { number < 16 }
-    ensures safe { is_safe result ≡ true }
-    ensures no_dot { result ≢ 46 }
+    ensures { result ≡ digit_char number }
 {
     if number < 10 {
         char::from(b'0' + number)
@@ -245,7 +288,9 @@ fn digit(number: u8) -> char
 }
 
 /// Whether the name up to its first dot is that of a device.
-fn names_device(name: &str) -> bool {
+fn names_device(name: &str) -> bool
+    ensures { result ≡ is_name_of_device name.now }
+{
     match name.split_once('.') {
         Some((stem, _)) => is_device(stem.trim()),
         None => is_device(name.trim()),
@@ -253,11 +298,22 @@ fn names_device(name: &str) -> bool {
 }
 
 /// Whether a name is that of a device.
-fn is_device(name: &str) -> bool {
-    for device in &DEVICES {
-        if device.eq_ignore_ascii_case(name) {
-            return true;
-        }
-    }
-    false
+fn is_device(name: &str) -> bool
+    ensures { result ≡ list_any (λ device. str_eq_ignore_ascii_case device name.now) devices }
+{
+    is_one_of(&DEVICES, name)
+}
+
+/// Whether a name is one of these words, where case doesn't matter.
+fn is_one_of(words: &[&str], name: &str) -> bool
+    ensures { result ≡ list_any (λ word. str_eq_ignore_ascii_case word.now name.now) words.now }
+{
+    words.iter().any(|word| is_same(word, name))
+}
+
+/// Whether two words differ at most in the case of their letters.
+fn is_same(word: &str, other: &str) -> bool
+    ensures { result ≡ str_eq_ignore_ascii_case word.now other.now }
+{
+    word.eq_ignore_ascii_case(other)
 }
