@@ -22,7 +22,7 @@ ghost use Rattle.msi_database.specs.Making.{IsAnew, base_with};
 
 use crate::database::Database;
 use crate::reasons;
-use msi_database_cells::storing::{Stored, store_all};
+use msi_database_cells::parts::{Stored, store_all};
 use msi_database_cells::texts::PoolInUse;
 use msi_database_storage::listing::copies_without;
 use msi_database_storage::parts::{stored_rows, stream_of};

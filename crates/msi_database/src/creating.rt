@@ -20,7 +20,7 @@ ghost use Rattle.msi_database.specs.Making.{Leaves, Makes, TellsUse, base_with, 
 use crate::changing::TablesAnew;
 use crate::database::Database;
 use crate::reasons;
-use msi_database_cells::storing::Stored;
+use msi_database_cells::parts::Stored;
 use msi_database_cells::texts::PoolInUse;
 use msi_database_changes::create::{SystemRows, refuse_table};
 use msi_database_changes::insert::{add_rows, refuse_rows};

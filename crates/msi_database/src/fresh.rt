@@ -6,7 +6,7 @@ ghost use Rattle.msi_database_storage.specs.Fresh.{fresh};
 
 use crate::database::Database;
 use msi_container_format::contents::StreamMap;
-use msi_database_cells::storing::store_all;
+use msi_database_cells::parts::store_all;
 use msi_database_storage::parts::{NewTables, new_tables};
 use msi_text_base::errors::Error;
 use std::alloc::Global;

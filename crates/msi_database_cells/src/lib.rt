@@ -4,8 +4,9 @@
 
 pub mod counting;
 pub mod keys;
+pub mod parts;
 mod reasons;
 pub mod setting;
-pub mod storing;
+mod storing;
 pub mod texts;
 pub mod views;

@@ -11,7 +11,7 @@ ghost use Rattle.msi_database_storage.specs.FreshParts.{Begins, CanBegin, column
 ghost use Rattle.msi_database_storage.specs.FreshParts.{tables_table, unused_pool, validation_table};
 
 use crate::storing::stream_of;
-use msi_database_cells::storing::Stored;
+use msi_database_cells::parts::Stored;
 use msi_database_cells::texts::PoolInUse;
 use msi_database_changes::insert::add_rows;
 use msi_database_schema::parts::named_table;

@@ -9,7 +9,7 @@ ghost use Rattle.msi_database_storage.specs.Storing.{stream_gone};
 ghost use Rattle.msi_database_storage.specs.Streams.{stream_of_rows};
 
 use msi_container_format::contents::Bytes;
-use msi_database_cells::storing::Stored;
+use msi_database_cells::parts::Stored;
 use msi_database_system::parts::short_table_key;
 use msi_table::Table;
 use msi_table::parts::write_rows;
