@@ -62,7 +62,7 @@ unfoldable pub is_name_of_device : List ℕ → Bool
 is_name_of_device name =
     list_any (λ device. str_eq_ignore_ascii_case device (trim (before_first (λ c. c == 46) name))) devices
 
--- a character may stand for itself, but not a dot or a blank at the ends, nor the first letter of a device's name
+-- a character may stand for itself, but not a dot or a blank at the ends, nor the first character of a device's name
 abbrev pub stands : ℕ → (is_first is_last is_device : Bool) → Bool
 stands c is_first is_last is_device = not (is_blank c && (is_first || is_last)) && not (is_device && is_first)
 

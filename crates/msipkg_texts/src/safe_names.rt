@@ -196,8 +196,8 @@ fn finished(alloc: Global, text: String) -> Result<SafeName, AllocError>
     Ok(SafeName { text })
 }
 
-/// Whether a character may stand for itself at its place. A blank or a dot at the ends may not, nor the first letter of
-/// a device's name.
+/// Whether a character may stand for itself at its place. A blank or a dot at the ends may not, nor the first character
+/// of a device's name.
 fn may_stand(c: char, is_first: bool, is_last: bool, is_device: bool) -> bool
     ensures { result ≡ stands c is_first is_last is_device }
 {
