@@ -13,6 +13,11 @@ pub(crate) fn compare_columns(old: &Table, new: &Table, report: &mut Report<'_>)
         let made = compare_column(old, Some(column), new.get_column(column.name()), report);
         report.keep(made);
     }
+    add_columns(old, new, report);
+}
+
+/// Tells the columns that are in the new table alone.
+fn add_columns(old: &Table, new: &Table, report: &mut Report<'_>) {
     for column in new.columns() {
         if old.get_column(column.name()).is_none() {
             let made = compare_column(new, None, Some(column), report);

@@ -176,13 +176,18 @@ fn push_texts(style: Style, name: &str, texts: &[String], lines: &mut Output) {
     lines.push_str("\n");
 }
 
-/// Puts the numbers of languages and their tags as lists.
+/// Puts the numbers of languages and their tags into an object.
 fn put_languages(languages: &[LanguageId], object: &mut JsonObject) {
     object.open_list("languages");
     for language in languages {
         object.put_number_item(i64::from(language.id()));
     }
     object.close_list();
+    put_tags(languages, object);
+}
+
+/// Puts the tags of languages into an object.
+fn put_tags(languages: &[LanguageId], object: &mut JsonObject) {
     object.open_list("language_tags");
     for language in languages {
         object.put_text_item(language.tag());
@@ -198,8 +203,14 @@ fn push_languages(languages: &[LanguageId], lines: &mut Output) {
         write!(lines, "{before}{}", language.id());
         before = ",";
     }
-    lines.push_str("\nlanguage_tags");
-    before = ": ";
+    lines.push_str("\n");
+    push_tags(languages, lines);
+}
+
+/// Puts the tags of languages on a line.
+fn push_tags(languages: &[LanguageId], lines: &mut Output) {
+    lines.push_str("language_tags");
+    let mut before = ": ";
     for language in languages {
         write!(lines, "{before}{}", language.tag());
         before = "; ";
