@@ -2,4 +2,3 @@
 pub mod Schema
 pub mod ListedTables
 pub mod RowOrders
-pub mod SeenRows

@@ -11,7 +11,6 @@ ghost use Rattle.msi_database_schema.specs.Schema.{number_of, text_at as text_in
 use msi_table_cells::cell::ValueRef;
 use msi_table_cells::parts::view_of_cell;
 use msi_table_values::parts::ValueView;
-use msi_table_values::value::Value;
 use msi_text_base::errors::Error;
 use msi_text_base::text::Items;
 use msi_text_pool::stringpool::StringPool;
@@ -19,46 +18,21 @@ use std::alloc::Global;
 use std::cmp::Ordering;
 use std::marker::Model;
 
-/// Where the values of a row lie: in a list of values, or in cells and the pool of their texts.
-#[derive(Clone, Copy, Drop)]
-enum RowParts<'a> {
-    Values(&'a [Value]),
-    Cells(&'a StringPool, &'a [ValueRef]),
-}
-
-/// A row of a system table, borrowed. A contract sees its values.
+/// A row of a system table, borrowed: its cells, and the pool of their texts. A contract sees its values.
 #[derive(Drop)]
 pub(crate) struct SchemaRow<'a> {
-    parts: RowParts<'a>,
+    pool: &'a StringPool,
+    cells: &'a [ValueRef],
 }
 
 impl<'a> Model for SchemaRow<'a> {
     ghost use Rattle.std.specs.Prelude.{List};
+    ghost use Rattle.msi_table_cells.specs.CellValues.{row_values};
     ghost use Rattle.msi_table_values.specs.declared.value.Value.{Value as ValueOf};
-    ghost use Rattle.msi_database_schema.specs.SeenRows.{seen_row};
 
     ghost Value = { List ValueOf };
 
-    ghost view = { λ r. seen_row r.parts };
-}
-
-/// Rows of values, borrowed.
-///
-/// # Errors
-/// `OutOfMemory`.
-pub(crate) fn rows_of_values<'a>(
-    alloc: Global,
-    rows: &'a [Items<Value>],
-) -> Result<Vec<SchemaRow<'a>>, Error>
-    ensures ok { IfOk result (λ seen. seen.items ≡ rows.now) }
-    ensures kind { OnlyMemory result }
-{
-    let mut seen = Vec::with_capacity(alloc, rows.len())?;
-    for row in rows {
-        let parts = RowParts::Values(row.as_slice());
-        seen.push(SchemaRow { parts })?;
-    }
-    Ok(seen)
+    ghost view = { λ r. row_values r.pool.now.places r.cells.now };
 }
 
 /// Rows of cells, borrowed, as the values that these stand for.
@@ -75,8 +49,8 @@ pub(crate) fn rows_of_cells<'a>(
 {
     let mut seen = Vec::with_capacity(alloc, rows.len())?;
     for row in rows {
-        let parts = RowParts::Cells(pool, row.as_slice());
-        seen.push(SchemaRow { parts })?;
+        let cells = row.as_slice();
+        seen.push(SchemaRow { pool, cells })?;
     }
     Ok(seen)
 }
@@ -86,15 +60,9 @@ pub(crate) fn rows_of_cells<'a>(
 pub(crate) fn view_at<'a>(row: &SchemaRow<'a>, place: usize) -> ValueView<'a>
     ensures { seen_value result ≡ value_at place row.now }
 {
-    match row.parts {
-        RowParts::Values(values) => match values.get(place) {
-            Some(value) => ValueView::of(value),
-            None => ValueView::Null,
-        },
-        RowParts::Cells(pool, cells) => match cells.get(place) {
-            Some(cell) => view_of_cell(pool, *cell),
-            None => ValueView::Null,
-        },
+    match row.cells.get(place) {
+        Some(cell) => view_of_cell(row.pool, *cell),
+        None => ValueView::Null,
     }
 }
 
@@ -157,10 +125,7 @@ fn stand_for_null(pool: &StringPool, cells: &[ValueRef]) -> bool
 pub(crate) fn holds_null(row: &SchemaRow) -> bool
     ensures { result ≡ list_any is_null row.now }
 {
-    match row.parts {
-        RowParts::Values(values) => values.iter().any(Value::is_null),
-        RowParts::Cells(pool, cells) => stand_for_null(pool, cells),
-    }
+    stand_for_null(row.pool, row.cells)
 }
 
 /// How the values of two rows at a place stand to one another.

@@ -17,55 +17,16 @@ use crate::columns::columns_of_table;
 use crate::faults::{has_odd_value, is_counted, is_faulty};
 use crate::orders::{sort_by_numbers, sort_by_texts};
 use crate::reasons;
-use crate::rows::{SchemaRow, rows_of_cells, rows_of_values, text_at};
+use crate::rows::{SchemaRow, rows_of_cells, text_at};
 use msi_database_system::system::{COLUMNS, TABLES, columns_columns, tables_columns};
 use msi_table::parts::table;
 use msi_table::table::Table;
 use msi_table_cells::cell::ValueRef;
 use msi_table_values::column::Column;
-use msi_table_values::value::Value;
 use msi_text_base::errors::{Error, ErrorKind};
 use msi_text_base::text::{IntoText, Items};
 use msi_text_pool::stringpool::StringPool;
 use std::alloc::Global;
-use std::marker::Model;
-
-/// The rows of the three tables that describe tables: each a value for each column.
-#[derive(Drop)]
-pub struct SchemaRows {
-    tables: Vec<Items<Value>>,
-    columns: Vec<Items<Value>>,
-    validation: Vec<Items<Value>>,
-}
-
-impl Model for SchemaRows {
-    ghost use Rattle.msi_database_schema.specs.Schema as spec;
-
-    ghost Value = { spec.SchemaRows };
-
-    ghost view = { λ r. record {
-      tables = r.tables.items;
-      columns = r.columns.items;
-      validation = r.validation.items;
-    } };
-}
-
-impl SchemaRows {
-    /// Returns the rows of `_Tables`, `_Columns` and `_Validation`.
-    pub fn new(
-        tables: Vec<Items<Value>>,
-        columns: Vec<Items<Value>>,
-        validation: Vec<Items<Value>>,
-    ) -> SchemaRows
-        ensures { result ≡ rows_of tables.items columns.items validation.items }
-    {
-        SchemaRows {
-            tables,
-            columns,
-            validation,
-        }
-    }
-}
 
 /// The table of a name and columns, which are at most 32767.
 ///
@@ -202,29 +163,16 @@ fn described(
     Ok(Items::from_vec(read))
 }
 
-/// Returns the tables that rows describe, in the order of their names; `_Tables` and `_Columns` are always there.
-/// References to texts are long, or not, in all of them. It costs the rows times a logarithm.
+/// Returns the tables that the cells of rows describe, with the pool of their texts, in the order of their names;
+/// `_Tables` and `_Columns` are always there. References to texts are long in all of them if those of the pool are. No
+/// text of a row is copied but into a column. It costs the rows times a logarithm.
 ///
 /// # Errors
 /// Fails with `InvalidData` if a row of `_Tables` or `_Columns` has a null, a row of `_Validation` lacks its table,
 /// its column or, about a column that is there, whether that takes null; if a stream of the string pool is listed,
 /// two rows share a key, a column is of no listed table, the columns of a listed table aren't numbered from 1 on, or
-/// their bits name no type; and for rows that no cells give: a name that is no text, a number of more than 16 bits.
-/// Fails with `OutOfMemory`.
-pub fn tables_described(alloc: Global, rows: SchemaRows, long: bool) -> Result<Items<Table>, Error>
-    ensures { Gives (λ tables. tables) result (tables_of long rows) }
-{
-    let tables = rows_of_values(alloc, rows.tables.as_slice())?;
-    let columns = rows_of_values(alloc, rows.columns.as_slice())?;
-    let validation = rows_of_values(alloc, rows.validation.as_slice())?;
-    described(alloc, tables, columns, validation, long)
-}
-
-/// Returns the tables that rows describe, as `tables_described` does, of the cells of the rows and the pool of their
-/// texts. No text of a row is copied but into a column.
-///
-/// # Errors
-/// Fails as `tables_described` does for the values that the cells stand for.
+/// their bits name no type; and for cells that a stream of these tables doesn't give: a name that is no text, a number
+/// of more than 16 bits. Fails with `OutOfMemory`.
 pub fn tables_of_cells(
     alloc: Global,
     pool: &StringPool,
