@@ -1,4 +1,5 @@
 -- The lemmas of this crate.
+pub mod GivenLemmas
 pub mod SafeNamesLemmas
 pub mod SafeNamesRows
 pub mod SpellingLemmas

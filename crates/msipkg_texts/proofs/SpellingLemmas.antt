@@ -86,15 +86,15 @@ same_escape c d rest more e =
     (cases_lt c 128)
 
 -- an escape begins with its sign, and goes on
-escape_goes : (c : ℕ) → (next : ℕ) × (rest : List ℕ) × (escape c ≡ 37 ∷ next ∷ rest)
+pub escape_goes : (c : ℕ) → (next : ℕ) × (rest : List ℕ) × (escape c ≡ 37 ∷ next ∷ rest)
 escape_goes c = ⊎_elim (λ small. (_, _, escape_small c small)) (λ large. (_, _, escape_large c large)) (cases_lt c 128)
 
-no_sign : {P : Type 0} (c : ℕ) → is_plain c ≡ true → c ≡ 37 → P
+pub no_sign : {P : Type 0} (c : ℕ) → is_plain c ≡ true → c ≡ 37 → P
 no_sign c plain e = let bad : is_plain 37 ≡ true = subst (λ x. is_plain x ≡ true) e plain in cc
 
 -- ---- a character after the other
 
-same_spelled : (may will : Bool) (c d : ℕ) (rest more : List ℕ) → spelled may c ++ rest ≡ spelled will d ++ more → (c ≡ d) × (rest ≡ more)
+pub same_spelled : (may will : Bool) (c d : ℕ) (rest more : List ℕ) → spelled may c ++ rest ≡ spelled will d ++ more → (c ≡ d) × (rest ≡ more)
 same_spelled may will c d rest more e = by_test (is_plain c && may)
     (λ tc. by_test (is_plain d && will)
     (λ td. let whole : c ∷ rest ≡ d ∷ more = rw tc at (rw td at e) in (cc, cc))
@@ -114,7 +114,7 @@ same_spelled may will c d rest more e = by_test (is_plain c && may)
     (λ fd. let whole : escape c ++ rest ≡ escape d ++ more = rw fc at (rw fd at e) in same_escape c d rest more whole))
 
 -- a spelling is no sign alone
-sign_alone : {P : Type 0} (may : Bool) (c : ℕ) (rest : List ℕ) → spelled may c ++ rest ≡ 37 ∷ [] → P
+pub sign_alone : {P : Type 0} (may : Bool) (c : ℕ) (rest : List ℕ) → spelled may c ++ rest ≡ 37 ∷ [] → P
 sign_alone may c rest e = by_test (is_plain c && may)
     (λ t. let whole : c ∷ rest ≡ 37 ∷ [] = rw t at e in let sign : c ≡ 37 = cc in no_sign c (and_parts (is_plain c) may t).0 sign)
     (λ f.
@@ -124,7 +124,7 @@ sign_alone may c rest e = by_test (is_plain c && may)
     cc)
 
 -- characters, each with whether it may stand for itself
-abbrev written : List (Bool × ℕ) → List ℕ
+abbrev pub written : List (Bool × ℕ) → List ℕ
 written ps = flat_map (λ p. spelled p.0 p.1) ps
 
 same_written : (ps qs : List (Bool × ℕ)) → written ps ≡ written qs → map (λ (p : Bool × ℕ). p.1) ps ≡ map (λ (p : Bool × ℕ). p.1) qs
@@ -141,7 +141,7 @@ same_written (p ∷ ps) (q ∷ qs) e =
     let same = same_spelled p.0 q.0 p.1 q.1 (written ps) (written qs) e in
     ap (λ c. c ∷ map (λ (p : Bool × ℕ). p.1) ps) same.0 ∙ ap (λ cs. q.1 ∷ cs) (same_written ps qs same.1)
 
-stays : (may : Bool) (c : ℕ) (rest : List ℕ) → never_empty (spelled may c ++ rest) ≡ spelled may c ++ rest
+pub stays : (may : Bool) (c : ℕ) (rest : List ℕ) → never_empty (spelled may c ++ rest) ≡ spelled may c ++ rest
 stays may c rest = let b = spelled_begins may c in subst (λ s. never_empty (s ++ rest) ≡ s ++ rest) (sym b.2) refl
 
 same_named : (ps qs : List (Bool × ℕ)) → never_empty (written ps) ≡ never_empty (written qs) → written ps ≡ written qs
@@ -156,7 +156,11 @@ characters_of : (f : ℕ → ℕ → Bool) (n : ℕ) (cs : List ℕ) → map (λ
 characters_of f n [] = refl
 characters_of f n (c ∷ cs) = ap (λ others. c ∷ others) (characters_of f (n + 1) cs)
 
-safe_written : (name : List ℕ) → (ps : List (Bool × ℕ)) × (safe_spelling name ≡ never_empty (written ps)) × (map (λ (p : Bool × ℕ). p.1) ps ≡ chars name)
+-- the spelling is that of the name's characters
+abbrev pub Spells : (name spelling : List ℕ) → Type 0
+Spells name spelling = (ps : List (Bool × ℕ)) × (spelling ≡ never_empty (written ps)) × (map (λ (p : Bool × ℕ). p.1) ps ≡ chars name)
+
+pub safe_written : (name : List ℕ) → Spells name (safe_spelling name)
 unfolding safe_spelling safe_spelling_at
 safe_written name =
     let f : ℕ → ℕ → Bool = λ place c. stands c (eqb place 0) (eqb place (length (chars name) - 1)) (is_name_of_device name) in (
@@ -165,24 +169,28 @@ safe_written name =
       characters_of f 0 (chars name),
     )
 
-full_written : (name : List ℕ) → (ps : List (Bool × ℕ)) × (full_spelling name ≡ never_empty (written ps)) × (map (λ (p : Bool × ℕ). p.1) ps ≡ chars name)
-unfolding full_spelling
-full_written name = (
-  map (λ (c : ℕ). (stands_anywhere c, c)) (chars name),
-  ap never_empty (sym (flat_map-map (λ (p : Bool × ℕ). spelled p.0 p.1) (λ (c : ℕ). (stands_anywhere c, c)) (chars name))),
-  map-map (chars name),
-)
-  where
-    map-map : (cs : List ℕ) → map (λ (p : Bool × ℕ). p.1) (map (λ (c : ℕ). (stands_anywhere c, c)) cs) ≡ cs
-    map-map [] = refl
-    map-map (c ∷ cs) = ap (λ others. c ∷ others) (map-map cs)
+-- the characters of a full spelling
+abbrev pub fully : List ℕ → List (Bool × ℕ)
+fully cs = map (λ (c : ℕ). (stands_anywhere c, c)) cs
 
-read_back : (one other spelling last : List ℕ) → IsUtf8 one → IsUtf8 other → (ps : List (Bool × ℕ)) × (spelling ≡ never_empty (written ps)) × (map (λ (p : Bool × ℕ). p.1) ps ≡ chars one)
-    → (qs : List (Bool × ℕ)) × (last ≡ never_empty (written qs)) × (map (λ (p : Bool × ℕ). p.1) qs ≡ chars other) → spelling ≡ last → one ≡ other
+pub full_is : (name : List ℕ) → full_spelling name ≡ never_empty (written (fully (chars name)))
+unfolding full_spelling
+full_is name = ap never_empty (sym (flat_map-map (λ (p : Bool × ℕ). spelled p.0 p.1) (λ (c : ℕ). (stands_anywhere c, c)) (chars name)))
+
+characters_fully : (cs : List ℕ) → map (λ (p : Bool × ℕ). p.1) (fully cs) ≡ cs
+characters_fully [] = refl
+characters_fully (c ∷ cs) = ap (λ others. c ∷ others) (characters_fully cs)
+
+pub full_written : (name : List ℕ) → Spells name (full_spelling name)
+full_written name = (fully (chars name), full_is name, characters_fully (chars name))
+
+pub same_name : (one other : List ℕ) → IsUtf8 one → IsUtf8 other → chars one ≡ chars other → one ≡ other
+same_name one other u v characters = sym (encodes-chars one u) ∙ (ap encode_utf8_all characters ∙ encodes-chars other v)
+
+read_back : (one other spelling last : List ℕ) → IsUtf8 one → IsUtf8 other → Spells one spelling → Spells other last → spelling ≡ last → one ≡ other
 read_back one other spelling last u v p q e =
     let same = same_written p.0 q.0 (same_named p.0 q.0 (sym p.1 ∙ (e ∙ q.1))) in
-    let characters : chars one ≡ chars other = sym p.2 ∙ (same ∙ q.2) in
-    sym (encodes-chars one u) ∙ (ap encode_utf8_all characters ∙ encodes-chars other v)
+    same_name one other u v (sym p.2 ∙ (same ∙ q.2))
 
 pub spellings_differ : SpellingsDiffer
 spellings_differ = record {

@@ -1,7 +1,7 @@
 -- Names of files that stay in the folder where they are made, whatever a stream's name is, and which name each gets.
 use Rattle.std.specs.Prelude.{◌≡◌, ◌≢◌, ◌<◌, ◌-◌, ◌/◌, ◌%◌, ℕ, Bool, true, not, ◌&&◌, ◌||◌, ◌==◌, nat_lt}
-use Rattle.std.specs.Prelude.{List, [], ◌∷◌, ◌++◌, Some, length, map, slice_get, codes, if◌then◌else◌}
-use Rattle.std.specs.List.{before_first, enumerate_from, flat_map, list_all, list_any}
+use Rattle.std.specs.Prelude.{List, [], ◌∷◌, ◌++◌, Some, length, map, slice_get, codes, if◌then◌else◌, ⊤}
+use Rattle.std.specs.List.{AllByRecursion, IsDistinct, before_first, enumerate_from, flat_map, list_all, list_any}
 use Rattle.std.specs.Char.{digit_char, is_ascii_alphabetic, is_ascii_alphanumeric}
 use Rattle.std.specs.Int.Digits.{digits_of}
 use Rattle.std.specs.Str.{IsUtf8, bytes_eq, chars, str_eq_ignore_ascii_case, str_to_ascii_lowercase, trim}
@@ -107,8 +107,23 @@ given_name taken name = if is_taken taken (safe_spelling name) then full_spellin
 abbrev pub Takes : List (List ℕ) → List (List ℕ) → List ℕ → Type 0
 Takes old new name = (other : List ℕ) → is_taken new other ≡ (is_taken old other || str_eq_ignore_ascii_case name other)
 
+-- where these names are taken, streams of these names get these files one after the other, each taken from then on
+abbrev pub GivenInTurn : List (List ℕ) → (names files : List (List ℕ)) → Type 0
+GivenInTurn taken [] [] = ⊤
+GivenInTurn taken [] (file ∷ files) = ⊥
+GivenInTurn taken (name ∷ names) [] = ⊥
+GivenInTurn taken (name ∷ names) (file ∷ files) =
+    (after : List (List ℕ)) × (file ≡ given_name taken name) × Takes taken after file × GivenInTurn after names files
+
+-- ---- laws
+
 -- Spellings can be read back: no two names have the same, be they safe or full ones.
 pub record SpellingsDiffer : Type 0 where
   pub safe : (one other : List ℕ) → IsUtf8 one → IsUtf8 other → safe_spelling one ≡ safe_spelling other → one ≡ other
   pub full : (one other : List ℕ) → IsUtf8 one → IsUtf8 other → full_spelling one ≡ full_spelling other → one ≡ other
   pub mixed : (one other : List ℕ) → IsUtf8 one → IsUtf8 other → safe_spelling one ≡ full_spelling other → one ≡ other
+
+-- Streams of different names are given different files, also where case is ignored, and whatever was taken before.
+abbrev pub FilesDiffer : Type 0
+FilesDiffer = (taken names files : List (List ℕ)) → AllByRecursion IsUtf8 names → IsDistinct bytes_eq names
+    → GivenInTurn taken names files → IsDistinct str_eq_ignore_ascii_case files
