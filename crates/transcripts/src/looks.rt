@@ -11,7 +11,7 @@ use transcripts_words::kept::print_bytes;
 use transcripts_words::words::Words;
 
 /// The names of these calls.
-pub(crate) static VERBS: [&str; 12] = [
+pub(crate) static VERBS: [&str; 13] = [
     "package_type",
     "codepage",
     "is_writable",
@@ -19,6 +19,7 @@ pub(crate) static VERBS: [&str; 12] = [
     "tables",
     "has_table",
     "columns",
+    "keys",
     "streams",
     "has_stream",
     "read_stream",
@@ -41,6 +42,7 @@ pub(crate) fn print(
         "tables" => print_tables(answer, package),
         "has_table" => write!(answer, "{}", package.has_table(words.name())),
         "columns" => print_table(answer, package, words.name()),
+        "keys" => print_keys(answer, package, words)?,
         "streams" => print_streams(answer, package.streams())?,
         "has_stream" => write!(answer, "{}", package.has_stream(words.name())),
         "read_stream" => print_stream(answer, package, words)?,
@@ -63,6 +65,24 @@ fn print_table(answer: &mut Answer, package: &Package<Counting>, name: &str) {
         Some(table) => print_columns(answer, table.columns()),
         None => answer.push_str("no table"),
     }
+}
+
+/// Prints where the key columns of a table stand, from 0 on.
+fn print_keys(
+    answer: &mut Answer,
+    package: &Package<Counting>,
+    words: &mut Words,
+) -> Result<(), Error> {
+    let Some(table) = package.get_table(words.name()) else {
+        answer.push_str("no table");
+        return Ok(());
+    };
+    let mut before = "";
+    for place in table.primary_key_indices(words.alloc)?.as_slice() {
+        write!(answer, "{before}{place}");
+        before = " ";
+    }
+    Ok(())
 }
 
 /// Prints the names of streams, each as a line.

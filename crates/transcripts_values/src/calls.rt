@@ -39,11 +39,13 @@ fn make_of_values(
     match verb {
         "print_value" | "print_aligned" | "print_cut" => values::print(verb, words, answer),
         "value_from" => values::print_made(words, answer),
+        "held" => values::print_held(words, answer),
         "compare" => values::compare(words, answer),
         "takes" => values::print_takes(words, answer),
         "parse_query" => parsing::print_query(words, answer),
         "parse_expression" => parsing::print_expression(words, answer),
         "parse_nested" => parsing::print_nested(words, answer),
+        "expression_names" => parsing::print_names(words, answer),
         _ => containers::make(kept, verb, words, answer),
     }
 }

@@ -2,6 +2,7 @@
 
 use msi_query_expressions::expr::Expr;
 use msi_query_parse::{Parse, ParseError, Statement};
+use msi_text_base::errors::Error;
 use std::alloc::AllocError;
 use transcripts_words::answers::Answer;
 use transcripts_words::failure::Failure;
@@ -30,6 +31,25 @@ pub(crate) fn print_expression(words: &mut Words, answer: &mut Answer) -> Result
     match Expr::parse(words.alloc, words.name()) {
         Ok(expression) => write!(answer, "{expression}"),
         Err(refusal) => return print_refusal(refusal, answer),
+    }
+    Ok(())
+}
+
+/// Reads an expression, and prints how many columns it names, and whether the names behind it are among them.
+pub(crate) fn print_names(words: &mut Words, answer: &mut Answer) -> Result<(), Failure> {
+    match Expr::parse(words.alloc, words.name()) {
+        Ok(expression) => Ok(print_named(&expression, words, answer)?),
+        Err(refusal) => print_refusal(refusal, answer),
+    }
+}
+
+/// Prints how many columns an expression names, and whether these names are among them.
+fn print_named(expression: &Expr, words: &mut Words, answer: &mut Answer) -> Result<(), Error> {
+    let names = expression.column_names(words.alloc)?;
+    write!(answer, "{}", names.len());
+    for _ in 0..words.len() {
+        let is_named = names.contains(words.name());
+        write!(answer, " {is_named}");
     }
     Ok(())
 }

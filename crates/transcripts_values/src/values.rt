@@ -106,6 +106,20 @@ pub(crate) fn print_made(words: &mut Words, answer: &mut Answer) -> Result<(), F
     Ok(())
 }
 
+/// Prints what a value says that it is, and what it holds.
+pub(crate) fn print_held(words: &mut Words, answer: &mut Answer) -> Result<(), Failure> {
+    let value = value(words, 0)?;
+    let (is_null, is_int, is_str) = (value.is_null(), value.is_int(), value.is_str());
+    write!(answer, "{is_null} {is_int} {is_str}");
+    if let Some(number) = value.as_int() {
+        write!(answer, " {number}");
+    }
+    if let Some(text) = value.as_str() {
+        write!(answer, " {text:?}");
+    }
+    Ok(())
+}
+
 /// Prints how a copy of a value stands to another value.
 pub(crate) fn compare(words: &mut Words, answer: &mut Answer) -> Result<(), Failure> {
     let copy = value(words, 0)?.clone(words.alloc)?;
