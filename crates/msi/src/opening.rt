@@ -19,8 +19,9 @@ use crate::package::Package;
 use crate::reasons;
 use msi_container_device::Source;
 use msi_container_device::parts::read_all;
-use msi_container_format::contents::{Contents, StreamMap};
+use msi_container_format::contents::{Bytes, Contents, StreamMap};
 use msi_container_format::name::Name;
+use msi_container_format::parts::shared_part;
 use msi_container_read::read_shared;
 use msi_database::Database;
 use msi_database_system::names::{string_data_key, string_pool_key, summary_key};
@@ -71,12 +72,12 @@ fn kind_of(contents: &Contents) -> Result<PackageType, Error>
 ///
 /// # Errors
 /// `NotFound` where there is none, for this reason.
-fn bytes_at<'a>(streams: &'a StreamMap, name: &Name, missing: Reason) -> Result<&'a [u8], Error>
+fn bytes_at<'a>(streams: &'a StreamMap, name: &Name, missing: Reason) -> Result<&'a Bytes, Error>
     ensures ok { IfOk result (λ bytes. stream_at name.now (entries streams.now) ≡ Some bytes.now) }
     ensures kind { IfErr result (λ kind. (stream_at name.now (entries streams.now) ≡ None) × (kind ≡ NotFound)) }
 {
     match streams.get(name) {
-        Some(bytes) => Ok(bytes.as_slice()),
+        Some(bytes) => Ok(bytes),
         None => Err(Error::new(ErrorKind::NotFound, missing)),
     }
 }
@@ -90,7 +91,7 @@ fn summary_in(alloc: Global, contents: &Contents) -> Result<SummaryInfo, Error>
     ensures kind { IfErr result (StopsAmong contents.now (has_summary ∷ reads_summary ∷ [])) }
 {
     let bytes = bytes_at(&contents.streams, &summary_key(), reasons::NO_SUMMARY)?;
-    summary_of(alloc, bytes)
+    summary_of(alloc, bytes.as_slice())
 }
 
 /// What the pool's first stream says.
@@ -104,7 +105,7 @@ fn pool_stream_in(alloc: Global, contents: &Contents) -> Result<StringPoolBuilde
     ensures kind { IfErr result (StopsAmong contents.now (has_pool ∷ reads_pool ∷ [])) }
 {
     let bytes = bytes_at(&contents.streams, &string_pool_key(), reasons::NO_POOL)?;
-    pool_builder_of(alloc, bytes)
+    pool_builder_of(alloc, bytes.as_slice())
 }
 
 /// The pool, read of its two streams.
@@ -121,7 +122,7 @@ fn pool_in(alloc: Global, contents: &Contents) -> Result<StringPool, Error>
 {
     let stream = pool_stream_in(alloc, contents)?;
     let bytes = bytes_at(&contents.streams, &string_data_key(), reasons::NO_POOL)?;
-    pool_of(alloc, stream, bytes)
+    pool_of(alloc, stream, bytes.as_slice(), shared_part(bytes))
 }
 
 /// What a container's contents say, as a package has it.

@@ -1,6 +1,6 @@
 //! What a compound file holds.
 
-ghost use Rattle.std.specs.Prelude.{◌≡◌, ◌==◌, length, ◌<◌, ◌^◌, false, true, IfErr, IfOk, OnErr, OnOk};
+ghost use Rattle.std.specs.Prelude.{◌≡◌, ◌==◌, length, ◌<◌, ◌^◌, false, true, IfErr, IfOk, IfSome, OnErr, OnOk};
 ghost use Rattle.std.specs.Borrow.{sem};
 ghost use Rattle.std.specs.FinMap as finite;
 ghost use Rattle.std.specs.Option.{option_copied, option_copied_mut};
@@ -8,7 +8,7 @@ ghost use Rattle.msi_container_format.specs.Lending.{LendsStream};
 ghost use Rattle.msi_container_format.specs.Streams.{with_or_without};
 
 use crate::name::Name;
-use crate::part::Part;
+use msi_text_base::parts::Part;
 use std::alloc::{AllocFailed, Global};
 use std::collections::{BTreeMap, btree_map};
 use std::fmt;
@@ -61,6 +61,16 @@ impl Bytes {
     {
         Bytes {
             held: Held::Part(part),
+        }
+    }
+
+    /// The part of shared bytes that the stream is, unless it has its bytes alone.
+    pub(crate) fn part(&self) -> Option<&Part>
+        ensures { IfSome result (λ part. part.now ≡ self.now) }
+    {
+        match &self.held {
+            Held::Alone(_) => None,
+            Held::Part(part) => Some(part),
         }
     }
 

@@ -7,7 +7,6 @@ pub mod format;
 pub mod laws;
 pub mod name;
 mod packing;
-mod part;
 pub mod parts;
 mod reasons;
 pub mod streamname;

@@ -1,6 +1,6 @@
 //! What the crates above need beyond the surface.
 
-ghost use Rattle.std.specs.Prelude.{◌≡◌, ◌+◌, ◌≤◌, length, true};
+ghost use Rattle.std.specs.Prelude.{◌≡◌, ◌+◌, ◌≤◌, IfSome, length, true};
 ghost use Rattle.std.specs.FinMap as finite;
 ghost use Rattle.msi_container_format.specs.Bytes.{bytes_at};
 ghost use Rattle.msi_container_format.specs.Streams.{with_or_without};
@@ -9,7 +9,7 @@ pub use crate::bytes::{byte, number16, number32, number64, place, push_bytes};
 use crate::contents::{Bytes, StreamMap};
 use crate::name::Name;
 pub use crate::packing::packed_name;
-use crate::part::Part;
+use msi_text_base::parts::Part;
 use std::rc::Rc;
 
 /// Returns a stream that has so many of these bytes, from a position on. It shares them, and copies none.
@@ -18,6 +18,13 @@ pub fn part_of(whole: Rc<Vec<u8>>, start: usize, count: usize) -> Bytes
     ensures { result ≡ bytes_at whole.value.items start count }
 {
     Bytes::from_part(Part::new(whole, start, count))
+}
+
+/// Returns the part of shared bytes that a stream is, unless it has its bytes alone.
+pub fn shared_part(bytes: &Bytes) -> Option<&Part>
+    ensures { IfSome result (λ part. part.now ≡ bytes.now) }
+{
+    bytes.part()
 }
 
 /// Puts back what `StreamMap::replace` handed back: these bytes, or no stream. A stream of that name has to be there,

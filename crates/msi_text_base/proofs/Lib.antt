@@ -12,3 +12,4 @@ pub mod SpelledTextsLemmas
 pub mod ReadLemmas
 pub mod WriteLemmas
 pub mod NumberLemmas
+pub mod PartLemmas

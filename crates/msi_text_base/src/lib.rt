@@ -6,6 +6,7 @@ pub mod errors;
 mod faults;
 pub mod fields;
 pub mod laws;
+mod part;
 pub mod parts;
 pub mod reasons;
 pub mod text;

@@ -5,6 +5,7 @@ ghost use Rattle.msi_text_base.specs.Numbers.{number_of as number_in};
 
 pub use crate::codepage::tables::{character_count, upper_characters};
 pub use crate::faults::{read_exactly, write_fully};
+pub use crate::part::Part;
 use byteorder::{ByteOrder, LittleEndian};
 
 /// Returns the number in one to eight bytes, the lowest first.

@@ -147,7 +147,7 @@ cut_forgotten whole start end named count =
     ap (λ (text : List ℕ). record { text = text; count = count.cells }) (either ((count.cells == 0) && not named) count.is_forgotten (take (end - start) (drop start whole)))
 
 pub counted : (texts : JoinedTexts) (at : ℕ) → at < length (places_joined texts) → at < length texts.counts.items
-counted texts at lt = omega (arith, lt, length-cut (string_bytes texts.whole) 0 texts.ends texts.counts.items)
+counted texts at lt = omega (arith, lt, length-cut texts.whole 0 texts.ends texts.counts.items)
 
 pub start_after : (texts : JoinedTexts) (at start : ℕ) → IsJoined texts → at ≢ 0 → at < length (places_joined texts) → start ≡ get_or texts.ends (at - 1) start → start ≡ end_of 0 (take at texts.ends)
 start_after texts at start h later lt is =
@@ -159,7 +159,7 @@ start_after texts at start h later lt is =
 pub text_there : (texts : JoinedTexts) (at start end : ℕ) (count : Count) → IsJoined texts → at < length (places_joined texts) → start ≡ end_of 0 (take at texts.ends)
     → end ≡ get_or texts.ends at end → count ≡ get_or texts.counts.items at count → count.is_forgotten ≡ false → IsPlaceAt texts at start end count.cells
 text_there texts at start end count h lt start_is end_is is has_text =
-    let whole = string_bytes texts.whole in
+    let whole = texts.whole in
     let inside : at < length texts.ends = omega (arith, counted texts at lt, h.many) in
     rw (start_is, get_or_read texts.ends at end inside end_is 0) (record {
       cut = is_cut whole 0 texts.ends at h.are inside;
@@ -169,7 +169,7 @@ text_there texts at start end count h lt start_is end_is is has_text =
 pub none_there : (texts : JoinedTexts) (at start : ℕ) (count : Count) → IsJoined texts → at < length (places_joined texts) → start ≡ end_of 0 (take at texts.ends)
     → count ≡ get_or texts.counts.items at count → count.is_forgotten ≡ true → IsPlaceAt texts at start start count.cells
 none_there texts at start count h lt start_is is lost =
-    let whole = string_bytes texts.whole in
+    let whole = texts.whole in
     let none : start - start ≡ 0 = omega arith in
     let begins = subst (IsCharBoundary whole) (sym start_is) (is_cut whole 0 texts.ends at h.are (omega (arith, counted texts at lt, h.many))).begins in
     record {

@@ -1,5 +1,5 @@
 -- The texts of places one behind the other, and the places that they are cut into.
-use Rattle.std.specs.Prelude.{◌≡◌, ◌≤◌, ℕ, ◌-◌, List, [], ◌∷◌, Some, length, take, drop, string_bytes}
+use Rattle.std.specs.Prelude.{◌≡◌, ◌≤◌, ℕ, ◌-◌, List, [], ◌∷◌, Some, length, take, drop}
 use Rattle.std.specs.Prelude.{if◌then◌else◌, slice_get}
 use Rattle.std.specs.Str.{IsCharBoundary}
 use Rattle.msi_text_pool_base.specs.Pool.{CountsFit, Place}
@@ -44,13 +44,13 @@ pub record IsAllCut (whole ends : List ℕ) (counts : List Count) : Type 0 where
   pub fit : CountsFit (places_cut whole 0 ends counts)
 
 abbrev pub IsJoined : JoinedTexts → Type 0
-IsJoined texts = IsAllCut (string_bytes texts.whole) texts.ends texts.counts.items
+IsJoined texts = IsAllCut texts.whole texts.ends texts.counts.items
 
 abbrev pub places_joined : JoinedTexts → List Place
-places_joined texts = places_cut (string_bytes texts.whole) 0 texts.ends texts.counts.items
+places_joined texts = places_cut texts.whole 0 texts.ends texts.counts.items
 
 -- a place has the text from a byte on and before another, and the count
 pub record IsPlaceAt (texts : JoinedTexts) (at start end count : ℕ) : Type 0 where
-  pub cut : IsCut (string_bytes texts.whole) start end
+  pub cut : IsCut texts.whole start end
   pub place : slice_get (places_joined texts) at
-      ≡ Some (record { text = take (end - start) (drop start (string_bytes texts.whole)); count = count })
+      ≡ Some (record { text = take (end - start) (drop start texts.whole); count = count })

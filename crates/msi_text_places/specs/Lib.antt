@@ -1,5 +1,6 @@
 -- The words of this crate.
 pub mod SharedTexts
+pub mod WholeTexts
 pub mod JoinedTexts
 pub mod TextJoining
 pub mod TextIndexes

@@ -1,5 +1,5 @@
 -- Entries as they are kept until their texts are read, and texts that are joined one after the other.
-use Rattle.std.specs.Prelude.{◌≡◌, ◌<◌, ◌^◌, ℕ, List, [], ◌∷◌, false, take, drop, string_bytes}
+use Rattle.std.specs.Prelude.{◌≡◌, ◌<◌, ◌^◌, ℕ, List, [], ◌∷◌, false, take, drop}
 use Rattle.msi_text_pool_base.specs.Pool.{Entry, Place}
 use Rattle.msi_text_places.specs.JoinedTexts.{IsAllCut, places_cut}
 use Rattle.msi_text_places.specs.declared.count.Count.{Count}
@@ -21,13 +21,13 @@ AreUnread (len ∷ lens) (count ∷ counts) =
 
 -- the first texts are joined, and of the others the entries are there
 pub record IsJoining (joiner : TextJoiner) : Type 0 where
-  pub front : IsAllCut (string_bytes joiner.whole) (take joiner.read joiner.ends) (take joiner.read joiner.counts.items)
+  pub front : IsAllCut joiner.whole (take joiner.read joiner.ends) (take joiner.read joiner.counts.items)
   pub left : AreUnread (drop joiner.read joiner.ends) (drop joiner.read joiner.counts.items)
 
 -- the places whose texts are read
 abbrev pub places_read : TextJoiner → List Place
 places_read joiner =
-    places_cut (string_bytes joiner.whole) 0 (take joiner.read joiner.ends) (take joiner.read joiner.counts.items)
+    places_cut joiner.whole 0 (take joiner.read joiner.ends) (take joiner.read joiner.counts.items)
 
 -- the entries of the texts that aren't
 abbrev pub entries_left : TextJoiner → List Entry

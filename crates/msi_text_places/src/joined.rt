@@ -1,7 +1,7 @@
 //! Texts of places as they were read, one behind the other: 8 bytes a place say where its text ends, and its count.
 
 ghost use Rattle.std.specs.Prelude.{◌≡◌, ◌≤◌, ◌<◌, [], IfOk, Some, length};
-ghost use Rattle.std.specs.Prelude.{slice_get, string_bytes};
+ghost use Rattle.std.specs.Prelude.{slice_get};
 ghost use Rattle.msi_text_base.specs.Results.{OnlyMemory};
 ghost use Rattle.msi_text_places.specs.JoinedTexts.{IsAllCut, IsJoined, IsPlaceAt, places_cut, places_joined};
 ghost use Rattle.msi_text_pool_base.specs.Pool.{without_unnamed_texts};
@@ -11,6 +11,7 @@ use crate::count::Count;
 use crate::piece::Piece;
 use crate::places::{Place, PlaceRef, Places};
 use crate::shared::SharedText;
+use crate::whole::Whole;
 use msi_text_base::errors::Error;
 use msi_text_pool_base::parts::Numbers;
 use std::alloc::Global;
@@ -19,7 +20,7 @@ use std::rc::RcStr;
 /// The texts of places, one behind the other, where each ends, and its count: two vectors, which need no padding.
 #[derive(Drop)]
 pub struct JoinedTexts {
-    whole: String,
+    whole: Whole,
     ends: Numbers,
     counts: Vec<Count>,
 }
@@ -31,17 +32,17 @@ impl JoinedTexts {
         ensures places { places_joined result ≡ [] }
     {
         JoinedTexts {
-            whole: String::new(alloc),
+            whole: Whole::new(alloc),
             ends: Numbers::new(alloc),
             counts: Vec::new(alloc),
         }
     }
 
     /// Texts that are cut at these ends.
-    pub(crate) fn from_parts(whole: String, ends: Numbers, counts: Vec<Count>) -> JoinedTexts
-        requires { IsAllCut (string_bytes whole) ends counts.items }
+    pub(crate) fn from_parts(whole: Whole, ends: Numbers, counts: Vec<Count>) -> JoinedTexts
+        requires { IsAllCut whole ends counts.items }
         ensures joined { IsJoined result }
-        ensures places { places_joined result ≡ places_cut (string_bytes whole) 0 ends counts.items }
+        ensures places { places_joined result ≡ places_cut whole 0 ends counts.items }
     {
         JoinedTexts {
             whole,
@@ -136,7 +137,7 @@ impl JoinedTexts {
         ensures ok { IfOk result (λ places. places ≡ places_joined self.now) }
         ensures kind { OnlyMemory result }
     {
-        let whole = RcStr::from_string(self.whole.clone()?)?;
+        let whole = RcStr::from_string(self.whole.to_string(self.allocator())?)?;
         let mut places = Vec::with_capacity(self.allocator(), self.len())?;
         for at in 0..self.len() {
             let (start, end, count) = self.piece(at);

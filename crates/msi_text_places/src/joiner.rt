@@ -9,23 +9,32 @@ ghost use Rattle.msi_text_places.specs.TextJoining.{IsJoining, entries_left, pla
 use crate::count::Count;
 use crate::entries::Entries;
 use crate::joined::JoinedTexts;
+use crate::whole::Whole;
 use msi_text_base::errors::Error;
+use msi_text_base::parts::Part;
 use msi_text_pool_base::parts::{Entry, Numbers};
 use std::alloc::Global;
 
 /// Texts of which the first are read. For each of the others, its length stands where its end will stand.
 #[derive(Drop)]
 pub struct TextJoiner {
-    whole: String,
+    whole: Whole,
     ends: Numbers,
     counts: Vec<Count>,
     read: usize,
+    room: usize,
 }
 
 impl TextJoiner {
-    /// Returns what reads the texts of these entries, with room for texts of so many bytes. None is read yet. The only
+    /// Returns what reads the texts of these entries. None is read yet. Those that stand in a part of shared bytes from
+    /// its beginning on, one behind the other, aren't copied; for others there is room for so many bytes. The only
     /// error is `OutOfMemory`.
-    pub fn new(alloc: Global, entries: Entries, bytes: usize) -> Result<TextJoiner, Error>
+    pub fn new(
+        alloc: Global,
+        entries: Entries,
+        part: Option<&Part>,
+        room: usize,
+    ) -> Result<TextJoiner, Error>
         ensures joining { IfOk result (λ joiner. IsJoining joiner) }
         ensures read { IfOk result (λ joiner. places_read joiner ≡ []) }
         ensures left { IfOk result (λ joiner. entries_left joiner ≡ entries) }
@@ -33,10 +42,11 @@ impl TextJoiner {
     {
         let (ends, counts) = entries.into_parts();
         Ok(TextJoiner {
-            whole: String::with_capacity(alloc, bytes)?,
+            whole: Whole::sharing(alloc, part, room)?,
             ends,
             counts,
             read: 0,
+            room,
         })
     }
 
@@ -62,7 +72,8 @@ impl TextJoiner {
         ensures left { OnOk result (entries_left self.new ≡ drop 1 (entries_left self.old)) }
         ensures kind { OnlyMemory result }
     {
-        self.whole.push_str(text)?;
+        let alloc = *self.counts.allocator();
+        self.whole.push_str(alloc, text, self.room)?;
         let end = self.whole.as_str().len();
         self.ends.set(self.read, end)?;
         self.read += 1;
@@ -81,6 +92,7 @@ impl TextJoiner {
             ends,
             counts,
             read: _,
+            room: _,
         } = self;
         JoinedTexts::from_parts(whole, ends, counts)
     }

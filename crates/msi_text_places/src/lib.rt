@@ -14,3 +14,4 @@ mod places;
 pub mod reasons;
 mod shared;
 mod texts;
+mod whole;

@@ -73,7 +73,7 @@ pub fn build_from_data<R: Read + Drop>(
     ensures kinds { IfErr result (λ kind. IsStreamFault kind) }
 {
     let bytes = bytes_of(alloc, reader)?;
-    pool_of(alloc, stream, bytes.as_slice())
+    pool_of(alloc, stream, bytes.as_slice(), None)
 }
 
 /// Writes the stream of a pool's entries (`_StringPool`) in its plain encoding, behind what the writer has.

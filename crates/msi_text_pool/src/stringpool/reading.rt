@@ -18,6 +18,7 @@ use bstr::ByteSlice;
 use msi_text_base::codepage::CodePage;
 use msi_text_base::errors::{Error, ErrorKind};
 use msi_text_base::fields::u32_at;
+use msi_text_base::parts::Part;
 use msi_text_places::parts::{Entries, JoinedTexts, MAX_PLACES, TextJoiner};
 use msi_text_pool_base::parts::Entry;
 use std::alloc::Global;
@@ -65,12 +66,18 @@ pub fn pool_builder_of(alloc: Global, bytes: &[u8]) -> Result<StringPoolBuilder,
 }
 
 /// Returns the pool whose texts stand in the bytes of the data stream (`_StringData`), in order; bytes past the last
-/// are ignored.
+/// are ignored. Where the stream is a part of shared bytes, the texts stay in them up to the first that stands there
+/// otherwise than in UTF-8, and it and those behind it are copied.
 ///
 /// # Errors
 /// Fails with `InvalidData` if the bytes end before a text does, or the page can't read a text, and otherwise with
 /// `OutOfMemory`.
-pub fn pool_of(alloc: Global, stream: StringPoolBuilder, bytes: &[u8]) -> Result<StringPool, Error>
+pub fn pool_of(
+    alloc: Global,
+    stream: StringPoolBuilder,
+    bytes: &[u8],
+    part: Option<&Part>,
+) -> Result<StringPool, Error>
     ensures found { IfOk result (λ pool.
         (pool ≡ newly_indexed (pool_with stream pool.places))
         × SpellsTexts stream.page bytes.now stream.entries pool.places) }
@@ -83,7 +90,7 @@ pub fn pool_of(alloc: Global, stream: StringPoolBuilder, bytes: &[u8]) -> Result
         long,
         entries,
     } = stream;
-    let texts = texts_of(alloc, codepage, entries, bytes)?;
+    let texts = texts_of(alloc, codepage, entries, bytes, part)?;
     Ok(StringPool::from_parts(codepage, long, texts))
 }
 
@@ -108,12 +115,13 @@ fn known_page(id: u32) -> Result<CodePage, Error>
     }
 }
 
-/// The texts that the bytes encode, for which as many bytes are asked as are there.
+/// The texts that the bytes encode. For those that aren't shared as many bytes are asked as are there.
 fn texts_of(
     alloc: Global,
     codepage: CodePage,
     entries: Entries,
     bytes: &[u8],
+    part: Option<&Part>,
 ) -> Result<JoinedTexts, Error>
     ensures joined { IfOk result (λ texts. IsJoined texts) }
     ensures found { IfOk result (λ texts. SpellsTexts codepage bytes.now entries (places_joined texts)) }
@@ -121,7 +129,7 @@ fn texts_of(
         → SpellsTexts codepage bytes.now entries places → Gives places_joined result (Some places) }
     ensures kinds { IfErr result (λ kind. (kind ≡ InvalidData) ⊎ (kind ≡ OutOfMemory)) }
 {
-    let mut joiner = TextJoiner::new(alloc, entries, bytes.len())?;
+    let mut joiner = TextJoiner::new(alloc, entries, part, bytes.len())?;
     let mut rest = bytes;
     while let Some(entry) = joiner.next_entry() {
         rest = push_text(alloc, &mut joiner, codepage, entry, rest)?;

@@ -1,4 +1,4 @@
-use Rattle.std.proofs.Common.{◌≡◌, ◌∙◌, ap, sym, [], ◌∷◌, None}
+use Rattle.std.proofs.Common.{◌≡◌, ◌∙◌, ap, sym, Some, [], ◌∷◌, None}
 use Rattle.msi_text_pool_base.specs.Pool.{newly_indexed}
 use Rattle.std.specs.FinMap.{entries}
 use Rattle.msi_database_system.specs.Keys.{string_data_name, table_key}
@@ -27,17 +27,17 @@ returns-in_err-bytes-clause-kind c =
 pub returns-clause-found : goal.returns-clause-found
 returns-clause-found c =
     let streams = entries c.args.contents.now.streams in
-    pool_found c.args.contents.now c.pool_of.result c.in_ok-bytes.bytes.now c.in_ok-stream.stream c.in_ok-stream.ensures.found
-    (ap (λ name. stream_at name streams) (sym c.string_data_key.ensures) ∙ c.in_ok-bytes.ensures.ok) c.pool_of.ensures.found
+    pool_found c.args.contents.now c.pool_of.result c.as_slice.result.now c.in_ok-stream.stream c.in_ok-stream.ensures.found
+    (ap (λ name. stream_at name streams) (sym c.string_data_key.ensures) ∙ c.in_ok-bytes.ensures.ok ∙ ap Some (sym c.as_slice.ensures)) c.pool_of.ensures.found
 
 pub returns-clause-only : goal.returns-clause-only
 returns-clause-only c = λ raw held.
     let streams = entries c.args.contents.now.streams in
-    pool_only c.args.contents.now c.in_ok-bytes.bytes.now c.in_ok-stream.stream c.pool_of.result raw c.in_ok-stream.ensures.only
-    (ap (λ name. stream_at name streams) (sym c.string_data_key.ensures) ∙ c.in_ok-bytes.ensures.ok) c.pool_of.ensures.only held
+    pool_only c.args.contents.now c.as_slice.result.now c.in_ok-stream.stream c.pool_of.result raw c.in_ok-stream.ensures.only
+    (ap (λ name. stream_at name streams) (sym c.string_data_key.ensures) ∙ c.in_ok-bytes.ensures.ok ∙ ap Some (sym c.as_slice.ensures)) c.pool_of.ensures.only held
 
 pub returns-clause-kind : goal.returns-clause-kind
 returns-clause-kind c =
     let streams = entries c.args.contents.now.streams in
-    texts_stop c.args.contents.now c.pool_of.result c.in_ok-bytes.bytes.now c.in_ok-stream.stream c.in_ok-stream.ensures.found c.in_ok-stream.ensures.only
-    (ap (λ name. stream_at name streams) (sym c.string_data_key.ensures) ∙ c.in_ok-bytes.ensures.ok) c.pool_of.ensures.only c.pool_of.ensures.kinds
+    texts_stop c.args.contents.now c.pool_of.result c.as_slice.result.now c.in_ok-stream.stream c.in_ok-stream.ensures.found c.in_ok-stream.ensures.only
+    (ap (λ name. stream_at name streams) (sym c.string_data_key.ensures) ∙ c.in_ok-bytes.ensures.ok ∙ ap Some (sym c.as_slice.ensures)) c.pool_of.ensures.only c.pool_of.ensures.kinds

@@ -1,4 +1,4 @@
-use Rattle.std.proofs.Common.{◌≡◌, ◌∙◌, ap, sym, [], ◌∷◌, None}
+use Rattle.std.proofs.Common.{◌≡◌, ◌∙◌, ap, sym, Some, [], ◌∷◌, None}
 use Rattle.std.specs.FinMap.{entries}
 use Rattle.msi_text_base.proofs.OptionLemmas.{none_not}
 use Rattle.msi_text_pool_base.specs.Pool.{IsPoolStream}
@@ -25,17 +25,17 @@ returns-in_err-bytes-clause-kind c =
 pub returns-clause-found : goal.returns-clause-found
 returns-clause-found c =
     let streams = entries c.args.contents.now.streams in
-    pool_stream_found (stream_at (table_key string_pool_name) streams) c.pool_builder_of.result c.in_ok-bytes.bytes.now
-    (ap (λ name. stream_at name streams) (sym c.string_pool_key.ensures) ∙ c.in_ok-bytes.ensures.ok) c.pool_builder_of.ensures.found
+    pool_stream_found (stream_at (table_key string_pool_name) streams) c.pool_builder_of.result c.as_slice.result.now
+    (ap (λ name. stream_at name streams) (sym c.string_pool_key.ensures) ∙ c.in_ok-bytes.ensures.ok ∙ ap Some (sym c.as_slice.ensures)) c.pool_builder_of.ensures.found
 
 pub returns-clause-only : goal.returns-clause-only
 returns-clause-only c = λ stream is.
     let streams = entries c.args.contents.now.streams in
-    c.pool_builder_of.ensures.only stream (of_bytes (λ bytes. IsPoolStream bytes stream) (stream_at (table_key string_pool_name) streams) c.in_ok-bytes.bytes.now
-    (ap (λ name. stream_at name streams) (sym c.string_pool_key.ensures) ∙ c.in_ok-bytes.ensures.ok) is)
+    c.pool_builder_of.ensures.only stream (of_bytes (λ bytes. IsPoolStream bytes stream) (stream_at (table_key string_pool_name) streams) c.as_slice.result.now
+    (ap (λ name. stream_at name streams) (sym c.string_pool_key.ensures) ∙ c.in_ok-bytes.ensures.ok ∙ ap Some (sym c.as_slice.ensures)) is)
 
 pub returns-clause-kind : goal.returns-clause-kind
 returns-clause-kind c =
     let streams = entries c.args.contents.now.streams in
-    pool_stream_stops c.args.contents.now c.pool_builder_of.result c.in_ok-bytes.bytes.now
-    (ap (λ name. stream_at name streams) (sym c.string_pool_key.ensures) ∙ c.in_ok-bytes.ensures.ok) c.pool_builder_of.ensures.only c.pool_builder_of.ensures.kinds
+    pool_stream_stops c.args.contents.now c.pool_builder_of.result c.as_slice.result.now
+    (ap (λ name. stream_at name streams) (sym c.string_pool_key.ensures) ∙ c.in_ok-bytes.ensures.ok ∙ ap Some (sym c.as_slice.ensures)) c.pool_builder_of.ensures.only c.pool_builder_of.ensures.kinds

@@ -8,19 +8,19 @@ use Rattle.msi_text_places.proofs.joined.JoinedTexts.forget_texts.Goals as goal
 pub index_mut-requires : goal.index_mut-requires
 index_mut-requires c =
     let texts = c.args.self.now in
-    omega (arith, c.loop-i-test.true, c.requires.named, length-cut (string_bytes texts.whole) 0 texts.ends texts.counts.items, texts.counts.ok.0, c.loop-i.invariant.many)
+    omega (arith, c.loop-i-test.true, c.requires.named, length-cut texts.whole 0 texts.ends texts.counts.items, texts.counts.ok.0, c.loop-i.invariant.many)
 
 pub loop-i-preserved : goal.loop-i-preserved
 loop-i-preserved c =
     let texts = c.args.self.now in
     let now = c.loop-i.self in
-    let whole = string_bytes now.whole in
+    let whole = now.whole in
     let ends = now.ends in
     let i = c.loop-i.i in
     let old = c.index_mut.result.now in
     let new = c.forget_text.new.self in
     let place = place_of whole ends i in
-    let inside : i < length now.counts.items = omega (arith, c.loop-i-test.true, c.requires.named, length-cut (string_bytes texts.whole) 0 texts.ends texts.counts.items, texts.counts.ok.0, now.counts.ok.0, c.loop-i.invariant.many) in
+    let inside : i < length now.counts.items = omega (arith, c.loop-i-test.true, c.requires.named, length-cut texts.whole 0 texts.ends texts.counts.items, texts.counts.ok.0, now.counts.ok.0, c.loop-i.invariant.many) in
     let is = place_set whole ends now.counts.items i old new inside c.index_mut.ensures.value (λ few. rw c.forget_text.ensures few) c.loop-i.invariant.joined in
     record {
       joined = is.joined;

@@ -6,4 +6,4 @@ use Rattle.msi_text_places.proofs.joined.JoinedTexts.len.Goals as goal
 pub returns : goal.returns
 returns c =
     let texts = c.args.self.now in
-    omega (arith, c.len.ensures, texts.counts.ok.0, length-cut (string_bytes texts.whole) 0 texts.ends texts.counts.items)
+    omega (arith, c.len.ensures, texts.counts.ok.0, length-cut texts.whole 0 texts.ends texts.counts.items)

@@ -9,7 +9,7 @@ use Rattle.msi_text_places.proofs.joined.JoinedTexts.set_counts.Goals.{then-set_
 pub index_mut-requires : goal.index_mut-requires
 index_mut-requires c =
     let texts = c.args.self.now in
-    omega (arith, c.loop-i-test.true, c.requires.many, length-cut (string_bytes texts.whole) 0 texts.ends texts.counts.items, texts.counts.ok.0, c.loop-i.invariant.many)
+    omega (arith, c.loop-i-test.true, c.requires.many, length-cut texts.whole 0 texts.ends texts.counts.items, texts.counts.ok.0, c.loop-i.invariant.many)
 
 pub overflow_add-changed : goal.overflow_add-changed
 overflow_add-changed c = omega (arith, c.loop-i.invariant.few, c.loop-i-test.true, c.requires.many, c.requires.most)
@@ -18,13 +18,13 @@ pub loop-i-preserved : goal.loop-i-preserved
 loop-i-preserved c =
     let texts = c.args.self.now in
     let now = c.loop-i.self in
-    let whole = string_bytes now.whole in
+    let whole = now.whole in
     let ends = now.ends in
     let i = c.loop-i.i in
     let old = c.index_mut.result.now in
     let new = c.set_count.new.self in
     let place = place_of whole ends i in
-    let inside : i < length now.counts.items = omega (arith, c.loop-i-test.true, c.requires.many, length-cut (string_bytes texts.whole) 0 texts.ends texts.counts.items, texts.counts.ok.0, now.counts.ok.0, c.loop-i.invariant.many) in
+    let inside : i < length now.counts.items = omega (arith, c.loop-i-test.true, c.requires.many, length-cut texts.whole 0 texts.ends texts.counts.items, texts.counts.ok.0, now.counts.ok.0, c.loop-i.invariant.many) in
     let is = place_set whole ends now.counts.items i old new inside c.index_mut.ensures.value (λ _. rw c.set_count.ensures.count (omega (arith, c.type_inv.counts i))) c.loop-i.invariant.joined in
     let more = changed_before-more c.args.counts.now (places_joined texts) (places_joined now) i 0 c.loop-i.changed (place old) c.set_count.result
     c.loop-i-test.true c.requires.many c.loop-i.invariant.places is.was c.set_count.ensures.changed c.loop-i.invariant.changed in

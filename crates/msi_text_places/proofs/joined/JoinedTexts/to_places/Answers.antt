@@ -6,5 +6,5 @@ use Rattle.msi_text_places.proofs.joined.JoinedTexts.to_places.Goals as goal
 pub loop-at-preserved : goal.loop-at-preserved
 loop-at-preserved c =
     taken_more (places_joined c.args.self.now) c.loop-at.places.items c.push.new.self.items c.loop-at.at c.new-in-loop-at.result
-    (c.piece-start.ensures.place ∙ rw (c.new-in-loop-at.ensures, c.from_piece-text.ensures, c.new.ensures, c.in_ok-clone-2.ensures.cases, c.in_ok-whole.ensures.ok, c.in_ok-clone.ensures.cases) refl)
+    (c.piece-start.ensures.place ∙ rw (c.new-in-loop-at.ensures, c.from_piece-text.ensures, c.new.ensures, c.in_ok-clone.ensures.cases, c.in_ok-whole.ensures.ok, c.in_ok-to_string.ensures.ok) refl)
     c.loop-at.invariant c.in_ok-push.ensures.items

@@ -1,7 +1,5 @@
 use Rattle.std.proofs.Common.{ap, length, sym, ◌∙◌}
-use Rattle.std.specs.Prelude.{string_bytes}
 use Rattle.std.proofs.lemmas.List.{length-append}
-use Rattle.std.proofs.lemmas.Str.{IsUtf8-string_bytes}
 use Rattle.msi_text_places.specs.TextJoining.{places_read}
 use Rattle.msi_text_places.proofs.TextJoiningLemmas.{as_counted, left_within, text_is_put}
 use Rattle.msi_text_places.proofs.joiner.TextJoiner.push.Goals as goal
@@ -10,11 +8,11 @@ pub returns-clause-joining : goal.returns-clause-joining
 returns-clause-joining c =
     let old = c.args.self.now in
     let text = c.args.text.now in
-    let end_is = ap length (c.as_str-end.ensures.value ∙ c.in_ok-push_str.ensures.bytes) ∙ length-append (string_bytes old.whole) text in
-    let put = text_is_put (string_bytes old.whole) text old.ends old.counts.items old.read (length c.as_str-end.result.now) (IsUtf8-string_bytes old.whole) c.utf8.text end_is
+    let end_is = ap length (c.as_str-end.ensures ∙ c.in_ok-push_str.ensures.ok) ∙ length-append old.whole text in
+    let put = text_is_put old.whole text old.ends old.counts.items old.read (length c.as_str-end.result.now) c.in_ok-push_str.ensures.utf8 c.utf8.text end_is
     c.requires.joining.front c.requires.joining.left (left_within old c.requires.joining c.requires.left) in
     record {
-      front = rw (c.in_ok-push_str.ensures.bytes, c.in_ok-set.ensures.ok) put.front;
+      front = rw (c.in_ok-push_str.ensures.ok, c.in_ok-set.ensures.ok) put.front;
       left = rw c.in_ok-set.ensures.ok put.left;
     }
 
@@ -22,16 +20,16 @@ pub returns-clause-read : goal.returns-clause-read
 returns-clause-read c = λ entry next.
     let old = c.args.self.now in
     let text = c.args.text.now in
-    let end_is = ap length (c.as_str-end.ensures.value ∙ c.in_ok-push_str.ensures.bytes) ∙ length-append (string_bytes old.whole) text in
-    let put = text_is_put (string_bytes old.whole) text old.ends old.counts.items old.read (length c.as_str-end.result.now) (IsUtf8-string_bytes old.whole) c.utf8.text end_is
+    let end_is = ap length (c.as_str-end.ensures ∙ c.in_ok-push_str.ensures.ok) ∙ length-append old.whole text in
+    let put = text_is_put old.whole text old.ends old.counts.items old.read (length c.as_str-end.result.now) c.in_ok-push_str.ensures.utf8 c.utf8.text end_is
     c.requires.joining.front c.requires.joining.left (left_within old c.requires.joining c.requires.left) in
-    rw (c.in_ok-push_str.ensures.bytes, c.in_ok-set.ensures.ok) (put.places ∙ as_counted (places_read old) text _ entry (sym put.entry ∙ next))
+    rw (c.in_ok-push_str.ensures.ok, c.in_ok-set.ensures.ok) (put.places ∙ as_counted (places_read old) text _ entry (sym put.entry ∙ next))
 
 pub returns-clause-left : goal.returns-clause-left
 returns-clause-left c =
     let old = c.args.self.now in
     let text = c.args.text.now in
-    let end_is = ap length (c.as_str-end.ensures.value ∙ c.in_ok-push_str.ensures.bytes) ∙ length-append (string_bytes old.whole) text in
-    let put = text_is_put (string_bytes old.whole) text old.ends old.counts.items old.read (length c.as_str-end.result.now) (IsUtf8-string_bytes old.whole) c.utf8.text end_is
+    let end_is = ap length (c.as_str-end.ensures ∙ c.in_ok-push_str.ensures.ok) ∙ length-append old.whole text in
+    let put = text_is_put old.whole text old.ends old.counts.items old.read (length c.as_str-end.result.now) c.in_ok-push_str.ensures.utf8 c.utf8.text end_is
     c.requires.joining.front c.requires.joining.left (left_within old c.requires.joining c.requires.left) in
     rw c.in_ok-set.ensures.ok put.entries
