@@ -1,5 +1,5 @@
 -- What callers need of code pages.
-use Rattle.std.proofs.Common.{◌≡◌, ℕ, zero, suc, ◌+◌, ◌-◌, ◌^◌, ◌<◌, true, false, cond, ◌&&◌, List, [], ◌∷◌, map, Option, Some, None, is_some, option_map, position, slice_get, chars, encode_utf8_all, eqb, refl, sym, ap, ◌∙◌, arith, rules, nat_lt}
+use Rattle.std.proofs.Common.{◌≡◌, ℕ, zero, suc, ◌+◌, ◌-◌, ◌^◌, ◌<◌, true, false, cond, ◌&&◌, List, [], ◌∷◌, map, Option, Some, None, is_some, option_map, position, slice_get, chars, encode_utf8_all, eqb, refl, sym, ap, ◌∙◌, arith, rules, nat_lt, lt-ltb}
 use Rattle.std.specs.Prelude.{unwrap_or, option_and_then, ◌↔◌, IsUtf8}
 use Rattle.std.specs.List.{list_all}
 use Rattle.std.specs.Str.{IsAscii}
@@ -49,6 +49,15 @@ utf8_texts_come_back text utf8 = ap Some (lossy_chars-utf8 text utf8)
 pub ascii_stands_for_itself : AsciiStandsForItself
 ascii_stands_for_itself page.Utf8 text h = (refl, ap Some (lossy_chars-utf8 text (IsUtf8-from_ascii text (IsAscii-from_test text h))))
 ascii_stands_for_itself page text h = (ascii_spelling_is (upper_characters page) text h, ascii_text_is (upper_characters page) text h)
+
+test-from_IsAscii : (bytes : List ℕ) → IsAscii bytes → is_ascii bytes ≡ true
+test-from_IsAscii [] h = refl
+test-from_IsAscii (b ∷ bytes) h = and_from (nat_lt b 128) (is_ascii bytes) (lt-ltb b 128 (h 0)) (test-from_IsAscii bytes (λ i. h (suc i)))
+
+pub ascii_reads_as_utf8 : (p : CodePage) (bytes : List ℕ) → IsAscii bytes → text_in p bytes ≡ text_in page.Utf8 bytes
+ascii_reads_as_utf8 p bytes h =
+    let ascii = test-from_IsAscii bytes h in
+    (ascii_stands_for_itself p bytes ascii).1 ∙ sym (ascii_stands_for_itself page.Utf8 bytes ascii).1
 
 -- in a page with a table
 table_text : (page : CodePage) (upper bytes : List ℕ) → upper_characters page ≡ Some upper → text_in page bytes ≡ single_byte_text (Some upper) bytes

@@ -1,5 +1,5 @@
 -- A part of bytes that takes in those behind it.
-use Rattle.std.proofs.Common.{◌≡◌, ℕ, ◌+◌, ◌-◌, ◌≤◌, Bool, true, eqb, List, ◌++◌, length, take, drop, refl, sym, ap, ◌∙◌, arith, take_all, take-add, drop-drop, take_at, length-drop, slice_range}
+use Rattle.std.proofs.Common.{◌≡◌, ℕ, ◌+◌, ◌-◌, ◌≤◌, Bool, true, eqb, List, ◌++◌, length, take, drop, refl, ap, ◌∙◌, arith, take_all, take-add, drop-drop, take_at, length-drop, slice_range}
 use Rattle.std.specs.List.{starts_with}
 use Rattle.std.proofs.lemmas.Bool.Decides.{Decides-eqb}
 use Rattle.std.proofs.lemmas.Slice.Eq.{starts_is}

@@ -3,7 +3,7 @@ use Rattle.std.proofs.Common.{◌≡◌, ◌≢◌, ℕ, zero, suc, ◌+◌, ◌
 use Rattle.std.proofs.lemmas.List.{drop-append-le, get_or_read, take-append-le, length-append, length-drop, length-set, take_all, drop_at}
 use Rattle.std.proofs.lemmas.Str.{IsCharBoundary-from_drop, IsUtf8-drop, IsUtf8-append, IsCharBoundary-at_seam, IsCharBoundary-end}
 use Rattle.std.specs.Str.{IsCharBoundary}
-use Rattle.std.specs.Prelude.{IsUtf8, slice_get, string_bytes, ◌==◌}
+use Rattle.std.specs.Prelude.{IsUtf8, slice_get, ◌==◌}
 use Rattle.msi_text_pool_base.specs.Pool.{CountsFit, Place, forgotten}
 use Rattle.msi_text_pool_base.specs.Recounting.{with_count}
 use Rattle.msi_text_pool_base.proofs.CountLemmas.{CountsFit-push}

@@ -19,9 +19,15 @@ pub(crate) enum Held {
 }
 
 /// Texts one behind the other. Contracts see their bytes in UTF-8.
-#[derive(Drop)]
 pub(crate) struct Whole {
     held: Held,
+}
+
+/// Written out, so that a function that owns one calls one drop, and its proof doesn't go through those of the parts.
+impl Drop for Whole {
+    fn drop(self) {
+        let Whole { held: _ } = self;
+    }
 }
 
 impl Model for Whole {

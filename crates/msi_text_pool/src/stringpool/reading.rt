@@ -1,8 +1,9 @@
 //! Reading the pool of the bytes of its two streams.
 
-ghost use Rattle.std.specs.Prelude.{◌≡◌, ◌⊎◌, ◌<◌, ◌^◌, List, IfOk, IfErr, OnOk, Some, drop, length, slice_get};
+ghost use Rattle.std.specs.Prelude.{◌≡◌, ◌⊎◌, ◌<◌, ◌^◌, List, IfOk, IfErr, OnOk, Some, drop, length, slice_get, true};
 ghost use Rattle.msi_text_base.specs.declared.errors.ErrorKind.TheVariants.{InvalidData, OutOfMemory};
 ghost use Rattle.msi_text_base.specs.Pages.{page_with_id, text_in};
+ghost use Rattle.msi_text_base.specs.declared.codepage.CodePage.TheVariants.{Utf8};
 ghost use Rattle.msi_text_pool_base.specs.Pool as pools;
 ghost use Rattle.msi_text_pool_base.specs.Pool.{IsPoolStream, PoolStream, SpellsTexts};
 ghost use Rattle.msi_text_pool_base.specs.Pool.{newly_indexed, pool_with};
@@ -177,10 +178,20 @@ fn push_piece(
     ensures left { OnOk result (entries_left joiner.new ≡ drop 1 (entries_left joiner.old)) }
     ensures err { IfErr result (λ kind. FailsAs kind (text_in codepage piece.now)) }
 {
-    if let CodePage::Utf8 = codepage {
+    if reads_as_utf8(codepage, piece) {
         let text = piece.to_str_lossy(alloc)?;
         return joiner.push(text.as_ref());
     }
     let text = codepage.decode(alloc, piece)?;
     joiner.push(text.as_str())
+}
+
+/// Whether the page is known to read the bytes as UTF-8 does, so that no string has to be made to look at them.
+fn reads_as_utf8(codepage: CodePage, piece: &[u8]) -> bool
+    ensures { result ≡ true → text_in codepage piece.now ≡ text_in Utf8 piece.now }
+{
+    match codepage {
+        CodePage::Utf8 => true,
+        _ => piece.is_ascii(),
+    }
 }

@@ -1,5 +1,4 @@
 use Rattle.std.proofs.Common.{◌<◌, ap, length, take, get_or, arith, ◌∙◌}
-use Rattle.std.specs.Prelude.{string_bytes}
 use Rattle.msi_text_places.specs.JoinedTexts.{end_of, places_joined}
 use Rattle.msi_text_places.proofs.ForgettingLemmas.{gone_through-all, gone_through-more}
 use Rattle.msi_text_places.proofs.JoinedTextsLemmas.{cut_forgotten, length-cut, place_of, place_set}

@@ -1,5 +1,4 @@
 use Rattle.std.proofs.Common.{arith}
-use Rattle.std.specs.Prelude.{string_bytes}
 use Rattle.msi_text_places.proofs.JoinedTextsLemmas.{length-cut}
 use Rattle.msi_text_places.proofs.joined.JoinedTexts.len.Goals as goal
 

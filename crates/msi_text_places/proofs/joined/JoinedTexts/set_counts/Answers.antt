@@ -1,5 +1,4 @@
 use Rattle.std.proofs.Common.{◌≡◌, ◌<◌, ◌+◌, ap, sym, length, take, get_or, arith, ◌∙◌, false, cond}
-use Rattle.std.specs.Prelude.{string_bytes}
 use Rattle.msi_text_pool_base.proofs.RecountingLemmas.{changed_before-more, set_before-more}
 use Rattle.msi_text_places.specs.JoinedTexts.{end_of, places_joined}
 use Rattle.msi_text_places.proofs.JoinedTextsLemmas.{cut_counted, length-cut, place_of, place_set}

@@ -1,19 +1,18 @@
 use Rattle.std.proofs.Common.{Some, sym, ap, ◌∙◌}
 use Rattle.std.proofs.lemmas.Result.{err_from_is_err_and}
-use Rattle.msi_text_base.specs.declared.codepage.CodePage.{CodePage}
 use Rattle.msi_text_base.specs.Pages.{text_in}
 use Rattle.msi_text_places.specs.TextJoining.{places_read}
 use Rattle.msi_text_pool.proofs.PoolPiecesLemmas.{failed_as, memory_failed, unread, piece_put}
 use Rattle.msi_text_pool.proofs.stringpool.reading.push_piece.Goals as goal
 
-pub returns-in-Utf8-clause-ok : goal.returns-in-Utf8-clause-ok
-returns-in-Utf8-clause-ok c = λ entry next.
+pub returns-then-reads_as_utf8-clause-ok : goal.returns-then-reads_as_utf8-clause-ok
+returns-then-reads_as_utf8-clause-ok c = λ entry next.
     piece_put c.push.result c.args.codepage c.args.piece.now entry.count (places_read c.args.joiner.now) (places_read c.push.new.self) c.as_ref.result.now
-    (ap (λ (page : CodePage). text_in page c.args.piece.now) c.in-Utf8.is ∙ ap Some (sym (c.as_ref.ensures.value ∙ c.in_ok-text.ensures.text)))
+    (c.reads_as_utf8.ensures c.if-reads_as_utf8.true ∙ ap Some (sym (c.as_ref.ensures.value ∙ c.in_ok-text.ensures.text)))
     (c.push.ensures.read entry next)
 
-pub returns-in-Utf8-clause-err : goal.returns-in-Utf8-clause-err
-returns-in-Utf8-clause-err c = memory_failed c.push.result (text_in c.args.codepage c.args.piece.now) c.push.ensures.kind
+pub returns-then-reads_as_utf8-clause-err : goal.returns-then-reads_as_utf8-clause-err
+returns-then-reads_as_utf8-clause-err c = memory_failed c.push.result (text_in c.args.codepage c.args.piece.now) c.push.ensures.kind
 
 pub returns-in_err-text-2-clause-joining : goal.returns-in_err-text-2-clause-joining
 returns-in_err-text-2-clause-joining c = let p = err_from_is_err_and c.from_residual-in_err-text-2.result c.from_residual-in_err-text-2.ensures.1 in rw p.1 tt
