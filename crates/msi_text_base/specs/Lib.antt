@@ -7,3 +7,4 @@ pub mod PageTables
 pub mod Pages
 pub mod Faults
 pub mod Refusals
+pub mod Buffers

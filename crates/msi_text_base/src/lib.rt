@@ -1,6 +1,7 @@
 //! The lowest layer: errors, texts, numbers as bytes, and code pages, which every other crate uses.
 #![tactic(auto)]
 
+mod buffer;
 pub mod codepage;
 pub mod errors;
 mod faults;

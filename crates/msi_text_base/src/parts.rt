@@ -3,6 +3,7 @@
 ghost use Rattle.std.specs.Prelude.{◌≡◌, ◌<◌, ◌≤◌, ◌^◌, length};
 ghost use Rattle.msi_text_base.specs.Numbers.{number_of as number_in};
 
+pub use crate::buffer::TextBuffer;
 pub use crate::codepage::tables::{character_count, upper_characters};
 pub use crate::faults::{read_exactly, write_fully};
 pub use crate::part::Part;

@@ -1,6 +1,5 @@
 -- The words of this crate.
 pub mod SharedTexts
-pub mod WholeTexts
 pub mod JoinedTexts
 pub mod TextJoining
 pub mod TextIndexes

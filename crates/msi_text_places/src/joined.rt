@@ -11,8 +11,8 @@ use crate::count::Count;
 use crate::piece::Piece;
 use crate::places::{Place, PlaceRef, Places};
 use crate::shared::SharedText;
-use crate::whole::Whole;
 use msi_text_base::errors::Error;
+use msi_text_base::parts::TextBuffer;
 use msi_text_pool_base::parts::Numbers;
 use std::alloc::Global;
 use std::rc::RcStr;
@@ -20,7 +20,7 @@ use std::rc::RcStr;
 /// The texts of places, one behind the other, where each ends, and its count: two vectors, which need no padding.
 #[derive(Drop)]
 pub struct JoinedTexts {
-    whole: Whole,
+    whole: TextBuffer,
     ends: Numbers,
     counts: Vec<Count>,
 }
@@ -32,14 +32,14 @@ impl JoinedTexts {
         ensures places { places_joined result ≡ [] }
     {
         JoinedTexts {
-            whole: Whole::new(alloc),
+            whole: TextBuffer::new(alloc),
             ends: Numbers::new(alloc),
             counts: Vec::new(alloc),
         }
     }
 
     /// Texts that are cut at these ends.
-    pub(crate) fn from_parts(whole: Whole, ends: Numbers, counts: Vec<Count>) -> JoinedTexts
+    pub(crate) fn from_parts(whole: TextBuffer, ends: Numbers, counts: Vec<Count>) -> JoinedTexts
         requires { IsAllCut whole ends counts.items }
         ensures joined { IsJoined result }
         ensures places { places_joined result ≡ places_cut whole 0 ends counts.items }

@@ -9,16 +9,15 @@ ghost use Rattle.msi_text_places.specs.TextJoining.{IsJoining, entries_left, pla
 use crate::count::Count;
 use crate::entries::Entries;
 use crate::joined::JoinedTexts;
-use crate::whole::Whole;
 use msi_text_base::errors::Error;
-use msi_text_base::parts::Part;
+use msi_text_base::parts::{Part, TextBuffer};
 use msi_text_pool_base::parts::{Entry, Numbers};
 use std::alloc::Global;
 
 /// Texts of which the first are read. For each of the others, its length stands where its end will stand.
 #[derive(Drop)]
 pub struct TextJoiner {
-    whole: Whole,
+    whole: TextBuffer,
     ends: Numbers,
     counts: Vec<Count>,
     read: usize,
@@ -42,7 +41,7 @@ impl TextJoiner {
     {
         let (ends, counts) = entries.into_parts();
         Ok(TextJoiner {
-            whole: Whole::sharing(alloc, part, room)?,
+            whole: TextBuffer::sharing(alloc, part, room)?,
             ends,
             counts,
             read: 0,

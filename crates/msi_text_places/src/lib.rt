@@ -14,4 +14,3 @@ mod places;
 pub mod reasons;
 mod shared;
 mod texts;
-mod whole;

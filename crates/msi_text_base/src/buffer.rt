@@ -1,10 +1,10 @@
-//! Texts one behind the other in one piece of memory, which may be a file's.
+//! Texts one behind the other, in memory of their own or in a part of bytes that others share.
 
 ghost use Rattle.std.specs.Prelude.{◌≡◌, ◌++◌, [], IfOk, OnOk, IsUtf8, string_bytes};
 ghost use Rattle.msi_text_base.specs.Results.{OnlyMemory};
 
-use msi_text_base::errors::Error;
-use msi_text_base::parts::Part;
+use crate::errors::Error;
+use crate::part::Part;
 use std::alloc::Global;
 use std::marker::Model;
 use std::str;
@@ -14,58 +14,61 @@ use std::str;
 pub(crate) enum Held {
     /// These texts alone.
     Alone(String),
-    /// All the parts of a file's bytes together. They are in UTF-8.
+    /// Others, too: the bytes of a part, which are in UTF-8.
     Part(Part),
 }
 
 /// Texts one behind the other. Contracts see their bytes in UTF-8.
-pub(crate) struct Whole {
+pub struct TextBuffer {
     held: Held,
 }
 
 /// Written out, so that a function that owns one calls one drop, and its proof doesn't go through those of the parts.
-impl Drop for Whole {
+impl Drop for TextBuffer {
     fn drop(self) {
-        let Whole { held: _ } = self;
+        let TextBuffer { held: _ } = self;
     }
 }
 
-impl Model for Whole {
+impl Model for TextBuffer {
     ghost use Rattle.std.specs.Prelude.{List, ℕ, IsUtf8};
-    ghost use Rattle.msi_text_places.specs.WholeTexts.{bytes_of};
+    ghost use Rattle.msi_text_base.specs.Buffers.{bytes_of};
 
     ghost Value = { List ℕ };
 
-    ghost view = { λ w. bytes_of w.held };
+    ghost view = { λ b. bytes_of b.held };
 
-    ghost invariant = { λ w. IsUtf8 (bytes_of w.held) };
+    ghost invariant = { λ b. IsUtf8 (bytes_of b.held) };
 }
 
-impl Whole {
-    /// No text.
-    pub(crate) fn new(alloc: Global) -> Whole
+impl TextBuffer {
+    /// Returns a buffer without texts.
+    pub fn new(alloc: Global) -> TextBuffer
         ensures { result ≡ [] }
     {
-        Whole {
+        TextBuffer {
             held: Held::Alone(String::new(alloc)),
         }
     }
 
-    /// No text yet. The first are sought where the part begins, if there is one; else there is room for so many bytes.
-    /// The only error is `OutOfMemory`.
-    pub(crate) fn sharing(alloc: Global, part: Option<&Part>, room: usize) -> Result<Whole, Error>
-        ensures ok { IfOk result (λ whole. whole ≡ []) }
+    /// Returns a buffer without texts. The first are sought where the part begins, if there is one; else there is room
+    /// for so many bytes.
+    ///
+    /// # Errors
+    /// Fails with `OutOfMemory` alone.
+    pub fn sharing(alloc: Global, part: Option<&Part>, room: usize) -> Result<TextBuffer, Error>
+        ensures ok { IfOk result (λ texts. texts ≡ []) }
         ensures kind { OnlyMemory result }
     {
         let held = match part {
             Some(part) => Held::Part(part.beginning()?),
             None => Held::Alone(String::with_capacity(alloc, room)?),
         };
-        Ok(Whole { held })
+        Ok(TextBuffer { held })
     }
 
-    /// The texts, borrowed.
-    pub(crate) fn as_str(&self) -> &str
+    /// Returns the texts, borrowed.
+    pub fn as_str(&self) -> &str
         ensures { result.now ≡ self.now }
     {
         match &self.held {
@@ -75,9 +78,12 @@ impl Whole {
         }
     }
 
-    /// Puts a text behind the others, and copies none as long as each stands behind the last. The first that doesn't
-    /// takes room for so many bytes. The only error is `OutOfMemory`.
-    pub(crate) fn push_str(&mut self, alloc: Global, text: &str, room: usize) -> Result<(), Error>
+    /// Puts a text behind the others. None is copied as long as each stands in the shared bytes behind the last; the
+    /// first that doesn't takes room for so many bytes.
+    ///
+    /// # Errors
+    /// Fails with `OutOfMemory` alone.
+    pub fn push_str(&mut self, alloc: Global, text: &str, room: usize) -> Result<(), Error>
         ensures ok { OnOk result (self.new ≡ self.old ++ text.now) }
         ensures utf8 { IsUtf8 self.old }
         ensures kind { OnlyMemory result }
@@ -95,24 +101,30 @@ impl Whole {
         Ok(())
     }
 
-    /// The texts in a string of their own. The only error is `OutOfMemory`.
-    pub(crate) fn to_string(&self, alloc: Global) -> Result<String, Error>
+    /// Returns the texts in a string of their own.
+    ///
+    /// # Errors
+    /// Fails with `OutOfMemory` alone.
+    pub fn to_string(&self, alloc: Global) -> Result<String, Error>
         ensures ok { IfOk result (λ whole. string_bytes whole ≡ self.now) }
         ensures kind { OnlyMemory result }
     {
         Ok(String::from_str(alloc, self.as_str())?)
     }
 
-    /// The same texts once more. The only error is `OutOfMemory`.
-    pub(crate) fn clone(&self) -> Result<Whole, Error>
-        ensures ok { IfOk result (λ whole. whole ≡ self.now) }
+    /// Returns the same texts once more.
+    ///
+    /// # Errors
+    /// Fails with `OutOfMemory` alone.
+    pub fn clone(&self) -> Result<TextBuffer, Error>
+        ensures ok { IfOk result (λ texts. texts ≡ self.now) }
         ensures kind { OnlyMemory result }
     {
         let held = match &self.held {
             Held::Alone(whole) => Held::Alone(whole.clone()?),
             Held::Part(part) => Held::Part(part.clone()?),
         };
-        Ok(Whole { held })
+        Ok(TextBuffer { held })
     }
 }
 

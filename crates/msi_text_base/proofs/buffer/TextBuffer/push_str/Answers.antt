@@ -1,7 +1,7 @@
 use Rattle.std.proofs.Common.{sym, subst}
 use Rattle.std.specs.Prelude.{IsUtf8}
 use Rattle.std.proofs.lemmas.Str.{IsUtf8-string_bytes, IsUtf8-append}
-use Rattle.msi_text_places.proofs.whole.Whole.push_str.Goals as goal
+use Rattle.msi_text_base.proofs.buffer.TextBuffer.push_str.Goals as goal
 
 pub invariant_of-self : goal.invariant_of-self
 invariant_of-self c = IsUtf8-string_bytes c.push_str.new.self
