@@ -5,6 +5,7 @@ use msipkg_packages::msi::Package;
 use msipkg_packages::output::{Failure, Opened, Output, System};
 use msipkg_packages::{Folder, StoredStreams, stored_streams, stream_bytes};
 use msipkg_texts::{SafeNames, Shown};
+use std::collections::BTreeSet;
 use std::fs;
 
 /// What streams are taken from, and where their files go.
@@ -17,7 +18,8 @@ struct Extraction<'a> {
 }
 
 /// Writes streams of a file's package to files of a folder, or all streams where none is named. Where a stream's name
-/// isn't a safe name of a file, the file has an escaped one, and `notes` gets a line that says so.
+/// isn't a safe name of a file, the file has an escaped one, and `notes` gets a line that says so. A stream that is
+/// named twice is written once.
 ///
 /// # Errors
 /// Fails if a stream that is named isn't there, if a file is there already and isn't to be replaced, and as the calls
@@ -70,15 +72,18 @@ fn extract_all(
     Ok(())
 }
 
-/// Writes the streams of these names.
+/// Writes the streams of these names, each once.
 fn extract_named(
     extraction: &Extraction<'_>,
     names: &[&str],
     given: &mut SafeNames,
     notes: &mut Output,
 ) -> Result<(), Failure> {
+    let mut written = BTreeSet::new(extraction.rt.alloc());
     for name in names {
-        extract_one(extraction, name, given, notes)?;
+        if written.insert(*name)? {
+            extract_one(extraction, name, given, notes)?;
+        }
     }
     Ok(())
 }
