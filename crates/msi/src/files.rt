@@ -14,6 +14,9 @@ use std::rt::Files;
 
 /// Opens the package in a file, for reading alone.
 ///
+/// No contract sees what a file holds, so the clauses say only that there are bytes that mean this package. With the
+/// bytes in memory, [`Package::open`] over a [`Memory`](crate::Memory) promises it of these bytes.
+///
 /// # Errors
 /// Fails with `Io` if the path can't be opened, and otherwise as [`Package::open`] does.
 pub fn open<R, P>(rt: &R, path: P) -> Result<Package<Metered<R::File>>, Error>
@@ -29,7 +32,7 @@ where
 }
 
 /// Opens the package in a file, for reading and writing, behind a buffer. The file has to be there; `Package::create`
-/// makes new ones.
+/// makes new ones. The clauses say as much as those of [`open`].
 ///
 /// # Errors
 /// Fails with `Io` if the path can't be opened, and otherwise as [`Package::open`] does.
