@@ -1,9 +1,9 @@
 -- Where there is no difference, the rows of each key are the same.
 use Rattle.std.proofs.Common.{◌≡◌, ℕ, zero, suc, ◌+◌, ◌⊎◌, Bool, true, false, cond, List, [], ◌∷◌, ◌++◌, Option, Some, None, Ordering, Less, Equal, Greater, refl, sym, ap, ◌∙◌, ⊎_elim, inl, inr, arith}
 use Rattle.std.specs.Prelude.{option_and_then, slice_get}
-use Rattle.std.specs.Cmp.Lexicographic.{slice_cmp, pointwise}
+use Rattle.std.specs.Cmp.Lexicographic.{slice_cmp}
 use Rattle.std.specs.Option.{option_to_list}
-use Rattle.std.specs.Ordering.{eq_by_cmp, is_eq, ordering_then}
+use Rattle.std.specs.Ordering.{is_eq, ordering_then}
 use Rattle.std.proofs.lemmas.Slice.Eq.{slice_eq-Decides}
 use Rattle.msi_table_values.specs.declared.value.Value.{Value}
 use Rattle.msi_table_values.specs.Columns.{ColumnDef}
@@ -11,7 +11,7 @@ use Rattle.msi_table_values.specs.OrderLaws.{value_eq-Decides}
 use Rattle.msi_table_values.specs.Values.{value_cmp}
 use Rattle.msi_table_cells.specs.KeyOrder.{key_of, same_key}
 use Rattle.msi_compare.specs.declared.comparing.Difference.{Difference}
-use Rattle.msi_compare.specs.Differences.{differences, each_from, either, is_same_as, new_with, of_new, of_old, old_with, place_from, place_of, same_row, stands_at}
+use Rattle.msi_compare.specs.Differences.{each_from, either, is_same_as, new_with, of_new, of_old, old_with, place_from, place_of, same_row, stands_at}
 use Rattle.msi_compare.specs.Laws.{NoneMeansSame, row_of}
 
 -- keys that tie are equal
@@ -20,7 +20,7 @@ then_parts Less p h = (h, cc)
 then_parts Equal p h = (refl, h)
 then_parts Greater p h = (h, cc)
 
-keys_tie : (a b : List Value) → same_key a b ≡ true → a ≡ b
+pub keys_tie : (a b : List Value) → same_key a b ≡ true → a ≡ b
 keys_tie [] [] h = refl
 keys_tie [] (y ∷ ys) h = cc
 keys_tie (x ∷ xs) [] h = cc
@@ -30,23 +30,23 @@ keys_tie (x ∷ xs) (y ∷ ys) h =
     let others : xs ≡ ys = keys_tie xs ys parts.1 in
     ap (λ (v : Value). v ∷ xs) first ∙ ap (λ (vs : List Value). y ∷ vs) others
 
-some_or_none : (o : Option ℕ) → (o ≡ None) ⊎ ((q : ℕ) × (o ≡ Some q))
+pub some_or_none : (o : Option ℕ) → (o ≡ None) ⊎ ((q : ℕ) × (o ≡ Some q))
 some_or_none None = inl refl
 some_or_none (Some q) = inr (q, refl)
 
 -- the row that a place is of
-record Found (columns : List ColumnDef) (key : List Value) (n : ℕ) (rows : List (List Value)) (p : ℕ) : Type 0 where
-  i : ℕ
-  row : List Value
-  at : p ≡ n + i
-  there : slice_get rows i ≡ Some row
-  same : same_key (key_of columns row) key ≡ true
+pub record Found (columns : List ColumnDef) (key : List Value) (n : ℕ) (rows : List (List Value)) (p : ℕ) : Type 0 where
+  pub i : ℕ
+  pub row : List Value
+  pub at : p ≡ n + i
+  pub there : slice_get rows i ≡ Some row
+  pub same : same_key (key_of columns row) key ≡ true
 
 taken : (s : Bool) (n p : ℕ) → cond s (Some n) None ≡ Some p → (s ≡ true) × (n ≡ p)
 taken true n p h = (refl, cc)
 taken false n p h = cc
 
-found : (columns : List ColumnDef) (key : List Value) (n : ℕ) (rows : List (List Value)) (p : ℕ) → place_from columns key n rows ≡ Some p → Found columns key n rows p
+pub found : (columns : List ColumnDef) (key : List Value) (n : ℕ) (rows : List (List Value)) (p : ℕ) → place_from columns key n rows ≡ Some p → Found columns key n rows p
 found columns key n [] p h = cc
 found columns key n (r ∷ rs) p h =
     let s : Bool = same_key (key_of columns r) key in
@@ -95,7 +95,7 @@ new_none : (place : ℕ) (o : Option ℕ) → new_with place o ≡ None → (q :
 new_none place None h = cc
 new_none place (Some q) h = (q, refl)
 
-same_is : (o : Option (List Value)) (row : List Value) → is_same_as o row ≡ true → o ≡ Some row
+pub same_is : (o : Option (List Value)) (row : List Value) → is_same_as o row ≡ true → o ≡ Some row
 same_is None row h = cc
 same_is (Some other) row h = ap Some ((slice_eq-Decides value_eq-Decides other row (same_row other row) refl).0 h)
 

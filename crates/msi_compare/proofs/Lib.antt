@@ -3,3 +3,6 @@ mod KeyLemmas
 mod PlaceLemmas
 mod EachLemmas
 mod LawLemmas
+mod KeyedLemmas
+mod AppliedLemmas
+mod NeedLemmas

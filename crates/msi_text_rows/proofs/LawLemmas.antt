@@ -41,7 +41,7 @@ items_numbers : (row : List Value) → list_all is_small row ≡ true → ItemsH
 items_numbers [] e = tt
 items_numbers (v ∷ row) e = let p = and_parts (is_small v) (list_all is_small row) e in (value_numbers v p.0, items_numbers row p.1)
 
-members_numbers : (names : List (List ℕ)) (row : List Value) → list_all is_small row ≡ true → MembersHaveNumbers (members_json names row)
+pub members_numbers : (names : List (List ℕ)) (row : List Value) → list_all is_small row ≡ true → MembersHaveNumbers (members_json names row)
 members_numbers [] row e = tt
 members_numbers (name ∷ names) [] e = tt
 members_numbers (name ∷ names) (v ∷ row) e = let p = and_parts (is_small v) (list_all is_small row) e in (value_numbers v p.0, members_numbers names row p.1)
@@ -56,7 +56,7 @@ items_flat : (row : List Value) → items_depth (items_json row) ≡ 0
 items_flat [] = refl
 items_flat (v ∷ row) = omega (arith, value_flat v, items_flat row)
 
-members_flat : (names : List (List ℕ)) (row : List Value) → members_depth (members_json names row) ≡ 0
+pub members_flat : (names : List (List ℕ)) (row : List Value) → members_depth (members_json names row) ≡ 0
 members_flat [] row = refl
 members_flat (name ∷ names) [] = refl
 members_flat (name ∷ names) (v ∷ row) = omega (arith, value_flat v, members_flat names row)
@@ -81,7 +81,7 @@ number_data (negsuc m) e l = (
   ap (λ b. cond b (Some (value.Int (negsuc m))) None) e,
 )
 
-value_data : (v : Value) → is_small v ≡ true → (d : parsed.Data) × (of_json (value_json v) ≡ Some d) × (value_in d ≡ Some v)
+pub value_data : (v : Value) → is_small v ≡ true → (d : parsed.Data) × (of_json (value_json v) ≡ Some d) × (value_in d ≡ Some v)
 value_data value.Null e = (parsed.null, refl, refl)
 value_data (value.Int n) e = number_data n e (small n (within n e))
 value_data (value.Str text) e = (parsed.string text, refl, refl)
@@ -101,7 +101,7 @@ items_data (v ∷ row) e =
       ap (λ o. option_and_then (λ x. option_map (λ xs. x ∷ xs) (values_in rest.0)) o) first.2 ∙ ap (option_map (λ xs. v ∷ xs)) rest.2,
     )
 
-printed_read : (j : json.Json) → HasNumbers j → depth j ≤ 127 → read (print (json_tokens j)) ≡ of_json j
+pub printed_read : (j : json.Json) → HasNumbers j → depth j ≤ 127 → read (print (json_tokens j)) ≡ of_json j
 printed_read j numbers shallow =
     ap (λ o. option_and_then of_json (option_and_then (λ p. json.if_last p.0 p.1) o))
     (ap (json.value 127) (tokens-print (json_tokens j) (ArePrintable-json_tokens j numbers) ∙ sym (append-nil (json_tokens j)))
@@ -115,7 +115,7 @@ row_back row e =
 
 -- ---- lines of CSV
 
-lines_text : (rows : List (List Value)) → flat_map (csv_line default_writer) rows ≡ rows_text (map (map value_field) rows)
+pub lines_text : (rows : List (List Value)) → flat_map (csv_line default_writer) rows ≡ rows_text (map (map value_field) rows)
 unfolding rows_text
 lines_text [] = refl
 lines_text (row ∷ rows) = ap (λ text. csv_line default_writer row ++ text) (lines_text rows)

@@ -3,3 +3,4 @@ mod JsonLemmas
 mod CsvLemmas
 mod LawLemmas
 mod WorkedRows
+mod TableLemmas

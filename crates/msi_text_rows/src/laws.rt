@@ -1,7 +1,8 @@
 //! What holds of the formats themselves: each is the contract of a function that does nothing.
 
 ghost use Rattle.msi_text_rows.specs.Laws.{FieldsStandForValues, JsonStandsForValues, LinesReadBack};
-ghost use Rattle.msi_text_rows.specs.Laws.{ObjectsArePrinted, PrintedRowsReadBack, RowsArePrinted};
+ghost use Rattle.msi_text_rows.specs.Laws.{ObjectsArePrinted, PrintedObjectsReadBack, PrintedRowsReadBack};
+ghost use Rattle.msi_text_rows.specs.Laws.{RowsArePrinted, TablesReadBack, TypesMayComeLater};
 
 /// The printed JSON of a row is read as the same JSON.
 pub fn rows_are_printed()
@@ -23,6 +24,12 @@ pub fn printed_rows_read_back()
     ensures { PrintedRowsReadBack }
 {}
 
+/// The printed object of a row is read as an object with the row's values under the names of their columns, and without
+/// other members, if no two columns share a name.
+pub fn printed_objects_read_back()
+    ensures { PrintedObjectsReadBack }
+{}
+
 /// Lines of CSV are read as the fields of their rows.
 pub fn lines_read_back()
     ensures { LinesReadBack }
@@ -31,4 +38,15 @@ pub fn lines_read_back()
 /// The field of a value stands for that value in a column of its type, but for the empty text.
 pub fn fields_stand_for_values()
     ensures { FieldsStandForValues }
+{}
+
+/// A table as CSV, its names in the first line, is read as these names and as lines whose fields stand for the values of
+/// the rows, column by column, but for empty texts.
+pub fn tables_read_back()
+    ensures { TablesReadBack }
+{}
+
+/// A field that is read as a text, and then as one of a column's type, stands for what it stands for in that column.
+pub fn types_may_come_later()
+    ensures { TypesMayComeLater }
 {}
