@@ -14,6 +14,8 @@ use Rattle.msi_query.specs.QueryTexts.{bare_name, query_text, insert_text, updat
 use Rattle.msi_query_tokens.specs.declared.token.Kind.{Kind}
 use Rattle.msi_query_tokens.specs.declared.token.Kind.TheVariants as k
 use Rattle.msi_query_tokens.specs.Tokens.{kind_of_word, same_kind}
+use Rattle.msi_query_parse.specs.declared.statement.Statement.{Statement}
+use Rattle.msi_query_parse.specs.declared.statement.Statement.TheVariants as any
 use Rattle.msi_query_parse.specs.Grammar.{Phrase, constant, reference, grouped, front, link, plain, phrase_height}
 use Rattle.msi_query_parse.specs.Grammar.{is_value, Source, whole, both_of, query_of, source_height}
 use Rattle.msi_query_parse.specs.Grammar.{SpellsExpression, SpellsSelect, SpellsInsert, SpellsUpdate, SpellsDelete}
@@ -104,6 +106,13 @@ is_readable_update q = is_readable_name q.table
 
 abbrev pub is_readable_delete : DeleteQuery → Bool
 is_readable_delete q = is_readable_name q.table && is_readable_condition q.condition
+
+-- a query of any kind prints as what it holds
+abbrev pub statement_text : Statement → Option (List ℕ)
+statement_text (any.Select q) = query_text q
+statement_text (any.Insert q) = insert_text q
+statement_text (any.Update q) = update_text q
+statement_text (any.Delete q) = delete_text q
 
 abbrev pub PrintedSelectsAreReadBack : Type 0
 PrintedSelectsAreReadBack = (q : Query) (text : List ℕ) → IsTrue (is_readable_select q)
