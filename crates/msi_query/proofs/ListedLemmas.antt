@@ -5,6 +5,7 @@ use Rattle.std.proofs.Output.{then_text_assoc}
 use Rattle.std.specs.List.{flat_map, join_by}
 use Rattle.std.specs.Fmt.{◌++?◌}
 use Rattle.msi_text_base.specs.Lists.{all_present}
+use Rattle.msi_query_tokens.specs.Names.{name_text}
 use Rattle.msi_query.specs.QueryTexts.{columns_text, listed}
 
 -- a text behind its separator
@@ -65,15 +66,22 @@ listed-more {X = X} f items x xs i d whole below is =
     subst (λ (ys : List X). (listed (map f (take (suc i) ys)) ++? separated (f d)) ≡ listed (map f (take (suc (i + 1)) ys))) (sym whole)
     (sym (listed-take f x xs i d below ∙ ap (λ (y : X). listed (map f (take (suc i) (x ∷ xs))) ++? separated (f y)) (sym is)))
 
-all_present-Some : (names : List (List ℕ)) → all_present (map (λ (n : List ℕ). Some n) names) ≡ Some names
+all_present-Some : (names : List (List ℕ)) → all_present (map (λ (n : List ℕ). Some (name_text n)) names) ≡ Some (map name_text names)
 all_present-Some [] = refl
-all_present-Some (n ∷ ns) = ap (λ (o : Option (List (List ℕ))). option_map (λ (xs : List (List ℕ)). n ∷ xs) o) (all_present-Some ns)
+all_present-Some (n ∷ ns) = ap (λ (o : Option (List (List ℕ))). option_map (λ (xs : List (List ℕ)). name_text n ∷ xs) o) (all_present-Some ns)
 
 -- names, of which each prints
-listed-Some : (names : List (List ℕ)) → listed (map (λ (n : List ℕ). Some n) names) ≡ Some (join_by (λ (t : List ℕ). t) (codes ", ") names)
+listed-Some : (names : List (List ℕ)) → listed (map (λ (n : List ℕ). Some (name_text n)) names) ≡ Some (join_by (λ (t : List ℕ). t) (codes ", ") (map name_text names))
 listed-Some names = ap (λ (o : Option (List (List ℕ))). option_map (join_by (λ (t : List ℕ). t) (codes ", ")) o) (all_present-Some names)
 
+joined_names : (names : List (List ℕ)) → joined_behind (map name_text names) ≡ flat_map (λ (n : List ℕ). codes ", " ++ name_text n) names
+joined_names [] = refl
+joined_names (n ∷ ns) = ap (λ (t : List ℕ). (codes ", " ++ name_text n) ++ t) (joined_names ns)
+
+pub listed-names : (n : List ℕ) (ns : List (List ℕ)) → listed (map (λ (n : List ℕ). Some (name_text n)) (n ∷ ns)) ≡ Some (columns_text (n ∷ ns))
+listed-names n ns = listed-Some (n ∷ ns) ∙ ap (λ (t : List ℕ). Some (name_text n ++ t)) (joined_names ns)
+
 -- the names of columns, where there are some
-pub listed-columns : (names : List (List ℕ)) → (length names == 0) ≡ false → listed (map (λ (n : List ℕ). Some n) names) ≡ Some (columns_text names)
+pub listed-columns : (names : List (List ℕ)) → (length names == 0) ≡ false → listed (map (λ (n : List ℕ). Some (name_text n)) names) ≡ Some (columns_text names)
 listed-columns [] e = let no : true ≡ false = e in cc
-listed-columns (n ∷ ns) e = listed-Some (n ∷ ns)
+listed-columns (n ∷ ns) e = listed-names n ns

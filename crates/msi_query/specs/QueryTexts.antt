@@ -6,6 +6,7 @@ use Rattle.std.specs.Fmt.{◌++?◌}
 use Rattle.msi_text_base.specs.Lists.{all_present}
 use Rattle.msi_table_values.specs.declared.value.Value.{Value}
 use Rattle.msi_table_values.specs.Values.{value_text}
+use Rattle.msi_query_tokens.specs.Names.{name_text}
 use Rattle.msi_query_operators.specs.declared.joins.JoinKind.{JoinKind}
 use Rattle.msi_query_operators.specs.declared.joins.JoinKind.TheVariants.{Inner, Left}
 use Rattle.msi_query_expressions.specs.Assignments.{set_text}
@@ -23,7 +24,7 @@ where_text (Some e) = Some (codes " WHERE ") ++? expression_text e
 
 abbrev pub columns_text : List (List ℕ) → List ℕ
 columns_text [] = codes "*"
-columns_text (n ∷ ns) = join_by (λ t. t) (codes ", ") (n ∷ ns)
+columns_text (n ∷ ns) = join_by name_text (codes ", ") (n ∷ ns)
 
 abbrev pub select_text : Clauses → Option (List ℕ) → Option (List ℕ)
 select_text c from =
@@ -35,7 +36,7 @@ join_word Left = codes " LEFT JOIN "
 
 -- the name, or else the text in brackets
 abbrev pub or_bracketed : Option (List ℕ) → Option (List ℕ) → Option (List ℕ)
-or_bracketed (Some name) text = Some name
+or_bracketed (Some name) text = Some (name_text name)
 or_bracketed None text = Some (codes "(") ++? text ++? Some (codes ")")
 
 -- the name of a table of which all is wanted
@@ -48,7 +49,7 @@ abbrev pub side_text : Query → Option (List ℕ) → Option (List ℕ)
 side_text q text = or_bracketed (bare_name q) text
 
 abbrev pub query_text : Query → Option (List ℕ)
-query_text (table name c) = select_text c (Some name)
+query_text (table name c) = select_text c (Some (name_text name))
 query_text (join kind l r on c) =
     select_text c (side_text l (query_text l) ++? Some (join_word kind) ++? side_text r (query_text r)
     ++? Some (codes " ON ") ++? expression_text on)
@@ -62,7 +63,7 @@ rows_text [] = Some []
 rows_text (row ∷ rows) = Some (codes " VALUES ") ++? listed (map row_text (row ∷ rows))
 
 abbrev pub insert_text : InsertQuery → Option (List ℕ)
-insert_text q = Some (codes "INSERT INTO " ++ q.table) ++? rows_text q.rows
+insert_text q = Some (codes "INSERT INTO " ++ name_text q.table) ++? rows_text q.rows
 
 -- nothing where no column is set
 abbrev pub sets_text : List (List ℕ × Value) → Option (List ℕ)
@@ -70,7 +71,7 @@ sets_text [] = Some []
 sets_text (set ∷ sets) = Some (codes " SET ") ++? listed (map set_text (set ∷ sets))
 
 abbrev pub update_text : UpdateQuery → Option (List ℕ)
-update_text q = Some (codes "UPDATE " ++ q.table) ++? sets_text q.sets ++? where_text q.condition
+update_text q = Some (codes "UPDATE " ++ name_text q.table) ++? sets_text q.sets ++? where_text q.condition
 
 abbrev pub delete_text : DeleteQuery → Option (List ℕ)
-delete_text q = Some (codes "DELETE FROM " ++ q.table) ++? where_text q.condition
+delete_text q = Some (codes "DELETE FROM " ++ name_text q.table) ++? where_text q.condition

@@ -1,6 +1,6 @@
 -- Reads a printed expression, a byte at a time. What is printed of an expression leads to it (`UnambiguousLemmas`), so no two print
 -- alike. It stands for proofs alone: on other texts it does anything. Operands and links take turns, so a name is told from a link
--- by where it stands, and `AND` and `OR` may be names.
+-- by where it stands. A name in back quotes ends at one behind which there is no other.
 use Rattle.std.proofs.Common.{ℕ, suc, ◌+◌, ◌-◌, ◌*◌, Bool, true, false, not, List, [], ◌∷◌, ◌++◌, drop, nat_lt, ◌==◌, if◌then◌else◌, codes, bytes_eq, pos, negsuc}
 use Rattle.std.specs.Char.{is_ascii_digit}
 use Rattle.msi_text_categories.specs.CategoryRules.{starts_name, continues_name}
@@ -90,6 +90,9 @@ pub data State : Type 0 where
   wanting : List Frame → State
   word : List ℕ → List Frame → State
   number : ℕ → List Frame → State
+  quoted_name : List ℕ → List Frame → State
+  -- behind a back quote, which ends the name if there is no other
+  name_end : List ℕ → List Frame → State
   quote : List ℕ → List Frame → State
   escape : List ℕ → List Frame → State
   hex : List ℕ → ℕ → List Frame → State
@@ -102,7 +105,7 @@ word_of name = if bytes_eq name (codes "NULL") then literal Null else column nam
 abbrev pub step_wanting : List Frame → ℕ → State
 step_wanting fs c = if is_ascii_digit c then number (c - 48) fs else (if starts_name c then word (c ∷ []) fs
     else (if c == 34 then quote [] fs else (if c == 40 then wanting (bracket ∷ fs)
-    else (if c == 45 then wanting (prefix one.Neg ∷ fs) else wanting (prefix one.BitNot ∷ fs)))))
+    else (if c == 96 then quoted_name [] fs else (if c == 45 then wanting (prefix one.Neg ∷ fs) else wanting (prefix one.BitNot ∷ fs))))))
 
 abbrev pub closed : Place → State
 closed p = after (place p.operand (drop 1 p.frames))
@@ -119,6 +122,12 @@ step_linking text p c = if c == 32 then right_of (link_of text) (settle (link_le
 abbrev pub step_word : List ℕ → List Frame → ℕ → State
 step_word name fs c = if continues_name c then word (name ++ c ∷ []) fs
     else (if bytes_eq name (codes "NOT") then wanting (prefix one.BoolNot ∷ fs) else step_after (place (word_of name) fs) c)
+
+abbrev pub step_quoted_name : List ℕ → List Frame → ℕ → State
+step_quoted_name name fs c = if c == 96 then name_end name fs else quoted_name (name ++ c ∷ []) fs
+
+abbrev pub step_name_end : List ℕ → List Frame → ℕ → State
+step_name_end name fs c = if c == 96 then quoted_name (name ++ 96 ∷ []) fs else step_after (place (column name) fs) c
 
 abbrev pub step_number : ℕ → List Frame → ℕ → State
 step_number n fs c = if is_ascii_digit c then number (n * 10 + (c - 48)) fs else step_after (place (literal (Int (pos n))) fs) c
@@ -142,6 +151,8 @@ abbrev pub step : State → ℕ → State
 step (wanting fs) c = step_wanting fs c
 step (word name fs) c = step_word name fs c
 step (number n fs) c = step_number n fs c
+step (quoted_name name fs) c = step_quoted_name name fs c
+step (name_end name fs) c = step_name_end name fs c
 step (quote text fs) c = step_quote text fs c
 step (escape text fs) c = step_escape text fs c
 step (hex text n fs) c = step_hex text n fs c
@@ -156,12 +167,14 @@ run s (c ∷ cs) = run (step s c) cs
 abbrev pub is_ready : State → Bool
 is_ready (word name fs) = not (bytes_eq name (codes "NOT"))
 is_ready (number n fs) = true
+is_ready (name_end name fs) = true
 is_ready (after p) = true
 is_ready _ = false
 
 abbrev pub place_of : State → Place
 place_of (word name fs) = place (word_of name) fs
 place_of (number n fs) = place (literal (Int (pos n))) fs
+place_of (name_end name fs) = place (column name) fs
 place_of (after p) = p
 place_of _ = place (literal Null) []
 

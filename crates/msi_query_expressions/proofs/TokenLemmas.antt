@@ -1,5 +1,5 @@
 -- The reader of printed expressions reads the tokens: names, numbers, quoted texts and links.
-use Rattle.std.proofs.Common.{◌≡◌, ℕ, zero, suc, ◌+◌, ◌%◌, ◌^◌, ◌<◌, true, false, List, [], ◌∷◌, ◌++◌, get_or, drop, ⊎_elim, eq-or-lt_of_le, codes, bytes_eq, refl, sym, ap, ◌∙◌, append_assoc, append-nil, arith, flat_map}
+use Rattle.std.proofs.Common.{◌≡◌, ℕ, zero, suc, ◌+◌, ◌%◌, ◌^◌, ◌<◌, ◌==◌, Bool, true, false, cond, List, [], ◌∷◌, ◌++◌, get_or, drop, ⊎_elim, eq-or-lt_of_le, eqb-true, subst, codes, bytes_eq, refl, sym, ap, ◌∙◌, append_assoc, append-nil, arith, flat_map}
 use Rattle.std.specs.List.{list_all}
 use Rattle.std.specs.Char.{is_ascii_digit, is_ascii}
 use Rattle.std.specs.Fmt.{decimal, debug_escape}
@@ -8,20 +8,22 @@ use Rattle.std.proofs.lemmas.Bool.{and_parts, ltb-true, not-true, cond-true, con
 use Rattle.std.proofs.lemmas.Bool.Decides.{nat_tests}
 use Rattle.msi_text_categories.specs.CategoryRules.{starts_name, continues_name, is_identifier}
 use Rattle.msi_table_values.specs.declared.value.Value.TheVariants.{Str}
+use Rattle.msi_query_tokens.specs.Names.{doubled, doubled_byte}
 use Rattle.msi_query_operators.specs.declared.operators.BinaryOp.TheVariants as two
 use Rattle.msi_query_expressions.specs.Expressions.{literal}
-use Rattle.msi_query_expressions.proofs.ReaderLemmas.{Link, by, link_level, link_text, Frame, Place, place, settle, State, wanting, word, number, quote, after, right_of, step, step_after, run, is_ready, place_of}
+use Rattle.msi_query_expressions.proofs.ReaderLemmas.{Link, by, link_level, link_text, Frame, Place, place, settle, State, wanting, word, number, quoted_name, name_end, quote, after, right_of, step, step_after, run, is_ready, place_of}
 
 pub run_append : (s : State) (a b : List ℕ) → run s (a ++ b) ≡ run (run s a) b
 run_append s [] b = refl
 run_append s (c ∷ cs) b = run_append (step s c) cs b
 
 -- where an operand may end, a byte that continues none ends it
-pub step_ready : (s : State) (c : ℕ) → is_ready s ≡ true → continues_name c ≡ false → is_ascii_digit c ≡ false → step s c ≡ step_after (place_of s) c
-step_ready (word name fs) c ready e d = cond-false (continues_name c) _ _ e ∙ cond-false (bytes_eq name (codes "NOT")) _ _ (not-true _ ready)
-step_ready (number n fs) c ready e d = rw d refl
-step_ready (after p) c ready e d = refl
-step_ready _ c ready e d = absurd (let clash : false ≡ true = ready in cc)
+pub step_ready : (s : State) (c : ℕ) → is_ready s ≡ true → continues_name c ≡ false → is_ascii_digit c ≡ false → (c == 96) ≡ false → step s c ≡ step_after (place_of s) c
+step_ready (word name fs) c ready e d q = cond-false (continues_name c) _ _ e ∙ cond-false (bytes_eq name (codes "NOT")) _ _ (not-true _ ready)
+step_ready (number n fs) c ready e d q = rw d refl
+step_ready (name_end name fs) c ready e d q = cond-false (c == 96) _ _ q
+step_ready (after p) c ready e d q = refl
+step_ready _ c ready e d q = absurd (let clash : false ≡ true = ready in cc)
 
 -- a link begins with a space, and is known at the next one
 link_text_first : (link : Link) → link_text link ≡ 32 ∷ drop 1 (link_text link)
@@ -35,7 +37,7 @@ link_after (by _) p = refl
 link_after _ p = refl
 
 pub link_run : (link : Link) (s : State) → is_ready s ≡ true → run s (link_text link) ≡ right_of link (settle (link_level link) (place_of s))
-link_run link s ready = ap (run s) (link_text_first link) ∙ ap (λ t. run t (drop 1 (link_text link))) (step_ready s 32 ready refl refl)
+link_run link s ready = ap (run s) (link_text_first link) ∙ ap (λ t. run t (drop 1 (link_text link))) (step_ready s 32 ready refl refl refl)
     ∙ sym (ap (run (after (place_of s))) (link_text_first link)) ∙ link_after link (place_of s)
 
 -- a name
@@ -51,6 +53,25 @@ pub identifier_run : (fs : List Frame) (name : List ℕ) → is_identifier name 
 identifier_run fs [] h = absurd (let clash : false ≡ true = h in cc)
 identifier_run fs (c ∷ cs) h = let parts = and_parts _ _ h in
     ap (λ s. run s cs) (cond-false (is_ascii_digit c) _ _ (no_digit c parts.0) ∙ cond-true (starts_name c) _ _ parts.0) ∙ name_run fs (c ∷ []) cs parts.1
+
+-- a name in back quotes
+quoted_byte_run : (fs : List Frame) (front : List ℕ) (b : ℕ) → run (quoted_name front fs) (doubled_byte b) ≡ quoted_name (front ++ b ∷ []) fs
+quoted_byte_run fs front b = go (b == 96) refl
+  where
+    go : (q : Bool) → (b == 96) ≡ q → run (quoted_name front fs) (cond (b == 96) (96 ∷ 96 ∷ []) (b ∷ [])) ≡ quoted_name (front ++ b ∷ []) fs
+    go true e = ap (λ (q : Bool). run (quoted_name front fs) (cond q (96 ∷ 96 ∷ []) (b ∷ []))) e
+        ∙ ap (λ (c : ℕ). quoted_name (front ++ c ∷ []) fs) (sym (eqb-true b 96 e))
+    go false e = ap (λ (q : Bool). run (quoted_name front fs) (cond q (96 ∷ 96 ∷ []) (b ∷ []))) e
+        ∙ cond-false (b == 96) (name_end front fs) (quoted_name (front ++ b ∷ []) fs) e
+
+quoted_bytes_run : (fs : List Frame) (front name : List ℕ) → run (quoted_name front fs) (doubled name) ≡ quoted_name (front ++ name) fs
+quoted_bytes_run fs front [] = ap (λ n. quoted_name n fs) (sym (append-nil front))
+quoted_bytes_run fs front (b ∷ name) = run_append (quoted_name front fs) (doubled_byte b) (doubled name)
+    ∙ ap (λ s. run s (doubled name)) (quoted_byte_run fs front b)
+    ∙ quoted_bytes_run fs (front ++ b ∷ []) name ∙ ap (λ n. quoted_name n fs) (append_assoc front (b ∷ []) name)
+
+pub quoted_name_run : (fs : List Frame) (name : List ℕ) → run (wanting fs) (96 ∷ (doubled name ++ 96 ∷ [])) ≡ name_end name fs
+quoted_name_run fs name = run_append (quoted_name [] fs) (doubled name) (96 ∷ []) ∙ ap (λ s. run s (96 ∷ [])) (quoted_bytes_run fs [] name)
 
 -- a number
 digit_tells : (d : ℕ) → d < 10 → is_ascii_digit (48 + d) ≡ true

@@ -1,9 +1,14 @@
 -- No two expressions print alike.
-use Rattle.std.proofs.Common.{◌≡◌, ℕ, suc, ◌+◌, ◌^◌, ◌<◌, ◌≤◌, Bool, true, false, List, [], ◌∷◌, ◌++◌, nat_lt, leb, cond, codes, bytes_eq, pos, negsuc, refl, sym, ap, ap₂, ◌∙◌, Option, Some, arith, unwrap_or, flat_map}
+use Rattle.std.proofs.Common.{◌≡◌, ℕ, suc, ◌+◌, ◌^◌, ◌<◌, ◌≤◌, Bool, true, false, List, [], ◌∷◌, ◌++◌, nat_lt, leb, cond, codes, bytes_eq, pos, negsuc, refl, sym, ap, ap₂, subst, ◌∙◌, Option, Some, arith, unwrap_or, flat_map}
 use Rattle.std.specs.List.{list_all}
 use Rattle.std.specs.Char.{is_ascii}
 use Rattle.std.specs.Fmt.{decimal, debug_escape, ◌++?◌}
-use Rattle.std.proofs.lemmas.Bool.{and_parts, lt-ltb, le-ltb, leb-true, not-true, cond-true, cond-false, or_parts, ltb-false, not_from_false}
+use Rattle.std.proofs.lemmas.Bool.{and_parts, lt-ltb, le-ltb, leb-true, not-true, cond-true, cond-false, ltb-false, not_from_false}
+use Rattle.std.proofs.lemmas.Slice.Eq.{bytes_eq-Decides}
+use Rattle.msi_text_categories.specs.CategoryRules.{is_identifier}
+use Rattle.msi_query_tokens.specs.declared.token.Kind.TheVariants as k
+use Rattle.msi_query_tokens.specs.Tokens.{kind_of_word, same_kind}
+use Rattle.msi_query_tokens.specs.Names.{is_plain_name, doubled, name_text}
 use Rattle.msi_table_values.specs.declared.value.Value.{Value}
 use Rattle.msi_table_values.specs.declared.value.Value.TheVariants.{Null, Int, Str, Binary}
 use Rattle.msi_query_operators.specs.declared.operators.UnaryOp.{UnaryOp}
@@ -14,9 +19,9 @@ use Rattle.msi_query_operators.specs.OperatorValues.{is_i32}
 use Rattle.msi_query_expressions.specs.Folding.{fits_literal, is_built, is_folded, is_literal, literals_fit}
 use Rattle.msi_query_operators.specs.OperatorTexts.{op_level, unary_text}
 use Rattle.msi_query_expressions.specs.Printing.{expression_text, level, bracketed}
-use Rattle.msi_query_expressions.specs.Vocabulary.{is_plain, is_plain_name, is_plain_value, PrintsAlone}
-use Rattle.msi_query_expressions.proofs.ReaderLemmas.{Link, by, and_link, or_link, linked, link_level, link_text, Frame, prefix, left, bracket, frame_level, top_level, prefixed, filled, place, settle, settled, State, wanting, word, number, after, right_of, closed, run, is_ready, place_of, read}
-use Rattle.msi_query_expressions.proofs.TokenLemmas.{run_append, step_ready, link_run, identifier_run, decimal_run, quoted_run}
+use Rattle.msi_query_expressions.specs.Vocabulary.{is_plain, is_plain_value, PrintsAlone}
+use Rattle.msi_query_expressions.proofs.ReaderLemmas.{Link, by, and_link, or_link, linked, link_level, link_text, Frame, prefix, left, bracket, frame_level, top_level, prefixed, filled, place, settle, settled, State, wanting, word, name_end, number, after, right_of, closed, run, is_ready, place_of, read}
+use Rattle.msi_query_expressions.proofs.TokenLemmas.{run_append, step_ready, link_run, identifier_run, quoted_name_run, decimal_run, quoted_run}
 
 -- frames
 stops : (k : ℕ) (e : Expression) (fs : List Frame) → top_level fs < k → settled k e fs ≡ place e fs
@@ -56,7 +61,7 @@ level-pos (either l r) = omega arith
 -- brackets
 in_brackets : (e : Expression) (n : ℕ) (text : List ℕ) (fs : List Frame) → Reads e (level e) text (bracket ∷ fs) → Reads e n (codes "(" ++ text ++ codes ")") fs
 in_brackets e n text fs h = at_place e n (codes "(" ++ text ++ codes ")") fs (after (place e fs))
-    (run_append (wanting (bracket ∷ fs)) text (codes ")") ∙ step_ready (run (wanting (bracket ∷ fs)) text) 41 h.ready refl refl
+    (run_append (wanting (bracket ∷ fs)) text (codes ")") ∙ step_ready (run (wanting (bracket ∷ fs)) text) 41 h.ready refl refl refl
     ∙ ap closed (h.settles 1 (level-pos e) (omega arith) ∙ stops 1 e (bracket ∷ fs) (omega arith))) refl refl
 
 brackets : (e : Expression) (n : ℕ) (o : Option (List ℕ)) → Prints e (level e) o → Prints e n (bracketed n (level e) o)
@@ -151,21 +156,41 @@ values (Str text) h g = record {
 values Binary h g = absurd (let clash : false ≡ true = g in cc)
 
 -- columns
-names : (n : List ℕ) → is_plain_name n ≡ true → Prints (column n) 10 (Some n)
-names n h =
-    let parts = and_parts _ _ h in
-    let no_word = or_parts _ _ (not-true _ parts.1) in
-    record {
-      text = n;
-      is = refl;
-      reads = λ fs _. at_place (column n) 10 n fs (word n fs) (identifier_run fs n parts.0)
-          (not_from_false (bytes_eq n (codes "NOT")) no_word.1) (ap (λ e. place e fs) (cond-false (bytes_eq n (codes "NULL")) _ _ no_word.0));
-    }
+other_word : (n taken : List ℕ) → same_kind (kind_of_word taken) k.Name ≡ false → same_kind (kind_of_word n) k.Name ≡ true → bytes_eq n taken ≡ false
+other_word n taken h g = go (bytes_eq n taken) refl
+  where
+    go : (b : Bool) → bytes_eq n taken ≡ b → bytes_eq n taken ≡ false
+    go true e =
+        let same : n ≡ taken = (bytes_eq-Decides n taken).0 e in
+        let clash : false ≡ true = sym h ∙ sym (ap (λ (w : List ℕ). same_kind (kind_of_word w) k.Name) same) ∙ g in
+        absurd (cc)
+    go false e = e
+
+no_null : same_kind (kind_of_word (codes "NULL")) k.Name ≡ false
+unfolding same_kind kind_of_word
+no_null = refl
+
+no_not : same_kind (kind_of_word (codes "NOT")) k.Name ≡ false
+unfolding same_kind kind_of_word
+no_not = refl
+
+names : (n : List ℕ) → Prints (column n) 10 (Some (name_text n))
+names n = record { text = name_text n; is = refl; reads = λ fs _. go fs (is_plain_name n) refl }
+  where
+    go : (fs : List Frame) (b : Bool) → is_plain_name n ≡ b → Reads (column n) 10 (cond (is_plain_name n) n (96 ∷ (doubled n ++ 96 ∷ []))) fs
+    go fs true e =
+        let parts = and_parts (is_identifier n) (same_kind (kind_of_word n) k.Name) e in
+        subst (λ (b : Bool). Reads (column n) 10 (cond b n (96 ∷ (doubled n ++ 96 ∷ []))) fs) (sym e)
+        (at_place (column n) 10 n fs (word n fs) (identifier_run fs n parts.0)
+        (not_from_false (bytes_eq n (codes "NOT")) (other_word n (codes "NOT") no_not parts.1))
+        (ap (λ e. place e fs) (cond-false (bytes_eq n (codes "NULL")) _ _ (other_word n (codes "NULL") no_null parts.1))))
+    go fs false e = subst (λ (b : Bool). Reads (column n) 10 (cond b n (96 ∷ (doubled n ++ 96 ∷ []))) fs) (sym e)
+        (at_place (column n) 10 (96 ∷ (doubled n ++ 96 ∷ [])) fs (name_end n fs) (quoted_name_run fs n) refl refl)
 
 prints : (e : Expression) → is_plain e ≡ true → is_folded e ≡ true → literals_fit e ≡ true
     → Prints e (level e) (expression_text e)
 prints (literal v) h f g = values v h g
-prints (column n) h f g = names n h
+prints (column n) h f g = names n
 prints (unary op e) h f g = let folded = and_parts _ _ f in
     fronts op e _ (not-true _ folded.0) (brackets e 10 _ (prints e h folded.1 g))
 prints (binary op l r) h f g =

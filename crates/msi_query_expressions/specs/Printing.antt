@@ -2,6 +2,7 @@
 use Rattle.std.specs.Prelude.{ℕ, List, Option, Some, nat_lt, if◌then◌else◌, codes}
 use Rattle.std.specs.Fmt.{◌++?◌}
 use Rattle.msi_table_values.specs.Values.{value_text}
+use Rattle.msi_query_tokens.specs.Names.{name_text}
 use Rattle.msi_query_operators.specs.OperatorTexts.{op_level, op_text, right_level, unary_text}
 use Rattle.msi_query_expressions.specs.Expressions.{Expression, literal, column, unary, binary, both, either}
 
@@ -18,7 +19,7 @@ bracketed needed has text = if nat_lt has needed then Some (codes "(") ++? text 
 -- the text; none where a literal text is not ASCII
 abbrev pub expression_text : Expression → Option (List ℕ)
 expression_text (literal v) = value_text v
-expression_text (column n) = Some n
+expression_text (column n) = Some (name_text n)
 expression_text (unary op e) = Some (unary_text op) ++? bracketed 10 (level e) (expression_text e)
 expression_text (binary op l r) = bracketed (op_level op) (level l) (expression_text l)
     ++? Some (op_text op) ++? bracketed (right_level op) (level r) (expression_text r)

@@ -1,6 +1,5 @@
--- No two expressions print alike, where columns are plain names and literal texts are ASCII.
-use Rattle.std.specs.Prelude.{◌≡◌, ℕ, Bool, true, not, List, ◌&&◌, ◌||◌, IsTrue, bytes_eq, codes}
-use Rattle.msi_text_categories.specs.CategoryRules.{is_identifier}
+-- No two expressions print alike, where literal texts are ASCII.
+use Rattle.std.specs.Prelude.{◌≡◌, Bool, true, ◌&&◌, IsTrue}
 use Rattle.msi_text_base.specs.Pages.{is_ascii}
 use Rattle.msi_table_values.specs.declared.value.Value.{Value}
 use Rattle.msi_table_values.specs.declared.value.Value.TheVariants.{Str}
@@ -8,18 +7,13 @@ use Rattle.msi_query_expressions.specs.Expressions.{Expression, literal, column,
 use Rattle.msi_query_expressions.specs.Folding.{is_built}
 use Rattle.msi_query_expressions.specs.Printing.{expression_text}
 
--- an Identifier that is no word that an operand begins with: `AND` and `OR` stand only behind an operand, so they are
--- names too
-abbrev pub is_plain_name : List ℕ → Bool
-is_plain_name name = is_identifier name && not (bytes_eq name (codes "NULL") || bytes_eq name (codes "NOT"))
-
 abbrev pub is_plain_value : Value → Bool
 is_plain_value (Str text) = is_ascii text
 is_plain_value _ = true
 
 abbrev pub is_plain : Expression → Bool
 is_plain (literal v) = is_plain_value v
-is_plain (column n) = is_plain_name n
+is_plain (column n) = true
 is_plain (unary op e) = is_plain e
 is_plain (binary op l r) = is_plain l && is_plain r
 is_plain (both l r) = is_plain l && is_plain r

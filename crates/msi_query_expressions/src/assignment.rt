@@ -3,6 +3,7 @@
 ghost use Rattle.std.specs.Prelude.{◌≡◌};
 ghost use Rattle.msi_query_expressions.specs.Assignments.{set_text};
 
+use msi_query_tokens::names::write_name;
 use msi_table_values::value::Value;
 use msi_text_base::text::Text;
 use std::fmt;
@@ -47,10 +48,12 @@ impl Assignment {
     }
 }
 
+/// Writes the column, in back quotes if it is named as a key word or by no Identifier, and the new value.
 impl fmt::Display for Assignment {
     ghost output = { set_text };
 
     fn fmt<W: fmt::Write>(&self, f: &mut fmt::Formatter<W>) -> fmt::Result {
-        write!(f, "{} = {}", self.column, self.value)
+        write_name(f, self.column.as_str())?;
+        write!(f, " = {}", self.value)
     }
 }

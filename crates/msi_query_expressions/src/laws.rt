@@ -17,8 +17,7 @@ pub fn constructors_fold()
     ensures { ConstructorsFold }
 {}
 
-/// No two expressions that the constructors make print alike, where columns are Identifiers other than `NULL` and
-/// `NOT` and literal texts are ASCII.
+/// No two expressions that the constructors make print alike, where literal texts are ASCII.
 #[tactic(auto, using(crate::proofs::UnambiguousLemmas::prints_alone))]
 pub fn printed_conditions_are_unambiguous()
     ensures { PrintedConditionsAreUnambiguous }

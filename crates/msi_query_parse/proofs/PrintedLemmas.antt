@@ -5,7 +5,6 @@ use Rattle.std.specs.Char.{is_ascii}
 use Rattle.std.specs.Fmt.{debug_str, ◌++?◌}
 use Rattle.std.proofs.lemmas.List.Folds.{list_all-append}
 use Rattle.std.proofs.lemmas.Bool.{and_parts, and_from, leb-true, le-leb, not-true, ltb-false}
-use Rattle.msi_text_categories.specs.CategoryRules.{is_identifier}
 use Rattle.msi_table_values.specs.declared.value.Value.{Value}
 use Rattle.msi_table_values.specs.declared.value.Value.TheVariants as v
 use Rattle.msi_table_values.specs.Values.{value_text}
@@ -20,7 +19,9 @@ use Rattle.msi_query_tokens.specs.declared.token.Kind.{Kind}
 use Rattle.msi_query_tokens.specs.declared.token.Kind.TheVariants as k
 use Rattle.msi_query_tokens.specs.Tokens.{same_kind, kind_of_word}
 use Rattle.msi_query_tokens.specs.Symbols.{mark, named, number, quote, symbol_of}
-use Rattle.msi_query_tokens.proofs.CutLemmas.{Over, word_over, name_over, digits_over, Digits, decimal_digits, quoted_over, body}
+use Rattle.msi_query_tokens.proofs.CutLemmas.{Over, word_over, digits_over, Digits, decimal_digits, quoted_over, body}
+use Rattle.msi_query_tokens.specs.Names.{name_text}
+use Rattle.msi_query_tokens.proofs.NameLemmas.{name_text_over}
 use Rattle.msi_query_tokens.proofs.LeadsLemmas.{Leads, Link, Prints, text_prints, front_leads, front_prints, linked_prints, enclosed_prints, symbols_of}
 use Rattle.msi_query_parse.specs.Operators.{binds, linked}
 use Rattle.msi_query_parse.specs.Grammar.{Phrase, grouped, link, value_symbols, phrase_symbols, phrase_level, phrase_height, is_phrase, is_constant, is_digits, is_minus, is_value, expression_of, front_mark}
@@ -158,10 +159,8 @@ follows_rules (either l r) f g =
 
 -- ---- names
 
-pub name_leads : (name : List ℕ) → is_readable_name name ≡ true → Leads name (named name ∷ [])
-name_leads name h =
-    let parts = and_parts (is_identifier name) (same_kind (kind_of_word name) k.Name) h in
-    record { over = λ after a. name_over name after parts.0 parts.1 a }
+pub name_leads : (name : List ℕ) → is_readable_name name ≡ true → Leads (name_text name) (named name ∷ [])
+name_leads name h = record { over = λ after a. name_text_over name after h a }
 
 -- ---- values
 
@@ -230,7 +229,7 @@ link_prints_within kind text n m l r w h g = linked_prints text _ _ (phrase_symb
 
 pub prints : (e : Expression) → literals_fit e ≡ true → has_names e ≡ true → Prints (expression_text e) (phrase_symbols (phrase_of e))
 prints (literal x) g h = value_prints x (constant_value x (fits_constant x g))
-prints (column n) g h = text_prints n (named n ∷ []) (name_leads n (and_parts (is_readable_name n) true h).0)
+prints (column n) g h = text_prints (name_text n) (named n ∷ []) (name_leads n (and_parts (is_readable_name n) true h).0)
 prints (unary op e) g h = front_prints (unary_text op) _ (mark (front_mark op) ∷ []) _ (in_front op) (within_prints 10 (level e) (expression_text e) (phrase_of e) (prints e g h))
 prints (binary op l r) g h =
     let fit = and_parts (literals_fit l) (literals_fit r) g in let names = names_of_both l r h in

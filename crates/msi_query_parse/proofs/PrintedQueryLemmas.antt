@@ -13,6 +13,8 @@ use Rattle.msi_query_operators.specs.declared.joins.JoinKind.{JoinKind}
 use Rattle.msi_query.specs.Queries.{Clauses, Query, table, join, no_clauses, projected_query}
 use Rattle.msi_query_expressions.specs.Assignments.{set_text}
 use Rattle.msi_query.specs.QueryTexts.{listed, where_text, columns_text, select_text, join_word, bare_name, or_bracketed, side_text, query_text, row_text, rows_text, insert_text, sets_text, update_text, delete_text}
+use Rattle.msi_query.proofs.ListedLemmas.{listed-names}
+use Rattle.msi_query_tokens.specs.Names.{name_text}
 use Rattle.msi_query_tokens.specs.declared.token.Kind.TheVariants as k
 use Rattle.msi_query_tokens.specs.Symbols.{Symbol, mark, named}
 use Rattle.msi_query_tokens.proofs.LeadsLemmas.{Front, Leads, front_leads, tail_tail, link_leads, leads_link, leads_tail, as_leads, no_tail, Prints, Tails, text_prints, text_tails, prints_tails, tails_tails, front_prints, link_prints, linked_prints, enclosed_prints, symbols_of}
@@ -95,8 +97,8 @@ condition_met (Some e) h = let r = readable e h in ap (λ (x : Expression). Some
 
 -- ---- deletes
 
-named_table : (word name : List ℕ) (s : List Symbol) → Front word s → is_readable_name name ≡ true → Prints (Some (word ++ name)) (s ++ (named name ∷ []))
-named_table word name s f h = text_prints (word ++ name) (s ++ (named name ∷ [])) (front_leads word name s (named name ∷ []) f (name_leads name h))
+named_table : (word name : List ℕ) (s : List Symbol) → Front word s → is_readable_name name ≡ true → Prints (Some (word ++ name_text name)) (s ++ (named name ∷ []))
+named_table word name s f h = text_prints (word ++ name_text name) (s ++ (named name ∷ [])) (front_leads word (name_text name) s (named name ∷ []) f (name_leads name h))
 
 pub deletes_are_read_back : PrintedDeletesAreReadBack
 deletes_are_read_back q text h is =
@@ -105,7 +107,7 @@ deletes_are_read_back q text h is =
       condition = option_map phrase_of q.condition;
       rules = condition_rules q.condition parts.1;
       symbols = symbols_of (delete_text q) (mark k.Delete ∷ mark k.From ∷ named q.table ∷ where_symbols (option_map phrase_of q.condition))
-          (prints_tails (Some (codes "DELETE FROM " ++ q.table)) (where_text q.condition) (mark k.Delete ∷ mark k.From ∷ named q.table ∷ []) (where_symbols (option_map phrase_of q.condition))
+          (prints_tails (Some (codes "DELETE FROM " ++ name_text q.table)) (where_text q.condition) (mark k.Delete ∷ mark k.From ∷ named q.table ∷ []) (where_symbols (option_map phrase_of q.condition))
           (named_table (codes "DELETE FROM ") q.table (mark k.Delete ∷ mark k.From ∷ []) delete_front parts.0) (condition_tails q.condition parts.1)) text is;
       met = condition_met q.condition parts.1;
     }
@@ -130,7 +132,7 @@ inserts_are_read_back q text h is =
       rows = map (map of_value) q.rows;
       rules = all_mapped (list_all is_literal) (list_all is_value) (map of_value) (λ row a. all_mapped is_literal is_value of_value (λ x b. b) row a) q.rows parts.1;
       symbols = symbols_of (insert_text q) (mark k.Insert ∷ mark k.Into ∷ named q.table ∷ rows_symbols (map (map of_value) q.rows))
-          (prints_tails (Some (codes "INSERT INTO " ++ q.table)) (rows_text q.rows) (mark k.Insert ∷ mark k.Into ∷ named q.table ∷ []) (rows_symbols (map (map of_value) q.rows))
+          (prints_tails (Some (codes "INSERT INTO " ++ name_text q.table)) (rows_text q.rows) (mark k.Insert ∷ mark k.Into ∷ named q.table ∷ []) (rows_symbols (map (map of_value) q.rows))
           (named_table (codes "INSERT INTO ") q.table (mark k.Insert ∷ mark k.Into ∷ []) insert_front parts.0) (rows_tails q.rows parts.1)) text is;
       value = maps_back (map constant_value) (map of_value) (λ row. maps_back constant_value of_value (λ x. refl) row) q.rows;
     }
@@ -146,8 +148,8 @@ is_readable_set s = is_readable_name s.0 && is_value s.1
 set_prints : (s : List ℕ × Value) → is_readable_set s ≡ true → Prints (set_text s) (set_symbols (set_of s))
 set_prints s h =
     let parts = and_parts (is_readable_name s.0) (is_value s.1) h in
-    front_prints (s.0 ++ codes " = ") (value_text s.1) (named s.0 ∷ mark k.Eq ∷ []) (value_symbols s.1)
-    (leads_link s.0 (codes " = ") (named s.0 ∷ []) (mark k.Eq ∷ []) (name_leads s.0 parts.0) (between two.Eq)) (value_prints s.1 parts.1)
+    front_prints (name_text s.0 ++ codes " = ") (value_text s.1) (named s.0 ∷ mark k.Eq ∷ []) (value_symbols s.1)
+    (leads_link (name_text s.0) (codes " = ") (named s.0 ∷ []) (mark k.Eq ∷ []) (name_leads s.0 parts.0) (between two.Eq)) (value_prints s.1 parts.1)
 
 sets_tails : (sets : List (List ℕ × Value)) → list_all is_readable_set sets ≡ true → Tails (sets_text sets) (sets_symbols (map set_of sets))
 sets_tails [] h = text_tails [] [] no_tail
@@ -165,7 +167,7 @@ updates_are_read_back q text h is =
       rules = and_from _ _ (all_mapped (λ (s : ColumnName × Constant). is_literal s.1) is_readable_set set_of
           (λ s a. (and_parts (is_readable_name s.0) (is_value s.1) a).1) q.sets parts.1) (condition_rules q.condition outer.1);
       symbols = symbols_of (update_text q) (mark k.Update ∷ named q.table ∷ sets_symbols (map set_of q.sets) ++ where_symbols (option_map phrase_of q.condition))
-          (prints_tails (Some (codes "UPDATE " ++ q.table)) (sets_text q.sets ++? where_text q.condition) (mark k.Update ∷ named q.table ∷ [])
+          (prints_tails (Some (codes "UPDATE " ++ name_text q.table)) (sets_text q.sets ++? where_text q.condition) (mark k.Update ∷ named q.table ∷ [])
           (sets_symbols (map set_of q.sets) ++ where_symbols (option_map phrase_of q.condition))
           (named_table (codes "UPDATE ") q.table (mark k.Update ∷ []) update_front parts.0)
           (tails_tails (sets_text q.sets) (where_text q.condition) (sets_symbols (map set_of q.sets)) (where_symbols (option_map phrase_of q.condition))
@@ -176,17 +178,13 @@ updates_are_read_back q text h is =
 
 -- ---- selects
 
-all_present-Some : (names : List (List ℕ)) → all_present (map (λ (n : List ℕ). Some n) names) ≡ Some names
-all_present-Some [] = refl
-all_present-Some (n ∷ ns) = ap (λ (o : Option (List (List ℕ))). option_map (λ (xs : List (List ℕ)). n ∷ xs) o) (all_present-Some ns)
-
 columns_lead : (names : List (List ℕ)) → list_all is_readable_name names ≡ true → Leads (columns_text names) (column_symbols (map plain names))
 columns_lead [] h = as_leads (codes "*") (mark k.Star ∷ []) star_front
 columns_lead (n ∷ ns) h =
-    let p = listed_prints (λ (n : List ℕ). Some n) (λ (n : List ℕ). named n ∷ []) is_readable_name
-    (λ (n : List ℕ) (a : is_readable_name n ≡ true). text_prints n (named n ∷ []) (name_leads n a)) (n ∷ ns) h in
+    let p = listed_prints (λ (n : List ℕ). Some (name_text n)) (λ (n : List ℕ). named n ∷ []) is_readable_name
+    (λ (n : List ℕ) (a : is_readable_name n ≡ true). text_prints (name_text n) (named n ∷ []) (name_leads n a)) (n ∷ ns) h in
     subst (λ (ss : List (List Symbol)). Leads (columns_text (n ∷ ns)) (separated ss)) (sym (maps name_symbols plain (n ∷ ns)))
-    (p.leads (columns_text (n ∷ ns)) (ap (λ (o : Option (List (List ℕ))). option_map (join_by (λ (t : List ℕ). t) (codes ", ")) o) (all_present-Some (n ∷ ns))))
+    (p.leads (columns_text (n ∷ ns)) (listed-names n ns))
 
 select_prints : (c : Clauses) (o : Option (List ℕ)) (source : Source) → are_readable_clauses c ≡ true → Prints o (source_symbols source) → Prints (select_text c o) (source_symbols (selected c source))
 select_prints c o source h p =
@@ -262,7 +260,7 @@ side (table name c) h p = record {
 }
   where
     go_prints : (b : Bool) → Prints (or_bracketed (cond b (Some name) None) (query_text (table name c))) (in_brackets (whole_or name c b) (source_symbols (whole_or name c b)))
-    go_prints true = text_prints name (named name ∷ []) (name_leads name (and_parts (is_readable_name name) (are_readable_clauses c) h).0)
+    go_prints true = text_prints (name_text name) (named name ∷ []) (name_leads name (and_parts (is_readable_name name) (are_readable_clauses c) h).0)
     go_prints false = enclosed_prints (codes "(") (codes ")") (query_text (table name c)) (mark k.Open ∷ []) (source_symbols (source_of (table name c))) (mark k.Close ∷ []) open_front p.prints close_link
 
     go_follows : (b : Bool) → is_source (whole_or name c b) ≡ true
@@ -295,7 +293,7 @@ printed (table name c) h =
     let parts = and_parts (is_readable_name name) (are_readable_clauses c) h in
     let clauses = and_parts (list_all is_readable_name c.columns) (is_readable_condition c.condition) parts.1 in
     record {
-      prints = select_prints c (Some name) (whole name) parts.1 (text_prints name (named name ∷ []) (name_leads name parts.0));
+      prints = select_prints c (Some (name_text name)) (whole name) parts.1 (text_prints (name_text name) (named name ∷ []) (name_leads name parts.0));
       follows = condition_rules c.condition clauses.1;
       means = clauses_meant c (whole name) parts.1 ∙ table_meant name c.condition c.columns;
     }

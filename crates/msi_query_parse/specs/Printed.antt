@@ -2,7 +2,7 @@
 use Rattle.std.specs.Prelude.{◌≡◌, ℕ, Bool, true, List, map, Option, Some, None, option_map, ◌&&◌, nat_lt, nat_le}
 use Rattle.std.specs.Prelude.{if◌then◌else◌, IsTrue}
 use Rattle.std.specs.List.{list_all}
-use Rattle.msi_text_categories.specs.CategoryRules.{is_identifier}
+use Rattle.std.specs.Str.{is_utf8}
 use Rattle.msi_query_operators.specs.declared.operators.BinaryOp.{BinaryOp}
 use Rattle.msi_query_operators.specs.declared.operators.BinaryOp.TheVariants as two
 use Rattle.msi_query_operators.specs.OperatorTexts.{op_level, right_level}
@@ -13,7 +13,8 @@ use Rattle.msi_query.specs.Queries.{Clauses, Query, table, join, InsertQuery, Up
 use Rattle.msi_query.specs.QueryTexts.{bare_name, query_text, insert_text, update_text, delete_text}
 use Rattle.msi_query_tokens.specs.declared.token.Kind.{Kind}
 use Rattle.msi_query_tokens.specs.declared.token.Kind.TheVariants as k
-use Rattle.msi_query_tokens.specs.Tokens.{kind_of_word, same_kind}
+use Rattle.msi_query_parse.specs.declared.statement.Statement.{Statement}
+use Rattle.msi_query_parse.specs.declared.statement.Statement.TheVariants as any
 use Rattle.msi_query_parse.specs.Grammar.{Phrase, constant, reference, grouped, front, link, plain, phrase_height}
 use Rattle.msi_query_parse.specs.Grammar.{is_value, Source, whole, both_of, query_of, source_height}
 use Rattle.msi_query_parse.specs.Grammar.{SpellsExpression, SpellsSelect, SpellsInsert, SpellsUpdate, SpellsDelete}
@@ -51,9 +52,9 @@ phrase_of (binary op l r) =
 phrase_of (both l r) = link k.And (within 2 (level l) (phrase_of l)) (within 3 (level r) (phrase_of r))
 phrase_of (either l r) = link k.Or (within 1 (level l) (phrase_of l)) (within 2 (level r) (phrase_of r))
 
--- an Identifier that is no key word in any case; it may have full stops, as the name of a joined column has
+-- any text is a name, since what is no plain one prints in back quotes
 abbrev pub is_readable_name : List ℕ → Bool
-is_readable_name name = is_identifier name && same_kind (kind_of_word name) k.Name
+is_readable_name = is_utf8
 
 -- one that the constructors made, with such names, and with at most 200 levels of operators and brackets
 abbrev pub is_readable : Expression → Bool
@@ -104,6 +105,13 @@ is_readable_update q = is_readable_name q.table
 
 abbrev pub is_readable_delete : DeleteQuery → Bool
 is_readable_delete q = is_readable_name q.table && is_readable_condition q.condition
+
+-- a query of any kind prints as what it holds
+abbrev pub statement_text : Statement → Option (List ℕ)
+statement_text (any.Select q) = query_text q
+statement_text (any.Insert q) = insert_text q
+statement_text (any.Update q) = update_text q
+statement_text (any.Delete q) = delete_text q
 
 abbrev pub PrintedSelectsAreReadBack : Type 0
 PrintedSelectsAreReadBack = (q : Query) (text : List ℕ) → IsTrue (is_readable_select q)

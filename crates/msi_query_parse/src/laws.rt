@@ -47,32 +47,30 @@ pub fn statements_are_read_as_spelled()
     ensures one { SpellsOne SpellsStatement }
 {}
 
-/// What an expression prints spells that expression, if it is one that the constructors made, its columns have names
-/// that are Identifiers and no key words, and it has at most 200 levels of operators and brackets.
+/// What an expression prints spells that expression, if it is one that the constructors made, the names of its columns
+/// are UTF-8, as all texts are, and it has at most 200 levels of operators and brackets.
 pub fn printed_expressions_are_read_back()
     ensures { PrintedExpressionsAreReadBack }
 {}
 
-/// What a query for rows prints spells that query, if its tables and columns have names that are Identifiers and no key
-/// words, its conditions are readable as `printed_expressions_are_read_back` has it, and it has at most 200 levels of
-/// joins.
+/// What a query for rows prints spells that query, if the names of its tables and columns are UTF-8, its conditions are
+/// readable as `printed_expressions_are_read_back` has it, and it has at most 200 levels of joins.
 pub fn printed_selects_are_read_back()
     ensures { PrintedSelectsAreReadBack }
 {}
 
-/// What an insert prints spells that insert, if its table has a name that is an Identifier and no key word.
+/// What an insert prints spells that insert, if the name of its table is UTF-8 and its numbers have 32 bits.
 pub fn printed_inserts_are_read_back()
     ensures { PrintedInsertsAreReadBack }
 {}
 
-/// What an update prints spells that update, if its table and columns have names that are Identifiers and no key words,
+/// What an update prints spells that update, if the names of its table and columns are UTF-8, its numbers have 32 bits,
 /// and its condition is readable.
 pub fn printed_updates_are_read_back()
     ensures { PrintedUpdatesAreReadBack }
 {}
 
-/// What a delete prints spells that delete, if its table has a name that is an Identifier and no key word, and its
-/// condition is readable.
+/// What a delete prints spells that delete, if the name of its table is UTF-8 and its condition is readable.
 pub fn printed_deletes_are_read_back()
     ensures { PrintedDeletesAreReadBack }
 {}

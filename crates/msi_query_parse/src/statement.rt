@@ -12,8 +12,13 @@ pub enum Statement {
     Delete(Delete),
 }
 
-/// Writes the query as SQL.
+/// Writes the query as SQL, as its own type writes it. Literal texts past ASCII, and formats with a width or other
+/// options, are promised nothing.
 impl fmt::Display for Statement {
+    ghost use Rattle.msi_query_parse.specs.Printed.{statement_text};
+
+    ghost output = { statement_text };
+
     fn fmt<W: fmt::Write>(&self, f: &mut fmt::Formatter<W>) -> fmt::Result {
         match self {
             Statement::Select(query) => write!(f, "{query}"),

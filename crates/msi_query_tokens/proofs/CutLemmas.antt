@@ -1,5 +1,5 @@
 -- The symbol at the front of a text, where blanks, words, digits and quoted texts stand there.
-use Rattle.std.proofs.Common.{◌≡◌, ℕ, zero, suc, ◌+◌, ◌-◌, ◌*◌, ◌%◌, ◌/◌, ◌^◌, ◌<◌, ◌≤◌, min, Bool, true, false, not, cond, List, [], ◌∷◌, ◌++◌, length, take, drop, get_or, slice_index, Some, None, flat_map, decimal, refl, sym, ap, subst, ◌∙◌, append_assoc, append-nil, arith, ⊎_elim, eq-or-lt_of_le, length-append}
+use Rattle.std.proofs.Common.{◌≡◌, ℕ, zero, suc, ◌+◌, ◌-◌, ◌*◌, ◌%◌, ◌/◌, ◌^◌, ◌<◌, ◌≤◌, min, Bool, true, false, not, ◌||◌, ◌==◌, cond, List, [], ◌∷◌, ◌++◌, length, take, drop, get_or, slice_index, Some, None, flat_map, decimal, refl, sym, ap, subst, ◌∙◌, append_assoc, append-nil, arith, ⊎_elim, eq-or-lt_of_le, length-append}
 use Rattle.std.specs.List.{list_all, prefix_len}
 use Rattle.std.specs.Char.{is_ascii, is_ascii_digit}
 use Rattle.std.specs.Str.{is_utf8}
@@ -52,9 +52,15 @@ over_one text rest s c b e no_end is behind = subst (λ t. Spans t (s ∷ []) (s
   ap (λ c. skip_blanks (drop c.1 text)) e ∙ ap skip_blanks behind,
 )
 
--- what makes neither a name nor a number longer
+-- what makes neither a name, plain or in back quotes, nor a number longer
 abbrev pub is_apart : List ℕ → Bool
-is_apart text = not (is_in class.Name (slice_index text 0))
+is_apart text = not (is_in class.Name (slice_index text 0) || (slice_index text 0 == 96))
+
+pub no_word : (text : List ℕ) → is_apart text ≡ true → is_in class.Name (slice_index text 0) ≡ false
+no_word text a = (or_parts (is_in class.Name (slice_index text 0)) (slice_index text 0 == 96) (not-true _ a)).0
+
+pub no_quote : (text : List ℕ) → is_apart text ≡ true → (slice_index text 0 == 96) ≡ false
+no_quote text a = (or_parts (is_in class.Name (slice_index text 0)) (slice_index text 0 == 96) (not-true _ a)).1
 
 pub prefix_passes : (p : ℕ → Bool) (xs ys : List ℕ) → list_all p xs ≡ true → p (slice_index ys 0) ≡ false → prefix_len p (xs ++ ys) ≡ length xs
 prefix_passes p [] [] h e = refl
@@ -82,7 +88,7 @@ word_token b bs c h g e =
 pub word_over : (b : ℕ) (bs c : List ℕ) → is_in class.Letter b ≡ true → list_all (is_in class.Name) bs ≡ true → is_apart c ≡ true
     → same_kind (kind_of_word (b ∷ bs)) k.End ≡ false → Over ((b ∷ bs) ++ c) (symbol_of (kind_of_word (b ∷ bs)) (b ∷ bs) ∷ []) c
 word_over b bs c h g a no_end = over_one (b ∷ (bs ++ c)) c (symbol_of (kind_of_word (b ∷ bs)) (b ∷ bs)) (kind_of_word (b ∷ bs), suc (length bs))
-    (no_blank b (bs ++ c) (letter_no_blank b h)) (word_token b bs c h g (not-true _ a)) no_end
+    (no_blank b (bs ++ c) (letter_no_blank b h)) (word_token b bs c h g (no_word c a)) no_end
     (ap (λ w. symbol_of (kind_of_word (b ∷ bs)) (b ∷ w)) (take-append_seam bs c)) (drop-append_seam bs c)
 
 -- Identifiers that are no key words
@@ -130,7 +136,7 @@ pub digits_over : (ds c : List ℕ) → 0 < length ds → list_all is_ascii_digi
 unfolding same_kind
 digits_over [] c some h a = absurd (omega arith)
 digits_over (d ∷ ds) c some h a = over_one (d ∷ (ds ++ c)) c (number (number_of (d ∷ ds))) (k.Number, suc (length ds))
-    (no_blank d (ds ++ c) (digit_no_blank d (and_parts (is_ascii_digit d) (list_all is_ascii_digit ds) h).0)) (digits_token d ds c h (not-true _ a)) refl
+    (no_blank d (ds ++ c) (digit_no_blank d (and_parts (is_ascii_digit d) (list_all is_ascii_digit ds) h).0)) (digits_token d ds c h (no_word c a)) refl
     (ap (λ w. number (number_of (d ∷ w))) (take-append_seam ds c)) (drop-append_seam ds c)
 
 -- the digits of a number that a minus or none before them leaves in 32 bits
@@ -225,13 +231,13 @@ ascii_at (b ∷ text) (suc i) h = ascii_at text i (and_parts (is_ascii b) (list_
 ascii_utf8 : (text : List ℕ) → list_all is_ascii text ≡ true → is_utf8 text ≡ true
 ascii_utf8 text h = is_utf8-from_IsUtf8 text (IsUtf8-from_ascii text (λ i. ascii_at text i h))
 
-inside_of : (t : List ℕ) → inside (34 ∷ (t ++ 34 ∷ [])) ≡ t
-inside_of t =
-    let one : min 1 (suc (length (t ++ 34 ∷ []))) ≡ 1 = omega arith in
-    let long : length (t ++ 34 ∷ []) ≡ length t + 1 = length-append t (34 ∷ []) in
-    let less : length (t ++ 34 ∷ []) - 1 ≡ length t = omega arith in
-    ap (λ (n : ℕ). take (length (drop n (34 ∷ (t ++ 34 ∷ []))) - 1) (drop n (34 ∷ (t ++ 34 ∷ [])))) one
-    ∙ ap (λ (n : ℕ). take n (t ++ 34 ∷ [])) less ∙ take-append_seam t (34 ∷ [])
+pub inside_of : (q : ℕ) (t : List ℕ) → inside (q ∷ (t ++ q ∷ [])) ≡ t
+inside_of q t =
+    let one : min 1 (suc (length (t ++ q ∷ []))) ≡ 1 = omega arith in
+    let long : length (t ++ q ∷ []) ≡ length t + 1 = length-append t (q ∷ []) in
+    let less : length (t ++ q ∷ []) - 1 ≡ length t = omega arith in
+    ap (λ (n : ℕ). take (length (drop n (q ∷ (t ++ q ∷ []))) - 1) (drop n (q ∷ (t ++ q ∷ [])))) one
+    ∙ ap (λ (n : ℕ). take n (t ++ q ∷ [])) less ∙ take-append_seam t (q ∷ [])
 
 quoted_token : (text c : List ℕ) → list_all is_ascii text ≡ true → token (34 ∷ ((body text ++ 34 ∷ []) ++ c)) ≡ (k.DoubleQuoted, suc (length (body text ++ 34 ∷ [])))
 unfolding token
@@ -243,7 +249,7 @@ quoted_token text c h =
 
 quoted_symbol : (text : List ℕ) → list_all is_ascii text ≡ true → symbol_of k.DoubleQuoted (34 ∷ (body text ++ 34 ∷ [])) ≡ quote text
 quoted_symbol text h =
-    ap (λ t. with_bytes quote (checked_bytes (unescaped t))) (inside_of (body text))
+    ap (λ t. with_bytes quote (checked_bytes (unescaped t))) (inside_of 34 (body text))
     ∙ ap (λ o. with_bytes quote (checked_bytes o)) (unescapes text h)
     ∙ ap (λ b. with_bytes quote (cond b (Some text) None)) (ascii_utf8 text h)
 

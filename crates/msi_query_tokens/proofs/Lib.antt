@@ -4,4 +4,5 @@ pub mod TokenLemmas
 pub mod SymbolLemmas
 pub mod StepLemmas
 pub mod CutLemmas
+pub mod NameLemmas
 pub mod LeadsLemmas

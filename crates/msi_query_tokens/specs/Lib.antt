@@ -5,3 +5,4 @@ pub mod Input
 pub mod Cursor
 pub mod Texts
 pub mod Symbols
+pub mod Names

@@ -73,7 +73,7 @@ fn word_kind(mut words: &[(&[u8], Kind)], word: &[u8]) -> Kind
 
 /// The kind of a key word in any case, or of a name.
 #[tactic(auto, unfolding(crate::specs::Tokens::kind_of_word))]
-fn kind_of_word(word: &[u8]) -> Kind
+pub(crate) fn kind_of_word(word: &[u8]) -> Kind
     ensures { result ≡ spec.kind_of_word word.now }
 {
     word_kind(&KEY_WORDS, word)

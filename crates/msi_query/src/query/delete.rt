@@ -7,7 +7,7 @@ ghost use Rattle.msi_query.specs.QueryTexts.{delete_text};
 ghost use Rattle.msi_query.specs.Utf8Queries.{IsUtf8Delete};
 
 use super::narrowed;
-use super::printing::write_condition;
+use super::printing::{write_condition, write_named};
 use super::texts::look_at_condition;
 use msi_query_expressions::Expr;
 use msi_text_base::errors::Error;
@@ -120,7 +120,7 @@ impl fmt::Display for Delete {
     ghost output = { delete_text };
 
     fn fmt<W: fmt::Write>(&self, f: &mut fmt::Formatter<W>) -> fmt::Result {
-        write!(f, "DELETE FROM {}", self.table)?;
+        write_named(f, "DELETE FROM ", &self.table)?;
         write_condition(f, self.condition.as_ref())
     }
 }

@@ -6,7 +6,7 @@ ghost use Rattle.msi_text_base.specs.declared.errors.ErrorKind.TheVariants.{OutO
 ghost use Rattle.msi_query.specs.QueryTexts.{insert_text, row_text, rows_text};
 ghost use Rattle.msi_query.specs.Utf8Queries.{IsUtf8Insert};
 
-use super::printing::write_list;
+use super::printing::{write_list, write_named};
 use super::texts::look_at_rows;
 use msi_table_values::value::Value;
 use msi_text_base::errors::Error;
@@ -177,7 +177,7 @@ impl fmt::Display for Insert {
     ghost output = { insert_text };
 
     fn fmt<W: fmt::Write>(&self, f: &mut fmt::Formatter<W>) -> fmt::Result {
-        write!(f, "INSERT INTO {}", self.table)?;
+        write_named(f, "INSERT INTO ", &self.table)?;
         write_rows(f, self.rows.as_slice())
     }
 }

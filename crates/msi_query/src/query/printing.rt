@@ -1,10 +1,13 @@
-//! How lists and conditions print in queries.
+//! How names, lists and conditions print in queries.
 
-ghost use Rattle.std.specs.Prelude.{◌≡◌, map, option_copied};
+ghost use Rattle.std.specs.Prelude.{◌≡◌, ◌++◌, Some, map, option_copied};
 ghost use Rattle.std.specs.Fmt.{DisplaysOnOk};
+ghost use Rattle.msi_query_tokens.specs.Names.{name_text};
 ghost use Rattle.msi_query.specs.QueryTexts.{listed, where_text};
 
 use msi_query_expressions::Expr;
+use msi_query_tokens::names::write_name;
+use msi_text_base::text::Text;
 use std::fmt;
 
 /// Writes items with `, ` between them.
@@ -20,6 +23,36 @@ pub(crate) fn write_list<T: fmt::Display, W: fmt::Write>(
     write!(f, "{first}")?;
     for item in others {
         write!(f, ", {item}")?;
+    }
+    Ok(())
+}
+
+/// Writes the name of a table or a column behind what stands in front of it.
+pub(crate) fn write_named<W: fmt::Write>(
+    f: &mut fmt::Formatter<W>,
+    front: &str,
+    name: &Text,
+) -> fmt::Result
+    ensures { DisplaysOnOk W.write_str_gives f.old result (Some (front.now ++ name_text name.now)) f.new }
+{
+    f.write_str(front)?;
+    write_name(f, name.as_str())
+}
+
+/// Writes names with `, ` between them.
+pub(crate) fn write_name_list<W: fmt::Write>(
+    f: &mut fmt::Formatter<W>,
+    names: &[Text],
+) -> fmt::Result
+    ensures { DisplaysOnOk W.write_str_gives f.old result (listed (map (λ name. Some (name_text name)) names.now))
+        f.new }
+{
+    let Some((first, others)) = names.split_first() else {
+        return Ok(());
+    };
+    write_name(f, first.as_str())?;
+    for name in others {
+        write_named(f, ", ", name)?;
     }
     Ok(())
 }

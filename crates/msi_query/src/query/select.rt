@@ -10,9 +10,10 @@ ghost use Rattle.msi_query.specs.Utf8Queries.{IsUtf8Query};
 
 use super::JoinKind;
 use super::clauses::Clauses;
-use super::printing::{write_condition, write_list};
+use super::printing::{write_condition, write_name_list};
 use super::texts::look_at_tree;
 use msi_query_expressions::Expr;
+use msi_query_tokens::names::write_name;
 use msi_table_values::parts::copied_list;
 use msi_text_base::errors::Error;
 use msi_text_base::text::{IntoText, Text};
@@ -245,7 +246,7 @@ fn write_names<W: fmt::Write>(f: &mut fmt::Formatter<W>, columns: &[Text]) -> fm
     if columns.is_empty() {
         f.write_str("*")
     } else {
-        write_list(f, columns)
+        write_name_list(f, columns)
     }
 }
 
@@ -267,7 +268,7 @@ fn write_query<W: fmt::Write>(f: &mut fmt::Formatter<W>, tree: &SelectTree) -> f
     match tree {
         SelectTree::Table { name, clauses } => {
             write_columns(f, clauses.columns())?;
-            f.write_str(name.as_str())?;
+            write_name(f, name.as_str())?;
             write_condition(f, clauses.condition())
         }
         SelectTree::Join {
@@ -294,7 +295,7 @@ fn write_side<W: fmt::Write>(f: &mut fmt::Formatter<W>, tree: &SelectTree) -> fm
         (side_text (query_of tree.now) (query_text (query_of tree.now))) f.new }
 {
     match tree.bare_name() {
-        Some(name) => f.write_str(name),
+        Some(name) => write_name(f, name),
         None => {
             f.write_str("(")?;
             write_query(f, tree)?;

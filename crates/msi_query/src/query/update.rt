@@ -8,7 +8,7 @@ ghost use Rattle.msi_query.specs.QueryTexts.{sets_text, update_text};
 ghost use Rattle.msi_query.specs.Utf8Queries.{IsUtf8Update};
 
 use super::narrowed;
-use super::printing::{write_condition, write_list};
+use super::printing::{write_condition, write_list, write_named};
 use super::texts::{look_at_condition, look_at_sets};
 use msi_query_expressions::Expr;
 use msi_query_expressions::parts::Assignment;
@@ -174,7 +174,7 @@ impl fmt::Display for Update {
     ghost output = { update_text };
 
     fn fmt<W: fmt::Write>(&self, f: &mut fmt::Formatter<W>) -> fmt::Result {
-        write!(f, "UPDATE {}", self.table)?;
+        write_named(f, "UPDATE ", &self.table)?;
         write_sets(f, self.sets.as_slice())?;
         write_condition(f, self.condition.as_ref())
     }

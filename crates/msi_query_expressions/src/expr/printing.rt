@@ -8,6 +8,7 @@ ghost use Rattle.msi_query_expressions.specs.Vocabulary.{PrintsAlone};
 
 use crate::expr::{Expr, Tree};
 use msi_query_operators::parts::{operator_level, operator_text, prefix_text, right_operand_level};
+use msi_query_tokens::names::write_name;
 use msi_text_base::text::Text;
 use std::fmt;
 
@@ -36,7 +37,7 @@ fn write_tree<W: fmt::Write>(f: &mut fmt::Formatter<W>, tree: &Tree<Text>) -> fm
 {
     match tree {
         Tree::Literal(value) => write!(f, "{value}"),
-        Tree::Column(name) => f.write_str(name.as_str()),
+        Tree::Column(name) => write_name(f, name.as_str()),
         Tree::Unary(op, operand) => {
             f.write_str(prefix_text(*op))?;
             write_operand(f, TIGHTEST, operand)
@@ -78,9 +79,9 @@ fn write_operand<W: fmt::Write>(
     }
 }
 
-/// Writes the condition as a query has it, as `Foo - (Bar - Baz)`. Literal texts past ASCII, and formats with a width
-/// or other options, are promised nothing. No other expression writes these bytes, where columns are Identifiers
-/// other than `NULL` and `NOT` and literal texts are ASCII.
+/// Writes the condition as a query has it, as `Foo - (Bar - Baz)`. A column that is named as a key word, or by no
+/// Identifier, stands in back quotes. Literal texts past ASCII, and formats with a width or other options, are promised
+/// nothing. No other expression writes these bytes, where literal texts are ASCII.
 impl fmt::Display for Expr {
     ghost output = { expression_text };
 

@@ -2,6 +2,7 @@ use Rattle.std.proofs.Common.{ℕ, ◌++◌, List, Option, Some, codes, refl}
 use Rattle.std.specs.Prelude.{option_copied}
 use Rattle.std.specs.Fmt.{◌++?◌}
 use Rattle.msi_query_expressions.specs.Printing.{expression_text}
+use Rattle.msi_query_tokens.specs.Names.{name_text}
 use Rattle.msi_query.specs.Queries.{Query}
 use Rattle.msi_query.specs.QueryTexts.{columns_text, query_text, side_text, where_text}
 use Rattle.msi_query.specs.QueryTrees.{query_of}
@@ -33,36 +34,36 @@ write_query-returns-in_ok-write-in-Join g t c =
     ) refl)
     (rw c.in_ok-write_columns-in-Join.was refl) (rw c.in_ok-write-in-Join.was refl)
     c.write_columns-in-Join.ensures
-    (four_writes took c.write_columns-in-Join.new.f c.write_side.new.f c.write_str-in-Join.new.self c.write_side-in-Join.new.f c.write.new.self
-    c.write_side.result c.write_str-in-Join.result c.write_side-in-Join.result c.write.result left words right on
+    (four_writes took c.write_columns-in-Join.new.f c.write_side.new.f c.write_str.new.self c.write_side-in-Join.new.f c.write.new.self
+    c.write_side.result c.write_str.result c.write_side-in-Join.result c.write.result left words right on
     (rw c.in_ok-write_side-in-Join.was refl) (rw c.in_ok-write_str-in-Join.was refl) (rw c.in_ok-write_side-in-Join-2.was refl)
-    c.write_side.ensures c.write_str-in-Join.ensures.writes c.write_side-in-Join.ensures c.write.ensures.writes)
+    c.write_side.ensures c.write_str.ensures.writes c.write_side-in-Join.ensures c.write.ensures.writes)
     c.write_condition-in-Join.ensures
 
 pub write_side-returns-in_ok-write_query-in-None : goal.write_side-returns-in_ok-write_query-in-None
 write_side-returns-in_ok-write_query-in-None g t c =
     let q = query_of c.args.tree.now in
-    three_writes g.W.Write.write_str_gives c.args.f.now c.write_str-in-None.new.self c.write_query.new.f c.write_str-in-None-2.new.self
-    c.write_str-in-None.result c.write_query.result c.write_str-in-None-2.result
+    three_writes g.W.Write.write_str_gives c.args.f.now c.write_str.new.self c.write_query.new.f c.write_str-in-None.new.self
+    c.write_str.result c.write_query.result c.write_str-in-None.result
     (Some (codes "(")) (query_text q) (Some (codes ")")) _
     (side_text-None q (query_text q) c.in-None.ensures)
     (rw c.in_ok-write_str-in-None.was refl) (rw c.in_ok-write_query-in-None.was refl)
-    c.write_str-in-None.ensures.writes c.write_query.ensures c.write_str-in-None-2.ensures.writes
+    c.write_str.ensures.writes c.write_query.ensures c.write_str-in-None.ensures.writes
 
 pub write_query-returns-in_err-write_columns-in-Table : goal.write_query-returns-in_err-write_columns-in-Table
 write_query-returns-in_err-write_columns-in-Table g t c = failed_write g.W.Write.write_str_gives _ _ _ _ c.from_residual.ensures.0
 
-pub write_query-returns-in_err-write_str-in-Table : goal.write_query-returns-in_err-write_str-in-Table
-write_query-returns-in_err-write_str-in-Table g t c = failed_write g.W.Write.write_str_gives _ _ _ _ c.from_residual-in_err-write_str-in-Table.ensures.0
+pub write_query-returns-in_err-write_name-in-Table : goal.write_query-returns-in_err-write_name-in-Table
+write_query-returns-in_err-write_name-in-Table g t c = failed_write g.W.Write.write_str_gives _ _ _ _ c.from_residual-in_err-write_name-in-Table.ensures.0
 
-pub write_query-returns-in_ok-write_str-in-Table : goal.write_query-returns-in_ok-write_str-in-Table
-write_query-returns-in_ok-write_str-in-Table g t c =
-    three_writes g.W.Write.write_str_gives c.args.f.now c.write_columns.new.f c.write_str.new.self c.write_condition.new.f
-    c.write_columns.result c.write_str.result c.write_condition.result
-    (Some (codes "SELECT " ++ columns_text c.columns.result.now ++ codes " FROM ")) (Some c.as_str.result.now) (where_text (option_copied c.condition.result)) _
+pub write_query-returns-in_ok-write_name-in-Table : goal.write_query-returns-in_ok-write_name-in-Table
+write_query-returns-in_ok-write_name-in-Table g t c =
+    three_writes g.W.Write.write_str_gives c.args.f.now c.write_columns.new.f c.write_name.new.f c.write_condition.new.f
+    c.write_columns.result c.write_name.result c.write_condition.result
+    (Some (codes "SELECT " ++ columns_text c.columns.result.now ++ codes " FROM ")) (Some (name_text c.as_str.result.now)) (where_text (option_copied c.condition.result)) _
     (rw (c.in-Table.is, c.columns.ensures, c.as_str.ensures, c.condition.ensures) refl)
-    (rw c.in_ok-write_columns-in-Table.was refl) (rw c.in_ok-write_str-in-Table.was refl)
-    c.write_columns.ensures c.write_str.ensures.writes c.write_condition.ensures
+    (rw c.in_ok-write_columns-in-Table.was refl) (rw c.in_ok-write_name-in-Table.was refl)
+    c.write_columns.ensures c.write_name.ensures c.write_condition.ensures
 
 pub write_query-returns-in_err-write_columns-in-Join : goal.write_query-returns-in_err-write_columns-in-Join
 write_query-returns-in_err-write_columns-in-Join g t c = failed_write g.W.Write.write_str_gives _ _ _ _ c.from_residual-in_err-write_columns-in-Join.ensures.0

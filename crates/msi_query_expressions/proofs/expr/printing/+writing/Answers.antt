@@ -41,8 +41,8 @@ write_tree-returns-in_ok-write_str-in-Unary g t c =
     let o : Option (List ℕ) = Some c.prefix_text.result.now in
     let p : Option (List ℕ) = operand_text 10 (expression_of c.deref.result.now) in
     displays_on_ok_of_eq took c.args.f.now c.write_operand.new.f c.write_operand.result (o ++? p) _ (rw (c.in-Unary.is, c.prefix_text.ensures, c.deref.ensures) refl)
-    (displays_on_IsOk_append took c.args.f.now c.write_str-in-Unary.new.self c.write_operand.new.f c.write_str-in-Unary.result c.write_operand.result o p
-    (λ _. rw c.in_ok-write_str-in-Unary.was refl) c.write_str-in-Unary.ensures.writes c.write_operand.ensures)
+    (displays_on_IsOk_append took c.args.f.now c.write_str.new.self c.write_operand.new.f c.write_str.result c.write_operand.result o p
+    (λ _. rw c.in_ok-write_str-in-Unary.was refl) c.write_str.ensures.writes c.write_operand.ensures)
 
 pub write_tree-returns-in_ok-write_str-in-Binary : goal.write_tree-returns-in_ok-write_str-in-Binary
 write_tree-returns-in_ok-write_str-in-Binary g t c =
