@@ -3,6 +3,7 @@ pub mod AccountLemmas
 pub mod AddedLemmas
 pub mod AddedRowsLemmas
 pub mod ColumnBackLemmas
+pub mod CopiesLemmas
 pub mod FaultLemmas
 pub mod ListingLemmas
 pub mod OrderLemmas

@@ -2,3 +2,4 @@
 pub mod Schema
 pub mod ListedTables
 pub mod RowOrders
+pub mod Copies

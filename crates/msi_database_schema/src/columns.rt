@@ -1,9 +1,8 @@
 //! A column from its row of `_Columns` and its row of `_Validation` (MSI SDK, "_Columns table" and "_Validation
 //! table").
 
-ghost use Rattle.std.specs.Prelude.{◌≡◌, ◌≤◌, ◌==◌, [], IfOk, Some, bytes_eq, codes, false, if◌then◌else◌, length, map};
+ghost use Rattle.std.specs.Prelude.{◌≡◌, ◌≤◌, [], IfOk, Some, bytes_eq, codes, false, if◌then◌else◌, length};
 ghost use Rattle.std.specs.Prelude.{option_and_then, option_map, true};
-ghost use Rattle.std.specs.List.{slice_split};
 ghost use Rattle.std.specs.Option.{option_map_or};
 ghost use Rattle.std.specs.List.Sorted.{IsSorted};
 ghost use Rattle.msi_text_base.specs.Results.{Gives, OnlyMemory};
@@ -18,14 +17,15 @@ ghost use Rattle.msi_database_system.specs.System.{is_schema_table};
 
 use crate::orders::{count_about, find_by_number, find_by_texts};
 use crate::reasons;
-use crate::rows::{SchemaRow, is_null_at, number_at, text_at, view_at};
+use crate::rows::{SchemaRow, is_null_at, number_at, shared_text_at, shared_values_at, text_at};
 use msi_table::table::MAX_COLUMNS;
 use msi_table_values::column::{Column, ColumnBuilder};
-use msi_table_values::parts::{ValueView, column_of_bits};
+use msi_table_values::parts::{column_of_bits, with_shared_values};
 use msi_text_base::errors::{Error, ErrorKind};
+use msi_text_base::shared_text::SharedText;
 use msi_text_base::text::Items;
 use msi_text_categories::category::Category;
-use std::alloc::{AllocError, Global};
+use std::alloc::Global;
 
 /// Lets a column take null where a row of `_Validation` says `Y`.
 fn with_nullable(builder: ColumnBuilder, row: &SchemaRow) -> ColumnBuilder
@@ -55,7 +55,11 @@ fn with_range(builder: ColumnBuilder, row: &SchemaRow) -> ColumnBuilder
 ///
 /// # Errors
 /// `OutOfMemory`.
-fn with_foreign_key(builder: ColumnBuilder, row: &SchemaRow) -> Result<ColumnBuilder, Error>
+fn with_foreign_key(
+    alloc: Global,
+    builder: ColumnBuilder,
+    row: &SchemaRow,
+) -> Result<ColumnBuilder, Error>
     ensures ok { IfOk result (λ referring. referring ≡ option_map_or (λ key. record builder { foreign_key = Some key })
         (both_set text_of number_of (value_at 5 row.now) (value_at 6 row.now)) builder) }
     ensures kind { OnlyMemory result }
@@ -63,7 +67,7 @@ fn with_foreign_key(builder: ColumnBuilder, row: &SchemaRow) -> Result<ColumnBui
     if is_null_at(row, 5) || is_null_at(row, 6) {
         return Ok(builder);
     }
-    builder.foreign_key(text_at(row, 5), number_at(row, 6))
+    builder.foreign_key(shared_text_at(alloc, row, 5)?, number_at(row, 6))
 }
 
 /// Sets a column's category where a row of `_Validation` names one.
@@ -77,50 +81,33 @@ fn with_category(builder: ColumnBuilder, row: &SchemaRow) -> ColumnBuilder
     }
 }
 
-/// The pieces of a text between each two semicolons.
-///
-/// # Errors
-/// Where memory is refused.
-fn pieces<'a>(alloc: Global, text: &'a str) -> Result<Vec<&'a str>, AllocError>
-    ensures { IfOk result (λ pieces. map (λ piece. piece.now) pieces.items ≡ slice_split (λ c. c == 59) text.now) }
-{
-    text.split(';').collect(alloc)
-}
-
 /// Sets the texts that a column takes where a row of `_Validation` lists some.
 ///
 /// # Errors
 /// `OutOfMemory`.
-fn with_values(
-    alloc: Global,
-    builder: ColumnBuilder,
-    row: &SchemaRow,
-) -> Result<ColumnBuilder, Error>
-    requires { builder.enum_values ≡ [] }
+fn with_values(builder: ColumnBuilder, row: &SchemaRow) -> Result<ColumnBuilder, Error>
     ensures ok { IfOk result (λ listing. listing ≡ record builder { enum_values = values_in (value_at 8 row.now) }) }
     ensures kind { OnlyMemory result }
 {
-    match view_at(row, 8) {
-        ValueView::Str(set) => {
-            let texts = pieces(alloc, set)?;
-            builder.enum_values(texts.as_slice())
-        }
-        _ => Ok(builder),
-    }
+    Ok(with_shared_values(builder, shared_values_at(row, 8)?))
 }
 
 /// Begins a column of a name with what a row of `_Validation` says of it.
 ///
 /// # Errors
 /// `OutOfMemory`.
-fn described_column(alloc: Global, name: &str, row: &SchemaRow) -> Result<ColumnBuilder, Error>
-    ensures ok { IfOk result (λ builder. builder ≡ described (Some row.now) (begun_column name.now)) }
+fn described_column(
+    alloc: Global,
+    name: SharedText,
+    row: &SchemaRow,
+) -> Result<ColumnBuilder, Error>
+    ensures ok { IfOk result (λ builder. builder ≡ described (Some row.now) (begun_column name)) }
     ensures kind { OnlyMemory result }
 {
     let builder = with_nullable(Column::build(alloc, name)?, row);
     let builder = with_category(with_range(builder, row), row);
-    let builder = with_foreign_key(builder, row)?;
-    with_values(alloc, builder, row)
+    let builder = with_foreign_key(alloc, builder, row)?;
+    with_values(builder, row)
 }
 
 /// The bits of a column's type in its row of `_Columns`, where negative numbers stand for those from 32768 on.
@@ -140,14 +127,14 @@ fn begun_column_of(
     alloc: Global,
     validation: &[SchemaRow],
     table: &str,
-    name: &str,
+    name: SharedText,
 ) -> Result<ColumnBuilder, Error>
     requires { IsSorted (by_texts 1) validation.now }
-    ensures ok { let about = validation_row (describing [] validation.now) table.now name.now in
-        IfOk result (λ builder. builder ≡ described about (begun_column name.now)) }
+    ensures ok { let about = validation_row (describing [] validation.now) table.now name in
+        IfOk result (λ builder. builder ≡ described about (begun_column name)) }
     ensures kind { OnlyMemory result }
 {
-    match find_by_texts(validation, 1, table, name) {
+    match find_by_texts(validation, 1, table, name.as_str()) {
         Some(about) => described_column(alloc, name, about),
         None => Column::build(alloc, name),
     }
@@ -176,7 +163,8 @@ fn column_of_row(
     ensures { let s = describing [] validation.now in Gives
         (λ column. column) result (column_described s table.now row.now) }
 {
-    let builder = begun_column_of(alloc, validation, table, text_at(row, 2))?;
+    let name = shared_text_at(alloc, row, 2)?;
+    let builder = begun_column_of(alloc, validation, table, name)?;
     column_of_bits(builder, bits_in(row))
 }
 

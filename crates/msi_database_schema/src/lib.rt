@@ -2,6 +2,7 @@
 #![tactic(auto)]
 
 mod columns;
+mod copies;
 mod faults;
 mod orders;
 pub mod parts;

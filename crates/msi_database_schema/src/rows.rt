@@ -6,22 +6,25 @@ ghost use Rattle.msi_text_base.specs.Results.{OnlyMemory};
 ghost use Rattle.msi_table_cells.specs.CellValues.{row_values, value_of_cell};
 ghost use Rattle.msi_table_values.specs.Values.{value_cmp, is_null, is_text};
 ghost use Rattle.msi_table_values.specs.Views.{seen_value};
-ghost use Rattle.msi_database_schema.specs.Schema.{number_of, text_at as text_in, value_at};
+ghost use Rattle.msi_database_schema.specs.Schema.{number_of, text_at as text_in, value_at, values_in};
 
+use crate::copies::Copies;
 use msi_table_cells::cell::ValueRef;
 use msi_table_cells::parts::view_of_cell;
-use msi_table_values::parts::ValueView;
+use msi_table_values::parts::{SharedTexts, ValueView};
 use msi_text_base::errors::Error;
+use msi_text_base::shared_text::SharedText;
 use msi_text_base::text::Items;
 use msi_text_pool::stringpool::StringPool;
 use std::alloc::Global;
 use std::cmp::Ordering;
 use std::marker::Model;
 
-/// A row of a system table, borrowed: its cells, and the pool of their texts. A contract sees its values.
+/// A row of a system table, borrowed: its cells, and the pool of their texts with copies of some. A contract sees its
+/// values.
 #[derive(Drop)]
 pub(crate) struct SchemaRow<'a> {
-    pool: &'a StringPool,
+    copies: &'a Copies<'a>,
     cells: &'a [ValueRef],
 }
 
@@ -32,7 +35,7 @@ impl<'a> Model for SchemaRow<'a> {
 
     ghost Value = { List ValueOf };
 
-    ghost view = { λ r. row_values r.pool.now.places r.cells.now };
+    ghost view = { λ r. row_values r.copies.now r.cells.now };
 }
 
 /// Rows of cells, borrowed, as the values that these stand for.
@@ -41,16 +44,16 @@ impl<'a> Model for SchemaRow<'a> {
 /// `OutOfMemory`.
 pub(crate) fn rows_of_cells<'a>(
     alloc: Global,
-    pool: &'a StringPool,
+    copies: &'a Copies<'a>,
     rows: &'a [Items<ValueRef>],
 ) -> Result<Vec<SchemaRow<'a>>, Error>
-    ensures ok { IfOk result (λ seen. seen.items ≡ map (row_values pool.now.places) rows.now) }
+    ensures ok { IfOk result (λ seen. seen.items ≡ map (row_values copies.now) rows.now) }
     ensures kind { OnlyMemory result }
 {
     let mut seen = Vec::with_capacity(alloc, rows.len())?;
     for row in rows {
         let cells = row.as_slice();
-        seen.push(SchemaRow { pool, cells })?;
+        seen.push(SchemaRow { copies, cells })?;
     }
     Ok(seen)
 }
@@ -61,7 +64,7 @@ pub(crate) fn view_at<'a>(row: &SchemaRow<'a>, place: usize) -> ValueView<'a>
     ensures { seen_value result ≡ value_at place row.now }
 {
     match row.cells.get(place) {
-        Some(cell) => view_of_cell(row.pool, *cell),
+        Some(cell) => view_of_cell(row.copies.pool(), *cell),
         None => ValueView::Null,
     }
 }
@@ -73,6 +76,41 @@ pub(crate) fn text_at<'a>(row: &SchemaRow<'a>, place: usize) -> &'a str
     match view_at(row, place) {
         ValueView::Str(text) => text,
         _ => "",
+    }
+}
+
+/// The text at a place, which other columns share; the empty one where there is none.
+///
+/// # Errors
+/// `OutOfMemory`.
+#[tactic(auto, using(crate::proofs::SeenRowLemmas::cell_found))]
+pub(crate) fn shared_text_at(
+    alloc: Global,
+    row: &SchemaRow,
+    place: usize,
+) -> Result<SharedText, Error>
+    ensures ok { IfOk result (λ text. text ≡ text_in place row.now) }
+    ensures kind { OnlyMemory result }
+{
+    match row.cells.get(place) {
+        Some(ValueRef::Str(reference)) => row.copies.text(*reference),
+        _ => SharedText::from_str(alloc, ""),
+    }
+}
+
+/// The texts between each two semicolons of the text at a place, which other columns share; none where there is no
+/// text.
+///
+/// # Errors
+/// `OutOfMemory`.
+#[tactic(auto, using(crate::proofs::SeenRowLemmas::cell_found))]
+pub(crate) fn shared_values_at(row: &SchemaRow, place: usize) -> Result<SharedTexts, Error>
+    ensures ok { IfOk result (λ texts. texts ≡ values_in (value_at place row.now)) }
+    ensures kind { OnlyMemory result }
+{
+    match row.cells.get(place) {
+        Some(ValueRef::Str(reference)) => row.copies.list(*reference),
+        _ => Ok(SharedTexts::new()),
     }
 }
 
@@ -125,7 +163,7 @@ fn stand_for_null(pool: &StringPool, cells: &[ValueRef]) -> bool
 pub(crate) fn holds_null(row: &SchemaRow) -> bool
     ensures { result ≡ list_any is_null row.now }
 {
-    stand_for_null(row.pool, row.cells)
+    stand_for_null(row.copies.pool(), row.cells)
 }
 
 /// How the values of two rows at a place stand to one another.

@@ -1,19 +1,22 @@
 //! Which tables the rows of `_Tables`, `_Columns` and `_Validation` describe (MSI SDK, "System tables").
 
-ghost use Rattle.std.specs.Prelude.{◌≡◌, ◌≤◌, false, IfOk, OnOk, length, map, option_map};
+ghost use Rattle.std.specs.Prelude.{◌≡◌, ◌≤◌, ◌||◌, Bool, false, IfErr, IfOk, OnOk, length, map};
+ghost use Rattle.std.specs.Prelude.{option_map};
 ghost use Rattle.std.specs.List.Sorted.{IsSorted};
 ghost use Rattle.msi_text_base.specs.Lists.{stable_sort};
-ghost use Rattle.msi_text_base.specs.Results.{Gives, OnlyMemory};
+ghost use Rattle.msi_text_base.specs.Results.{FailsAs, Gives, OnlyMemory};
 ghost use Rattle.msi_table_cells.specs.CellValues.{row_values};
 ghost use Rattle.msi_table_values.specs.Columns.{most_columns};
 ghost use Rattle.msi_database_schema.specs.ListedTables.{by_names, listed_table as table_listed};
 ghost use Rattle.msi_database_schema.specs.ListedTables.{listed_tables as tables_listed};
 ghost use Rattle.msi_database_schema.specs.ListedTables.{system_tables as tables_of_system, with_system};
 ghost use Rattle.msi_database_schema.specs.RowOrders.{by_numbers, by_texts, describing, rows_of};
-ghost use Rattle.msi_database_schema.specs.Schema.{has_long_number as has_long, table_with, tables_of};
+ghost use Rattle.msi_database_schema.specs.Schema.{has_long_number as has_long, has_odd_name as has_odd};
+ghost use Rattle.msi_database_schema.specs.Schema.{is_faulty as breaks_rule, table_with, tables_of};
 ghost use Rattle.msi_database_system.specs.System.{is_schema_table};
 
 use crate::columns::columns_of_table;
+use crate::copies::Copies;
 use crate::faults::{has_odd_value, is_counted, is_faulty};
 use crate::orders::{sort_by_numbers, sort_by_texts};
 use crate::reasons;
@@ -127,10 +130,36 @@ fn sort_by_names(tables: &mut Vec<Table>) -> Result<(), Error>
     Ok(())
 }
 
-/// The tables that rows describe, in the order of their names.
+/// Fails where rows describe no tables, whatever the types and the numbers of columns are.
 ///
 /// # Errors
-/// `InvalidData` for rows that describe none; `OutOfMemory`.
+/// `InvalidData` for values that no cells give, and for rows that break a rule; `OutOfMemory`.
+fn refuse_faults(
+    tables: Vec<SchemaRow>,
+    columns: Vec<SchemaRow>,
+    validation: Vec<SchemaRow>,
+) -> Result<(), Error>
+    ensures fits { OnOk result ((has_odd tables.entry.items || has_long columns.entry.items) ≡ false) }
+    ensures sound { let s = rows_of tables.entry.items columns.entry.items validation.entry.items in
+        OnOk result (breaks_rule s ≡ false) }
+    ensures kind { let s = rows_of tables.entry.items columns.entry.items validation.entry.items in
+        (long : Bool) → IfErr result (λ kind. FailsAs kind (tables_of long s)) }
+{
+    if has_odd_value(tables.as_slice(), columns.as_slice()) {
+        return Err(Error::new(ErrorKind::InvalidData, reasons::ODD_VALUE));
+    }
+    let faulty = is_faulty(tables, columns, validation)?;
+    if faulty {
+        return Err(Error::new(ErrorKind::InvalidData, reasons::FAULTY_ROWS));
+    }
+    Ok(())
+}
+
+/// The tables that rows without a fault describe, in the order of their names.
+///
+/// # Errors
+/// `InvalidData` where the columns of a listed table aren't numbered from 1 on, and where their bits name no type;
+/// `OutOfMemory`.
 fn described(
     alloc: Global,
     tables: Vec<SchemaRow>,
@@ -138,12 +167,11 @@ fn described(
     validation: Vec<SchemaRow>,
     long: bool,
 ) -> Result<Items<Table>, Error>
+    requires fits { (has_odd tables.items || has_long columns.items) ≡ false }
+    requires sound { breaks_rule (rows_of tables.items columns.items validation.items) ≡ false }
     ensures { let s = rows_of tables.entry.items columns.entry.items validation.entry.items in
         Gives (λ tables. tables) result (tables_of long s) }
 {
-    if has_odd_value(tables.as_slice(), columns.as_slice()) {
-        return Err(Error::new(ErrorKind::InvalidData, reasons::ODD_VALUE));
-    }
     let mut columns = columns;
     let mut validation = validation;
     sort_by_numbers(&mut columns)?;
@@ -155,17 +183,41 @@ fn described(
         validation.as_slice(),
         long,
     )?;
-    let faulty = is_faulty(tables, columns, validation)?;
-    if faulty {
-        return Err(Error::new(ErrorKind::InvalidData, reasons::FAULTY_ROWS));
-    }
     sort_by_names(&mut read)?;
     Ok(Items::from_vec(read))
 }
 
+/// Fails where the cells of rows describe no tables, whatever the types and the numbers of columns are.
+///
+/// # Errors
+/// `InvalidData` for values that no cells give, and for rows that break a rule; `OutOfMemory`.
+fn refuse_faulty_cells(
+    alloc: Global,
+    pool: &StringPool,
+    tables: &[Items<ValueRef>],
+    columns: &[Items<ValueRef>],
+    validation: &[Items<ValueRef>],
+) -> Result<(), Error>
+    ensures fits { let values = map (row_values pool.now.places) in
+        OnOk result ((has_odd (values tables.now) || has_long (values columns.now)) ≡ false) }
+    ensures sound { let values = map (row_values pool.now.places) in
+        let s = rows_of (values tables.now) (values columns.now) (values validation.now) in
+        OnOk result (breaks_rule s ≡ false) }
+    ensures kind { let values = map (row_values pool.now.places) in
+        let s = rows_of (values tables.now) (values columns.now) (values validation.now) in
+        (long : Bool) → IfErr result (λ kind. FailsAs kind (tables_of long s)) }
+{
+    let copies = Copies::none(alloc, pool);
+    let tables = rows_of_cells(alloc, &copies, tables)?;
+    let columns = rows_of_cells(alloc, &copies, columns)?;
+    let validation = rows_of_cells(alloc, &copies, validation)?;
+    refuse_faults(tables, columns, validation)
+}
+
 /// Returns the tables that the cells of rows describe, with the pool of their texts, in the order of their names;
-/// `_Tables` and `_Columns` are always there. References to texts are long in all of them if those of the pool are. No
-/// text of a row is copied but into a column. It costs the rows times a logarithm.
+/// `_Tables` and `_Columns` are always there. References to texts are long in all of them if those of the pool are.
+/// Columns share the texts that describe them: of a place there is one copy, whichever rows name it. There are no more
+/// columns than rows of `_Columns`, since the faults of rows are looked for first.
 ///
 /// # Errors
 /// Fails with `InvalidData` if a row of `_Tables` or `_Columns` has a null, a row of `_Validation` lacks its table,
@@ -184,8 +236,10 @@ pub fn tables_of_cells(
         let rows = rows_of (values tables.now) (values columns.now) (values validation.now) in
         Gives (λ tables. tables) result (tables_of pool.now.long rows) }
 {
-    let tables = rows_of_cells(alloc, pool, tables)?;
-    let columns = rows_of_cells(alloc, pool, columns)?;
-    let validation = rows_of_cells(alloc, pool, validation)?;
+    refuse_faulty_cells(alloc, pool, tables, columns, validation)?;
+    let copies = Copies::of(alloc, pool, columns, validation)?;
+    let tables = rows_of_cells(alloc, &copies, tables)?;
+    let columns = rows_of_cells(alloc, &copies, columns)?;
+    let validation = rows_of_cells(alloc, &copies, validation)?;
     described(alloc, tables, columns, validation, pool.long_string_refs())
 }

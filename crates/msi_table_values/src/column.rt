@@ -7,9 +7,11 @@ ghost use Rattle.msi_table_values.specs.Columns.{begun_column, some_texts, type_
 ghost use Rattle.msi_table_values.specs.Columns.{is_of_category_binary as is_binary};
 ghost use Rattle.msi_table_values.specs.declared.column.ColumnType.TheVariants as type_of;
 
-use crate::texts::{copied_list, copied_texts};
+use crate::shared_texts::SharedTexts;
+use crate::texts::copied_list;
 use msi_text_base::errors::Error;
-use msi_text_base::text::{IntoText, Items, Text};
+use msi_text_base::shared_text::SharedText;
+use msi_text_base::text::{IntoText, Text};
 use msi_text_categories::category::Category;
 use std::alloc::Global;
 use std::fmt;
@@ -42,17 +44,17 @@ impl fmt::Display for ColumnType {
     }
 }
 
-/// A column. A contract sees its definition.
+/// A column. A contract sees its definition. Its copies share its texts.
 pub struct Column {
-    name: Text,
+    name: SharedText,
     coltype: ColumnType,
     is_localizable: bool,
     is_nullable: bool,
     is_primary_key: bool,
     value_range: Option<(i32, i32)>,
-    foreign_key: Option<(Text, i32)>,
+    foreign_key: Option<(SharedText, i32)>,
     category: Option<Category>,
-    enum_values: Items<Text>,
+    enum_values: SharedTexts,
 }
 
 /// Written out, so that a function that owns one calls one drop, and its proof doesn't go through those of the parts.
@@ -100,7 +102,7 @@ impl Column {
         ensures kind { OnlyMemory result }
     {
         let column = Column {
-            name: name.into_text(alloc)?,
+            name: name.into_shared(alloc)?,
             coltype: ColumnType::Int16,
             is_localizable: false,
             is_nullable: false,
@@ -108,7 +110,7 @@ impl Column {
             value_range: None,
             foreign_key: None,
             category: None,
-            enum_values: Items::from_vec(Vec::new(alloc)),
+            enum_values: SharedTexts::new(),
         };
         Ok(ColumnBuilder { alloc, column })
     }
@@ -184,23 +186,23 @@ impl Column {
     ///
     /// # Errors
     /// Fails with `OutOfMemory`.
-    pub fn clone(&self, alloc: Global) -> Result<Column, Error>
+    pub fn clone(&self, _alloc: Global) -> Result<Column, Error>
         ensures ok { IfOk result (λ column. column ≡ self.now) }
         ensures kind { OnlyMemory result }
     {
-        self.renamed(alloc, self.name.clone(alloc)?)
+        self.renamed(self.name.clone()?)
     }
 
     /// The column once more under another name.
     ///
     /// # Errors
     /// `OutOfMemory`.
-    pub(crate) fn renamed(&self, alloc: Global, name: Text) -> Result<Column, Error>
+    pub(crate) fn renamed(&self, name: SharedText) -> Result<Column, Error>
         ensures ok { IfOk result (λ column. column ≡ record self.now { name = name }) }
         ensures kind { OnlyMemory result }
     {
         let foreign_key = match &self.foreign_key {
-            Some((table, column)) => Some((table.clone(alloc)?, *column)),
+            Some((table, column)) => Some((table.clone()?, *column)),
             None => None,
         };
         Ok(Column {
@@ -212,7 +214,7 @@ impl Column {
             value_range: self.value_range,
             foreign_key,
             category: self.category,
-            enum_values: copied_texts(alloc, self.enum_values.as_slice())?,
+            enum_values: self.enum_values.clone()?,
         })
     }
 
@@ -300,7 +302,7 @@ impl ColumnBuilder {
             alloc,
             column: mut referring,
         } = self;
-        referring.foreign_key = Some((table.into_text(alloc)?, column));
+        referring.foreign_key = Some((table.into_shared(alloc)?, column));
         Ok(ColumnBuilder {
             alloc,
             column: referring,
@@ -325,8 +327,17 @@ impl ColumnBuilder {
         ensures kind { OnlyMemory result }
     {
         let ColumnBuilder { alloc, mut column } = self;
-        column.enum_values = copied_list(alloc, texts)?;
+        column.enum_values = SharedTexts::from_items(copied_list(alloc, texts)?)?;
         Ok(ColumnBuilder { alloc, column })
+    }
+
+    /// Lets the column take these texts alone, which it shares.
+    pub(crate) fn shared_values(self, texts: SharedTexts) -> ColumnBuilder
+        ensures { result ≡ record self { enum_values = texts } }
+    {
+        let ColumnBuilder { alloc, mut column } = self;
+        column.enum_values = texts;
+        ColumnBuilder { alloc, column }
     }
 
     /// Ends the builder with a column of 16-bit numbers.

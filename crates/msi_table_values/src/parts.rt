@@ -11,6 +11,7 @@ ghost use Rattle.msi_table_values.specs.Columns.{type_of_bits as type_in};
 use crate::column::{Column, ColumnBuilder, ColumnType};
 pub use crate::columns::{column_index, copied_columns, has_column};
 use crate::reasons;
+pub use crate::shared_texts::SharedTexts;
 pub use crate::texts::copied_list;
 pub use crate::valid_values::{fits_number, holds_streams};
 pub use crate::views::ValueView;
@@ -108,6 +109,13 @@ pub fn column_of_bits(builder: ColumnBuilder, bits: u16) -> Result<Column, Error
     ))
 }
 
+/// Lets a builder's column take these texts alone, which it shares with others that take them.
+pub fn with_shared_values(builder: ColumnBuilder, texts: SharedTexts) -> ColumnBuilder
+    ensures { result ≡ record builder { enum_values = texts } }
+{
+    builder.shared_values(texts)
+}
+
 /// Returns a copy of a column under another name.
 ///
 /// # Errors
@@ -116,7 +124,7 @@ pub fn renamed<S: IntoText>(alloc: Global, column: &Column, name: S) -> Result<C
     ensures ok { IfOk result (λ renamed. renamed ≡ record column.now { name = S.text name }) }
     ensures kind { OnlyMemory result }
 {
-    column.renamed(alloc, name.into_text(alloc)?)
+    column.renamed(name.into_shared(alloc)?)
 }
 
 /// Returns a column that takes null, and else is as it was.

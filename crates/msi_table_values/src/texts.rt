@@ -21,18 +21,3 @@ pub fn copied_list(alloc: Global, texts: &[&str]) -> Result<Items<Text>, Error>
     }
     Ok(Items::from_vec(copies))
 }
-
-/// Returns copies of the texts, in order.
-///
-/// # Errors
-/// Fails with `OutOfMemory`.
-pub fn copied_texts(alloc: Global, texts: &[Text]) -> Result<Items<Text>, Error>
-    ensures ok { IfOk result (λ copies. copies ≡ texts.now) }
-    ensures kind { OnlyMemory result }
-{
-    let mut copies = Vec::with_capacity(alloc, texts.len())?;
-    for text in texts {
-        copies.push(text.clone(alloc)?)?;
-    }
-    Ok(Items::from_vec(copies))
-}

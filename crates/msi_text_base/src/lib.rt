@@ -10,6 +10,7 @@ pub mod laws;
 mod part;
 pub mod parts;
 pub mod reasons;
+pub mod shared_text;
 pub mod text;
 
 pub use codepage::CodePage;

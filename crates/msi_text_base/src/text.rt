@@ -12,6 +12,7 @@ ghost use Rattle.msi_text_base.specs.Results.{OnlyMemory};
 ghost use Rattle.msi_text_base.specs.declared.errors.ErrorKind.TheVariants.{OutOfMemory};
 
 use crate::errors::Error;
+use crate::shared_text::SharedText;
 use std::alloc::Global;
 use std::cmp::Ordering;
 use std::fmt;
@@ -129,7 +130,7 @@ impl fmt::Display for Text {
     }
 }
 
-/// Types that can be turned into a `Text`.
+/// Types that can be turned into a `Text`, or into a `SharedText`.
 pub trait IntoText {
     /// The bytes of the text.
     ghost text: { Self → List ℕ };
@@ -139,6 +140,14 @@ pub trait IntoText {
     /// # Errors
     /// Fails with `OutOfMemory`.
     fn into_text(self, alloc: Global) -> Result<Text, Error>
+        ensures ok { IfOk result (λ t. t ≡ text self) }
+        ensures kind { OnlyMemory result };
+
+    /// Returns the text, to be shared by its copies.
+    ///
+    /// # Errors
+    /// Fails with `OutOfMemory`.
+    fn into_shared(self, alloc: Global) -> Result<SharedText, Error>
         ensures ok { IfOk result (λ t. t ≡ text self) }
         ensures kind { OnlyMemory result };
 }
@@ -152,6 +161,10 @@ impl IntoText for &str {
             text: String::from_str(alloc, self)?,
         })
     }
+
+    fn into_shared(self, alloc: Global) -> Result<SharedText, Error> {
+        SharedText::from_str(alloc, self)
+    }
 }
 
 /// Moves the text in.
@@ -160,6 +173,25 @@ impl IntoText for String {
 
     fn into_text(self, _alloc: Global) -> Result<Text, Error> {
         Ok(Text { text: self })
+    }
+
+    fn into_shared(self, _alloc: Global) -> Result<SharedText, Error> {
+        SharedText::from_string(self)
+    }
+}
+
+/// Takes no memory for the bytes of a `SharedText`; a `Text` has a copy of them.
+impl IntoText for SharedText {
+    ghost text = { λ s. s };
+
+    fn into_text(self, alloc: Global) -> Result<Text, Error> {
+        Ok(Text {
+            text: String::from_str(alloc, self.as_str())?,
+        })
+    }
+
+    fn into_shared(self, _alloc: Global) -> Result<SharedText, Error> {
+        Ok(self)
     }
 }
 

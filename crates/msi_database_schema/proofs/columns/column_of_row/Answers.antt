@@ -12,6 +12,6 @@ returns c =
     let row = c.args.row.now in
     subst (λ (o : Option ColumnDef). Gives (λ column. column) c.column_of_bits.result o)
     ((λ i. column_of_bits (c.in_ok-builder.ensures.ok i) (c.bits_in.ensures i))
-    ∙ described_bits (validation_row s c.args.table.now c.text_at.result.now) c.text_at.result.now (bits_in row)
-    ∙ ap (λ (name : List ℕ). option_map (described (validation_row s c.args.table.now name)) (column_of_bits (begun_column name) (bits_in row))) c.text_at.ensures)
+    ∙ described_bits (validation_row s c.args.table.now c.in_ok-name.name) c.in_ok-name.name (bits_in row)
+    ∙ ap (λ (name : List ℕ). option_map (described (validation_row s c.args.table.now name)) (column_of_bits (begun_column name) (bits_in row))) c.in_ok-name.ensures.ok)
     (bits_give c.column_of_bits.result _ c.column_of_bits.ensures.ok c.column_of_bits.ensures.refused c.column_of_bits.ensures.kind)
