@@ -23,8 +23,8 @@ NoneMeansSame = (columns : List ColumnDef) (old new : List (List Value)) → dif
 abbrev pub KeysDiffer : List ColumnDef → List (List Value) → Type 0
 KeysDiffer columns rows = has_pair same_key (map (key_of columns) rows) ≡ false
 
--- the rows by their places, after one difference: a removed row leaves its place empty, the new row takes the place of a
--- changed one, and an added row goes to the end
+-- the rows by their places, after one difference: a removed row leaves its place empty, the new row takes the place of
+-- a changed one, and an added row goes to the end
 abbrev pub after : List (List Value) → List (Option (List Value)) → Difference → List (Option (List Value))
 after new rows (Removed place) = slice_set rows place None
 after new rows (Changed place there) = slice_set rows place (slice_get new there)
@@ -48,8 +48,8 @@ has_key columns rows key = list_any (λ row. same_key (key_of columns row) key) 
 abbrev pub Differ : List ColumnDef → List Value → List Value → Type 0
 Differ columns row other = (key_of columns row ≡ key_of columns other) × (row ≢ other)
 
--- no new row has the key of a removed one, a changed one differs from the new row of its key, and no old row has the key
--- of an added one
+-- no new row has the key of a removed one, a changed one differs from the new row of its key, and no old row has the
+-- key of an added one
 abbrev pub IsNeeded : List ColumnDef → List (List Value) → List (List Value) → Difference → Type 0
 IsNeeded columns old new (Removed place) =
     IsSomeAnd (slice_get old place) (λ row. has_key columns new (key_of columns row) ≡ false)

@@ -1,6 +1,6 @@
 -- What is written reads back.
-use Rattle.std.specs.Prelude.{◌≡◌, ℕ, Bool, true, false, ◌&&◌, not, ◌==◌, List, [], ◌∷◌, ◌++◌, length, map, bytes_eq, slice_get}
-use Rattle.std.specs.Prelude.{Option, Some, None, IsSomeAnd, option_and_then}
+use Rattle.std.specs.Prelude.{◌≡◌, ℕ, Bool, true, false, ◌&&◌, not, ◌==◌, List, [], ◌∷◌, ◌++◌, length, map}
+use Rattle.std.specs.Prelude.{bytes_eq, slice_get, Option, Some, None, IsSomeAnd, option_and_then}
 use Rattle.std.specs.List.{flat_map, list_all, list_any}
 use Rattle.csv.specs.Reading.{default_config, records, records_from, strip_bom}
 use Rattle.csv.specs.Writing.{default_writer, read_back, row_text}

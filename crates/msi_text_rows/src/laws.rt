@@ -40,8 +40,8 @@ pub fn fields_stand_for_values()
     ensures { FieldsStandForValues }
 {}
 
-/// A table as CSV, its names in the first line, is read as these names and as lines whose fields stand for the values of
-/// the rows, column by column, but for empty texts.
+/// A table as CSV, its names in the first line, is read as these names and as lines whose fields stand for the values
+/// of the rows, column by column, but for empty texts.
 pub fn tables_read_back()
     ensures { TablesReadBack }
 {}
