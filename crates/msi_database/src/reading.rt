@@ -1,13 +1,13 @@
 //! A database that is read from its pool and the streams of a container's root.
 
-ghost use Rattle.std.specs.Prelude.{◌≡◌, IfErr, IfOk, OnOk};
+ghost use Rattle.std.specs.Prelude.{◌≡◌, IfErr, IfOk};
 ghost use Rattle.std.specs.FinMap.{entries};
 ghost use Rattle.msi_text_base.specs.declared.errors.ErrorKind.TheVariants.{InvalidData};
 ghost use Rattle.msi_text_pool_base.specs.Pool.{unindexed};
 ghost use Rattle.msi_text_base.specs.Refusals.{IsRefusal, or_refused};
 ghost use Rattle.msi_database_storage.specs.Agreement.{schema_in};
 ghost use Rattle.msi_database_storage.specs.Kept.{Kept};
-ghost use Rattle.msi_database_storage.specs.Reading.{IsDatabaseOf, SystemRowsNameFewTexts};
+ghost use Rattle.msi_database_storage.specs.Reading.{IsDatabaseOf};
 
 use crate::database::Database;
 use msi_container_format::contents::StreamMap;
@@ -26,13 +26,10 @@ impl Database {
     ///
     /// # Errors
     /// Fails with `InvalidData` if the stream of a system table can't be read, and if its rows describe no tables, or
-    /// with `OutOfMemory`. That comes too if the texts that the rows of a system table name cost, each counted as often
-    /// as it is named, more than four times the bytes of the pool's texts, 64 for each row and 256 KiB. A text costs
-    /// its bytes, and 128 for each semicolon.
+    /// with `OutOfMemory`.
     pub fn read(alloc: Global, pool: StringPool, streams: StreamMap) -> Result<Database, Error>
         ensures ok { IfOk result (IsDatabaseOf (unindexed pool) (entries streams)) }
         ensures only { IfOk result (λ d. (k : Kept) → IsDatabaseOf (unindexed pool) (entries streams) k → k ≡ d) }
-        ensures bounded { OnOk result (SystemRowsNameFewTexts (entries streams) (unindexed pool)) }
         ensures kind { let schema = schema_in (entries streams) (unindexed pool) in
             IfErr result (IsRefusal (or_refused InvalidData schema)) }
     {

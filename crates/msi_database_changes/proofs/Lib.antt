@@ -29,7 +29,6 @@ pub mod KindsKeptLemmas
 pub mod KindsLemmas
 pub mod LawLemmas
 pub mod LeadingLemmas
-pub mod NamedTextsLemmas
 pub mod PoolStepLemmas
 pub mod PutFitsLemmas
 pub mod RecountingLemmas

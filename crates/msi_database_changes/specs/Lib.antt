@@ -10,4 +10,3 @@ pub mod Drop
 pub mod Laws
 pub mod RowUpdates
 pub mod Recounting
-pub mod NamedTexts

@@ -7,6 +7,5 @@ pub mod delete;
 pub mod drop;
 pub mod insert;
 pub mod laws;
-pub mod named_texts;
 mod reasons;
 pub mod update;

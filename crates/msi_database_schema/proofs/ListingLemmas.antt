@@ -2,19 +2,19 @@
 use Rattle.std.proofs.Common.{◌≡◌, ℕ, zero, suc, ◌+◌, ◌<◌, Bool, true, false, List, [], ◌∷◌, ◌++◌, length, map, take, refl, sym, ap, ◌∙◌, arith, Some, None}
 use Rattle.std.specs.Prelude.{◌||◌, Option, option_map, slice_index_or}
 use Rattle.std.proofs.lemmas.List.{take_more}
-use Rattle.std.proofs.lemmas.List.Sorted.{IsPermutation-refl, list_any-IsPermutation}
+use Rattle.std.proofs.lemmas.List.Sorted.{list_any-IsPermutation}
 use Rattle.std.proofs.lemmas.Bool.{or_parts}
 use Rattle.msi_text_base.specs.Lists.{all_present, stable_sort}
 use Rattle.msi_text_base.proofs.BoolLemmas.{by_test}
 use Rattle.msi_table_values.specs.declared.value.Value.{Value}
 use Rattle.msi_table.specs.Tables.{TableDef}
 use Rattle.msi_database_schema.specs.ListedTables.{by_names, listed_table, listed_tables, with_system}
-use Rattle.msi_database_schema.specs.RowOrders.{by_numbers, by_texts, describing, number_in, numbers_cmp, rows_of, texts_at, texts_cmp}
+use Rattle.msi_database_schema.specs.RowOrders.{by_numbers, by_texts, describing, number_in, numbers_cmp, rows_of}
 use Rattle.msi_database_schema.specs.Schema.{SchemaRows, counted, has_long_number, has_odd_name, is_faulty, tables_of, text_at}
 use Rattle.msi_database_schema.proofs.OrderLemmas.{sorted_is}
 use Rattle.msi_database_schema.proofs.OrderlessLemmas.{is_counted}
-use Rattle.msi_database_schema.proofs.RowOrderLemmas.{numbers_total, texts_total}
-use Rattle.msi_database_schema.proofs.TablesLemmas.{faulty_reordered, listed_sorted, present_more, tables_are, tables_unread}
+use Rattle.msi_database_schema.proofs.RowOrderLemmas.{numbers_total}
+use Rattle.msi_database_schema.proofs.TablesLemmas.{listed_sorted, present_more, tables_are, tables_unread}
 
 module _ (long : Bool) (columns validation : List (List Value)) where
   abbrev pub read_of : List Value → Option TableDef
@@ -82,14 +82,6 @@ table_ungiven o f e = rw e refl
 pub short_sorted : (rows sorted : List (List Value)) → sorted ≡ stable_sort by_numbers rows → has_long_number rows ≡ false → has_long_number sorted ≡ false
 short_sorted rows sorted e short = ap has_long_number e
     ∙ sym (list_any-IsPermutation _ rows (stable_sort by_numbers rows) ((sorted_is number_in numbers_cmp numbers_total rows).moved)) ∙ short
-
-pub faults_kept : (s : SchemaRows) (columns validation : List (List Value)) → columns ≡ stable_sort by_numbers s.columns → validation ≡ stable_sort (by_texts 1) s.validation → is_faulty (rows_of s.tables columns validation) ≡ is_faulty s
-faults_kept s columns validation ec ev = (λ i. is_faulty (rows_of s.tables (ec i) (ev i)))
-    ∙ faulty_reordered s (rows_of s.tables (stable_sort by_numbers s.columns) (stable_sort (by_texts 1) s.validation)) (record {
-      tables = IsPermutation-refl s.tables;
-      columns = (sorted_is number_in numbers_cmp numbers_total s.columns).moved;
-      validation = (sorted_is (texts_at 1) texts_cmp texts_total s.validation).moved;
-    })
 
 none_under : {X Y : Type 0} (f : X → Y) (o : Option X) → option_map f o ≡ None → o ≡ None
 none_under f None e = refl

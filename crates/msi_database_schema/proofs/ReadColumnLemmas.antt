@@ -34,24 +34,6 @@ with_foreign_key f c = option_map_or (λ key. record c { foreign_key = Some key 
 abbrev pub parts_of : List ℕ → Bool → Option (ℤ × ℤ) → Option Category → Option (List ℕ × ℤ) → ColumnDef
 parts_of name y r k f = with_foreign_key f (with_category k (with_range r (with_nullable y (begun_column name))))
 
-pub parts_lack_values : (name : List ℕ) (y : Bool) (r : Option (ℤ × ℤ)) (k : Option Category) (f : Option (List ℕ × ℤ)) → (parts_of name y r k f).enum_values ≡ []
-parts_lack_values name true None None None = refl
-parts_lack_values name true None None (Some f) = refl
-parts_lack_values name true None (Some k) None = refl
-parts_lack_values name true None (Some k) (Some f) = refl
-parts_lack_values name true (Some r) None None = refl
-parts_lack_values name true (Some r) None (Some f) = refl
-parts_lack_values name true (Some r) (Some k) None = refl
-parts_lack_values name true (Some r) (Some k) (Some f) = refl
-parts_lack_values name false None None None = refl
-parts_lack_values name false None None (Some f) = refl
-parts_lack_values name false None (Some k) None = refl
-parts_lack_values name false None (Some k) (Some f) = refl
-parts_lack_values name false (Some r) None None = refl
-parts_lack_values name false (Some r) None (Some f) = refl
-parts_lack_values name false (Some r) (Some k) None = refl
-parts_lack_values name false (Some r) (Some k) (Some f) = refl
-
 parts_are : (name : List ℕ) (y : Bool) (r : Option (ℤ × ℤ)) (k : Option Category) (f : Option (List ℕ × ℤ)) (vs : List (List ℕ)) → record (parts_of name y r k f) { enum_values = vs }
     ≡ record (begun_column name) { is_nullable = false || y; value_range = r; foreign_key = f; category = k; enum_values = vs }
 parts_are name true None None None vs = refl
@@ -74,10 +56,6 @@ parts_are name false (Some r) (Some k) (Some f) vs = refl
 -- the parts of a row
 abbrev pub row_parts : List ℕ → List Value → ColumnDef
 row_parts name row = parts_of name (bytes_eq (text_at 2 row) (codes "Y")) (both_set number_of number_of (value_at 3 row) (value_at 4 row))
-    (category_named (text_at 7 row)) (both_set text_of number_of (value_at 5 row) (value_at 6 row))
-
-pub row_lacks_values : (name : List ℕ) (row : List Value) → (row_parts name row).enum_values ≡ []
-row_lacks_values name row = parts_lack_values name (bytes_eq (text_at 2 row) (codes "Y")) (both_set number_of number_of (value_at 3 row) (value_at 4 row))
     (category_named (text_at 7 row)) (both_set text_of number_of (value_at 5 row) (value_at 6 row))
 
 pub row_describes : (name : List ℕ) (row : List Value) → record (row_parts name row) { enum_values = values_in (value_at 8 row) } ≡ described (Some row) (begun_column name)

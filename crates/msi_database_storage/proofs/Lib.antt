@@ -8,7 +8,6 @@ pub mod ListingLemmas
 pub mod CopyingLemmas
 pub mod ReadLemmas
 pub mod ReadingLemmas
-pub mod NamedTextsLemmas
 pub mod PassedLemmas
 pub mod WideningLemmas
 pub mod MapLemmas

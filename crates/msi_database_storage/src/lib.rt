@@ -8,7 +8,6 @@ pub mod listing;
 mod naming;
 pub mod parts;
 mod reading;
-mod reasons;
 mod recounting;
 mod soundness;
 mod storing;

@@ -1,6 +1,6 @@
 //! The tables that the rows of the system tables describe, read from the streams of a container's root.
 
-ghost use Rattle.std.specs.Prelude.{◌≡◌, [], ◌<◌, ◌≤◌, All, IfErr, IfOk, OnOk, Some, if◌then◌else◌, is_some, length};
+ghost use Rattle.std.specs.Prelude.{◌≡◌, [], ◌<◌, ◌≤◌, All, IfErr, IfOk, Some, if◌then◌else◌, is_some, length};
 ghost use Rattle.std.specs.FinMap.{entries};
 ghost use Rattle.msi_text_base.specs.declared.errors.ErrorKind.TheVariants.{InvalidData};
 ghost use Rattle.msi_text_base.specs.Results.{OnlyMemory};
@@ -9,18 +9,14 @@ ghost use Rattle.msi_text_pool_base.specs.Pool.{unindexed};
 ghost use Rattle.msi_text_base.specs.Refusals.{IsRefusal, or_refused};
 ghost use Rattle.msi_database_schema.specs.Schema.{table_with};
 ghost use Rattle.msi_database_system.specs.System.{validation_columns as columns_of_validation, validation_name};
-ghost use Rattle.msi_database_changes.specs.NamedTexts.{NameFewTexts};
 ghost use Rattle.msi_database_storage.specs.Agreement.{described_by, schema_in};
 ghost use Rattle.msi_database_storage.specs.Kept.{AreAsLong, schema_listed, table_kept_at};
-ghost use Rattle.msi_database_storage.specs.Reading.{RowsNameFewTexts, SystemRowsNameFewTexts};
 ghost use Rattle.msi_database_storage.specs.StreamNames.{HaveShortNames, HoldBytes};
 ghost use Rattle.msi_database_storage.specs.Streams.{stored_rows as rows_stored};
 
 use crate::decoding::stored_rows;
 use crate::listing::table_named;
-use crate::reasons;
 use msi_container_format::contents::StreamMap;
-use msi_database_changes::named_texts::name_few_texts;
 use msi_database_schema::parts::named_table;
 use msi_database_schema::schema::tables_of_cells;
 use msi_database_system::system::{
@@ -29,7 +25,7 @@ use msi_database_system::system::{
 use msi_table::Table;
 use msi_table_cells::cell::ValueRef;
 use msi_table_values::column::Column;
-use msi_text_base::errors::{Error, ErrorKind};
+use msi_text_base::errors::Error;
 use msi_text_base::text::Items;
 use msi_text_pool::stringpool::StringPool;
 use std::alloc::Global;
@@ -61,26 +57,10 @@ pub fn look_at(streams: &StreamMap)
     }
 }
 
-/// Refuses rows that name the same texts again and again, where these are long or lists: columns have a copy of each
-/// text that describes them.
-///
-/// # Errors
-/// `OutOfMemory` where the texts cost more than `name_few_texts` allows.
-fn refuse_many_texts(pool: &StringPool, rows: &[Items<ValueRef>]) -> Result<(), Error>
-    ensures bounded { OnOk result (NameFewTexts pool.now.places rows.now) }
-    ensures kind { OnlyMemory result }
-{
-    if name_few_texts(pool, rows) {
-        Ok(())
-    } else {
-        Err(Error::new(ErrorKind::OutOfMemory, reasons::SHARED_TEXTS))
-    }
-}
-
 /// The rows of a table that is known by its name and columns, which are at most 32767.
 ///
 /// # Errors
-/// `InvalidData` where its stream can't be read; `OutOfMemory`, also where its rows name too many texts.
+/// `InvalidData` where its stream can't be read; `OutOfMemory`.
 fn described_rows(
     alloc: Global,
     pool: &StringPool,
@@ -92,14 +72,11 @@ fn described_rows(
     requires few { length columns ≤ most_columns }
     ensures ok { IfOk result (λ rows.
         rows_stored (entries streams.now) pool.now.long columns name.now ≡ Some rows.items) }
-    ensures bounded { OnOk result (RowsNameFewTexts (entries streams.now) (unindexed pool.now) columns name.now) }
     ensures kind { IfErr result (IsRefusal (or_refused InvalidData
         (described_by (entries streams.now) (unindexed pool.now) columns name.now))) }
 {
     let table = named_table(alloc, name, columns, pool.long_string_refs())?;
-    let rows = stored_rows(alloc, streams, &table)?;
-    refuse_many_texts(pool, rows.as_slice())?;
-    Ok(rows)
+    stored_rows(alloc, streams, &table)
 }
 
 /// The tables that the rows of the system tables describe: those of `_Tables` and `_Columns` are read of their
@@ -120,13 +97,11 @@ fn tables_beside(
     ensures ok { let schema = schema_in (entries streams.now) (unindexed pool.now) in
         IfOk result (λ tables. schema ≡ Some (schema_listed tables)) }
     ensures long { IfOk result (AreAsLong pool.now.long) }
-    ensures bounded { OnOk result (SystemRowsNameFewTexts (entries streams.now) (unindexed pool.now)) }
     ensures kind { let schema = schema_in (entries streams.now) (unindexed pool.now) in
         IfErr result (IsRefusal (or_refused InvalidData schema)) }
 {
     let tables = described_rows(alloc, pool, streams, TABLES, tables_columns(alloc)?)?;
     let columns = described_rows(alloc, pool, streams, COLUMNS, columns_columns(alloc)?)?;
-    refuse_many_texts(pool, validation)?;
     tables_of_cells(
         alloc,
         pool,
@@ -152,8 +127,7 @@ fn standard_table(alloc: Global, pool: &StringPool) -> Result<Table, Error>
 /// streams of a container's root, which `look_at` goes over before; a missing stream has no rows.
 ///
 /// # Errors
-/// Fails with `InvalidData` if a stream can't be read, and if the rows describe no tables, or with `OutOfMemory`. That
-/// comes too if the rows of a system table name texts that `name_few_texts` doesn't allow.
+/// Fails with `InvalidData` if a stream can't be read, and if the rows describe no tables, or with `OutOfMemory`.
 pub fn tables_in(
     alloc: Global,
     pool: &StringPool,
@@ -169,7 +143,6 @@ pub fn tables_in(
     ensures ok { let schema = schema_in (entries streams.now) (unindexed pool.now) in
         IfOk result (λ described. schema ≡ Some (schema_listed described.tables)) }
     ensures long { IfOk result (λ described. AreAsLong pool.now.long described.tables) }
-    ensures bounded { OnOk result (SystemRowsNameFewTexts (entries streams.now) (unindexed pool.now)) }
     ensures kind { let schema = schema_in (entries streams.now) (unindexed pool.now) in
         IfErr result (IsRefusal (or_refused InvalidData schema)) }
 {

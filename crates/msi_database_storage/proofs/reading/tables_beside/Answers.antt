@@ -1,4 +1,4 @@
-use Rattle.std.proofs.Common.{◌≡◌, ◌∙◌, ap, sym, subst, Some, refl}
+use Rattle.std.proofs.Common.{◌≡◌, ◌∙◌, ap, sym, Some, refl}
 use Rattle.msi_text_pool_base.specs.Pool.{unindexed}
 use Rattle.std.specs.Prelude.{map, option_map}
 use Rattle.std.specs.FinMap.{entries}
@@ -8,8 +8,6 @@ use Rattle.msi_database_schema.specs.Schema.{SchemaRows, schema_of}
 use Rattle.msi_database_system.specs.System.{columns_columns, columns_name, tables_columns, tables_name, validation_columns, validation_name}
 use Rattle.msi_database_storage.specs.Streams.{stored_rows}
 use Rattle.msi_database_storage.specs.Agreement.{described_by, schema_in}
-use Rattle.msi_database_storage.specs.Reading.{RowsNameFewTexts, SystemRowsNameFewTexts}
-use Rattle.msi_database_storage.proofs.NamedTextsLemmas.{on_ok, rows_few}
 use Rattle.msi_database_storage.proofs.ReadingLemmas.{described_fails, schema_is, told_kind, told_long, told_ok}
 use Rattle.msi_database_storage.proofs.PassedLemmas.{memory_refused, no_value}
 use Rattle.msi_database_storage.proofs.reading.tables_beside.Goals as goal
@@ -32,14 +30,6 @@ returns-clause-long c = let streams = entries c.args.streams.now in let raw = un
     let s : SchemaRows = rows_of (values c.as_slice.result.now) (values c.as_slice-2.result.now) (values c.args.validation.now) in
     told_long streams raw c.tables_of_cells.result raw.long s refl c.tables_of_cells.ensures
 
-pub returns-clause-bounded : goal.returns-clause-bounded
-returns-clause-bounded c = let streams = entries c.args.streams.now in let raw = unindexed c.args.pool.now in
-    on_ok (SystemRowsNameFewTexts streams raw) c.tables_of_cells.result (record {
-      tables = subst (λ columns. RowsNameFewTexts streams raw columns tables_name) c.in_ok-tables_columns.ensures.ok c.in_ok-tables.ensures.bounded;
-      columns = subst (λ columns. RowsNameFewTexts streams raw columns columns_name) c.in_ok-columns_columns.ensures.ok c.in_ok-columns.ensures.bounded;
-      validation = rows_few streams raw validation_columns validation_name c.args.validation.now c.requires.validation c.in_ok-refuse_many_texts.ensures.bounded;
-    })
-
 pub returns-clause-kind : goal.returns-clause-kind
 returns-clause-kind c = let streams = entries c.args.streams.now in let raw = unindexed c.args.pool.now in let values = map (row_values raw.places) in
     let tables : described_by streams raw tables_columns tables_name ≡ Some (values c.as_slice.result.now) =
@@ -61,9 +51,6 @@ returns-in_err-tables_columns-clause-ok c = no_value _ c.from_residual.result c.
 pub returns-in_err-tables_columns-clause-long : goal.returns-in_err-tables_columns-clause-long
 returns-in_err-tables_columns-clause-long c = no_value _ c.from_residual.result c.in_err-tables_columns.field-0.0 c.from_residual.ensures.1
 
-pub returns-in_err-tables_columns-clause-bounded : goal.returns-in_err-tables_columns-clause-bounded
-returns-in_err-tables_columns-clause-bounded c = no_value _ c.from_residual.result c.in_err-tables_columns.field-0.0 c.from_residual.ensures.1
-
 pub returns-in_err-tables_columns-clause-kind : goal.returns-in_err-tables_columns-clause-kind
 returns-in_err-tables_columns-clause-kind c = memory_refused c.from_residual.result c.in_err-tables_columns.field-0.0 _ c.from_residual.ensures.1 c.in_err-tables_columns.ensures.kind
 
@@ -73,17 +60,11 @@ returns-in_err-tables-clause-ok c = no_value _ c.from_residual-in_err-tables.res
 pub returns-in_err-tables-clause-long : goal.returns-in_err-tables-clause-long
 returns-in_err-tables-clause-long c = no_value _ c.from_residual-in_err-tables.result c.in_err-tables.field-0.0 c.from_residual-in_err-tables.ensures.1
 
-pub returns-in_err-tables-clause-bounded : goal.returns-in_err-tables-clause-bounded
-returns-in_err-tables-clause-bounded c = no_value _ c.from_residual-in_err-tables.result c.in_err-tables.field-0.0 c.from_residual-in_err-tables.ensures.1
-
 pub returns-in_err-columns_columns-clause-ok : goal.returns-in_err-columns_columns-clause-ok
 returns-in_err-columns_columns-clause-ok c = no_value _ c.from_residual-in_err-columns_columns.result c.in_err-columns_columns.field-0.0 c.from_residual-in_err-columns_columns.ensures.1
 
 pub returns-in_err-columns_columns-clause-long : goal.returns-in_err-columns_columns-clause-long
 returns-in_err-columns_columns-clause-long c = no_value _ c.from_residual-in_err-columns_columns.result c.in_err-columns_columns.field-0.0 c.from_residual-in_err-columns_columns.ensures.1
-
-pub returns-in_err-columns_columns-clause-bounded : goal.returns-in_err-columns_columns-clause-bounded
-returns-in_err-columns_columns-clause-bounded c = no_value _ c.from_residual-in_err-columns_columns.result c.in_err-columns_columns.field-0.0 c.from_residual-in_err-columns_columns.ensures.1
 
 pub returns-in_err-columns_columns-clause-kind : goal.returns-in_err-columns_columns-clause-kind
 returns-in_err-columns_columns-clause-kind c = memory_refused c.from_residual-in_err-columns_columns.result c.in_err-columns_columns.field-0.0 _ c.from_residual-in_err-columns_columns.ensures.1 c.in_err-columns_columns.ensures.kind
@@ -93,18 +74,3 @@ returns-in_err-columns-clause-ok c = no_value _ c.from_residual-in_err-columns.r
 
 pub returns-in_err-columns-clause-long : goal.returns-in_err-columns-clause-long
 returns-in_err-columns-clause-long c = no_value _ c.from_residual-in_err-columns.result c.in_err-columns.field-0.0 c.from_residual-in_err-columns.ensures.1
-
-pub returns-in_err-columns-clause-bounded : goal.returns-in_err-columns-clause-bounded
-returns-in_err-columns-clause-bounded c = no_value _ c.from_residual-in_err-columns.result c.in_err-columns.field-0.0 c.from_residual-in_err-columns.ensures.1
-
-pub returns-in_err-refuse_many_texts-clause-ok : goal.returns-in_err-refuse_many_texts-clause-ok
-returns-in_err-refuse_many_texts-clause-ok c = no_value _ c.from_residual-in_err-refuse_many_texts.result c.in_err-refuse_many_texts.field-0.0 c.from_residual-in_err-refuse_many_texts.ensures.1
-
-pub returns-in_err-refuse_many_texts-clause-long : goal.returns-in_err-refuse_many_texts-clause-long
-returns-in_err-refuse_many_texts-clause-long c = no_value _ c.from_residual-in_err-refuse_many_texts.result c.in_err-refuse_many_texts.field-0.0 c.from_residual-in_err-refuse_many_texts.ensures.1
-
-pub returns-in_err-refuse_many_texts-clause-bounded : goal.returns-in_err-refuse_many_texts-clause-bounded
-returns-in_err-refuse_many_texts-clause-bounded c = no_value _ c.from_residual-in_err-refuse_many_texts.result c.in_err-refuse_many_texts.field-0.0 c.from_residual-in_err-refuse_many_texts.ensures.1
-
-pub returns-in_err-refuse_many_texts-clause-kind : goal.returns-in_err-refuse_many_texts-clause-kind
-returns-in_err-refuse_many_texts-clause-kind c = memory_refused c.from_residual-in_err-refuse_many_texts.result c.in_err-refuse_many_texts.field-0.0 _ c.from_residual-in_err-refuse_many_texts.ensures.1 c.in_err-refuse_many_texts.ensures.kind

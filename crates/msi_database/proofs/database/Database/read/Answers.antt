@@ -72,17 +72,11 @@ returns-clause-only c = let raw : Pool = unindexed c.args.pool in let streams = 
     ∙ ap (λ (rows : List (List ValueRef)). pool_shown (numbers_named streams raw.long listed rows) raw) c.as_slice.ensures.value in
     λ k is. read_once raw listed streams rows reads k is (unindexed c.in_ok-pool.pool) shown ∙ ap (λ (ts : List TableDef). kept_of (unindexed c.in_ok-pool.pool) ts streams) c.as_slice-listed.ensures
 
-pub returns-clause-bounded : goal.returns-clause-bounded
-returns-clause-bounded c = c.in_ok-standard.ensures.bounded
-
 pub returns-in_err-standard-clause-ok : goal.returns-in_err-standard-clause-ok
 returns-in_err-standard-clause-ok c = no_value _ c.from_residual.result c.in_err-standard.field-0.0 c.from_residual.ensures.1
 
 pub returns-in_err-standard-clause-only : goal.returns-in_err-standard-clause-only
 returns-in_err-standard-clause-only c = no_value _ c.from_residual.result c.in_err-standard.field-0.0 c.from_residual.ensures.1
-
-pub returns-in_err-standard-clause-bounded : goal.returns-in_err-standard-clause-bounded
-returns-in_err-standard-clause-bounded c = no_value _ c.from_residual.result c.in_err-standard.field-0.0 c.from_residual.ensures.1
 
 pub returns-in_err-standard-clause-kind : goal.returns-in_err-standard-clause-kind
 returns-in_err-standard-clause-kind c = err_passed c.from_residual.result c.in_err-standard.field-0.0 _ c.from_residual.ensures.1 c.in_err-standard.ensures.kind
@@ -93,9 +87,6 @@ returns-in_err-census-clause-ok c = no_value _ c.from_residual-in_err-census.res
 pub returns-in_err-census-clause-only : goal.returns-in_err-census-clause-only
 returns-in_err-census-clause-only c = no_value _ c.from_residual-in_err-census.result c.in_err-census.field-0.0 c.from_residual-in_err-census.ensures.1
 
-pub returns-in_err-census-clause-bounded : goal.returns-in_err-census-clause-bounded
-returns-in_err-census-clause-bounded c = no_value _ c.from_residual-in_err-census.result c.in_err-census.field-0.0 c.from_residual-in_err-census.ensures.1
-
 pub returns-in_err-census-clause-kind : goal.returns-in_err-census-clause-kind
 returns-in_err-census-clause-kind c = memory_refused c.from_residual-in_err-census.result c.in_err-census.field-0.0 _ c.from_residual-in_err-census.ensures.1 c.in_err-census.ensures.kind
 
@@ -104,9 +95,6 @@ returns-in_err-pool-clause-ok c = no_value _ c.from_residual-in_err-pool.result 
 
 pub returns-in_err-pool-clause-only : goal.returns-in_err-pool-clause-only
 returns-in_err-pool-clause-only c = no_value _ c.from_residual-in_err-pool.result c.in_err-pool.field-0.0 c.from_residual-in_err-pool.ensures.1
-
-pub returns-in_err-pool-clause-bounded : goal.returns-in_err-pool-clause-bounded
-returns-in_err-pool-clause-bounded c = no_value _ c.from_residual-in_err-pool.result c.in_err-pool.field-0.0 c.from_residual-in_err-pool.ensures.1
 
 pub returns-in_err-pool-clause-kind : goal.returns-in_err-pool-clause-kind
 returns-in_err-pool-clause-kind c = memory_refused c.from_residual-in_err-pool.result c.in_err-pool.field-0.0 _ c.from_residual-in_err-pool.ensures.1 c.in_err-pool.ensures.kind
