@@ -24,7 +24,7 @@ texts_alike p q alike bytes (e ∷ es) (x ∷ ps) (piece, others, parts, len, re
 same_place : (x y : Place) → x.text ≡ y.text → x.count ≡ y.count → x ≡ y
 same_place x y p q = rw (p, q) refl
 
-one_texts : (q : TextPage) (bytes : List ℕ) (es : List Entry) (xs ys : List Place) → SpellsTexts q bytes es xs → SpellsTexts q bytes es ys → xs ≡ ys
+pub one_texts : (q : TextPage) (bytes : List ℕ) (es : List Entry) (xs ys : List Place) → SpellsTexts q bytes es xs → SpellsTexts q bytes es ys → xs ≡ ys
 one_texts q bytes [] [] [] h k = refl
 one_texts q bytes [] [] (y ∷ ys) h k = absurd k
 one_texts q bytes [] (x ∷ xs) ys h k = absurd h
@@ -39,7 +39,7 @@ one_texts q bytes (e ∷ es) (x ∷ xs) (y ∷ ys) (piece, others, parts, len, r
     ap (λ (z : Place). z ∷ xs) first ∙ ap (λ (zs : List Place). y ∷ zs) (one_texts q others es xs ys more (subst (λ (b : List ℕ). SpellsTexts q b es ys) left later))
 
 pub pools_stay_alike : PoolsStayAlike
-pools_stay_alike pool_stream data_stream pool_after data_after pool (es, (id, others, small, known, parts, listed, few), texts) (head, places, (said, spelled), after, plain_streams) =
+pools_stay_alike pool_stream data_stream pool_after data_after pool (es, (id, others, small, known, parts, listed, few), texts) (head, places, (said, spelled), after, plain_streams, short) =
     let found = pages_read_alike id pool.page known in
     let mine : PoolHead = record { page = found.0; long = pool.long; entries = es } in
     let is : IsHead None pool_stream mine = (id, others, small, sym (page_alone id) ∙ found.1, parts, listed, few) in

@@ -1,5 +1,5 @@
 -- The places of a pool as they are read and written, and why they aren't.
-use Rattle.std.proofs.Common.{◌≡◌, ℕ, suc, ◌+◌, ◌^◌, ◌<◌, ◌≤◌, ◌++◌, Bool, true, false, List, [], ◌∷◌, length, get_or, take, drop, Option, Some, None, inl, inr, refl, sym, ap, ◌∙◌, subst, append_assoc, arith}
+use Rattle.std.proofs.Common.{◌≡◌, ℕ, suc, ◌+◌, ◌^◌, ◌<◌, ◌≤◌, ◌++◌, Bool, true, false, true≢false, List, [], ◌∷◌, length, get_or, take, drop, Option, Some, None, inl, inr, refl, sym, ap, ◌∙◌, subst, append_assoc, arith}
 use Rattle.std.specs.Prelude.{◌⊎◌, is_some, if◌then◌else◌, IsUtf8}
 use Rattle.std.proofs.lemmas.List.{append-nil, take_at, take-append-drop, length-append, length-take}
 use Rattle.std.proofs.lemmas.Bool.{or_from}
@@ -14,8 +14,9 @@ use Rattle.msi_recode.specs.declared.errors.RecodeError.{RecodeError}
 use Rattle.msi_recode.specs.declared.errors.RecodeError.TheVariants as error
 use Rattle.msi_recode.specs.Errors.{kind_of}
 use Rattle.msi_recode.specs.TextPages.{Reads, text_in}
-use Rattle.msi_recode.specs.PoolRecoding.{PoolHead, IsHead, SpellsTexts, AreRecoded, CannotBeRecoded, TellsPlace, FailsAt, FailsInFront, entry_of, is_long, has_long, entries_written, texts_written}
+use Rattle.msi_recode.specs.PoolRecoding.{PoolHead, IsHead, SpellsTexts, AreRecoded, CannotBeRecoded, HavePlaces, IsPoolError, FailsAt, FailsInFront, entry_of, is_long, has_long, entries_written, texts_written}
 use Rattle.msi_recode.specs.PoolReading.{IsFront, IsPut, AreWritten, ArePut, IsTextError, IsTextsError}
+use Rattle.msi_recode.proofs.HeadLemmas.{one_head}
 use Rattle.msi_recode.proofs.TextsLemmas.{AreInFront, texts_fail, failing_is_long}
 use Rattle.msi_recode.proofs.WrittenLemmas.{streams_are_pool}
 
@@ -97,17 +98,6 @@ texts_error kind.NotFound page entries bytes i front old e so_far lt is h = absu
 texts_error kind.Io page entries bytes i front old e so_far lt is h = absurd h
 texts_error kind.OutOfMemory page entries bytes i front old e so_far lt is h = tt
 
--- the texts aren't put for what they are, or for memory
-pub texts_kinds : (e : RecodeError) (page : TextPage) (bytes : List ℕ) (entries : List Entry) → IsTextsError page bytes entries e → (kind_of e ≡ kind.InvalidData) ⊎ (kind_of e ≡ kind.OutOfMemory)
-texts_kinds (error.Package k) page bytes entries h = absurd h
-texts_kinds (error.Property id k) page bytes entries h = absurd h
-texts_kinds (error.Place n kind.AlreadyExists) page bytes entries h = absurd h
-texts_kinds (error.Place n kind.InvalidData) page bytes entries h = inl refl
-texts_kinds (error.Place n kind.InvalidInput) page bytes entries h = absurd h
-texts_kinds (error.Place n kind.NotFound) page bytes entries h = absurd h
-texts_kinds (error.Place n kind.Io) page bytes entries h = absurd h
-texts_kinds (error.Place n kind.OutOfMemory) page bytes entries h = inr refl
-
 same_length : (page : TextPage) (bytes : List ℕ) (es : List Entry) (ps : List Place) → SpellsTexts page bytes es ps → length ps ≡ length es
 same_length page bytes [] [] h = refl
 same_length page bytes [] (p ∷ ps) h = absurd h
@@ -124,44 +114,49 @@ recoded hint pool_stream data_stream head page list long entries_before texts_be
     let same = same_length head.page data_stream head.entries places here in
     let start : entries ≡ header_of 65001 head.long ++ entries_written places = w.entries ∙ ap (λ (x : List ℕ). x ++ entries_written places) (entries_are ∙ ap (header_of 65001) long_is) in
     let all : texts ≡ texts_written places = w.texts ∙ ap (λ (x : List ℕ). x ++ texts_written places) texts_are in
-    (head, places, (said, here), streams_are_pool head.long places entries texts (omega (arith, few, same)) w.counts w.short w.utf8 start all, (start, all))
+    (head, places, (said, here), streams_are_pool head.long places entries texts (omega (arith, few, same)) w.counts w.short w.utf8 start all, (start, all), w.short)
+
+-- ---- why a pool isn't recoded
 
 -- where the head isn't read, there is none
-pub no_head : (k : ErrorKind) (hint : Option TextPage) (pool_stream data_stream : List ℕ) → ((head : PoolHead) → IsHead hint pool_stream head → k ≡ kind.OutOfMemory) → k ≡ kind.InvalidData → CannotBeRecoded hint pool_stream data_stream
-no_head k hint pool_stream data_stream only is head places (said, spelled) = let e : kind.InvalidData ≡ kind.OutOfMemory = sym is ∙ only head said in cc
-
--- where the texts aren't put, no places can be
-no_texts : (e : RecodeError) (hint : Option TextPage) (pool_stream data_stream : List ℕ) (found head : PoolHead) (places : List Place) → found ≡ head → IsTextsError found.page data_stream found.entries e → kind_of e ≡ kind.InvalidData
-    → SpellsTexts head.page data_stream head.entries places → has_long places ≡ true
-no_texts (error.Package k) hint pool_stream data_stream found head places same h is spelled = absurd h
-no_texts (error.Property id k) hint pool_stream data_stream found head places same h is spelled = elim h [ ]
-no_texts (error.Place n kind.AlreadyExists) hint pool_stream data_stream found head places same h is spelled = absurd h
-no_texts (error.Place n kind.InvalidData) hint pool_stream data_stream found head places same h is spelled =
-    failing_is_long head.page data_stream head.entries n places (subst (λ (x : PoolHead). FailsAt x.page data_stream x.entries n) same h) spelled
-no_texts (error.Place n kind.InvalidInput) hint pool_stream data_stream found head places same h is spelled = absurd h
-no_texts (error.Place n kind.NotFound) hint pool_stream data_stream found head places same h is spelled = absurd h
-no_texts (error.Place n kind.Io) hint pool_stream data_stream found head places same h is spelled = absurd h
-no_texts (error.Place n kind.OutOfMemory) hint pool_stream data_stream found head places same h is spelled = cc
+pub head_error : (k : ErrorKind) (given : Option TextPage) (pool_stream data_stream : List ℕ) → (k ≡ kind.InvalidData) ⊎ (k ≡ kind.OutOfMemory) → ((head : PoolHead) → IsHead given pool_stream head → k ≡ kind.OutOfMemory)
+    → IsPoolError given pool_stream data_stream (error.Package k)
+head_error k given pool_stream data_stream (inl invalid) only = inr (inl (ap (λ (x : ErrorKind). error.Package x) invalid, λ head said. let e : kind.InvalidData ≡ kind.OutOfMemory = sym invalid ∙ only head said in cc))
+head_error k given pool_stream data_stream (inr memory) only = inl memory
 
 error_of : (e : RecodeError) (page : TextPage) (data_stream : List ℕ) (list : List Entry) (head : PoolHead) → page ≡ head.page → list ≡ head.entries → IsTextsError page data_stream list e → IsTextsError head.page data_stream head.entries e
 error_of e page data_stream list head page_is list_is h =
     subst (λ (x : TextPage). IsTextsError x data_stream head.entries e) page_is (subst (λ (x : List Entry). IsTextsError page data_stream x e) list_is h)
 
-pub texts_refused : (e : RecodeError) (hint : Option TextPage) (pool_stream data_stream : List ℕ) (found : PoolHead) (page : TextPage) (list : List Entry) → page ≡ found.page → list ≡ found.entries
-    → ((head : PoolHead) → IsHead hint pool_stream head → found ≡ head) → IsTextsError page data_stream list e → kind_of e ≡ kind.InvalidData → CannotBeRecoded hint pool_stream data_stream
-texts_refused e hint pool_stream data_stream found page list page_is list_is only h is head places (said, spelled) =
-    no_texts e hint pool_stream data_stream found head places (only head said) (error_of e page data_stream list found page_is list_is h) is spelled
+place_of : (e : RecodeError) (given : Option TextPage) (pool_stream data_stream : List ℕ) (head : PoolHead) → IsHead given pool_stream head → IsTextsError head.page data_stream head.entries e → IsPoolError given pool_stream data_stream e
+place_of (error.Package k) given pool_stream data_stream head said h = absurd h
+place_of (error.Property id k) given pool_stream data_stream head said h = elim h [ ]
+place_of (error.Place n kind.AlreadyExists) given pool_stream data_stream head said h = absurd h
+place_of (error.Place n kind.InvalidData) given pool_stream data_stream head said h = inr (inr (head, n, said, refl, h))
+place_of (error.Place n kind.InvalidInput) given pool_stream data_stream head said h = absurd h
+place_of (error.Place n kind.NotFound) given pool_stream data_stream head said h = absurd h
+place_of (error.Place n kind.Io) given pool_stream data_stream head said h = absurd h
+place_of (error.Place n kind.OutOfMemory) given pool_stream data_stream head said h = inl refl
 
-told_of : (e : RecodeError) (hint : Option TextPage) (pool_stream data_stream : List ℕ) (head : PoolHead) → IsHead hint pool_stream head → IsTextsError head.page data_stream head.entries e → TellsPlace hint pool_stream data_stream e
-told_of (error.Package k) hint pool_stream data_stream head said h = tt
-told_of (error.Property id k) hint pool_stream data_stream head said h = tt
-told_of (error.Place n kind.AlreadyExists) hint pool_stream data_stream head said h = tt
-told_of (error.Place n kind.InvalidData) hint pool_stream data_stream head said h = (head, said, h)
-told_of (error.Place n kind.InvalidInput) hint pool_stream data_stream head said h = tt
-told_of (error.Place n kind.NotFound) hint pool_stream data_stream head said h = tt
-told_of (error.Place n kind.Io) hint pool_stream data_stream head said h = tt
-told_of (error.Place n kind.OutOfMemory) hint pool_stream data_stream head said h = tt
+pub place_error : (e : RecodeError) (given : Option TextPage) (pool_stream data_stream : List ℕ) (head : PoolHead) (page : TextPage) (list : List Entry) → page ≡ head.page → list ≡ head.entries
+    → IsHead given pool_stream head → IsTextsError page data_stream list e → IsPoolError given pool_stream data_stream e
+place_error e given pool_stream data_stream head page list page_is list_is said h = place_of e given pool_stream data_stream head said (error_of e page data_stream list head page_is list_is h)
 
-pub place_told : (e : RecodeError) (hint : Option TextPage) (pool_stream data_stream : List ℕ) (head : PoolHead) (page : TextPage) (list : List Entry) → page ≡ head.page → list ≡ head.entries
-    → IsHead hint pool_stream head → IsTextsError page data_stream list e → TellsPlace hint pool_stream data_stream e
-place_told e hint pool_stream data_stream head page list page_is list_is said h = told_of e hint pool_stream data_stream head said (error_of e page data_stream list head page_is list_is h)
+-- a place that fails has no text that has an entry
+fails_long : (given : Option TextPage) (pool_stream data_stream : List ℕ) (found head : PoolHead) (n : ℕ) (places : List Place) → IsHead given pool_stream found → FailsAt found.page data_stream found.entries n
+    → HavePlaces given pool_stream data_stream head places → has_long places ≡ true
+fails_long given pool_stream data_stream found head n places read fails (said, spelled) =
+    failing_is_long head.page data_stream head.entries n places (subst (λ (x : PoolHead). FailsAt x.page data_stream x.entries n) (one_head given pool_stream found head read said) fails) spelled
+
+-- a pool that can be recoded has no error but of memory
+pub pool_only : (given : Option TextPage) (pool_stream data_stream entries texts : List ℕ) (e : RecodeError) → IsPoolError given pool_stream data_stream e → AreRecoded given pool_stream data_stream entries texts → kind_of e ≡ kind.OutOfMemory
+pool_only given pool_stream data_stream entries texts e (inl memory) made = memory
+pool_only given pool_stream data_stream entries texts e (inr (inl (is, none))) (head, places, have, pool, plain, short) = absurd (none head have.0)
+pool_only given pool_stream data_stream entries texts e (inr (inr (found, n, read, is, fails))) (head, places, have, pool, plain, short) =
+    absurd (true≢false (sym (fails_long given pool_stream data_stream found head n places read fails have) ∙ short))
+
+-- invalid data have no places that can be recoded
+pub pool_refused : (given : Option TextPage) (pool_stream data_stream : List ℕ) (e : RecodeError) → IsPoolError given pool_stream data_stream e → kind_of e ≡ kind.InvalidData → CannotBeRecoded given pool_stream data_stream
+pool_refused given pool_stream data_stream e (inl memory) invalid head places have = let k : kind.InvalidData ≡ kind.OutOfMemory = sym invalid ∙ memory in cc
+pool_refused given pool_stream data_stream e (inr (inl (is, none))) invalid head places have = absurd (none head have.0)
+pool_refused given pool_stream data_stream e (inr (inr (found, n, read, is, fails))) invalid head places have = fails_long given pool_stream data_stream found head n places read fails have

@@ -17,6 +17,7 @@ use Rattle.msi_summary_properties.specs.declared.propset.PropertyValue.TheVarian
 use Rattle.msi_summary_properties.specs.Properties.{Properties, value_with_id, with_value, set_of}
 use Rattle.msi_summary_properties.specs.PropertyStream.{SpellsValue, FitsValue, StandsAt, string_bytes_of}
 use Rattle.msi_summary_properties.specs.PropertyStream as plain
+use Rattle.msi_summary_properties.specs.PropertyWriting.{piece_in, section_size}
 use Rattle.msi_summary_properties.specs.Reading.{value_at}
 use Rattle.msi_summary_properties.proofs.HeaderLemmas.{bytes_again}
 use Rattle.msi_summary_properties.proofs.PropertiesLemmas.{setting_changes_one}
@@ -27,6 +28,7 @@ use Rattle.msi_recode.specs.TextPages.{Reads, text_in}
 use Rattle.msi_recode.specs.SummaryRecoding.{SpellsString, SpellsValueIn, EntryStandsAt, page_named, in_utf8}
 use Rattle.msi_recode.specs.SummaryReading.{piece_at, in_page, value_in, IsEntryRead, ArePut}
 use Rattle.msi_recode.specs.SummaryRecoding.{page_stated}
+use Rattle.msi_recode.proofs.SizeLemmas.{section_behind, size_put}
 
 -- ---- a text
 
@@ -180,6 +182,7 @@ put_start version text_page bytes section set empty = record {
   once = refl;
   same = refl;
   values = λ id. ap (λ (es : List (ℕ × PropertyValue)). value_with_id id es) empty;
+  size = ap (section_size page.Utf8) empty;
 }
 
 -- a value that is new is put behind the others
@@ -198,6 +201,7 @@ put_next version text_page bytes section pairs i id place value before mid after
       once = no_pair_joined (λ (p q : ℕ × ℕ). eqb p.0 q.0) front ((id, place) ∷ []) w.once refl (unlisted version text_page bytes section id place front w.entries w.read none);
       same = ap (with_value id (in_utf8 id value)) w.same;
       values = λ other. setting_changes_one id other (in_utf8 id value) mid ∙ by_test other (eqb id other) refl none;
+      size = size_put mid.values id (in_utf8 id value) new ∙ ap (λ (n : ℕ). n + (8 + length (piece_in page.Utf8 (in_utf8 id value)))) w.size ∙ sym (section_behind w.entries id value);
     }))
   where
     zip_behind : (ps : List (ℕ × ℕ)) (es : List (ℕ × PropertyValue)) → AllZip (IsEntryRead version text_page bytes section) ps es → AllZip (IsEntryRead version text_page bytes section) (ps ++ (id, place) ∷ []) (es ++ (id, value) ∷ [])

@@ -69,7 +69,7 @@ same_lookups (e ∷ es) (f ∷ fs) a b same = elim (cases_eq e.0 f.0) [
 
 -- ---- what is read of bytes is one
 
-one_entries : (version : ℕ) (page : TextPage) (bytes : List ℕ) (section : ℕ) (pairs : List (ℕ × ℕ)) (xs ys : List (ℕ × PropertyValue))
+pub one_entries : (version : ℕ) (page : TextPage) (bytes : List ℕ) (section : ℕ) (pairs : List (ℕ × ℕ)) (xs ys : List (ℕ × PropertyValue))
     → AllZip (IsEntryRead version page bytes section) pairs xs → AllZip (IsEntryRead version page bytes section) pairs ys → xs ≡ ys
 one_entries version page bytes section [] [] [] h k = refl
 one_entries version page bytes section [] [] (y ∷ ys) h k = absurd k

@@ -1,28 +1,22 @@
--- What a summary's stream has is read: where it isn't, the bytes have none.
-use Rattle.std.proofs.Common.{◌≡◌, ℕ, zero, suc, ◌+◌, ◌^◌, ◌<◌, ◌≤◌, Bool, true, false, true≢false, cond, eqb, List, [], ◌∷◌, ◌++◌, length, get_or, take, drop, Option, Some, None, inl, inr, refl, sym, ap, subst, ◌∙◌, arith}
+-- What a summary's stream has is read: where a value isn't put, the pairs can't be.
+use Rattle.std.proofs.Common.{◌≡◌, ℕ, zero, suc, ◌+◌, ◌<◌, Bool, true, false, cond, eqb, List, [], ◌∷◌, ◌++◌, length, get_or, take, drop, Option, Some, None, inl, inr, refl, sym, ap, subst, ◌∙◌, arith}
 use Rattle.std.specs.Prelude.{◌⊎◌, ◌||◌, is_some, option_map, unwrap_or}
 use Rattle.std.specs.List.{AllZip, list_any}
-use Rattle.std.specs.Int.{w32, to_le_bytes}
 use Rattle.std.proofs.lemmas.Bool.{cases_Bool, or_left, or_right}
 use Rattle.msi_text_base.specs.declared.codepage.CodePage.TheVariants as page
-use Rattle.msi_text_base.specs.declared.errors.ErrorKind.{ErrorKind}
-use Rattle.msi_text_base.specs.declared.errors.ErrorKind.TheVariants as kind
 use Rattle.msi_text_base.specs.Lists.{entry_where, has_pair}
 use Rattle.msi_text_base.specs.Pages as pages
-use Rattle.msi_text_base.specs.Results.{◌>>=◌, FailsAs}
-use Rattle.msi_text_base.proofs.OptionLemmas.{not_given, some_is}
+use Rattle.msi_text_base.proofs.OptionLemmas.{not_given}
 use Rattle.msi_summary_properties.specs.declared.propset.PropertyValue.{PropertyValue}
 use Rattle.msi_summary_properties.specs.declared.propset.PropertyValue.TheVariants.{Empty, Null, I1, I2, I4, LpStr, FileTime}
 use Rattle.msi_summary_properties.specs.Properties.{Properties, value_with_id}
-use Rattle.msi_summary_properties.specs.PropertyStream.{SpellsValue, FitsValue, header_bytes, section_head}
-use Rattle.msi_summary_properties.specs.PropertyStream as plain
-use Rattle.msi_summary_properties.specs.Reading.{Header, header_at, section_at, value_at}
-use Rattle.msi_summary_properties.proofs.HeaderLemmas.{IsHeader, header_again, section_again}
+use Rattle.msi_summary_properties.specs.PropertyStream.{FitsValue}
+use Rattle.msi_summary_properties.specs.Reading.{value_at}
 use Rattle.msi_summary_properties.proofs.SpelledSetLemmas.{stands_drop}
 use Rattle.msi_summary_properties.proofs.ValueLemmas.{Begins, value_again}
 use Rattle.msi_recode.specs.declared.page.TextPage.{TextPage}
 use Rattle.msi_recode.specs.TextPages.{text_in}
-use Rattle.msi_recode.specs.SummaryRecoding.{SpellsString, SpellsValueIn, EntryStandsAt, IsSummary, HasNoSummary, in_utf8, page_named}
+use Rattle.msi_recode.specs.SummaryRecoding.{SpellsString, SpellsValueIn, EntryStandsAt, in_utf8, page_named}
 use Rattle.msi_recode.specs.SummaryReading.{piece_at, in_page, value_in, IsEntryRead, ArePut, CannotBePut}
 use Rattle.msi_recode.specs.SummaryRecoding.{page_stated}
 use Rattle.msi_recode.proofs.SummaryLemmas.{piece_again}
@@ -97,95 +91,10 @@ page_again hint version text_page bytes section (p ∷ pairs) (e ∷ entries) ((
     by_first true b fit later h = number_read hint version text_page bytes section p.1 e.1 fit b h
     by_first false b fit later h = later h
 
--- ---- the steps of reading
-
--- what reading gives of a summary
-pub record IsReadSo (hint : Option TextPage) (bytes : List ℕ) (h : Header) (pairs : List (ℕ × ℕ)) (text_page : TextPage) : Type 0 where
-  pub header : header_at bytes ≡ Some h
-  pub section : section_at (drop h.section bytes) ≡ Some pairs
-  pub stated : page_stated hint h.version bytes h.section (entry_where (λ k. eqb k 1) pairs) ≡ Some text_page
-  pub once : has_pair (λ p q. eqb p.0 q.0) pairs ≡ false
-  pub entries : List (ℕ × PropertyValue)
-  pub read : AllZip (IsEntryRead h.version text_page bytes h.section) pairs entries
-
-header_with : Properties → ℕ → ℕ → ℕ → Header
-header_with set version reserved section = record { version = version; os_version = set.os_version; os = set.os; clsid = set.clsid; reserved = reserved; format_identifier = set.format_identifier; section = section }
-
-pub summary_again : (hint : Option TextPage) (bytes : List ℕ) (set : Properties) → IsSummary hint bytes set → (h : Header) × (pairs : List (ℕ × ℕ)) × (text_page : TextPage) × IsReadSo hint bytes h pairs text_page
-unfolding header_with
-summary_again hint bytes set s =
-    let h = header_with set s.version s.reserved s.section in
-    let is : IsHeader h = record { version = s.fits.0; os_version = s.held.0; clsid = s.held.1; some = s.fits.1; reserved = s.fits.2; format = s.held.2; section = s.fits.3 } in
-    let top = stands_drop 0 bytes (λ front. front ≡ header_bytes set s.version s.reserved s.section) s.header in
-    let low = stands_drop s.section bytes (λ front. front ≡ section_head s.size s.pairs) s.head in (
-      h,
-      s.pairs,
-      s.page,
-      record {
-        header = ap header_at (top.parts ∙ ap (λ (x : List ℕ). x ++ top.others) top.is) ∙ header_again h top.others is;
-        section = ap section_at (low.parts ∙ ap (λ (x : List ℕ). x ++ low.others) low.is) ∙ section_again s.size s.pairs low.others s.fits.4 s.fits.5 s.fits.6;
-        stated = page_again hint s.version s.page bytes s.section s.pairs s.entries s.spelled s.named;
-        once = s.once;
-        entries = s.entries;
-        read = entries_read s.version s.page bytes s.section s.pairs s.entries s.spelled;
-      },
-    )
-
--- ---- where a step fails
-
-pub fails_none : {Y : Type 0} (k : ErrorKind) (o : Option Y) → FailsAs k o → k ≡ kind.InvalidData → o ≡ None
-fails_none kind.AlreadyExists o h is = absurd h
-fails_none kind.InvalidData o h is = h
-fails_none kind.InvalidInput o h is = absurd h
-fails_none kind.NotFound o h is = absurd h
-fails_none kind.Io o h is = absurd h
-fails_none kind.OutOfMemory o h is = cc
+-- ---- where a value isn't put
 
 absent_some : {Y : Type 0} {P : Type 0} (o : Option Y) (y : Y) → o ≡ None → o ≡ Some y → P
 absent_some o y none some = absurd (not_given y (sym some ∙ none))
-
-pub no_header : (k : ErrorKind) (hint : Option TextPage) (bytes : List ℕ) → FailsAs k (header_at bytes) → k ≡ kind.InvalidData → HasNoSummary hint bytes
-no_header k hint bytes fails is set said =
-    let r = summary_again hint bytes set said in
-    absent_some (header_at bytes) r.0 (fails_none k (header_at bytes) fails is) r.3.header
-
--- the same header, and the same pairs
-with_header : (hint : Option TextPage) (bytes : List ℕ) (h : Header) (set : Properties) → header_at bytes ≡ Some h → IsSummary hint bytes set → (pairs : List (ℕ × ℕ)) × (text_page : TextPage) × IsReadSo hint bytes h pairs text_page
-with_header hint bytes h set header said =
-    let r = summary_again hint bytes set said in
-    (r.1, r.2, subst (λ (x : Header). IsReadSo hint bytes x r.1 r.2) (some_is r.0 h (sym r.3.header ∙ header)) r.3)
-
-with_pairs : (hint : Option TextPage) (bytes rest : List ℕ) (h : Header) (pairs : List (ℕ × ℕ)) (set : Properties) → header_at bytes ≡ Some h → rest ≡ drop (h.section + 0) bytes → section_at rest ≡ Some pairs → IsSummary hint bytes set
-    → (text_page : TextPage) × IsReadSo hint bytes h pairs text_page
-with_pairs hint bytes rest h pairs set header is section said =
-    let r = with_header hint bytes h set header said in
-    let here : section_at (drop h.section bytes) ≡ Some pairs = ap (λ (n : ℕ). section_at (drop n bytes)) (omega arith) ∙ ap section_at (sym is) ∙ section in
-    (r.1, subst (λ (x : List (ℕ × ℕ)). IsReadSo hint bytes h x r.1) (some_is r.0 pairs (sym r.2.section ∙ here)) r.2)
-
-pub no_section : (k : ErrorKind) (hint : Option TextPage) (bytes rest : List ℕ) (h : Header) → header_at bytes ≡ Some h → rest ≡ drop (h.section + 0) bytes → FailsAs k (section_at rest) → k ≡ kind.InvalidData → HasNoSummary hint bytes
-no_section k hint bytes rest h header is fails invalid set said =
-    let r = with_header hint bytes h set header said in
-    let here : section_at rest ≡ Some r.0 = ap section_at is ∙ ap (λ (n : ℕ). section_at (drop n bytes)) (omega arith) ∙ r.2.section in
-    absent_some (section_at rest) r.0 (fails_none k (section_at rest) fails invalid) here
-
-pub no_page : (k : ErrorKind) (hint : Option TextPage) (bytes rest : List ℕ) (h : Header) (pairs listed : List (ℕ × ℕ)) → header_at bytes ≡ Some h → rest ≡ drop (h.section + 0) bytes → section_at rest ≡ Some pairs → listed ≡ pairs
-    → FailsAs k (page_stated hint h.version bytes h.section (entry_where (λ n. eqb n 1) listed)) → k ≡ kind.InvalidData → HasNoSummary hint bytes
-no_page k hint bytes rest h pairs listed header is section same fails invalid set said =
-    let r = with_pairs hint bytes rest h pairs set header is section said in
-    let stated = ap (λ (ps : List (ℕ × ℕ)). page_stated hint h.version bytes h.section (entry_where (λ n. eqb n 1) ps)) same ∙ r.1.stated in
-    absent_some (page_stated hint h.version bytes h.section (entry_where (λ n. eqb n 1) listed)) r.0 (fails_none k _ fails invalid) stated
-
-pub no_values : (hint : Option TextPage) (bytes rest : List ℕ) (h : Header) (pairs listed again : List (ℕ × ℕ)) (text_page reader_page : TextPage) → header_at bytes ≡ Some h → rest ≡ drop (h.section + 0) bytes → section_at rest ≡ Some pairs → listed ≡ pairs → again ≡ pairs
-    → reader_page ≡ text_page → page_stated hint h.version bytes h.section (entry_where (λ n. eqb n 1) listed) ≡ Some text_page → CannotBePut h.version reader_page bytes h.section again → HasNoSummary hint bytes
-no_values hint bytes rest h pairs listed again text_page reader_page header is section same as_well page_is stated cannot set said =
-    let r = with_pairs hint bytes rest h pairs set header is section said in
-    let here = ap (λ (ps : List (ℕ × ℕ)). page_stated hint h.version bytes h.section (entry_where (λ n. eqb n 1) ps)) (sym same) ∙ stated in
-    let one : r.0 ≡ text_page = some_is r.0 text_page (sym r.1.stated ∙ here) in
-    let refused : CannotBePut h.version text_page bytes h.section pairs = subst (λ (p : TextPage). CannotBePut h.version p bytes h.section pairs) page_is (subst (λ (ps : List (ℕ × ℕ)). CannotBePut h.version reader_page bytes h.section ps) as_well cannot) in
-    let read : AllZip (IsEntryRead h.version text_page bytes h.section) pairs r.1.entries = subst (λ (p : TextPage). AllZip (IsEntryRead h.version p bytes h.section) pairs r.1.entries) one r.1.read in
-    true≢false (sym (refused r.1.entries read) ∙ r.1.once)
-
--- ---- where a value isn't put
 
 read_at : (version : ℕ) (text_page : TextPage) (bytes : List ℕ) (section i : ℕ) (pairs : List (ℕ × ℕ)) (entries : List (ℕ × PropertyValue)) (pair : ℕ × ℕ) → AllZip (IsEntryRead version text_page bytes section) pairs entries → i < length pairs → get_or pairs i (0, 0) ≡ pair
     → (v : PropertyValue) × (value_in version text_page (drop (section + pair.1) bytes) ≡ Some v)

@@ -1,6 +1,6 @@
 -- The string pool of two streams whose texts are read in a page of any kind, and its streams in UTF-8.
-use Rattle.std.specs.Prelude.{◌≡◌, ℕ, zero, suc, ◌^◌, ◌<◌, ◌≤◌, Bool, true, false, not, nat_lt, ◌==◌, if◌then◌else◌}
-use Rattle.std.specs.Prelude.{List, [], ◌∷◌, ◌++◌, length, Option, Some}
+use Rattle.std.specs.Prelude.{◌≡◌, ◌⊎◌, ℕ, zero, suc, ◌^◌, ◌<◌, ◌≤◌, Bool, true, false, not, nat_lt, ◌==◌}
+use Rattle.std.specs.Prelude.{if◌then◌else◌, List, [], ◌∷◌, ◌++◌, length, Option, Some}
 use Rattle.std.specs.List.{flat_map, list_any}
 use Rattle.msi_text_base.specs.declared.codepage.CodePage.TheVariants as page
 use Rattle.msi_text_base.specs.declared.errors.ErrorKind.TheVariants as kind
@@ -8,6 +8,7 @@ use Rattle.msi_text_pool_base.specs.Pool.{Place, Pool, Entry, header_of, plain_e
 use Rattle.msi_recode.specs.declared.page.TextPage.{TextPage}
 use Rattle.msi_recode.specs.declared.errors.RecodeError.{RecodeError}
 use Rattle.msi_recode.specs.declared.errors.RecodeError.TheVariants as error
+use Rattle.msi_recode.specs.Errors.{kind_of}
 use Rattle.msi_recode.specs.TextPages.{Reads, page_for}
 
 -- what the first stream says: the page of the texts, whether references are long, and each text's length and count
@@ -56,12 +57,13 @@ abbrev pub AreWrittenOf : Bool → List Place → List ℕ → List ℕ → Type
 AreWrittenOf long places pool_stream data_stream =
     (pool_stream ≡ header_of 65001 long ++ entries_written places) × (data_stream ≡ texts_written places)
 
--- the streams after have the places of the streams before in UTF-8: with the same numbers, counts and texts
+-- the streams after have the places of the streams before in UTF-8: with the same numbers, counts and texts, each of
+-- which has an entry
 abbrev pub AreRecoded : Option TextPage → List ℕ → List ℕ → List ℕ → List ℕ → Type 0
 AreRecoded given pool_stream data_stream pool_after data_after = (head : PoolHead) × (places : List Place)
     × HavePlaces given pool_stream data_stream head places
     × IsPool pool_after data_after (record { page = page.Utf8; long = head.long; places = places })
-    × AreWrittenOf head.long places pool_after data_after
+    × AreWrittenOf head.long places pool_after data_after × (has_long places ≡ false)
 
 -- the two streams have no places, or a text among theirs is too long in UTF-8
 abbrev pub CannotBeRecoded : Option TextPage → List ℕ → List ℕ → Type 0
@@ -81,8 +83,14 @@ FailsAt page bytes (e ∷ es) (suc n) = (piece : List ℕ) × (text : List ℕ) 
     × (bytes ≡ piece ++ others) × (length piece ≡ e.len) × Reads page piece text
     × (is_long (record { len = length text; count = e.count }) ≡ false) × FailsAt page others es n
 
--- an error that names a place names the first one that can't be recoded
-abbrev pub TellsPlace : Option TextPage → List ℕ → List ℕ → RecodeError → Type 0
-TellsPlace given pool_stream data_stream (error.Place n kind.InvalidData) =
-    (head : PoolHead) × IsHead given pool_stream head × FailsAt head.page data_stream head.entries n
-TellsPlace given pool_stream data_stream _ = Unit {0}
+-- the first stream says nothing
+abbrev pub HasNoHead : Option TextPage → List ℕ → Type 0
+HasNoHead given pool_stream = (head : PoolHead) → IsHead given pool_stream head → ⊥
+
+-- an error of the pool: memory, that it has no head, or the first place that can't be recoded
+abbrev pub IsPoolError : Option TextPage → List ℕ → List ℕ → RecodeError → Type 0
+IsPoolError given pool_stream data_stream err =
+    (kind_of err ≡ kind.OutOfMemory)
+    ⊎ (err ≡ error.Package kind.InvalidData) × HasNoHead given pool_stream
+    ⊎ ((head : PoolHead) × (n : ℕ) × IsHead given pool_stream head × (err ≡ error.Place n kind.InvalidData)
+    × FailsAt head.page data_stream head.entries n)

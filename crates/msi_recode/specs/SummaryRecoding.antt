@@ -1,6 +1,6 @@
 -- The stream of the summary whose texts are read in a page of any kind, and its set in UTF-8.
-use Rattle.std.specs.Prelude.{◌≡◌, ℕ, ◌+◌, ◌^◌, ◌<◌, ◌⊎◌, true, false, ◌==◌, if◌then◌else◌, List, ◌++◌, ◌∷◌, [], drop}
-use Rattle.std.specs.Prelude.{length, Option, Some, None, option_map}
+use Rattle.std.specs.Prelude.{◌≡◌, ℕ, ◌+◌, ◌^◌, ◌<◌, ◌⊎◌, Bool, true, false, ◌==◌, if◌then◌else◌, nat_lt, List}
+use Rattle.std.specs.Prelude.{◌++◌, ◌∷◌, [], drop, length, map, Option, Some, None, option_map}
 use Rattle.std.specs.List.{AllZip, list_any}
 use Rattle.std.specs.Int.{w16, w32, to_le_bytes, cast_unsigned}
 use Rattle.msi_text_base.specs.declared.codepage.CodePage.TheVariants as page
@@ -13,13 +13,13 @@ use Rattle.msi_summary_properties.specs.Properties.{Properties, page_value, valu
 use Rattle.msi_summary_properties.specs.PropertyStream.{FitsHeader, FitsFields, FitsValue, StandsAt, SpellsValue}
 use Rattle.msi_summary_properties.specs.PropertyStream.{Spells, header_bytes, property_stream, section_head}
 use Rattle.msi_summary_properties.specs.PropertyStream.{string_bytes_of}
-use Rattle.msi_summary_properties.specs.PropertyLaws.{IsKept}
-use Rattle.msi_summary_properties.specs.PropertyWriting.{is_refused}
+use Rattle.msi_summary_properties.specs.PropertyWriting.{section_size}
 use Rattle.msi_summary_properties.specs.Reading.{Header, header_at, section_at, value_at}
 use Rattle.msi_recode.specs.declared.errors.RecodeError.{RecodeError}
 use Rattle.msi_recode.specs.declared.errors.RecodeError.TheVariants as error
 use Rattle.msi_recode.specs.declared.page.TextPage.{TextPage}
 use Rattle.msi_recode.specs.declared.page.TextPage.TheVariants.{Plain}
+use Rattle.msi_recode.specs.Errors.{kind_of}
 use Rattle.msi_recode.specs.TextPages.{Reads, page_for}
 
 -- a text, by any bytes that read as it in the page
@@ -77,17 +77,41 @@ pub record IsSummary (given : Option TextPage) (bytes : List ℕ) (set : Propert
 abbrev pub HasNoSummary : Option TextPage → List ℕ → Type 0
 HasNoSummary given bytes = (set : Properties) → IsSummary given bytes set → ⊥
 
+-- the same values, as they are in UTF-8
+abbrev pub all_in_utf8 : List (ℕ × PropertyValue) → List (ℕ × PropertyValue)
+all_in_utf8 entries = map (λ e. (e.0, in_utf8 e.0 e.1)) entries
+
+-- how many bytes the stream of these values has in UTF-8: the header has 48
+abbrev pub stream_size : List (ℕ × PropertyValue) → ℕ
+stream_size entries = 48 + section_size page.Utf8 (all_in_utf8 entries)
+
+-- no file holds a stream of more than 2^31 bytes
+abbrev pub is_too_long : List (ℕ × PropertyValue) → Bool
+is_too_long entries = nat_lt (2 ^ 31) (stream_size entries)
+
 -- the bytes after are the plain spelling of the set that the bytes before have, in UTF-8
 abbrev pub IsSummaryRecoded : Option TextPage → List ℕ → List ℕ → Type 0
-IsSummaryRecoded given before after = (set : Properties) × IsSummary given before set × (is_refused set ≡ false)
-    × (property_stream set ≡ Some after) × Spells after set
+IsSummaryRecoded given before after = (set : Properties) × (summary : IsSummary given before set)
+    × (is_too_long summary.entries ≡ false) × (property_stream set ≡ Some after) × Spells after set
 
--- the set that the bytes have is too long to be written in UTF-8: its section would have 2^32 bytes or more
-abbrev pub IsSummaryTooLong : Option TextPage → List ℕ → Type 0
-IsSummaryTooLong given bytes =
-    (set : Properties) × IsSummary given bytes set × IsKept set × (is_refused set ≡ true)
+-- the bytes have this header, list these places by their ids, and name this page of the texts
+abbrev pub IsListed : Option TextPage → List ℕ → Header → List (ℕ × ℕ) → TextPage → Type 0
+IsListed given bytes head pairs page =
+    (header_at bytes ≡ Some head) × (section_at (drop head.section bytes) ≡ Some pairs)
+    × (page_stated given head.version bytes head.section (entry_where (λ k. k == 1) pairs) ≡ Some page)
 
--- this id is that of the first pair whose value isn't spelled in the page, or whose id is listed before
+-- the bytes have no header, list no places, or name no known page
+abbrev pub ListsNothing : Option TextPage → List ℕ → Type 0
+ListsNothing given bytes = (head : Header) (pairs : List (ℕ × ℕ)) (page : TextPage)
+    → IsListed given bytes head pairs page → ⊥
+
+-- the values of these pairs are spelled in the page, and no id is listed twice
+abbrev pub AreSpelled : ℕ → TextPage → List ℕ → ℕ → List (ℕ × ℕ) → List (ℕ × PropertyValue) → Type 0
+AreSpelled version page bytes section pairs entries = AllZip (EntryStandsAt version page bytes section) pairs entries
+    × (has_pair (λ p q. p.0 == q.0) pairs ≡ false)
+
+-- this id is that of the first pair whose value isn't spelled in the page, or whose id is listed before; those in front
+-- of it aren't too long
 pub record IsFirstUnread (version : ℕ) (page : TextPage) (bytes : List ℕ) (section : ℕ) (pairs : List (ℕ × ℕ)) (id : ℕ)
     : Type 0 where
   pub front : List (ℕ × ℕ)
@@ -95,16 +119,32 @@ pub record IsFirstUnread (version : ℕ) (page : TextPage) (bytes : List ℕ) (s
   pub behind : List (ℕ × ℕ)
   pub listed : pairs ≡ front ++ (id, place) ∷ behind
   pub entries : List (ℕ × PropertyValue)
-  pub spelled : AllZip (EntryStandsAt version page bytes section) front entries
-  pub once : has_pair (λ p q. p.0 == q.0) front ≡ false
+  pub spelled : AreSpelled version page bytes section front entries
+  pub short : is_too_long entries ≡ false
   pub fails : ((value : PropertyValue) → EntryStandsAt version page bytes section (id, place) (id, value) → ⊥)
       ⊎ (list_any (λ p. p.0 == id) front ≡ true)
 
--- an error that names a property names the first that isn't spelled in the summary's page, or is listed a second time
-abbrev pub TellsProperty : Option TextPage → List ℕ → RecodeError → Type 0
-TellsProperty given bytes (error.Property id kind.InvalidData) =
-    (head : Header) × (pairs : List (ℕ × ℕ)) × (page : TextPage)
-    × (header_at bytes ≡ Some head) × (section_at (drop head.section bytes) ≡ Some pairs)
-    × (page_stated given head.version bytes head.section (entry_where (λ k. k == 1) pairs) ≡ Some page)
-    × IsFirstUnread head.version page bytes head.section pairs id
-TellsProperty given bytes _ = Unit {0}
+-- the values of the first pairs are spelled in the page, and are too long
+pub record AreTooLong (version : ℕ) (page : TextPage) (bytes : List ℕ) (section : ℕ) (pairs : List (ℕ × ℕ))
+    : Type 0 where
+  pub front : List (ℕ × ℕ)
+  pub behind : List (ℕ × ℕ)
+  pub listed : pairs ≡ front ++ behind
+  pub entries : List (ℕ × PropertyValue)
+  pub spelled : AreSpelled version page bytes section front entries
+  pub long : is_too_long entries ≡ true
+
+-- an error of the values: memory, the first that isn't read, or that they are too long
+abbrev pub IsValuesError : ℕ → TextPage → List ℕ → ℕ → List (ℕ × ℕ) → RecodeError → Type 0
+IsValuesError version page bytes section pairs err =
+    (kind_of err ≡ kind.OutOfMemory)
+    ⊎ ((id : ℕ) × (err ≡ error.Property id kind.InvalidData) × IsFirstUnread version page bytes section pairs id)
+    ⊎ (err ≡ error.Package kind.InvalidInput) × AreTooLong version page bytes section pairs
+
+-- an error of the summary: memory, that nothing is listed, or one of its values
+abbrev pub IsSummaryError : Option TextPage → List ℕ → RecodeError → Type 0
+IsSummaryError given bytes err =
+    (kind_of err ≡ kind.OutOfMemory)
+    ⊎ (err ≡ error.Package kind.InvalidData) × ListsNothing given bytes
+    ⊎ ((head : Header) × (pairs : List (ℕ × ℕ)) × (page : TextPage) × IsListed given bytes head pairs page
+    × IsValuesError head.version page bytes head.section pairs err)

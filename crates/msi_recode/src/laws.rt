@@ -1,6 +1,7 @@
 //! What follows from the definitions: each is the contract of a function without a body.
 
-ghost use Rattle.msi_recode.specs.RecodingLaws.{OneSummary, PoolsStayAlike, SummariesStayAlike};
+ghost use Rattle.msi_recode.specs.RecodingLaws.{OneRecoding, OneSummary, PoolsMeanTheirPage, PoolsStayAlike};
+ghost use Rattle.msi_recode.specs.RecodingLaws.{SummariesMeanTheirPage, SummariesStayAlike};
 ghost use Rattle.msi_recode.specs.TextPages.{PackagePagesReadAlike};
 
 /// What a package's page reads, the page of its id reads alike, also where that has a table.
@@ -21,4 +22,20 @@ pub fn summaries_stay_alike()
 /// Bytes have at most one summary, as sets are kept.
 pub fn bytes_have_one_summary()
     ensures { OneSummary }
+{}
+
+/// With any page given: a recoded pool has the places of the old streams, with their texts as the page reads them.
+pub fn pools_mean_their_page()
+    ensures { PoolsMeanTheirPage }
+{}
+
+/// With any page given: a recoded summary has the properties of the old stream, with their texts as the page reads
+/// them.
+pub fn summaries_mean_their_page()
+    ensures { SummariesMeanTheirPage }
+{}
+
+/// Contents have at most one recoding.
+pub fn contents_have_one_recoding()
+    ensures { OneRecoding }
 {}

@@ -1,6 +1,7 @@
 //! Packages whose texts are in any page, written with their texts in UTF-8: the string pool and the summary.
 #![tactic(auto)]
 
+mod counting;
 mod errors;
 mod head;
 pub mod laws;

@@ -1,15 +1,15 @@
 //! Packages, with their texts in UTF-8.
 
 ghost use Rattle.std.specs.FinMap as finite;
-ghost use Rattle.std.specs.Prelude.{◌≡◌, ◌⊎◌, None, Some, IfOk, IfErr, OnErr};
+ghost use Rattle.std.specs.Prelude.{◌≡◌, ℕ, List, None, Some, IfOk, IfErr, OnErr};
 ghost use Rattle.msi_text_base.specs.Results.{OnlyMemory};
-ghost use Rattle.msi_text_base.specs.declared.errors.ErrorKind.TheVariants.{InvalidData, InvalidInput, OutOfMemory};
+ghost use Rattle.msi_text_base.specs.declared.errors.ErrorKind.TheVariants.{InvalidData, OutOfMemory};
 ghost use Rattle.msi_container_format.specs.Container.{Holds};
 ghost use Rattle.msi_container_format.specs.declared.contents.Contents as held;
 ghost use Rattle.msi_recode.specs.Errors.{kind_of};
 ghost use Rattle.msi_recode.specs.Recoding as packages;
 ghost use Rattle.msi_recode.specs.Recoding.{AreStreamsRecoded, AreTextsRecoded, CannotBeRecodedIn, HaveTextStreams};
-ghost use Rattle.msi_recode.specs.Recoding.{IsFileRecoded, IsFileRefused, IsRecoded, IsTooLongIn};
+ghost use Rattle.msi_recode.specs.Recoding.{IsFileError, IsFileRecoded, IsRecoded, IsStreamsError};
 ghost use Rattle.msi_recode.specs.Recoding.{with_text_streams};
 
 use crate::errors::RecodeError;
@@ -31,16 +31,17 @@ use std::marker::Model;
 /// other streams keep their bytes, and places of the pool their numbers and counts.
 ///
 /// # Errors
-/// Fails with `InvalidData` if the bytes hold no compound file, a stream of the pool or the summary is missing, or one
-/// isn't recoded (`recode_pool`, `recode_summary`). Fails with `InvalidInput` if the summary would be too long, if
-/// storages lie below the root, or if the file would pass 2^31 bytes, and otherwise with `OutOfMemory`.
+/// Fails with `InvalidData` if the bytes hold no compound file or a stream of the pool or the summary is missing. Fails
+/// as `recode_pool` does, and where the pool is recoded as `recode_summary` does. Fails with `InvalidInput` if storages
+/// lie below the root, or if the file would pass 2^31 bytes, and otherwise with `OutOfMemory`.
 pub fn recode(alloc: Global, given: Option<TextPage>, bytes: &[u8]) -> Result<Vec<u8>, RecodeError>
     ensures ok { IfOk result (λ after. IsFileRecoded given bytes.now after.items) }
-    ensures kinds { IfErr result (λ error. (kind_of error ≡ InvalidData) ⊎ (kind_of error ≡ InvalidInput)
-        ⊎ (kind_of error ≡ OutOfMemory)) }
+    // What can be recoded is recoded, unless memory is refused.
+    ensures only { (after : List ℕ) → IsFileRecoded given bytes.now after
+        → IfErr result (λ error. kind_of error ≡ OutOfMemory) }
+    ensures exact { IfErr result (λ error. IsFileError given bytes.now error) }
     ensures refused { IfErr result (λ error. kind_of error ≡ InvalidData → (contents : held.Contents)
         → Holds bytes.now contents → CannotBeRecodedIn given contents.streams) }
-    ensures unwritten { IfErr result (λ error. kind_of error ≡ InvalidInput → IsFileRefused given bytes.now) }
 {
     let contents = recode_contents(alloc, given, read(alloc, bytes)?)?;
     Ok(write(alloc, &contents, 0)?)
@@ -50,18 +51,18 @@ pub fn recode(alloc: Global, given: Option<TextPage>, bytes: &[u8]) -> Result<Ve
 /// keep their bytes.
 ///
 /// # Errors
-/// Fails with `InvalidData` if a stream of the pool or the summary is missing, or one isn't recoded (`recode_pool`,
-/// `recode_summary`). Fails with `InvalidInput` if the summary would be too long, and otherwise with `OutOfMemory`.
+/// Fails with `InvalidData` if a stream of the pool or the summary is missing. Fails as `recode_pool` does, and where
+/// the pool is recoded as `recode_summary` does.
 pub fn recode_contents(
     alloc: Global,
     given: Option<TextPage>,
     contents: Contents,
 ) -> Result<Contents, RecodeError>
     ensures ok { IfOk result (λ after. IsRecoded given contents after) }
-    ensures kinds { IfErr result (λ error. (kind_of error ≡ InvalidData) ⊎ (kind_of error ≡ InvalidInput)
-        ⊎ (kind_of error ≡ OutOfMemory)) }
+    ensures only { (after : held.Contents) → IsRecoded given contents after
+        → IfErr result (λ error. kind_of error ≡ OutOfMemory) }
+    ensures exact { IfErr result (λ error. IsStreamsError given contents.streams error) }
     ensures refused { IfErr result (λ error. kind_of error ≡ InvalidData → CannotBeRecodedIn given contents.streams) }
-    ensures long { IfErr result (λ error. kind_of error ≡ InvalidInput → IsTooLongIn given contents.streams) }
 {
     let Contents {
         clsid,
@@ -83,10 +84,7 @@ fn recode_streams(
     streams: StreamMap,
 ) -> Result<StreamMap, RecodeError>
     ensures ok { IfOk result (λ after. AreStreamsRecoded given streams after) }
-    ensures kinds { IfErr result (λ error. (kind_of error ≡ InvalidData) ⊎ (kind_of error ≡ InvalidInput)
-        ⊎ (kind_of error ≡ OutOfMemory)) }
-    ensures refused { IfErr result (λ error. kind_of error ≡ InvalidData → CannotBeRecodedIn given streams) }
-    ensures long { IfErr result (λ error. kind_of error ≡ InvalidInput → IsTooLongIn given streams) }
+    ensures exact { IfErr result (λ error. IsStreamsError given streams error) }
 {
     let texts = texts_recoded(alloc, given, &streams)?;
     Ok(with_texts(streams, texts)?)
@@ -116,10 +114,7 @@ fn texts_recoded(
 ) -> Result<TextStreams, RecodeError>
     ensures ok { IfOk result (λ new. (old : packages.TextStreams)
         × HaveTextStreams streams.now old × AreTextsRecoded given old new) }
-    ensures kinds { IfErr result (λ error. (kind_of error ≡ InvalidData) ⊎ (kind_of error ≡ InvalidInput)
-        ⊎ (kind_of error ≡ OutOfMemory)) }
-    ensures refused { IfErr result (λ error. kind_of error ≡ InvalidData → CannotBeRecodedIn given streams.now) }
-    ensures long { IfErr result (λ error. kind_of error ≡ InvalidInput → IsTooLongIn given streams.now) }
+    ensures exact { IfErr result (λ error. IsStreamsError given streams.now error) }
 {
     let pool = bytes_at(streams, &string_pool_key(), reasons::NO_POOL)?;
     let data = bytes_at(streams, &string_data_key(), reasons::NO_POOL)?;

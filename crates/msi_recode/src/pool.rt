@@ -1,11 +1,11 @@
 //! The pool's two streams, with their texts in UTF-8.
 
-ghost use Rattle.std.specs.Prelude.{◌≡◌, ◌++◌, ◌⊎◌, ◌<◌, [], IfOk, IfErr, OnOk, false};
+ghost use Rattle.std.specs.Prelude.{◌≡◌, ℕ, ◌++◌, List, [], IfOk, IfErr, OnOk, false};
 ghost use Rattle.msi_text_base.specs.declared.errors.ErrorKind.TheVariants.{InvalidData, OutOfMemory};
 ghost use Rattle.msi_text_pool_base.specs.Pool.{header_of, plain_entry};
 ghost use Rattle.msi_recode.specs.Errors.{kind_of};
 ghost use Rattle.msi_recode.specs.PoolReading.{ArePut, IsPut, IsTextError, IsTextsError};
-ghost use Rattle.msi_recode.specs.PoolRecoding.{AreRecoded, CannotBeRecoded, TellsPlace, is_long};
+ghost use Rattle.msi_recode.specs.PoolRecoding.{AreRecoded, CannotBeRecoded, IsPoolError, is_long};
 ghost use Rattle.msi_recode.specs.Readers.{page_of};
 
 use crate::errors::RecodeError;
@@ -53,10 +53,12 @@ pub fn recode_pool(
 ) -> Result<RecodedPool, RecodeError>
     ensures ok { IfOk result (λ pool.
         AreRecoded given pool_stream.now data_stream.now pool.entries.items pool.texts.items) }
-    ensures kinds { IfErr result (λ error. (kind_of error ≡ InvalidData) ⊎ (kind_of error ≡ OutOfMemory)) }
+    // What can be recoded is recoded, unless memory is refused.
+    ensures only { (entries texts : List ℕ) → AreRecoded given pool_stream.now data_stream.now entries texts
+        → IfErr result (λ error. kind_of error ≡ OutOfMemory) }
+    ensures exact { IfErr result (λ error. IsPoolError given pool_stream.now data_stream.now error) }
     ensures refused { IfErr result (λ error.
         kind_of error ≡ InvalidData → CannotBeRecoded given pool_stream.now data_stream.now) }
-    ensures place { IfErr result (λ error. TellsPlace given pool_stream.now data_stream.now error) }
 {
     let head = PoolHead::read(alloc, given, pool_stream)?;
     let reader = TextReader::new(alloc, head.page())?;

@@ -24,4 +24,6 @@ pub(crate) const PROPERTY_PAGE: Reason = Reason("the code page of the summary is
 
 pub(crate) const PROPERTY_TWICE: Reason = Reason("the summary has a property twice");
 
-pub(crate) const SHARED_TEXTS: Reason = Reason("the texts of the summary have too many bytes");
+pub(crate) const SUMMARY_LONG: Reason = Reason(
+    "the summary would have more than 2^31 bytes in UTF-8",
+);

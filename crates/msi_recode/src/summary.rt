@@ -1,17 +1,20 @@
 //! The summary's stream, with its texts in UTF-8.
 
-ghost use Rattle.std.specs.Prelude.{◌≡◌, ◌+◌, ◌==◌, ◌⊎◌, [], drop, Some, None, is_some, true, IfOk, IfErr, OnOk};
+ghost use Rattle.std.specs.Prelude.{◌≡◌, ℕ, ◌+◌, ◌==◌, ◌⊎◌, List, [], drop, Some, None};
+ghost use Rattle.std.specs.Prelude.{is_some, true, false, IfOk, IfErr, OnOk};
 ghost use Rattle.msi_text_base.specs.Lists.{entry_where};
 ghost use Rattle.msi_text_base.specs.Results.{Gives};
-ghost use Rattle.msi_text_base.specs.declared.errors.ErrorKind.TheVariants.{InvalidData, InvalidInput, OutOfMemory};
+ghost use Rattle.msi_text_base.specs.declared.errors.ErrorKind.TheVariants.{InvalidData, OutOfMemory};
 ghost use Rattle.msi_summary_properties.specs.Properties.{value_with_id, with_value};
+ghost use Rattle.msi_summary_properties.specs.PropertyWriting.{is_refused};
 ghost use Rattle.msi_recode.specs.Errors.{kind_of};
 ghost use Rattle.msi_recode.specs.Readers.{page_of};
-ghost use Rattle.msi_recode.specs.SummaryReading.{ArePut, CannotBePut, IsNotPut, IsPutIn, TellsPair};
+ghost use Rattle.msi_recode.specs.SummaryReading.{ArePut, CannotBePut, IsNotPut, IsPutIn};
 ghost use Rattle.msi_recode.specs.SummaryReading.{is_text, piece_at, value_in};
-ghost use Rattle.msi_recode.specs.SummaryRecoding.{HasNoSummary, IsSummary, IsSummaryRecoded, IsSummaryTooLong};
-ghost use Rattle.msi_recode.specs.SummaryRecoding.{TellsProperty, in_utf8, page_named, page_stated};
+ghost use Rattle.msi_recode.specs.SummaryRecoding.{HasNoSummary, IsSummary, IsSummaryError, IsSummaryRecoded};
+ghost use Rattle.msi_recode.specs.SummaryRecoding.{in_utf8, is_too_long, page_named, page_stated};
 
+use crate::counting::check_values;
 use crate::errors::RecodeError;
 use crate::page::{TextPage, page_for};
 use crate::reader::TextReader;
@@ -26,27 +29,28 @@ use msi_text_base::{CodePage, Error, ErrorKind};
 use std::alloc::Global;
 
 /// The id of the property that names the page.
-const PAGE: u32 = 1;
+pub(crate) const PAGE: u32 = 1;
 
 /// Returns the stream of a summary with its texts in UTF-8, which property 1 names then, where it is there. Texts are
 /// read in the page that it names; for page 0 in the one that is given, and as UTF-8 where none is. Without property 1
 /// they are UTF-8. All other properties keep their values.
 ///
 /// # Errors
-/// Fails with `InvalidData` if the bytes encode no set, if property 1 names no known page, or if the page has no text
-/// for the bytes of one: the first that isn't there, isn't read or is listed twice is named. Fails with `InvalidInput`
-/// if the section would have 2^32 bytes or more, and otherwise with `OutOfMemory`.
+/// Fails with `InvalidData` if the bytes list no values, if property 1 names no known page, or at the first value that
+/// isn't there, isn't read in the page or is listed twice, which is named. Fails with `InvalidInput` at the first value
+/// with which the stream would have more than 2^31 bytes, the most that a file holds, and otherwise with `OutOfMemory`.
+/// What is refused is refused before any value is kept.
 pub fn recode_summary(
     alloc: Global,
     given: Option<TextPage>,
     bytes: &[u8],
 ) -> Result<Vec<u8>, RecodeError>
     ensures ok { IfOk result (λ after. IsSummaryRecoded given bytes.now after.items) }
-    ensures kinds { IfErr result (λ error. (kind_of error ≡ InvalidData) ⊎ (kind_of error ≡ InvalidInput)
-        ⊎ (kind_of error ≡ OutOfMemory)) }
+    // What can be recoded is recoded, unless memory is refused.
+    ensures only { (after : List ℕ) → IsSummaryRecoded given bytes.now after
+        → IfErr result (λ error. kind_of error ≡ OutOfMemory) }
+    ensures exact { IfErr result (λ error. IsSummaryError given bytes.now error) }
     ensures refused { IfErr result (λ error. kind_of error ≡ InvalidData → HasNoSummary given bytes.now) }
-    ensures long { IfErr result (λ error. kind_of error ≡ InvalidInput → IsSummaryTooLong given bytes.now) }
-    ensures property { IfErr result (λ error. TellsProperty given bytes.now error) }
 {
     let set = set_in_utf8(alloc, given, bytes)?;
     // UTF-8 writes each text so that it reads back: the call states that the texts are UTF-8.
@@ -60,15 +64,16 @@ fn set_in_utf8(
     given: Option<TextPage>,
     bytes: &[u8],
 ) -> Result<PropertySet, RecodeError>
-    ensures ok { IfOk result (λ set. IsSummary given bytes.now set) }
-    ensures kinds { IfErr result (λ error. (kind_of error ≡ InvalidData) ⊎ (kind_of error ≡ OutOfMemory)) }
-    ensures refused { IfErr result (λ error. kind_of error ≡ InvalidData → HasNoSummary given bytes.now) }
-    ensures property { IfErr result (λ error. TellsProperty given bytes.now error) }
+    ensures ok { IfOk result (λ set.
+        (summary : IsSummary given bytes.now set) × (is_too_long summary.entries ≡ false)) }
+    ensures written { IfOk result (λ set. is_refused set ≡ false) }
+    ensures exact { IfErr result (λ error. IsSummaryError given bytes.now error) }
 {
     let head = header_at(bytes)?;
     let pairs = section_at(alloc, rest_from(bytes, head.section, 0))?;
     let page = page_of_texts(alloc, given, head.version, bytes, head.section, &pairs)?;
     let reader = TextReader::new(alloc, page)?;
+    check_values(alloc, head.version, &reader, bytes, head.section, &pairs)?;
     let mut set = new_set_of(alloc, &head);
     put_values(
         alloc,
@@ -83,7 +88,7 @@ fn set_in_utf8(
 }
 
 /// The bytes from a place of a section on, and none past the end.
-fn rest_from(bytes: &[u8], section: u32, place: u32) -> &[u8]
+pub(crate) fn rest_from(bytes: &[u8], section: u32, place: u32) -> &[u8]
     ensures { result.now ≡ drop (section + place) bytes.now }
 {
     let start = section as usize + place as usize;
@@ -154,28 +159,21 @@ fn put_values(
     bytes: &[u8],
     section: u32,
     pairs: &[(u32, u32)],
-) -> Result<(), RecodeError>
+) -> Result<(), Error>
     requires { set.old.values ≡ [] }
     ensures ok { OnOk result (ArePut version (page_of reader.now) bytes.now section pairs.now set.old set.new) }
-    ensures kinds { IfErr result (λ error. (kind_of error ≡ InvalidData) ⊎ (kind_of error ≡ OutOfMemory)) }
-    ensures refused { IfErr result (λ error. kind_of error ≡ InvalidData
+    ensures kinds { IfErr result (λ kind. (kind ≡ InvalidData) ⊎ (kind ≡ OutOfMemory)) }
+    ensures refused { IfErr result (λ kind. kind ≡ InvalidData
         → CannotBePut version (page_of reader.now) bytes.now section pairs.now) }
-    ensures property { IfErr result (λ error.
-        TellsPair version (page_of reader.now) bytes.now section pairs.now error) }
 {
-    let mut left = most_text(bytes);
     for &(id, place) in pairs {
         let rest = rest_from(bytes, section, place);
-        match put_value(alloc, set, id, version, reader, rest, left) {
-            Ok(others) => left = others,
-            Err(error) => return Err(RecodeError::Property(id, error)),
-        }
+        put_value(alloc, set, id, version, reader, rest)?;
     }
     Ok(())
 }
 
-/// Puts the value whose bytes begin here into a set that has none of this id. A text may have `left` bytes; returns how
-/// many are left for others.
+/// Puts the value whose bytes begin here into a set that has none of this id.
 fn put_value(
     alloc: Global,
     set: &mut PropertySet,
@@ -183,8 +181,7 @@ fn put_value(
     version: u16,
     reader: &TextReader,
     bytes: &[u8],
-    left: usize,
-) -> Result<usize, Error>
+) -> Result<(), Error>
     ensures new { OnOk result (value_with_id id set.old.values ≡ None) }
     ensures ok { OnOk result (IsPutIn version (page_of reader.now) bytes.now id set.old set.new) }
     ensures kinds { IfErr result (λ kind. (kind ≡ InvalidData) ⊎ (kind ≡ OutOfMemory)) }
@@ -192,25 +189,7 @@ fn put_value(
         → IsNotPut version (page_of reader.now) bytes.now id set.old) }
 {
     let value = value_in(alloc, version, reader, bytes)?;
-    let others = match left.checked_sub(text_len(&value)) {
-        Some(others) => others,
-        None => return Err(Error::new(ErrorKind::OutOfMemory, reasons::SHARED_TEXTS)),
-    };
-    put_new(set, id, value)?;
-    Ok(others)
-}
-
-/// How many bytes the texts of a set may have, however many ids share one.
-fn most_text(bytes: &[u8]) -> usize {
-    bytes.len().saturating_mul(4).saturating_add(65536)
-}
-
-/// How many bytes the text of a value has; none where it is no text.
-fn text_len(value: &PropertyValue) -> usize {
-    match value {
-        PropertyValue::LpStr(text) => text.as_str().len(),
-        _ => 0,
-    }
+    put_new(set, id, value)
 }
 
 /// Puts a value in UTF-8 into a set that has none of this id.
@@ -231,7 +210,7 @@ fn put_new(set: &mut PropertySet, id: u32, value: PropertyValue) -> Result<(), E
 
 /// The value whose bytes begin here, in a set of this version, with a text that is read in the reader's page.
 #[tactic(auto, unfolding(crate::specs::SummaryReading::value_in))]
-fn value_in(
+pub(crate) fn value_in(
     alloc: Global,
     version: u16,
     reader: &TextReader,

@@ -12,3 +12,4 @@ pub mod SentLemmas
 pub mod TakenLemmas
 pub mod StreamsLemmas
 pub mod PackageLemmas
+pub mod PagesLemmas

@@ -26,10 +26,10 @@ use Rattle.msi_replay.specs.PackageLaws.{HaveTableNames, PackagesStayAlike, Reco
 use Rattle.msi_replay.proofs.StreamsLemmas.{with_three, three_put, pool_put, data_put, summary_put, tables_stay, others_stay}
 
 -- what stands at a name has what the bytes there have
-at_bytes : (P : List ℕ → Type 0) (o : Option (List ℕ)) (bytes : List ℕ) → o ≡ Some bytes → P bytes → IsSomeAnd o P
+pub at_bytes : (P : List ℕ → Type 0) (o : Option (List ℕ)) (bytes : List ℕ) → o ≡ Some bytes → P bytes → IsSomeAnd o P
 at_bytes P o bytes e h = subst (λ (o : Option (List ℕ)). IsSomeAnd o P) (sym e) h
 
-of_bytes : (P : List ℕ → Type 0) (o : Option (List ℕ)) (bytes : List ℕ) → o ≡ Some bytes → IsSomeAnd o P → P bytes
+pub of_bytes : (P : List ℕ → Type 0) (o : Option (List ℕ)) (bytes : List ℕ) → o ≡ Some bytes → IsSomeAnd o P → P bytes
 of_bytes P o bytes e h = subst (λ (o : Option (List ℕ)). IsSomeAnd o P) e h
 
 there : (m : maps.Streams) (name bytes : List ℕ) → get m name ≡ Some bytes → stream_at name (entries m) ≡ Some bytes
@@ -46,7 +46,7 @@ summary_stays before old new summary have recoded is =
 
 -- ---- the pool
 
-raw_put : (streams : Streams) (these : TextStreams) (raw : Pool) → IsPool these.entries these.texts raw → RawPoolIs (with_three these streams) raw
+pub raw_put : (streams : Streams) (these : TextStreams) (raw : Pool) → IsPool these.entries these.texts raw → RawPoolIs (with_three these streams) raw
 raw_put streams these raw is = raw_from raw _ _ _ _ (pool_put these streams) (data_put these streams) is
 
 raw_of : (before : maps.Streams) (these : TextStreams) (raw : Pool) → HaveTextStreams before these → RawPoolIs (entries before) raw → IsPool these.entries these.texts raw
@@ -96,7 +96,7 @@ stands : (o : Option (List ℕ)) (bytes : List ℕ) → o ≡ Some bytes → is_
 stands o bytes e = ap is_some e
 
 pub recoded_texts_are_read : RecodedTextsAreRead
-recoded_texts_are_read given old new ((before, after, have, ((head, places, said, is, plain), summary), put), same) =
+recoded_texts_are_read given old new ((before, after, have, ((head, places, said, is, plain, short), summary), put), same) =
     let streams = entries old.streams in
     let now : entries new.streams ≡ with_three after streams = ap entries put ∙ three_put after old.streams in
     let at = λ (name : List ℕ). ap (stream_at name) now in

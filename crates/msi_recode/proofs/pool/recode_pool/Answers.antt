@@ -1,35 +1,53 @@
-use Rattle.std.proofs.Common.{◌∙◌}
+use Rattle.std.proofs.Common.{◌∙◌, inl}
 use Rattle.std.proofs.lemmas.Result.{err_from_is_err_and}
 use Rattle.msi_recode.specs.Readers.{page_of}
-use Rattle.msi_recode.proofs.RecodedLemmas.{recoded, no_head, texts_kinds, texts_refused, place_told}
+use Rattle.msi_recode.proofs.RecodedLemmas.{recoded, head_error, place_error, pool_only, pool_refused}
 use Rattle.msi_recode.proofs.pool.recode_pool.Goals as goal
+
+pub returns-in_err-head-clause-only : goal.returns-in_err-head-clause-only
+returns-in_err-head-clause-only c = λ entries texts is.
+    let p = err_from_is_err_and c.from_residual.result c.from_residual.ensures.1 in
+    rw (p.1, p.2) (pool_only c.args.given c.args.pool_stream.now c.args.data_stream.now entries texts _ (head_error c.in_err-head.field-0.0 c.args.given c.args.pool_stream.now c.args.data_stream.now c.in_err-head.ensures.kinds c.in_err-head.ensures.only) is)
+
+pub returns-in_err-head-clause-exact : goal.returns-in_err-head-clause-exact
+returns-in_err-head-clause-exact c =
+    let p = err_from_is_err_and c.from_residual.result c.from_residual.ensures.1 in
+    rw (p.1, p.2) (head_error c.in_err-head.field-0.0 c.args.given c.args.pool_stream.now c.args.data_stream.now c.in_err-head.ensures.kinds c.in_err-head.ensures.only)
 
 pub returns-in_err-head-clause-refused : goal.returns-in_err-head-clause-refused
 returns-in_err-head-clause-refused c =
     let p = err_from_is_err_and c.from_residual.result c.from_residual.ensures.1 in
-    rw (p.1, p.2) (no_head c.in_err-head.field-0.0 c.args.given c.args.pool_stream.now c.args.data_stream.now c.in_err-head.ensures.only)
+    rw (p.1, p.2) (pool_refused c.args.given c.args.pool_stream.now c.args.data_stream.now _ (head_error c.in_err-head.field-0.0 c.args.given c.args.pool_stream.now c.args.data_stream.now c.in_err-head.ensures.kinds c.in_err-head.ensures.only))
+
+pub returns-in_err-reader-clause-exact : goal.returns-in_err-reader-clause-exact
+returns-in_err-reader-clause-exact c =
+    let p = err_from_is_err_and c.from_residual-in_err-reader.result c.from_residual-in_err-reader.ensures.1 in
+    rw (p.1, p.2) (inl c.in_err-reader.ensures.kind)
 
 pub returns-in_err-reader-clause-refused : goal.returns-in_err-reader-clause-refused
 returns-in_err-reader-clause-refused c =
     let p = err_from_is_err_and c.from_residual-in_err-reader.result c.from_residual-in_err-reader.ensures.1 in
     rw (p.1, p.2, c.in_err-reader.ensures.kind) (λ is. cc)
 
-pub returns-in_err-push_places-clause-kinds : goal.returns-in_err-push_places-clause-kinds
-returns-in_err-push_places-clause-kinds c =
+pub returns-in_err-push_places-clause-only : goal.returns-in_err-push_places-clause-only
+returns-in_err-push_places-clause-only c = λ entries texts is.
     let p = err_from_is_err_and c.from_residual-in_err-push_places.result c.from_residual-in_err-push_places.ensures.1 in
-    rw (p.1, p.2) (texts_kinds c.in_err-push_places.field-0.0 (page_of c.in_ok-reader.reader) c.args.data_stream.now c.entries.result.now c.in_err-push_places.ensures.err)
+    rw (p.1, p.2) (pool_only c.args.given c.args.pool_stream.now c.args.data_stream.now entries texts c.in_err-push_places.field-0.0
+    (place_error c.in_err-push_places.field-0.0 c.args.given c.args.pool_stream.now c.args.data_stream.now c.in_ok-head.head (page_of c.in_ok-reader.reader) c.entries.result.now
+    (c.in_ok-reader.ensures.ok ∙ c.page.ensures) c.entries.ensures c.in_ok-head.ensures.found c.in_err-push_places.ensures.err) is)
+
+pub returns-in_err-push_places-clause-exact : goal.returns-in_err-push_places-clause-exact
+returns-in_err-push_places-clause-exact c =
+    let p = err_from_is_err_and c.from_residual-in_err-push_places.result c.from_residual-in_err-push_places.ensures.1 in
+    rw (p.1, p.2) (place_error c.in_err-push_places.field-0.0 c.args.given c.args.pool_stream.now c.args.data_stream.now c.in_ok-head.head (page_of c.in_ok-reader.reader) c.entries.result.now
+    (c.in_ok-reader.ensures.ok ∙ c.page.ensures) c.entries.ensures c.in_ok-head.ensures.found c.in_err-push_places.ensures.err)
 
 pub returns-in_err-push_places-clause-refused : goal.returns-in_err-push_places-clause-refused
 returns-in_err-push_places-clause-refused c =
     let p = err_from_is_err_and c.from_residual-in_err-push_places.result c.from_residual-in_err-push_places.ensures.1 in
-    rw (p.1, p.2) (texts_refused c.in_err-push_places.field-0.0 c.args.given c.args.pool_stream.now c.args.data_stream.now c.in_ok-head.head (page_of c.in_ok-reader.reader) c.entries.result.now
-    (c.in_ok-reader.ensures.ok ∙ c.page.ensures) c.entries.ensures c.in_ok-head.ensures.only c.in_err-push_places.ensures.err)
-
-pub returns-in_err-push_places-clause-place : goal.returns-in_err-push_places-clause-place
-returns-in_err-push_places-clause-place c =
-    let p = err_from_is_err_and c.from_residual-in_err-push_places.result c.from_residual-in_err-push_places.ensures.1 in
-    rw (p.1, p.2) (place_told c.in_err-push_places.field-0.0 c.args.given c.args.pool_stream.now c.args.data_stream.now c.in_ok-head.head (page_of c.in_ok-reader.reader) c.entries.result.now
-    (c.in_ok-reader.ensures.ok ∙ c.page.ensures) c.entries.ensures c.in_ok-head.ensures.found c.in_err-push_places.ensures.err)
+    rw (p.1, p.2) (pool_refused c.args.given c.args.pool_stream.now c.args.data_stream.now c.in_err-push_places.field-0.0
+    (place_error c.in_err-push_places.field-0.0 c.args.given c.args.pool_stream.now c.args.data_stream.now c.in_ok-head.head (page_of c.in_ok-reader.reader) c.entries.result.now
+    (c.in_ok-reader.ensures.ok ∙ c.page.ensures) c.entries.ensures c.in_ok-head.ensures.found c.in_err-push_places.ensures.err))
 
 pub returns-clause-ok : goal.returns-clause-ok
 returns-clause-ok c =

@@ -1,0 +1,5 @@
+use Rattle.msi_recode.proofs.OnceLemmas as lemmas
+use Rattle.msi_recode.proofs.laws.pools_mean_their_page.Goals as goal
+
+pub returns : goal.returns
+returns c = lemmas.pools_mean

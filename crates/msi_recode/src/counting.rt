@@ -1,0 +1,115 @@
+//! The values of a summary, looked at one after the other before any is kept: whether each is read, and how many bytes
+//! they have in UTF-8.
+
+ghost use Rattle.std.specs.Prelude.{◌≡◌, ◌⊎◌, ◌+◌, ◌-◌, ◌%◌, ◌<◌, ◌^◌, length, false, true, IfOk, IfErr, OnOk};
+ghost use Rattle.std.specs.BTreeSet.{Updates, contains};
+ghost use Rattle.std.specs.Ordering.{nat_cmp};
+ghost use Rattle.msi_text_base.specs.declared.codepage.CodePage.TheVariants as page;
+ghost use Rattle.msi_text_base.specs.declared.errors.ErrorKind.TheVariants.{InvalidData, OutOfMemory};
+ghost use Rattle.msi_summary_properties.specs.PropertyWriting.{piece_in};
+ghost use Rattle.msi_recode.specs.Readers.{page_of};
+ghost use Rattle.msi_recode.specs.SummaryReading.{CanBePut, IsCounted, IsNotCounted};
+ghost use Rattle.msi_recode.specs.SummaryRecoding.{IsValuesError, in_utf8};
+
+use crate::errors::RecodeError;
+use crate::reader::TextReader;
+use crate::reasons;
+use crate::summary::{PAGE, rest_from, value_in};
+use msi_summary_properties::PropertyValue;
+use msi_text_base::{Error, ErrorKind};
+use std::alloc::Global;
+use std::collections::BTreeSet;
+
+/// The bytes of a stream without values: its header, and the size and the number of values of its section.
+const NO_VALUES: usize = 56;
+
+/// The most bytes of a stream that a file holds.
+const MOST_BYTES: usize = 1 << 31;
+
+/// Checks that the values of these pairs are read, that no id is listed twice, and that the stream of the values in
+/// UTF-8 isn't too long. One text at a time is in memory, so that nothing is built of texts that many ids share.
+///
+/// # Errors
+/// Fails with `InvalidData` at the first value that isn't read or is listed twice, which it names, with `InvalidInput`
+/// at the first with which the stream has more than 2^31 bytes, and otherwise with `OutOfMemory`.
+pub(crate) fn check_values(
+    alloc: Global,
+    version: u16,
+    reader: &TextReader,
+    bytes: &[u8],
+    section: u32,
+    pairs: &[(u32, u32)],
+) -> Result<(), RecodeError>
+    ensures ok { OnOk result (CanBePut version (page_of reader.now) bytes.now section pairs.now) }
+    ensures err { IfErr result (λ error. IsValuesError version (page_of reader.now) bytes.now section pairs.now error) }
+{
+    let mut ids = BTreeSet::new(alloc);
+    let mut size = NO_VALUES;
+    for &(id, place) in pairs {
+        let rest = rest_from(bytes, section, place);
+        match count_value(alloc, &mut ids, id, version, reader, rest) {
+            Ok(len) => size += 8 + len,
+            Err(error) => return Err(RecodeError::Property(id, error)),
+        }
+        if size > MOST_BYTES {
+            return Err(RecodeError::Package(Error::new(
+                ErrorKind::InvalidInput,
+                reasons::SUMMARY_LONG,
+            )));
+        }
+    }
+    Ok(())
+}
+
+/// How many bytes the value whose bytes begin here has in UTF-8, with its padding. Its id is put among the earlier
+/// ones.
+fn count_value(
+    alloc: Global,
+    ids: &mut BTreeSet<u32>,
+    id: u32,
+    version: u16,
+    reader: &TextReader,
+    bytes: &[u8],
+) -> Result<usize, Error>
+    ensures ok { IfOk result (λ len. IsCounted version (page_of reader.now) bytes.now id len) }
+    ensures below { IfOk result (λ len. len < 2 ^ 63 + 13) }
+    ensures new { OnOk result (contains nat_cmp ids.old id ≡ false) }
+    ensures ids { OnOk result (Updates nat_cmp ids.old ids.new id true) }
+    ensures kinds { IfErr result (λ kind. (kind ≡ InvalidData) ⊎ (kind ≡ OutOfMemory)) }
+    ensures refused { IfErr result (λ kind. kind ≡ InvalidData
+        → IsNotCounted version (page_of reader.now) bytes.now (contains nat_cmp ids.old id)) }
+{
+    let value = value_in(alloc, version, reader, bytes)?;
+    if !ids.insert(id)? {
+        return Err(Error::new(ErrorKind::InvalidData, reasons::PROPERTY_TWICE));
+    }
+    Ok(piece_len(id, &value))
+}
+
+/// How many bytes the value of a property has in UTF-8, with its padding to a multiple of four.
+fn piece_len(id: u32, value: &PropertyValue) -> usize
+    ensures len { result ≡ length (piece_in page.Utf8 (in_utf8 id value.now)) }
+    ensures below { result < 2 ^ 63 + 13 }
+{
+    if id == PAGE {
+        return 8;
+    }
+    match value {
+        PropertyValue::Empty => 4,
+        PropertyValue::Null => 4,
+        PropertyValue::I1(_) => 8,
+        PropertyValue::I2(_) => 8,
+        PropertyValue::I4(_) => 8,
+        PropertyValue::LpStr(text) => string_len(text.as_str()),
+        PropertyValue::FileTime(_) => 12,
+    }
+}
+
+/// How many bytes a text has as a value: its type, its length, its bytes, a null, and the padding.
+fn string_len(text: &str) -> usize
+    ensures len { result ≡ length (piece_in page.Utf8 (PropertyValue.LpStr text.now)) }
+    ensures below { result < 2 ^ 63 + 13 }
+{
+    let len = text.len() + 9;
+    len + (4 - len % 4) % 4
+}
