@@ -65,11 +65,6 @@ they_print : map phrase_of (binary two.Sub (column (codes "Foo")) (binary two.Su
     ∷ binary two.Sub (binary two.Sub (column (codes "Foo")) (column (codes "Bar"))) (column (codes "Baz")) ∷ []) ≡ right ∷ left ∷ []
 they_print = refl
 
--- what is readable when it is printed: any name, but no text that is too high
-pub readable_ones : map is_readable (binary two.Sub (column (codes "Foo.a")) (binary two.Sub (column (codes "Bar")) (literal (Int (negsuc 4))))
-    ∷ column (codes "And") ∷ column (codes "a b") ∷ column (codes "a`b") ∷ []) ≡ true ∷ true ∷ true ∷ true ∷ []
-readable_ones = refl
-
 -- a refusal has its place, and what was expected there
 pub refused : map (whole condition) (codes "1 +" ∷ codes "(1" ∷ codes "1 2" ∷ []) ≡ Err (Refused (record { place = 3; expected = expected.Operand }))
     ∷ Err (Refused (record { place = 2; expected = expected.CloseBracket })) ∷ Err (Refused (record { place = 2; expected = expected.End })) ∷ []
