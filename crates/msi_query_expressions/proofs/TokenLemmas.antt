@@ -1,5 +1,5 @@
 -- The reader of printed expressions reads the tokens: names, numbers, quoted texts and links.
-use Rattle.std.proofs.Common.{◌≡◌, ℕ, zero, suc, ◌+◌, ◌%◌, ◌^◌, ◌<◌, ◌==◌, Bool, true, false, cond, List, [], ◌∷◌, ◌++◌, get_or, drop, ⊎_elim, eq-or-lt_of_le, eqb-true, subst, codes, bytes_eq, refl, sym, ap, ◌∙◌, append_assoc, append-nil, arith, flat_map}
+use Rattle.std.proofs.Common.{◌≡◌, ℕ, zero, suc, ◌+◌, ◌%◌, ◌^◌, ◌<◌, ◌==◌, Bool, true, false, cond, List, [], ◌∷◌, ◌++◌, get_or, drop, ⊎_elim, eq-or-lt_of_le, eqb-true, codes, bytes_eq, refl, sym, ap, ◌∙◌, append_assoc, append-nil, arith, flat_map}
 use Rattle.std.specs.List.{list_all}
 use Rattle.std.specs.Char.{is_ascii_digit, is_ascii}
 use Rattle.std.specs.Fmt.{decimal, debug_escape}

@@ -15,4 +15,5 @@ pub mod PieceLemmas
 pub mod PrintedLemmas
 pub mod PrintedQueryLemmas
 pub mod Agreed
+pub mod PlacesLemmas
 pub mod ParseRows

@@ -1,18 +1,18 @@
 -- Worked rows of texts, by computation: their symbols, what they spell, and where they are refused.
-use Rattle.std.proofs.Common.{◌≡◌, ℕ, true, false, List, [], ◌∷◌, Err, refl, codes, map, pos, negsuc}
+use Rattle.std.proofs.Common.{◌≡◌, true, false, [], ◌∷◌, Err, refl, codes, map, pos}
 use Rattle.msi_table_values.specs.declared.value.Value.TheVariants.{Int}
 use Rattle.msi_query_operators.specs.declared.operators.UnaryOp.TheVariants as one
 use Rattle.msi_query_operators.specs.declared.operators.BinaryOp.TheVariants as two
-use Rattle.msi_query_expressions.specs.Expressions.{literal, column, binary}
+use Rattle.msi_query_expressions.specs.Expressions.{column, binary}
 use Rattle.msi_query_tokens.specs.declared.token.Kind.TheVariants as k
 use Rattle.msi_query_tokens.specs.declared.refusal.Expected.TheVariants as expected
 use Rattle.msi_query_tokens.specs.declared.refusal.ParseError.TheVariants.{Refused}
 use Rattle.msi_query_tokens.specs.Tokens.{token, skip_blanks, same_kind, kind_of_word}
 use Rattle.msi_query_tokens.specs.Texts.{positive}
 use Rattle.msi_query_tokens.specs.Input.{expect, sees, after, rise, refusal, kind, spelling, next, left as left_of}
-use Rattle.msi_query_tokens.specs.Symbols.{Symbol, mark, named, number, AreSymbols}
+use Rattle.msi_query_tokens.specs.Symbols.{mark, named, number, AreSymbols}
 use Rattle.msi_query_parse.specs.Reading.{whole, condition, expression, level, operand, operations, operation, climb, bracketed, term, end}
-use Rattle.msi_query_parse.specs.Printed.{phrase_of, is_readable}
+use Rattle.msi_query_parse.specs.Printed.{phrase_of}
 use Rattle.msi_query_parse.specs.Grammar.{Phrase, constant, reference, grouped, front, link, plain, phrase_symbols, is_phrase, expression_of}
 
 pub words : AreSymbols (codes "a-(B.c Or 12)") (named (codes "a") ∷ mark k.Sub ∷ mark k.Open ∷ named (codes "B.c") ∷ mark k.Or ∷ number 12 ∷ mark k.Close ∷ [])
@@ -64,11 +64,6 @@ they_mean = refl
 they_print : map phrase_of (binary two.Sub (column (codes "Foo")) (binary two.Sub (column (codes "Bar")) (column (codes "Baz")))
     ∷ binary two.Sub (binary two.Sub (column (codes "Foo")) (column (codes "Bar"))) (column (codes "Baz")) ∷ []) ≡ right ∷ left ∷ []
 they_print = refl
-
--- what is readable when it is printed: any name, but no text that is too high
-pub readable_ones : map is_readable (binary two.Sub (column (codes "Foo.a")) (binary two.Sub (column (codes "Bar")) (literal (Int (negsuc 4))))
-    ∷ column (codes "And") ∷ column (codes "a b") ∷ column (codes "a`b") ∷ []) ≡ true ∷ true ∷ true ∷ true ∷ []
-readable_ones = refl
 
 -- a refusal has its place, and what was expected there
 pub refused : map (whole condition) (codes "1 +" ∷ codes "(1" ∷ codes "1 2" ∷ []) ≡ Err (Refused (record { place = 3; expected = expected.Operand }))

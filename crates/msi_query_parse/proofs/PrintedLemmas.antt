@@ -18,7 +18,7 @@ use Rattle.msi_query_expressions.specs.Printing.{expression_text, level, bracket
 use Rattle.msi_query_tokens.specs.declared.token.Kind.{Kind}
 use Rattle.msi_query_tokens.specs.declared.token.Kind.TheVariants as k
 use Rattle.msi_query_tokens.specs.Tokens.{same_kind, kind_of_word}
-use Rattle.msi_query_tokens.specs.Symbols.{mark, named, number, quote, symbol_of}
+use Rattle.msi_query_tokens.specs.Symbols.{mark, named, number, quote}
 use Rattle.msi_query_tokens.proofs.CutLemmas.{Over, word_over, digits_over, Digits, decimal_digits, quoted_over, body}
 use Rattle.msi_query_tokens.specs.Names.{name_text}
 use Rattle.msi_query_tokens.proofs.NameLemmas.{name_text_over}

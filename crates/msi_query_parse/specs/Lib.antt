@@ -5,6 +5,7 @@ pub mod Nests
 pub mod Grammar
 pub mod Agreement
 pub mod Printed
+pub mod Places
 -- The words of the crate below, which public clauses cite.
 pub use Rattle.msi_query_tokens.specs.declared.token.Kind
 pub use Rattle.msi_query_tokens.specs.declared.refusal.Expected

@@ -4,6 +4,7 @@ ghost use Rattle.msi_query_parse.specs.Agreement.{Agrees, SpellsOne, SpellsState
 ghost use Rattle.msi_query_parse.specs.Grammar.{SpellsDelete, SpellsExpression, SpellsInsert};
 ghost use Rattle.msi_query_parse.specs.Grammar.{SpellsSelect, SpellsUpdate};
 ghost use Rattle.msi_query_parse.specs.Reading.{condition, delete, insert, query, statement, update};
+ghost use Rattle.msi_query_parse.specs.Places.{RefusesTokens};
 ghost use Rattle.msi_query_parse.specs.Printed.{PrintedExpressionsAreReadBack, PrintedSelectsAreReadBack};
 ghost use Rattle.msi_query_parse.specs.Printed.{PrintedInsertsAreReadBack, PrintedUpdatesAreReadBack};
 ghost use Rattle.msi_query_parse.specs.Printed.{PrintedDeletesAreReadBack};
@@ -45,6 +46,17 @@ pub fn deletes_are_read_as_spelled()
 pub fn statements_are_read_as_spelled()
     ensures agrees { Agrees statement SpellsStatement }
     ensures one { SpellsOne SpellsStatement }
+{}
+
+/// A refused text has its place at a token, or at its end: that of each rule is the first byte of a token, which only
+/// whole tokens stand in front of, or the length of the text. A quote without its end is refused for that.
+pub fn texts_are_refused_at_tokens()
+    ensures conditions { RefusesTokens condition }
+    ensures selects { RefusesTokens (query 201) }
+    ensures inserts { RefusesTokens insert }
+    ensures updates { RefusesTokens update }
+    ensures deletes { RefusesTokens delete }
+    ensures statements { RefusesTokens statement }
 {}
 
 /// What an expression prints spells that expression, if it is one that the constructors made, the names of its columns

@@ -1,7 +1,7 @@
 //! Reads queries and expressions from text: what they print, and what people write.
 //!
 //! `Select::parse(alloc, "SELECT Name FROM Users WHERE Age >= 18")` returns the query for these rows. A text that
-//! spells no query is refused with the byte at which it stops to be one, and with what was expected there.
+//! spells no query is refused with the byte of the token at which reading stops, and with what was expected there.
 #![tactic(auto)]
 
 mod expressions;

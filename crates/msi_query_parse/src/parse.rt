@@ -37,7 +37,7 @@ pub trait Parse: Sized {
     ///
     /// # Errors
     /// Fails with `OutOfMemory`, and refuses a text that spells no such query or expression, with the byte at which the
-    /// first token begins that fits nowhere, and what was expected there.
+    /// token begins at which reading stops, and what was expected there.
     fn parse(alloc: Global, text: &str) -> Result<Self, ParseError>;
 }
 

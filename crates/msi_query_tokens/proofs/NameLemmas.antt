@@ -1,5 +1,5 @@
 -- Names in back quotes: how they are written, and that they are read back.
-use Rattle.std.proofs.Common.{◌≡◌, ℕ, suc, ◌+◌, ◌-◌, ◌<◌, Bool, true, false, not, ◌||◌, ◌&&◌, ◌==◌, cond, List, [], ◌∷◌, ◌++◌, length, take, drop, slice_index, flat_map, Option, Some, None, Result, IsOk, codes, refl, sym, ap, ap₂, subst, ◌∙◌, append_assoc, eqb-true, length-append, arith}
+use Rattle.std.proofs.Common.{◌≡◌, ℕ, suc, ◌+◌, ◌-◌, ◌<◌, Bool, true, false, not, ◌&&◌, ◌==◌, cond, List, [], ◌∷◌, ◌++◌, length, take, drop, slice_index, Some, None, Result, IsOk, codes, refl, sym, ap, ap₂, ◌∙◌, append_assoc, eqb-true, length-append, arith}
 use denote.Bor.{Bor}
 use Rattle.std.proofs.lemmas.Str.Pattern.{IsSplitOnceResult, split_once_first}
 use Rattle.std.specs.List.{position_or_len, before_first, after_first}
@@ -12,7 +12,7 @@ use Rattle.std.proofs.Math.Seq.{take-append_seam, drop-append_seam}
 use Rattle.std.proofs.lemmas.List.{length-drop}
 use Rattle.std.proofs.lemmas.Bool.{and_parts}
 use Rattle.msi_query_tokens.specs.declared.token.Kind.TheVariants as k
-use Rattle.msi_query_tokens.specs.Names.{is_plain_name, doubled, doubled_byte, name_text}
+use Rattle.msi_query_tokens.specs.Names.{is_plain_name, doubled, name_text}
 use Rattle.msi_query_tokens.specs.Tokens.{token, same_kind, kind_of_word, closing, closed}
 use Rattle.msi_text_categories.specs.CategoryRules.{is_identifier}
 use Rattle.msi_query_tokens.specs.Texts.{undoubled}

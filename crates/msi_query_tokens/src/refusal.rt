@@ -88,7 +88,7 @@ impl Expected {
 /// Where a text is refused, and what was expected there.
 #[derive(Clone, Copy, Debug, PartialEq, Eq, Hash)]
 pub struct Refused {
-    /// The byte at which the first token begins that fits nowhere.
+    /// The byte at which the token begins at which reading stops, or the length of the text.
     pub place: usize,
     pub expected: Expected,
 }

@@ -1,4 +1,4 @@
-use Rattle.std.proofs.Common.{List, ℕ, Some, None, refl, rules, sym, ap}
+use Rattle.std.proofs.Common.{List, ℕ, Some, refl, rules, sym, ap}
 use Rattle.std.proofs.Output.{displays_on_ok_of_eq}
 use Rattle.msi_query_tokens.specs.Names.{doubled}
 use Rattle.msi_query_tokens.proofs.NameLemmas.{goes_on, doubled_split, doubled_whole}
