@@ -22,7 +22,7 @@ use crate::reasons;
 use msi_summary_properties::parts::{
     Head, header_at, new_set_of, put, section_at, stream_of, value_at,
 };
-use msi_summary_properties::{PropertySet, PropertyValue};
+use msi_summary_properties::{PropertySet, PropertyText, PropertyValue};
 use msi_text_base::fields::{bytes_at, u32_at};
 use msi_text_base::text::Text;
 use msi_text_base::{CodePage, Error, ErrorKind};
@@ -223,7 +223,7 @@ pub(crate) fn value_in(
         return Ok(value);
     }
     let text = reader.decode(alloc, piece_at(bytes)?)?;
-    Ok(PropertyValue::LpStr(Text::from_string(text)))
+    Ok(PropertyValue::LpStr(PropertyText::from_text(Text::from_string(text))))
 }
 
 /// Whether a value is a text.

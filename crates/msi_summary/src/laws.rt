@@ -3,8 +3,7 @@
 ghost use Rattle.msi_summary.specs.SummaryLaws.{ArchKeepsLanguages, LanguagesKeepArch};
 
 pub use msi_summary_properties::laws::{
-    one_set, removing_changes_one, sets_read_back, setting_changes_one,
-    written_sets_are_within_bound, written_sets_can_be_read,
+    one_set, removing_changes_one, sets_read_back, setting_changes_one, written_sets_can_be_read,
 };
 
 /// An architecture without a `;` is read as it was set, and setting it keeps the languages.

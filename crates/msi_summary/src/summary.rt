@@ -19,7 +19,7 @@ mod times;
 
 use crate::reasons;
 use msi_summary_properties::parts::{allocator, put};
-use msi_summary_properties::{OperatingSystem, PropertySet, PropertyValue};
+use msi_summary_properties::{OperatingSystem, PropertySet, PropertyText, PropertyValue};
 use msi_text_base::codepage::CodePage;
 use msi_text_base::errors::{Error, ErrorKind};
 use msi_text_base::text::IntoText;
@@ -170,7 +170,7 @@ impl SummaryInfo {
         ensures err { OnErr result (self.new ≡ self.old) }
     {
         let text = text.into_text(self.allocator())?;
-        self.put(id, PropertyValue::LpStr(text))
+        self.put(id, PropertyValue::LpStr(PropertyText::from_text(text)))
     }
 
     /// Sets the number of a property.

@@ -6,7 +6,6 @@ pub mod SpelledSetLemmas
 pub mod PairsLoopLemmas
 pub mod ValuesLoopLemmas
 pub mod SetPartsLemmas
-pub mod TextSizesLemmas
 pub mod PlainValueLemmas
 pub mod SortedIdsLemmas
 pub mod PutInLemmas
@@ -18,4 +17,6 @@ pub mod KeptSetLemmas
 mod PropertiesRows
 mod PropertyStreamRows
 pub mod WritableLemmas
+pub mod PageCutLemmas
+pub mod SharedTextsLemmas
 pub mod WrittenTextsLemmas

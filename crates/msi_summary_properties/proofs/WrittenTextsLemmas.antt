@@ -1,59 +1,22 @@
--- What is written of a set has as many texts as reading takes, and reads as a set.
-use Rattle.std.proofs.Common.{◌≡◌, ℕ, ◌+◌, ◌*◌, ◌^◌, ◌<◌, ◌≤◌, true, List, [], ◌∷◌, ◌++◌, length, map, Option, Some, None, refl, sym, ap, subst, ◌∙◌, arith}
+-- What is written of a set reads as a set.
+use Rattle.std.proofs.Common.{◌≡◌, ℕ, ◌+◌, ◌^◌, ◌<◌, true, List, [], ◌∷◌, ◌++◌, map, Option, Some, None, refl, sym, ap, subst, ◌∙◌}
 use Rattle.std.specs.Prelude.{option_map, option_and_then, unwrap_or, is_some, IsUtf8, ◌==◌, if◌then◌else◌}
 use Rattle.std.specs.List.{AllByRecursion, list_any}
-use Rattle.std.proofs.lemmas.List.{length-append}
 use Rattle.msi_text_base.specs.declared.codepage.CodePage.{CodePage}
 use Rattle.msi_text_base.specs.Lists.{all_present}
 use Rattle.msi_text_base.specs.Pages.{text_in, bytes_in, IsWritable}
 use Rattle.msi_text_base.proofs.BoolLemmas.{by_test}
-use Rattle.msi_text_base.proofs.OptionLemmas.{some_is, some_there}
-use Rattle.msi_text_base.proofs.SpelledTextsLemmas.{spelled_size, written_again}
+use Rattle.msi_text_base.proofs.OptionLemmas.{some_there}
+use Rattle.msi_text_base.proofs.SpelledTextsLemmas.{written_again}
 use Rattle.msi_text_pool.specs.PoolWriting.{is_refused_spelling}
 use Rattle.msi_summary_properties.specs.declared.propset.PropertyValue.{PropertyValue}
 use Rattle.msi_summary_properties.specs.declared.propset.PropertyValue.TheVariants.{LpStr}
 use Rattle.msi_summary_properties.specs.Properties.{Properties, page_in, page_of, value_with_id}
-use Rattle.msi_summary_properties.specs.PropertyStream.{AreWritable, FitsValue, HaveUtf8Texts, IsUtf8Value, IsWritableValue, header_bytes, ids_of, least_version, needs_version_1, padded_to_four, piece_of, property_stream, section_bytes, section_head, section_of, string_bytes_of, value_bytes}
-use Rattle.msi_summary_properties.specs.PropertyLaws.{Ascending, AreInRange, IsKept}
-use Rattle.msi_summary_properties.specs.PropertyWriting.{is_carried, joined_pieces, pairs_from, piece_in, section_size}
-use Rattle.msi_summary_properties.specs.TextSizes.{CanBeRead, StaysWithinBound, text_size, texts_size}
-use Rattle.msi_summary_properties.proofs.PlainSectionLemmas.{carried_first, length-padded, length-values, missing, stream_carried, told_parts}
-use Rattle.msi_summary_properties.proofs.PlainValueLemmas.{spelled_length}
+use Rattle.msi_summary_properties.specs.PropertyStream.{AreWritable, FitsValue, HaveUtf8Texts, IsUtf8Value, IsWritableValue, header_bytes, ids_of, least_version, needs_version_1, padded_to_four, piece_of, property_stream, section_bytes, section_of, string_bytes_of, value_bytes}
+use Rattle.msi_summary_properties.specs.PropertyLaws.{Ascending, AreInRange, CanBeRead, IsKept}
+use Rattle.msi_summary_properties.specs.PropertyWriting.{is_carried}
+use Rattle.msi_summary_properties.proofs.PlainSectionLemmas.{carried_first, told_parts}
 use Rattle.msi_summary_properties.proofs.ReadBackLemmas.{sets_read_back, told}
-
--- ---- how many texts are written
-
-text_piece : (o : Option (List ℕ)) (n : ℕ) → ((bytes : List ℕ) → o ≡ Some bytes → n ≤ 4 * length bytes) → is_some (option_map string_bytes_of o) ≡ true
-    → n ≤ 4 * length (unwrap_or (option_map padded_to_four (option_map string_bytes_of o)) [])
-text_piece None n within there = cc
-text_piece (Some bytes) n within there = omega (arith, within bytes refl, spelled_length bytes, length-padded (string_bytes_of bytes))
-
-value_size : (page : CodePage) (v : PropertyValue) → IsUtf8Value v → is_some (value_bytes page v) ≡ true → text_size v ≤ 4 * length (piece_in page v)
-value_size page (LpStr text) utf8 there = text_piece (bytes_in page text) (length text) (λ bytes is. spelled_size page text bytes utf8 is) there
-value_size page v utf8 there = omega arith
-
-texts_within : (page : CodePage) (es : List (ℕ × PropertyValue)) → HaveUtf8Texts es → is_carried page es ≡ true → texts_size es ≤ 4 * length (joined_pieces page es)
-texts_within page [] utf8 carried = omega arith
-texts_within page (e ∷ es) utf8 carried =
-    let each = carried_first page e es carried in
-    omega (arith, length-values page e es, value_size page e.1 utf8.0 each.0, texts_within page es utf8.1 each.1)
-
-pub stays_within : (set : Properties) → HaveUtf8Texts set.values → StaysWithinBound set
-stays_within set utf8 bytes written =
-    let q = page_of set in
-    let es = set.values in
-    let header = header_bytes set (least_version set) 1 48 in
-    let head = section_head (section_size q es) (pairs_from q (8 + 8 * length es) es) in
-    by_test (is_carried q es)
-    (λ carried.
-    let is : bytes ≡ header ++ (head ++ joined_pieces q es) = some_is bytes _ (sym written ∙ stream_carried set carried) in
-    omega (arith, ap length is, length-append header (head ++ joined_pieces q es), length-append head (joined_pieces q es), texts_within q es utf8 carried))
-    (λ lacking.
-    let none : property_stream set ≡ None = ap (λ o. option_map (λ section. header ++ section) (option_map (section_bytes (ids_of es)) o)) (missing q es lacking) in
-    absurd (nothing (sym none ∙ written)))
-  where
-    nothing : {bytes : List ℕ} → None ≡ Some bytes → ⊥
-    nothing e = cc
 
 -- ---- the set that is read of what is written, where a text that the page doesn't carry back has changed
 
@@ -65,7 +28,6 @@ abbrev again : CodePage → List (ℕ × PropertyValue) → List (ℕ × Propert
 again page es = map (λ e. (e.0, again_value page e.1)) es
 
 record IsAgain (page : CodePage) (v : PropertyValue) : Type 0 where
-  pub utf8 : IsUtf8Value (again_value page v)
   pub writable : IsWritableValue page (again_value page v)
   pub bytes : value_bytes page (again_value page v) ≡ value_bytes page v
 
@@ -81,14 +43,13 @@ text_again page text utf8 there =
     let is : unwrap_or (option_and_then (text_in page) (bytes_in page text)) [] ≡ read.0 =
     ap (λ o. unwrap_or (option_and_then (text_in page) o) []) spelled ∙ ap (λ o. unwrap_or o []) read.2 in
     record {
-      utf8 = subst IsUtf8 (sym is) read.1;
       writable = subst (IsWritable page) (sym is) (ap (option_and_then (text_in page)) read.3 ∙ read.2);
       bytes = ap (λ t. option_map string_bytes_of (bytes_in page t)) is ∙ ap (option_map string_bytes_of) (read.3 ∙ sym spelled);
     }
 
 value_again : (page : CodePage) (v : PropertyValue) → IsUtf8Value v → is_some (value_bytes page v) ≡ true → IsAgain page v
 value_again page (LpStr text) utf8 there = text_again page text utf8 (some_spelling (bytes_in page text) there)
-value_again page v utf8 there = record { utf8 = tt; writable = tt; bytes = refl }
+value_again page v utf8 there = record { writable = tt; bytes = refl }
 
 fits_again : (page : CodePage) (v : PropertyValue) → FitsValue v → FitsValue (again_value page v)
 fits_again page (LpStr text) fits = fits
@@ -126,13 +87,6 @@ named_again page (e ∷ es) = by_test (e.0 == 1)
     ∙ page_again page e.1 ∙ ap (λ b. page_in (if b then Some e.1 else value_with_id 1 es)) (sym first))
     (λ later. ap (λ b. page_in (if b then Some (again_value page e.1) else value_with_id 1 (again page es))) later
     ∙ named_again page es ∙ ap (λ b. page_in (if b then Some e.1 else value_with_id 1 es)) (sym later))
-
-utf8_again : (page : CodePage) (es : List (ℕ × PropertyValue)) → HaveUtf8Texts es → is_carried page es ≡ true → HaveUtf8Texts (again page es)
-utf8_again page [] utf8 carried = tt
-utf8_again page (e ∷ es) utf8 carried =
-    let each = carried_first page e es carried in
-    let here = value_again page e.1 utf8.0 each.0 in
-    (here.utf8, utf8_again page es utf8.1 each.1)
 
 writable_again : (page : CodePage) (es : List (ℕ × PropertyValue)) → HaveUtf8Texts es → is_carried page es ≡ true → AllByRecursion (λ e. IsWritableValue page e.1) (again page es)
 writable_again page [] utf8 carried = tt
@@ -184,4 +138,4 @@ can_be_read set kept utf8 bytes refused written =
     ap (λ v. option_map (λ s. header_bytes set v 1 48 ++ s) (section_of (page_of read) (again q es))) version
     ∙ ap (option_map (λ s. header_bytes set (least_version set) 1 48 ++ s)) section
     ∙ written in
-    (read, sets_read_back read bytes kept_again writable (ap is_refused_spelling section ∙ refused) written_again, stays_within read (utf8_again q es utf8 carried) bytes written_again)
+    (read, sets_read_back read bytes kept_again writable (ap is_refused_spelling section ∙ refused) written_again)

@@ -5,4 +5,5 @@ pub mod PropertyWriting
 pub mod PropertyLaws
 pub mod Reading
 pub mod HeaderView
-pub mod TextSizes
+pub mod PropertyTexts
+pub mod SharedTexts

@@ -33,6 +33,11 @@ abbrev pub SetsReadBack : Type 0
 SetsReadBack = (set : Properties) (bytes : List ℕ) → IsKept set → AreWritable set → is_refused set ≡ false
     → property_stream set ≡ Some bytes → Spells bytes set
 
+-- what is written of a set that isn't refused spells a set, though a text that the page doesn't carry back has changed
+abbrev pub CanBeRead : Properties → Type 0
+CanBeRead set = (bytes : List ℕ) → is_refused set ≡ false → property_stream set ≡ Some bytes
+    → (read : Properties) × Spells bytes read
+
 -- a value that is set is there, and every other stays
 abbrev pub SettingChangesOne : Type 0
 SettingChangesOne = (id other : ℕ) (value : PropertyValue) (set : Properties)

@@ -1,9 +1,8 @@
 //! What holds of the format and of the definitions themselves: each is the contract of a function without a body, or
 //! of one that only looks at its set.
 
-ghost use Rattle.msi_summary_properties.specs.PropertyLaws.{OneSet, SetsReadBack};
+ghost use Rattle.msi_summary_properties.specs.PropertyLaws.{CanBeRead, OneSet, SetsReadBack};
 ghost use Rattle.msi_summary_properties.specs.PropertyLaws.{RemovingChangesOne, SettingChangesOne};
-ghost use Rattle.msi_summary_properties.specs.TextSizes.{CanBeRead, StaysWithinBound};
 
 use crate::propset::PropertySet;
 
@@ -17,16 +16,8 @@ pub fn sets_read_back()
     ensures { SetsReadBack }
 {}
 
-/// What is written of a set is within the bound of reading: the set's texts have at most four times the bytes of the
-/// stream and 64 KiB.
-pub fn written_sets_are_within_bound(set: &PropertySet)
-    ensures { StaysWithinBound set.now }
-{
-    let _writable = set.is_writable();
-}
-
-/// What is written of a set that isn't refused can be read: it encodes a set whose texts are within the bound. That is
-/// the set itself where each text reads back from its page, and else one whose other texts have changed.
+/// What is written of a set that isn't refused can be read: it encodes the set itself where each text reads back from its
+/// page, and else one whose other texts have changed.
 pub fn written_sets_can_be_read(set: &PropertySet)
     ensures { CanBeRead set.now }
 {

@@ -4,11 +4,15 @@
 mod header;
 pub mod laws;
 pub mod parts;
+mod piece;
 pub mod propset;
 mod reading;
 mod reasons;
+mod shared;
+pub mod texts;
 mod values;
 mod writable;
 mod writing;
 
 pub use propset::{OperatingSystem, PropertySet, PropertyValue};
+pub use texts::PropertyText;

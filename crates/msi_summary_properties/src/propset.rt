@@ -12,9 +12,9 @@ ghost use Rattle.msi_summary_properties.specs.PropertyStream.{FitsValue};
 ghost use Rattle.msi_summary_properties.specs.PropertyLaws.{IsKept};
 
 use crate::reasons;
+use crate::texts::PropertyText;
 use msi_text_base::codepage::CodePage;
 use msi_text_base::errors::{Error, ErrorKind};
-use msi_text_base::text::Text;
 use msi_text_categories::timestamp::Timestamp;
 use std::alloc::Global;
 use std::collections::BTreeMap;
@@ -38,7 +38,7 @@ pub enum PropertyValue {
     /// A number of four bytes (type 3, VT_I4).
     I4(i32),
     /// A text (type 30, VT_LPSTR), which is encoded in the page of its set.
-    LpStr(Text),
+    LpStr(PropertyText),
     /// A time (type 64, VT_FILETIME), counted in steps of 100 nanoseconds since the year 1601.
     FileTime(Timestamp),
 }

@@ -1,33 +1,23 @@
 //! Reading a set from its bytes.
 
-ghost use Rattle.std.specs.Prelude.{◌≡◌, ◌+◌, ◌==◌, ◌≤◌, ◌⊎◌, [], drop, length, Some, IfOk, IfErr};
+ghost use Rattle.std.specs.Prelude.{◌≡◌, ◌+◌, ◌==◌, ◌⊎◌, [], Some, IfOk, IfErr};
 ghost use Rattle.msi_text_base.specs.declared.errors.ErrorKind.TheVariants.{InvalidData, OutOfMemory};
 ghost use Rattle.msi_summary_properties.specs.PropertyStream.{Spells};
 ghost use Rattle.msi_text_base.specs.Lists.{entry_where};
 ghost use Rattle.msi_summary_properties.specs.Properties.{Properties, page_in};
-ghost use Rattle.msi_text_base.specs.Results.{Gives};
+ghost use Rattle.msi_text_base.specs.Results.{Gives, OnlyMemory};
 ghost use Rattle.msi_summary_properties.specs.Reading.{page_stated, put_values, set_put};
-ghost use Rattle.msi_summary_properties.specs.TextSizes.{most_text as most_text_of, texts_size};
+ghost use Rattle.msi_summary_properties.specs.SharedTexts.{AreCuts, page_for_all};
 
 use crate::header::{header_at, section_at};
 use crate::propset::{PropertySet, PropertyValue, page_named};
 use crate::reasons;
-use crate::values::{value_at, value_within};
+use crate::shared::SharedTexts;
+use crate::values::{push_text_ends, rest_from, value_at, value_from};
 use msi_text_base::codepage::CodePage;
 use msi_text_base::errors::{Error, ErrorKind};
 use std::alloc::Global;
 use std::collections::BTreeMap;
-
-/// The bytes from a place of a section on, and none past the end.
-fn rest_from(bytes: &[u8], section: u32, place: u32) -> &[u8]
-    ensures { result.now ≡ drop (section + place) bytes.now }
-{
-    let start = section as usize + place as usize;
-    if start >= bytes.len() {
-        return &bytes[bytes.len()..];
-    }
-    &bytes[start..]
-}
 
 /// The page that the value of property 1 names.
 fn page_from(value: &PropertyValue) -> Result<CodePage, Error>
@@ -64,18 +54,37 @@ fn page_in_section(
     match place_of_page(pairs) {
         None => Ok(CodePage::Utf8),
         Some(place) => {
-            let rest = rest_from(bytes, section, place);
+            let rest = rest_from(bytes, place_in(section, place));
             let value = value_at(alloc, version, CodePage::Utf8, rest)?;
             page_from(&value)
         }
     }
 }
 
-/// How many bytes the texts of a set may have, however many ids share one.
-fn most_text(bytes: &[u8]) -> usize
-    ensures { result ≤ most_text_of (length bytes.now) }
+/// Where a place of a section stands in the stream.
+fn place_in(section: u32, place: u32) -> usize
+    ensures { result ≡ section + place }
 {
-    bytes.len().saturating_mul(4).saturating_add(65536)
+    section as usize + place as usize
+}
+
+/// The texts of the values of these pairs, each cut out of the one that the stream reads as.
+fn texts_of(
+    alloc: Global,
+    page: CodePage,
+    bytes: &[u8],
+    section: u32,
+    pairs: &[(u32, u32)],
+) -> Result<SharedTexts, Error>
+    ensures ok { IfOk result (λ texts. AreCuts (page_for_all page) bytes.now texts) }
+    ensures kind { OnlyMemory result }
+{
+    let mut ends = Vec::new(alloc);
+    for &(_, place) in pairs {
+        push_text_ends(&mut ends, bytes, place_in(section, place))?;
+    }
+    ends.sort_unstable();
+    SharedTexts::new(alloc, page, bytes, &ends)
 }
 
 /// The values of the pairs by id, no id twice.
@@ -87,15 +96,13 @@ fn values_of(
     section: u32,
     pairs: &[(u32, u32)],
 ) -> Result<BTreeMap<u32, PropertyValue>, Error>
-    ensures gives { Gives (λ m. m.entries) result (put_values version page bytes.now section pairs.now []) }
-    ensures bounded { IfOk result (λ m. texts_size m.entries ≤ most_text_of (length bytes.now)) }
+    ensures { Gives (λ m. m.entries) result (put_values version page bytes.now section pairs.now []) }
 {
+    let texts = texts_of(alloc, page, bytes, section, pairs)?;
     let mut values = BTreeMap::new(alloc);
-    let mut left = most_text(bytes);
     for &(id, place) in pairs {
-        let rest = rest_from(bytes, section, place);
-        let (value, others) = value_within(alloc, version, page, rest, left)?;
-        left = others;
+        let start = place_in(section, place);
+        let value = value_from(alloc, version, page, &texts, bytes, start)?;
         let before = values.insert(id, value)?;
         if before.is_some() {
             return Err(Error::new(ErrorKind::InvalidData, reasons::PROPERTY_TWICE));
@@ -107,11 +114,10 @@ fn values_of(
 /// The set that the bytes encode, as its parts give it.
 #[tactic(auto, unfolding(crate::specs::Reading::set_put))]
 fn set_at(alloc: Global, bytes: &[u8]) -> Result<PropertySet, Error>
-    ensures gives { Gives (λ s. s) result (set_put bytes.now) }
-    ensures bounded { IfOk result (λ s. texts_size s.values ≤ most_text_of (length bytes.now)) }
+    ensures { Gives (λ s. s) result (set_put bytes.now) }
 {
     let head = header_at(bytes)?;
-    let rest = rest_from(bytes, head.section, 0);
+    let rest = rest_from(bytes, head.section as usize);
     let pairs = section_at(alloc, rest)?;
     let page = page_in_section(alloc, head.version, bytes, head.section, &pairs)?;
     let values = values_of(alloc, head.version, page, bytes, head.section, &pairs)?;
@@ -135,15 +141,12 @@ impl PropertySet {
     /// the version, the system or the reserved number is none that is known; a type is unknown, or an 8-bit number
     /// stands in a set of version 0; a text ends in no null, or isn't read in its page; property 1 is no 16-bit
     /// number of a known page; an id is listed twice. Otherwise it fails with `OutOfMemory` if the values can't be
-    /// stored, or if the texts have more than four times the bytes of the stream and 64 KiB in UTF-8, where a text that
-    /// several ids share counts once for each.
+    /// stored. Texts that ids share, and texts that overlap, are stored once.
     pub fn read(alloc: Global, bytes: &[u8]) -> Result<PropertySet, Error>
         // What is read is spelled.
         ensures found { IfOk result (λ set. Spells bytes.now set) }
         // What is spelled is read, and nothing else, unless memory runs out.
         ensures only { (set : Properties) → Spells bytes.now set → Gives (λ s. s) result (Some set) }
-        // However many ids share a text, what is kept is bounded by the bytes.
-        ensures bounded { IfOk result (λ set. texts_size set.values ≤ most_text_of (length bytes.now)) }
         ensures kinds { IfErr result (λ kind. (kind ≡ InvalidData) ⊎ (kind ≡ OutOfMemory)) }
     {
         set_at(alloc, bytes)

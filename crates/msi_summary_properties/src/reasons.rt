@@ -28,10 +28,6 @@ pub(crate) const PROPERTY_PAGE: Reason = Reason(
 
 pub(crate) const PROPERTY_TWICE: Reason = Reason("a property is listed twice");
 
-pub(crate) const SHARED_TEXTS: Reason = Reason(
-    "properties share texts that would take far more memory than the set has bytes",
-);
-
 pub(crate) const SECTION_LONG: Reason = Reason(
     "the section of a property set is too long to be written",
 );

@@ -1,32 +1,47 @@
 //! Reading values from their bytes.
 
-ghost use Rattle.std.specs.Prelude.{◌≡◌, ◌+◌, IfOk};
+ghost use Rattle.std.specs.Prelude.{◌≡◌, IfSome, drop};
 ghost use Rattle.msi_text_base.specs.Pages.{text_in};
 ghost use Rattle.msi_text_base.specs.Results.{Gives};
 ghost use Rattle.msi_summary_properties.specs.Reading.{string_at, value_at, payload_at};
-ghost use Rattle.msi_summary_properties.specs.TextSizes.{text_size as size_of_text};
+ghost use Rattle.msi_summary_properties.specs.SharedTexts.{AreCuts, BeginsText, page_for_all};
 
 use crate::propset::PropertyValue;
 use crate::reasons::{self, PROPERTY_CUT};
+use crate::shared::SharedTexts;
+use crate::texts::PropertyText;
 use msi_text_base::codepage::CodePage;
 use msi_text_base::errors::{Error, ErrorKind};
 use msi_text_base::fields::{u8_at, u16_at, u32_at, u64_at};
 use msi_text_base::text::Text;
 use msi_text_categories::timestamp::Timestamp;
-use std::alloc::Global;
+use std::alloc::{AllocError, Global};
+
+/// How many bytes stand in front of a text: the number of its type, and its length.
+const TYPE_AND_LENGTH: usize = 8;
+
+/// The bytes from one on, and none past the end.
+pub(crate) fn rest_from(bytes: &[u8], start: usize) -> &[u8]
+    ensures { result.now ≡ drop start bytes.now }
+{
+    if start >= bytes.len() {
+        return &bytes[bytes.len()..];
+    }
+    &bytes[start..]
+}
 
 /// The text that bytes read as.
-fn text_of(alloc: Global, page: CodePage, bytes: &[u8]) -> Result<Text, Error>
+fn text_of(alloc: Global, page: CodePage, bytes: &[u8]) -> Result<PropertyText, Error>
     ensures { Gives (λ t. t) result (text_in page bytes.now) }
 {
     let text = page.decode(alloc, bytes)?;
-    Ok(Text::from_string(text))
+    Ok(PropertyText::from_text(Text::from_string(text)))
 }
 
 /// The text that stands here behind its length, which counts the null at its end. Nothing is asked for bytes
 /// that are not there.
 #[tactic(auto, unfolding(crate::specs::Reading::string_at))]
-fn string_at(alloc: Global, page: CodePage, bytes: &[u8]) -> Result<Text, Error>
+fn string_at(alloc: Global, page: CodePage, bytes: &[u8]) -> Result<PropertyText, Error>
     ensures { Gives (λ t. t) result (string_at page bytes.now) }
 {
     let (count, rest) = u32_at(bytes, PROPERTY_CUT)?;
@@ -77,30 +92,56 @@ pub fn value_at(
     payload_at(alloc, version, page, kind, rest)
 }
 
-/// How many bytes the text of a value has; none where it is no text.
-fn text_size(value: &PropertyValue) -> usize
-    ensures { result ≡ size_of_text value.now }
+/// How many bytes the text has whose value begins here, if a whole one does. They stand behind the first eight.
+fn text_len(bytes: &[u8]) -> Option<usize>
+    ensures { IfSome result (λ len. BeginsText bytes.now len) }
 {
-    match value {
-        PropertyValue::LpStr(text) => text.as_str().len(),
-        _ => 0,
+    let Ok((kind, rest)) = u32_at(bytes, PROPERTY_CUT) else {
+        return None;
+    };
+    let Ok((count, rest)) = u32_at(rest, PROPERTY_CUT) else {
+        return None;
+    };
+    let size = (count as usize).saturating_sub(1);
+    if kind == 30 && size < rest.len() && rest[size] == 0 {
+        Some(size)
+    } else {
+        None
     }
 }
 
-/// The value whose bytes begin here, of which a text may have `left` bytes, and how many are left for others.
-pub(crate) fn value_within(
+/// Adds where the text begins and ends whose value begins here, if a whole one does.
+pub(crate) fn push_text_ends(
+    held: &mut Vec<usize>,
+    bytes: &[u8],
+    start: usize,
+) -> Result<(), AllocError> {
+    if let Some(len) = text_len(rest_from(bytes, start)) {
+        let text = start + TYPE_AND_LENGTH;
+        held.push(text)?;
+        held.push(text + len)?;
+    }
+    Ok(())
+}
+
+/// The value that begins at a byte. A text shares its bytes with the others of the stream where that one is cut.
+pub(crate) fn value_from(
     alloc: Global,
     version: u16,
     page: CodePage,
+    texts: &SharedTexts,
     bytes: &[u8],
-    left: usize,
-) -> Result<(PropertyValue, usize), Error>
-    ensures gives { Gives (λ read. read.0) result (value_at version page bytes.now) }
-    ensures within { IfOk result (λ read. size_of_text read.0 + read.1 ≡ left) }
+    start: usize,
+) -> Result<PropertyValue, Error>
+    requires { AreCuts (page_for_all page) bytes.now texts.now }
+    ensures { Gives (λ v. v) result (value_at version page (drop start bytes.now)) }
 {
-    let value = value_at(alloc, version, page, bytes)?;
-    match left.checked_sub(text_size(&value)) {
-        Some(others) => Ok((value, others)),
-        None => Err(Error::new(ErrorKind::OutOfMemory, reasons::SHARED_TEXTS)),
+    let rest = rest_from(bytes, start);
+    if let Some(len) = text_len(rest) {
+        let begin = start + TYPE_AND_LENGTH;
+        if let Some(text) = texts.text(page, begin, begin + len)? {
+            return Ok(PropertyValue::LpStr(text));
+        }
     }
+    value_at(alloc, version, page, rest)
 }
