@@ -28,7 +28,7 @@ pub use msi_container_device::{Buffered, Device, Memory, Metered, Source};
 pub use msi_query::{Delete, Expr, Insert, Select, Update};
 pub use msi_query_parse::{Expected, Parse, ParseError, Refused, Statement};
 pub use msi_streams::{StreamReader, StreamWriter, Streams};
-pub use msi_summary::{OperatingSystem, PropertySet, PropertyValue, SummaryInfo};
+pub use msi_summary::{OperatingSystem, PropertySet, PropertyText, PropertyValue, SummaryInfo};
 pub use msi_table::{
     Column, ColumnBuilder, ColumnType, Row, Rows, Table, Value, ValueRef, ValueView,
 };

@@ -18,7 +18,8 @@ pub record IsAtToken (text : List ℕ) (r : Refused) : Type 0 where
   pub before : ℕ
   pub place : r.place ≡ length text - length (past_tokens before (skip_blanks text))
   pub within : r.place ≤ length text
-  pub quote : same_kind (token (past_tokens before (skip_blanks text))).0 k.Unclosed ≡ true → r.expected ≡ expected.ClosingQuote
+  pub quote : same_kind (token (past_tokens before (skip_blanks text))).0 k.Unclosed ≡ true
+      → r.expected ≡ expected.ClosingQuote
 
 -- so it is for each text that is refused
 abbrev pub RefusesTokens : {A : Type 0} → Reader A → Type 0

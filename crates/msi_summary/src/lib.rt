@@ -6,5 +6,7 @@ pub mod parts;
 mod reasons;
 pub mod summary;
 
-pub use msi_summary_properties::{OperatingSystem, PropertySet, PropertyValue, propset};
+pub use msi_summary_properties::{
+    OperatingSystem, PropertySet, PropertyText, PropertyValue, propset,
+};
 pub use summary::SummaryInfo;

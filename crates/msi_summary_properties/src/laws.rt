@@ -16,8 +16,8 @@ pub fn sets_read_back()
     ensures { SetsReadBack }
 {}
 
-/// What is written of a set that isn't refused can be read: it encodes the set itself where each text reads back from its
-/// page, and else one whose other texts have changed.
+/// What is written of a set that isn't refused can be read: it encodes the set itself where each text reads back from
+/// its page, and else one whose other texts have changed.
 pub fn written_sets_can_be_read(set: &PropertySet)
     ensures { CanBeRead set.now }
 {
