@@ -1,36 +1,34 @@
 -- A recoded package means what the old one means in its pages.
-use Rattle.std.proofs.Common.{◌≡◌, ℕ, List, [], Option, Some, refl, sym, ap, subst, ◌∙◌, unwrap_or}
+use Rattle.std.proofs.Common.{◌≡◌, ℕ, List, [], Option, Some, sym, ap, subst, ◌∙◌, unwrap_or}
 use Rattle.std.specs.FinMap.{entries}
-use Rattle.std.specs.List.{AllByRecursion}
 use Rattle.msi_text_base.specs.declared.codepage.CodePage.TheVariants as page
 use Rattle.msi_text_base.proofs.ListLemmas.{all_weaker}
-use Rattle.msi_text_pool_base.specs.Pool.{IsPool, Place, Pool}
+use Rattle.msi_text_pool_base.specs.Pool.{Pool}
 use Rattle.msi_summary_properties.specs.Properties.{Properties}
 use Rattle.msi_summary_properties.specs.PropertyStream.{Spells}
 use Rattle.msi_summary_properties.proofs.KeptSetLemmas.{IsKept-spelled}
 use Rattle.msi_summary_properties.proofs.ReadBackLemmas.{only_one_set}
 use Rattle.msi_summary.specs.Summary.{SpellsSummary}
 use Rattle.msi_container_format.specs.declared.contents.Contents.{Contents}
-use Rattle.msi_container_format.specs.Container.{Holds}
 use Rattle.msi_container_format.proofs.PlanOnceLemmas.{held_once}
 use Rattle.msi_database_system.specs.Keys.{table_key, summary_key, string_pool_name, string_data_name}
 use Rattle.msi_database_changes.specs.Database.{Database}
 use Rattle.msi_database_storage.specs.Streams.{Streams, stream_at}
 use Rattle.msi_database_storage.specs.Agreement.{DatabaseIs, is_shown}
 use Rattle.msi.specs.Laws.{AreBytes}
-use Rattle.msi.specs.Meaning.{ContentsMean, Means, PoolIs, SummaryIs, shown_pool}
+use Rattle.msi.specs.Meaning.{ContentsMean, PoolIs, SummaryIs, shown_pool}
 use Rattle.msi.specs.State.{Parts, others_among}
 use Rattle.msi.proofs.AgreementLemmas.{SameStream, SameTables, database_same, shown_pool_alike, shown_same}
 use Rattle.msi.proofs.HeldLemmas.{held_small}
 use Rattle.msi.proofs.OneMeaningLemmas.{one_raw}
 use Rattle.msi_recode.specs.declared.page.TextPage.{TextPage}
 use Rattle.msi_recode.specs.PoolRecoding.{AreRecoded}
-use Rattle.msi_recode.specs.Recoding.{IsFileRecoded, IsRecoded, TextStreams, HaveTextStreams}
+use Rattle.msi_recode.specs.Recoding.{IsRecoded, TextStreams}
 use Rattle.msi_recode.specs.SummaryRecoding.{IsSummary, IsSummaryRecoded}
 use Rattle.msi_recode.proofs.OnceLemmas.{pools_mean, summaries_mean, these_once}
 use Rattle.msi_replay.specs.PackageLaws.{HaveTableNames, IsPoolInPage, MeanInPages, PackagesMeanTheirPages}
 use Rattle.msi_replay.proofs.PackageLemmas.{at_bytes, of_bytes, raw_put}
-use Rattle.msi_replay.proofs.StreamsLemmas.{with_three, three_put, pool_put, data_put, summary_put, tables_stay, others_stay}
+use Rattle.msi_replay.proofs.StreamsLemmas.{with_three, three_put, summary_put, tables_stay, others_stay}
 
 -- the tables' streams are the same also the other way round
 tables_back : (before after : Streams) (d : Database) → SameTables before after d → SameTables after before d
