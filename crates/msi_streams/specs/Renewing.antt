@@ -1,8 +1,9 @@
 -- The streams that a flush writes anew, put among the others.
 use Rattle.std.specs.Prelude.{◌≡◌, ℕ, ◌⊎◌, Bool, true, List, [], ◌∷◌, ◌++◌, map, Option, Some, None}
-use Rattle.std.specs.Prelude.{option_and_then, option_map, if◌then◌else◌}
+use Rattle.std.specs.Prelude.{◌&&◌, option_and_then, option_map, if◌then◌else◌}
 use Rattle.msi_text_base.specs.declared.errors.ErrorKind.{ErrorKind}
 use Rattle.msi_text_base.specs.declared.errors.ErrorKind.TheVariants.{InvalidInput, OutOfMemory}
+use Rattle.msi_text_base.specs.Refusals.{Refusals}
 use Rattle.msi_text_pool_base.specs.Pool.{Pool, pool_stream, data_stream}
 use Rattle.msi_text_pool.specs.PoolWriting.{is_refused}
 use Rattle.msi_summary_properties.specs.Properties.{Properties}
@@ -43,6 +44,11 @@ pool_over is_changed pool streams = if is_changed then pool_put pool streams els
 abbrev pub renewed_over : Bool → Properties → Bool → Pool → Streams → Option Streams
 renewed_over is_lent summary is_changed pool streams =
     option_and_then (pool_over is_changed pool) (summary_over is_lent summary streams)
+
+-- why they aren't written: a page can't encode a text of the summary, or of the pool
+abbrev pub text_refusals : Bool → Properties → Bool → Pool → Refusals
+text_refusals is_lent summary is_changed pool =
+    (is_lent && properties.is_refused summary, InvalidInput) ∷ (is_changed && is_refused pool, InvalidInput) ∷ []
 
 -- the names of those that are written
 abbrev pub keys_in : Streams → List (List ℕ)

@@ -1,6 +1,6 @@
 //! The streams that a flush writes anew, and contents with them.
 
-ghost use Rattle.std.specs.Prelude.{◌≡◌, ◌++◌, IfErr, IfOk, OnOk, Some, true};
+ghost use Rattle.std.specs.Prelude.{◌≡◌, ◌&&◌, ◌∷◌, ◌++◌, [], IfErr, IfOk, OnOk, Some, true};
 ghost use Rattle.std.specs.FinMap.{entries};
 ghost use Rattle.std.specs.Vec.Iter.{into_iter_items};
 ghost use Rattle.msi_text_base.specs.Results.{OnlyMemory};
@@ -9,10 +9,10 @@ ghost use Rattle.msi_text_pool_base.specs.Pool.{unindexed};
 ghost use Rattle.msi_text_pool.specs.PoolWriting.{is_refused as is_pool_refused};
 ghost use Rattle.msi_summary_properties.specs.PropertyWriting.{is_refused as is_summary_refused};
 ghost use Rattle.msi_container_write.specs.Borrowed.{contents_of};
-ghost use Rattle.msi_text_base.specs.Refusals.{IsRefusal, or_refused};
+ghost use Rattle.msi_text_base.specs.Refusals.{AnswersFirst, IsRefusal, or_refused};
 ghost use Rattle.msi_database_storage.specs.Streams.{Streams};
 ghost use Rattle.msi_streams.specs.Renewing.{IsUnwritten, keys_in, opened, pool_keys, pool_put, renewed_keys};
-ghost use Rattle.msi_streams.specs.Renewing.{renewed_over, summary_keys, summary_over, with_renewed};
+ghost use Rattle.msi_streams.specs.Renewing.{renewed_over, summary_keys, summary_over, text_refusals, with_renewed};
 
 use crate::writer::OpenStream;
 use msi_container_format::contents::{Bytes, StreamMap};
@@ -23,7 +23,7 @@ use msi_database_system::names::{string_data_key, string_pool_key, summary_key};
 use msi_summary::SummaryInfo;
 use msi_summary::parts::summary_bytes;
 use msi_text_base::errors::Error;
-use msi_text_pool::parts::{data_stream_of, pool_stream_of};
+use msi_text_pool::parts::{check_texts, data_stream_of, pool_stream_of};
 use msi_text_pool::stringpool::StringPool;
 use std::alloc::Global;
 use std::vec::IntoIter;
@@ -41,6 +41,7 @@ fn renewed_summary(
         → summary_over is_lent summary.now streams ≡ Some (with_renewed renewed.items streams)) }
     ensures names { IfOk result (λ renewed. keys_in renewed.items ≡ summary_keys is_lent) }
     ensures kind { IfErr result (λ kind. (is_lent ≡ true) × IsUnwritten (is_summary_refused summary.now) kind) }
+    ensures early { AnswersFirst ((is_lent && is_summary_refused summary.now, InvalidInput) ∷ []) result }
 {
     if !is_lent {
         return Ok(Vec::new(alloc));
@@ -71,7 +72,8 @@ fn add_pool(pool: &StringPool, renewed: &mut Vec<(Name, Bytes)>) -> Result<(), E
 /// was changed.
 ///
 /// # Errors
-/// Fails with `InvalidInput` if a page can't encode a text. Otherwise it fails with `OutOfMemory`.
+/// Fails with `InvalidInput` if a page can't encode a text. Otherwise it fails with `OutOfMemory`, which never comes
+/// in place of that.
 pub fn renewed_streams(
     alloc: Global,
     summary: &SummaryInfo,
@@ -85,7 +87,13 @@ pub fn renewed_streams(
     ensures names { IfOk result (λ renewed. keys_in renewed.items ≡ renewed_keys is_summary_lent is_pool_changed) }
     ensures kind { let written = renewed_over is_summary_lent summary.now is_pool_changed (unindexed pool.now) in
         IfErr result (λ kind. (streams : Streams) → IsRefusal (or_refused InvalidInput (written streams)) kind) }
+    ensures early { let refusals = text_refusals is_summary_lent summary.now is_pool_changed (unindexed pool.now) in
+        AnswersFirst refusals result }
 {
+    // Before the summary's bytes take memory, which may be refused.
+    if is_pool_changed {
+        check_texts(pool)?;
+    }
     let mut renewed = renewed_summary(alloc, summary, is_summary_lent)?;
     if is_pool_changed {
         add_pool(pool, &mut renewed)?;

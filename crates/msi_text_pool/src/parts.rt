@@ -8,7 +8,7 @@ ghost use Rattle.msi_text_pool_base.specs.Recounting.{many_recounted, with_count
 ghost use Rattle.msi_text_pool_base.specs.Pool.{CountsFit, PlacesWritten, unindexed, without_unnamed_texts};
 
 pub use crate::stringpool::reading::{pool_builder_of, pool_of};
-pub use crate::stringpool::writing::{data_stream_of, pool_stream_of};
+pub use crate::stringpool::writing::{check_texts, data_stream_of, pool_stream_of};
 use crate::stringpool::{StringPool, StringRef};
 use msi_text_base::errors::Error;
 pub use msi_text_places::parts::most_places;

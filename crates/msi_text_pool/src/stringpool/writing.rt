@@ -1,6 +1,6 @@
 //! Writing the pool's two streams.
 
-ghost use Rattle.std.specs.Prelude.{◌≡◌, ◌+◌, ◌≤◌, ◌^◌, ◌⊎◌, ◌↔◌, ◌++◌, IsTrue, false, length};
+ghost use Rattle.std.specs.Prelude.{◌≡◌, ◌+◌, ◌≤◌, ◌^◌, ◌⊎◌, ◌↔◌, ◌∷◌, ◌++◌, [], IsTrue, false, length};
 ghost use Rattle.std.specs.Prelude.{OnOk, IfOk, IfErr, IsErrOf, Some, option_map, unwrap_or, is_some, if◌then◌else◌};
 ghost use Rattle.std.specs.List.{flat_map};
 ghost use Rattle.msi_text_base.specs.Pages.{page_id};
@@ -9,6 +9,7 @@ ghost use Rattle.msi_text_pool_base.specs.Pool.{CountsFit};
 ghost use Rattle.msi_text_pool.specs.PoolLaws.{ReadsBack};
 ghost use Rattle.msi_text_pool.specs.PoolWriting.{is_refused_spelling, is_refused, piece_of};
 ghost use Rattle.msi_text_pool.specs.PoolWriting.{entry_in};
+ghost use Rattle.msi_text_base.specs.Refusals.{unless_refused};
 ghost use Rattle.msi_text_base.specs.Results.{OnlyMemory};
 ghost use Rattle.msi_text_base.specs.declared.errors.ErrorKind.TheVariants.{InvalidInput, OutOfMemory};
 
@@ -65,6 +66,19 @@ pub fn data_stream_of(pool: &StringPool) -> Result<Vec<u8>, Error>
     let mut held = Vec::new(pool.allocator());
     push_texts(&mut held, pool)?;
     Ok(held)
+}
+
+/// Checks that the texts can be written. It takes no memory.
+///
+/// # Errors
+/// Fails with `InvalidInput` if the page can't encode a text in use, or if its encoding has 2^32 bytes or more.
+pub fn check_texts(pool: &StringPool) -> Result<(), Error>
+    ensures { result ≡ unless_refused ((is_refused (unindexed pool.now), InvalidInput) ∷ []) tt }
+{
+    match refusal(pool) {
+        Some(reason) => Err(Error::new(ErrorKind::InvalidInput, reason)),
+        None => Ok(()),
+    }
 }
 
 /// The page's id, with the bit for long references.
