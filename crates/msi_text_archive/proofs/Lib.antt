@@ -1,5 +1,7 @@
 -- The lemmas of this crate.
 pub mod ListLemmas
+pub mod PlaceLemmas
+pub mod CheckLemmas
 pub mod CharacterLemmas
 pub mod NumeralLemmas
 pub mod LineLemmas

@@ -1,10 +1,9 @@
 -- Lists that are read element by element.
-use Rattle.std.proofs.Common.{◌≡◌, ◌≢◌, ◌<◌, ◌≤◌, ◌+◌, ℕ, suc, List, [], ◌∷◌, ◌++◌, drop, get_or, map, Option, Some, None, Result, Ok, Err, refl, sym, ap, subst, ◌∙◌, length, arith}
-use Rattle.std.specs.Prelude.{IsErrAnd}
+use Rattle.std.proofs.Common.{◌≡◌, ◌≢◌, ◌<◌, ◌≤◌, ◌+◌, ℕ, suc, List, [], ◌∷◌, ◌++◌, drop, get_or, map, Option, Some, None, refl, sym, ap, subst, ◌∙◌, length, arith}
 use Rattle.std.proofs.lemmas.List.{append-nil, append_assoc, drop_all, drop_more}
 use Rattle.msi_text_base.specs.declared.errors.ErrorKind.{ErrorKind}
 use Rattle.msi_text_base.specs.declared.errors.ErrorKind.TheVariants as kind
-use Rattle.msi_text_base.specs.Results.{◌>>=◌, FailsAs, Gives}
+use Rattle.msi_text_base.specs.Results.{◌>>=◌, FailsAs}
 use Rattle.msi_text_base.proofs.OptionLemmas.{bind_some}
 use Rattle.msi_text_archive.specs.Lists.{each, each_pair}
 
@@ -74,11 +73,6 @@ front_more front o y read e = ap (λ o. with_front front (o >>= λ y. read >>= �
 front_stopped : {Y : Type 0} (front : List Y) (o : Option Y) (read : Option (List Y)) → o ≡ None
     → with_front front (o >>= λ y. read >>= λ ys. Some (y ∷ ys)) ≡ None
 front_stopped front o read e = ap (λ o. with_front front (o >>= λ y. read >>= λ ys. Some (y ∷ ys))) e
-
--- an error that a call passed on, or that comes of memory
-pub gives_failed : {X Y : Type 0} (view : X → Y) (r : Result X ErrorKind) (e : ErrorKind) (whole : Option Y) → IsErrAnd r (λ k. k ≡ e) → FailsAs e whole → Gives view r whole
-gives_failed view (Ok x) e whole is fails = absurd is
-gives_failed view (Err k) e whole is fails = subst (λ k. FailsAs k whole) (sym is) fails
 
 module _ {F X Y : Type 0} (view : F → X) (f : X → Option Y) (xs : List F) (whole : Option (List Y)) (front : List Y) (i : ℕ)
     (so_far : with_front front (each f (map view (drop i xs))) ≡ whole) where

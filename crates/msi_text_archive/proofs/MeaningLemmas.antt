@@ -4,13 +4,13 @@ use Rattle.std.specs.Prelude.{IfOk}
 use Rattle.std.specs.List.{AllZip}
 use Rattle.std.specs.Str.Lines.{lines}
 use Rattle.msi_text_categories.specs.Numerals.{u16_in}
-use Rattle.msi_text_base.specs.Results.{◌>>=◌, Gives}
-use Rattle.msi_text_base.specs.declared.errors.ErrorKind.{ErrorKind}
+use Rattle.msi_text_base.specs.Results.{◌>>=◌}
 use Rattle.msi_text_base.proofs.OptionLemmas.{bind_some, none_is}
 use Rattle.msi_table_values.specs.declared.value.Value.{Value}
 use Rattle.msi_text_archive.specs.Archives.{ArchiveColumnDef, ArchiveDef, KeysDef}
 use Rattle.msi_text_archive.specs.Fields.{fields, header_fields, text_in, value_in}
 use Rattle.msi_text_archive.specs.Lists.{each, each_pair}
+use Rattle.msi_text_archive.specs.Places.{Fault, Gives}
 use Rattle.msi_text_archive.specs.Reading.{archive_in, archive_of, archive_of_lines, cell_in, column_in, columns_in, keys_behind, keys_in, keys_with, row_in}
 use Rattle.msi_text_archive.specs.TextArchives.{MeanColumns, MeanKeys, MeanRow, Means, MeansPage, MeansText}
 use Rattle.msi_text_archive.specs.TypeFields.{type_in}
@@ -229,9 +229,9 @@ one_archive text a b m n = let e : Some a ≡ Some b = sym (means_read text a m)
 
 -- ---- what a call returned
 
-pub given_means : (result : Result ArchiveDef ErrorKind) (text : List ℕ) → Gives (λ archive. archive) result (archive_in text) → IfOk result (λ archive. Means text archive)
+pub given_means : (result : Result ArchiveDef Fault) (text : List ℕ) → Gives (λ archive. archive) result (archive_in text) → IfOk result (λ archive. Means text archive)
 given_means (Ok archive) text h = read_means text archive h
 given_means (Err kind) text h = tt
 
-pub meaning_given : (result : Result ArchiveDef ErrorKind) (text : List ℕ) (archive : ArchiveDef) → Gives (λ a. a) result (archive_in text) → Means text archive → Gives (λ a. a) result (Some archive)
+pub meaning_given : (result : Result ArchiveDef Fault) (text : List ℕ) (archive : ArchiveDef) → Gives (λ a. a) result (archive_in text) → Means text archive → Gives (λ a. a) result (Some archive)
 meaning_given result text archive h m = subst (λ read. Gives (λ a. a) result read) (means_read text archive m) h

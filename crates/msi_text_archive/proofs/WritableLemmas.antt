@@ -1,8 +1,10 @@
 -- An archive that a text means can be written.
-use Rattle.std.proofs.Common.{◌≡◌, ◌≢◌, ℕ, suc, ◌^◌, ◌<◌, Bool, true, false, not, ◌&&◌, List, [], ◌∷◌, Option, Some, None, refl, sym, ap, ◌∙◌, arith, length, is_some, ltb}
+use Rattle.std.proofs.Common.{◌≡◌, ◌≢◌, ℕ, suc, ◌^◌, ◌<◌, Bool, true, false, not, ◌==◌, ◌&&◌, List, [], ◌∷◌, Option, Some, None, refl, sym, ap, ◌∙◌, arith, length, is_some, ltb, ◌≤◌, ◌+◌, drop, get_or, ne_eqb}
 use Rattle.std.specs.List.{AllZip, list_all}
 use Rattle.std.proofs.lemmas.Bool.{and_from}
 use Rattle.std.proofs.lemmas.Bool.Decides.{Decides-ltb}
+use Rattle.std.proofs.lemmas.List.{drop_all}
+use Rattle.msi_text_base.proofs.ListLemmas.{drop_next}
 use Rattle.msi_text_categories.specs.Numerals.{u16_in}
 use Rattle.msi_table_values.specs.declared.value.Value.{Value}
 use Rattle.msi_text_archive.specs.Archives.{ArchiveColumnDef, ArchiveDef}
@@ -79,3 +81,37 @@ fields_uneven (c ∷ cs) (v ∷ vs) h = and_false (has_value_field c.field_type.
 pub row_uneven : (columns : List ArchiveColumnDef) (row : List Value) → length columns ≢ length row → has_row_line columns row ≡ false
 row_uneven [] row h = refl
 row_uneven (c ∷ cs) row h = fields_uneven (c ∷ cs) row h
+
+-- ---- the values of a row, one after another
+
+module _ (columns : List ArchiveColumnDef) (row : List Value) (i : ℕ) (whole : Bool) (same : length columns ≡ length row) (so_far : has_row_fields (drop i columns) (drop i row) ≡ whole) where
+  next : (c : ArchiveColumnDef) (v : Value) → i < length columns → c ≡ get_or columns i c → v ≡ get_or row i v
+      → (has_value_field c.field_type.coltype v && has_row_fields (drop (i + 1) columns) (drop (i + 1) row)) ≡ whole
+  next c v within is also =
+      ap (λ (cs : List ArchiveColumnDef). has_row_fields cs (v ∷ drop (i + 1) row)) (sym (drop_next columns i c within is))
+      ∙ ap (has_row_fields (drop i columns)) (sym (drop_next row i v (omega arith) also)) ∙ so_far
+
+  pub value_more : (c : ArchiveColumnDef) (v : Value) → i < length columns → c ≡ get_or columns i c → v ≡ get_or row i v → has_value_field c.field_type.coltype v ≡ true
+      → has_row_fields (drop (i + 1) columns) (drop (i + 1) row) ≡ whole
+  value_more c v within is also t = sym (ap (λ b. b && has_row_fields (drop (i + 1) columns) (drop (i + 1) row)) t) ∙ next c v within is also
+
+  pub value_stopped : (c : ArchiveColumnDef) (v : Value) → i < length columns → c ≡ get_or columns i c → v ≡ get_or row i v → has_value_field c.field_type.coltype v ≡ false → whole ≡ false
+  value_stopped c v within is also f = sym (next c v within is also) ∙ ap (λ b. b && has_row_fields (drop (i + 1) columns) (drop (i + 1) row)) f
+
+  pub values_ended : length row ≤ i → whole ≡ true
+  values_ended past = sym so_far ∙ ap (λ (cs : List ArchiveColumnDef). has_row_fields cs (drop i row)) (drop_all i columns (omega arith)) ∙ ap (has_row_fields []) (drop_all i row past)
+
+pub line_is : (columns : List ArchiveColumnDef) (row : List Value) → 0 < length columns → has_row_line columns row ≡ has_row_fields columns row
+line_is [] row l = absurd (omega (arith, l))
+line_is (c ∷ cs) row l = refl
+
+pub some_columns : (columns : List ArchiveColumnDef) → not (length columns == 0) ≡ true → 0 < length columns
+some_columns [] e = cc
+some_columns (c ∷ cs) e = omega arith
+
+pub no_line : (columns : List ArchiveColumnDef) (row : List Value) → not (length columns == 0) ≡ false → has_row_line columns row ≡ false
+no_line [] row e = refl
+no_line (c ∷ cs) row e =
+    let some : not (length (c ∷ cs) == 0) ≡ true = ap not (ne_eqb (length (c ∷ cs)) 0 (λ z. omega arith)) in
+    let clash : true ≡ false = sym some ∙ e in
+    cc

@@ -5,7 +5,6 @@ use Rattle.std.specs.Char.{to_ascii_uppercase}
 use Rattle.std.specs.Fmt.{decimal, signed_decimal}
 use Rattle.std.specs.List.{flat_map, list_all, list_any}
 use Rattle.msi_text_categories.specs.Numerals.{u16_in}
-use Rattle.msi_text_base.specs.declared.errors.ErrorKind.{ErrorKind}
 use Rattle.msi_text_base.specs.declared.errors.ErrorKind.TheVariants.{InvalidInput}
 use Rattle.msi_table_values.specs.declared.column.ColumnType.{ColumnType}
 use Rattle.msi_table_values.specs.declared.column.ColumnType.TheVariants as coltype
@@ -13,6 +12,7 @@ use Rattle.msi_table_values.specs.declared.value.Value.{Value}
 use Rattle.msi_table_values.specs.declared.value.Value.TheVariants as value
 use Rattle.msi_text_archive.specs.Archives.{ArchiveColumnDef, ArchiveDef, KeysDef, TypeDef}
 use Rattle.msi_text_archive.specs.Characters.{is_stand_in, swapped}
+use Rattle.msi_text_archive.specs.Places.{Fault}
 
 -- The text of a field: neither the empty text, nor one with a character that stands for a control character, has one
 abbrev pub text_field : List ℕ → List ℕ
@@ -122,6 +122,6 @@ can_write archive = list_all has_column_fields archive.columns && (has_key_field
     && list_all (has_row_line archive.columns) archive.rows)
 
 -- what a check of a part returned tells whether the part can be written
-abbrev pub Checks : {X : Type 0} → Result X ErrorKind → Bool → Type 0
+abbrev pub Checks : {X : Type 0} → Result X Fault → Bool → Type 0
 Checks (Ok _) holds = holds ≡ true
-Checks (Err kind) holds = (kind ≡ InvalidInput) × (holds ≡ false)
+Checks (Err e) holds = (e.kind ≡ InvalidInput) × (holds ≡ false)

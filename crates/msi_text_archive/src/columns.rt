@@ -1,17 +1,28 @@
 //! The first two lines of a text archive: the columns and their types.
 
 ghost use Rattle.std.specs.Prelude.{◌≡◌, map};
-ghost use Rattle.msi_text_base.specs.Results.{Gives};
+ghost use Rattle.msi_text_archive.specs.Fields.{header_fields as header_fields_in};
 ghost use Rattle.msi_text_archive.specs.Lists.{each_pair};
+ghost use Rattle.msi_text_archive.specs.Places.{Gives, Placed, unless_read};
 ghost use Rattle.msi_text_archive.specs.Reading.{column_in, columns_in};
+ghost use Rattle.msi_text_archive.specs.TypeFields.{type_in};
+ghost use Rattle.msi_text_archive.specs.WrongPlaces.{column_wrong, columns_wrong};
 
 use crate::archive::ArchiveColumn;
 use crate::errors::{ArchiveError, Place, at, uneven};
 use crate::fields::{header_fields, text_at};
 use crate::reasons;
-use crate::type_fields::type_of;
+use crate::type_fields::{TypeField, type_of};
 use msi_text_base::errors::ErrorKind;
 use std::alloc::Global;
+
+/// The type that the field at a place means.
+fn type_at(place: Place, field: &str) -> Result<TypeField, ArchiveError>
+    ensures value { Gives (λ type. type) result (type_in field.now) }
+    ensures place { Placed result (unless_read (type_in field.now) place) }
+{
+    at(place, type_of(field))
+}
 
 /// The column of a name and the type below it, which are the fields of this number.
 #[tactic(auto, unfolding(crate::specs::Reading::column_in))]
@@ -21,7 +32,8 @@ fn column_of(
     name: &str,
     field: &str,
 ) -> Result<ArchiveColumn, ArchiveError>
-    ensures { Gives (λ column. column) result (column_in name.now field.now) }
+    ensures value { Gives (λ column. column) result (column_in name.now field.now) }
+    ensures place { Placed result (column_wrong number name.now field.now) }
 {
     let first = Place {
         line: 1,
@@ -32,7 +44,7 @@ fn column_of(
         line: 2,
         field: number,
     };
-    let found = at(second, type_of(field))?;
+    let found = type_at(second, field)?;
     Ok(ArchiveColumn::new(name, found.coltype, found.is_localizable, found.is_nullable))
 }
 
@@ -42,8 +54,10 @@ fn columns_with(
     names: &[&str],
     types: &[&str],
 ) -> Result<Vec<ArchiveColumn>, ArchiveError>
-    ensures { Gives (λ columns. columns.items) result
+    ensures value { Gives (λ columns. columns.items) result
         (each_pair column_in (map (λ name. name.now) names.now) (map (λ type. type.now) types.now)) }
+    ensures place { Placed result
+        (columns_wrong (map (λ name. name.now) names.now) (map (λ type. type.now) types.now)) }
 {
     if names.len() != types.len() {
         let place = uneven(2, names.len(), types.len());
@@ -64,7 +78,8 @@ pub(crate) fn columns_of(
     names: &str,
     types: &str,
 ) -> Result<Vec<ArchiveColumn>, ArchiveError>
-    ensures { Gives (λ columns. columns.items) result (columns_in names.now types.now) }
+    ensures value { Gives (λ columns. columns.items) result (columns_in names.now types.now) }
+    ensures place { Placed result (columns_wrong (header_fields_in names.now) (header_fields_in types.now)) }
 {
     let names = header_fields(alloc, names)?;
     let types = header_fields(alloc, types)?;

@@ -1,7 +1,7 @@
 //! Errors with the place of a text at which they are.
 
-ghost use Rattle.std.specs.Prelude.{◌≡◌, ◌≢◌};
-ghost use Rattle.msi_text_base.specs.declared.errors.ErrorKind.TheVariants.{OutOfMemory};
+ghost use Rattle.std.specs.Prelude.{◌≡◌, ◌≢◌, Some};
+ghost use Rattle.msi_text_archive.specs.Places.{GetsPlace, Placed, no_memory, uneven as uneven_at, unless};
 ghost use Rattle.msi_text_archive.specs.Writing.{Checks};
 
 use msi_text_base::errors::{Error, ErrorKind, Reason};
@@ -19,7 +19,7 @@ pub struct Place {
 }
 
 /// Why a text isn't read, or an archive not written: the place in the text, and the rule that is broken there, for
-/// people. Contracts see the kind alone.
+/// people. Contracts see the kind and the place.
 #[derive(Debug, Drop)]
 pub struct ArchiveError {
     place: Option<Place>,
@@ -27,17 +27,17 @@ pub struct ArchiveError {
 }
 
 impl Model for ArchiveError {
-    ghost use Rattle.msi_text_base.specs.declared.errors.ErrorKind.{ErrorKind};
+    ghost use Rattle.msi_text_archive.specs.Places.{Fault};
 
-    ghost Value = { ErrorKind };
+    ghost Value = { Fault };
 
-    ghost view = { λ e. e.error };
+    ghost view = { λ e. record { kind = e.error; place = e.place } };
 }
 
 impl ArchiveError {
     /// Returns an error at a place.
     pub(crate) fn new(place: Place, kind: ErrorKind, reason: Reason) -> ArchiveError
-        ensures { result ≡ kind }
+        ensures { result ≡ record { kind = kind; place = Some place } }
     {
         ArchiveError {
             place: Some(place),
@@ -46,13 +46,15 @@ impl ArchiveError {
     }
 
     /// Returns the place in the text that was read or that would be written, or `None` where memory was refused.
-    pub fn place(&self) -> Option<Place> {
+    pub fn place(&self) -> Option<Place>
+        ensures { result ≡ self.now.place }
+    {
         self.place
     }
 
     /// Returns the kind of the error: `OutOfMemory`, or `InvalidData` of a text and `InvalidInput` of an archive.
     pub fn kind(&self) -> ErrorKind
-        ensures { result ≡ self.now }
+        ensures { result ≡ self.now.kind }
     {
         self.error.kind()
     }
@@ -76,7 +78,7 @@ impl fmt::Display for ArchiveError {
 impl std::error::Error for ArchiveError {}
 
 impl From<AllocError> for ArchiveError {
-    ghost from_gives = { λ _ e. e ≡ OutOfMemory };
+    ghost from_gives = { λ _ e. e ≡ no_memory };
 
     fn from(refused: AllocError) -> ArchiveError {
         ArchiveError {
@@ -87,7 +89,7 @@ impl From<AllocError> for ArchiveError {
 }
 
 impl<T: Drop> From<AllocFailed<T>> for ArchiveError {
-    ghost from_gives = { λ _ e. e ≡ OutOfMemory };
+    ghost from_gives = { λ _ e. e ≡ no_memory };
 
     fn from(refused: AllocFailed<T>) -> ArchiveError {
         ArchiveError {
@@ -99,7 +101,7 @@ impl<T: Drop> From<AllocFailed<T>> for ArchiveError {
 
 /// What was read of a field, with its place where that is an error; memory is refused at no place.
 pub(crate) fn at<T>(place: Place, read: Result<T, Error>) -> Result<T, ArchiveError>
-    ensures { result ≡ read }
+    ensures { GetsPlace place read result }
 {
     match read {
         Ok(value) => Ok(value),
@@ -115,7 +117,8 @@ pub(crate) fn at<T>(place: Place, read: Result<T, Error>) -> Result<T, ArchiveEr
 
 /// Refuses a part of an archive that has no field.
 pub(crate) fn check(holds: bool, place: Place, reason: Reason) -> Result<(), ArchiveError>
-    ensures { Checks result holds }
+    ensures kind { Checks result holds }
+    ensures place { Placed result (unless holds place) }
 {
     if holds {
         Ok(())
@@ -125,8 +128,10 @@ pub(crate) fn check(holds: bool, place: Place, reason: Reason) -> Result<(), Arc
 }
 
 /// The place in a line of another number of fields than there are columns: the first that is missing or too many.
+#[tactic(auto, using(crate::proofs::PlaceLemmas::uneven_is))]
 pub(crate) fn uneven(line: usize, columns: usize, fields: usize) -> Place
     requires { columns ≢ fields }
+    ensures { uneven_at line columns fields ≡ Some result }
 {
     Place {
         line,

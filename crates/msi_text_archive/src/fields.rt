@@ -4,6 +4,7 @@ ghost use Rattle.std.specs.Prelude.{◌≡◌, IfOk, map};
 ghost use Rattle.msi_text_base.specs.Results.{Gives};
 ghost use Rattle.msi_text_archive.specs.Fields.{fields, header_fields as header_fields_in, filled_in, number_in};
 ghost use Rattle.msi_text_archive.specs.Fields.{text_in, value_in};
+ghost use Rattle.msi_text_archive.specs.Places.{Gives as GivesAt, Placed, unless_read};
 ghost use Rattle.msi_text_archive.specs.Reading.{cell_in};
 
 use crate::archive::ArchiveColumn;
@@ -45,7 +46,8 @@ fn text_of(alloc: Global, field: &str) -> Result<Text, Error>
 
 /// The text that the field at a place means.
 pub(crate) fn text_at(alloc: Global, place: Place, field: &str) -> Result<Text, ArchiveError>
-    ensures { Gives (λ text. text) result (text_in field.now) }
+    ensures value { GivesAt (λ text. text) result (text_in field.now) }
+    ensures place { Placed result (unless_read (text_in field.now) place) }
 {
     at(place, text_of(alloc, field))
 }
@@ -88,7 +90,8 @@ pub(crate) fn cell_at(
     column: &ArchiveColumn,
     field: &str,
 ) -> Result<Value, ArchiveError>
-    ensures { Gives (λ value. value) result (cell_in column.now field.now) }
+    ensures value { GivesAt (λ value. value) result (cell_in column.now field.now) }
+    ensures place { Placed result (unless_read (cell_in column.now field.now) place) }
 {
     at(place, value_of(alloc, column.coltype(), field))
 }

@@ -1,11 +1,12 @@
 //! The third line of a text archive: the page, the table and its keys.
 
-ghost use Rattle.std.specs.Prelude.{◌≡◌, ◌≤◌, map};
-ghost use Rattle.msi_text_base.specs.Results.{Gives};
+ghost use Rattle.std.specs.Prelude.{◌≡◌, ◌≤◌, ◌+◌, ◌∷◌, Some, map};
 ghost use Rattle.msi_text_base.specs.declared.errors.ErrorKind.TheVariants.{InvalidData};
 ghost use Rattle.msi_text_archive.specs.Fields.{text_in};
 ghost use Rattle.msi_text_archive.specs.Lists.{each};
+ghost use Rattle.msi_text_archive.specs.Places.{Gives, Placed, at, first_wrong};
 ghost use Rattle.msi_text_archive.specs.Reading.{keys_in, keys_with as keys_with_in};
+ghost use Rattle.msi_text_archive.specs.WrongPlaces.{keys_wrong, name_wrong, table_number};
 
 use crate::errors::{ArchiveError, Place};
 use crate::fields::text_at;
@@ -32,10 +33,19 @@ impl Model for KeysLine {
     ghost view = { λ k. record { page = k.page; table = k.table; keys = k.keys } };
 }
 
+/// The number of the field with the table's name, which stands behind a page if there is one.
+pub(crate) fn table_field(page: Option<u16>) -> usize
+    ensures field { result ≡ table_number page }
+    ensures low { result ≤ 2 }
+{
+    if page.is_some() { 2 } else { 1 }
+}
+
 /// The names of the key columns that fields mean, which stand behind so many others.
 fn names_of(alloc: Global, before: usize, fields: &[&str]) -> Result<Vec<Text>, ArchiveError>
     requires { before ≤ 2 }
-    ensures { Gives (λ names. names.items) result (each text_in (map (λ field. field.now) fields.now)) }
+    ensures value { Gives (λ names. names.items) result (each text_in (map (λ field. field.now) fields.now)) }
+    ensures place { Placed result (first_wrong name_wrong (before + 1) (map (λ field. field.now) fields.now)) }
 {
     let mut names = Vec::new(alloc);
     for i in 0..fields.len() {
@@ -57,9 +67,11 @@ fn keys_with(
     table: &str,
     keys: &[&str],
 ) -> Result<KeysLine, ArchiveError>
-    ensures { Gives (λ line. line) result (keys_with_in page table.now (map (λ field. field.now) keys.now)) }
+    ensures value { Gives (λ line. line) result (keys_with_in page table.now (map (λ field. field.now) keys.now)) }
+    ensures place { Placed result
+        (first_wrong name_wrong (table_number page) (table.now ∷ map (λ field. field.now) keys.now)) }
 {
-    let field = if page.is_some() { 2 } else { 1 };
+    let field = table_field(page);
     let place = Place { line: 3, field };
     let table = text_at(alloc, place, table)?;
     let keys = names_of(alloc, field, keys)?;
@@ -72,7 +84,7 @@ fn keys_with(
 
 /// The error of a line without a table's name, which was expected in this field.
 fn without_table(field: usize) -> ArchiveError
-    ensures { result ≡ InvalidData }
+    ensures { result ≡ record { kind = InvalidData; place = Some (at 3 field) } }
 {
     let place = Place { line: 3, field };
     ArchiveError::new(place, ErrorKind::InvalidData, reasons::TABLE_MISSING)
@@ -80,7 +92,8 @@ fn without_table(field: usize) -> ArchiveError
 
 /// What the fields of the third line say.
 pub(crate) fn keys_of(alloc: Global, fields: &[&str]) -> Result<KeysLine, ArchiveError>
-    ensures { Gives (λ line. line) result (keys_in (map (λ field. field.now) fields.now)) }
+    ensures value { Gives (λ line. line) result (keys_in (map (λ field. field.now) fields.now)) }
+    ensures place { Placed result (keys_wrong (map (λ field. field.now) fields.now)) }
 {
     let Some((first, others)) = fields.split_first() else {
         return Err(without_table(1));

@@ -9,7 +9,7 @@
 //! - An `Archive` is what the file says of a table: a page, the table's name, the names of its keys, an `ArchiveColumn`
 //!   for each column, and rows of values. It is held to no column's width, to no key and to no rule on null.
 //! - In a column of type `Binary`, a value is null or the name of a file with the stream's bytes, as a text.
-//! - An `ArchiveError` has the line and the field at which something else was expected, for people.
+//! - An `ArchiveError` has the line and the field of the first place that breaks a rule.
 #![tactic(auto)]
 
 pub mod archive;

@@ -2,11 +2,12 @@
 
 ghost use Rattle.std.specs.Prelude.{◌≡◌, IfOk, Some, map};
 ghost use Rattle.std.specs.Str.Lines.{lines};
-ghost use Rattle.msi_text_base.specs.Results.{Gives};
 ghost use Rattle.msi_text_archive.specs.Archives.{ArchiveDef};
 ghost use Rattle.msi_text_archive.specs.Lists.{each, each_pair};
+ghost use Rattle.msi_text_archive.specs.Places.{Gives, Placed, first_wrong};
 ghost use Rattle.msi_text_archive.specs.Reading.{archive_in, archive_of, archive_of_lines, cell_in, row_in};
 ghost use Rattle.msi_text_archive.specs.TextArchives.{Means};
+ghost use Rattle.msi_text_archive.specs.WrongPlaces.{archive_wrong, cells_wrong, lines_wrong, row_wrong, text_wrong};
 
 use crate::archive::{Archive, ArchiveColumn};
 use crate::columns::columns_of;
@@ -33,8 +34,9 @@ fn row_with(
     columns: &[ArchiveColumn],
     fields: &[&str],
 ) -> Result<Vec<Value>, ArchiveError>
-    ensures { Gives (λ row. row.items) result
+    ensures value { Gives (λ row. row.items) result
         (each_pair cell_in columns.now (map (λ field. field.now) fields.now)) }
+    ensures place { Placed result (cells_wrong columns.now line (map (λ field. field.now) fields.now)) }
 {
     if columns.len() != fields.len() {
         let place = uneven(line, columns.len(), fields.len());
@@ -57,7 +59,8 @@ fn row_of(
     columns: &[ArchiveColumn],
     line: &str,
 ) -> Result<Items<Value>, ArchiveError>
-    ensures { Gives (λ row. row) result (row_in columns.now line.now) }
+    ensures value { Gives (λ row. row) result (row_in columns.now line.now) }
+    ensures place { Placed result (row_wrong columns.now number line.now) }
 {
     let fields = fields_of(alloc, line)?;
     let row = row_with(alloc, number, columns, fields.as_slice())?;
@@ -70,7 +73,8 @@ fn rows_of(
     columns: &[ArchiveColumn],
     lines: &[&str],
 ) -> Result<Vec<Items<Value>>, ArchiveError>
-    ensures { Gives (λ rows. rows.items) result (each (row_in columns.now) (map (λ line. line.now) lines.now)) }
+    ensures value { Gives (λ rows. rows.items) result (each (row_in columns.now) (map (λ line. line.now) lines.now)) }
+    ensures place { Placed result (first_wrong (row_wrong columns.now) 4 (map (λ line. line.now) lines.now)) }
 {
     let mut rows = Vec::with_capacity(alloc, lines.len())?;
     for i in 0..lines.len() {
@@ -89,8 +93,10 @@ fn archive_with(
     keys: &str,
     others: &[&str],
 ) -> Result<Archive, ArchiveError>
-    ensures { Gives (λ archive. archive) result
+    ensures value { Gives (λ archive. archive) result
         (archive_of names.now types.now keys.now (map (λ line. line.now) others.now)) }
+    ensures place { Placed result
+        (archive_wrong names.now types.now keys.now (map (λ line. line.now) others.now)) }
 {
     let columns = columns_of(alloc, names, types)?;
     let fields = fields_of(alloc, keys)?;
@@ -107,7 +113,8 @@ fn archive_with(
 
 /// The archive of lines.
 fn archive_of_parts(alloc: Global, lines: &[&str]) -> Result<Archive, ArchiveError>
-    ensures { Gives (λ archive. archive) result (archive_of_lines (map (λ line. line.now) lines.now)) }
+    ensures value { Gives (λ archive. archive) result (archive_of_lines (map (λ line. line.now) lines.now)) }
+    ensures place { Placed result (lines_wrong (map (λ line. line.now) lines.now)) }
 {
     match lines {
         [names, types, keys, others @ ..] => archive_with(alloc, names, types, keys, others),
@@ -123,7 +130,8 @@ fn archive_of_parts(alloc: Global, lines: &[&str]) -> Result<Archive, ArchiveErr
 
 /// The archive that a text means.
 fn archive_in_text(alloc: Global, text: &str) -> Result<Archive, ArchiveError>
-    ensures { Gives (λ archive. archive) result (archive_in text.now) }
+    ensures value { Gives (λ archive. archive) result (archive_in text.now) }
+    ensures place { Placed result (text_wrong text.now) }
 {
     let lines = lines_of(alloc, text)?;
     archive_of_parts(alloc, lines.as_slice())
@@ -135,12 +143,15 @@ fn archive_in_text(alloc: Global, text: &str) -> Result<Archive, ArchiveError>
 /// decoded before, in the page that its third line names.
 ///
 /// # Errors
-/// Fails with `InvalidData` if the text means no archive: at a field where something else was expected. Otherwise it
-/// fails with `OutOfMemory`.
+/// Fails with `InvalidData` if the text means no archive. The error has the first place that breaks a rule: of the
+/// columns in turn, the field of the name or the one of the type below it; then of the third line; then of the rows. If
+/// a line hasn't a field for each column, which for the types is looked at before the columns, the place is the first
+/// field that is missing or too many. Otherwise it fails with `OutOfMemory`, at no place.
 pub fn read(alloc: Global, text: &str) -> Result<Archive, ArchiveError>
     ensures found { IfOk result (λ archive. Means text.now archive) }
     ensures only { (archive : ArchiveDef) → Means text.now archive → Gives (λ a. a) result (Some archive) }
     ensures exact { Gives (λ archive. archive) result (archive_in text.now) }
+    ensures place { Placed result (text_wrong text.now) }
 {
     archive_in_text(alloc, text)
 }

@@ -1,17 +1,21 @@
 //! Which archives have a text.
 
-ghost use Rattle.std.specs.Prelude.{◌≡◌, ◌≤◌};
+ghost use Rattle.std.specs.Prelude.{◌≡◌, ◌≤◌, ◌+◌, length};
 ghost use Rattle.std.specs.List.{list_all};
 ghost use Rattle.msi_table_values.specs.declared.value.Value.TheVariants as value_of;
+ghost use Rattle.msi_text_archive.specs.Places.{Placed, first_wrong, first_wrong_pair};
 ghost use Rattle.msi_text_archive.specs.Writing.{Checks, can_write, has_column_fields};
 ghost use Rattle.msi_text_archive.specs.Writing.{has_field as has_field_of};
-ghost use Rattle.msi_text_archive.specs.Writing.{has_key_fields, has_row_line, has_table_field};
+ghost use Rattle.msi_text_archive.specs.Writing.{has_key_fields, has_row_fields, has_row_line, has_table_field};
 ghost use Rattle.msi_text_archive.specs.Writing.{has_value_field as has_value_field_of, has_width as has_width_of};
 ghost use Rattle.msi_text_archive.specs.Writing.{is_number_type as is_number_type_of};
+ghost use Rattle.msi_text_archive.specs.WrongPlaces.{archive_unwritable, column_unwritable, key_unwritable};
+ghost use Rattle.msi_text_archive.specs.WrongPlaces.{keys_unwritable, row_unwritable, value_unwritable};
 
 use crate::archive::{Archive, ArchiveColumn};
 use crate::characters::has_stand_in;
 use crate::errors::{ArchiveError, Place, check, uneven};
+use crate::keys::table_field;
 use crate::reasons;
 use crate::type_fields::u16_of;
 use msi_table_values::column::ColumnType;
@@ -72,7 +76,8 @@ fn is_writable_table(page: Option<u16>, table: &str) -> bool
 
 /// Refuses a column whose name or type has no field. Its fields have this number.
 fn check_column(number: usize, column: &ArchiveColumn) -> Result<(), ArchiveError>
-    ensures { Checks result (has_column_fields column.now) }
+    ensures kind { Checks result (has_column_fields column.now) }
+    ensures place { Placed result (column_unwritable number column.now) }
 {
     let first = Place {
         line: 1,
@@ -92,7 +97,8 @@ fn check_column(number: usize, column: &ArchiveColumn) -> Result<(), ArchiveErro
 
 /// Refuses columns of which one has no field.
 fn check_columns(columns: &[ArchiveColumn]) -> Result<(), ArchiveError>
-    ensures { Checks result (list_all has_column_fields columns.now) }
+    ensures kind { Checks result (list_all has_column_fields columns.now) }
+    ensures place { Placed result (first_wrong column_unwritable 1 columns.now) }
 {
     for i in 0..columns.len() {
         check_column(i + 1, &columns[i])?;
@@ -103,7 +109,8 @@ fn check_columns(columns: &[ArchiveColumn]) -> Result<(), ArchiveError>
 /// Refuses names of key columns of which one has no field. They stand behind so many others.
 fn check_names(before: usize, names: &[Text]) -> Result<(), ArchiveError>
     requires { before ≤ 2 }
-    ensures { Checks result (list_all has_field_of names.now) }
+    ensures kind { Checks result (list_all has_field_of names.now) }
+    ensures place { Placed result (first_wrong key_unwritable (before + 1) names.now) }
 {
     for i in 0..names.len() {
         let place = Place {
@@ -121,34 +128,25 @@ fn check_names(before: usize, names: &[Text]) -> Result<(), ArchiveError>
 
 /// Refuses the third line of an archive where a part of it has no field.
 fn check_keys(archive: &Archive) -> Result<(), ArchiveError>
-    ensures { Checks result (has_key_fields archive.now.head) }
+    ensures kind { Checks result (has_key_fields archive.now.head) }
+    ensures place { Placed result (keys_unwritable archive.now.head) }
 {
-    let field = if archive.page().is_some() { 2 } else { 1 };
+    let page = archive.page();
+    let field = table_field(page);
     check(
-        is_writable_table(archive.page(), archive.table()),
+        is_writable_table(page, archive.table()),
         Place { line: 3, field },
         reasons::TABLE_UNWRITABLE,
     )?;
     check_names(field, archive.keys())
 }
 
-/// Refuses a row whose line, of this number, hasn't a value with a field for each column, or where there is no column.
-pub(crate) fn check_row(
-    line: usize,
-    columns: &[ArchiveColumn],
-    row: &[Value],
-) -> Result<(), ArchiveError>
-    ensures { Checks result (has_row_line columns.now row.now) }
+/// Refuses as many values as there are columns, in a line of this number, where one has no field.
+fn check_values(line: usize, columns: &[ArchiveColumn], row: &[Value]) -> Result<(), ArchiveError>
+    requires { length columns.now ≡ length row.now }
+    ensures kind { Checks result (has_row_fields columns.now row.now) }
+    ensures place { Placed result (first_wrong_pair (value_unwritable line) 1 columns.now row.now) }
 {
-    if columns.len() != row.len() {
-        let place = uneven(line, columns.len(), row.len());
-        return Err(ArchiveError::new(place, ErrorKind::InvalidInput, reasons::VALUES_OTHER));
-    }
-    check(
-        !columns.is_empty(),
-        Place { line, field: 1 },
-        reasons::VALUES_OTHER,
-    )?;
     for i in 0..row.len() {
         let place = Place { line, field: i + 1 };
         check(
@@ -160,9 +158,31 @@ pub(crate) fn check_row(
     Ok(())
 }
 
+/// Refuses a row whose line, of this number, hasn't a value with a field for each column, or where there is no column.
+pub(crate) fn check_row(
+    line: usize,
+    columns: &[ArchiveColumn],
+    row: &[Value],
+) -> Result<(), ArchiveError>
+    ensures kind { Checks result (has_row_line columns.now row.now) }
+    ensures place { Placed result (row_unwritable columns.now line row.now) }
+{
+    if columns.len() != row.len() {
+        let place = uneven(line, columns.len(), row.len());
+        return Err(ArchiveError::new(place, ErrorKind::InvalidInput, reasons::VALUES_OTHER));
+    }
+    check(
+        !columns.is_empty(),
+        Place { line, field: 1 },
+        reasons::VALUES_OTHER,
+    )?;
+    check_values(line, columns, row)
+}
+
 /// Refuses rows of which one has no line.
 fn check_rows(columns: &[ArchiveColumn], rows: &[Items<Value>]) -> Result<(), ArchiveError>
-    ensures { Checks result (list_all (has_row_line columns.now) rows.now) }
+    ensures kind { Checks result (list_all (has_row_line columns.now) rows.now) }
+    ensures place { Placed result (first_wrong (row_unwritable columns.now) 4 rows.now) }
 {
     for i in 0..rows.len() {
         check_row(i + 4, columns, rows[i].as_slice())?;
@@ -172,7 +192,8 @@ fn check_rows(columns: &[ArchiveColumn], rows: &[Items<Value>]) -> Result<(), Ar
 
 /// Refuses an archive that has no text, at a place that has no field in the text that would be written.
 pub(crate) fn check_archive(archive: &Archive) -> Result<(), ArchiveError>
-    ensures { Checks result (can_write archive.now) }
+    ensures kind { Checks result (can_write archive.now) }
+    ensures place { Placed result (archive_unwritable archive.now) }
 {
     check_columns(archive.columns())?;
     check_keys(archive)?;

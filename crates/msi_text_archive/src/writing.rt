@@ -3,12 +3,14 @@
 ghost use Rattle.std.specs.Prelude.{◌≡◌, ◌++◌, ◌∷◌, [], IfOk, IfErr, OnOk, if◌then◌else◌, map, string_bytes, true};
 ghost use Rattle.std.specs.List.{flat_map};
 ghost use Rattle.msi_text_base.specs.declared.errors.ErrorKind.TheVariants.{InvalidInput, OutOfMemory};
+ghost use Rattle.msi_text_archive.specs.Places.{IsAt};
 ghost use Rattle.msi_text_archive.specs.TextArchives.{Means};
 ghost use Rattle.msi_text_archive.specs.Writing.{archive_text, can_write, key_fields, line_of, name_fields};
 ghost use Rattle.msi_text_archive.specs.Writing.{has_row_line, page_front, row_line, type_fields};
 ghost use Rattle.msi_text_archive.specs.Writing.{type_field as type_field_of};
 ghost use Rattle.msi_text_archive.specs.Writing.{type_letter as type_letter_of, type_width as type_width_of};
 ghost use Rattle.msi_text_archive.specs.Writing.{value_field as value_field_of};
+ghost use Rattle.msi_text_archive.specs.WrongPlaces.{archive_unwritable, row_unwritable};
 
 use crate::archive::{Archive, ArchiveColumn};
 use crate::characters::push_swapped;
@@ -164,11 +166,13 @@ fn text_of_archive(alloc: Global, archive: &Archive) -> Result<String, AllocErro
 /// Fails with `InvalidInput` if no text means the archive: a name or a text is empty or has one of the characters that
 /// stand for control characters; a value isn't of its column's type, or there isn't one for each column; a width is
 /// 2^16 or more, or a column is localizable that isn't of texts; or the table's name would be read as a code page. The
-/// error has the place in the text at which the field would stand. Otherwise it fails with `OutOfMemory`.
+/// error has the first place in the text whose field can't be written: of the columns in turn, then of the third line,
+/// then of the rows. Otherwise it fails with `OutOfMemory`, at no place.
 pub fn write(alloc: Global, archive: &Archive) -> Result<String, ArchiveError>
     ensures ok { IfOk result (λ text. string_bytes text ≡ archive_text archive.now) }
     ensures reads_back { IfOk result (λ text. Means (string_bytes text) archive.now) }
-    ensures kind { IfErr result (λ kind. kind ≡ (if can_write archive.now then OutOfMemory else InvalidInput)) }
+    ensures kind { IfErr result (λ e. e.kind ≡ (if can_write archive.now then OutOfMemory else InvalidInput)) }
+    ensures place { IfErr result (λ e. IsAt e.place e.kind (archive_unwritable archive.now)) }
 {
     check_archive(archive)?;
     let text = text_of_archive(alloc, archive)?;
@@ -182,8 +186,8 @@ pub fn write(alloc: Global, archive: &Archive) -> Result<String, ArchiveError>
 /// # Errors
 /// Fails with `InvalidInput` if no line means the row, and then the text stays as it was: a text is empty or has one of
 /// the characters that stand for control characters; a value isn't of its column's type, or there isn't one for each
-/// column; or there is no column. Otherwise it fails with `OutOfMemory`, and a part of the line may stand behind the
-/// text.
+/// column; or there is no column. The error has the first field that can't be written. Otherwise it fails with
+/// `OutOfMemory`, at no place, and a part of the line may stand behind the text.
 pub fn write_row(
     text: &mut String,
     line: usize,
@@ -192,9 +196,10 @@ pub fn write_row(
 ) -> Result<(), ArchiveError>
     ensures ok { OnOk result (string_bytes text.new ≡ string_bytes text.old ++ row_line row.now) }
     ensures only { OnOk result (has_row_line columns.now row.now ≡ true) }
-    ensures kind { IfErr result (λ kind.
-        kind ≡ (if has_row_line columns.now row.now then OutOfMemory else InvalidInput)) }
-    ensures same { IfErr result (λ kind. kind ≡ InvalidInput → string_bytes text.new ≡ string_bytes text.old) }
+    ensures kind { IfErr result (λ e.
+        e.kind ≡ (if has_row_line columns.now row.now then OutOfMemory else InvalidInput)) }
+    ensures place { IfErr result (λ e. IsAt e.place e.kind (row_unwritable columns.now line row.now)) }
+    ensures same { IfErr result (λ e. e.kind ≡ InvalidInput → string_bytes text.new ≡ string_bytes text.old) }
 {
     check_row(line, columns, row)?;
     push_row(text, row)?;
