@@ -1,5 +1,6 @@
 -- Where a text, or the text that would be written of an archive, breaks a rule first.
-use Rattle.std.specs.Prelude.{ℕ, ◌+◌, ◌==◌, not, List, [], ◌∷◌, length, Option, Some, None, option_and_then, is_some, if◌then◌else◌}
+use Rattle.std.specs.Prelude.{ℕ, ◌+◌, ◌==◌, not, List, [], ◌∷◌, length, Option, Some, None, option_and_then, is_some}
+use Rattle.std.specs.Prelude.{if◌then◌else◌}
 use Rattle.std.specs.Option.{option_or}
 use Rattle.std.specs.Str.Lines.{lines}
 use Rattle.msi_text_categories.specs.Numerals.{u16_in}
@@ -20,7 +21,8 @@ column_wrong n name type = option_or (unless_read (text_in name) (at 1 n)) (unle
 
 -- there is a type for each name; then column by column
 abbrev pub columns_wrong : List (List ℕ) → List (List ℕ) → Option Place
-columns_wrong names types = option_or (uneven 2 (length names) (length types)) (first_wrong_pair column_wrong 1 names types)
+columns_wrong names types =
+    option_or (uneven 2 (length names) (length types)) (first_wrong_pair column_wrong 1 names types)
 
 -- a name in the third line
 abbrev pub name_wrong : ℕ → List ℕ → Option Place
@@ -64,7 +66,8 @@ text_wrong text = lines_wrong (lines text)
 -- ---- of an archive
 
 abbrev pub column_unwritable : ℕ → ArchiveColumnDef → Option Place
-column_unwritable n column = option_or (unless (has_field column.name) (at 1 n)) (unless (has_type_field column.field_type) (at 2 n))
+column_unwritable n column =
+    option_or (unless (has_field column.name) (at 1 n)) (unless (has_type_field column.field_type) (at 2 n))
 
 abbrev pub key_unwritable : ℕ → List ℕ → Option Place
 key_unwritable n key = unless (has_field key) (at 3 n)
@@ -83,7 +86,8 @@ value_unwritable line n column value = unless (has_value_field column.field_type
 -- a row has a value for each column, and there is a column
 abbrev pub row_unwritable : List ArchiveColumnDef → ℕ → List Value → Option Place
 row_unwritable columns line row = option_or (uneven line (length columns) (length row))
-    (option_or (unless (not (length columns == 0)) (at line 1)) (first_wrong_pair (value_unwritable line) 1 columns row))
+    (option_or (unless (not (length columns == 0)) (at line 1))
+    (first_wrong_pair (value_unwritable line) 1 columns row))
 
 abbrev pub archive_unwritable : ArchiveDef → Option Place
 archive_unwritable archive = option_or (first_wrong column_unwritable 1 archive.columns)
