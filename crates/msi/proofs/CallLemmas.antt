@@ -4,13 +4,13 @@ use Rattle.std.specs.Prelude.{IsTrue}
 use Rattle.std.proofs.lemmas.Bool.{true≢false}
 use Rattle.msi_text_base.specs.declared.errors.ErrorKind.{ErrorKind}
 use Rattle.msi_text_base.specs.declared.errors.ErrorKind.TheVariants.{OutOfMemory}
-use Rattle.msi_text_base.specs.Refusals.{Refusals, IsRefusal, first_refusal, unless, unless_refused}
+use Rattle.msi_text_base.specs.Refusals.{AnswersWith, Refusals, IsRefusal, first_refusal, unless, unless_refused}
 use Rattle.msi_database_changes.specs.Changes.{Change}
 use Rattle.msi_database_changes.proofs.RefusedLemmas.{unless_err}
 use Rattle.msi.specs.State.{State}
 use Rattle.msi.specs.Calls.{Call, Answer}
 use Rattle.msi.specs.Calls as calls
-use Rattle.msi.specs.Steps.{Step, outcome, after_change, changed, leaving, leaving_or, answer_of, is_lending, may_want_memory, Lends, LendsOrRefuses}
+use Rattle.msi.specs.Steps.{Step, outcome, after_change, changed, leaving, leaving_or, answer_of, is_lending, may_want_memory, refused_early, Lends, LendsOrRefuses}
 use Rattle.msi.specs.Runs.{Session, SessionStep, SameDevice}
 use Rattle.msi.proofs.LeavingLemmas.{is_flush}
 use Rattle.msi.proofs.FlushStepLemmas.{when_false, when_true}
@@ -20,9 +20,10 @@ module _ (n : ℕ) (s : State) (call : Call) where
   pub step_is : (answer : Result Answer ErrorKind) (new : State) → is_lending call ≡ false → outcome n s call ≡ (answer, new) → Step n s call answer new
   step_is answer new plain is = inl (when_false (is_lending call) _ (outcome n s call ≡ (answer, new)) plain is)
 
-  -- one that was refused it
-  pub step_unfed : IsTrue (may_want_memory s call) → (new : State) → new ≡ s → Step n s call (Err OutOfMemory) new
-  step_unfed wants new same = inr (inl (wants, refl, same))
+  -- one that was refused it, where no early refusal holds
+  pub step_unfed : IsTrue (may_want_memory s call) → (new : State) → (kind : ErrorKind) → kind ≡ OutOfMemory → new ≡ s
+      → AnswersWith {A = Answer} (refused_early s call) (Err kind) → Step n s call (Err kind) new
+  step_unfed wants new kind memory same early = inr (inl (wants, ap Err memory, same, early))
 
   -- WHAT CHANGES TABLES
 
@@ -30,9 +31,9 @@ module _ (n : ℕ) (s : State) (call : Call) where
     pub change_done : (c : Change) → r ≡ Ok c → new ≡ after_change s c → Step n s call (Ok calls.done) new
     change_done c e after = step_is (Ok calls.done) new plain (is ∙ ap (changed s) e ∙ ap (λ (t : State). (Ok calls.done, t)) (sym after))
 
-    pub change_refused : (kind : ErrorKind) → IsRefusal r kind → new ≡ s → Step n s call (Err kind) new
-    change_refused kind (inl memory) same = subst (λ (k : ErrorKind). Step n s call (Err k) new) (sym memory) (step_unfed wants new same)
-    change_refused kind (inr e) same = step_is (Err kind) new plain (is ∙ ap (changed s) e ∙ ap (λ (t : State). (Err kind, t)) (sym same))
+    pub change_refused : (kind : ErrorKind) → IsRefusal r kind → new ≡ s → AnswersWith {A = Answer} (refused_early s call) (Err kind) → Step n s call (Err kind) new
+    change_refused kind (inl memory) same early = step_unfed wants new kind memory same early
+    change_refused kind (inr e) same early = step_is (Err kind) new plain (is ∙ ap (changed s) e ∙ ap (λ (t : State). (Err kind, t)) (sym same))
 
   -- WHAT IS REFUSED, OR LEAVES A STATE
 
@@ -55,9 +56,9 @@ module _ (n : ℕ) (s : State) (call : Call) where
     pub answered : (x : A) → r ≡ Ok x → Step n s call (Ok (f x)) s
     answered x e = step_is (Ok (f x)) s plain (is ∙ ap (λ (r : Result A ErrorKind). (answer_of f r, s)) e)
 
-    pub unanswered : (kind : ErrorKind) → IsRefusal r kind → Step n s call (Err kind) s
-    unanswered kind (inl memory) = subst (λ (k : ErrorKind). Step n s call (Err k) s) (sym memory) (step_unfed wants s refl)
-    unanswered kind (inr e) = step_is (Err kind) s plain (is ∙ ap (λ (r : Result A ErrorKind). (answer_of f r, s)) e)
+    pub unanswered : (kind : ErrorKind) → IsRefusal r kind → AnswersWith {A = Answer} (refused_early s call) (Err kind) → Step n s call (Err kind) s
+    unanswered kind (inl memory) early = step_unfed wants s kind memory refl early
+    unanswered kind (inr e) early = step_is (Err kind) s plain (is ∙ ap (λ (r : Result A ErrorKind). (answer_of f r, s)) e)
 
   -- WHAT LENDS
 

@@ -113,7 +113,7 @@ module _ (view old : Whole) (is : view ≡ old) (f : Database → Result Change 
 
 -- WHAT IS REFUSED BEFORE MEMORY IS TAKEN
 
-behind_storages : {A : Type 0} (b : Bool) (rs : Refusals) (r : Result A ErrorKind) → ◌≡◌ {A = Result (Unit {0}) ErrorKind} (Ok tt) (unless_refused ((b, InvalidInput) ∷ []) tt)
+pub behind_storages : {A : Type 0} (b : Bool) (rs : Refusals) (r : Result A ErrorKind) → ◌≡◌ {A = Result (Unit {0}) ErrorKind} (Ok tt) (unless_refused ((b, InvalidInput) ∷ []) tt)
     → AnswersFirst rs r → AnswersFirst ((b, InvalidInput) ∷ [] ++ rs) r
 behind_storages true rs r passes h = absurd cc
 behind_storages false rs r passes h = h

@@ -40,7 +40,7 @@ refused_kept n s t kind (inr (inr fault)) = fault.2
 
 -- THE SESSION
 
-flush_ends : (x y : Session) (answer : Result Answer ErrorKind) → IsSession x → IsSession y → SessionStep x calls.flush answer y → FlushEnds x answer y
+pub flush_ends : (x y : Session) (answer : Result Answer ErrorKind) → IsSession x → IsSession y → SessionStep x calls.flush answer y → FlushEnds x answer y
 flush_ends x y (Err kind) h k step = refused_kept (length x.held) x.state y.state kind step.0
 flush_ends x y (Ok answer) h k step =
     let clean = flushed_clean x y answer step in

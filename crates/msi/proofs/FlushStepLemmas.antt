@@ -4,7 +4,7 @@ use Rattle.std.specs.Prelude.{◌&&◌, IfSome, MatchBool, OnOk, if◌then◌els
 use Rattle.std.proofs.lemmas.Bool.{true≢false}
 use Rattle.msi_text_base.specs.declared.errors.ErrorKind.{ErrorKind}
 use Rattle.msi_text_base.specs.declared.errors.ErrorKind.TheVariants.{AlreadyExists, InvalidData, InvalidInput, Io, NotFound, OutOfMemory}
-use Rattle.msi_text_base.specs.Refusals.{IsRefusal, or_refused, unless_refused, ◌>>=◌}
+use Rattle.msi_text_base.specs.Refusals.{AnswersFirst, AnswersWith, IsRefusal, first_refusal, or_refused, unless_refused, ◌>>=◌}
 use Rattle.msi_container_device.specs.Held.{Held, bytes_told}
 use Rattle.msi_container_format.specs.declared.contents.Contents.{Contents}
 use Rattle.msi_container_write.specs.Layout.{layout, refuses}
@@ -14,12 +14,13 @@ use Rattle.msi_database.specs.Others.{with_streams}
 use Rattle.msi.specs.State.{State}
 use Rattle.msi.specs.Calls.{Answer}
 use Rattle.msi.specs.Calls as calls
-use Rattle.msi.specs.Steps.{Step, as_written, contents_of, flush_outcome, flushed, image_of, image_refusals, streams_written, written_for}
+use Rattle.msi.specs.Steps.{Step, as_written, contents_of, flush_outcome, flushed, image_of, image_refusals, streams_written, text_refusals, written_for}
 use Rattle.msi.specs.Runs.{FlushLeaves, SessionStep, SameDevice, result_or}
 use Rattle.msi.specs.Whole.{Whole}
 use Rattle.msi_streams.specs.Renewing.{with_renewed}
 use Rattle.msi.specs.Flushing.{FlushStep, FlushTells, LeavesBytes, LeavesCleared, Overwrites, Told, Writes, begun_over, flush_answer, left_by, over_device, session_of, told, told_by}
 use Rattle.msi.proofs.OverwritingLemmas.{told_len, told_len_is}
+use Rattle.msi.proofs.TextRefusalLemmas.{texts_of_flush, written_first}
 
 -- WHAT IS WRITTEN
 
@@ -65,8 +66,8 @@ module _ (s : State) (streams : Streams) (n : ℕ) (written : streams_written s 
     step_is old new before after (Ok done) k is w =
         inl (outcome_is false w.0 ∙ ap (λ (all : Streams). (Ok calls.done, as_written s all)) (sym (is refl)))
     step_is old new before after (Err InvalidInput) k is w = inl (outcome_is true w.0)
-    step_is old new before after (Err OutOfMemory) k is w = inr (inl (unwritten, refl, refl))
-    step_is old new before after (Err Io) k is w = inr (inr (unwritten, refl, refl))
+    step_is old new before after (Err OutOfMemory) k is w = inr (inl (unwritten, refl, refl, written_first s streams (Err OutOfMemory) written))
+    step_is old new before after (Err Io) k is w = inr (inr (unwritten, refl, refl, written_first s streams (Err Io) written))
     step_is old new before after (Err AlreadyExists) k is w = absurd w
     step_is old new before after (Err InvalidData) k is w = absurd w
     step_is old new before after (Err NotFound) k is w = absurd w
@@ -106,6 +107,11 @@ flush_written s streams k old new before after pending last r unwritten written 
   device = when_true s.is_unwritten _ _ unwritten (tells s streams w.earlier_len written unwritten old new before after pending last r k is w.writes);
 }
 
+-- what a refusal answers, whatever else the call may return
+pub answers_as : (A B : Type 0) (o : Option ErrorKind) (kind : ErrorKind) → AnswersWith {A = A} o (Err kind) → AnswersWith {A = B} o (Err kind)
+answers_as A B None kind early = tt
+answers_as A B (Some first) kind early = let e : kind ≡ first = cc early in ap Err e
+
 -- one that is refused before it calls the device
 pub written_refused : (s : State) (n : ℕ) (kind : ErrorKind) → or_refused InvalidInput (streams_written s) ≡ Err kind → written_for s n ≡ Err kind
 written_refused s n kind e = ap (λ (r : Result Streams ErrorKind). r >>= λ all. unless_refused (image_refusals s n all) all) e
@@ -119,27 +125,30 @@ refused_tells : (n : ℕ) (old new : Whole) (kind : ErrorKind) → LeavesCleared
 refused_tells n old new kind left (inl memory) = subst (λ k. FlushTells n old (Err k) new) (sym memory) left
 refused_tells n old new kind left (inr e) = subst (λ k. FlushTells n old (Err k) new) (sym (only_input (streams_written old.state) kind e)) left
 
-refused_step : (n : ℕ) (s : State) (kind : ErrorKind) → s.is_unwritten ≡ true → IsRefusal (or_refused InvalidInput (streams_written s)) kind → Step n s calls.flush (Err kind) s
-refused_step n s kind unwritten (inl memory) = inr (inl (unwritten, ap Err memory, refl))
-refused_step n s kind unwritten (inr e) =
+refused_step : (n : ℕ) (s : State) (kind : ErrorKind) → s.is_unwritten ≡ true → IsRefusal (or_refused InvalidInput (streams_written s)) kind
+    → AnswersFirst {A = Answer} (text_refusals s) (Err kind) → Step n s calls.flush (Err kind) s
+refused_step n s kind unwritten (inl memory) early = inr (inl (unwritten, ap Err memory, refl, texts_of_flush s (Err kind) early))
+refused_step n s kind unwritten (inr e) early =
     inl (ap (λ u. if u then flushed s (written_for s n) else (Ok calls.done, s)) unwritten ∙ ap (flushed s) (written_refused s n kind e))
 
 flush_refused : (old new : Whole) (kind : ErrorKind) → old.state.is_unwritten ≡ true → new.state ≡ old.state → LeavesCleared (told_by old) (told_by new)
-    → IsRefusal (or_refused InvalidInput (streams_written old.state)) kind → FlushStep old (Err kind) new
-flush_refused old new kind unwritten same left refusal =
+    → IsRefusal (or_refused InvalidInput (streams_written old.state)) kind → AnswersFirst {A = Answer} (text_refusals old.state) (Err kind) → FlushStep old (Err kind) new
+flush_refused old new kind unwritten same left refusal early =
     let n : ℕ = told_len (bytes_told old.held) in record {
       earlier_len = n;
       are_so_many = told_len_is (told_by old);
-      step = subst (λ (t : State). Step n old.state calls.flush (Err kind) t) (sym same) (refused_step n old.state kind unwritten refusal);
+      step = subst (λ (t : State). Step n old.state calls.flush (Err kind) t) (sym same) (refused_step n old.state kind unwritten refusal early);
       device = when_true old.state.is_unwritten _ _ unwritten (refused_tells n old new kind left refusal);
     }
 
 pub flush_refused_as : (s : State) (held left : Option Held) (failed after pending last : Bool) (k : Kept) (r : Result (Unit {0}) ErrorKind) (kind : ErrorKind) → r ≡ Err kind
     → s.is_unwritten ≡ true → left ≡ held → after ≡ false → IsRefusal (or_refused InvalidInput (streams_written s)) kind
+    → AnswersFirst (text_refusals s) r
     → FlushStep (over_device s held failed pending) (flush_answer r) (over_device (left_by r s k) left after last)
-flush_refused_as s held left failed after pending last k r kind is unwritten same cleared refusal =
+flush_refused_as s held left failed after pending last k r kind is unwritten same cleared refusal early =
     subst (λ (a : Result (Unit {0}) ErrorKind). FlushStep (over_device s held failed pending) (flush_answer a) (over_device (left_by a s k) left after last)) (sym is)
-    (flush_refused (over_device s held failed pending) (over_device s left after last) kind unwritten refl (ap bytes_told same, cleared) refusal)
+    (flush_refused (over_device s held failed pending) (over_device s left after last) kind unwritten refl (ap bytes_told same, cleared) refusal
+    (answers_as (Unit {0}) Answer (first_refusal (text_refusals s)) kind (subst (λ (a : Result (Unit {0}) ErrorKind). AnswersFirst (text_refusals s) a) is early)))
 
 -- the streams that are left where a flush is done
 pub left_streams : (r : Result (Unit {0}) ErrorKind) (new old : Kept) (items renewed : Streams) → OnOk r (new ≡ with_streams (with_renewed items) old) → items ≡ renewed

@@ -32,5 +32,5 @@ passing_means = reading.passing_means
 
 pub steps_are_fixed : StepsAreFixed
 steps_are_fixed n old call e answer new (inl is) = inl (MatchBool-at_false (LendsOrRefuses old call (outcome n old call) answer new) (outcome n old call ≡ (answer, new)) e is)
-steps_are_fixed n old call e answer new (inr (inl memory)) = inr (inl memory.1, memory.2)
-steps_are_fixed n old call e answer new (inr (inr fault)) = inr (inr fault.1, fault.2)
+steps_are_fixed n old call e answer new (inr (inl memory)) = inr (inl memory.1, memory.2, memory.3)
+steps_are_fixed n old call e answer new (inr (inr fault)) = inr (inr fault.1, fault.2, fault.3)

@@ -36,9 +36,11 @@ pub mod CallLemmas
 pub mod RenewedLemmas
 pub mod OverwritingLemmas
 pub mod FlushAmongLemmas
+pub mod TextRefusalLemmas
 pub mod FlushStepLemmas
 pub mod OpenStepLemmas
 pub mod FaultLemmas
 pub mod CreatingLemmas
 pub mod ImagingLemmas
 pub mod WritableLemmas
+pub mod OpenedAgainLemmas

@@ -3,6 +3,7 @@ use Rattle.std.specs.Prelude.{◌≡◌, ℕ, ◌<◌, ◌^◌, ◌⊎◌, true,
 use Rattle.std.specs.List.{AllByRecursion}
 use Rattle.msi_text_base.specs.declared.errors.ErrorKind.{ErrorKind}
 use Rattle.msi_text_base.specs.declared.errors.ErrorKind.TheVariants.{Io, OutOfMemory}
+use Rattle.msi_text_base.specs.Refusals.{AnswersWith}
 use Rattle.msi_container_format.specs.declared.contents.Contents.{Contents}
 use Rattle.msi_database_system.specs.Keys.{is_stream_name, stream_key}
 use Rattle.msi_database_changes.specs.Database.{Database, CountsAreExact, is_sound}
@@ -13,8 +14,8 @@ use Rattle.msi.specs.State.{Parts, State, parts_of}
 use Rattle.msi.specs.Meaning.{ContentsMean, IsPackage, Means, OpenStep, OpensTo, Passes}
 use Rattle.msi.specs.Calls.{Call, Answer}
 use Rattle.msi.specs.Calls as calls
-use Rattle.msi.specs.Steps.{Step, outcome, is_lending, image_of, streams_written, as_written, with_streams}
-use Rattle.msi.specs.Steps.{without_signature}
+use Rattle.msi.specs.Steps.{Step, outcome, is_lending, image_of, refused_early, streams_written, as_written}
+use Rattle.msi.specs.Steps.{with_streams, without_signature}
 use Rattle.msi.specs.Runs.{Session, SessionStep, Run, FitsCall, TextsAreWritable, HoldsPackage, IsSession, IsReplay}
 use Rattle.msi.specs.Runs.{HasExactCounts, IsReplayOver, created, created_over, opened}
 
@@ -68,11 +69,13 @@ abbrev pub StepsKeepPackages : Type 0
 StepsKeepPackages = (earlier_len : ℕ) (old new : State) (call : Call) (answer : Result Answer ErrorKind)
     → IsPackage old → FitsCall call → Step earlier_len old call answer new → KeepsPackage old new
 
--- answer and state are fixed by the state and the call, want of memory and faults of the device apart
+-- answer and state are fixed by the state and the call, want of memory and faults of the device apart, and these don't
+-- come in place of an early refusal
 abbrev pub StepsAreFixed : Type 0
 StepsAreFixed = (earlier_len : ℕ) (old : State) (call : Call) → is_lending call ≡ false
     → (answer : Result Answer ErrorKind) (new : State) → Step earlier_len old call answer new
-    → (outcome earlier_len old call ≡ (answer, new)) ⊎ ((answer ≡ Err OutOfMemory) ⊎ (answer ≡ Err Io)) × (new ≡ old)
+    → (outcome earlier_len old call ≡ (answer, new))
+    ⊎ ((answer ≡ Err OutOfMemory) ⊎ (answer ≡ Err Io)) × (new ≡ old) × AnswersWith (refused_early old call) answer
 
 -- the parts when the root's other streams become these
 abbrev pub with_others : Streams → Parts → Parts
@@ -176,3 +179,19 @@ ReplaysOverMean = (bytes : List ℕ) (start : State) (sent : List Call) (answers
     (last left : Session) → AreBytes bytes → OpensTo bytes (Ok start) → AllByRecursion FitsCall sent
     → Run (opened bytes start) sent answers last → SessionStep last calls.flush (Ok calls.done) left
     → IsReplayOver bytes sent answers left.held
+
+-- WHAT WAS WRITTEN IS OPENED AGAIN
+
+-- the bytes mean what the accepted calls made, opening them gives the package that was left, and is never refused
+pub record IsOpenedAgain (last left : Session) : Type 0 where
+  pub means : Means left.held (parts_of last.state)
+  pub opens : OpensTo left.held (Ok left.state)
+  pub unrefused : (kind : ErrorKind) → OpensTo left.held (Err kind) → ⊥
+
+-- a package from `create`, over a device of any length, after any calls and a flush that is done, if each of its texts
+-- can be written in its page
+abbrev pub CreatedAreOpened : Type 0
+CreatedAreOpened = (kind : PackageType) (earlier_len : ℕ) (start last left : Session) (sent : List Call)
+    (answers : List (Result Answer ErrorKind)) → created_over kind earlier_len ≡ Ok start
+    → AllByRecursion FitsCall sent → Run start sent answers last
+    → SessionStep last calls.flush (Ok calls.done) left → TextsAreWritable left.state → IsOpenedAgain last left

@@ -9,24 +9,27 @@ use Rattle.msi_text_base.specs.declared.errors.ErrorKind.TheVariants.{InvalidInp
 use Rattle.msi_summary_properties.specs.Properties.{Properties}
 use Rattle.msi_container_format.specs.declared.contents.Contents.{Contents}
 use Rattle.msi_container_write.specs.Layout.{layout, refuses}
-use Rattle.msi_text_base.specs.Refusals.{Refusals, first_refusal, unless_refused, or_refused, ◌>>=◌}
-use Rattle.msi_query.specs.Selection.{relation_of}
+use Rattle.msi_text_base.specs.Refusals.{AnswersWith, Refusals, first_refusal, unless_refused, or_refused, ◌>>=◌}
+use Rattle.msi_query.specs.Rows.{columns_read}
+use Rattle.msi_query.specs.Selection.{early_refusal, relation_of}
 use Rattle.msi_database_system.specs.Keys.{is_stream_name, stream_key, signature_key, signature_ex_key}
-use Rattle.msi_database_changes.specs.Database.{Database, has_table, values_of}
+use Rattle.msi_database_changes.specs.Database.{Database, has_table, table_at, values_of}
 use Rattle.msi_database_changes.specs.Changes.{Change, sound_refusal}
-use Rattle.msi_database_changes.specs.Insert.{insert_rows}
-use Rattle.msi_database_changes.specs.Update.{update_rows}
-use Rattle.msi_database_changes.specs.Delete.{delete_rows}
+use Rattle.msi_database_changes.specs.Insert.{early_insert_refusals, insert_rows}
+use Rattle.msi_database_changes.specs.Update.{early_update_refusals, update_rows}
+use Rattle.msi_database_changes.specs.Delete.{delete_rows, early_delete_refusals}
 use Rattle.msi_database_changes.specs.Create.{create_table}
-use Rattle.msi_database_changes.specs.Drop.{drop_table}
-use Rattle.msi_database_changes.specs.Recounting.{counts_changed, recount}
+use Rattle.msi_database_changes.specs.Drop.{drop_table, early_drop_refusals}
+use Rattle.msi_database_changes.specs.Recounting.{counts_changed, early_recount_refusals, recount}
 use Rattle.msi_database_storage.specs.Streams.{Streams, stream_at, has_stream_at, with_stream, without_stream}
 use Rattle.msi_database_storage.specs.Kept as databases
+use Rattle.msi_database.specs.Creating.{create_refusals}
 use Rattle.msi_database.specs.Listed.{table_def_at, tables_listed}
 use Rattle.msi_database.specs.Listed as listed
 use Rattle.msi_database.specs.Recounting as recounts
 use Rattle.msi_streams.specs.Listing.{is_listed, text_of_key}
 use Rattle.msi_streams.specs.Renewing.{pool_over, summary_over}
+use Rattle.msi_streams.specs.Renewing as renewals
 use Rattle.msi.specs.Kinds.{clsid_of}
 use Rattle.msi.specs.State.{Parts, State, parts_of}
 use Rattle.msi.specs.Calls.{Call, Answer}
@@ -97,6 +100,13 @@ with_pool s streams = pool_over s.is_pool_changed s.kept.database.pool streams
 
 abbrev pub streams_written : State → Option Streams
 streams_written s = option_and_then (with_pool s) (with_summary s s.kept.streams)
+
+-- why nothing is written: a page can't encode a text
+abbrev pub text_refusals : State → Refusals
+text_refusals s = renewals.text_refusals s.is_summary_lent s.summary s.is_pool_changed s.kept.database.pool
+
+abbrev pub flush_refusals : State → Refusals
+flush_refusals s = if s.is_unwritten then text_refusals s else []
 
 abbrev pub contents_of : State → Streams → Contents
 contents_of s streams = record {
@@ -276,10 +286,10 @@ may_want_memory s (calls.update_rows q) = true
 may_want_memory s (calls.delete_rows q) = true
 may_want_memory s (calls.create_table name columns) = true
 may_want_memory s (calls.drop_table name) = true
-may_want_memory s (calls.set_database_codepage page) = true
+may_want_memory s (calls.set_database_codepage page) = false
 may_want_memory s (calls.write_stream name c) = true
-may_want_memory s (calls.read_stream name c) = true
-may_want_memory s (calls.remove_stream name) = true
+may_want_memory s (calls.read_stream name c) = false
+may_want_memory s (calls.remove_stream name) = false
 may_want_memory s (calls.image n) = true
 may_want_memory s calls.recount = true
 may_want_memory s calls.flush = s.is_unwritten
@@ -323,11 +333,47 @@ may_meet_fault s (calls.summary_info_mut summary_calls) = false
 may_meet_fault s (calls.write_stream name stream_calls) = false
 may_meet_fault s (calls.read_stream name stream_calls) = false
 
+-- why a call is refused before it asks for memory or calls a device
+abbrev pub refused_early : State → Call → Option ErrorKind
+refused_early s (calls.select_rows query) = early_refusal (columns_read (λ q. table_at q s.kept.database)) query
+refused_early s (calls.insert_rows query) =
+    first_refusal (storage_refusal (parts_of s) ++ early_insert_refusals s.kept.database query)
+refused_early s (calls.update_rows query) =
+    first_refusal (storage_refusal (parts_of s) ++ early_update_refusals s.kept.database query)
+refused_early s (calls.delete_rows query) =
+    first_refusal (storage_refusal (parts_of s) ++ early_delete_refusals s.kept.database query)
+refused_early s (calls.create_table name columns) =
+    first_refusal (storage_refusal (parts_of s) ++ create_refusals s.kept.database name columns)
+refused_early s (calls.drop_table name) =
+    first_refusal (storage_refusal (parts_of s) ++ early_drop_refusals s.kept.database name)
+refused_early s calls.recount = first_refusal (storage_refusal (parts_of s) ++ early_recount_refusals s.kept.database)
+refused_early s (calls.write_stream name stream_calls) = first_refusal (name_refusals (parts_of s) name)
+refused_early s (calls.image n) = first_refusal (storage_refusal (parts_of s) ++ text_refusals s)
+refused_early s calls.flush = first_refusal (flush_refusals s)
+-- these want no memory, and call no device
+refused_early s calls.package_type = None
+refused_early s calls.database_codepage = None
+refused_early s (calls.has_table name) = None
+refused_early s (calls.get_table name) = None
+refused_early s calls.tables = None
+refused_early s (calls.has_stream name) = None
+refused_early s calls.streams = None
+refused_early s calls.has_digital_signature = None
+refused_early s (calls.set_database_codepage page) = None
+refused_early s (calls.remove_stream name) = None
+refused_early s calls.remove_digital_signature = None
+refused_early s calls.device_failed = None
+refused_early s (calls.summary_info questions) = None
+refused_early s (calls.summary_info_mut summary_calls) = None
+refused_early s (calls.read_stream name stream_calls) = None
+
 -- One call: the first refusal that holds, and nothing changes; or its effect. Want of memory and a fault of the device
--- change nothing
+-- change nothing, and neither comes in place of an early refusal
 abbrev pub Step : ℕ → State → Call → Result Answer ErrorKind → State → Type 0
 Step earlier_len old call answer new =
     MatchBool (is_lending call) (LendsOrRefuses old call (outcome earlier_len old call) answer new)
     (outcome earlier_len old call ≡ (answer, new))
     ⊎ IsTrue (may_want_memory old call) × (answer ≡ Err OutOfMemory) × (new ≡ old)
+    × AnswersWith (refused_early old call) answer
     ⊎ IsTrue (may_meet_fault old call) × (answer ≡ Err Io) × (new ≡ old)
+    × AnswersWith (refused_early old call) answer

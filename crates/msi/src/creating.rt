@@ -1,9 +1,11 @@
 //! Creating packages, and turning them back into their devices.
 
-ghost use Rattle.std.specs.Prelude.{◌≡◌, ◌&&◌, IfErr, IfOk, false, not};
+ghost use Rattle.std.specs.Prelude.{◌≡◌, ◌&&◌, IfErr, IfOk, IfSome, IsErrAnd, false, not};
+ghost use Rattle.msi_text_base.specs.Refusals.{first_refusal};
 ghost use Rattle.msi_container_device.specs.Faults.{is_io};
 ghost use Rattle.msi.specs.Runs.{fresh};
 ghost use Rattle.msi.specs.Flushing.{FlushStep, IsCreateRefused, IsCreated, flush_answer, is_fault, told};
+ghost use Rattle.msi.specs.Steps.{flush_refusals};
 ghost use Rattle.msi.specs.Whole.{Whole};
 
 use crate::kinds::PackageType;
@@ -61,6 +63,8 @@ impl<F: Device> Package<F> {
         ensures refused { IfErr result (λ refused. FlushStep self (flush_answer (Err refused.0)) refused.1) }
         ensures faultless { F.can_fail ≡ false → F.writes_can_fail ≡ false
             → IfErr result (λ refused. is_fault refused.0 ≡ false) }
+        ensures early { IfSome (first_refusal (flush_refusals self.state)) (λ kind.
+            IsErrAnd result (λ refused. refused.0 ≡ kind)) }
     {
         match self.flush() {
             Ok(()) => Ok(self.into_reader()),

@@ -2,6 +2,7 @@
 
 ghost use Rattle.std.specs.Prelude.{◌≡◌, ◌&&◌, OnErr, OnOk, false, not, true};
 ghost use Rattle.std.specs.Vec.Iter.{into_iter_items};
+ghost use Rattle.msi_text_base.specs.Refusals.{AnswersFirst};
 ghost use Rattle.msi_container_device.specs.Faults.{is_io};
 ghost use Rattle.msi_container_write.specs.Borrowed.{contents_of};
 ghost use Rattle.msi_database_changes.specs.Database.{is_sound};
@@ -9,6 +10,7 @@ ghost use Rattle.msi_database.specs.Others.{with_streams};
 ghost use Rattle.msi_streams.specs.Renewing.{with_renewed};
 ghost use Rattle.msi.specs.Flushing.{AreOthers, FlushStep, Overwrites, flush_answer, left_by, over_device};
 ghost use Rattle.msi.specs.Flushing.{root_contents, told, unwritten_of};
+ghost use Rattle.msi.specs.Steps.{flush_refusals, text_refusals};
 
 use crate::kinds::PackageType;
 use crate::package::{Package, settle};
@@ -127,6 +129,9 @@ fn write_parts<F: Device>(
         (over_device (left_by result s database.new) (F.held device.new) (F.failed device.new) (F.pending device.new)) }
     ensures handed_on { OnOk result (F.pending device.new ≡ false) }
     ensures faultless { F.can_fail ≡ false → F.writes_can_fail ≡ false → is_io result ≡ false }
+    ensures early { let s
+        = unwritten_of root.kind root.has_storages summary.now is_summary_lent database.old is_pool_changed in
+        AnswersFirst (text_refusals s) result }
     ensures tables { database.new.database ≡ database.old.database }
     ensures same { OnErr result (database.new ≡ database.old) }
 {
@@ -146,12 +151,14 @@ impl<F: Device> Package<F> {
     /// does nothing, and makes no call of the device. If it fails, the package is as it was, and is still unwritten.
     ///
     /// # Errors
-    /// Fails with `InvalidInput` if a page can't encode a text, or if the file would pass 2^31 bytes, or with
-    /// `OutOfMemory`, both before anything is written. Fails with `Io` if a call of the device failed: a prefix of the
-    /// new bytes may have been written over the old ones. The device's flag is cleared first, so `device_failed`
-    /// reports afterwards whether this flush failed with `Io`.
+    /// Fails with `InvalidInput` if a page can't encode a text: neither `OutOfMemory` nor `Io` comes in place of that.
+    /// Otherwise it fails with `InvalidInput` if the file would pass 2^31 bytes, or with `OutOfMemory`, both before
+    /// anything is written. Fails with `Io` if a call of the device failed: a prefix of the new bytes may have been
+    /// written over the old ones. The device's flag is cleared first, so `device_failed` reports afterwards whether
+    /// this flush failed with `Io`.
     pub fn flush(&mut self) -> Result<(), Error>
         ensures step { FlushStep self.old (flush_answer result) self.new }
+        ensures early { AnswersFirst (flush_refusals self.old.state) result }
         ensures handed_on { OnOk result (self.new.pending ≡ (not self.old.state.is_unwritten && self.old.pending)) }
         ensures faultless { F.can_fail ≡ false → F.writes_can_fail ≡ false → is_io result ≡ false }
     {

@@ -1,8 +1,9 @@
 //! The bytes that a flush would write.
 
-ghost use Rattle.std.specs.Prelude.{◌≡◌, IfErr, IfOk, Ok};
-ghost use Rattle.msi_text_base.specs.Refusals.{IsRefusal};
-ghost use Rattle.msi.specs.Steps.{image_of as image_of_state};
+ghost use Rattle.std.specs.Prelude.{◌≡◌, ◌++◌, IfErr, IfOk, Ok};
+ghost use Rattle.msi_text_base.specs.Refusals.{AnswersFirst, IsRefusal};
+ghost use Rattle.msi.specs.State.{parts_of};
+ghost use Rattle.msi.specs.Steps.{image_of as image_of_state, storage_refusal, text_refusals};
 
 use crate::package::Package;
 use msi_container_device::Source;
@@ -15,12 +16,15 @@ impl<F: Source> Package<F> {
     /// nothing.
     ///
     /// # Errors
-    /// Fails with `InvalidInput` if a page can't encode a text, storages lie below the root, or the file would pass
-    /// 2^31 bytes. Otherwise it fails with `OutOfMemory`, which may also come in place of that.
+    /// Fails with `InvalidInput` if storages lie below the root, if a page can't encode a text, or if the file would
+    /// pass 2^31 bytes. Otherwise it fails with `OutOfMemory`, which may also come in place of the last.
     pub fn image(&self, earlier_len: u64) -> Result<Vec<u8>, Error>
         ensures ok { IfOk result (λ bytes. image_of_state self.now.state earlier_len ≡ Ok bytes.items) }
         ensures kind { IfErr result (IsRefusal (image_of_state self.now.state earlier_len)) }
+        ensures early { let s = self.now.state in
+            AnswersFirst (storage_refusal (parts_of s) ++ text_refusals s) result }
     {
+        self.check_storages()?;
         let renewed = renewed_streams(
             self.alloc,
             &self.summary,

@@ -5,7 +5,7 @@ ghost use Rattle.msi.specs.Laws.{BytesMeanOne, BytesOpenToOne, OpenedArePackages
 ghost use Rattle.msi.specs.Laws.{FlushKeepsParts, RemovesItsStream, RemovesSignature, WritesItsStream};
 ghost use Rattle.msi.specs.Laws.{RecountsMakeExact, RunsKeepPackages, StepsAreFixed, StepsKeepPackages};
 ghost use Rattle.msi.specs.Laws.{CreatedIsSession, FlushHoldsImage, FlushedIsHeld, OpenedIsSession, RunsKeepSessions};
-ghost use Rattle.msi.specs.Laws.{FlushesAreSteps, ReplaysMean, ReplaysOverMean};
+ghost use Rattle.msi.specs.Laws.{CreatedAreOpened, FlushesAreSteps, ReplaysMean, ReplaysOverMean};
 ghost use Rattle.msi.specs.Writable.{IsWritableUnderUtf8, Utf8TextsAreWritable};
 
 use crate::package::Package;
@@ -37,7 +37,7 @@ pub fn opened_are_packages()
 {}
 
 /// The state and the call determine the result and the new state, except that a call may fail with `OutOfMemory` or
-/// `Io`, which leaves the state as it was. The law leaves out the four calls that return a borrow of the summary or
+/// `Io`, which leaves the state as it was and never comes in place of an early refusal. The law leaves out the four calls that return a borrow of the summary or
 /// of a stream: `summary_info`, `summary_info_mut`, `read_stream` and `write_stream`.
 pub fn steps_are_fixed()
     ensures { StepsAreFixed }
@@ -129,6 +129,13 @@ pub fn replays_mean()
 /// distinct keys distinct.
 pub fn replays_over_mean()
     ensures { ReplaysOverMean }
+{}
+
+/// A package that was created, over a device of any length, can be opened after any calls and a last flush that
+/// succeeds: if each text can be written in its page, the bytes mean what the accepted calls made, opening them gives
+/// the package that was left, and no step of opening refuses them.
+pub fn created_are_opened()
+    ensures { CreatedAreOpened }
 {}
 
 /// If the page of the database and that of the summary are UTF-8, each text can be written in its page, since every

@@ -5,7 +5,7 @@ ghost use Rattle.std.specs.Borrow.{sem};
 ghost use Rattle.std.specs.FinMap as finite;
 ghost use Rattle.std.specs.Option.{option_copied};
 ghost use Rattle.msi_text_base.specs.declared.errors.ErrorKind.TheVariants.{InvalidInput, NotFound, OutOfMemory};
-ghost use Rattle.msi_text_base.specs.Refusals.{first_refusal, unless_refused};
+ghost use Rattle.msi_text_base.specs.Refusals.{AnswersFirst, first_refusal, unless_refused};
 ghost use Rattle.msi_database_system.specs.Keys.{is_stream_name, signature_key as signature_of, stream_key};
 ghost use Rattle.msi_database_storage.specs.Streams.{has_stream_at, stream_at, without_stream};
 ghost use Rattle.msi_streams.specs.Cursor.{at_start};
@@ -73,14 +73,15 @@ impl<F: Source> Package<F> {
     /// in it is the stream.
     ///
     /// # Errors
-    /// Fails with `InvalidInput` if storages lie below the root, and if no stream may have this name, or with
-    /// `OutOfMemory`. Then nothing has changed.
+    /// Fails with `InvalidInput` if storages lie below the root, and if no stream may have this name. Otherwise it
+    /// fails with `OutOfMemory`, which never comes in place of that. Then nothing has changed.
     pub fn write_stream(&mut self, name: &str) -> Result<StreamWriter<'_>, Error>
         ensures* writes_back { sem 𝓛 (LendsStream F.row F.Source name.now self.entry result) }
         ensures start { IfOk result (λ writer. writer.now ≡ at_start []) }
         ensures accepted { OnOk result (first_refusal (name_refusals (parts_of self.old.state) name.now) ≡ None) }
         ensures kind { IfErr result (λ kind.
             (kind ≡ OutOfMemory) ⊎ (first_refusal (name_refusals (parts_of self.old.state) name.now) ≡ Some kind)) }
+        ensures early { AnswersFirst (name_refusals (parts_of self.old.state) name.now) result }
     {
         self.check_storages()?;
         let key = checked_key(name)?;

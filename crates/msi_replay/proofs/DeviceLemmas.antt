@@ -1,14 +1,15 @@
 -- A flush, and the image of a package, as steps of its session.
 use Rattle.std.proofs.Common.{◌≡◌, ℕ, List, Result, Ok, Err, refl, sym, subst, ◌∙◌}
 use Rattle.msi_text_base.specs.declared.errors.ErrorKind.{ErrorKind}
-use Rattle.msi_text_base.specs.Refusals.{IsRefusal}
+use Rattle.msi_text_base.specs.Refusals.{AnswersWith, IsRefusal}
 use Rattle.msi.specs.Calls.{Answer}
 use Rattle.msi.specs.Calls as calls
-use Rattle.msi.specs.Steps.{Step, image_of}
+use Rattle.msi.specs.Steps.{Step, image_of, refused_early}
 use Rattle.msi.specs.Runs.{SessionStep}
 use Rattle.msi.specs.Whole.{Whole}
 use Rattle.msi.specs.Flushing.{FlushStep, flush_answer}
 use Rattle.msi.proofs.CallLemmas.{answered, unanswered}
+use Rattle.msi.proofs.FlushStepLemmas.{answers_as}
 use Rattle.msi_replay.specs.Taken.{Takes, Tells, session_at}
 use Rattle.msi_replay.specs.Told.{told}
 use Rattle.msi_replay.proofs.ReplayedLemmas.{flush_step, flush_tells}
@@ -36,11 +37,13 @@ module _ (w : Whole) (m : ℕ) where
     failed = refl;
   }
 
-  pub image_refused : (kind : ErrorKind) → IsRefusal (image_of w.state m) kind → (said : ErrorKind) → said ≡ kind
+  pub image_refused : (A : Type 0) (kind : ErrorKind) → IsRefusal (image_of w.state m) kind
+      → AnswersWith {A = A} (refused_early w.state (calls.image m)) (Err kind) → (said : ErrorKind) → said ≡ kind
       → Takes w (calls.image m) (Err said) w
-  image_refused kind refused said is = record {
+  image_refused A kind refused early said is = record {
     step = λ n. subst (λ (k : ErrorKind). Step n w.state (calls.image m) (Err k) w.state) (sym is)
-        (unanswered n w.state (calls.image m) calls.bytes_are (image_of w.state m) refl refl refl kind refused);
+        (unanswered n w.state (calls.image m) calls.bytes_are (image_of w.state m) refl refl refl kind refused
+        (answers_as A Answer (refused_early w.state (calls.image m)) kind early));
     held = refl;
     failed = refl;
   }

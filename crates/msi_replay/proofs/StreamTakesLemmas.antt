@@ -1,24 +1,26 @@
 -- What calls on a stream that a package lends are to the package.
-use Rattle.std.proofs.Common.{◌≡◌, ℕ, None, List, [], ◌∷◌, Result, Ok, refl, sym, ap, subst, ◌∙◌}
+use Rattle.std.proofs.Common.{◌≡◌, ℕ, ◌⊎◌, Option, Some, None, List, [], ◌∷◌, Result, Ok, Err, refl, sym, ap, subst, ◌∙◌, inl, inr}
 use Rattle.std.specs.Prelude.{not}
 use Rattle.std.specs.declared.cmp.Ordering.{Ordering}
 use Rattle.std.specs.declared.cmp.Ordering.TheVariants.{Less, Equal, Greater}
 use Rattle.std.specs.Ordering.{ordering_reverse}
 use Rattle.std.specs.FinMap.Entries.{by_order}
 use Rattle.msi_text_base.specs.declared.errors.ErrorKind.{ErrorKind}
-use Rattle.msi_text_base.specs.declared.errors.ErrorKind.TheVariants.{InvalidInput, NotFound}
-use Rattle.msi_text_base.specs.Refusals.{Refusals, first_refusal}
+use Rattle.msi_text_base.specs.declared.errors.ErrorKind.TheVariants.{InvalidInput, NotFound, OutOfMemory}
+use Rattle.msi_text_base.specs.Refusals.{AnswersWith, Refusals, first_refusal}
 use Rattle.msi_container_format.specs.Names.{name_cmp}
 use Rattle.msi_container_format.proofs.NamesLemmas.{names_total}
 use Rattle.msi_database_system.specs.Keys.{is_stream_name, stream_key}
 use Rattle.msi_database_storage.specs.Streams.{Streams, with_stream}
 use Rattle.msi_streams.specs.Cursor as streams
 use Rattle.msi.specs.State.{State, parts_of}
-use Rattle.msi.specs.Calls.{StreamAnswer, ReaderCall, WriterCall}
+use Rattle.msi.specs.Calls.{Answer, StreamAnswer, ReaderCall, WriterCall}
 use Rattle.msi.specs.Calls as calls
 use Rattle.msi.specs.Lent.{RunsTo, reader_outcome, reader_wants_memory, writer_outcome, writer_wants_memory}
-use Rattle.msi.specs.Steps.{bytes_of_stream, has_stream, name_refusals, with_streams}
+use Rattle.msi.specs.Steps.{LendsOrRefuses, Step, bytes_of_stream, has_stream, leaving_or, name_refusals, with_streams}
 use Rattle.msi.specs.Whole.{Whole, with_state}
+use Rattle.msi.proofs.CallLemmas.{step_unfed}
+use Rattle.msi.proofs.FlushStepLemmas.{answers_as}
 use Rattle.msi_replay.specs.Sent.{lent_cursor}
 use Rattle.msi_replay.specs.Taken.{Takes}
 use Rattle.msi_replay.proofs.TakenLemmas.{lent_takes}
@@ -65,6 +67,26 @@ module _ (old new : Whole) (name : List ℕ) (sent : List WriterCall) where
         ap (λ (w : Whole). w.state) ends ∙ sym (rewritten (stream_key name) left.bytes old.state),
       )
       (ap (λ (w : Whole). w.held) ends) (ap (λ (w : Whole). w.failed) ends)
+
+  pub write_refused : (A : Type 0) (kind said : ErrorKind) → (kind ≡ OutOfMemory) ⊎ (first_refusal (name_refusals (parts_of old.state) name) ≡ Some kind)
+      → AnswersWith {A = A} (first_refusal (name_refusals (parts_of old.state) name)) (Err kind) → said ≡ kind → new ≡ old
+      → Takes old (calls.write_stream name sent) (Err said) new
+  write_refused A kind said refused early is same = record {
+    step = λ n. subst (λ (k : ErrorKind). Step n old.state (calls.write_stream name sent) (Err k) new.state) (sym is) (step_of n refused);
+    held = ap (λ (w : Whole). w.held) same;
+    failed = ap (λ (w : Whole). w.failed) same;
+  }
+    where
+      unchanged : new.state ≡ old.state
+      unchanged = ap (λ (w : Whole). w.state) same
+
+      step_of : (n : ℕ) → (kind ≡ OutOfMemory) ⊎ (first_refusal (name_refusals (parts_of old.state) name) ≡ Some kind)
+          → Step n old.state (calls.write_stream name sent) (Err kind) new.state
+      step_of n (inl memory) = step_unfed n old.state (calls.write_stream name sent) refl new.state kind memory unchanged
+          (answers_as A Answer (first_refusal (name_refusals (parts_of old.state) name)) kind early)
+      step_of n (inr first) = inl (subst (λ (o : Option ErrorKind). LendsOrRefuses old.state (calls.write_stream name sent)
+          (leaving_or o old.state (with_streams (with_stream (stream_key name) []) old.state)) (Err kind) new.state)
+          (sym first) (refl, unchanged))
 
 -- READING
 

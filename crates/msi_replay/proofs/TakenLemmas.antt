@@ -2,14 +2,18 @@
 use Rattle.std.proofs.Common.{◌≡◌, ℕ, true, false, Option, None, Result, Ok, Err, refl, sym, ap, subst, ◌∙◌}
 use Rattle.std.specs.Prelude.{IfErr, IsTrue, OnErr, OnOk}
 use Rattle.msi_text_base.specs.declared.errors.ErrorKind.{ErrorKind}
-use Rattle.msi_text_base.specs.Refusals.{Refusals, IsRefusal, first_refusal, unless_refused}
+use Rattle.msi_text_base.specs.Refusals.{AnswersWith, Refusals, IsRefusal, first_refusal, unless_refused}
+use Rattle.msi_query.specs.Queries.{Query}
+use Rattle.msi_query.specs.Selection.{Relation, relation_of}
 use Rattle.msi_database_changes.specs.Changes.{Change}
+use Rattle.msi_database_changes.specs.Database.{values_of}
 use Rattle.msi.specs.State.{State}
 use Rattle.msi.specs.Calls.{Call, Answer}
 use Rattle.msi.specs.Calls as calls
-use Rattle.msi.specs.Steps.{Lends, changed, is_lending, leaving, leaving_or, may_want_memory, outcome}
+use Rattle.msi.specs.Steps.{Lends, Step, changed, is_lending, leaving, leaving_or, may_want_memory, outcome, refused_early}
 use Rattle.msi.specs.Whole.{Leaves, Whole, with_state}
-use Rattle.msi.proofs.CallLemmas.{change_done, change_refused, left_done, left_refused, lent}
+use Rattle.msi.proofs.FlushStepLemmas.{answers_as}
+use Rattle.msi.proofs.CallLemmas.{change_done, change_refused, left_done, left_refused, lent, unanswered}
 use Rattle.msi_replay.specs.Taken.{Takes}
 use Rattle.msi_replay.specs.Told.{told}
 
@@ -22,15 +26,17 @@ was_done answer = told (λ _. calls.done) answer
 module _ (old new : Whole) (call : Call) (plain : is_lending call ≡ false) where
   pub change_takes : (wants : IsTrue (may_want_memory old.state call)) (r : Result Change ErrorKind)
       → ((n : ℕ) → outcome n old.state call ≡ changed old.state r) → (answer : Result (Unit {0}) ErrorKind)
-      → OnOk answer (Leaves old r new) → OnErr answer (new ≡ old) → IfErr answer (IsRefusal r) → Takes old call (was_done answer) new
-  change_takes wants (Ok c) is (Ok u) left same kind = record {
+      → OnOk answer (Leaves old r new) → OnErr answer (new ≡ old) → IfErr answer (IsRefusal r) → AnswersWith (refused_early old.state call) answer
+      → Takes old call (was_done answer) new
+  change_takes wants (Ok c) is (Ok u) left same kind early = record {
     step = λ n. change_done n old.state call (Ok c) plain wants (is n) new.state c refl (ap (λ (w : Whole). w.state) left);
     held = ap (λ (w : Whole). w.held) left;
     failed = ap (λ (w : Whole). w.failed) left;
   }
-  change_takes wants (Err k) is (Ok u) left same kind = absurd left
-  change_takes wants r is (Err k) left same kind = record {
-    step = λ n. change_refused n old.state call r plain wants (is n) new.state k kind (ap (λ (w : Whole). w.state) same);
+  change_takes wants (Err k) is (Ok u) left same kind early = absurd left
+  change_takes wants r is (Err k) left same kind early = record {
+    step = λ n. change_refused n old.state call r plain wants (is n) new.state k kind (ap (λ (w : Whole). w.state) same)
+        (answers_as (Unit {0}) Answer (refused_early old.state call) k early);
     held = ap (λ (w : Whole). w.held) same;
     failed = ap (λ (w : Whole). w.failed) same;
   }
@@ -48,6 +54,18 @@ module _ (old new : Whole) (call : Call) (plain : is_lending call ≡ false) whe
     held = ap (λ (w : Whole). w.held) same;
     failed = ap (λ (w : Whole). w.failed) same;
   }
+
+-- ASKING
+
+pub select_refused : (A : Type 0) (w : Whole) (query : Query) (kind said : ErrorKind) → IsRefusal (relation_of (values_of w.state.kept.database) query) kind
+    → AnswersWith {A = A} (refused_early w.state (calls.select_rows query)) (Err kind) → said ≡ kind → Takes w (calls.select_rows query) (Err said) w
+select_refused A w query kind said refused early is = record {
+  step = λ n. subst (λ (k : ErrorKind). Step n w.state (calls.select_rows query) (Err k) w.state) (sym is)
+      (unanswered n w.state (calls.select_rows query) (λ (r : Relation). calls.rows_are r.columns r.rows) (relation_of (values_of w.state.kept.database) query) refl refl refl kind refused
+      (answers_as A Answer (refused_early w.state (calls.select_rows query)) kind early));
+  held = refl;
+  failed = refl;
+}
 
 -- another view of the same answer
 pub takes_as : (old new : Whole) (call : Call) (a b : Result Answer ErrorKind) → b ≡ a → Takes old call a new → Takes old call b new

@@ -1,10 +1,11 @@
 use Rattle.std.proofs.Common.{◌≡◌, Some, refl, rules, subst}
 use Rattle.std.specs.Vec.Iter.{into_iter_items}
 use Rattle.msi_text_base.specs.declared.errors.ErrorKind.TheVariants.{InvalidInput}
-use Rattle.msi_text_pool_base.specs.Pool.{Pool}
-use Rattle.msi_text_base.specs.Refusals.{IsRefusal, or_refused}
+use Rattle.msi_text_pool_base.specs.Pool.{Pool, unindexed}
+use Rattle.msi_text_base.specs.Refusals.{AnswersFirst, IsRefusal, or_refused}
+use Rattle.msi_text_base.proofs.RefusalLemmas.{accepted_first, first_passed}
 use Rattle.msi_database_storage.specs.Streams.{Streams}
-use Rattle.msi_streams.specs.Renewing.{renewed_over, with_renewed}
+use Rattle.msi_streams.specs.Renewing.{renewed_over, text_refusals, with_renewed}
 use Rattle.msi.specs.Flushing.{Overwrites, root_contents, told, unwritten_of}
 use Rattle.msi.proofs.FaultLemmas.{passed_faultless, unwritten_faultless}
 use Rattle.msi.proofs.FlushStepLemmas.{flush_refused_as, flush_written, left_streams, over_cleared}
@@ -24,6 +25,9 @@ returns-in_err-renewed-clause-flushed g c =
     c.clear_failed.ensures.held c.clear_failed.ensures.cleared
     (subst (λ (pool : Pool). IsRefusal (or_refused InvalidInput (renewed_over c.args.is_summary_lent c.args.summary.now c.args.is_pool_changed pool c.args.database.now.streams)) c.in_err-renewed.field-0.0)
     c.pool.ensures (c.in_err-renewed.ensures.kind c.args.database.now.streams))
+    (subst (λ (pool : Pool). AnswersFirst (text_refusals c.args.is_summary_lent c.args.summary.now c.args.is_pool_changed pool) c.from_residual.result) c.pool.ensures
+    (first_passed _ (text_refusals c.args.is_summary_lent c.args.summary.now c.args.is_pool_changed (unindexed c.pool.result.now)) c.in_err-renewed.field-0.0 c.from_residual.result
+    c.from_residual.ensures.1 c.in_err-renewed.ensures.early))
 
 pub returns-in_err-renewed-clause-faultless : goal.returns-in_err-renewed-clause-faultless
 returns-in_err-renewed-clause-faultless g c = λ _ _.
@@ -48,3 +52,17 @@ returns-clause-flushed g c =
     (told (g.F.Source.held c.clear_failed.new.self) (g.F.Source.failed c.clear_failed.new.self)) c.write_with.result
     (told (g.F.Source.held c.write_with.new.device) (g.F.Source.failed c.write_with.new.device)))
     c.into_iter.ensures.rest c.write_with.ensures.device))
+
+pub returns-in_err-renewed-clause-early : goal.returns-in_err-renewed-clause-early
+returns-in_err-renewed-clause-early g c =
+    let r = c.from_residual.result in
+    subst (λ (pool : Pool). AnswersFirst (text_refusals c.args.is_summary_lent c.args.summary.now c.args.is_pool_changed pool) r) c.pool.ensures
+    (first_passed _ (text_refusals c.args.is_summary_lent c.args.summary.now c.args.is_pool_changed (unindexed c.pool.result.now)) c.in_err-renewed.field-0.0 r
+    c.from_residual.ensures.1 c.in_err-renewed.ensures.early)
+
+pub returns-clause-early : goal.returns-clause-early
+returns-clause-early g c =
+    let r = c.write_with.result in
+    subst (λ (pool : Pool). AnswersFirst (text_refusals c.args.is_summary_lent c.args.summary.now c.args.is_pool_changed pool) r) c.pool.ensures
+    (accepted_first (text_refusals c.args.is_summary_lent c.args.summary.now c.args.is_pool_changed (unindexed c.pool.result.now)) c.in_ok-renewed.renewed r
+    c.in_ok-renewed.ensures.early)

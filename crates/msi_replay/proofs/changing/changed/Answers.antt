@@ -1,4 +1,4 @@
-use Rattle.std.proofs.Common.{◌≡◌, ◌∙◌, ℕ, List, Result, ap, refl, sym}
+use Rattle.std.proofs.Common.{◌≡◌, ◌∙◌, ℕ, List, Result, ap, refl, subst, sym}
 use Rattle.msi_text_base.specs.declared.errors.ErrorKind.{ErrorKind}
 use Rattle.msi_table_values.specs.Columns.{ColumnDef}
 use Rattle.msi_database_changes.specs.Changes.{Change, sound_refusal}
@@ -9,12 +9,12 @@ use Rattle.msi_database_changes.specs.Insert as inserts
 use Rattle.msi_database_changes.specs.Update as updates
 use Rattle.std.specs.Prelude.{◌++◌, [], ◌∷◌, not, string_bytes}
 use Rattle.msi_text_base.specs.declared.errors.ErrorKind.TheVariants.{NotFound}
-use Rattle.msi_text_base.specs.Refusals.{Refusals}
+use Rattle.msi_text_base.specs.Refusals.{AnswersWith, Refusals}
 use Rattle.msi_database_system.specs.Keys.{stream_key}
 use Rattle.msi_database_storage.specs.Streams.{without_stream}
 use Rattle.msi.specs.State.{State, parts_of}
 use Rattle.msi.specs.Calls as calls
-use Rattle.msi.specs.Steps.{changed, changing, has_stream, leaving, name_refusals, storage_refusal, with_page, with_streams, without_signature}
+use Rattle.msi.specs.Steps.{changed, changing, has_stream, leaving, name_refusals, refused_early, storage_refusal, with_page, with_streams, without_signature}
 use Rattle.msi_replay.proofs.TakenLemmas.{change_takes, left_takes}
 use Rattle.msi_replay.proofs.changing.changed.Goals as goal
 
@@ -35,25 +35,28 @@ returns-in-CreateTable c =
     (made s (string_bytes c.into_string.result) c.into_vec.result.items)
     (λ n. ap (λ (x : List ℕ). changed s (made s x c.in-CreateTable.columns)) name
     ∙ ap (λ (xs : List ColumnDef). changed s (made s (string_bytes c.into_string.result) xs)) columns) c.create_table.result
-    c.create_table.ensures.ok c.create_table.ensures.same c.create_table.ensures.kind)
+    c.create_table.ensures.ok c.create_table.ensures.same c.create_table.ensures.kind
+    (subst (λ (x : List ℕ). AnswersWith (refused_early s (calls.create_table x c.in-CreateTable.columns)) c.create_table.result) (sym name)
+    (subst (λ (xs : List ColumnDef). AnswersWith (refused_early s (calls.create_table (string_bytes c.into_string.result) xs)) c.create_table.result) (sym columns)
+    c.create_table.ensures.early)))
 
 pub returns-in-InsertRows : goal.returns-in-InsertRows
 returns-in-InsertRows c =
     rw c.in-InsertRows.is (change_takes c.args.target.now c.insert_rows.new.self (calls.insert_rows c.in-InsertRows.query) refl refl
     (changing (parts_of c.args.target.now.state) (λ d. inserts.insert_rows d c.in-InsertRows.query)) (λ n. refl) c.insert_rows.result
-    c.insert_rows.ensures.ok c.insert_rows.ensures.same c.insert_rows.ensures.kind)
+    c.insert_rows.ensures.ok c.insert_rows.ensures.same c.insert_rows.ensures.kind c.insert_rows.ensures.early)
 
 pub returns-in-UpdateRows : goal.returns-in-UpdateRows
 returns-in-UpdateRows c =
     rw c.in-UpdateRows.is (change_takes c.args.target.now c.update_rows.new.self (calls.update_rows c.in-UpdateRows.query) refl refl
     (changing (parts_of c.args.target.now.state) (λ d. updates.update_rows d c.in-UpdateRows.query)) (λ n. refl) c.update_rows.result
-    c.update_rows.ensures.ok c.update_rows.ensures.same c.update_rows.ensures.kind)
+    c.update_rows.ensures.ok c.update_rows.ensures.same c.update_rows.ensures.kind c.update_rows.ensures.early)
 
 pub returns-in-DeleteRows : goal.returns-in-DeleteRows
 returns-in-DeleteRows c =
     rw c.in-DeleteRows.is (change_takes c.args.target.now c.delete_rows.new.self (calls.delete_rows c.in-DeleteRows.query) refl refl
     (changing (parts_of c.args.target.now.state) (λ d. deletes.delete_rows d c.in-DeleteRows.query)) (λ n. refl) c.delete_rows.result
-    c.delete_rows.ensures.ok c.delete_rows.ensures.same c.delete_rows.ensures.kind)
+    c.delete_rows.ensures.ok c.delete_rows.ensures.same c.delete_rows.ensures.kind c.delete_rows.ensures.early)
 
 pub returns-in-DropTable : goal.returns-in-DropTable
 unfolding dropped
@@ -62,7 +65,8 @@ returns-in-DropTable c =
     let name : c.in-DropTable.name ≡ c.as_str.result.now = sym c.as_str.ensures in
     rw c.in-DropTable.is (change_takes c.args.target.now c.drop_table.new.self (calls.drop_table c.in-DropTable.name) refl refl
     (dropped s c.as_str.result.now) (λ n. ap (λ (x : List ℕ). changed s (dropped s x)) name) c.drop_table.result
-    c.drop_table.ensures.ok c.drop_table.ensures.same c.drop_table.ensures.kind)
+    c.drop_table.ensures.ok c.drop_table.ensures.same c.drop_table.ensures.kind
+    (subst (λ (x : List ℕ). AnswersWith (refused_early s (calls.drop_table x)) c.drop_table.result) (sym name) c.drop_table.ensures.early))
 
 pub returns-in-SetDatabaseCodepage : goal.returns-in-SetDatabaseCodepage
 returns-in-SetDatabaseCodepage c =

@@ -5,4 +5,4 @@ pub returns-in-Ok : goal.returns-in-Ok
 returns-in-Ok c = image_takes c.args.target.now c.args.earlier_len c.in-Ok.bytes.items c.in-Ok.ensures.ok _ c.from_vec.ensures
 
 pub returns-in-Err : goal.returns-in-Err
-returns-in-Err c = image_refused c.args.target.now c.args.earlier_len c.in-Err.error c.in-Err.ensures.kind _ c.kind.ensures
+returns-in-Err c = image_refused c.args.target.now c.args.earlier_len _ c.in-Err.error c.in-Err.ensures.kind c.in-Err.ensures.early _ c.kind.ensures

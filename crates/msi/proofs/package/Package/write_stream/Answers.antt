@@ -1,6 +1,9 @@
 use Rattle.std.proofs.Common.{◌∙◌, ap}
 use Rattle.msi_database_changes.specs.Database.{is_sound}
 use Rattle.msi_database_storage.specs.Kept.{Kept}
+use Rattle.msi_text_base.proofs.RefusalLemmas.{none_answered}
+use Rattle.msi.specs.State.{parts_of}
+use Rattle.msi.specs.Steps.{name_refusals}
 use Rattle.msi.proofs.StreamRefusalLemmas.{key_accepted, key_is, storages_seen, write_passes}
 use Rattle.msi.proofs.StreamWriteLemmas.{left_written, lent_same, opened_held, stream_is_other}
 use Rattle.msi.proofs.package.Package.write_stream.Goals as goal
@@ -31,7 +34,12 @@ returns g c = (
     (
       write_passes c.args.self.now.state c.args.name.now c.in_ok-key.key c.in_ok-key.ensures
           (storages_seen _ c.args.self.now c.self.view_is c.in_ok-check_storages.ensures),
-      tt,
+      (
+        tt,
+        none_answered (name_refusals (parts_of c.args.self.now.state) c.args.name.now) _
+            (write_passes c.args.self.now.state c.args.name.now c.in_ok-key.key c.in_ok-key.ensures
+            (storages_seen _ c.args.self.now c.self.view_is c.in_ok-check_storages.ensures)),
+      ),
     ),
   ),
 )
