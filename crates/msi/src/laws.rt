@@ -37,8 +37,9 @@ pub fn opened_are_packages()
 {}
 
 /// The state and the call determine the result and the new state, except that a call may fail with `OutOfMemory` or
-/// `Io`, which leaves the state as it was and never comes in place of an early refusal. The law leaves out the four calls that return a borrow of the summary or
-/// of a stream: `summary_info`, `summary_info_mut`, `read_stream` and `write_stream`.
+/// `Io`, which leaves the state as it was and never comes in place of an early refusal. The law leaves out the four
+/// calls that return a borrow of the summary or of a stream: `summary_info`, `summary_info_mut`, `read_stream` and
+/// `write_stream`.
 pub fn steps_are_fixed()
     ensures { StepsAreFixed }
 {}
