@@ -1,5 +1,5 @@
 -- The values of a summary as they are counted, one after the other.
-use Rattle.std.proofs.Common.{◌≡◌, ℕ, ◌+◌, ◌^◌, ◌<◌, ◌≤◌, Bool, true, false, cond, eqb, List, [], ◌∷◌, ◌++◌, length, get_or, take, drop, Some, None, inl, inr, refl, sym, ap, subst, ◌∙◌, arith}
+use Rattle.std.proofs.Common.{◌≡◌, ℕ, ◌+◌, ◌<◌, ◌≤◌, Bool, true, false, cond, eqb, List, [], ◌∷◌, ◌++◌, length, get_or, take, drop, Some, None, inl, inr, refl, sym, ap, subst, ◌∙◌, arith}
 use Rattle.std.specs.Prelude.{◌⊎◌, ◌||◌}
 use Rattle.std.specs.BTreeSet.{BTreeSet, Updates, contains}
 use Rattle.std.specs.List.{AllByRecursion, AllZip, list_any}
@@ -19,7 +19,7 @@ use Rattle.msi_summary_properties.proofs.SpelledSetLemmas.{stands_drop}
 use Rattle.msi_recode.specs.declared.errors.RecodeError.TheVariants as error
 use Rattle.msi_recode.specs.declared.page.TextPage.{TextPage}
 use Rattle.msi_recode.specs.SummaryReading.{CanBePut, IsCounted, IsEntryRead, IsNotCounted, value_in}
-use Rattle.msi_recode.specs.SummaryRecoding.{AreTooLong, EntryStandsAt, IsFirstUnread, IsValuesError, SpellsValueIn, stream_size}
+use Rattle.msi_recode.specs.SummaryRecoding.{AreTooLong, EntryStandsAt, IsFirstUnread, IsValuesError, SpellsValueIn, most_size, stream_size}
 use Rattle.msi_recode.proofs.SizeLemmas.{section_behind}
 use Rattle.msi_recode.proofs.SummaryLemmas.{entries_stand}
 use Rattle.msi_recode.proofs.SummaryOnlyLemmas.{read_again}
@@ -90,7 +90,7 @@ module _ (version : ℕ) (text_page : TextPage) (bytes : List ℕ) (section : �
         sized = let sum = section_behind c.entries id value in let before = c.sized in omega (arith, sum, before, is);
       })
 
-  pub value_unread : (ids : BTreeSet ℕ) (size : ℕ) → IsBytes bytes → AreCounted version text_page bytes section (take i pairs) ids size → size ≤ 2 ^ 31 → i < length pairs → get_or pairs i (0, 0) ≡ (id, place)
+  pub value_unread : (ids : BTreeSet ℕ) (size : ℕ) → IsBytes bytes → AreCounted version text_page bytes section (take i pairs) ids size → size ≤ most_size (length bytes) → i < length pairs → get_or pairs i (0, 0) ≡ (id, place)
       → IsNotCounted version text_page (drop (section + place) bytes) (contains nat_cmp ids id) → IsFirstUnread version text_page bytes section pairs id
   value_unread ids size fits c short lt at fails = record {
     front = take i pairs;
@@ -99,7 +99,7 @@ module _ (version : ℕ) (text_page : TextPage) (bytes : List ℕ) (section : �
     listed = sym (take-append-drop i pairs) ∙ ap (λ (x : List (ℕ × ℕ)). take i pairs ++ x) (drop_more pairs i (0, 0) lt ∙ ap (λ (p : ℕ × ℕ). p ∷ drop (i + 1) pairs) at);
     entries = c.entries;
     spelled = (entries_stand version text_page bytes section (take i pairs) c.entries fits c.read, c.once);
-    short = le-ltb (2 ^ 31) (stream_size c.entries) (let sum = c.sized in omega (arith, sum, short));
+    short = le-ltb (most_size (length bytes)) (stream_size c.entries) (let sum = c.sized in omega (arith, sum, short));
     fails = by_reason fails;
   }
     where
@@ -113,7 +113,7 @@ module _ (version : ℕ) (text_page : TextPage) (bytes : List ℕ) (section : �
   value_error k (inl invalid) first = inr (inl (id, ap (λ (x : ErrorKind). error.Property id x) invalid, first invalid))
   value_error k (inr memory) first = inl memory
 
-pub too_long : (version : ℕ) (text_page : TextPage) (bytes : List ℕ) (section : ℕ) (pairs : List (ℕ × ℕ)) (i size : ℕ) (ids : BTreeSet ℕ) → IsBytes bytes → AreCounted version text_page bytes section (take i pairs) ids size → 2 ^ 31 < size
+pub too_long : (version : ℕ) (text_page : TextPage) (bytes : List ℕ) (section : ℕ) (pairs : List (ℕ × ℕ)) (i size : ℕ) (ids : BTreeSet ℕ) → IsBytes bytes → AreCounted version text_page bytes section (take i pairs) ids size → most_size (length bytes) < size
     → AreTooLong version text_page bytes section pairs
 too_long version text_page bytes section pairs i size ids fits c past = record {
   front = take i pairs;
@@ -121,14 +121,14 @@ too_long version text_page bytes section pairs i size ids fits c past = record {
   listed = sym (take-append-drop i pairs);
   entries = c.entries;
   spelled = (entries_stand version text_page bytes section (take i pairs) c.entries fits c.read, c.once);
-  long = lt-ltb (2 ^ 31) (stream_size c.entries) (let sum = c.sized in omega (arith, sum, past));
+  long = lt-ltb (most_size (length bytes)) (stream_size c.entries) (let sum = c.sized in omega (arith, sum, past));
 }
 
-pub counted_all : (version : ℕ) (text_page : TextPage) (bytes : List ℕ) (section : ℕ) (pairs front : List (ℕ × ℕ)) (ids : BTreeSet ℕ) (size : ℕ) → front ≡ pairs → AreCounted version text_page bytes section front ids size → size ≤ 2 ^ 31
+pub counted_all : (version : ℕ) (text_page : TextPage) (bytes : List ℕ) (section : ℕ) (pairs front : List (ℕ × ℕ)) (ids : BTreeSet ℕ) (size : ℕ) → front ≡ pairs → AreCounted version text_page bytes section front ids size → size ≤ most_size (length bytes)
     → CanBePut version text_page bytes section pairs
 counted_all version text_page bytes section pairs front ids size all c short = record {
   entries = c.entries;
   read = subst (λ (ps : List (ℕ × ℕ)). AllZip (IsEntryRead version text_page bytes section) ps c.entries) all c.read;
   once = ap (has_pair (λ p q. eqb p.0 q.0)) (sym all) ∙ c.once;
-  short = le-ltb (2 ^ 31) (stream_size c.entries) (let sum = c.sized in omega (arith, sum, short));
+  short = le-ltb (most_size (length bytes)) (stream_size c.entries) (let sum = c.sized in omega (arith, sum, short));
 }

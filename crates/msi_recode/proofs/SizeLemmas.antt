@@ -11,7 +11,7 @@ use Rattle.msi_summary_properties.specs.declared.propset.PropertyValue.TheVarian
 use Rattle.msi_summary_properties.specs.Properties.{Properties, page_of, value_with_id}
 use Rattle.msi_summary_properties.specs.PropertyWriting.{can_write, is_carried, is_refused, piece_in, section_size}
 use Rattle.msi_summary_properties.proofs.PlainSectionLemmas.{length-values, told_of}
-use Rattle.msi_recode.specs.SummaryRecoding.{all_in_utf8, in_utf8, is_too_long, stream_size}
+use Rattle.msi_recode.specs.SummaryRecoding.{all_in_utf8, in_utf8, is_too_long, most_size, stream_size}
 
 size_front : (e : ℕ × PropertyValue) (es : List (ℕ × PropertyValue)) → section_size page.Utf8 (e ∷ es) ≡ (8 + length (piece_in page.Utf8 e.1)) + section_size page.Utf8 es
 size_front e es = let sum = length-values page.Utf8 e es in omega arith
@@ -40,12 +40,12 @@ size_joined (x ∷ es) fs =
     omega (arith, more, before, later)
 
 -- values that are too long are so with others behind them
-pub still_too_long : (es fs : List (ℕ × PropertyValue)) → is_too_long es ≡ true → is_too_long (es ++ fs) ≡ true
-still_too_long es fs long =
-    let past : 2 ^ 31 < stream_size es = ltb-true (2 ^ 31) (stream_size es) long in
+pub still_too_long : (n : ℕ) (es fs : List (ℕ × PropertyValue)) → is_too_long n es ≡ true → is_too_long n (es ++ fs) ≡ true
+still_too_long n es fs long =
+    let past : most_size n < stream_size es = ltb-true (most_size n) (stream_size es) long in
     let more = size_joined (all_in_utf8 es) (all_in_utf8 fs) in
     let same = ap (section_size page.Utf8) (mapped_joined es fs) in
-    lt-ltb (2 ^ 31) (stream_size (es ++ fs)) (omega (arith, past, more, same))
+    lt-ltb (most_size n) (stream_size (es ++ fs)) (omega (arith, past, more, same))
 
 -- a value that is new adds its bytes to those of a set
 pub size_put : (es : List (ℕ × PropertyValue)) (id : ℕ) (v : PropertyValue) → value_with_id id es ≡ None → section_size page.Utf8 (insert_entry nat_cmp es id v) ≡ section_size page.Utf8 es + (8 + length (piece_in page.Utf8 v))
@@ -81,9 +81,9 @@ carried ((id, I4 n) ∷ es) = carried es
 carried ((id, LpStr text) ∷ es) = carried es
 carried ((id, FileTime n) ∷ es) = carried es
 
-pub short_written : (set : Properties) (entries : List (ℕ × PropertyValue)) → page_of set ≡ page.Utf8 → section_size page.Utf8 set.values ≡ section_size page.Utf8 (all_in_utf8 entries) → is_too_long entries ≡ false → is_refused set ≡ false
-short_written set entries named size short =
-    let few : stream_size entries ≤ 2 ^ 31 = ltb-false (2 ^ 31) (stream_size entries) short in
+pub short_written : (n : ℕ) (set : Properties) (entries : List (ℕ × PropertyValue)) → page_of set ≡ page.Utf8 → section_size page.Utf8 set.values ≡ section_size page.Utf8 (all_in_utf8 entries) → is_too_long n entries ≡ false → is_refused set ≡ false
+short_written n set entries named size short =
+    let few : stream_size entries ≤ most_size n = ltb-false (most_size n) (stream_size entries) short in
     let fits : ltb (section_size page.Utf8 set.values) (2 ^ 32) ≡ true = lt-ltb (section_size page.Utf8 set.values) (2 ^ 32) (omega (arith, few, size)) in
     let can : can_write page.Utf8 set.values ≡ true = ap (λ (b : Bool). b && ltb (section_size page.Utf8 set.values) (2 ^ 32)) (carried set.values) ∙ fits in
     told_of set page.Utf8 set.values (sym named) refl can

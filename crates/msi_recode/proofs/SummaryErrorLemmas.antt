@@ -1,5 +1,5 @@
 -- Why a summary isn't recoded: what is in the way of its set, and that nothing else is.
-use Rattle.std.proofs.Common.{◌≡◌, ℕ, ◌+◌, Bool, true, false, true≢false, eqb, List, [], ◌∷◌, ◌++◌, drop, Option, Some, None, inl, inr, refl, sym, ap, subst, ◌∙◌, arith}
+use Rattle.std.proofs.Common.{◌≡◌, ℕ, ◌+◌, Bool, true, false, true≢false, eqb, List, [], ◌∷◌, ◌++◌, length, drop, Option, Some, None, inl, inr, refl, sym, ap, subst, ◌∙◌, arith}
 use Rattle.std.specs.Prelude.{◌⊎◌, ◌||◌}
 use Rattle.std.specs.List.{AllZip, list_any}
 use Rattle.std.proofs.lemmas.Bool.{cases_Bool, or_left, or_right}
@@ -99,12 +99,12 @@ entries_front version text_page bytes section (p ∷ front) behind (f ∷ fs) (e
     (rest.0, ap (λ (x : ℕ × PropertyValue). x ∷ es) first ∙ ap (λ (xs : List (ℕ × PropertyValue)). f ∷ xs) rest.1)
 
 none_too_long : (version : ℕ) (text_page : TextPage) (bytes : List ℕ) (section : ℕ) (pairs : List (ℕ × ℕ)) (entries : List (ℕ × PropertyValue)) → AllZip (EntryStandsAt version text_page bytes section) pairs entries
-    → is_too_long entries ≡ false → AreTooLong version text_page bytes section pairs → ⊥
+    → is_too_long (length bytes) entries ≡ false → AreTooLong version text_page bytes section pairs → ⊥
 none_too_long version text_page bytes section pairs entries all short u =
     let read = entries_read version text_page bytes section pairs entries all in
     let front = entries_read version text_page bytes section u.front u.entries u.spelled.0 in
     let rest = entries_front version text_page bytes section u.front u.behind u.entries entries front (subst (λ (ps : List (ℕ × ℕ)). AllZip (IsEntryRead version text_page bytes section) ps entries) u.listed read) in
-    true≢false (sym (ap is_too_long rest.1 ∙ still_too_long u.entries rest.0 u.long) ∙ short)
+    true≢false (sym (ap (is_too_long (length bytes)) rest.1 ∙ still_too_long (length bytes) u.entries rest.0 u.long) ∙ short)
 
 -- ---- a summary that can be recoded has no error but of memory
 
@@ -115,7 +115,7 @@ values_of given bytes set s h pairs text_page listed =
     one_list given bytes h (header_of set s.version s.reserved s.section) pairs s.pairs text_page s.page listed (listed_again given bytes set s)
     (λ x ps p. AllZip (EntryStandsAt x.version p bytes x.section) ps s.entries × (has_pair (λ r q. eqb r.0 q.0) ps ≡ false)) (s.spelled, s.once)
 
-only_memory : (given : Option TextPage) (bytes : List ℕ) (err : RecodeError) (set : Properties) (s : IsSummary given bytes set) → is_too_long s.entries ≡ false → IsSummaryError given bytes err → kind_of err ≡ kind.OutOfMemory
+only_memory : (given : Option TextPage) (bytes : List ℕ) (err : RecodeError) (set : Properties) (s : IsSummary given bytes set) → is_too_long (length bytes) s.entries ≡ false → IsSummaryError given bytes err → kind_of err ≡ kind.OutOfMemory
 only_memory given bytes err set s short (inl memory) = memory
 only_memory given bytes err set s short (inr (inl (is, nothing))) = absurd (nothing (header_of set s.version s.reserved s.section) s.pairs s.page (listed_again given bytes set s))
 only_memory given bytes err set s short (inr (inr (h, pairs, text_page, listed, inl memory))) = memory

@@ -1,5 +1,5 @@
 -- What is read of a summary's stream is what it has.
-use Rattle.std.proofs.Common.{◌≡◌, ℕ, ◌+◌, false, List, [], drop, eqb, Option, Some, None, refl, sym, ap, subst, ◌∙◌, arith}
+use Rattle.std.proofs.Common.{◌≡◌, ℕ, ◌+◌, false, List, [], length, drop, eqb, Option, Some, None, refl, sym, ap, subst, ◌∙◌, arith}
 use Rattle.std.specs.Prelude.{option_map, unwrap_or}
 use Rattle.std.specs.List.{AllByRecursion, AllZip}
 use Rattle.msi_text_base.specs.declared.codepage.CodePage.{CodePage}
@@ -26,7 +26,7 @@ use Rattle.msi_recode.proofs.SummaryOneLemmas.{one_entries}
 
 pub summary_read : (hint : Option TextPage) (bytes rest : List ℕ) (h : Header) (pairs : List (ℕ × ℕ)) (text_page : TextPage) (set : Properties) → IsBytes bytes → header_at bytes ≡ Some h → rest ≡ drop (h.section + 0) bytes → section_at rest ≡ Some pairs
     → page_stated hint h.version bytes h.section (entry_where (λ k. eqb k 1) pairs) ≡ Some text_page → ArePut h.version text_page bytes h.section pairs (set_with h []) set → CanBePut h.version text_page bytes h.section pairs
-    → (summary : IsSummary hint bytes set) × (is_too_long summary.entries ≡ false)
+    → (summary : IsSummary hint bytes set) × (is_too_long (length bytes) summary.entries ≡ false)
 summary_read hint bytes rest h pairs text_page set fits header is section stated put can =
     let top = header_found bytes h fits header in
     let here : rest ≡ drop h.section bytes = is ∙ ap (λ (n : ℕ). drop n bytes) (omega arith) in
@@ -50,13 +50,13 @@ summary_read hint bytes rest h pairs text_page set fits header is section stated
         named = page_read hint h.version text_page bytes h.section pairs put.entries stated put.read;
         values = put.values;
       },
-      ap is_too_long same ∙ can.short,
+      ap (is_too_long (length bytes)) same ∙ can.short,
     )
 
 -- the same for what the code has in hand
 pub summary_made : (hint : Option TextPage) (bytes rest : List ℕ) (h : Header) (pairs listed again counted : List (ℕ × ℕ)) (text_page reader_page : TextPage) (start set : Properties) → IsBytes bytes → header_at bytes ≡ Some h → rest ≡ drop (h.section + 0) bytes → section_at rest ≡ Some pairs
     → listed ≡ pairs → again ≡ pairs → counted ≡ pairs → reader_page ≡ text_page → start ≡ set_with h [] → page_stated hint h.version bytes h.section (entry_where (λ k. eqb k 1) listed) ≡ Some text_page → ArePut h.version reader_page bytes h.section again start set → CanBePut h.version reader_page bytes h.section counted
-    → (summary : IsSummary hint bytes set) × (is_too_long summary.entries ≡ false)
+    → (summary : IsSummary hint bytes set) × (is_too_long (length bytes) summary.entries ≡ false)
 summary_made hint bytes rest h pairs listed again counted text_page reader_page start set fits header is section listed_is again_is counted_is page_is start_is stated put can =
     summary_read hint bytes rest h pairs text_page set fits header is section
     (subst (λ (ps : List (ℕ × ℕ)). page_stated hint h.version bytes h.section (entry_where (λ k. eqb k 1) ps) ≡ Some text_page) listed_is stated)
@@ -77,7 +77,7 @@ set_written version text_page bytes section pairs again counted start set again_
     let same : again ≡ counted = again_is ∙ sym counted_is in
     let read = subst (λ (ps : List (ℕ × ℕ)). AllZip (IsEntryRead version text_page bytes section) ps put.entries) same put.read in
     let one : put.entries ≡ can.entries = one_entries version text_page bytes section counted put.entries can.entries read can.read in
-    short_written set put.entries (utf8_named set (entry_where (λ k. eqb k 1) put.entries) (put.values 1)) put.size (ap is_too_long one ∙ can.short)
+    short_written (length bytes) set put.entries (utf8_named set (entry_where (λ k. eqb k 1) put.entries) (put.values 1)) put.size (ap (is_too_long (length bytes)) one ∙ can.short)
 
 writable : (v : PropertyValue) → IsUtf8Value v → IsWritableValue page.Utf8 v
 writable Empty h = tt

@@ -72,7 +72,7 @@ pub record CanBePut (version : ℕ) (page : TextPage) (bytes : List ℕ) (sectio
   pub entries : List (ℕ × PropertyValue)
   pub read : AllZip (IsEntryRead version page bytes section) pairs entries
   pub once : has_pair (λ p q. p.0 == q.0) pairs ≡ false
-  pub short : is_too_long entries ≡ false
+  pub short : is_too_long (length bytes) entries ≡ false
 
 -- the value in front is read, and has so many bytes in UTF-8 with its padding
 abbrev pub IsCounted : ℕ → TextPage → List ℕ → ℕ → ℕ → Type 0

@@ -1,6 +1,6 @@
 -- The stream of the summary whose texts are read in a page of any kind, and its set in UTF-8.
-use Rattle.std.specs.Prelude.{◌≡◌, ℕ, ◌+◌, ◌^◌, ◌<◌, ◌⊎◌, Bool, true, false, ◌==◌, if◌then◌else◌, nat_lt, List}
-use Rattle.std.specs.Prelude.{◌++◌, ◌∷◌, [], drop, length, map, Option, Some, None, option_map}
+use Rattle.std.specs.Prelude.{◌≡◌, ℕ, ◌+◌, ◌*◌, ◌^◌, ◌<◌, ◌⊎◌, Bool, true, false, ◌==◌, if◌then◌else◌, nat_lt, List}
+use Rattle.std.specs.Prelude.{◌++◌, ◌∷◌, [], drop, length, map, min, Option, Some, None, option_map}
 use Rattle.std.specs.List.{AllZip, list_any}
 use Rattle.std.specs.Int.{w16, w32, to_le_bytes, cast_unsigned}
 use Rattle.msi_text_base.specs.declared.codepage.CodePage.TheVariants as page
@@ -85,14 +85,19 @@ all_in_utf8 entries = map (λ e. (e.0, in_utf8 e.0 e.1)) entries
 abbrev pub stream_size : List (ℕ × PropertyValue) → ℕ
 stream_size entries = 48 + section_size page.Utf8 (all_in_utf8 entries)
 
--- no file holds a stream of more than 2^31 bytes
-abbrev pub is_too_long : List (ℕ × PropertyValue) → Bool
-is_too_long entries = nat_lt (2 ^ 31) (stream_size entries)
+-- how many bytes a stream of n bytes may have in UTF-8. A byte of any page reads as at most three, so only values that
+-- overlap have more than four times as many. No file holds a stream of more than 2^31
+abbrev pub most_size : ℕ → ℕ
+most_size n = min (2 ^ 31) (4 * n + 65536)
+
+-- these values of a stream of n bytes are too long in UTF-8
+abbrev pub is_too_long : ℕ → List (ℕ × PropertyValue) → Bool
+is_too_long n entries = nat_lt (most_size n) (stream_size entries)
 
 -- the bytes after are the plain spelling of the set that the bytes before have, in UTF-8
 abbrev pub IsSummaryRecoded : Option TextPage → List ℕ → List ℕ → Type 0
 IsSummaryRecoded given before after = (set : Properties) × (summary : IsSummary given before set)
-    × (is_too_long summary.entries ≡ false) × (property_stream set ≡ Some after) × Spells after set
+    × (is_too_long (length before) summary.entries ≡ false) × (property_stream set ≡ Some after) × Spells after set
 
 -- the bytes have this header, list these places by their ids, and name this page of the texts
 abbrev pub IsListed : Option TextPage → List ℕ → Header → List (ℕ × ℕ) → TextPage → Type 0
@@ -120,7 +125,7 @@ pub record IsFirstUnread (version : ℕ) (page : TextPage) (bytes : List ℕ) (s
   pub listed : pairs ≡ front ++ (id, place) ∷ behind
   pub entries : List (ℕ × PropertyValue)
   pub spelled : AreSpelled version page bytes section front entries
-  pub short : is_too_long entries ≡ false
+  pub short : is_too_long (length bytes) entries ≡ false
   pub fails : ((value : PropertyValue) → EntryStandsAt version page bytes section (id, place) (id, value) → ⊥)
       ⊎ (list_any (λ p. p.0 == id) front ≡ true)
 
@@ -132,7 +137,7 @@ pub record AreTooLong (version : ℕ) (page : TextPage) (bytes : List ℕ) (sect
   pub listed : pairs ≡ front ++ behind
   pub entries : List (ℕ × PropertyValue)
   pub spelled : AreSpelled version page bytes section front entries
-  pub long : is_too_long entries ≡ true
+  pub long : is_too_long (length bytes) entries ≡ true
 
 -- an error of the values: memory, the first that isn't read, or that they are too long
 abbrev pub IsValuesError : ℕ → TextPage → List ℕ → ℕ → List (ℕ × ℕ) → RecodeError → Type 0

@@ -9,7 +9,7 @@ ghost use Rattle.msi_text_base.specs.declared.errors.ErrorKind.TheVariants.{Inva
 ghost use Rattle.msi_summary_properties.specs.PropertyWriting.{piece_in};
 ghost use Rattle.msi_recode.specs.Readers.{page_of};
 ghost use Rattle.msi_recode.specs.SummaryReading.{CanBePut, IsCounted, IsNotCounted};
-ghost use Rattle.msi_recode.specs.SummaryRecoding.{IsValuesError, in_utf8};
+ghost use Rattle.msi_recode.specs.SummaryRecoding.{IsValuesError, in_utf8, most_size};
 
 use crate::errors::RecodeError;
 use crate::reader::TextReader;
@@ -26,12 +26,17 @@ const NO_VALUES: usize = 56;
 /// The most bytes of a stream that a file holds.
 const MOST_BYTES: usize = 1 << 31;
 
+/// The bytes that a stream may have in UTF-8 beyond four times its own. So values of a small stream may overlap.
+const MORE_BYTES: usize = 65_536;
+
 /// Checks that the values of these pairs are read, that no id is listed twice, and that the stream of the values in
-/// UTF-8 isn't too long. One text at a time is in memory, so that nothing is built of texts that many ids share.
+/// UTF-8 isn't too long (`most_size`). One text at a time is in memory, so that nothing is built of texts that many ids
+/// share, and the first that makes the stream too long is the last to be decoded.
 ///
 /// # Errors
 /// Fails with `InvalidData` at the first value that isn't read or is listed twice, which it names, with `InvalidInput`
-/// at the first with which the stream has more than 2^31 bytes, and otherwise with `OutOfMemory`.
+/// at the first with which the stream has more than four times the bytes and 64 KiB, or more than 2^31 bytes, and
+/// otherwise with `OutOfMemory`.
 pub(crate) fn check_values(
     alloc: Global,
     version: u16,
@@ -43,6 +48,7 @@ pub(crate) fn check_values(
     ensures ok { OnOk result (CanBePut version (page_of reader.now) bytes.now section pairs.now) }
     ensures err { IfErr result (λ error. IsValuesError version (page_of reader.now) bytes.now section pairs.now error) }
 {
+    let most = most_size(bytes);
     let mut ids = BTreeSet::new(alloc);
     let mut size = NO_VALUES;
     for &(id, place) in pairs {
@@ -51,7 +57,7 @@ pub(crate) fn check_values(
             Ok(len) => size += 8 + len,
             Err(error) => return Err(RecodeError::Property(id, error)),
         }
-        if size > MOST_BYTES {
+        if size > most {
             return Err(RecodeError::Package(Error::new(
                 ErrorKind::InvalidInput,
                 reasons::SUMMARY_LONG,
@@ -59,6 +65,17 @@ pub(crate) fn check_values(
         }
     }
     Ok(())
+}
+
+/// How many bytes the stream with these bytes may have in UTF-8. A byte of any page reads as at most three, so only
+/// values that overlap have more than four times as many.
+fn most_size(bytes: &[u8]) -> usize
+    ensures { result ≡ most_size (length bytes.now) }
+{
+    if bytes.len() > MOST_BYTES {
+        return MOST_BYTES;
+    }
+    (4 * bytes.len() + MORE_BYTES).min(MOST_BYTES)
 }
 
 /// How many bytes the value whose bytes begin here has in UTF-8, with its padding. Its id is put among the earlier

@@ -32,8 +32,9 @@ use std::marker::Model;
 ///
 /// # Errors
 /// Fails with `InvalidData` if the bytes hold no compound file or a stream of the pool or the summary is missing. Fails
-/// as `recode_pool` does, and where the pool is recoded as `recode_summary` does. Fails with `InvalidInput` if storages
-/// lie below the root, or if the file would pass 2^31 bytes, and otherwise with `OutOfMemory`.
+/// as `recode_pool` does, and where the pool is recoded as `recode_summary` does: also with `InvalidInput` if the
+/// summary would have more than four times its bytes and 64 KiB, or more than 2^31 bytes. Fails with `InvalidInput` if
+/// storages lie below the root, or if the file would pass 2^31 bytes, and otherwise with `OutOfMemory`.
 pub fn recode(alloc: Global, given: Option<TextPage>, bytes: &[u8]) -> Result<Vec<u8>, RecodeError>
     ensures ok { IfOk result (λ after. IsFileRecoded given bytes.now after.items) }
     // What can be recoded is recoded, unless memory is refused.

@@ -25,5 +25,5 @@ pub(crate) const PROPERTY_PAGE: Reason = Reason("the code page of the summary is
 pub(crate) const PROPERTY_TWICE: Reason = Reason("the summary has a property twice");
 
 pub(crate) const SUMMARY_LONG: Reason = Reason(
-    "the summary would have more than 2^31 bytes in UTF-8",
+    "the summary's texts overlap, or it would have more than 2^31 bytes in UTF-8",
 );

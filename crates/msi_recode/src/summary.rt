@@ -1,6 +1,6 @@
 //! The summary's stream, with its texts in UTF-8.
 
-ghost use Rattle.std.specs.Prelude.{◌≡◌, ℕ, ◌+◌, ◌==◌, ◌⊎◌, List, [], drop, Some, None};
+ghost use Rattle.std.specs.Prelude.{◌≡◌, ℕ, ◌+◌, ◌==◌, ◌⊎◌, List, [], drop, length, Some, None};
 ghost use Rattle.std.specs.Prelude.{is_some, true, false, IfOk, IfErr, OnOk};
 ghost use Rattle.msi_text_base.specs.Lists.{entry_where};
 ghost use Rattle.msi_text_base.specs.Results.{Gives};
@@ -38,8 +38,9 @@ pub(crate) const PAGE: u32 = 1;
 /// # Errors
 /// Fails with `InvalidData` if the bytes list no values, if property 1 names no known page, or at the first value that
 /// isn't there, isn't read in the page or is listed twice, which is named. Fails with `InvalidInput` at the first value
-/// with which the stream would have more than 2^31 bytes, the most that a file holds, and otherwise with `OutOfMemory`.
-/// What is refused is refused before any value is kept.
+/// with which the new stream would have more than four times the bytes of the old one and 64 KiB, which happens only if
+/// values overlap, or more than 2^31 bytes, the most that a file holds. Fails otherwise with `OutOfMemory`. What is
+/// refused is refused before any value is kept.
 pub fn recode_summary(
     alloc: Global,
     given: Option<TextPage>,
@@ -65,7 +66,7 @@ fn set_in_utf8(
     bytes: &[u8],
 ) -> Result<PropertySet, RecodeError>
     ensures ok { IfOk result (λ set.
-        (summary : IsSummary given bytes.now set) × (is_too_long summary.entries ≡ false)) }
+        (summary : IsSummary given bytes.now set) × (is_too_long (length bytes.now) summary.entries ≡ false)) }
     ensures written { IfOk result (λ set. is_refused set ≡ false) }
     ensures exact { IfErr result (λ error. IsSummaryError given bytes.now error) }
 {

@@ -17,8 +17,8 @@ returns-in-Err-clause-err c =
     value_unread c.args.version page c.args.bytes.now c.args.section pairs i pair.0 pair.1 c.loop-id.ids c.loop-id.size (λ i. omega (arith, c.type_inv.bytes i)) c.loop-id.invariant.0 c.loop-id.invariant.1 c.loop-id-test.true refl
     (subst (λ bytes. IsNotCounted c.args.version page bytes (contains nat_cmp c.loop-id.ids pair.0)) c.rest_from-rest.ensures (c.in-Err.ensures.refused invalid)))
 
-pub returns-then-size-gt-MOST_BYTES-clause-err : goal.returns-then-size-gt-MOST_BYTES-clause-err
-returns-then-size-gt-MOST_BYTES-clause-err c =
+pub returns-then-size-most-clause-err : goal.returns-then-size-most-clause-err
+returns-then-size-most-clause-err c =
     let page = page_of c.args.reader.now in
     let pairs = c.args.pairs.now in
     let i = c.loop-id.id-index in
@@ -27,7 +27,7 @@ returns-then-size-gt-MOST_BYTES-clause-err c =
     (subst (λ bytes. IsCounted c.args.version page bytes pair.0 c.in-Ok.len) c.rest_from-rest.ensures c.in-Ok.ensures.ok) c.in-Ok.ensures.new c.in-Ok.ensures.ids in
     inr (inr (
       ap error.Package c.new.ensures,
-      too_long c.args.version page c.args.bytes.now c.args.section pairs (i + 1) (c.loop-id.size + (8 + c.in-Ok.len)) c.count_value.new.ids (λ i. omega (arith, c.type_inv.bytes i)) counted (omega (arith, c.if-size-gt-MOST_BYTES.true)),
+      too_long c.args.version page c.args.bytes.now c.args.section pairs (i + 1) (c.loop-id.size + (8 + c.in-Ok.len)) c.count_value.new.ids (λ i. omega (arith, c.type_inv.bytes i)) counted (let most = c.most_size-most.ensures in omega (arith, c.if-size-most.true, most)),
     ))
 
 pub loop-id-preserved : goal.loop-id-preserved
@@ -38,5 +38,5 @@ loop-id-preserved c =
     let pair = get_or pairs i (0, 0) in (
       counted_next c.args.version page c.args.bytes.now c.args.section pairs i pair.0 pair.1 c.loop-id.ids c.count_value.new.ids c.loop-id.size c.in-Ok.len c.loop-id.invariant.0 c.loop-id-test.true refl
           (subst (λ bytes. IsCounted c.args.version page bytes pair.0 c.in-Ok.len) c.rest_from-rest.ensures c.in-Ok.ensures.ok) c.in-Ok.ensures.new c.in-Ok.ensures.ids,
-      omega (arith, c.if-size-gt-MOST_BYTES.false),
+      (let most = c.most_size-most.ensures in omega (arith, c.if-size-most.false, most)),
     )
