@@ -7,4 +7,3 @@ pub use Rattle.msi_summary_properties.specs.Properties
 pub use Rattle.msi_summary_properties.specs.PropertyStream
 pub use Rattle.msi_summary_properties.specs.PropertyWriting
 pub use Rattle.msi_summary_properties.specs.PropertyLaws
-pub use Rattle.msi_summary_properties.specs.TextSizes
