@@ -2,7 +2,7 @@
 
 use msipkg_packages::msi::{CodePage, Package, PackageType};
 use msipkg_packages::output::{Failure, Opened, System};
-use msipkg_packages::{new_package, write_file, written};
+use msipkg_packages::{file_bytes, new_package, write_file};
 use std::alloc::Global;
 
 /// Makes a file with a new package of a kind, `installer`, `patch` or `transform`. Its texts are in the code page of a
@@ -31,7 +31,10 @@ fn new_bytes(alloc: Global, kind: &str, page: Option<&str>) -> Result<Vec<u8>, F
     };
     let mut package = new_package(alloc, kind)?;
     set_pages(&mut package, page)?;
-    written(package)
+    match file_bytes(package)? {
+        Some(bytes) => Ok(bytes),
+        None => Err(Failure::rule("a new package was read from a file")),
+    }
 }
 
 /// The kind of a name.

@@ -2,11 +2,11 @@
 
 use msipkg_packages::msi::Package;
 use msipkg_packages::output::{Failure, Opened, Output, System};
-use msipkg_packages::{replace_file, written};
+use msipkg_packages::{file_bytes, replace_file};
 use msipkg_texts::Shown;
 
-/// Replaces a file by a package that was changed. If the package is signed, `errors` gets a line that says that the
-/// signature is no longer valid.
+/// Replaces a file by a package that was changed, and leaves the file alone if nothing was. If a package that was
+/// changed is signed, `errors` gets a line that says that the signature is no longer valid.
 ///
 /// # Errors
 /// Fails as `Package::flush` and the calls of the system do. Then the file is as it was.
@@ -17,8 +17,8 @@ pub(crate) fn store(
     errors: &mut Output,
 ) -> Result<(), Failure> {
     let is_signed = package.has_digital_signature();
-    replace_by(rt, file, package)?;
-    if is_signed {
+    let is_replaced = replace_by(rt, file, package)?;
+    if is_signed && is_replaced {
         let file = Shown::escaped(file);
         writeln!(
             errors,
@@ -28,8 +28,11 @@ pub(crate) fn store(
     Ok(())
 }
 
-/// Replaces a file by a package.
-fn replace_by(rt: &System, file: &str, package: Package<Opened>) -> Result<(), Failure> {
-    let bytes = written(package)?;
-    replace_file(rt, file, bytes.as_slice())
+/// Replaces a file by a package, if that was changed, and returns whether it was.
+fn replace_by(rt: &System, file: &str, package: Package<Opened>) -> Result<bool, Failure> {
+    let Some(bytes) = file_bytes(package)? else {
+        return Ok(false);
+    };
+    replace_file(rt, file, bytes.as_slice())?;
+    Ok(true)
 }

@@ -12,7 +12,7 @@ pub use msi;
 pub use msipkg_files::{
     Folder, PackageFile, Purpose, open_new, output, replace_file, settle, write_file,
 };
-pub use opening::{kind_name, new_package, open_package, written};
+pub use opening::{file_bytes, kind_name, new_package, open_package};
 pub use stored::{StoredStreams, stored_streams, stream_bytes};
 pub use summary_texts::{property_text, uuid_text};
 pub use tables::{chosen_tables, is_list, rows_of, table_named};

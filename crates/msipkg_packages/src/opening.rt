@@ -70,11 +70,11 @@ pub fn new_package(alloc: Global, kind: PackageType) -> Result<Package<Opened>, 
     Ok(Package::create(alloc, kind, Metered::new(Carrier::new(alloc, origin)))?)
 }
 
-/// Returns the bytes of a package's file.
+/// Returns the bytes that a package's file is to have, or nothing if the file that the package was read from has them.
 ///
 /// # Errors
 /// Fails as `Package::flush` does.
-pub fn written(mut package: Package<Opened>) -> Result<Vec<u8>, Failure> {
+pub fn file_bytes(mut package: Package<Opened>) -> Result<Option<Vec<u8>>, Failure> {
     package.flush()?;
-    Ok(package.into_reader().into_inner().into_written())
+    Ok(package.into_reader().into_inner().into_file_bytes())
 }

@@ -34,10 +34,18 @@ impl Carrier {
         }
     }
 
-    /// Returns the bytes that were written.
-    pub fn into_written(self) -> Vec<u8> {
-        let Carrier { origin: _, written } = self;
-        written.into_inner()
+    /// Returns the bytes that the package's file is to have: those that were written, and else those that the package
+    /// was read from, if they aren't those of a file.
+    pub fn into_file_bytes(self) -> Option<Vec<u8>> {
+        let Carrier { origin, written } = self;
+        let written = written.into_inner();
+        if !written.is_empty() {
+            return Some(written);
+        }
+        match origin {
+            Origin::File(_) => None,
+            Origin::Memory(bytes) => Some(bytes.into_inner()),
+        }
     }
 }
 
