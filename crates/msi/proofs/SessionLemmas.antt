@@ -9,14 +9,14 @@ use Rattle.msi_database_changes.proofs.RefusedLemmas.{not_refused, first_fails}
 use Rattle.msi_container_write.specs.Layout.{layout, refuses}
 use Rattle.msi_database_changes.proofs.ShownLemmas.{ok_first}
 use Rattle.msi_database_storage.specs.Streams.{Streams}
-use Rattle.msi.specs.State.{State}
-use Rattle.msi.specs.Meaning.{IsPackage}
+use Rattle.msi.specs.State.{State, parts_of}
+use Rattle.msi.specs.Meaning.{IsPackage, Means, OpensTo}
 use Rattle.msi.specs.Calls.{Call, Answer}
 use Rattle.msi.specs.Calls as calls
 use Rattle.msi.specs.Steps.{Step, flushed, written_for, streams_written, image_refusals, contents_of, as_written}
 use Rattle.msi.specs.Runs.{Session, SessionStep, FlushLeaves, SameDevice, FitsCall, TextsAreWritable, HoldsPackage, IsSession}
-use Rattle.msi.specs.Laws.{RunsKeepSessions, FlushedIsHeld, FlushHoldsImage}
-use Rattle.msi.proofs.FlushLemmas.{flush_package}
+use Rattle.msi.specs.Laws.{RunsKeepSessions, FlushedIsHeld, FlushHoldsImage, ImagesMean}
+use Rattle.msi.proofs.FlushLemmas.{flush_package, flush_parts}
 use Rattle.msi.proofs.MeaningLemmas.{image_means, image_opens}
 use Rattle.msi.proofs.StepLemmas.{written_is}
 use Rattle.msi.proofs.RunLemmas.{session_keeps}
@@ -143,3 +143,22 @@ pub flush_holds_image : FlushHoldsImage
 flush_holds_image x y answer unwritten (inl is, d) = image_by x y answer x.state.is_unwritten (written_for x.state (length x.held)) unwritten is d
 flush_holds_image x y answer unwritten (inr (inl memory), d) = no_answer _ (sym memory.1)
 flush_holds_image x y answer unwritten (inr (inr fault), d) = no_answer _ (sym fault.1)
+
+-- what a state is laid out as
+abbrev laid_bytes : State → ℕ → Streams → Result (List ℕ) ErrorKind
+laid_bytes s n streams = Ok (layout (contents_of s streams) n)
+
+abbrev bytes_in : List ℕ → Result (List ℕ) ErrorKind → List ℕ
+bytes_in other (Ok bytes) = bytes
+bytes_in other (Err kind) = other
+
+pub images_mean : ImagesMean
+images_mean s n bytes h writable e =
+    let first = ok_first (written_for s n) (laid_bytes s n) bytes e in
+    let holds = left_by s first.0 n h first.1 refl writable in
+    let are : layout (contents_of s first.0) n ≡ bytes = ap (bytes_in []) first.2 in
+    let parts : parts_of (as_written s first.0) ≡ parts_of s = flush_parts s first.0 h (written_is s n first.0 first.1) in
+    record {
+      means = subst (λ (b : List ℕ). Means b (parts_of s)) are (subst (Means (layout (contents_of s first.0) n)) parts holds.means);
+      opens = (as_written s first.0, parts, subst (λ (b : List ℕ). OpensTo b (Ok (as_written s first.0))) are holds.opens);
+    }

@@ -159,6 +159,16 @@ abbrev pub FlushHoldsImage : Type 0
 FlushHoldsImage = (old new : Session) (answer : Answer) → old.state.is_unwritten ≡ true
     → SessionStep old calls.flush (Ok answer) new → image_of old.state (length old.held) ≡ Ok new.held
 
+-- the bytes that `image` answers mean the package as it is, written or not, and opening them gives it with nothing
+-- unwritten
+pub record IsHeldBy (s : State) (bytes : List ℕ) : Type 0 where
+  pub means : Means bytes (parts_of s)
+  pub opens : (left : State) × (parts_of left ≡ parts_of s) × OpensTo bytes (Ok left)
+
+abbrev pub ImagesMean : Type 0
+ImagesMean = (s : State) (earlier_len : ℕ) (bytes : List ℕ) → IsPackage s → TextsAreWritable s
+    → image_of s earlier_len ≡ Ok bytes → IsHeldBy s bytes
+
 -- what is made, over a device of any length, and what is opened, over the bytes that it was read from, are sessions
 abbrev pub CreatedIsSession : Type 0
 CreatedIsSession = (kind : PackageType) (earlier_len : ℕ) (s : Session) → created_over kind earlier_len ≡ Ok s

@@ -5,7 +5,7 @@ ghost use Rattle.msi.specs.Laws.{BytesMeanOne, BytesOpenToOne, OpenedArePackages
 ghost use Rattle.msi.specs.Laws.{FlushKeepsParts, RemovesItsStream, RemovesSignature, WritesItsStream};
 ghost use Rattle.msi.specs.Laws.{RecountsMakeExact, RunsKeepPackages, StepsAreFixed, StepsKeepPackages};
 ghost use Rattle.msi.specs.Laws.{CreatedIsSession, FlushHoldsImage, FlushedIsHeld, OpenedIsSession, RunsKeepSessions};
-ghost use Rattle.msi.specs.Laws.{CreatedAreOpened, FlushesAreSteps, ReplaysMean, ReplaysOverMean};
+ghost use Rattle.msi.specs.Laws.{CreatedAreOpened, FlushesAreSteps, ImagesMean, ReplaysMean, ReplaysOverMean};
 ghost use Rattle.msi.specs.Writable.{IsWritableUnderUtf8, Utf8TextsAreWritable};
 
 use crate::package::Package;
@@ -115,6 +115,12 @@ pub fn flushes_are_steps()
 /// A flush writes the bytes that `image` returns for the earlier length.
 pub fn flush_holds_image()
     ensures { FlushHoldsImage }
+{}
+
+/// The bytes that `image` returns for a package mean it as it is, whether it is written or not, and opening them gives
+/// it, if each of its texts can be written in its page.
+pub fn images_mean()
+    ensures { ImagesMean }
 {}
 
 /// After any calls on a new package and a last flush that succeeds, each count is the number of its cells, and no two

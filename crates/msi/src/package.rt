@@ -97,6 +97,13 @@ impl<F: Source> Package<F> {
         self.database.codepage()
     }
 
+    /// Returns whether there are changes that no flush has written.
+    pub fn is_unwritten(&self) -> bool
+        ensures { result ≡ self.now.state.is_unwritten }
+    {
+        self.is_unwritten
+    }
+
     /// Returns whether there is a table of this name.
     pub fn has_table(&self, name: &str) -> bool
         ensures { result ≡ has_one name.now self.now.state.kept.database }

@@ -1,12 +1,12 @@
 //! The commands that change packages: what is asked for, and its change.
 
 use crate::commands::Asked;
-use msipkg_changes::{Change, change_file, create_file};
+use msipkg_changes::{Change, Manner, change_file, create_file};
 use msipkg_output::{Failure, Output, System};
 use msipkg_packages::Purpose;
 use msipkg_words::Verb;
 
-/// Whether a command changes a package, and prints nothing.
+/// Whether a command changes a package.
 pub(crate) fn is_change(asked: &Asked<'_, '_>) -> bool {
     match asked.verb {
         Verb::New | Verb::Add | Verb::Remove | Verb::Exec | Verb::Import | Verb::Batch => true,
@@ -22,6 +22,7 @@ pub(crate) fn is_change(asked: &Asked<'_, '_>) -> bool {
 pub(crate) fn change(
     rt: &System,
     asked: &Asked<'_, '_>,
+    output: &mut Output,
     errors: &mut Output,
 ) -> Result<(), Failure> {
     match asked.verb {
@@ -30,8 +31,19 @@ pub(crate) fn change(
         _ => {
             let purpose = asked.purpose_of_change(Purpose::Recode);
             let file = asked.package(asked.file(), purpose);
-            change_file(rt, &file, change_of(asked), errors)
+            let (change, manner) = (change_of(asked), manner_of(asked));
+            change_file(rt, &file, change, manner, output, errors)
         }
+    }
+}
+
+/// How a command changes a package.
+pub(crate) fn manner_of(asked: &Asked<'_, '_>) -> Manner {
+    Manner {
+        is_strict: asked.given.get_flag("strict"),
+        is_verified: !asked.given.get_flag("no-verify"),
+        is_json: asked.is_json(),
+        style: asked.style,
     }
 }
 
@@ -46,7 +58,10 @@ fn create(rt: &System, asked: &Asked<'_, '_>) -> Result<(), Failure> {
 fn change_of<'a, 'b>(asked: &Asked<'a, 'b>) -> Change<'a, 'b> {
     match asked.verb {
         Verb::Add => Change::Add(asked.texts("NAME=PATH")),
-        Verb::Remove => Change::Remove(asked.texts("NAME")),
+        Verb::Remove => Change::Remove {
+            names: asked.texts("NAME"),
+            is_signature: asked.given.get_flag("signature"),
+        },
         Verb::Exec => Change::Execute(asked.texts("TEXT")),
         Verb::Import => Change::Import(asked.texts("PATH")),
         _ => Change::Properties {

@@ -188,7 +188,7 @@ fn obey(
     errors: &mut Output,
 ) -> Result<bool, Failure> {
     if is_change(asked) {
-        changing::change(rt, asked, errors)?;
+        changing::change(rt, asked, output, errors)?;
         return Ok(true);
     }
     match asked.verb {

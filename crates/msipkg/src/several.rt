@@ -1,5 +1,6 @@
 //! Commands that take several files: an error in one is printed, and the others go on.
 
+use crate::changing::manner_of;
 use crate::commands::{Asked, report};
 use crate::exchanging::is_each;
 use crate::looking::look;
@@ -78,7 +79,7 @@ fn print_one(
 ) -> Result<bool, Failure> {
     if asked.given.get_flag("fix") {
         let purpose = asked.purpose_of_change(Purpose::RecodeSilently);
-        mend_counts(rt, &asked.package(file, purpose), errors)?;
+        mend_counts(rt, &asked.package(file, purpose), manner_of(asked), errors)?;
     }
     look(rt, asked, file, output, errors)
 }

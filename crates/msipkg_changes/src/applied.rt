@@ -1,8 +1,11 @@
 //! Statements carried out on a package.
 
 use crate::definition::Definition;
-use msipkg_packages::msi::{Package, Statement};
+use crate::outcome::Carried;
+use msi_query::parts::{delete_parts, insert_parts, update_parts};
+use msipkg_packages::msi::{Error, Expr, Package, Select, Statement};
 use msipkg_packages::output::{Failure, Opened};
+use std::alloc::Global;
 
 /// Carries out a statement on rows.
 ///
@@ -23,17 +26,62 @@ pub(crate) fn apply_statement(
     Ok(changed?)
 }
 
-/// Carries out a change of tables.
+/// Returns what a statement does, and to how many rows: an insert to those that it gives, the others to those for which
+/// their condition holds.
+///
+/// # Errors
+/// Fails if the condition can't be decided, as the statement itself does then.
+pub(crate) fn counted(
+    alloc: Global,
+    package: &Package<Opened>,
+    statement: Statement,
+) -> Result<Carried, Error> {
+    match statement {
+        Statement::Select(_) => Ok(Carried::Changed(0)),
+        Statement::Insert(insert) => Ok(Carried::Inserted(insert_parts(insert).rows.len())),
+        Statement::Update(update) => {
+            let parts = update_parts(update);
+            let count = count_rows(alloc, package, parts.table.as_str(), parts.condition)?;
+            Ok(Carried::Changed(count))
+        }
+        Statement::Delete(delete) => {
+            let parts = delete_parts(delete);
+            let count = count_rows(alloc, package, parts.table.as_str(), parts.condition)?;
+            Ok(Carried::Deleted(count))
+        }
+    }
+}
+
+/// How many rows of a table meet a condition.
+fn count_rows(
+    alloc: Global,
+    package: &Package<Opened>,
+    table: &str,
+    condition: Option<Expr>,
+) -> Result<usize, Error> {
+    let mut query = Select::table(alloc, table)?;
+    if let Some(condition) = condition {
+        query = query.with(condition)?;
+    }
+    Ok(package.select_rows(query)?.len())
+}
+
+/// Carries out a change of tables, and returns what it did.
 ///
 /// # Errors
 /// Fails as the change does. Then nothing has changed.
 pub(crate) fn apply_definition(
     package: &mut Package<Opened>,
     definition: Definition<'_>,
-) -> Result<(), Failure> {
-    let changed = match definition {
-        Definition::Create { table, columns } => package.create_table(table, columns),
-        Definition::Remove { table } => package.drop_table(table),
-    };
-    Ok(changed?)
+) -> Result<Carried, Failure> {
+    match definition {
+        Definition::Create { table, columns } => {
+            package.create_table(table, columns)?;
+            Ok(Carried::Created)
+        }
+        Definition::Remove { table } => {
+            package.drop_table(table)?;
+            Ok(Carried::Dropped)
+        }
+    }
 }

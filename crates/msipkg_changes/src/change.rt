@@ -1,14 +1,17 @@
 //! The commands that change a package: each is lent the one that is opened here.
 
 use crate::importing::import_files;
+use crate::outcome::Outcome;
+use crate::pages::recode;
 use crate::properties::set_properties;
-use crate::recounting::noted;
+use crate::recounting::{mend_first, noted};
 use crate::statements::{carry_out_statements, check_statements};
 use crate::storing::store;
-use crate::streams::{add_streams, remove_streams};
+use crate::streams::{add_streams, remove_parts};
 use msipkg_packages::msi::Package;
 use msipkg_packages::output::{Failure, Opened, Output, System};
-use msipkg_packages::{PackageFile, open_package};
+use msipkg_packages::{FileState, PackageFile, open_to_change};
+use msipkg_texts::Style;
 use std::alloc::Global;
 
 /// A change of a package.
@@ -16,8 +19,11 @@ use std::alloc::Global;
 pub enum Change<'a, 'b> {
     /// Files are stored as streams, each given as `NAME=PATH`.
     Add(&'b [&'a str]),
-    /// The streams of these names are removed.
-    Remove(&'b [&'a str]),
+    /// The streams of these names are removed, and its digital signature where that is asked for.
+    Remove {
+        names: &'b [&'a str],
+        is_signature: bool,
+    },
     /// Statements are carried out.
     Execute(&'b [&'a str]),
     /// It gets what the files of these paths have.
@@ -29,29 +35,68 @@ pub enum Change<'a, 'b> {
     },
 }
 
-/// Changes the package of a file: all of the change, or none of it. Statements are read before the file is. If the
-/// package is signed, `notes` gets a line that says that the signature is no longer valid.
+/// How a package is changed.
+#[derive(Clone, Copy)]
+pub struct Manner {
+    /// Whether reference counts that are too low refuse a change, in place of being mended first.
+    pub is_strict: bool,
+    /// Whether the new bytes are opened before they take the place of the file.
+    pub is_verified: bool,
+    /// Whether the counts of rows are printed as JSON, in place of a line for each statement.
+    pub is_json: bool,
+    /// How JSON is printed.
+    pub style: Style,
+}
+
+/// Changes the package of a file: all of the change, or none of it. Statements are read before the file is. `notes`
+/// gets lines that say what else the change does to the file, and then what each statement did; as JSON that goes to
+/// `output`.
 ///
 /// # Errors
-/// Fails at the first text that is no statement, and as `open_package`, the change and the calls of the system do. Then
-/// the file is as it was.
+/// Fails at the first text that is no statement, and as `open_package`, the change, `bytes_to_write` and the calls of
+/// the system do. Then the file is as it was.
 pub fn change_file(
     rt: &System,
     file: &PackageFile<'_>,
     change: Change<'_, '_>,
+    manner: Manner,
+    output: &mut Output,
     notes: &mut Output,
 ) -> Result<(), Failure> {
     check_words(rt.alloc(), change)?;
-    let mut package = open_package(rt, file, notes)?;
-    apply(rt, &mut package, change)?;
-    store(rt, file.path, package, notes)
+    let mut outcome = Outcome::new(rt.alloc());
+    let (package, state) = changed_package(rt, file, change, manner, &mut outcome, notes)?;
+    store(rt, file.path, package, state, manner, notes)?;
+    outcome.note_mended(file.path, notes);
+    if manner.is_json {
+        outcome.print(rt.alloc(), manner.style, file.path, output);
+    } else {
+        outcome.note_carried(file.path, notes);
+    }
+    Ok(())
+}
+
+/// The package of a file with the change made, and how the file differed from it when it was opened.
+fn changed_package(
+    rt: &System,
+    file: &PackageFile<'_>,
+    change: Change<'_, '_>,
+    manner: Manner,
+    outcome: &mut Outcome,
+    notes: &mut Output,
+) -> Result<(Package<Opened>, FileState), Failure> {
+    let (mut package, state) = open_to_change(rt, file, notes)?;
+    apply(rt, &mut package, change, manner, outcome)?;
+    recode(&mut package, file.purpose, manner, outcome)?;
+    Ok((package, state))
 }
 
 /// Fails if a statement is given that is none.
 fn check_words(alloc: Global, change: Change<'_, '_>) -> Result<(), Failure> {
     match change {
         Change::Execute(texts) => check_statements(alloc, texts),
-        _ => Ok(()),
+        Change::Add(_) | Change::Remove { .. } | Change::Import(_) | Change::Properties { .. } =>
+            Ok(()),
     }
 }
 
@@ -60,19 +105,32 @@ fn apply(
     rt: &System,
     package: &mut Package<Opened>,
     change: Change<'_, '_>,
+    manner: Manner,
+    outcome: &mut Outcome,
 ) -> Result<(), Failure> {
     match change {
         Change::Add(pairs) => add_streams(rt, package, pairs),
-        Change::Remove(names) => remove_streams(rt.alloc(), package, names),
-        Change::Execute(texts) => execute(rt.alloc(), package, texts),
-        Change::Import(paths) => import_files(rt, package, paths),
+        Change::Remove {
+            names,
+            is_signature,
+        } => remove_parts(rt.alloc(), package, names, is_signature),
+        Change::Execute(texts) => execute(rt.alloc(), package, texts, manner, outcome),
+        Change::Import(paths) => import_files(rt, package, paths, manner, outcome),
         Change::Properties { set, cleared } => set_properties(rt.alloc(), package, set, cleared),
     }
 }
 
-/// Carries out statements. Their failure has the note that counting anew mends it, if that is so.
-fn execute(alloc: Global, package: &mut Package<Opened>, texts: &[&str]) -> Result<(), Failure> {
-    match carry_out_statements(alloc, package, texts) {
+/// Carries out statements. Counts that are too low for that are mended first, or their failure has the note that
+/// counting anew mends it.
+fn execute(
+    alloc: Global,
+    package: &mut Package<Opened>,
+    texts: &[&str],
+    manner: Manner,
+    outcome: &mut Outcome,
+) -> Result<(), Failure> {
+    mend_first(package, manner, outcome);
+    match carry_out_statements(alloc, package, texts, outcome) {
         Ok(()) => Ok(()),
         Err(failure) => Err(noted(package, failure)),
     }

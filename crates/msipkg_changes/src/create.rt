@@ -2,7 +2,7 @@
 
 use msipkg_packages::msi::{CodePage, Package, PackageType};
 use msipkg_packages::output::{Failure, Opened, System};
-use msipkg_packages::{file_bytes, new_package, write_file};
+use msipkg_packages::{FileBytes, new_package, verified, write_package};
 use std::alloc::Global;
 
 /// Makes a file with a new package of a kind, `installer`, `patch` or `transform`. Its texts are in the code page of a
@@ -19,11 +19,12 @@ pub fn create_file(
     is_forced: bool,
 ) -> Result<(), Failure> {
     let bytes = new_bytes(rt.alloc(), kind, page)?;
-    write_file(rt, path, is_forced, bytes.as_slice())
+    let bytes = verified(rt.alloc(), bytes)?;
+    write_package(rt, path, is_forced, &bytes)
 }
 
 /// The bytes of a new package.
-fn new_bytes(alloc: Global, kind: &str, page: Option<&str>) -> Result<Vec<u8>, Failure> {
+fn new_bytes(alloc: Global, kind: &str, page: Option<&str>) -> Result<FileBytes, Failure> {
     let kind = kind_of(kind)?;
     let page = match page {
         Some(number) => page_of(number)?,
@@ -31,10 +32,7 @@ fn new_bytes(alloc: Global, kind: &str, page: Option<&str>) -> Result<Vec<u8>, F
     };
     let mut package = new_package(alloc, kind)?;
     set_pages(&mut package, page)?;
-    match file_bytes(package)? {
-        Some(bytes) => Ok(bytes),
-        None => Err(Failure::rule("a new package was read from a file")),
-    }
+    Ok(FileBytes::of(&package)?)
 }
 
 /// The kind of a name.

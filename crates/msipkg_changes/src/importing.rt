@@ -7,7 +7,9 @@ mod rules;
 mod summary;
 mod tables;
 
-use crate::recounting::noted;
+use crate::change::Manner;
+use crate::outcome::Outcome;
+use crate::recounting::{mend_first, noted};
 use crate::streams::fill_stream;
 use msipkg_packages::msi::Package;
 use msipkg_packages::output::{Failure, Opened, System};
@@ -17,7 +19,7 @@ use summary::apply_summary;
 use tables::apply_tables;
 
 /// Gives a package what files have: the code page, tables and rows, streams, and the summary, of which nothing of the
-/// old one stays.
+/// old one stays. Counts that are too low for its tables are mended first.
 ///
 /// # Errors
 /// Fails if a file can't be read, or isn't what its ending says, at its place there; and as the changes of the package
@@ -26,8 +28,13 @@ pub(crate) fn import_files(
     rt: &System,
     package: &mut Package<Opened>,
     paths: &[&str],
+    manner: Manner,
+    outcome: &mut Outcome,
 ) -> Result<(), Failure> {
     let given = read_files(rt, paths)?;
+    if given.page.is_some() || !given.tables.is_empty() {
+        mend_first(package, manner, outcome);
+    }
     match apply(rt.alloc(), package, &given) {
         Ok(()) => Ok(()),
         Err(failure) => Err(noted(package, failure)),

@@ -7,6 +7,9 @@ pub mod change;
 pub mod create;
 mod definition;
 mod importing;
+mod lost_texts;
+mod outcome;
+mod pages;
 mod properties;
 pub mod recounting;
 mod statements;
@@ -14,6 +17,6 @@ mod storing;
 mod streams;
 mod tokens;
 
-pub use change::{Change, change_file};
+pub use change::{Change, Manner, change_file};
 pub use create::create_file;
 pub use recounting::mend_counts;

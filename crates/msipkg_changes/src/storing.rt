@@ -1,38 +1,74 @@
 //! Putting a package that was changed in the place of its file.
 
+use crate::change::Manner;
+use crate::lost_texts::refusal;
 use msipkg_packages::msi::Package;
 use msipkg_packages::output::{Failure, Opened, Output, System};
-use msipkg_packages::{file_bytes, replace_file};
+use msipkg_packages::{
+    FileBytes, FileState, bytes_to_write, named_page, replace_package, verified,
+};
 use msipkg_texts::Shown;
+use std::alloc::Global;
 
 /// Replaces a file by a package that was changed, and leaves the file alone if nothing was. If a package that was
 /// changed is signed, `errors` gets a line that says that the signature is no longer valid.
 ///
 /// # Errors
-/// Fails as `Package::flush` and the calls of the system do. Then the file is as it was.
+/// Fails as `bytes_to_write` does, at the place of a text that its page can't hold, and as `verified` and the calls of
+/// the system do. Then the file is as it was.
 pub(crate) fn store(
     rt: &System,
     file: &str,
     package: Package<Opened>,
+    state: FileState,
+    manner: Manner,
     errors: &mut Output,
 ) -> Result<(), Failure> {
     let is_signed = package.has_digital_signature();
-    let is_replaced = replace_by(rt, file, package)?;
-    if is_signed && is_replaced {
-        let file = Shown::escaped(file);
-        writeln!(
-            errors,
-            "msipkg: {file}: its digital signature is no longer valid"
-        );
+    let Some(bytes) = new_bytes(rt.alloc(), package, state)? else {
+        return Ok(());
+    };
+    replace_by(rt, file, bytes, state, manner, errors)?;
+    if is_signed {
+        note(file, "its digital signature is no longer valid", errors);
     }
     Ok(())
 }
 
-/// Replaces a file by a package, if that was changed, and returns whether it was.
-fn replace_by(rt: &System, file: &str, package: Package<Opened>) -> Result<bool, Failure> {
-    let Some(bytes) = file_bytes(package)? else {
-        return Ok(false);
+/// The bytes that the file of a package is to get, unless it is left alone.
+fn new_bytes(
+    alloc: Global,
+    package: Package<Opened>,
+    state: FileState,
+) -> Result<Option<FileBytes>, Failure> {
+    match bytes_to_write(&package, state.is_recoded) {
+        Ok(bytes) => Ok(bytes),
+        Err(error) => Err(refusal(alloc, &package, error)),
+    }
+}
+
+/// Replaces a file by these bytes.
+fn replace_by(
+    rt: &System,
+    file: &str,
+    bytes: FileBytes,
+    state: FileState,
+    manner: Manner,
+    errors: &mut Output,
+) -> Result<(), Failure> {
+    let bytes = if manner.is_verified {
+        verified(rt.alloc(), bytes)?
+    } else {
+        bytes
     };
-    replace_file(rt, file, bytes.as_slice())?;
-    Ok(true)
+    if state.has_page_zero && !matches!(named_page(rt.alloc(), &bytes)?, Some(0)) {
+        note(file, "page 0 becomes page 65001, which is UTF-8", errors);
+    }
+    replace_package(rt, file, &bytes)
+}
+
+/// Writes a line about a file.
+fn note(file: &str, text: &str, errors: &mut Output) {
+    let file = Shown::escaped(file);
+    writeln!(errors, "msipkg: {file}: {text}");
 }

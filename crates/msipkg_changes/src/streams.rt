@@ -54,11 +54,38 @@ pub(crate) fn fill_stream(
     Ok(package.write_stream(name)?.write_all(bytes)?)
 }
 
+/// Removes streams of a package, and its digital signature where that is asked for.
+///
+/// # Errors
+/// Fails if nothing is asked for, if it isn't signed, and at the first stream that isn't there. What stands in front of
+/// it is removed.
+pub(crate) fn remove_parts(
+    alloc: Global,
+    package: &mut Package<Opened>,
+    names: &[&str],
+    is_signature: bool,
+) -> Result<(), Failure> {
+    if is_signature {
+        remove_signature(package)?;
+    } else if names.is_empty() {
+        return Err(Failure::rule("nothing is removed: name streams, or give --signature"));
+    }
+    remove_streams(alloc, package, names)
+}
+
+/// Removes the digital signature of a package.
+fn remove_signature(package: &mut Package<Opened>) -> Result<(), Failure> {
+    if !package.has_digital_signature() {
+        return Err(Failure::rule("it has no digital signature"));
+    }
+    Ok(package.remove_digital_signature()?)
+}
+
 /// Removes streams of a package.
 ///
 /// # Errors
 /// Fails at the first stream that isn't there. Those in front of it are removed.
-pub(crate) fn remove_streams(
+fn remove_streams(
     alloc: Global,
     package: &mut Package<Opened>,
     names: &[&str],

@@ -11,6 +11,7 @@ pub mod replacing;
 pub use folder::Folder;
 pub use msipkg_output as output;
 pub use recoding::{
-    PackageFile, Purpose, Recoded, check_unnamed, recoded_by_page, recoded_instead,
+    PackageFile, Purpose, Recoded, file_page, has_page_zero, page_in, recoded_by_page,
+    recoded_instead,
 };
 pub use replacing::{open_new, replace_file, settle, write_file};

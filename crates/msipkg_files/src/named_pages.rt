@@ -49,17 +49,22 @@ impl NamedPages {
     }
 }
 
-/// Returns whether a package names page 0 for its database, and the texts of that aren't UTF-8.
+/// Returns the page that a package names for its database.
 ///
 /// # Errors
 /// Fails if memory is refused.
-pub(crate) fn has_unnamed_texts(alloc: Global, streams: &StreamMap) -> Result<bool, Error> {
-    if !matches!(NamedPages::of(alloc, streams)?.database, Some(0)) {
-        return Ok(false);
-    }
+pub(crate) fn database_page(alloc: Global, streams: &StreamMap) -> Result<Option<i32>, Error> {
+    Ok(NamedPages::of(alloc, streams)?.database)
+}
+
+/// Returns whether the texts of a package's database are UTF-8.
+///
+/// # Errors
+/// Fails if memory is refused.
+pub(crate) fn has_utf8_texts(alloc: Global, streams: &StreamMap) -> Result<bool, Error> {
     let name = streamname::encode(alloc, "_StringData", true)?;
     let texts = bytes_at(streams, name.as_str())?.unwrap_or(&[]);
-    Ok(str::from_utf8(texts).is_err())
+    Ok(str::from_utf8(texts).is_ok())
 }
 
 /// The page that texts are recoded from, if they are.

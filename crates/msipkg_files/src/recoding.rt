@@ -1,8 +1,9 @@
 //! Packages with texts in a page that packages aren't read in: they are recoded to UTF-8 first.
 
-use crate::named_pages::{NamedPages, has_unnamed_texts};
+use crate::named_pages::{NamedPages, database_page, has_utf8_texts};
 use msi_container::compound::{self, Contents, StreamMap};
 use msi_recode::{TextPage, recode_contents};
+use msi_text::Error;
 use msipkg_output::{Cause, Failure, Output, Pages, System};
 use msipkg_texts::Shown;
 use std::alloc::Global;
@@ -107,28 +108,51 @@ pub fn recoded_by_page(rt: &System, file: &PackageFile<'_>) -> Result<Option<Rec
     }
 }
 
-/// Fails if a package that is changed names page 0, and has texts that aren't UTF-8: they would be read with U+FFFD,
-/// and be written so.
+/// Returns whether a package that is changed names page 0. One that is only looked at isn't read for that.
 ///
 /// # Errors
-/// Fails as the calls of the system do, too. A file that is no container isn't judged.
-pub fn check_unnamed(rt: &System, file: &PackageFile<'_>) -> Result<(), Failure> {
+/// Fails if it does and has texts that aren't UTF-8: they would be read with U+FFFD, and be written so. Fails as the
+/// calls of the system do, too. A file that is no container isn't judged.
+pub fn has_page_zero(rt: &System, file: &PackageFile<'_>) -> Result<bool, Failure> {
     if matches!(file.purpose, Purpose::Look) {
-        return Ok(());
+        return Ok(false);
     }
     let bytes = Rc::new(rt.alloc(), rt.read(file.path)?)?;
     match compound::read_shared(rt.alloc(), bytes) {
         Ok(contents) => check_streams(rt.alloc(), &contents.streams),
-        Err(_) => Ok(()),
+        Err(_) => Ok(false),
     }
 }
 
-/// Fails if these streams name page 0, and have texts that aren't UTF-8.
-fn check_streams(alloc: Global, streams: &StreamMap) -> Result<(), Failure> {
-    if has_unnamed_texts(alloc, streams)? {
-        return Err(Failure::rule(UNNAMED));
+/// Whether these streams name page 0, and fails if they do and have texts that aren't UTF-8.
+fn check_streams(alloc: Global, streams: &StreamMap) -> Result<bool, Failure> {
+    if !matches!(database_page(alloc, streams)?, Some(0)) {
+        return Ok(false);
     }
-    Ok(())
+    if has_utf8_texts(alloc, streams)? {
+        return Ok(true);
+    }
+    Err(Failure::rule(UNNAMED))
+}
+
+/// Returns the number of the page that a file names for its package's database, if it names one.
+///
+/// # Errors
+/// Fails as the calls of the system do. A file that is no container names none.
+pub fn file_page(rt: &System, path: &str) -> Result<Option<i32>, Failure> {
+    let bytes = Rc::new(rt.alloc(), rt.read(path)?)?;
+    match compound::read_shared(rt.alloc(), bytes) {
+        Ok(contents) => Ok(database_page(rt.alloc(), &contents.streams)?),
+        Err(_) => Ok(None),
+    }
+}
+
+/// Returns the number of the page that bytes name for their package's database, if they name one.
+///
+/// # Errors
+/// Fails if they are no container, and if memory is refused.
+pub fn page_in(alloc: Global, bytes: &[u8]) -> Result<Option<i32>, Error> {
+    database_page(alloc, &compound::read(alloc, bytes)?.streams)
 }
 
 /// Returns the bytes of a package that isn't opened as it is, for this failure, with its texts in UTF-8.

@@ -93,6 +93,14 @@ impl Facts {
         }
     }
 
+    /// Adds a number, which has a note behind it in a line.
+    pub(crate) fn noted_number(&mut self, name: &str, number: i64, note: &str) {
+        match &mut self.text {
+            FactsText::Json(object) => object.put_number(name, Some(number)),
+            FactsText::Lines(lines) => writeln!(lines, "{name}: {number} ({note})"),
+        }
+    }
+
     /// Adds whether something holds.
     pub(crate) fn truth(&mut self, name: &str, holds: bool) {
         match &mut self.text {

@@ -3,9 +3,9 @@
 use crate::facts::Facts;
 use crate::summary::add_summary;
 use crate::tables::count_rows;
-use msipkg_packages::msi::{Error, Package};
+use msipkg_packages::msi::{CodePage, Error, Package};
 use msipkg_packages::output::{Failure, Opened, Output, System};
-use msipkg_packages::{StoredStreams, kind_name, stored_streams, stream_bytes};
+use msipkg_packages::{StoredStreams, file_page, kind_name, stored_streams, stream_bytes};
 use msipkg_texts::Style;
 use std::alloc::Global;
 
@@ -22,8 +22,18 @@ pub(crate) fn print_info(
     output: &mut Output,
 ) -> Result<(), Failure> {
     let stored = stored_streams(rt, file, package)?;
-    let facts = Facts::new(rt.alloc(), style, file, is_json);
+    let mut facts = Facts::new(rt.alloc(), style, file, is_json);
+    add_head(package, stored_page(rt, file, package)?, &mut facts);
     write_facts(rt.alloc(), package, stored.as_ref(), facts, output)
+}
+
+/// The number of the page that a file names for its package's database, where another may be read as UTF-8.
+fn stored_page(rt: &System, file: &str, package: &Package<Opened>) -> Result<Option<i32>, Failure> {
+    if matches!(package.database_codepage(), CodePage::Utf8) {
+        file_page(rt, file)
+    } else {
+        Ok(None)
+    }
 }
 
 /// Writes what a package is.
@@ -47,7 +57,6 @@ fn add_package(
     stored: Option<&StoredStreams>,
     facts: &mut Facts,
 ) -> Result<(), Error> {
-    add_head(package, facts);
     add_summary(package.summary_info(), facts);
     add_tables(alloc, package, facts);
     add_streams(package, stored, facts)?;
@@ -55,11 +64,16 @@ fn add_package(
     Ok(())
 }
 
-/// Adds the kind of a package, and the page of its database.
-fn add_head(package: &Package<Opened>, facts: &mut Facts) {
+/// Adds the kind of a package, and the page of its database as its file has it.
+fn add_head(package: &Package<Opened>, stored_page: Option<i32>, facts: &mut Facts) {
     let page = package.database_codepage().id();
     facts.text("kind", Some(kind_name(package.package_type())));
-    facts.number("database_codepage", Some(i64::from(page)));
+    match stored_page {
+        Some(stored) if stored != page => {
+            facts.noted_number("database_codepage", i64::from(stored), "read as UTF-8");
+        }
+        Some(_) | None => facts.number("database_codepage", Some(i64::from(page))),
+    }
 }
 
 /// Adds the numbers of tables, of those that can't be read, and of rows.

@@ -2,17 +2,20 @@
 //! as texts.
 #![tactic(auto)]
 
+pub mod file_bytes;
 pub mod opening;
+mod reasons;
 pub mod stored;
 pub mod summary_texts;
 pub mod tables;
 
 // For the crates above, which so have one way to it: the rt of some kits goes down every path between two crates.
-pub use msi;
-pub use msipkg_files::{
-    Folder, PackageFile, Purpose, open_new, output, replace_file, settle, write_file,
+pub use file_bytes::{
+    FileBytes, bytes_to_write, named_page, replace_package, verified, write_package,
 };
-pub use opening::{file_bytes, kind_name, new_package, open_package};
+pub use msi;
+pub use msipkg_files::{Folder, PackageFile, Purpose, file_page, open_new, output, settle};
+pub use opening::{FileState, kind_name, new_package, open_package, open_to_change};
 pub use stored::{StoredStreams, stored_streams, stream_bytes};
 pub use summary_texts::{property_text, uuid_text};
 pub use tables::{chosen_tables, is_list, rows_of, table_named};

@@ -1,10 +1,19 @@
 //! Opening the package of a file.
 
-use msi::{Metered, Package, PackageType};
+use msi::{Error, Memory, Package, PackageType};
 use msipkg_files::output::{Carrier, Failure, Opened, Origin, Output, System};
-use msipkg_files::{PackageFile, Recoded, check_unnamed, recoded_by_page, recoded_instead};
+use msipkg_files::{PackageFile, Recoded, has_page_zero, recoded_by_page, recoded_instead};
 use std::alloc::Global;
 use std::io::Cursor;
+
+/// How the file of a package that was opened differs from the package.
+#[derive(Clone, Copy, Debug)]
+pub struct FileState {
+    /// Whether it has other bytes than the package was opened from, since the texts were recoded.
+    pub is_recoded: bool,
+    /// Whether it names page 0 for its texts, which is read as UTF-8.
+    pub has_page_zero: bool,
+}
 
 /// Returns the package of a file. If its texts are recoded, which has to be allowed where it is changed, `notes` gets a
 /// line that says so.
@@ -17,12 +26,28 @@ pub fn open_package(
     file: &PackageFile<'_>,
     notes: &mut Output,
 ) -> Result<Package<Opened>, Failure> {
+    let (package, _) = open_to_change(rt, file, notes)?;
+    Ok(package)
+}
+
+/// Returns the package of a file as `open_package` does, and how the file differs from it.
+///
+/// # Errors
+/// Fails as `open_package` does.
+pub fn open_to_change(
+    rt: &System,
+    file: &PackageFile<'_>,
+    notes: &mut Output,
+) -> Result<(Package<Opened>, FileState), Failure> {
     if let Some(recoded) = recoded_by_page(rt, file)? {
         return open_recoded(rt.alloc(), file, recoded, notes);
     }
-    check_unnamed(rt, file)?;
+    let state = FileState {
+        is_recoded: false,
+        has_page_zero: has_page_zero(rt, file)?,
+    };
     match open_as_it_is(rt, file.path) {
-        Ok(package) => Ok(package),
+        Ok(package) => Ok((package, state)),
         Err(failure) => {
             let recoded = recoded_instead(rt, file, failure)?;
             open_recoded(rt.alloc(), file, recoded, notes)
@@ -42,14 +67,24 @@ fn open_recoded(
     file: &PackageFile<'_>,
     recoded: Recoded,
     notes: &mut Output,
-) -> Result<Package<Opened>, Failure> {
+) -> Result<(Package<Opened>, FileState), Failure> {
     recoded.permit(file, notes)?;
-    open_from(alloc, Origin::Memory(Cursor::new(recoded.into_bytes())))
+    let package = open_bytes(alloc, recoded.into_bytes())?;
+    let state = FileState {
+        is_recoded: true,
+        has_page_zero: false,
+    };
+    Ok((package, state))
+}
+
+/// The package of bytes.
+fn open_bytes(alloc: Global, bytes: Vec<u8>) -> Result<Package<Opened>, Failure> {
+    open_from(alloc, Origin::Memory(Cursor::new(bytes)))
 }
 
 /// The package that is read from somewhere.
 fn open_from(alloc: Global, origin: Origin) -> Result<Package<Opened>, Failure> {
-    Ok(Package::open(alloc, Metered::new(Carrier::new(alloc, origin)))?)
+    Ok(Package::open(alloc, Carrier::new(origin))?)
 }
 
 /// Returns the name of a package's kind, as `new` takes it.
@@ -66,15 +101,11 @@ pub fn kind_name(kind: PackageType) -> &'static str {
 /// # Errors
 /// Fails if memory is refused.
 pub fn new_package(alloc: Global, kind: PackageType) -> Result<Package<Opened>, Failure> {
-    let origin = Origin::Memory(Cursor::new(Vec::new(alloc)));
-    Ok(Package::create(alloc, kind, Metered::new(Carrier::new(alloc, origin)))?)
+    open_bytes(alloc, new_bytes(alloc, kind)?)
 }
 
-/// Returns the bytes that a package's file is to have, or nothing if the file that the package was read from has them.
-///
-/// # Errors
-/// Fails as `Package::flush` does.
-pub fn file_bytes(mut package: Package<Opened>) -> Result<Option<Vec<u8>>, Failure> {
-    package.flush()?;
-    Ok(package.into_reader().into_inner().into_file_bytes())
+/// The bytes of a new package.
+fn new_bytes(alloc: Global, kind: PackageType) -> Result<Vec<u8>, Error> {
+    let made = Package::create(alloc, kind, Memory::from_vec(Vec::new(alloc)))?;
+    Ok(made.into_reader().into_vec())
 }

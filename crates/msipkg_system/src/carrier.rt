@@ -1,12 +1,15 @@
-//! What a package is read from, and what it is written to.
+//! What a package is read from.
+
+ghost use Rattle.std.specs.Prelude.{◌≡◌, ◌≤◌, IfOk, None, false, length, true};
 
 use crate::system::SystemFile;
-use msi_container_device::Metered;
-use std::alloc::Global;
-use std::io::{self, Cursor, Read, Seek, SeekFrom, Write};
+use msi_container_device::Source;
+use std::io::{self, Cursor, Read};
 
-/// What a package lies on: its file, or the bytes of one that was recoded or is new, and memory that it is written to.
-pub type Opened = Metered<Carrier>;
+/// What a package lies on: its file, or the bytes of one that was recoded or is new. All packages are over this type,
+/// whether they are looked at, changed or new, so that what is made of their code is made once. It isn't written to:
+/// what a file gets is what `Package::image` returns.
+pub type Opened = Carrier;
 
 /// Where a package is read from.
 #[derive(Drop)]
@@ -17,40 +20,27 @@ pub enum Origin {
     Memory(Cursor<Vec<u8>>),
 }
 
-/// What a package is read from, and memory that it is written to: what is read stays as it is. All packages are over
-/// this type, whether they are looked at, changed or new, so that what is made of their code is made once.
+/// What a package is read from, once, from its beginning on. Contracts don't see its bytes.
 #[derive(Drop)]
 pub struct Carrier {
     origin: Origin,
-    written: Cursor<Vec<u8>>,
+    has_failed: bool,
 }
 
 impl Carrier {
     /// Returns the carrier of a package that is read from its beginning on.
-    pub fn new(alloc: Global, origin: Origin) -> Carrier {
+    pub fn new(origin: Origin) -> Carrier {
         Carrier {
             origin,
-            written: Cursor::new(Vec::new(alloc)),
+            has_failed: false,
         }
     }
 
-    /// Returns the bytes that the package's file is to have: those that were written, and else those that the package
-    /// was read from, if they aren't those of a file.
-    pub fn into_file_bytes(self) -> Option<Vec<u8>> {
-        let Carrier { origin, written } = self;
-        let written = written.into_inner();
-        if !written.is_empty() {
-            return Some(written);
-        }
-        match origin {
-            Origin::File(_) => None,
-            Origin::Memory(bytes) => Some(bytes.into_inner()),
-        }
-    }
-}
-
-impl Read for Carrier {
-    fn read(&mut self, buf: &mut [u8]) -> io::Result<usize> {
+    /// Reads from wherever the package lies.
+    fn read_on(&mut self, buf: &mut [u8]) -> io::Result<usize>
+        ensures count { IfOk result (λ n. n ≤ length buf.old) }
+        ensures failed { self.new.has_failed ≡ self.old.has_failed }
+    {
         match &mut self.origin {
             Origin::File(file) => file.read(buf),
             Origin::Memory(bytes) => bytes.read(buf),
@@ -58,19 +48,32 @@ impl Read for Carrier {
     }
 }
 
-impl Write for Carrier {
-    fn write(&mut self, buf: &[u8]) -> io::Result<usize> {
-        self.written.write(buf)
+impl Source for Carrier {
+    ghost held = { λ _. None };
+
+    ghost failed = { λ c. c.has_failed };
+
+    /// Nothing is written.
+    ghost pending = { λ _. false };
+
+    ghost can_fail = { true };
+
+    fn failed(&self) -> bool {
+        self.has_failed
     }
 
-    fn flush(&mut self) -> io::Result<()> {
+    fn clear_failed(&mut self) {
+        self.has_failed = false;
+    }
+
+    /// A package is read once, so it stands at its beginning.
+    fn rewind(&mut self) -> io::Result<()> {
         Ok(())
     }
-}
 
-/// Seeks in what is written. What is read is read from its beginning on, once.
-impl Seek for Carrier {
-    fn seek(&mut self, to: SeekFrom) -> io::Result<u64> {
-        self.written.seek(to)
+    fn read(&mut self, buf: &mut [u8]) -> io::Result<usize> {
+        let answer = self.read_on(buf);
+        self.has_failed |= answer.is_err();
+        answer
     }
 }

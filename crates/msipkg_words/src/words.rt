@@ -107,7 +107,19 @@ const PAGE: Argument = Argument {
 const RECODE: Argument = Argument {
     id: "recode",
     form: Form::Flag,
-    help: "Writes the texts in UTF-8 if they are in a page that packages aren't written in",
+    help: "Writes the package in UTF-8, whichever code page its texts are in",
+};
+
+const STRICT: Argument = Argument {
+    id: "strict",
+    form: Form::Flag,
+    help: "Fails if reference counts are too low, which are mended by default",
+};
+
+const NO_VERIFY: Argument = Argument {
+    id: "no-verify",
+    form: Form::Flag,
+    help: "Replaces the file without opening its new bytes first",
 };
 
 const FORCE: Argument = Argument {
@@ -220,6 +232,7 @@ static PART_COMMANDS: [Row; 4] = [
             JSON,
             PAGE,
             RECODE,
+            NO_VERIFY,
             ESCAPE,
         ],
     },
@@ -237,6 +250,7 @@ static PART_COMMANDS: [Row; 4] = [
             JSON,
             PAGE,
             RECODE,
+            NO_VERIFY,
             ESCAPE,
         ],
     },
@@ -276,21 +290,28 @@ static CHANGE_COMMANDS: [Row; 4] = [
             },
             PAGE,
             RECODE,
+            NO_VERIFY,
         ],
     },
     Row {
         verb: Verb::Remove,
         name: "remove",
-        about: "Removes streams",
+        about: "Removes streams, or the digital signature",
         arguments: &[
             FILE,
             Argument {
                 id: "NAME",
-                form: Form::Words,
+                form: Form::AnyWords,
                 help: "The streams",
+            },
+            Argument {
+                id: "signature",
+                form: Form::Flag,
+                help: "Removes the digital signature",
             },
             PAGE,
             RECODE,
+            NO_VERIFY,
         ],
     },
     Row {
@@ -304,8 +325,15 @@ static CHANGE_COMMANDS: [Row; 4] = [
                 form: Form::Words,
                 help: "A statement, as DELETE FROM Property WHERE Property = 'Old'",
             },
+            Argument {
+                id: "json",
+                form: Form::Flag,
+                help: "Prints how many rows each statement changed as JSON",
+            },
             PAGE,
             RECODE,
+            STRICT,
+            NO_VERIFY,
         ],
     },
 ];
@@ -356,6 +384,8 @@ static EXCHANGE_COMMANDS: [Row; 4] = [
             },
             PAGE,
             RECODE,
+            STRICT,
+            NO_VERIFY,
         ],
     },
     Row {

@@ -1,0 +1,117 @@
+//! Texts of a package that its code pages can't hold: none is written, since it would read back as another.
+
+use msipkg_packages::msi::{CodePage, Error, Package, Rows, SummaryInfo, Table, ValueView};
+use msipkg_packages::output::{Cause, Failure, Opened, PROPERTIES, push_key};
+use msipkg_packages::{property_text, rows_of};
+use msipkg_texts::Shown;
+use std::alloc::{AllocError, Global};
+
+/// Returns why no bytes were made of a package: the first text that wouldn't read back, with its place, if that is why.
+pub(crate) fn refusal(alloc: Global, package: &Package<Opened>, error: Error) -> Failure {
+    if package.is_writable() {
+        return Failure::from(error);
+    }
+    match lost_text(alloc, package) {
+        Ok(Some(failure)) => failure,
+        Ok(None) => Failure::from(error),
+        Err(failure) => failure,
+    }
+}
+
+/// The failure of the first text that wouldn't read back, in the database and then in the summary.
+fn lost_text(alloc: Global, package: &Package<Opened>) -> Result<Option<Failure>, Failure> {
+    for table in package.tables() {
+        let lost = lost_in_table(alloc, package, table)?;
+        if lost.is_some() {
+            return Ok(lost);
+        }
+    }
+    lost_in_summary(alloc, package.summary_info())
+}
+
+/// The failure of the first such text of a table, or none if the table can't be read.
+fn lost_in_table(
+    alloc: Global,
+    package: &Package<Opened>,
+    table: &Table,
+) -> Result<Option<Failure>, Failure> {
+    let page = package.database_codepage();
+    let Ok(mut rows) = rows_of(alloc, package, table.name()) else {
+        return Ok(None);
+    };
+    for _ in 0..rows.len() {
+        if let Some((place, c)) = lost_in_row(page, &rows) {
+            let cell = cell_text(alloc, table, &rows, place)?;
+            return Ok(Some(lacking(alloc, page, c)?.at(alloc, "table", cell.as_str())));
+        }
+        rows.pass();
+    }
+    Ok(None)
+}
+
+/// The place of the first column of the next row with such a text, and its first character that the page hasn't.
+fn lost_in_row(page: CodePage, rows: &Rows<'_>) -> Option<(usize, char)> {
+    for place in 0..rows.columns().len() {
+        if let Some(ValueView::Str(text)) = rows.peek(place)
+            && let Some(c) = lost_character(page, text)
+        {
+            return Some((place, c));
+        }
+    }
+    None
+}
+
+/// The first character of a text that a page hasn't.
+fn lost_character(page: CodePage, text: &str) -> Option<char> {
+    for c in text.chars() {
+        let mut bytes = [0u8; 4];
+        if !page.reads_back(c.encode_utf8(&mut bytes)) {
+            return Some(c);
+        }
+    }
+    None
+}
+
+/// The name of a table, the key of its next row, whose values are parted by slashes, and the name of a column.
+fn cell_text(
+    alloc: Global,
+    table: &Table,
+    rows: &Rows<'_>,
+    place: usize,
+) -> Result<String, AllocError> {
+    let mut text = format!(in alloc; "{}, row ", table.name())?;
+    let mut before = "";
+    for (place, column) in rows.columns().iter().enumerate() {
+        if column.is_primary_key() {
+            text.push_str(before)?;
+            push_key(rows.peek(place).unwrap_or(ValueView::Null), &mut text)?;
+            before = "/";
+        }
+    }
+    text.push_str(", column ")?;
+    if let Some(column) = rows.columns().get(place) {
+        text.push_str(column.name())?;
+    }
+    Ok(text)
+}
+
+/// The failure of the first such property of a summary.
+fn lost_in_summary(alloc: Global, summary: &SummaryInfo) -> Result<Option<Failure>, Failure> {
+    let page = summary.codepage();
+    for (id, name) in &PROPERTIES {
+        if let Some(text) = property_text(alloc, summary, *id)?
+            && let Some(c) = lost_character(page, text.as_str())
+        {
+            return Ok(Some(lacking(alloc, page, c)?.at(alloc, "summary property", name)));
+        }
+    }
+    Ok(None)
+}
+
+/// The failure of a character that a page hasn't.
+fn lacking(alloc: Global, page: CodePage, c: char) -> Result<Failure, AllocError> {
+    let mut bytes = [0u8; 4];
+    let (id, c) = (page.id(), Shown::escaped(c.encode_utf8(&mut bytes)));
+    let text = format!(in alloc; "page {id} has no {c}; --recode writes the package in UTF-8")?;
+    Ok(Failure::new(Cause::Shown(text)))
+}

@@ -1,0 +1,125 @@
+//! What a change did, which is said once the file is written.
+
+use msipkg_packages::output::Output;
+use msipkg_texts::{JsonObject, Shown, Style};
+use std::alloc::{AllocError, Global};
+
+/// What a statement did, and to how many rows.
+#[derive(Clone, Copy, Debug)]
+pub(crate) enum Carried {
+    Inserted(usize),
+    Changed(usize),
+    Deleted(usize),
+    Created,
+    Dropped,
+}
+
+impl Carried {
+    /// Returns how many rows were inserted, changed or deleted.
+    fn count(self) -> usize {
+        match self {
+            Carried::Inserted(count) | Carried::Changed(count) | Carried::Deleted(count) => count,
+            Carried::Created | Carried::Dropped => 0,
+        }
+    }
+
+    /// Returns what was done.
+    fn word(self) -> &'static str {
+        match self {
+            Carried::Inserted(_) => "inserted",
+            Carried::Changed(_) => "changed",
+            Carried::Deleted(_) => "deleted",
+            Carried::Created => "created",
+            Carried::Dropped => "dropped",
+        }
+    }
+
+    /// Writes what was done, as `1 row changed`.
+    fn write(self, output: &mut Output) {
+        let (count, word) = (self.count(), self.word());
+        match self {
+            Carried::Created | Carried::Dropped => writeln!(output, "table {word}"),
+            Carried::Inserted(_) | Carried::Changed(_) | Carried::Deleted(_) => {
+                let rows = if count == 1 { "row" } else { "rows" };
+                writeln!(output, "{count} {rows} {word}");
+            }
+        }
+    }
+}
+
+/// What a change did.
+pub(crate) struct Outcome {
+    /// How many reference counts were mended first.
+    mended: u32,
+    /// What each statement did.
+    carried: Vec<Carried>,
+}
+
+/// Written out, so that a function that owns one calls one drop, and its proof doesn't go through those of the parts.
+impl Drop for Outcome {
+    fn drop(self) {
+        let Outcome {
+            mended: _,
+            carried: _,
+        } = self;
+    }
+}
+
+impl Outcome {
+    /// Returns that of a change that did nothing yet.
+    pub(crate) fn new(alloc: Global) -> Outcome {
+        Outcome {
+            mended: 0,
+            carried: Vec::new(alloc),
+        }
+    }
+
+    /// Adds how many reference counts were mended.
+    pub(crate) fn add_mended(&mut self, count: u32) {
+        self.mended = self.mended.saturating_add(count);
+    }
+
+    /// Adds what a statement did.
+    ///
+    /// # Errors
+    /// Fails if memory is refused.
+    pub(crate) fn add_carried(&mut self, carried: Carried) -> Result<(), AllocError> {
+        Ok(self.carried.push(carried)?)
+    }
+
+    /// Writes a line if reference counts of a file were mended.
+    pub(crate) fn note_mended(&self, file: &str, notes: &mut Output) {
+        note_mended(file, self.mended, notes);
+    }
+
+    /// Writes a line for each statement.
+    pub(crate) fn note_carried(&self, file: &str, notes: &mut Output) {
+        for carried in &self.carried {
+            write!(notes, "msipkg: {}: ", Shown::escaped(file));
+            carried.write(notes);
+        }
+    }
+
+    /// Prints as JSON how many rows each statement inserted, changed or deleted.
+    pub(crate) fn print(&self, alloc: Global, style: Style, file: &str, output: &mut Output) {
+        let mut object = JsonObject::new(alloc);
+        object.put_text("file", Some(file));
+        object.open_list("rows");
+        for carried in &self.carried {
+            object.put_number_item(i64::try_from(carried.count()).unwrap_or(i64::MAX));
+        }
+        object.close_list();
+        object.print_line(style, output);
+    }
+}
+
+/// Writes how many counts of a file were mended, unless none was.
+pub(crate) fn note_mended(file: &str, count: u32, notes: &mut Output) {
+    if count > 0 {
+        let (file, counts) = (
+            Shown::escaped(file),
+            if count == 1 { "count is" } else { "counts are" },
+        );
+        writeln!(notes, "msipkg: {file}: {count} reference {counts} mended");
+    }
+}

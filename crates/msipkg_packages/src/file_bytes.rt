@@ -1,0 +1,133 @@
+//! The bytes that a package's file is to have, and files that get them: no package is written in another way.
+
+ghost use Rattle.std.specs.Prelude.{◌≡◌, ◌||◌, IfErr, IfOk, IfSome, Ok, OnOk, is_some};
+ghost use Rattle.msi_text_base.specs.Refusals.{IsRefusal};
+ghost use Rattle.msi.specs.Runs.{TextsAreWritable};
+ghost use Rattle.msi.specs.Steps.{image_of};
+
+use crate::reasons;
+use msi::{Error, ErrorKind, Memory, Package};
+use msipkg_files::output::{Failure, Opened, System};
+use msipkg_files::{page_in, replace_file, write_file};
+use std::alloc::Global;
+use std::marker::Model;
+
+/// The bytes of a package's file. They are made of a package alone, by `of`: so they mean it as it is then, and each of
+/// its texts reads back. Contracts see their list.
+#[derive(Drop)]
+pub struct FileBytes {
+    bytes: Vec<u8>,
+}
+
+impl Model for FileBytes {
+    ghost use Rattle.std.specs.Prelude.{List, ℕ};
+
+    ghost Value = { List ℕ };
+
+    ghost view = { λ file. file.bytes.items };
+}
+
+impl FileBytes {
+    /// Returns the bytes that mean a package as it is, whether it was changed or not.
+    ///
+    /// # Errors
+    /// Fails with `InvalidInput` if a text wouldn't read back from its page, and as `Package::image` does.
+    pub fn of(package: &Package<Opened>) -> Result<FileBytes, Error>
+        ensures ok { IfOk result (λ bytes. image_of package.now.state 0 ≡ Ok bytes) }
+        ensures texts { OnOk result (TextsAreWritable package.now.state) }
+        ensures kind { TextsAreWritable package.now.state → IfErr result (IsRefusal (image_of package.now.state 0)) }
+    {
+        if !package.is_writable() {
+            return Err(Error::new(ErrorKind::InvalidInput, reasons::LOST_TEXT));
+        }
+        Ok(FileBytes {
+            bytes: package.image(0)?,
+        })
+    }
+
+    /// Returns these bytes, once a package was opened from them.
+    ///
+    /// # Errors
+    /// Fails as `Package::open` does.
+    pub fn opened_again(self, alloc: Global) -> Result<FileBytes, Error>
+        ensures same { IfOk result (λ bytes. bytes ≡ self) }
+    {
+        let FileBytes { bytes } = self;
+        let opened = Package::open(alloc, Memory::from_vec(bytes))?;
+        Ok(FileBytes {
+            bytes: opened.into_reader().into_vec(),
+        })
+    }
+}
+
+/// Returns the bytes that the file of a package is to get. It is left alone exactly where the package wasn't changed
+/// and has the bytes of its file, that is, where it wasn't recoded.
+///
+/// # Errors
+/// Fails as `FileBytes::of` does.
+pub fn bytes_to_write(
+    package: &Package<Opened>,
+    is_recoded: bool,
+) -> Result<Option<FileBytes>, Error>
+    ensures left_alone { let s = package.now.state in
+        IfOk result (λ bytes. is_some bytes ≡ (s.is_unwritten || is_recoded)) }
+    ensures bytes { let s = package.now.state in IfOk result (λ bytes. IfSome bytes (λ file. image_of s 0 ≡ Ok file)) }
+    ensures texts { let s = package.now.state in
+        IfOk result (λ bytes. IfSome bytes (λ _. TextsAreWritable s)) }
+{
+    if !package.is_unwritten() && !is_recoded {
+        return Ok(None);
+    }
+    Ok(Some(FileBytes::of(package)?))
+}
+
+/// Returns these bytes, once a package was opened from them.
+///
+/// # Errors
+/// Fails if they don't open, and if memory is refused.
+pub fn verified(alloc: Global, bytes: FileBytes) -> Result<FileBytes, Failure> {
+    match bytes.opened_again(alloc) {
+        Ok(bytes) => Ok(bytes),
+        Err(error) => Err(unopened(error)),
+    }
+}
+
+/// Why bytes weren't opened again.
+fn unopened(error: Error) -> Failure {
+    match error.kind() {
+        ErrorKind::Io | ErrorKind::OutOfMemory => Failure::from(error),
+        ErrorKind::AlreadyExists
+        | ErrorKind::InvalidData
+        | ErrorKind::InvalidInput
+        | ErrorKind::NotFound => Failure::rule(reasons::UNOPENED),
+    }
+}
+
+/// Replaces the file of a package, as `replace_file` does.
+///
+/// # Errors
+/// Fails as `replace_file` does. Then the old file is as it was.
+pub fn replace_package(rt: &System, path: &str, bytes: &FileBytes) -> Result<(), Failure> {
+    replace_file(rt, path, bytes.bytes.as_slice())
+}
+
+/// Makes the file of a package, as `write_file` does.
+///
+/// # Errors
+/// Fails as `write_file` does. Then an old file is as it was, and no other is left.
+pub fn write_package(
+    rt: &System,
+    path: &str,
+    is_forced: bool,
+    bytes: &FileBytes,
+) -> Result<(), Failure> {
+    write_file(rt, path, is_forced, bytes.bytes.as_slice())
+}
+
+/// Returns the number of the page that these bytes name for the package's database.
+///
+/// # Errors
+/// Fails if memory is refused.
+pub fn named_page(alloc: Global, bytes: &FileBytes) -> Result<Option<i32>, Error> {
+    page_in(alloc, bytes.bytes.as_slice())
+}
