@@ -1,7 +1,7 @@
 //! The commands that change packages: what is asked for, and its change.
 
 use crate::commands::Asked;
-use msipkg_changes::{Change, change_file, create_file};
+use msipkg_changes::{Change, change_file, create_file, read_script};
 use msipkg_output::{Failure, Output, System};
 use msipkg_packages::Purpose;
 use msipkg_words::Verb;
@@ -27,12 +27,38 @@ pub(crate) fn change(
     match asked.verb {
         Verb::New => create(rt, asked),
         Verb::Batch => Err(Failure::rule("batch is no command of a batch")),
-        _ => {
-            let purpose = asked.purpose_of_change(Purpose::Recode);
-            let file = asked.package(asked.file(), purpose);
-            change_file(rt, &file, change_of(asked), errors)
-        }
+        _ => match asked.given.get_str("from") {
+            Some(path) => execute_script(rt, asked, path, errors),
+            None => change_by(rt, asked, change_of(asked), errors),
+        },
     }
+}
+
+/// Changes the package of the first file.
+fn change_by(
+    rt: &System,
+    asked: &Asked<'_, '_>,
+    change: Change<'_, '_>,
+    errors: &mut Output,
+) -> Result<(), Failure> {
+    let purpose = asked.purpose_of_change(Purpose::Recode);
+    let file = asked.package(asked.file(), purpose);
+    change_file(rt, &file, change, errors)
+}
+
+/// Carries out the statements of a file.
+fn execute_script(
+    rt: &System,
+    asked: &Asked<'_, '_>,
+    path: &str,
+    errors: &mut Output,
+) -> Result<(), Failure> {
+    let statements = read_script(rt, path)?;
+    let mut texts = Vec::with_capacity(rt.alloc(), statements.len())?;
+    for statement in &statements {
+        texts.push(statement.as_str())?;
+    }
+    change_by(rt, asked, Change::Execute(texts.as_slice()), errors)
 }
 
 /// Makes a file with a new package.

@@ -2,9 +2,13 @@
 
 use crate::applied::{apply_definition, apply_statement};
 use crate::definition::{definition_of, is_definition};
-use msipkg_packages::msi::{Package, Parse, Statement};
+use msipkg_packages::msi::Package;
 use msipkg_packages::output::{Failure, Opened};
+use msipkg_queries::{check_statement, explained, read_statement};
 use std::alloc::Global;
+
+/// How many characters of a statement a message has at most.
+const MOST_SHOWN: usize = 200;
 
 /// Fails if one of the texts is no statement: an insert, an update, a delete or a change of tables.
 ///
@@ -13,7 +17,7 @@ use std::alloc::Global;
 pub(crate) fn check_statements(alloc: Global, texts: &[&str]) -> Result<(), Failure> {
     for text in texts {
         if let Err(failure) = check_text(alloc, text) {
-            return Err(failure.at(alloc, "statement", text));
+            return Err(at_statement(alloc, failure, text));
         }
     }
     Ok(())
@@ -30,7 +34,7 @@ pub(crate) fn carry_out_statements(
 ) -> Result<(), Failure> {
     for text in texts {
         if let Err(failure) = apply_text(alloc, package, text) {
-            return Err(failure.at(alloc, "statement", text));
+            return Err(at_statement(alloc, failure, text));
         }
     }
     Ok(())
@@ -40,10 +44,10 @@ pub(crate) fn carry_out_statements(
 fn check_text(alloc: Global, text: &str) -> Result<(), Failure> {
     if is_definition(text) {
         drop(definition_of(alloc, text)?);
+        Ok(())
     } else {
-        drop(Statement::parse(alloc, text)?);
+        check_statement(alloc, text)
     }
-    Ok(())
 }
 
 /// Carries out the statement that a text spells.
@@ -51,6 +55,25 @@ fn apply_text(alloc: Global, package: &mut Package<Opened>, text: &str) -> Resul
     if is_definition(text) {
         apply_definition(package, definition_of(alloc, text)?)
     } else {
-        apply_statement(package, Statement::parse(alloc, text)?)
+        apply_change(alloc, package, text)
+    }
+}
+
+/// Carries out the change of rows that a text spells.
+fn apply_change(alloc: Global, package: &mut Package<Opened>, text: &str) -> Result<(), Failure> {
+    match apply_statement(package, read_statement(alloc, text)?) {
+        Ok(()) => Ok(()),
+        Err(failure) => Err(explained(alloc, package, text, failure)),
+    }
+}
+
+/// The failure of a statement, whose text is cut where it is long.
+fn at_statement(alloc: Global, failure: Failure, text: &str) -> Failure {
+    match text.char_indices().nth(MOST_SHOWN) {
+        Some((end, _)) => match format!(in alloc; "{}..", text.get(..end).unwrap_or("")) {
+            Ok(start) => failure.at(alloc, "statement", start.as_str()),
+            Err(_) => failure,
+        },
+        None => failure.at(alloc, "statement", text),
     }
 }

@@ -1,5 +1,6 @@
 //! Giving a package tables.
 
+use crate::definition::check_reserved;
 use crate::importing::columns::built_columns;
 use crate::importing::descriptions::describe;
 use crate::importing::rows::{check_rows, columns_of, package_rows};
@@ -50,6 +51,7 @@ fn create_table(
     rules: &[Vec<Value>],
     table: &GivenTable,
 ) -> Result<(), Failure> {
+    check_reserved(table.name.as_str())?;
     let columns = built_columns(alloc, rules, table)?;
     Ok(package.create_table(table.name.as_str(), columns)?)
 }
