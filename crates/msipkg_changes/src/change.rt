@@ -6,6 +6,7 @@ use crate::recounting::noted;
 use crate::statements::{carry_out_statements, check_statements};
 use crate::storing::store;
 use crate::streams::{add_streams, remove_streams};
+use crate::validation::Before;
 use msipkg_packages::msi::Package;
 use msipkg_packages::output::{Failure, Opened, Output, System};
 use msipkg_packages::{PackageFile, open_package};
@@ -43,7 +44,9 @@ pub fn change_file(
 ) -> Result<(), Failure> {
     check_words(rt.alloc(), change)?;
     let mut package = open_package(rt, file, notes)?;
+    let before = Before::of(&package);
     apply(rt, &mut package, change)?;
+    before.note(file.path, &package, notes);
     store(rt, file.path, package, notes)
 }
 

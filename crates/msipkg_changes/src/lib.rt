@@ -14,6 +14,7 @@ mod statements;
 mod storing;
 mod streams;
 mod tokens;
+mod validation;
 
 pub use change::{Change, change_file};
 pub use create::create_file;

@@ -1,7 +1,8 @@
 //! `exec FILE TEXT..`: changes of a package's rows and tables as text.
 
 use crate::applied::{apply_definition, apply_statement};
-use crate::definition::{definition_of, is_definition};
+use crate::definition::{Definition, definition_of, is_definition};
+use crate::validation::add_validation;
 use msipkg_packages::msi::Package;
 use msipkg_packages::output::{Failure, Opened};
 use msipkg_queries::{check_statement, explained, read_statement};
@@ -53,7 +54,11 @@ fn check_text(alloc: Global, text: &str) -> Result<(), Failure> {
 /// Carries out the statement that a text spells.
 fn apply_text(alloc: Global, package: &mut Package<Opened>, text: &str) -> Result<(), Failure> {
     if is_definition(text) {
-        apply_definition(package, definition_of(alloc, text)?)
+        let definition = definition_of(alloc, text)?;
+        if matches!(definition, Definition::Create { .. }) {
+            add_validation(alloc, package)?;
+        }
+        apply_definition(package, definition)
     } else {
         apply_change(alloc, package, text)
     }

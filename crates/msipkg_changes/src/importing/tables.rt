@@ -5,6 +5,7 @@ use crate::importing::columns::built_columns;
 use crate::importing::descriptions::describe;
 use crate::importing::rows::{check_rows, columns_of, package_rows};
 use crate::importing::rules::{VALIDATION, rules_of};
+use crate::validation::add_validation;
 use msipkg_packages::msi::{Insert, Package, Value};
 use msipkg_packages::output::{Failure, Opened};
 use msipkg_reading::GivenTable;
@@ -21,6 +22,12 @@ pub(crate) fn apply_tables(
     package: &mut Package<Opened>,
     tables: &[GivenTable],
 ) -> Result<(), Failure> {
+    if !tables
+        .iter()
+        .all(|table| package.has_table(table.name.as_str()))
+    {
+        add_validation(alloc, package)?;
+    }
     let rules = rules_of(alloc, columns_of(package, VALIDATION), tables)?;
     create_tables(alloc, package, rules.as_slice(), tables)?;
     insert_all(alloc, package, tables)
