@@ -1,7 +1,7 @@
 //! The commands that change packages: what is asked for, and its change.
 
 use crate::commands::Asked;
-use msipkg_changes::{Change, change_file, create_file, read_script};
+use msipkg_changes::{Change, Merging, change_file, create_file, read_script};
 use msipkg_output::{Failure, Output, System};
 use msipkg_packages::Purpose;
 use msipkg_words::Verb;
@@ -68,13 +68,27 @@ fn create(rt: &System, asked: &Asked<'_, '_>) -> Result<(), Failure> {
     create_file(rt, asked.file(), kind, page, is_forced)
 }
 
+/// What becomes of rows whose keys are given.
+fn merging_of(asked: &Asked<'_, '_>) -> Merging {
+    if asked.given.get_flag("replace") {
+        Merging::Replace
+    } else if asked.given.get_flag("update") {
+        Merging::Update
+    } else {
+        Merging::Refuse
+    }
+}
+
 /// The change that a command makes.
 fn change_of<'a, 'b>(asked: &Asked<'a, 'b>) -> Change<'a, 'b> {
     match asked.verb {
         Verb::Add => Change::Add(asked.texts("NAME=PATH")),
         Verb::Remove => Change::Remove(asked.texts("NAME")),
         Verb::Exec => Change::Execute(asked.texts("TEXT")),
-        Verb::Import => Change::Import(asked.texts("PATH")),
+        Verb::Import => Change::Import {
+            paths: asked.texts("PATH"),
+            merging: merging_of(asked),
+        },
         _ => Change::Properties {
             set: asked.texts("set"),
             cleared: asked.texts("clear"),

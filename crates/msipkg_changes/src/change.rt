@@ -1,6 +1,6 @@
 //! The commands that change a package: each is lent the one that is opened here.
 
-use crate::importing::import_files;
+use crate::importing::{Merging, import_files};
 use crate::properties::set_properties;
 use crate::recounting::noted;
 use crate::statements::{carry_out_statements, check_statements};
@@ -22,7 +22,10 @@ pub enum Change<'a, 'b> {
     /// Statements are carried out.
     Execute(&'b [&'a str]),
     /// It gets what the files of these paths have.
-    Import(&'b [&'a str]),
+    Import {
+        paths: &'b [&'a str],
+        merging: Merging,
+    },
     /// Properties of its summary are set, each given as `NAME=VALUE`, and then others are cleared.
     Properties {
         set: &'b [&'a str],
@@ -68,7 +71,7 @@ fn apply(
         Change::Add(pairs) => add_streams(rt, package, pairs),
         Change::Remove(names) => remove_streams(rt.alloc(), package, names),
         Change::Execute(texts) => execute(rt.alloc(), package, texts),
-        Change::Import(paths) => import_files(rt, package, paths),
+        Change::Import { paths, merging } => import_files(rt, package, paths, merging),
         Change::Properties { set, cleared } => set_properties(rt.alloc(), package, set, cleared),
     }
 }

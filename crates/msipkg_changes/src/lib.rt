@@ -6,7 +6,7 @@ mod applied;
 pub mod change;
 pub mod create;
 mod definition;
-mod importing;
+pub mod importing;
 mod properties;
 pub mod recounting;
 pub mod script;
@@ -18,5 +18,6 @@ mod validation;
 
 pub use change::{Change, change_file};
 pub use create::create_file;
+pub use importing::Merging;
 pub use recounting::mend_counts;
 pub use script::read_script;

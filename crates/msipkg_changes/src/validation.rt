@@ -46,8 +46,8 @@ impl Before {
 /// Gives a package `_Validation`, as a new package has it, if it isn't there. It then describes all tables.
 ///
 /// # Errors
-/// Fails if the package isn't sound, at a table that can't be read or has a row that its columns don't take, at a stream
-/// that can't be read, and with `OutOfMemory`.
+/// Fails if the package isn't sound, at a table that can't be read or has a row that its columns don't take, at a
+/// stream that can't be read, and with `OutOfMemory`.
 pub(crate) fn add_validation(alloc: Global, package: &mut Package<Opened>) -> Result<(), Failure> {
     if package.has_table(VALIDATION) {
         return Ok(());
@@ -138,8 +138,11 @@ fn copy_table(
     Ok(made.insert_rows(Insert::into(alloc, table)?.rows(rows)?)?)
 }
 
-/// Copies of the rows of a table.
-fn copied_rows(
+/// Returns copies of the rows of a table.
+///
+/// # Errors
+/// Fails if the table isn't there or can't be read, at its name, and with `OutOfMemory`.
+pub(crate) fn copied_rows(
     alloc: Global,
     package: &Package<Opened>,
     table: &str,

@@ -34,8 +34,8 @@ fn end_of_name(pieces: &[Piece<'_>], place: usize) -> usize {
     }
 }
 
-/// Returns whether a piece stands between two operands, and binds them closer than `NOT` does in other programs: all but
-/// `AND` and `OR`.
+/// Returns whether a piece stands between two operands, and binds them closer than `NOT` does in other programs: all
+/// but `AND` and `OR`.
 pub(crate) fn is_operator(piece: Piece<'_>) -> bool {
     is_comparison(piece.kind) || is_calculation(piece.kind)
 }

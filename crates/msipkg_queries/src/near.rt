@@ -2,7 +2,7 @@
 
 use msipkg_texts::Shown;
 use std::alloc::{AllocError, Global};
-use strsim::levenshtein;
+use strsim::osa_distance;
 
 /// The name that is nearest to another so far, and how many edits lead to it.
 #[derive(Clone, Copy)]
@@ -42,7 +42,7 @@ fn edits(alloc: Global, name: &str, other: &str) -> Result<usize, AllocError> {
     if is_end_of(name.as_str(), other.as_str()) || is_end_of(other.as_str(), name.as_str()) {
         return Ok(0);
     }
-    levenshtein(alloc, name.as_str(), other.as_str())
+    osa_distance(alloc, name.as_str(), other.as_str())
 }
 
 /// Whether a name is what another has behind a dot.

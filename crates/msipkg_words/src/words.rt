@@ -361,6 +361,16 @@ static EXCHANGE_COMMANDS: [Row; 4] = [
                 form: Form::Words,
                 help: "The files, which end in .idt, .json or .csv",
             },
+            Argument {
+                id: "replace",
+                form: Form::Instead(&["update"]),
+                help: "Puts rows in the place of those with the same key",
+            },
+            Argument {
+                id: "update",
+                form: Form::Instead(&["replace"]),
+                help: "Changes rows with the same key in the columns that are given alone",
+            },
             PAGE,
             RECODE,
         ],

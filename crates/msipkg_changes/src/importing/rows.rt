@@ -102,12 +102,29 @@ pub(crate) fn check_rows(
     rows: &[Vec<Value>],
 ) -> Result<(), Failure> {
     for i in 0..rows.len() {
-        if let Some((column, value)) = refused_value(columns, rows[i].as_slice()) {
-            let failure = said(refusal(alloc, value));
-            return Err(table.at_row(alloc, failure, i, column));
-        }
+        check_row(alloc, columns, table, i, rows[i].as_slice())?;
     }
     Ok(())
+}
+
+/// Refuses the row of a number, counted from 0 on, if it has a value that its column doesn't take.
+///
+/// # Errors
+/// Fails at the row and the column.
+pub(crate) fn check_row(
+    alloc: Global,
+    columns: &[Column],
+    table: &GivenTable,
+    number: usize,
+    row: &[Value],
+) -> Result<(), Failure> {
+    match refused_value(columns, row) {
+        Some((column, value)) => {
+            let failure = said(refusal(alloc, value));
+            Err(table.at_row(alloc, failure, number, column))
+        }
+        None => Ok(()),
+    }
 }
 
 /// The message for a value that its column doesn't take.
