@@ -42,8 +42,18 @@ fn run_line(rt: &System, line: &str, output: &mut Output) -> io::Result<u8> {
     }
     writeln!(output, "$ msipkg {line}");
     output.end()?;
-    let words = words_of(rt.alloc(), line)?;
-    run_words(rt, words.as_slice(), output)
+    match words_of(rt.alloc(), line)? {
+        Some(words) => run_words(rt, words.as_slice(), output),
+        None => refuse_line(output),
+    }
+}
+
+/// Says that a line has a quote that isn't closed.
+fn refuse_line(output: &mut Output) -> io::Result<u8> {
+    writeln!(output, "msipkg: a quote in this line isn't closed");
+    writeln!(output, "[status 2]");
+    output.end()?;
+    Ok(2)
 }
 
 /// Runs a command, and puts its messages behind what it prints, and then its status, unless that is 0.

@@ -1,7 +1,7 @@
 //! The commands that change packages: what is asked for, and its change.
 
 use crate::commands::Asked;
-use msipkg_changes::{Change, Manner, change_file, create_file};
+use msipkg_changes::{Change, Manner, Merging, change_file, create_file, read_script};
 use msipkg_output::{Failure, Output, System};
 use msipkg_packages::Purpose;
 use msipkg_words::Verb;
@@ -28,12 +28,10 @@ pub(crate) fn change(
     match asked.verb {
         Verb::New => create(rt, asked),
         Verb::Batch => Err(Failure::rule("batch is no command of a batch")),
-        _ => {
-            let purpose = asked.purpose_of_change(Purpose::Recode);
-            let file = asked.package(asked.file(), purpose);
-            let (change, manner) = (change_of(asked), manner_of(asked));
-            change_file(rt, &file, change, manner, output, errors)
-        }
+        _ => match asked.given.get_str("from") {
+            Some(path) => execute_script(rt, asked, path, output, errors),
+            None => change_by(rt, asked, change_of(asked), output, errors),
+        },
     }
 }
 
@@ -47,11 +45,51 @@ pub(crate) fn manner_of(asked: &Asked<'_, '_>) -> Manner {
     }
 }
 
+/// Changes the package of the first file.
+fn change_by(
+    rt: &System,
+    asked: &Asked<'_, '_>,
+    change: Change<'_, '_>,
+    output: &mut Output,
+    errors: &mut Output,
+) -> Result<(), Failure> {
+    let purpose = asked.purpose_of_change(Purpose::Recode);
+    let file = asked.package(asked.file(), purpose);
+    change_file(rt, &file, change, manner_of(asked), output, errors)
+}
+
+/// Carries out the statements of a file.
+fn execute_script(
+    rt: &System,
+    asked: &Asked<'_, '_>,
+    path: &str,
+    output: &mut Output,
+    errors: &mut Output,
+) -> Result<(), Failure> {
+    let statements = read_script(rt, path)?;
+    let mut texts = Vec::with_capacity(rt.alloc(), statements.len())?;
+    for statement in &statements {
+        texts.push(statement.as_str())?;
+    }
+    change_by(rt, asked, Change::Execute(texts.as_slice()), output, errors)
+}
+
 /// Makes a file with a new package.
 fn create(rt: &System, asked: &Asked<'_, '_>) -> Result<(), Failure> {
     let (kind, page) = (asked.text("kind"), asked.given.get_str("page"));
     let is_forced = asked.given.get_flag("force");
     create_file(rt, asked.file(), kind, page, is_forced)
+}
+
+/// What becomes of rows whose keys are given.
+fn merging_of(asked: &Asked<'_, '_>) -> Merging {
+    if asked.given.get_flag("replace") {
+        Merging::Replace
+    } else if asked.given.get_flag("update") {
+        Merging::Update
+    } else {
+        Merging::Refuse
+    }
 }
 
 /// The change that a command makes.
@@ -63,7 +101,10 @@ fn change_of<'a, 'b>(asked: &Asked<'a, 'b>) -> Change<'a, 'b> {
             is_signature: asked.given.get_flag("signature"),
         },
         Verb::Exec => Change::Execute(asked.texts("TEXT")),
-        Verb::Import => Change::Import(asked.texts("PATH")),
+        Verb::Import => Change::Import {
+            paths: asked.texts("PATH"),
+            merging: merging_of(asked),
+        },
         _ => Change::Properties {
             set: asked.texts("set"),
             cleared: asked.texts("clear"),

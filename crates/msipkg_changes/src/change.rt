@@ -1,6 +1,6 @@
 //! The commands that change a package: each is lent the one that is opened here.
 
-use crate::importing::import_files;
+use crate::importing::{Merging, import_files};
 use crate::outcome::Outcome;
 use crate::pages::recode;
 use crate::properties::set_properties;
@@ -8,6 +8,7 @@ use crate::recounting::{mend_first, noted};
 use crate::statements::{carry_out_statements, check_statements};
 use crate::storing::store;
 use crate::streams::{add_streams, remove_parts};
+use crate::validation::Before;
 use msipkg_packages::msi::Package;
 use msipkg_packages::output::{Failure, Opened, Output, System};
 use msipkg_packages::{FileState, PackageFile, open_to_change};
@@ -27,7 +28,10 @@ pub enum Change<'a, 'b> {
     /// Statements are carried out.
     Execute(&'b [&'a str]),
     /// It gets what the files of these paths have.
-    Import(&'b [&'a str]),
+    Import {
+        paths: &'b [&'a str],
+        merging: Merging,
+    },
     /// Properties of its summary are set, each given as `NAME=VALUE`, and then others are cleared.
     Properties {
         set: &'b [&'a str],
@@ -86,7 +90,9 @@ fn changed_package(
     notes: &mut Output,
 ) -> Result<(Package<Opened>, FileState), Failure> {
     let (mut package, state) = open_to_change(rt, file, notes)?;
+    let before = Before::of(&package);
     apply(rt, &mut package, change, manner, outcome)?;
+    before.note(file.path, &package, notes);
     recode(&mut package, file.purpose, manner, outcome)?;
     Ok((package, state))
 }
@@ -95,7 +101,7 @@ fn changed_package(
 fn check_words(alloc: Global, change: Change<'_, '_>) -> Result<(), Failure> {
     match change {
         Change::Execute(texts) => check_statements(alloc, texts),
-        Change::Add(_) | Change::Remove { .. } | Change::Import(_) | Change::Properties { .. } =>
+        Change::Add(_) | Change::Remove { .. } | Change::Import { .. } | Change::Properties { .. } =>
             Ok(()),
     }
 }
@@ -115,7 +121,7 @@ fn apply(
             is_signature,
         } => remove_parts(rt.alloc(), package, names, is_signature),
         Change::Execute(texts) => execute(rt.alloc(), package, texts, manner, outcome),
-        Change::Import(paths) => import_files(rt, package, paths, manner, outcome),
+        Change::Import { paths, merging } => import_files(rt, package, paths, merging, manner, outcome),
         Change::Properties { set, cleared } => set_properties(rt.alloc(), package, set, cleared),
     }
 }

@@ -3,7 +3,9 @@
 use crate::tokens::{Token, Tokens};
 use msipkg_packages::msi::{Column, Error};
 use msipkg_packages::output::Failure;
-use std::alloc::Global;
+use msipkg_queries::{near_text, said};
+use msipkg_texts::Shown;
+use std::alloc::{AllocError, Global};
 
 /// How many columns a table has at most.
 const MOST_COLUMNS: usize = 32;
@@ -85,9 +87,23 @@ fn named_table<'a>(tokens: &mut Tokens<'a>) -> Result<&'a str, Failure> {
 /// Reads what stands behind `CREATE`.
 fn creation<'a>(alloc: Global, tokens: &mut Tokens<'a>) -> Result<Definition<'a>, Failure> {
     let table = named_table(tokens)?;
+    check_reserved(table)?;
     let columns = columns(alloc, tokens)?;
     tokens.expect_end()?;
     Ok(Definition::Create { table, columns })
+}
+
+/// Fails if the installer has a name for itself: it lists streams and storages as tables of these names.
+///
+/// # Errors
+/// Fails with that.
+pub(crate) fn check_reserved(table: &str) -> Result<(), Failure> {
+    match table {
+        "_Streams" | "_Storages" => {
+            Err(Failure::rule("_Streams and _Storages are reserved for the installer"))
+        }
+        _ => Ok(()),
+    }
 }
 
 /// Reads the columns of a table, and which of them are its key.
@@ -182,29 +198,50 @@ fn names<'a>(alloc: Global, tokens: &mut Tokens<'a>) -> Result<Vec<&'a str>, Fai
     Err(Failure::rule(TOO_MANY))
 }
 
-/// Builds the columns.
+/// Builds the columns: first those of the key, in its order, as the installer has them.
 fn built_columns(
     alloc: Global,
     described: &[Described<'_>],
     keys: &[&str],
 ) -> Result<Vec<Column>, Failure> {
-    check_keys(described, keys)?;
-    let mut columns = Vec::new(alloc);
+    let mut columns = key_columns(alloc, described, keys)?;
     for column in described {
-        let is_key = keys.iter().any(|key| *key == column.name);
-        columns.push(built_column(alloc, column, is_key)?)?;
+        if !keys.iter().any(|key| *key == column.name) {
+            columns.push(built_column(alloc, column, false)?)?;
+        }
     }
     Ok(columns)
 }
 
-/// Fails if a name of the key is that of no column.
-fn check_keys(described: &[Described<'_>], keys: &[&str]) -> Result<(), Failure> {
+/// Builds the columns of the key.
+fn key_columns(
+    alloc: Global,
+    described: &[Described<'_>],
+    keys: &[&str],
+) -> Result<Vec<Column>, Failure> {
+    let mut columns = Vec::new(alloc);
     for key in keys {
-        if !described.iter().any(|column| column.name == *key) {
-            return Err(Failure::rule("a column of the key isn't there"));
+        match described.iter().find(|column| column.name == *key) {
+            Some(column) => columns.push(built_column(alloc, column, true)?)?,
+            None => return Err(said(missing_key(alloc, described, key))),
         }
     }
-    Ok(())
+    Ok(columns)
+}
+
+/// The message for a column of the key that isn't there.
+fn missing_key(
+    alloc: Global,
+    described: &[Described<'_>],
+    key: &str,
+) -> Result<String, AllocError> {
+    let mut names = Vec::new(alloc);
+    for column in described {
+        names.push(column.name)?;
+    }
+    let near = near_text(alloc, key, names.as_slice())?;
+    let key = Shown::escaped(key);
+    format!(in alloc; "column {key} of the key isn't there{near}")
 }
 
 /// Builds a column.

@@ -2,6 +2,7 @@
 
 mod columns;
 mod descriptions;
+mod merging;
 mod rows;
 mod rules;
 mod summary;
@@ -18,6 +19,17 @@ use std::alloc::Global;
 use summary::apply_summary;
 use tables::apply_tables;
 
+/// What becomes of a row whose key a file gives.
+#[derive(Clone, Copy)]
+pub enum Merging {
+    /// The file is refused.
+    Refuse,
+    /// The file's row takes its place.
+    Replace,
+    /// The columns that the file gives are changed.
+    Update,
+}
+
 /// Gives a package what files have: the code page, tables and rows, streams, and the summary, of which nothing of the
 /// old one stays. Counts that are too low for its tables are mended first.
 ///
@@ -28,6 +40,7 @@ pub(crate) fn import_files(
     rt: &System,
     package: &mut Package<Opened>,
     paths: &[&str],
+    merging: Merging,
     manner: Manner,
     outcome: &mut Outcome,
 ) -> Result<(), Failure> {
@@ -35,18 +48,23 @@ pub(crate) fn import_files(
     if given.page.is_some() || !given.tables.is_empty() {
         mend_first(package, manner, outcome);
     }
-    match apply(rt.alloc(), package, &given) {
+    match apply(rt.alloc(), package, &given, merging) {
         Ok(()) => Ok(()),
         Err(failure) => Err(noted(package, failure)),
     }
 }
 
 /// Gives a package what files give.
-fn apply(alloc: Global, package: &mut Package<Opened>, given: &Given) -> Result<(), Failure> {
+fn apply(
+    alloc: Global,
+    package: &mut Package<Opened>,
+    given: &Given,
+    merging: Merging,
+) -> Result<(), Failure> {
     if let Some(page) = given.page {
         package.set_database_codepage(page)?;
     }
-    apply_tables(alloc, package, given.tables.as_slice())?;
+    apply_tables(alloc, package, given.tables.as_slice(), merging)?;
     apply_streams(alloc, package, given.streams.as_slice())?;
     if given.has_summary {
         apply_summary(alloc, package, given.summary.as_slice())

@@ -1,11 +1,16 @@
 //! `exec FILE TEXT..`: changes of a package's rows and tables as text.
 
 use crate::applied::{apply_definition, apply_statement, counted};
-use crate::definition::{definition_of, is_definition};
+use crate::definition::{Definition, definition_of, is_definition};
 use crate::outcome::{Carried, Outcome};
-use msipkg_packages::msi::{Package, Parse, Statement};
+use crate::validation::add_validation;
+use msipkg_packages::msi::Package;
 use msipkg_packages::output::{Failure, Opened};
+use msipkg_queries::{check_statement, explained, read_statement};
 use std::alloc::Global;
+
+/// How many characters of a statement a message has at most.
+const MOST_SHOWN: usize = 200;
 
 /// Fails if one of the texts is no statement: an insert, an update, a delete or a change of tables.
 ///
@@ -14,7 +19,7 @@ use std::alloc::Global;
 pub(crate) fn check_statements(alloc: Global, texts: &[&str]) -> Result<(), Failure> {
     for text in texts {
         if let Err(failure) = check_text(alloc, text) {
-            return Err(failure.at(alloc, "statement", text));
+            return Err(at_statement(alloc, failure, text));
         }
     }
     Ok(())
@@ -33,7 +38,7 @@ pub(crate) fn carry_out_statements(
     for text in texts {
         match apply_text(alloc, package, text) {
             Ok(carried) => outcome.add_carried(carried)?,
-            Err(failure) => return Err(failure.at(alloc, "statement", text)),
+            Err(failure) => return Err(at_statement(alloc, failure, text)),
         }
     }
     Ok(())
@@ -43,10 +48,10 @@ pub(crate) fn carry_out_statements(
 fn check_text(alloc: Global, text: &str) -> Result<(), Failure> {
     if is_definition(text) {
         drop(definition_of(alloc, text)?);
+        Ok(())
     } else {
-        drop(Statement::parse(alloc, text)?);
+        check_statement(alloc, text)
     }
-    Ok(())
 }
 
 /// Carries out the statement that a text spells, and returns what it did.
@@ -56,20 +61,37 @@ fn apply_text(
     text: &str,
 ) -> Result<Carried, Failure> {
     if is_definition(text) {
-        apply_definition(package, definition_of(alloc, text)?)
+        let definition = definition_of(alloc, text)?;
+        if matches!(definition, Definition::Create { .. }) {
+            add_validation(alloc, package)?;
+        }
+        apply_definition(package, definition)
     } else {
         apply_rows(alloc, package, text)
     }
 }
 
-/// Carries out the statement on rows that a text spells, and returns what it did. The rows are counted first, but why
+/// Carries out the change of rows that a text spells, and returns what it did. The rows are counted first, but why
 /// that fails is told last.
 fn apply_rows(
     alloc: Global,
     package: &mut Package<Opened>,
     text: &str,
 ) -> Result<Carried, Failure> {
-    let carried = counted(alloc, package, Statement::parse(alloc, text)?);
-    apply_statement(package, Statement::parse(alloc, text)?)?;
-    Ok(carried?)
+    let carried = counted(alloc, package, read_statement(alloc, text)?);
+    match apply_statement(package, read_statement(alloc, text)?) {
+        Ok(()) => Ok(carried?),
+        Err(failure) => Err(explained(alloc, package, text, failure)),
+    }
+}
+
+/// The failure of a statement, whose text is cut where it is long.
+fn at_statement(alloc: Global, failure: Failure, text: &str) -> Failure {
+    match text.char_indices().nth(MOST_SHOWN) {
+        Some((end, _)) => match format!(in alloc; "{}..", text.get(..end).unwrap_or("")) {
+            Ok(start) => failure.at(alloc, "statement", start.as_str()),
+            Err(_) => failure,
+        },
+        None => failure.at(alloc, "statement", text),
+    }
 }

@@ -1,8 +1,9 @@
 //! `query FILE TEXT`: the rows that a query selects.
 
 use crate::aligned::{widths_of, write_aligned};
-use msipkg_packages::msi::{Package, Parse, Rows, Select};
+use msipkg_packages::msi::{Package, Rows};
 use msipkg_packages::output::{Failure, Opened, Output, RowFormat, write_rows};
+use msipkg_queries::{explained, read_select};
 use msipkg_texts::Style;
 use std::alloc::Global;
 
@@ -41,12 +42,12 @@ impl Format {
 /// # Errors
 /// Fails at the query.
 pub(crate) fn check_query(alloc: Global, text: &str) -> Result<(), Failure> {
-    match Select::parse(alloc, text) {
+    match read_select(alloc, text) {
         Ok(query) => {
             drop(query);
             Ok(())
         }
-        Err(error) => Err(Failure::from(error).at(alloc, "query", text)),
+        Err(failure) => Err(failure.at(alloc, "query", text)),
     }
 }
 
@@ -94,5 +95,8 @@ fn selected<'a>(
     package: &'a Package<Opened>,
     text: &str,
 ) -> Result<Rows<'a>, Failure> {
-    Ok(package.select_rows(Select::parse(alloc, text)?)?)
+    match package.select_rows(read_select(alloc, text)?) {
+        Ok(rows) => Ok(rows),
+        Err(error) => Err(explained(alloc, package, text, Failure::from(error))),
+    }
 }

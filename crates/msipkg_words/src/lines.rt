@@ -3,11 +3,11 @@
 use std::alloc::{AllocError, Global};
 use std::mem;
 
-/// Returns the words of a line: parted by blanks, which `"` and `'` keep.
+/// Returns the words of a line: parted by blanks, which `"` and `'` keep. There are none if a quote isn't closed.
 ///
 /// # Errors
 /// Fails if memory is refused.
-pub fn words_of(alloc: Global, line: &str) -> Result<Vec<String>, AllocError> {
+pub fn words_of(alloc: Global, line: &str) -> Result<Option<Vec<String>>, AllocError> {
     let mut splitter = Splitter {
         alloc,
         words: Vec::new(alloc),
@@ -16,7 +16,10 @@ pub fn words_of(alloc: Global, line: &str) -> Result<Vec<String>, AllocError> {
         quote: None,
     };
     splitter.take_all(line)?;
-    Ok(splitter.into_words())
+    if splitter.quote.is_some() {
+        return Ok(None);
+    }
+    Ok(Some(splitter.into_words()))
 }
 
 /// A word that is being read.

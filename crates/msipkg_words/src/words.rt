@@ -49,6 +49,8 @@ enum Form {
     Words,
     /// Any number of words.
     AnyWords,
+    /// One word or more, or else the option of this name.
+    WordsOr(&'static str),
     /// `--ID`.
     Flag,
     /// `--ID`, and not beside these.
@@ -322,8 +324,13 @@ static CHANGE_COMMANDS: [Row; 4] = [
             FILE,
             Argument {
                 id: "TEXT",
-                form: Form::Words,
+                form: Form::WordsOr("from"),
                 help: "A statement, as DELETE FROM Property WHERE Property = 'Old'",
+            },
+            Argument {
+                id: "from",
+                form: Form::Value("PATH"),
+                help: "Takes the statements from a file, each up to its semicolon; - is standard input",
             },
             Argument {
                 id: "json",
@@ -381,6 +388,16 @@ static EXCHANGE_COMMANDS: [Row; 4] = [
                 id: "PATH",
                 form: Form::Words,
                 help: "The files, which end in .idt, .json or .csv",
+            },
+            Argument {
+                id: "replace",
+                form: Form::Instead(&["update"]),
+                help: "Puts rows in the place of those with the same key",
+            },
+            Argument {
+                id: "update",
+                form: Form::Instead(&["replace"]),
+                help: "Changes rows with the same key in the columns that are given alone",
             },
             PAGE,
             RECODE,
@@ -497,6 +514,9 @@ fn arg_of<'a>(alloc: Global, argument: &Argument) -> Result<Arg<'a>, AllocError>
         Form::Word => arg.required(true),
         Form::Words => several(arg).required(true),
         Form::AnyWords => several(arg),
+        Form::WordsOr(other) => several(arg)
+            .required_unless_present(other)?
+            .conflicts_with(other)?,
         Form::Flag => arg.long(id).action(ArgAction::SetTrue),
         Form::Instead(others) => arg
             .long(id)

@@ -3,8 +3,9 @@
 use msi_text_rows::csv_value;
 use msipkg_packages::msi::{Column, ColumnType, Error, Package, Value};
 use msipkg_packages::output::{Failure, Opened};
+use msipkg_queries::{near_text, said, shown_value};
 use msipkg_reading::GivenTable;
-use std::alloc::Global;
+use std::alloc::{AllocError, Global};
 
 /// Returns the columns of a package's table, or none where it isn't there.
 pub(crate) fn columns_of<'a>(package: &'a Package<Opened>, name: &str) -> &'a [Column] {
@@ -40,11 +41,21 @@ fn check_names(alloc: Global, columns: &[Column], table: &GivenTable) -> Result<
             return Err(table.at_column(alloc, Failure::rule("it is there twice"), name));
         }
         if !columns.iter().any(|column| column.name() == name) {
-            let failure = Failure::rule("the package's table has no such column");
+            let failure = said(missing_column(alloc, columns, name));
             return Err(table.at_column(alloc, failure, name));
         }
     }
     Ok(())
+}
+
+/// The message for a column that the package's table hasn't got.
+fn missing_column(alloc: Global, columns: &[Column], name: &str) -> Result<String, AllocError> {
+    let mut names = Vec::with_capacity(alloc, columns.len())?;
+    for column in columns {
+        names.push(column.name())?;
+    }
+    let near = near_text(alloc, name, names.as_slice())?;
+    format!(in alloc; "the package's table has no such column{near}")
 }
 
 /// The values of a row, in the order of columns.
@@ -65,8 +76,9 @@ fn package_row(
     Ok(values)
 }
 
-/// The value of a column of a type, which is null where none is given. A text stands for what a field of CSV does, but
-/// for the empty text. One that the column doesn't take is left to be refused.
+/// The value of a column of a type, which is null where none is given. A text stands for what a field of CSV does: the
+/// empty one for null, too, since the installer knows no empty text. One that the column doesn't take is left to be
+/// refused.
 fn package_value(
     alloc: Global,
     coltype: ColumnType,
@@ -74,9 +86,7 @@ fn package_value(
 ) -> Result<Value, Error> {
     match given {
         None => Ok(Value::Null),
-        Some(Value::Str(text)) if !text.as_str().is_empty() => {
-            csv_value(alloc, coltype, text.as_str())
-        }
+        Some(Value::Str(text)) => csv_value(alloc, coltype, text.as_str()),
         Some(value) => value.clone(alloc),
     }
 }
@@ -92,22 +102,42 @@ pub(crate) fn check_rows(
     rows: &[Vec<Value>],
 ) -> Result<(), Failure> {
     for i in 0..rows.len() {
-        if let Some((column, rule)) = refused_value(columns, rows[i].as_slice()) {
-            return Err(table.at_row(alloc, Failure::rule(rule), i, column));
-        }
+        check_row(alloc, columns, table, i, rows[i].as_slice())?;
     }
     Ok(())
 }
 
-/// The column of the first value that isn't taken, and the rule that is broken there.
-fn refused_value<'a>(columns: &'a [Column], row: &[Value]) -> Option<(&'a str, &'static str)> {
+/// Refuses the row of a number, counted from 0 on, if it has a value that its column doesn't take.
+///
+/// # Errors
+/// Fails at the row and the column.
+pub(crate) fn check_row(
+    alloc: Global,
+    columns: &[Column],
+    table: &GivenTable,
+    number: usize,
+    row: &[Value],
+) -> Result<(), Failure> {
+    match refused_value(columns, row) {
+        Some((column, value)) => {
+            let failure = said(refusal(alloc, value));
+            Err(table.at_row(alloc, failure, number, column))
+        }
+        None => Ok(()),
+    }
+}
+
+/// The message for a value that its column doesn't take.
+fn refusal(alloc: Global, value: &Value) -> Result<String, AllocError> {
+    let shown = shown_value(alloc, value)?;
+    format!(in alloc; "the column doesn't take {shown}")
+}
+
+/// The first value that isn't taken, and the name of its column.
+fn refused_value<'a>(columns: &'a [Column], row: &'a [Value]) -> Option<(&'a str, &'a Value)> {
     let (column, value) = columns
         .iter()
         .zip(row.iter())
         .find(|(column, value)| !column.is_valid_value(value))?;
-    if value.is_null() {
-        Some((column.name(), "the column doesn't take null"))
-    } else {
-        Some((column.name(), "the column doesn't take this value"))
-    }
+    Some((column.name(), value))
 }

@@ -1,13 +1,11 @@
 //! Rows of `_Validation`, which say more of columns.
 
 use crate::importing::rows::package_rows;
+pub(crate) use crate::validation::VALIDATION;
 use msipkg_packages::msi::{Column, Value};
 use msipkg_packages::output::Failure;
 use msipkg_reading::GivenTable;
 use std::alloc::Global;
-
-/// The table that describes columns further.
-pub(crate) const VALIDATION: &str = "_Validation";
 
 /// Returns the rows of `_Validation` among tables, with values for the columns that it has in the package. A value that
 /// such a column doesn't take becomes null. Other tools write such ones, as a list of tables to which a key refers.

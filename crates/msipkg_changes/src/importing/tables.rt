@@ -1,10 +1,14 @@
 //! Giving a package tables.
 
+use crate::definition::check_reserved;
+use crate::importing::Merging;
 use crate::importing::columns::built_columns;
 use crate::importing::descriptions::describe;
+use crate::importing::merging::merged_rows;
 use crate::importing::rows::{check_rows, columns_of, package_rows};
 use crate::importing::rules::{VALIDATION, rules_of};
-use msipkg_packages::msi::{Insert, Package, Value};
+use crate::validation::{add_validation, copied_rows};
+use msipkg_packages::msi::{Delete, Error, Insert, Package, Value};
 use msipkg_packages::output::{Failure, Opened};
 use msipkg_reading::GivenTable;
 use std::alloc::Global;
@@ -19,10 +23,17 @@ pub(crate) fn apply_tables(
     alloc: Global,
     package: &mut Package<Opened>,
     tables: &[GivenTable],
+    merging: Merging,
 ) -> Result<(), Failure> {
+    if !tables
+        .iter()
+        .all(|table| package.has_table(table.name.as_str()))
+    {
+        add_validation(alloc, package)?;
+    }
     let rules = rules_of(alloc, columns_of(package, VALIDATION), tables)?;
     create_tables(alloc, package, rules.as_slice(), tables)?;
-    insert_all(alloc, package, tables)
+    insert_all(alloc, package, tables, merging)
 }
 
 /// Creates the tables that aren't there, and describes columns.
@@ -50,6 +61,7 @@ fn create_table(
     rules: &[Vec<Value>],
     table: &GivenTable,
 ) -> Result<(), Failure> {
+    check_reserved(table.name.as_str())?;
     let columns = built_columns(alloc, rules, table)?;
     Ok(package.create_table(table.name.as_str(), columns)?)
 }
@@ -59,16 +71,30 @@ fn insert_all(
     alloc: Global,
     package: &mut Package<Opened>,
     tables: &[GivenTable],
+    merging: Merging,
 ) -> Result<(), Failure> {
     for table in tables {
         if table.name.as_str() == VALIDATION {
             continue;
         }
-        if let Err(failure) = insert_rows(alloc, package, table) {
+        if let Err(failure) = put_rows(alloc, package, table, merging) {
             return Err(table.at_table(alloc, failure));
         }
     }
     Ok(())
+}
+
+/// Puts the rows of a table among those that the package has.
+fn put_rows(
+    alloc: Global,
+    package: &mut Package<Opened>,
+    table: &GivenTable,
+    merging: Merging,
+) -> Result<(), Failure> {
+    match merging {
+        Merging::Refuse => insert_rows(alloc, package, table),
+        Merging::Replace | Merging::Update => merge_rows(alloc, package, table, merging),
+    }
 }
 
 /// Inserts the rows of a table.
@@ -80,6 +106,25 @@ fn insert_rows(
     let columns = columns_of(package, table.name.as_str());
     let rows = package_rows(alloc, columns, table)?;
     check_rows(alloc, columns, table, rows.as_slice())?;
-    let query = Insert::into(alloc, table.name.as_str())?.rows(rows)?;
-    Ok(package.insert_rows(query)?)
+    Ok(package.insert_rows(insert(alloc, table, rows)?)?)
+}
+
+/// Replaces or updates rows by those of a table.
+fn merge_rows(
+    alloc: Global,
+    package: &mut Package<Opened>,
+    table: &GivenTable,
+    merging: Merging,
+) -> Result<(), Failure> {
+    let columns = columns_of(package, table.name.as_str());
+    let given = package_rows(alloc, columns, table)?;
+    let rows = copied_rows(alloc, package, table.name.as_str())?;
+    let rows = merged_rows(alloc, columns, table, merging, rows, given)?;
+    package.delete_rows(Delete::from(alloc, table.name.as_str())?)?;
+    Ok(package.insert_rows(insert(alloc, table, rows)?)?)
+}
+
+/// The query that inserts rows into a table.
+fn insert(alloc: Global, table: &GivenTable, rows: Vec<Vec<Value>>) -> Result<Insert, Error> {
+    Insert::into(alloc, table.name.as_str())?.rows(rows)
 }

@@ -1,0 +1,171 @@
+//! The tables and columns that a text names, and the first of them that a package lacks.
+
+use crate::near::near_text;
+use crate::pieces::{Piece, has_kind, is_at, table_at};
+use msi_query_tokens::token::Kind;
+use msipkg_packages::msi::{Package, Table};
+use msipkg_packages::output::Opened;
+use msipkg_texts::Shown;
+use std::alloc::{AllocError, Global};
+
+/// Returns what is wrong with the first table of a text that isn't there.
+///
+/// # Errors
+/// Fails if memory is refused, and so do the other calls.
+pub(crate) fn table_fault(
+    alloc: Global,
+    package: &Package<Opened>,
+    pieces: &[Piece<'_>],
+) -> Result<Option<String>, AllocError> {
+    for i in 0..pieces.len() {
+        if let Some(name) = table_at(pieces, i)
+            && !package.has_table(name)
+        {
+            return Ok(Some(missing_table(alloc, package, name)?));
+        }
+    }
+    Ok(None)
+}
+
+/// The message for a table that isn't there.
+fn missing_table(
+    alloc: Global,
+    package: &Package<Opened>,
+    name: &str,
+) -> Result<String, AllocError> {
+    let mut names = Vec::new(alloc);
+    for table in package.tables() {
+        names.push(table.name())?;
+    }
+    let near = near_text(alloc, name, names.as_slice())?;
+    let name = Shown::escaped(name);
+    format!(in alloc; "table {name} isn't there{near}")
+}
+
+/// Returns the tables of a package that a text names.
+pub(crate) fn tables_in<'a>(
+    alloc: Global,
+    package: &'a Package<Opened>,
+    pieces: &[Piece<'_>],
+) -> Result<Vec<&'a Table>, AllocError> {
+    let mut tables = Vec::new(alloc);
+    for i in 0..pieces.len() {
+        if let Some(name) = table_at(pieces, i)
+            && let Some(table) = package.get_table(name)
+        {
+            tables.push(table)?;
+        }
+    }
+    Ok(tables)
+}
+
+/// Returns what is wrong with the first column of a text that isn't there. Which columns there are in a query within
+/// brackets isn't known.
+pub(crate) fn column_fault(
+    alloc: Global,
+    tables: &[&Table],
+    pieces: &[Piece<'_>],
+) -> Result<Option<String>, AllocError> {
+    if has_inner_query(pieces) || has_kind(pieces, Kind::Insert) {
+        return Ok(None);
+    }
+    let known = known_columns(alloc, tables)?;
+    for i in 0..pieces.len() {
+        if let Some(name) = column_at(alloc, pieces, i)?
+            && !known.iter().any(|other| other.as_str() == name.as_str())
+        {
+            let fault = missing_column(alloc, tables, known.as_slice(), name.as_str())?;
+            return Ok(Some(fault));
+        }
+    }
+    Ok(None)
+}
+
+/// Whether there is a query within brackets.
+fn has_inner_query(pieces: &[Piece<'_>]) -> bool {
+    pieces
+        .iter()
+        .filter(|piece| piece.kind == Kind::Select)
+        .count()
+        > 1
+}
+
+/// The names of the columns of tables, with those of the tables in front where there are several.
+fn known_columns(alloc: Global, tables: &[&Table]) -> Result<Vec<String>, AllocError> {
+    let mut names = Vec::new(alloc);
+    for table in tables {
+        let front = if tables.len() > 1 { table.name() } else { "" };
+        add_columns(alloc, table, front, &mut names)?;
+    }
+    Ok(names)
+}
+
+/// Adds the names of a table's columns, with this name in front unless it is empty.
+fn add_columns(
+    alloc: Global,
+    table: &Table,
+    front: &str,
+    names: &mut Vec<String>,
+) -> Result<(), AllocError> {
+    let dot = if front.is_empty() { "" } else { "." };
+    for column in table.columns() {
+        let name = column.name();
+        names.push(format!(in alloc; "{front}{dot}{name}")?)?;
+    }
+    Ok(())
+}
+
+/// The name of a column that begins at a place.
+fn column_at(
+    alloc: Global,
+    pieces: &[Piece<'_>],
+    place: usize,
+) -> Result<Option<String>, AllocError> {
+    let Some(name) = first_name(pieces, place) else {
+        return Ok(None);
+    };
+    match second_name(pieces, place) {
+        Some(second) => Ok(Some(format!(in alloc; "{name}.{second}")?)),
+        None => Ok(Some(String::from_str(alloc, name)?)),
+    }
+}
+
+/// The name at a place that is neither that of a table nor the second half of one.
+fn first_name<'a>(pieces: &[Piece<'a>], place: usize) -> Option<&'a str> {
+    let is_half = place > 0 && is_at(pieces, place.saturating_sub(1), Kind::Dot);
+    if is_half || table_at(pieces, place).is_some() {
+        return None;
+    }
+    pieces.get(place)?.name()
+}
+
+/// The second half of the name that begins at a place.
+fn second_name<'a>(pieces: &[Piece<'a>], place: usize) -> Option<&'a str> {
+    if is_at(pieces, place.saturating_add(1), Kind::Dot) {
+        pieces.get(place.saturating_add(2))?.name()
+    } else {
+        None
+    }
+}
+
+/// The message for a column that isn't there.
+fn missing_column(
+    alloc: Global,
+    tables: &[&Table],
+    known: &[String],
+    name: &str,
+) -> Result<String, AllocError> {
+    let mut names = Vec::new(alloc);
+    for other in known {
+        names.push(other.as_str())?;
+    }
+    let near = near_text(alloc, name, names.as_slice())?;
+    let name = Shown::escaped(name);
+    match tables {
+        [table] => {
+            let table = Shown::escaped(table.name());
+            format!(in alloc; "{table}: column {name} isn't there{near}")
+        }
+        _ => format!(in alloc; "column {name} isn't there{near}"),
+    }
+}

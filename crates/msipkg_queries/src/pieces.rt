@@ -1,0 +1,81 @@
+//! The pieces of a query's text, cut as the library cuts them.
+
+use msi_query_tokens::token::Kind;
+use msi_query_tokens::tokens::Tokens;
+use std::alloc::{AllocError, Global};
+
+/// A piece of a text.
+#[derive(Clone, Copy)]
+pub(crate) struct Piece<'a> {
+    pub(crate) kind: Kind,
+    /// The byte at which it begins.
+    pub(crate) place: usize,
+    /// How it is spelled.
+    pub(crate) text: &'a str,
+}
+
+impl<'a> Piece<'a> {
+    /// Returns the name that it is, without its backquotes, if it is one.
+    pub(crate) fn name(self) -> Option<&'a str> {
+        match self.kind {
+            Kind::Name => Some(self.text),
+            Kind::QuotedName => self.text.strip_prefix('`')?.strip_suffix('`'),
+            _ => None,
+        }
+    }
+
+    /// Returns whether it is the empty text.
+    pub(crate) fn is_empty_text(self) -> bool {
+        matches!(self.text, "''" | "\"\"")
+    }
+}
+
+/// Returns the pieces of a text.
+///
+/// # Errors
+/// Fails if memory is refused.
+pub(crate) fn pieces_of<'a>(alloc: Global, text: &'a str) -> Result<Vec<Piece<'a>>, AllocError> {
+    let mut tokens = Tokens::new(text.as_bytes());
+    let mut pieces = Vec::new(alloc);
+    for _ in 0..text.len() {
+        if tokens.sees(Kind::End) {
+            break;
+        }
+        pieces.push(piece_of(text, &tokens))?;
+        tokens.take();
+    }
+    Ok(pieces)
+}
+
+/// The piece of a text that comes next.
+fn piece_of<'a>(text: &'a str, tokens: &Tokens<'_>) -> Piece<'a> {
+    let place = text.len().saturating_sub(tokens.left());
+    let end = place.saturating_add(tokens.spelling().len());
+    Piece {
+        kind: tokens.peek(),
+        place,
+        text: text.get(place..end).unwrap_or(""),
+    }
+}
+
+/// Returns whether a piece of a kind stands at a place.
+pub(crate) fn is_at(pieces: &[Piece<'_>], place: usize, kind: Kind) -> bool {
+    match pieces.get(place) {
+        Some(piece) => piece.kind == kind,
+        None => false,
+    }
+}
+
+/// Returns whether there is a piece of a kind.
+pub(crate) fn has_kind(pieces: &[Piece<'_>], kind: Kind) -> bool {
+    pieces.iter().any(|piece| piece.kind == kind)
+}
+
+/// Returns the name of a table that stands at a place, behind `FROM`, `JOIN`, `INTO` or `UPDATE`.
+pub(crate) fn table_at<'a>(pieces: &[Piece<'a>], place: usize) -> Option<&'a str> {
+    let before = pieces.get(place.checked_sub(1)?)?;
+    match before.kind {
+        Kind::From | Kind::Join | Kind::Into | Kind::Update => pieces.get(place)?.name(),
+        _ => None,
+    }
+}

@@ -1,0 +1,63 @@
+//! Why a package refuses a query or a statement: the table, the column and the value.
+
+use crate::naming::{column_fault, table_fault, tables_in};
+use crate::pieces::{Piece, pieces_of};
+use crate::showing::said;
+use crate::values::{insert_fault, update_fault};
+use msi_query_tokens::token::Kind;
+use msipkg_packages::msi::{Package, Table};
+use msipkg_packages::output::{Failure, Opened};
+use std::alloc::{AllocError, Global};
+
+/// Returns the failure of a query or a statement that a package refused, with the table, the column and the value that
+/// is at fault, where one is.
+pub fn explained(
+    alloc: Global,
+    package: &Package<Opened>,
+    text: &str,
+    failure: Failure,
+) -> Failure {
+    if failure.is_invalid_data() {
+        return failure;
+    }
+    match fault_in(alloc, package, text) {
+        Ok(Some(fault)) => said(Ok(fault)),
+        Ok(None) => failure,
+        Err(error) => Failure::from(error),
+    }
+}
+
+/// What is wrong with a text for a package.
+fn fault_in(
+    alloc: Global,
+    package: &Package<Opened>,
+    text: &str,
+) -> Result<Option<String>, AllocError> {
+    let pieces = pieces_of(alloc, text)?;
+    let fault = table_fault(alloc, package, pieces.as_slice())?;
+    if fault.is_some() {
+        return Ok(fault);
+    }
+    let tables = tables_in(alloc, package, pieces.as_slice())?;
+    let fault = column_fault(alloc, tables.as_slice(), pieces.as_slice())?;
+    if fault.is_some() {
+        return Ok(fault);
+    }
+    value_fault_in(alloc, tables.as_slice(), pieces.as_slice())
+}
+
+/// What is wrong with the values of a text.
+fn value_fault_in(
+    alloc: Global,
+    tables: &[&Table],
+    pieces: &[Piece<'_>],
+) -> Result<Option<String>, AllocError> {
+    let ([table], Some(first)) = (tables, pieces.first()) else {
+        return Ok(None);
+    };
+    match first.kind {
+        Kind::Insert => insert_fault(alloc, table, pieces),
+        Kind::Update => update_fault(alloc, table, pieces),
+        _ => Ok(None),
+    }
+}

@@ -1,0 +1,98 @@
+//! What is refused of texts that the library reads, since people mean something else by them.
+
+use crate::comparing::{is_operator, operand_end};
+use crate::pieces::{Piece, has_kind, table_at};
+use crate::showing::said;
+use msi_query_tokens::token::Kind;
+use msipkg_packages::output::Failure;
+use msipkg_texts::Shown;
+use std::alloc::Global;
+
+/// Refuses a text in double quotes that has a backslash, as a path does.
+///
+/// # Errors
+/// Fails at its byte.
+pub(crate) fn check_quotes(alloc: Global, pieces: &[Piece<'_>]) -> Result<(), Failure> {
+    for piece in pieces {
+        if piece.text.starts_with('"') && piece.text.contains('\\') {
+            let place = piece.place;
+            return Err(said(format!(in alloc;
+                "at byte {place}: a backslash begins an escape in \"..\"; '..' takes it as it stands"
+            )));
+        }
+    }
+    Ok(())
+}
+
+/// Refuses a statement that would change nothing, a `NOT` that doesn't reach over the comparison behind it, and a join
+/// of a table with itself.
+///
+/// # Errors
+/// Fails with what is to be written instead.
+pub(crate) fn check_pieces(alloc: Global, text: &str, pieces: &[Piece<'_>]) -> Result<(), Failure> {
+    check_parts(pieces)?;
+    check_not(alloc, text, pieces)?;
+    check_joins(alloc, pieces)
+}
+
+/// Refuses an `INSERT` without rows, and an `UPDATE` that sets nothing.
+fn check_parts(pieces: &[Piece<'_>]) -> Result<(), Failure> {
+    let Some(first) = pieces.first() else {
+        return Ok(());
+    };
+    match first.kind {
+        Kind::Insert if !has_kind(pieces, Kind::Values) => {
+            Err(Failure::rule("INSERT has no VALUES, so it inserts nothing"))
+        }
+        Kind::Update if !has_kind(pieces, Kind::Set) => {
+            Err(Failure::rule("UPDATE has no SET, so it changes nothing"))
+        }
+        _ => Ok(()),
+    }
+}
+
+/// Refuses a `NOT` in front of an operand with an operator behind it.
+fn check_not(alloc: Global, text: &str, pieces: &[Piece<'_>]) -> Result<(), Failure> {
+    for i in 0..pieces.len() {
+        if pieces[i].kind != Kind::Not {
+            continue;
+        }
+        let end = operand_end(pieces, i.saturating_add(1));
+        if let Some(operator) = pieces.get(end)
+            && is_operator(*operator)
+        {
+            return Err(not_failure(alloc, text, pieces[i], *operator));
+        }
+    }
+    Ok(())
+}
+
+/// The failure of a `NOT`, with both ways to write it.
+fn not_failure(alloc: Global, text: &str, not: Piece<'_>, operator: Piece<'_>) -> Failure {
+    let start = not.place.saturating_add(not.text.len());
+    let operand = text.get(start..operator.place).unwrap_or("").trim();
+    let (place, operand, operator) = (not.place, Shown::escaped(operand), operator.text);
+    said(format!(in alloc;
+        "at byte {place}: write NOT ({operand} {operator} ..) or (NOT {operand}) {operator} .."
+    ))
+}
+
+/// Refuses a join of a table with itself, whose columns couldn't be told apart.
+fn check_joins(alloc: Global, pieces: &[Piece<'_>]) -> Result<(), Failure> {
+    for i in 0..pieces.len() {
+        if let Some(name) = table_at(pieces, i)
+            && is_named_before(pieces, i, name)
+        {
+            let name = Shown::escaped(name);
+            return Err(said(format!(in alloc;
+                "table {name} is joined with itself, so its columns can't be told apart"
+            )));
+        }
+    }
+    Ok(())
+}
+
+/// Whether a table is named in front of a place.
+fn is_named_before(pieces: &[Piece<'_>], place: usize, name: &str) -> bool {
+    (0..place).any(|i| table_at(pieces, i) == Some(name))
+}

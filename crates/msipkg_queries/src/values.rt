@@ -1,0 +1,189 @@
+//! The values that a text gives to columns, and the first that its column doesn't take.
+
+use crate::pieces::{Piece, is_at};
+use crate::showing::shown_value;
+use msi_query_tokens::texts;
+use msi_query_tokens::token::Kind;
+use msi_query_tokens::tokens::Tokens;
+use msipkg_packages::msi::{Column, ParseError, Table, Value};
+use msipkg_texts::Shown;
+use std::alloc::{AllocError, Global};
+
+/// Returns what is wrong with the first row or value that an insert gives.
+///
+/// # Errors
+/// Fails if memory is refused, and so do the other calls.
+pub(crate) fn insert_fault(
+    alloc: Global,
+    table: &Table,
+    pieces: &[Piece<'_>],
+) -> Result<Option<String>, AllocError> {
+    for i in 0..pieces.len() {
+        let fault = if pieces[i].kind == Kind::Close {
+            count_fault(alloc, table, pieces, i)?
+        } else {
+            value_fault(alloc, table, pieces, i, inserted_column(table, pieces, i))?
+        };
+        if fault.is_some() {
+            return Ok(fault);
+        }
+    }
+    Ok(None)
+}
+
+/// Returns what is wrong with the first value that an update sets.
+pub(crate) fn update_fault(
+    alloc: Global,
+    table: &Table,
+    pieces: &[Piece<'_>],
+) -> Result<Option<String>, AllocError> {
+    for i in 0..pieces.len() {
+        if pieces[i].kind == Kind::Where {
+            break;
+        }
+        let fault = value_fault(alloc, table, pieces, i, set_column(table, pieces, i))?;
+        if fault.is_some() {
+            return Ok(fault);
+        }
+    }
+    Ok(None)
+}
+
+/// What is wrong with the number of values in the row that ends at a place.
+fn count_fault(
+    alloc: Global,
+    table: &Table,
+    pieces: &[Piece<'_>],
+    place: usize,
+) -> Result<Option<String>, AllocError> {
+    let has = place_in_row(pieces, place).saturating_add(1);
+    let wanted = table.columns().len();
+    if has == wanted {
+        return Ok(None);
+    }
+    let (name, row) = (Shown::escaped(table.name()), row_number(pieces, place));
+    Ok(Some(format!(in alloc;
+        "{name}: row {row} has {has} values, and there are {wanted} columns"
+    )?))
+}
+
+/// Which value of its row stands at a place, counted from 0 on.
+fn place_in_row(pieces: &[Piece<'_>], place: usize) -> usize {
+    let mut count = 0usize;
+    for piece in pieces.iter().take(place) {
+        match piece.kind {
+            Kind::Open => count = 0,
+            Kind::Comma => count = count.saturating_add(1),
+            _ => {}
+        }
+    }
+    count
+}
+
+/// Which row stands at a place, counted from 1 on.
+fn row_number(pieces: &[Piece<'_>], place: usize) -> usize {
+    let before = pieces.iter().take(place);
+    before.filter(|piece| piece.kind == Kind::Open).count()
+}
+
+/// The column that gets the value at a place of an insert.
+fn inserted_column<'a>(table: &'a Table, pieces: &[Piece<'_>], place: usize) -> Option<&'a Column> {
+    table.columns().get(place_in_row(pieces, place))
+}
+
+/// The column that is set to the value at a place of an update.
+fn set_column<'a>(table: &'a Table, pieces: &[Piece<'_>], place: usize) -> Option<&'a Column> {
+    let before = place.checked_sub(1)?;
+    let equals = if is_at(pieces, before, Kind::Sub) {
+        before.checked_sub(1)?
+    } else {
+        before
+    };
+    if !is_at(pieces, equals, Kind::Eq) {
+        return None;
+    }
+    let name = pieces.get(equals.checked_sub(1)?)?.name()?;
+    table.columns().iter().find(|column| column.name() == name)
+}
+
+/// What is wrong with the value at a place, if there is one, for a column.
+fn value_fault(
+    alloc: Global,
+    table: &Table,
+    pieces: &[Piece<'_>],
+    place: usize,
+    column: Option<&Column>,
+) -> Result<Option<String>, AllocError> {
+    let Some(column) = column else {
+        return Ok(None);
+    };
+    match value_at(alloc, pieces, place)? {
+        Some(value) if !column.is_valid_value(&value) => {
+            let is_spelled = is_at(pieces, place, Kind::Null);
+            Ok(Some(refused_value(alloc, table, column, &value, is_spelled)?))
+        }
+        _ => Ok(None),
+    }
+}
+
+/// The message for a value that a column doesn't take. Null may not be spelled so, but as the empty text.
+fn refused_value(
+    alloc: Global,
+    table: &Table,
+    column: &Column,
+    value: &Value,
+    is_spelled: bool,
+) -> Result<String, AllocError> {
+    let (table, column) = (Shown::escaped(table.name()), Shown::escaped(column.name()));
+    let shown = shown_value(alloc, value)?;
+    let null = if value.is_null() && !is_spelled {
+        ", for which the empty text stands"
+    } else {
+        ""
+    };
+    format!(in alloc; "{table}: column {column} doesn't take {shown}{null}")
+}
+
+/// Whether a minus stands in front of a place.
+fn is_negative(pieces: &[Piece<'_>], place: usize) -> bool {
+    place > 0 && is_at(pieces, place.saturating_sub(1), Kind::Sub)
+}
+
+/// The value at a place, if there is one.
+fn value_at(
+    alloc: Global,
+    pieces: &[Piece<'_>],
+    place: usize,
+) -> Result<Option<Value>, AllocError> {
+    let Some(piece) = pieces.get(place) else {
+        return Ok(None);
+    };
+    match piece.kind {
+        Kind::Null => Ok(Some(Value::Null)),
+        Kind::BinaryStream => Ok(Some(Value::Binary)),
+        Kind::Number => Ok(number_in(piece.text, is_negative(pieces, place))),
+        Kind::SingleQuoted | Kind::DoubleQuoted => text_in(alloc, piece.text),
+        _ => Ok(None),
+    }
+}
+
+/// The number of digits, or of digits behind a minus.
+fn number_in(digits: &str, is_negative: bool) -> Option<Value> {
+    let number = digits.parse::<i64>().ok()?;
+    let number = if is_negative {
+        number.checked_neg()?
+    } else {
+        number
+    };
+    Some(Value::Int(i32::try_from(number).ok()?))
+}
+
+/// The value of a text in quotes.
+fn text_in(alloc: Global, quoted: &str) -> Result<Option<Value>, AllocError> {
+    match texts::text(alloc, &mut Tokens::new(quoted.as_bytes())) {
+        Ok(text) if text.as_str().is_empty() => Ok(Some(Value::Null)),
+        Ok(text) => Ok(Some(Value::Str(text))),
+        Err(ParseError::OutOfMemory) => Err(AllocError),
+        Err(ParseError::Refused(_)) => Ok(None),
+    }
+}
