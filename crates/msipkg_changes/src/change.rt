@@ -8,7 +8,7 @@ use crate::storing::store;
 use crate::streams::{add_streams, remove_streams};
 use msipkg_packages::msi::Package;
 use msipkg_packages::output::{Failure, Opened, Output, System};
-use msipkg_packages::{PackageFile, open_package};
+use msipkg_packages::{Claim, PackageFile, open_package};
 use std::alloc::Global;
 
 /// A change of a package.
@@ -29,11 +29,12 @@ pub enum Change<'a, 'b> {
     },
 }
 
-/// Changes the package of a file: all of the change, or none of it. Statements are read before the file is. If the
+/// Changes the package of a file: all of the change, or none of it. Statements are read before the file is, and it is
+/// locked from before it is read until it is replaced. If the
 /// package is signed, `notes` gets a line that says that the signature is no longer valid.
 ///
 /// # Errors
-/// Fails at the first text that is no statement, and as `open_package`, the change and the calls of the system do. Then
+/// Fails at the first text that is no statement, and as `Claim::take`, `open_package`, the change and the calls of the system do. Then
 /// the file is as it was.
 pub fn change_file(
     rt: &System,
@@ -42,9 +43,10 @@ pub fn change_file(
     notes: &mut Output,
 ) -> Result<(), Failure> {
     check_words(rt.alloc(), change)?;
+    let claim = Claim::take(rt, file.path)?;
     let mut package = open_package(rt, file, notes)?;
     apply(rt, &mut package, change)?;
-    store(rt, file.path, package, notes)
+    store(rt, file.path, &claim, package, notes)
 }
 
 /// Fails if a statement is given that is none.

@@ -3,20 +3,21 @@
 use crate::storing::store;
 use msipkg_packages::msi::{ErrorKind, Package};
 use msipkg_packages::output::{Failure, Opened, Output, System};
-use msipkg_packages::{PackageFile, open_package};
+use msipkg_packages::{Claim, PackageFile, open_package};
 use msipkg_texts::Shown;
 
 /// Counts the texts of a file's package anew, and replaces the file if counts were wrong. Then `notes` gets a line that
 /// says how many.
 ///
 /// # Errors
-/// Fails as `open_package`, `Package::recount` and the calls of the system do. Then the file is as it was.
+/// Fails as `Claim::take`, `open_package`, `Package::recount` and the calls of the system do. Then the file is as it was.
 pub fn mend_counts(rt: &System, file: &PackageFile<'_>, notes: &mut Output) -> Result<(), Failure> {
+    let claim = Claim::take(rt, file.path)?;
     let mut package = open_package(rt, file, notes)?;
     match package.recount()? {
         0 => Ok(()),
         changed => {
-            store(rt, file.path, package, notes)?;
+            store(rt, file.path, &claim, package, notes)?;
             note_mended(file.path, changed, notes);
             Ok(())
         }

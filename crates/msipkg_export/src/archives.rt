@@ -9,7 +9,7 @@ use crate::other_archives::{
 use crate::table_archives::{StreamFile, TableArchive};
 use msipkg_packages::msi::{Package, Table};
 use msipkg_packages::output::{Failure, Opened, Output, System, at_file};
-use msipkg_packages::{Folder, chosen_tables, open_new, settle};
+use msipkg_packages::{Folder, chosen_tables, open_new};
 use msipkg_texts::{Ending, SafeName, SafeNames, safe_name};
 use std::alloc::{AllocError, Global};
 use std::collections::BTreeSet;
@@ -152,11 +152,10 @@ fn write_file(
     path: &str,
     is_forced: bool,
 ) -> Result<(), Failure> {
-    let (made, new) = open_new(rt, path, is_forced)?;
-    let mut output = Output::to_file(rt.alloc(), new);
+    let (new, bytes) = open_new(rt, path, is_forced)?;
+    let mut output = Output::to_file(rt.alloc(), bytes);
     let written = write_synced(archive, &mut output);
-    drop(output);
-    settle(rt, written, made.as_str(), path)
+    new.settle(rt, written, path)
 }
 
 /// Writes the archive of a table, and waits until the disk has it.

@@ -4,7 +4,7 @@ use crate::exporting::BARE;
 use crate::folders::make_folder;
 use msipkg_packages::msi::{Package, Rows, Table};
 use msipkg_packages::output::{Failure, Opened, Output, RowFormat, System, at_file, write_rows};
-use msipkg_packages::{Folder, chosen_tables, open_new, rows_of, settle};
+use msipkg_packages::{Folder, chosen_tables, open_new, rows_of};
 use msipkg_texts::{Ending, SafeNames, Style};
 use std::alloc::{AllocError, Global};
 
@@ -66,11 +66,10 @@ fn file_path(
 
 /// Writes rows to a file, piece by piece.
 fn write_file(rt: &System, path: &str, is_forced: bool, rows: Rows<'_>) -> Result<(), Failure> {
-    let (made, new) = open_new(rt, path, is_forced)?;
-    let mut output = Output::to_file(rt.alloc(), new);
+    let (new, bytes) = open_new(rt, path, is_forced)?;
+    let mut output = Output::to_file(rt.alloc(), bytes);
     let written = write_synced(rt.alloc(), rows, &mut output);
-    drop(output);
-    settle(rt, written, made.as_str(), path)
+    new.settle(rt, written, path)
 }
 
 /// Writes rows to a file, and waits until the disk has them.

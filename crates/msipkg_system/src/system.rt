@@ -1,12 +1,22 @@
 //! The system's files, with a line on standard error that says how far reading or writing one is.
 
+use crate::identity::Identity;
 use crate::meter::Meter;
 use std::alloc::{AllocError, Global};
-use std::fs::{self, File, OpenFile, OpenOptions, Permissions};
-use std::io::{self, Read, Write};
+use std::fs::{self, File, Metadata, OpenFile, OpenOptions, Permissions, TryLockError};
+use std::io::{self, ErrorKind, Read, Write};
+use std::os::unix::fs::{MetadataExt, PermissionsExt, fchown};
+use std::thread;
+use std::time::Duration;
 
 /// How many bytes are read or written between two looks at the clock.
 const PIECE: usize = 1024 * 1024;
+
+/// The bit of permissions with which a file runs as its owner.
+const SET_USER: u32 = 0o4000;
+
+/// The bit of permissions with which a file runs as its group.
+const SET_GROUP: u32 = 0o2000;
 
 /// The system, whose files are watched where `is_shown` says so.
 #[derive(Clone, Copy)]
@@ -51,6 +61,28 @@ impl System {
         Ok(self.watched(file))
     }
 
+    /// Opens what is there to write to it as it is: a device or a pipe.
+    ///
+    /// # Errors
+    /// Fails as the call of the system does.
+    pub fn open_to_write(&self, path: &str) -> io::Result<SystemFile> {
+        let file = OpenOptions::new().write(true).open(&self.rt, path)?;
+        Ok(self.watched(file))
+    }
+
+    /// Returns which file a path leads to.
+    ///
+    /// # Errors
+    /// Fails as the call of the system does.
+    pub fn identity(&self, path: &str) -> io::Result<Identity> {
+        Ok(Identity::of(&fs::metadata(&self.rt, path)?))
+    }
+
+    /// Waits for so many milliseconds.
+    pub fn wait(&self, milliseconds: u64) {
+        thread::sleep(&self.rt, Duration::from_millis(milliseconds));
+    }
+
     /// A file that was opened just now, watched where that is asked for and the system tells the time.
     fn watched(&self, file: File) -> SystemFile {
         let meter = if self.is_shown {
@@ -69,6 +101,18 @@ impl System {
 pub fn path_in(alloc: Global, folder: &str, name: &str) -> Result<String, AllocError> {
     let folder = folder.strip_suffix('/').unwrap_or(folder);
     format!(in alloc; "{folder}/{name}")
+}
+
+/// The bits of permissions that a file may take over from another one.
+fn kept_bits(own: &Metadata, other: &Metadata) -> u32 {
+    let mut bits = 0o7777;
+    if own.uid() != other.uid() {
+        bits &= !SET_USER;
+    }
+    if own.gid() != other.gid() {
+        bits &= !SET_GROUP;
+    }
+    bits
 }
 
 /// A file of the system, which is watched or not.
@@ -95,20 +139,53 @@ impl SystemFile {
         }
     }
 
-    /// Gives the file these permissions.
+    /// Returns what the system says of the file.
     ///
     /// # Errors
     /// Fails as the call of the system does.
-    pub fn set_permissions(&self, permissions: Permissions) -> io::Result<()> {
-        self.file.set_permissions(permissions)
+    pub fn metadata(&self) -> io::Result<Metadata> {
+        self.file.metadata()
     }
 
-    /// Waits until the disk has what was written.
+    /// Locks the file until it is closed, and returns whether that is done: not where another program has it locked.
+    /// On a file system without locks it is taken to be done.
+    pub fn lock(&self) -> bool {
+        !matches!(self.file.try_lock(), Err(TryLockError::WouldBlock))
+    }
+
+    /// Gives the file the owner, the group and the permissions of another one, as far as the user may. Where the owner
+    /// or the group can't be kept, nor is the bit with which it runs as that.
+    ///
+    /// # Errors
+    /// Fails as the calls of the system do.
+    pub fn take_after(&self, other: &Metadata) -> io::Result<()> {
+        self.take_owner(other)?;
+        let own = self.file.metadata()?;
+        let mode = other.permissions().mode() & kept_bits(&own, other);
+        self.file.set_permissions(Permissions::from_mode(mode))
+    }
+
+    /// Gives the file the owner and the group of another one, or the group alone, where the user may.
+    fn take_owner(&self, other: &Metadata) -> io::Result<()> {
+        let own = self.file.metadata()?;
+        if own.uid() == other.uid() && own.gid() == other.gid() {
+            return Ok(());
+        }
+        if fchown(&self.file, Some(other.uid()), Some(other.gid())).is_err() {
+            let _ = fchown(&self.file, None, Some(other.gid()));
+        }
+        Ok(())
+    }
+
+    /// Waits until the disk has what was written. What isn't on a disk, as a pipe, isn't waited for.
     ///
     /// # Errors
     /// Fails as the call of the system does.
     pub fn sync_all(&self) -> io::Result<()> {
-        self.file.sync_all()
+        match self.file.sync_all() {
+            Err(error) if error.kind() == ErrorKind::InvalidInput => Ok(()),
+            synced => synced,
+        }
     }
 }
 
