@@ -16,6 +16,11 @@ pub struct Folder<'a> {
 }
 
 impl Folder<'_> {
+    /// Returns whether it is standard output that is meant.
+    pub fn is_output(&self) -> bool {
+        self.path == "-"
+    }
+
     /// Returns the path of a file of this name, which lies in the folder itself.
     ///
     /// # Errors

@@ -1,7 +1,7 @@
 //! What paths lead to: what no package can be, and what isn't replaced.
 
 use msipkg_output::{Failure, System};
-use std::fs::{self, FileType, Metadata};
+use std::fs::{self, FileType};
 use std::io::ErrorKind;
 use std::os::unix::fs::FileTypeExt;
 
@@ -15,10 +15,10 @@ const PIPE: &str = "it is a named pipe; give - and the pipe as standard input";
 const NO_FILE: &str = "it is no regular file";
 
 /// The refusal of a file without bytes as a package.
-const EMPTY: &str = "the file is empty, and no package";
+const EMPTY: &str = "it is empty: it has no bytes";
 
 /// The refusal of a file that is there already.
-const THERE: &str = "it is there already, and is replaced with --force alone";
+const THERE: &str = "it exists already; --force replaces it";
 
 /// The refusal of a link that leads nowhere.
 const DANGLING: &str = "it is a link to what isn't there";
@@ -28,16 +28,24 @@ const DANGLING: &str = "it is a link to what isn't there";
 /// # Errors
 /// Fails if it is no regular file, if it is empty, and as the call of the system does.
 pub fn check_kind(rt: &System, path: &str) -> Result<(), Failure> {
+    if let Some(bytes) = rt.input_at(path) {
+        return check_length(bytes.is_empty());
+    }
     let metadata = fs::metadata(&rt.rt, path)?;
-    let kind = metadata.file_type();
-    if kind.is_fifo() {
+    if metadata.file_type().is_fifo() {
         return Err(Failure::rule(PIPE));
     }
-    check_regular(kind)?;
-    if metadata.len() == 0 {
-        return Err(Failure::rule(EMPTY));
+    check_regular(metadata.file_type())?;
+    check_length(metadata.len() == 0)
+}
+
+/// Fails if a package is empty.
+fn check_length(is_empty: bool) -> Result<(), Failure> {
+    if is_empty {
+        Err(Failure::rule(EMPTY))
+    } else {
+        Ok(())
     }
-    Ok(())
 }
 
 /// Fails if a file can't be made at a path, since something is there: a file where none is to be replaced, or what is
